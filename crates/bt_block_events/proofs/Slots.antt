@@ -11,7 +11,7 @@ use Rattle.bt_block_events.specs.SlotSteps.{HasStore, ChangesStore}
 use Rattle.bt_block_events.specs.PieceSteps.{CanPut, PutsInSlot, IsOfMissing}
 use Rattle.std.specs.Global.{Vec}
 use Rattle.std.specs.Prelude.{IfOk, IfErr}
-use Rattle.bt_machine.specs.declared.answer.Note.{Note}
+use Rattle.bt_block_events.specs.declared.serving.ReadFault.{ReadFault}
 use Rattle.bt_machine.specs.Spans.{spanned_blocks}
 use Rattle.bt_block_events.specs.RequestSteps.{CanRead, SendsFromSlot, StopsInSlot}
 use Rattle.bt_block_events.specs.ServingSteps.{IsMarkedSpan, SendsSpan, StopAtFault}
@@ -115,7 +115,7 @@ module _ {D H : Type 0} {slots : List (Slot D H)} {trees : List Facts} {span : S
   abbrev then_slots : List (Slot D H)
   then_slots = slice_set slots span.file (record { tree = (slice_index_or slots span.file r).tree; store = Some after })
 
-  pub sends_from_slot : (answer : Result (Vec ℕ) Note) → IfOk answer (λ bytes. SendsSpan history honest faults dig k span bytes.items s after)
+  pub sends_from_slot : (answer : Result (Vec ℕ) ReadFault) → IfOk answer (λ bytes. SendsSpan history honest faults dig k span bytes.items s after)
       → IfOk answer (λ bytes. SendsFromSlot history honest faults dig slots trees span bytes.items then_slots)
   sends_from_slot (Ok bytes) sends = record {
     before = s;
@@ -125,12 +125,12 @@ module _ {D H : Type 0} {slots : List (Slot D H)} {trees : List Facts} {span : S
     marked = span_marked can r s is;
     sends = sends;
   }
-  sends_from_slot (Err note) sends = tt
+  sends_from_slot (Err found) sends = tt
 
-  pub stops_in_slot : (answer : Result (Vec ℕ) Note) → IfErr answer (λ note. StopAtFault history honest faults dig k span.file (spanned_blocks span) note s after)
-      → IfErr answer (λ note. StopsInSlot history honest faults dig slots trees span note then_slots)
+  pub stops_in_slot : (answer : Result (Vec ℕ) ReadFault) → IfErr answer (λ found. StopAtFault history honest faults dig k (spanned_blocks span) found s after)
+      → IfErr answer (λ found. StopsInSlot history honest faults dig slots trees span found then_slots)
   stops_in_slot (Ok bytes) stops = tt
-  stops_in_slot (Err note) stops = record {
+  stops_in_slot (Err found) stops = record {
     before = s;
     after = after;
     tree = k;

@@ -12,9 +12,8 @@ use Rattle.bt_store.specs.FileStore.{StoreView}
 use Rattle.bt_store.specs.SingleBlock.{Lends, right, damaged as lent_damaged, fault as lent_fault, IsLent}
 use Rattle.bt_store.specs.declared.error.ReadError.TheVariants.{Damaged as ReadDamaged, Device as ReadDevice}
 use Rattle.bt_machine.proofs.Lists.{contains_none, contains_cases, here, later}
-use Rattle.bt_machine.specs.declared.answer.Note.{Note}
-use Rattle.bt_machine.specs.declared.answer.Note.TheVariants.{Damaged, Device}
-use Rattle.bt_machine.specs.Blocks.{block_id}
+use Rattle.bt_block_events.specs.declared.serving.ReadFault.{ReadFault}
+use Rattle.bt_block_events.specs.declared.serving.ReadFault.TheVariants.{Damaged, Device}
 use Rattle.bt_machine.specs.Spans.{spanned_blocks, first_block, last_block}
 use Rattle.bt_block_events.specs.SpansSteps.{IsShortSpan}
 use Rattle.bt_block_events.specs.ServingSteps.{one_or_two, IsReadRight, IsReadWrong, AreReadRight, StopAtFault, Finds, damaged, fault, IsMarkedSpan, SendsSpan}
@@ -49,7 +48,7 @@ one_is a b e = ap (λ t. cond t (a ∷ []) (a ∷ b ∷ [])) (eq-eqb a b e)
 pub two_is : (a b : ℕ) → a ≢ b → one_or_two a b ≡ a ∷ b ∷ []
 two_is a b apart = ap (λ t. cond t (a ∷ []) (a ∷ b ∷ [])) (ne_eqb a b apart)
 
-module _ {D : Type 0} (history : D → History) (honest : D → Type 0) (faults : D → ℕ) (dig : List ℕ → List ℕ) (k : Facts) (file : ℕ) where
+module _ {D : Type 0} (history : D → History) (honest : D → Type 0) (faults : D → ℕ) (dig : List ℕ → List ℕ) (k : Facts) where
   same_calls : (i : ℕ) (old new : StoreView D) {reads : List BlockRead} (read : BlockRead) → k.file_length ≡ old.file_length → reads ≡ read ∷ []
       → HasCalls history honest faults old.disk (map (call_of old.file_length) reads) new.disk
       → HasCalls history honest faults old.disk (call_of k.file_length read ∷ []) new.disk
@@ -70,7 +69,7 @@ module _ {D : Type 0} (history : D → History) (honest : D → Type 0) (faults 
 
   pub read_damaged : (i : ℕ) (out : List ℕ) (old new : StoreView D) → k.file_length ≡ old.file_length
       → (reads : List BlockRead) × IsLent history honest faults dig k i out old reads (Err ReadDamaged) new
-      → IsReadWrong history honest faults dig k file i (Damaged (block_id file i)) old new
+      → IsReadWrong history honest faults dig k i (Damaged i) old new
   read_damaged i out old new size l =
       let a = lends_damaged l.1.answer in
       record {
@@ -82,7 +81,7 @@ module _ {D : Type 0} (history : D → History) (honest : D → Type 0) (faults 
 
   pub read_failed : (i : ℕ) (out : List ℕ) (old new : StoreView D) → k.file_length ≡ old.file_length
       → (reads : List BlockRead) × IsLent history honest faults dig k i out old reads (Err ReadDevice) new
-      → IsReadWrong history honest faults dig k file i (Device file) old new
+      → IsReadWrong history honest faults dig k i Device old new
   read_failed i out old new size l =
       let a = lends_fault l.1.answer in
       record {
@@ -139,9 +138,9 @@ module _ {D : Type 0} (history : D → History) (honest : D → Type 0) (faults 
         others = s.others ∙ ap (λ (v : StoreView D). view_of v.file_length new.disk v.states) r.others;
       }
 
-  pub first_wrong : (a : ℕ) (rest : List ℕ) (note : Note) (old new : StoreView D) → IsReadWrong history honest faults dig k file a note old new
-      → StopAtFault history honest faults dig k file (a ∷ rest) note old new
-  first_wrong a rest note old new r = record {
+  pub first_wrong : (a : ℕ) (rest : List ℕ) (found : ReadFault) (old new : StoreView D) → IsReadWrong history honest faults dig k a found old new
+      → StopAtFault history honest faults dig k (a ∷ rest) found old new
+  first_wrong a rest found old new r = record {
     before = [];
     block = a;
     after = rest;
@@ -155,10 +154,10 @@ module _ {D : Type 0} (history : D → History) (honest : D → Type 0) (faults 
     same_file = r.same_file;
   }
 
-  pub second_wrong : (a b : ℕ) (x : List ℕ) (note : Note) (old mid new : StoreView D)
-      → IsReadRight history honest faults dig k a x old mid → IsReadWrong history honest faults dig k file b note mid new
-      → StopAtFault history honest faults dig k file (a ∷ b ∷ []) note old new
-  second_wrong a b x note old mid new r s = record {
+  pub second_wrong : (a b : ℕ) (x : List ℕ) (found : ReadFault) (old mid new : StoreView D)
+      → IsReadRight history honest faults dig k a x old mid → IsReadWrong history honest faults dig k b found mid new
+      → StopAtFault history honest faults dig k (a ∷ b ∷ []) found old new
+  second_wrong a b x found old mid new r s = record {
     before = a ∷ [];
     block = b;
     after = [];
@@ -168,7 +167,7 @@ module _ {D : Type 0} (history : D → History) (honest : D → Type 0) (faults 
     parts = refl;
     right = record { made = refl; right = one_element (λ i. IsRight dig k i x) a r.right };
     calls = has_then history honest faults old.disk mid.disk new.disk (call_of k.file_length (given a x) ∷ []) (call_of k.file_length s.read ∷ []) r.calls s.calls;
-    finds = subst (λ states. Finds dig k file b s.read note states new.states) (ap (λ (v : StoreView D). v.states) r.others) s.finds;
+    finds = subst (λ states. Finds dig k b s.read found states new.states) (ap (λ (v : StoreView D). v.states) r.others) s.finds;
     same_file = s.same_file ∙ ap (λ (v : StoreView D). v.file_length) r.others;
   }
 
@@ -186,18 +185,18 @@ module _ {D : Type 0} (history : D → History) (honest : D → Type 0) (faults 
       subst (λ l. AreReadRight history honest faults dig k l all old new) (sym (two_is a b apart))
       (subst (λ all. AreReadRight history honest faults dig k (a ∷ b ∷ []) all old new) (sym e) (two_right a b x y old mid new apart r s))
 
-  pub first_fails : (a b : ℕ) (note : Note) (old new : StoreView D) → IsReadWrong history honest faults dig k file a note old new
-      → StopAtFault history honest faults dig k file (one_or_two a b) note old new
-  first_fails a b note old new r = elim (cases_eq a b) [
-    | inl same ↦ subst (λ l. StopAtFault history honest faults dig k file l note old new) (sym (one_is a b same)) (first_wrong a [] note old new r)
-    | inr apart ↦ subst (λ l. StopAtFault history honest faults dig k file l note old new) (sym (two_is a b apart)) (first_wrong a (b ∷ []) note old new r)
+  pub first_fails : (a b : ℕ) (found : ReadFault) (old new : StoreView D) → IsReadWrong history honest faults dig k a found old new
+      → StopAtFault history honest faults dig k (one_or_two a b) found old new
+  first_fails a b found old new r = elim (cases_eq a b) [
+    | inl same ↦ subst (λ l. StopAtFault history honest faults dig k l found old new) (sym (one_is a b same)) (first_wrong a [] found old new r)
+    | inr apart ↦ subst (λ l. StopAtFault history honest faults dig k l found old new) (sym (two_is a b apart)) (first_wrong a (b ∷ []) found old new r)
   ]
 
-  pub second_fails : (a b : ℕ) (x : List ℕ) (note : Note) (old mid new : StoreView D) → a ≢ b
-      → IsReadRight history honest faults dig k a x old mid → IsReadWrong history honest faults dig k file b note mid new
-      → StopAtFault history honest faults dig k file (one_or_two a b) note old new
-  second_fails a b x note old mid new apart r s =
-      subst (λ l. StopAtFault history honest faults dig k file l note old new) (sym (two_is a b apart)) (second_wrong a b x note old mid new r s)
+  pub second_fails : (a b : ℕ) (x : List ℕ) (found : ReadFault) (old mid new : StoreView D) → a ≢ b
+      → IsReadRight history honest faults dig k a x old mid → IsReadWrong history honest faults dig k b found mid new
+      → StopAtFault history honest faults dig k (one_or_two a b) found old new
+  second_fails a b x found old mid new apart r s =
+      subst (λ l. StopAtFault history honest faults dig k l found old new) (sym (two_is a b apart)) (second_wrong a b x found old mid new r s)
 
 -- the second read goes behind the first
 pub both_parts : (a more : ℕ) (xs ys : List ℕ) → length xs ≡ 32768 → a ≤ 16384 → more ≤ 16384
@@ -280,11 +279,11 @@ module _ (span : Span) (some : 1 ≤ span.length) (few : span.length ≤ 16384) 
    spanned_by : one_or_two first last ≡ spanned_blocks span
    spanned_by = ap (λ i. one_or_two i last) is_first ∙ ap (λ i. one_or_two (first_block span) i) is_last ∙ sym (spanned_is span some few)
 
-   pub stops_span : {D : Type 0} (history : D → History) (honest : D → Type 0) (faults : D → ℕ) (dig : List ℕ → List ℕ) (k : Facts) (file : ℕ) (note : Note) (old new : StoreView D)
-      → StopAtFault history honest faults dig k file (one_or_two first last) note old new
-      → StopAtFault history honest faults dig k file (spanned_blocks span) note old new
-   stops_span history honest faults dig k file note old new r =
-      subst (λ l. StopAtFault history honest faults dig k file l note old new) spanned_by r
+   pub stops_span : {D : Type 0} (history : D → History) (honest : D → Type 0) (faults : D → ℕ) (dig : List ℕ → List ℕ) (k : Facts) (found : ReadFault) (old new : StoreView D)
+      → StopAtFault history honest faults dig k (one_or_two first last) found old new
+      → StopAtFault history honest faults dig k (spanned_blocks span) found old new
+   stops_span history honest faults dig k found old new r =
+      subst (λ l. StopAtFault history honest faults dig k l found old new) spanned_by r
 
    pub sends_span : {D : Type 0} (history : D → History) (honest : D → Type 0) (faults : D → ℕ) (dig : List ℕ → List ℕ) (k : Facts) (all sent : List ℕ) (old new : StoreView D)
       → AreReadRight history honest faults dig k (one_or_two first last) all old new

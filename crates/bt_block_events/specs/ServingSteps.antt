@@ -8,11 +8,10 @@ use Rattle.bt_store.specs.FileStore.{StoreView}
 use Rattle.bt_store.specs.BlockReads.{BlockRead, given, failed, call_of, IsRight}
 use Rattle.bt_store.specs.declared.block_states.BlockState.{BlockState}
 use Rattle.bt_store.specs.declared.block_states.BlockState.TheVariants.{Missing, Marked}
-use Rattle.bt_machine.specs.declared.answer.Note.{Note}
-use Rattle.bt_machine.specs.declared.answer.Note.TheVariants.{Damaged, Device}
-use Rattle.bt_machine.specs.Blocks.{block_id}
 use Rattle.bt_machine.specs.Spans.{spanned_blocks, cut_from}
 use Rattle.bt_machine.specs.Request.{ReadsRight}
+use Rattle.bt_block_events.specs.declared.serving.ReadFault.{ReadFault}
+use Rattle.bt_block_events.specs.declared.serving.ReadFault.TheVariants.{Damaged, Device}
 
 -- the one block, where the first is the last, or the two
 abbrev pub one_or_two : (first last : ℕ) → List ℕ
@@ -27,19 +26,18 @@ pub record IsReadRight {D : Type 0} (history : D → History) (honest : D → Ty
   pub others : new ≡ record old { disk = new.disk }
 
 -- what a read that is not right comes to: the block is missing, or the device failed
-pub data Finds (dig : List ℕ → List ℕ) (k : Facts) (file block : ℕ) (read : BlockRead) (note : Note)
+pub data Finds (dig : List ℕ → List ℕ) (k : Facts) (block : ℕ) (read : BlockRead) (found : ReadFault)
     (old new : List BlockState) : Type 0 where
   damaged : (bytes : List ℕ) → read ≡ given block bytes → ¬ IsRight dig k block bytes
-      → note ≡ Damaged (block_id file block) → new ≡ slice_set old block Missing
-      → Finds dig k file block read note old new
-  fault : read ≡ failed block → note ≡ Device file → new ≡ old → Finds dig k file block read note old new
+      → found ≡ Damaged block → new ≡ slice_set old block Missing → Finds dig k block read found old new
+  fault : read ≡ failed block → found ≡ Device → new ≡ old → Finds dig k block read found old new
 
 -- the block was read and is not right
 pub record IsReadWrong {D : Type 0} (history : D → History) (honest : D → Type 0) (faults : D → ℕ)
-    (dig : List ℕ → List ℕ) (k : Facts) (file block : ℕ) (note : Note) (old new : StoreView D) : Type 0 where
+    (dig : List ℕ → List ℕ) (k : Facts) (block : ℕ) (found : ReadFault) (old new : StoreView D) : Type 0 where
   pub read : BlockRead
   pub calls : HasCalls history honest faults old.disk (call_of k.file_length read ∷ []) new.disk
-  pub finds : Finds dig k file block read note old.states new.states
+  pub finds : Finds dig k block read found old.states new.states
   pub same_file : new.file_length ≡ old.file_length
 
 -- all blocks were read and are right, and these are their bytes, one block's after the other's
@@ -54,7 +52,7 @@ pub record AreReadRight {D : Type 0} (history : D → History) (honest : D → T
 
 -- blocks were read up to the first that is not right
 pub record StopAtFault {D : Type 0} (history : D → History) (honest : D → Type 0) (faults : D → ℕ)
-    (dig : List ℕ → List ℕ) (k : Facts) (file : ℕ) (blocks : List ℕ) (note : Note) (old new : StoreView D)
+    (dig : List ℕ → List ℕ) (k : Facts) (blocks : List ℕ) (found : ReadFault) (old new : StoreView D)
     : Type 0 where
   pub before : List ℕ
   pub block : ℕ
@@ -66,7 +64,7 @@ pub record StopAtFault {D : Type 0} (history : D → History) (honest : D → Ty
   pub right : ReadsRight dig k before bytes reads
   pub calls : HasCalls history honest faults
       old.disk (map (call_of k.file_length) (reads ++ read ∷ [])) new.disk
-  pub finds : Finds dig k file block read note old.states new.states
+  pub finds : Finds dig k block read found old.states new.states
   pub same_file : new.file_length ≡ old.file_length
 
 -- the blocks of the span are marked

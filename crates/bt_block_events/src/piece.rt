@@ -13,8 +13,7 @@ use bt_book::BlockId;
 use bt_disk::Disk;
 use bt_machine::{Note, Why};
 use bt_sparse::SparseTree;
-use bt_state::{Parts, Slot};
-use crate::request::follow_block;
+use bt_state::{Parts, Slot, follow_block};
 use bt_store::{BlockState, Put, StoreError};
 use bt_tree::NodeHash;
 

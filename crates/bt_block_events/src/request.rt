@@ -1,22 +1,23 @@
-ghost use Rattle.std.specs.Prelude.{◌≡◌, ◌≢◌, ◌*◌, ◌<◌, IfErr, IfOk, Some, length, map, slice_get, vec_len};
+ghost use Rattle.std.specs.Prelude.{◌≡◌, ◌≢◌, ◌*◌, ◌<◌, IfErr, IfOk, Some, length, map, vec_len};
 ghost use Rattle.std.specs.Bool.{OnFalse, OnTrue};
 ghost use Rattle.bt_tree.specs.Limits.{full_block_length};
 ghost use Rattle.bt_machine.specs.Blocks.{state_at};
 ghost use Rattle.bt_machine.specs.Request.{AreMarked};
+ghost use Rattle.bt_machine.specs.Shape.{IsShaped};
 ghost use Rattle.bt_state.specs.Parts.{state_of};
 ghost use Rattle.bt_state.specs.Ties.{IsTied};
 ghost use Rattle.bt_block_events.specs.Request.{TakesRequest};
 ghost use Rattle.bt_block_events.specs.RequestSteps.{CanRead, SendsFromSlot, StopsInSlot};
 ghost use Rattle.bt_block_events.specs.SpansSteps.{IsShortSpan};
 
-use crate::serving::read_span;
+use crate::serving::{ReadFault, read_span};
 use crate::spans::{first_block, last_block, place_of};
 use bt_book::BlockId;
 use bt_disk::Disk;
 use bt_machine::{Note, Why};
 use bt_meta::Span;
 use bt_sparse::SparseTree;
-use bt_state::{Parts, Slot};
+use bt_state::{Parts, Slot, follow_block};
 use bt_store::BlockState;
 use bt_tree::{BLOCK_LEN, NodeHash};
 use bt_wire::Ask;
@@ -44,13 +45,15 @@ pub fn take_request<D: Disk + Drop, H: NodeHash>(
     ask: Ask,
 ) -> Result<Served, AllocError>
     requires tied { IsTied parts.old }
+    requires shaped { IsShaped parts.old.torrent (state_of parts.old) }
     requires inside { index < vec_len parts.old.peers }
     requires there { index < length parts.old.peers.items }
-    ensures step { IfOk result (λ served.
+    ensures takes { IfOk result (λ served.
         TakesRequest D.history D.honest D.faults H.digest parts.old index ask served parts.new) }
-    ensures refused { IfErr result (λ _. parts.new ≡ parts.old) }
+    ensures kept { IfErr result (λ _. parts.new ≡ parts.old) }
     ensures torrent { parts.new.torrent ≡ parts.old.torrent }
     ensures peers { map (λ p. p.key) parts.new.peers.items ≡ map (λ p. p.key) parts.old.peers.items }
+    ensures len { vec_len parts.new.peers ≡ vec_len parts.old.peers }
     ensures tied { IsTied parts.new }
 {
     if parts.peers[index].am_choking {
@@ -70,10 +73,15 @@ pub fn take_request<D: Disk + Drop, H: NodeHash>(
             peer.payload = peer.payload.saturating_add(span.length as u64);
             Ok(Served::Sent(bytes))
         }
-        Err(note) => {
-            follow_fault(parts, note);
-            Ok(Served::Found(note))
+        Err(ReadFault::Damaged(block)) => {
+            let block = BlockId {
+                file: span.file,
+                block,
+            };
+            follow_block(parts, block, BlockState::Marked, BlockState::Missing);
+            Ok(Served::Found(Note::Damaged(block)))
         }
+        Err(ReadFault::Device) => Ok(Served::Found(Note::Device(span.file))),
     }
 }
 
@@ -115,21 +123,21 @@ fn is_marked<D: Disk + Drop, H: NodeHash>(parts: &Parts<D, H>, block: BlockId) -
 }
 
 /// Reads the blocks that a span lies in, all of them marked, and gives the bytes of the span. At the first
-/// block that is not right it stops, and says what it found.
+/// block that is not right it stops.
 fn read_slot<D: Disk + Drop, H: NodeHash>(
     slots: &mut [Slot<D, H>],
     trees: &[SparseTree<H>],
     span: Span,
     room: Vec<u8>,
-) -> Result<Vec<u8>, Note>
+) -> Result<Vec<u8>, ReadFault>
     requires inside { span.file < length slots.old }
     requires short { IsShortSpan span }
     requires marked { CanRead slots.old trees.now span }
     requires room { length room.items ≡ 2 * full_block_length }
     ensures right { IfOk result (λ bytes. SendsFromSlot D.history D.honest D.faults H.digest slots.old
         trees.now span bytes.items slots.new) }
-    ensures wrong { IfErr result (λ note. StopsInSlot D.history D.honest D.faults H.digest slots.old
-        trees.now span note slots.new) }
+    ensures wrong { IfErr result (λ fault. StopsInSlot D.history D.honest D.faults H.digest slots.old
+        trees.now span fault slots.new) }
 {
     let slot = &mut slots[span.file as usize];
     let Some(store) = &mut slot.store else {
@@ -137,20 +145,4 @@ fn read_slot<D: Disk + Drop, H: NodeHash>(
     };
     let tree = &trees[slot.tree as usize];
     read_span(store, tree, span, room)
-}
-
-pub(crate) fn follow_block<D: Disk + Drop, H: NodeHash>(
-    parts: &mut Parts<D, H>,
-    block: BlockId,
-    was: BlockState,
-    now: BlockState,
-)
-{
-}
-
-fn follow_fault<D: Disk + Drop, H: NodeHash>(
-    parts: &mut Parts<D, H>,
-    note: Note,
-)
-{
 }

@@ -5,89 +5,94 @@ ghost use Rattle.bt_block_events.specs.ServingSteps.{AreReadRight, IsMarkedSpan,
 ghost use Rattle.bt_block_events.specs.SpansSteps.{IsShortSpan};
 
 use crate::spans::{first_block, last_block};
-use bt_book::BlockId;
 use bt_disk::Disk;
-use bt_machine::Note;
 use bt_meta::Span;
 use bt_sparse::SparseTree;
 use bt_store::{BlockState, FileStore, ReadError};
 use bt_tree::{BLOCK_LEN, NodeHash};
 
+/// Why a marked block was not read.
+#[derive(Clone, Copy, Debug, PartialEq, Eq)]
+pub(crate) enum ReadFault {
+    /// The bytes are not the block's, which is missing from now on.
+    Damaged(u32),
+    /// The device failed.
+    Device,
+}
+
 /// Reads the blocks that a span of the file lies in, and gives the bytes of the span. At the first block that
-/// is not right it stops, and says what it found.
+/// is not right it stops.
 pub(crate) fn read_span<D: Disk + Drop, H: NodeHash>(
     store: &mut FileStore<D, H>,
     tree: &SparseTree<H>,
     span: Span,
     mut room: Vec<u8>,
-) -> Result<Vec<u8>, Note>
+) -> Result<Vec<u8>, ReadFault>
     requires geometry { tree.now.file_length ≡ store.old.file_length }
     requires short { IsShortSpan span }
     requires marked { IsMarkedSpan store.old.states span }
     requires room { length room.items ≡ 2 * full_block_length }
     ensures right { IfOk result (λ bytes. SendsSpan D.history D.honest D.faults H.digest tree.now span
         bytes.items store.old store.new) }
-    ensures wrong { IfErr result (λ note. StopAtFault D.history D.honest D.faults H.digest tree.now span.file
-        (spanned_blocks span) note store.old store.new) }
+    ensures wrong { IfErr result (λ fault. StopAtFault D.history D.honest D.faults H.digest tree.now
+        (spanned_blocks span) fault store.old store.new) }
     ensures same_file { store.new.file_length ≡ store.old.file_length }
 {
     let (first, last) = (first_block(span), last_block(span));
-    match read_blocks(span.file, store, tree, first, last, room.as_mut_slice()) {
+    match read_blocks(store, tree, first, last, room.as_mut_slice()) {
         Ok(count) => {
             let offset = (span.start % BLOCK_LEN as u64) as usize;
             Ok(cut(room, count, offset, span.length as usize))
         }
-        Err(note) => Err(note),
+        Err(fault) => Err(fault),
     }
 }
 
 /// Reads the one block or the two, up to the first that is not right, and says how many bytes they have.
 fn read_blocks<D: Disk + Drop, H: NodeHash>(
-    file: u32,
     store: &mut FileStore<D, H>,
     tree: &SparseTree<H>,
     first: u32,
     last: u32,
     out: &mut [u8],
-) -> Result<usize, Note>
+) -> Result<usize, ReadFault>
     requires geometry { tree.now.file_length ≡ store.old.file_length }
     requires room { length out.old ≡ 2 * full_block_length }
     requires first { slice_get store.old.states first ≡ Some BlockState.Marked }
     requires last { slice_get store.old.states last ≡ Some BlockState.Marked }
     ensures right { IfOk result (λ count. AreReadRight D.history D.honest D.faults H.digest tree.now
         (one_or_two first last) (take count out.new) store.old store.new) }
-    ensures wrong { IfErr result (λ note. StopAtFault D.history D.honest D.faults H.digest tree.now file
-        (one_or_two first last) note store.old store.new) }
+    ensures wrong { IfErr result (λ fault. StopAtFault D.history D.honest D.faults H.digest tree.now
+        (one_or_two first last) fault store.old store.new) }
 {
-    let count = read_block(file, store, tree, first, out)?;
+    let count = read_block(store, tree, first, out)?;
     if first == last {
         return Ok(count);
     }
-    let more = read_block(file, store, tree, last, &mut out[count..])?;
+    let more = read_block(store, tree, last, &mut out[count..])?;
     Ok(count + more)
 }
 
 /// Reads a marked block, and says how many bytes it has.
 fn read_block<D: Disk + Drop, H: NodeHash>(
-    file: u32,
     store: &mut FileStore<D, H>,
     tree: &SparseTree<H>,
     block: u32,
     out: &mut [u8],
-) -> Result<usize, Note>
+) -> Result<usize, ReadFault>
     requires geometry { tree.now.file_length ≡ store.old.file_length }
     requires room { full_block_length ≤ length out.old }
     requires marked { slice_get store.old.states block ≡ Some BlockState.Marked }
     ensures right { IfOk result (λ count. IsReadRight D.history D.honest D.faults H.digest tree.now
         block (take count out.new) store.old store.new) }
     ensures within { IfOk result (λ count. count ≤ full_block_length) }
-    ensures wrong { IfErr result (λ note. IsReadWrong D.history D.honest D.faults H.digest tree.now
-        file block note store.old store.new) }
+    ensures wrong { IfErr result (λ fault. IsReadWrong D.history D.honest D.faults H.digest tree.now
+        block fault store.old store.new) }
 {
     match store.read(tree, block, out) {
         Ok(count) => Ok(count),
-        Err(ReadError::Damaged) => Err(Note::Damaged(BlockId { file, block })),
-        Err(ReadError::Device) => Err(Note::Device(file)),
+        Err(ReadError::Damaged) => Err(ReadFault::Damaged(block)),
+        Err(ReadError::Device) => Err(ReadFault::Device),
         Err(ReadError::NotMarked) => unreachable!(),
     }
 }

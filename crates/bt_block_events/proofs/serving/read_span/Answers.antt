@@ -24,5 +24,4 @@ pub returns-in-Err-clause-wrong : goal.returns-in-Err-clause-wrong
 returns-in-Err-clause-wrong g c =
     let d = g.D.Disk in
     stops_span c.args.span c.requires.short.some c.requires.short.few c.first_block-first.result c.last_block-last.result c.first_block-first.ensures c.last_block-last.ensures
-    d.history d.honest d.faults g.H.NodeHash.digest c.args.tree.now c.args.span.file c.in-Err.note
-    c.args.store.now c.read_blocks.new.store c.in-Err.ensures.wrong
+    d.history d.honest d.faults g.H.NodeHash.digest c.args.tree.now c.in-Err.fault c.args.store.now c.read_blocks.new.store c.in-Err.ensures.wrong
