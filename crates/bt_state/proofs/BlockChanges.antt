@@ -1,5 +1,5 @@
 -- A block that has another state: what its piece's count, the book and the parts of an engine owe.
-use Rattle.bt_machine.proofs.Base.{[], ◌≡◌, ◌≢◌, ℕ, zero, suc, ◌+◌, ◌-◌, ◌*◌, ◌/◌, ◌%◌, ◌<◌, ◌≤◌, ◌⊎◌, inl, inr, Bool, true, false, not, cond, List, ◌∷◌, length, map, filter, min, get_or, Option, Some, None, refl, sym, ap, ◌∙◌, arith, subst, slice_get, slice_set, option_map, option_and_then, option_map_or, Contains, ◌==◌, eqb-true, eq-eqb, PeerKey, BlockId, BlockState, Missing, Waiting, Marked, Metainfo, File, IsLaidOut, total_pieces, AllPairs-filter, block_count, block_length, is_block, without_block, max_peers, length-set}
+use Rattle.bt_machine.proofs.Base.{[], ◌≡◌, ◌≢◌, ℕ, zero, suc, ◌+◌, ◌-◌, ◌*◌, ◌/◌, ◌%◌, ◌<◌, ◌≤◌, ◌⊎◌, inl, inr, Bool, true, false, not, cond, List, ◌∷◌, length, map, filter, min, get_or, Option, Some, None, refl, sym, ap, ◌∙◌, arith, subst, slice_get, slice_set, option_map, option_and_then, option_map_or, Contains, ◌==◌, eqb-true, eq-eqb, PeerKey, BlockId, BlockState, Missing, Waiting, Marked, Metainfo, File, IsLaidOut, total_pieces, AllPairs-filter, block_count, block_length, is_block, without_block, max_peers, length-set, Facts}
 use Rattle.std.specs.Prelude.{◌↔◌, ◌^◌, count_by, slice_index}
 use Rattle.std.specs.Vec.{vec_capacity}
 use Rattle.std.proofs.lemmas.Option.{get_or_from_slice_get}
@@ -22,8 +22,8 @@ use Rattle.bt_machine.specs.Blocks.{state_at, states_of, piece_of, is_in_piece, 
 use Rattle.bt_machine.specs.Changes.{DifferAt}
 use Rattle.bt_machine.specs.Orderly.{IsOrderly}
 use Rattle.bt_machine.specs.Shape.{IsShaped}
-use Rattle.bt_machine.proofs.Lists.{here, later, contains_none, contains_cases, contains_filter, contains_map, map_some, some_below, some_is, get_some}
-use Rattle.bt_machine.proofs.Pairs.{Pairs, to_pairs, from_pairs, contains_some}
+use Rattle.bt_machine.proofs.Lists.{here, later, contains_none, contains_cases, contains_filter, contains_map, map_contains, map_some, some_below, some_is, get_some, and_then_some}
+use Rattle.bt_machine.proofs.Pairs.{Pairs, to_pairs, from_pairs, contains_some, pairs_map}
 use Rattle.bt_state.specs.BlockChange.{AreFollowed, OneChanged, HasChanged, asked_after}
 use Rattle.bt_state.specs.BlockChangeSteps.{mark_count}
 use Rattle.bt_state.specs.Parts.{state_of, peer_of}
@@ -31,7 +31,7 @@ use Rattle.bt_state.specs.Ties.{AreUnmarked, unmarked_in, IsTied, FitsFile}
 use Rattle.bt_state.specs.declared.peer.Peer.{Peer}
 use Rattle.bt_state.specs.declared.slot.Slot.{Slot}
 use Rattle.bt_state.specs.declared.parts.Parts.{Parts}
-use Rattle.bt_state.proofs.Lists.{map_agree}
+use Rattle.bt_state.proofs.Lists.{map_agree, get_mapped}
 use Rattle.bt_state.proofs.PeerLists.{AreInOrder}
 use Rattle.bt_state.proofs.Ties.{same_counts}
 use Rattle.bt_state.proofs.Unmarked.{one_if, count_moves, count_set, is_among, all_in_order}
@@ -245,3 +245,103 @@ module _ {torrent : Metainfo} {blocks : Blocks} {counts : List ℕ} {b : BlockId
     bears_few length_is lay =
         count_few h.followed h.changed piece lies inside (subst (λ (m : Metainfo). IsPieceLength m.piece_length) (sym h.same_torrent) length_is)
         (subst (λ (m : Metainfo). IsLaidOut m.piece_length m.files) (sym h.same_torrent) lay)
+
+-- ---- the parts of an engine
+
+not_among : (b : BlockId) (blocks : List BlockId) → ¬ Contains blocks b → without_block b blocks ≡ blocks
+not_among b blocks none = filter_none (is_block b) blocks (elim (cases_lt 0 (count_by (is_block b) blocks)) [
+  | inl some ↦ absurd (none ((counted_blocks b blocks).0 some))
+  | inr le ↦ omega arith
+])
+
+asked_same : (b : BlockId) (now : BlockState) (blocks : List BlockId) → (now ≢ Missing → ¬ Contains blocks b) → asked_after b now blocks ≡ blocks
+asked_same b Missing blocks none = refl
+asked_same b Waiting blocks none = not_among b blocks (none (λ e. absurd cc))
+asked_same b Marked blocks none = not_among b blocks (none (λ e. absurd cc))
+
+-- a state is followed by what it has of the torrent and of files
+pub followed_alike : {s : EngineState} {blocks : Blocks} {counts : List ℕ} (t : EngineState) → AreFollowed s blocks counts
+    → t.torrent ≡ s.torrent → t.files ≡ s.files → AreFollowed t blocks counts
+followed_alike {s} {blocks} {counts} t f torrent files = record {
+  wanted = λ b. rw (at b) (f.wanted b);
+  ranged = λ b x e. f.ranged b x (sym (at b) ∙ e);
+  listed = λ b x e. subst (λ (m : Metainfo). HasBlock m b.file b.block) (sym torrent) (f.listed b x (sym (at b) ∙ e));
+  unmarked = same_counts s t counts torrent files f.unmarked;
+}
+  where
+    at : (b : BlockId) → state_at t b ≡ state_at s b
+    at b = ap (λ (fs : List FileState). option_and_then (λ f. slice_get f.states b.block) (slice_get fs b.file)) files
+
+-- each slot is of its file
+abbrev pub EachFits : {D H : Type 0} → List File → List Facts → List (Slot D H) → Type 0
+EachFits {D} {H} files trees slots = (i : ℕ) (slot : Slot D H) → slice_get slots i ≡ Some slot → FitsFile files trees i slot
+
+pairs_of_map : {X Y : Type 0} (R : Y → Y → Type 0) (f : X → Y) (xs : List X) → Pairs R (map f xs) → Pairs (λ x y. R (f x) (f y)) xs
+pairs_of_map R f [] p = tt
+pairs_of_map R f (x ∷ xs) p = (λ y c. p.0 (f y) (map_contains f xs c), pairs_of_map R f xs p.1)
+
+-- which of two peers comes first is a matter of their keys
+order_of_keys : (peers other : List Peer) → map (λ p. p.key) peers ≡ map (λ p. p.key) other → AreInOrder other → AreInOrder peers
+order_of_keys peers other same in_order =
+    let R : PeerKey → PeerKey → Type 0 = λ k l. k.0 < l.0 in
+    let pairs : Pairs R (map (λ p. p.key) other) =
+    pairs_map (λ (p q : Peer). p.key.0 < q.key.0) R (λ p. p.key) other (λ p q lt. lt) (to_pairs (λ p q. p.key.0 < q.key.0) other in_order) in
+    from_pairs (λ p q. p.key.0 < q.key.0) peers (pairs_of_map R (λ p. p.key) peers (subst (λ (ks : List PeerKey). Pairs R ks) (sym same) pairs))
+
+module _ {D H : Type 0} (parts : Parts D H) (tied : IsTied parts) (shaped : IsShaped parts.torrent (state_of parts)) where
+  lists : (b : BlockId) (x : BlockState) → state_at (state_of parts) b ≡ Some x → HasBlock parts.torrent b.file b.block
+  lists b x at =
+      let lt = is_inside (state_of parts) b at in
+      let f = and_then_some (λ (f : FileState). slice_get f.states b.block) (slice_get (state_of parts).files b.file) at in
+      let below = some_below (state_of parts).files b.file f.1 in
+      let count = shaped.count in
+      let entry = get_some parts.torrent.files b.file (omega arith) in
+      let blocks = (shaped.each b.file entry.0 f.0 entry.1 f.1).blocks in
+      let inside = some_below f.0.states b.block f.2 in
+      record { entry = entry.0; found = entry.1; inside = omega arith }
+
+  pub followed_tied : AreFollowed (state_of parts) parts.book.wanted parts.unmarked.items
+  followed_tied = record { wanted = tied.wanted; ranged = tied.ranged; listed = lists; unmarked = tied.unmarked }
+
+module _ {D H : Type 0} (old new : Parts D H) where
+  -- the peers have the keys that they had, and the new state is followed
+  pub tied_followed : IsTied old → new.torrent ≡ old.torrent → map (λ p. p.key) new.peers.items ≡ map (λ p. p.key) old.peers.items
+      → max_peers ≤ vec_capacity new.peers → peers_of new.book ≡ peers_of old.book → length new.slots.items ≡ length old.slots.items
+      → EachFits new.torrent.files new.trees.items new.slots.items → AreFollowed (state_of new) new.book.wanted new.unmarked.items → IsTied new
+  tied_followed tied torrent keys room joined count each f = record {
+    joined = keys ∙ tied.joined ∙ sym joined;
+    in_order = order_of_keys new.peers.items old.peers.items keys tied.in_order;
+    room = room;
+    wanted = f.wanted;
+    ranged = f.ranged;
+    count = count ∙ tied.count ∙ ap (λ (m : Metainfo). length m.files) (sym torrent);
+    each = each;
+    unmarked = f.unmarked;
+  }
+
+  -- what the peers there are asked for is as it was
+  pub state_kept : new ≡ record old { book = new.book; unmarked = new.unmarked }
+      → ((i : ℕ) (p : Peer) → slice_get old.peers.items i ≡ Some p → asked_of new.book p.key ≡ asked_of old.book p.key) → state_of new ≡ state_of old
+  state_kept others same =
+      ap (λ (parts : Parts D H). state_of parts) others
+      ∙ ap {A = List PeerState} (λ peers. record (state_of old) { peers = peers }) (map_agree (peer_of old.book) (peer_of new.book) old.peers.items
+      (λ i p at. ap {A = List BlockId} {B = PeerState} (λ asked. record (peer_of old.book p) { asked = asked }) (same i p at)))
+
+  -- no peer is asked for the block, or it is missing
+  pub state_followed : (b : BlockId) (now : BlockState) → new ≡ record old { book = new.book; unmarked = new.unmarked }
+      → ((key : PeerKey) → asked_of new.book key ≡ asked_after b now (asked_of old.book key)) → (now ≢ Missing → ¬ IsAsked (state_of old) b)
+      → state_of new ≡ state_of old
+  state_followed b now others asked none =
+      state_kept others (λ i p at. asked p.key ∙ asked_same b now (asked_of old.book p.key)
+      (λ known among. none known (peer_of old.book p, contains_some (state_of old).peers i (get_mapped (peer_of old.book) old.peers.items i at), among)))
+
+-- a block that is in no pair is asked of nobody
+pub free_unasked : {D H : Type 0} (parts : Parts D H) (b : BlockId) → pair_count parts.book b ≡ 0 → ¬ IsAsked (state_of parts) b
+free_unasked parts b free asked =
+    let p = contains_map (peer_of parts.book) parts.peers.items asked.1 in
+    let among : Contains (asked_of parts.book p.0.key) b = subst (λ (q : PeerState). Contains q.asked b) (sym p.2) asked.2 in
+    absurd (omega (arith, free, asked_le_pairs p.0.key b parts.book.peers, (counted_blocks b (asked_of parts.book p.0.key)).1 among))
+
+-- nor is a block that is not missing
+pub known_unasked : (s : EngineState) (b : BlockId) {x : BlockState} → IsOrderly s → state_at s b ≡ Some x → x ≢ Missing → ¬ IsAsked s b
+known_unasked s b orderly at known asked = known (some_is (sym at ∙ (orderly.each asked.0 asked.1).missing b asked.2))

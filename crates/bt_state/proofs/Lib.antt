@@ -15,3 +15,4 @@ pub mod DeviceCalls
 pub mod Unmarked
 -- a block that has another state
 pub mod BlockChanges
+pub mod SlotChanges
