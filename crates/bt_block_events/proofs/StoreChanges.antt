@@ -1,18 +1,23 @@
 -- The parts of an engine in which the store of one file is another.
-use Rattle.bt_machine.proofs.Base.{◌≡◌, ℕ, inl, inr, List, length, map, Option, Some, refl, sym, ap, ◌∙◌, subst, slice_get, slice_set, option_map, option_map_or, length-set, Call, History, Facts, BlockState}
-use Rattle.bt_machine.proofs.Lists.{some_is, set_cases}
+use Rattle.bt_machine.proofs.Base.{◌≡◌, ◌≢◌, ◌≤◌, ℕ, List, length, map, Some, refl, sym, ap, ◌∙◌, subst, slice_get, slice_set, length-set, Call, History, Facts, BlockId, BlockState, Missing, PeerKey, Metainfo}
+use Rattle.std.specs.Vec.{vec_capacity}
+use Rattle.bt_machine.proofs.Lists.{set_id}
 use Rattle.bt_disk.specs.Calls.{HasCalls}
 use Rattle.bt_store.specs.FileStore.{StoreView}
-use Rattle.bt_machine.specs.State.{FileState}
-use Rattle.bt_machine.specs.Blocks.{with_file}
+use Rattle.bt_book.specs.Book.{asked_of, peers_of, max_peers}
+use Rattle.bt_machine.specs.State.{EngineState, FileState}
+use Rattle.bt_machine.specs.Blocks.{with_file, IsAsked}
 use Rattle.bt_machine.specs.Devices.{calls_at, HaveCalls}
 use Rattle.bt_machine.specs.Request.{IsFile}
+use Rattle.bt_machine.specs.Shape.{IsShaped}
+use Rattle.bt_state.specs.BlockChange.{AreFollowed, OneChanged, HasChanged, asked_after}
 use Rattle.bt_state.specs.Parts.{state_of, file_of, disk_of, disks_of}
-use Rattle.bt_state.specs.Ties.{IsTied, FitsFile}
+use Rattle.bt_state.specs.Ties.{IsTied}
+use Rattle.bt_state.specs.declared.peer.Peer.{Peer}
 use Rattle.bt_state.specs.declared.slot.Slot.{Slot}
 use Rattle.bt_state.specs.declared.parts.Parts.{Parts}
-use Rattle.bt_state.proofs.Lists.{get_mapped, map_set}
-use Rattle.bt_state.proofs.DeviceCalls.{have_one}
+use Rattle.bt_state.proofs.BlockChanges.{EachFits, followed_tied, followed_alike, tied_followed, state_followed}
+use Rattle.bt_state.proofs.SlotChanges.{file_here, files_changed, have_changed, fits_changed, slot_block_changed}
 use Rattle.bt_block_events.specs.SlotSteps.{ChangesStore}
 
 module _ {D H : Type 0} (old next : Parts D H) {file : ℕ} {before after : StoreView D} {tree : Facts}
@@ -20,56 +25,91 @@ module _ {D H : Type 0} (old next : Parts D H) {file : ℕ} {before after : Stor
   abbrev pub file_before : FileState
   file_before = record { tree = c.slot.tree; states = before.states }
 
-  abbrev slot_then : Slot D H
-  slot_then = record c.slot { store = Some after }
-
-  pub here : slice_get (state_of old).files file ≡ Some file_before
-  here =
-      get_mapped file_of old.slots.items file c.has_store.here
-      ∙ ap (λ (store : Option (StoreView D)). Some (record { tree = c.slot.tree; states = option_map_or (λ st. st.states) store [] })) c.has_store.has
-
   pub is_file : IsFile (state_of old) file file_before tree
-  is_file = record { here = here; has_tree = c.has_store.has_tree }
+  is_file = record { here = file_here old.slots.items file c.has_store.here c.has_store.has after; has_tree = c.has_store.has_tree }
+
+  files_then : map file_of next.slots.items ≡ slice_set (state_of old).files file (record file_before { states = after.states })
+  files_then =
+      ap (λ (slots : List (Slot D H)). map file_of slots) c.is ∙ files_changed old.slots.items file c.has_store.here c.has_store.has after
 
   pub state_then : state_of (record old { slots = next.slots }) ≡ with_file (state_of old) file (record file_before { states = after.states })
-  state_then =
-      ap (λ (slots : List (Slot D H)). record (state_of old) { files = map file_of slots }) c.is
-      ∙ ap (λ (files : List FileState). record (state_of old) { files = files }) (map_set file_of file_of old.slots.items file slot_then (λ j x apart e. refl))
+  state_then = ap (λ (files : List FileState). record (state_of old) { files = files }) files_then
 
   pub have_calls : (history : D → History) (honest : D → Type 0) (faults : D → ℕ) (calls : List Call)
       → HasCalls history honest faults before.disk calls after.disk
       → HaveCalls history honest faults (disks_of old) (calls_at file calls) (map disk_of next.slots.items)
   have_calls history honest faults calls made =
-      rw disks_then (have_one history honest faults (disks_of old) file before.disk after.disk calls disk_here made)
-    where
-      disk_here : slice_get (disks_of old) file ≡ Some (Some before.disk)
-      disk_here =
-          get_mapped disk_of old.slots.items file c.has_store.here
-          ∙ ap (λ (store : Option (StoreView D)). Some (option_map (λ st. st.disk) store)) c.has_store.has
+      subst (λ (slots : List (Slot D H)). HaveCalls history honest faults (disks_of old) (calls_at file calls) (map disk_of slots)) (sym c.is)
+      (have_changed old.slots.items file c.has_store.here c.has_store.has after history honest faults calls made)
 
-      disks_then : map disk_of next.slots.items ≡ slice_set (disks_of old) file (Some after.disk)
-      disks_then =
-          ap (λ (slots : List (Slot D H)). map disk_of slots) c.is ∙ map_set disk_of disk_of old.slots.items file slot_then (λ j x apart e. refl)
+  count_then : length next.slots.items ≡ length old.slots.items
+  count_then = ap (λ (slots : List (Slot D H)). length slots) c.is ∙ length-set old.slots.items file (record c.slot { store = Some after })
 
-  pub count_then : length next.slots.items ≡ length old.slots.items
-  count_then = ap (λ (slots : List (Slot D H)). length slots) c.is ∙ length-set old.slots.items file slot_then
+  fits_then : IsTied old → EachFits old.torrent.files old.trees.items next.slots.items
+  fits_then tied =
+      subst (λ (slots : List (Slot D H)). EachFits old.torrent.files old.trees.items slots) (sym c.is)
+      (fits_changed old.slots.items file c.has_store.here c.has_store.has after c.same_file tied.each)
 
-  pub fits_then : IsTied old → (i : ℕ) (slot : Slot D H) → slice_get next.slots.items i ≡ Some slot
-      → FitsFile old.torrent.files old.trees.items i slot
-  fits_then tied i slot at = elim (set_cases old.slots.items file i (ap (λ (slots : List (Slot D H)). slice_get slots i) (sym c.is) ∙ at)) [
-    | inl now ↦ subst (λ (s : Slot D H). FitsFile old.torrent.files old.trees.items i s) (sym now.1) (
-        let fits = tied.each file c.slot c.has_store.here in
-        let tree = fits.some before c.has_store.has in
-        record {
-          file = fits.file;
-          listed = ap (λ n. slice_get old.torrent.files n) now.0 ∙ fits.listed;
-          empty = λ none. absurd cc;
-          some = λ store e. (
-              let is : after ≡ store = some_is e in
-              let long = ap (λ (s : StoreView D). s.file_length) (sym is) ∙ c.same_file in
-              record { facts = tree.facts; stands = tree.stands; same = tree.same ∙ sym long; long = long ∙ tree.long }
-              );
-        }
-      )
-    | inr stayed ↦ tied.each i slot stayed
-  ]
+  -- ---- all blocks have the states that they had
+  module _ (same : after.states ≡ before.states) where
+    same_files : map file_of next.slots.items ≡ (state_of old).files
+    same_files =
+        files_then ∙ ap (λ (states : List BlockState). slice_set (state_of old).files file (record file_before { states = states })) same
+        ∙ set_id (state_of old).files file is_file.here
+
+    pub state_same : state_of (record old { slots = next.slots }) ≡ state_of old
+    state_same = ap (λ (files : List FileState). record (state_of old) { files = files }) same_files
+
+    pub tied_same : IsTied old → IsShaped old.torrent (state_of old) → IsTied (record old { slots = next.slots })
+    tied_same tied shaped =
+        tied_followed old (record old { slots = next.slots }) tied refl refl tied.room refl count_then (fits_then tied)
+        (followed_alike (state_of (record old { slots = next.slots })) (followed_tied old tied shaped) refl same_files)
+
+-- ---- one block has another state, and was followed
+module _ {D H : Type 0} (old next : Parts D H) (b : BlockId) (was now : BlockState) {before after : StoreView D} {tree : Facts}
+    (c : ChangesStore old.trees.items b.file old.slots.items before after tree next.slots.items) (tied : IsTied old) (shaped : IsShaped old.torrent (state_of old))
+    (had : slice_get before.states b.block ≡ Some was) (states : after.states ≡ slice_set before.states b.block now) where
+  abbrev mid : Parts D H
+  mid = record old { slots = next.slots }
+
+  changed_to : (t : EngineState) → t.torrent ≡ old.torrent → t.files ≡ map file_of next.slots.items → OneChanged (state_of old) t b was now
+  changed_to t torrent files =
+      slot_block_changed old.slots.items b.file c.has_store.here c.has_store.has after (state_of old) t refl torrent
+      (files ∙ ap (λ (slots : List (Slot D H)). map file_of slots) c.is) b.block was now had states
+
+  pub has_changed : HasChanged old.torrent old.book.wanted old.unmarked.items b was now
+  has_changed = record {
+    first = state_of old;
+    last = state_of mid;
+    same_torrent = refl;
+    followed = followed_tied old tied shaped;
+    changed = changed_to (state_of mid) refl refl;
+  }
+
+  module _ (new : Parts D H) (others : new ≡ record mid { book = new.book; unmarked = new.unmarked })
+      (asked : (key : PeerKey) → asked_of new.book key ≡ asked_after b now (asked_of old.book key)) (none : now ≢ Missing → ¬ IsAsked (state_of old) b) where
+    state_is : state_of new ≡ state_of mid
+    state_is = state_followed mid new b now others asked none
+
+    pub state_new : state_of new ≡ with_file (state_of old) b.file (record (file_before old next c) { states = after.states })
+    state_new = state_is ∙ state_then old next c
+
+    pub have_new : (history : D → History) (honest : D → Type 0) (faults : D → ℕ) (calls : List Call)
+        → HasCalls history honest faults before.disk calls after.disk
+        → HaveCalls history honest faults (disks_of old) (calls_at b.file calls) (disks_of new)
+    have_new history honest faults calls made =
+        subst (λ (parts : Parts D H). HaveCalls history honest faults (disks_of old) (calls_at b.file calls) (disks_of parts)) (sym others)
+        (have_calls old next c history honest faults calls made)
+
+    pub tied_new : peers_of new.book ≡ peers_of old.book
+        → ((s t : EngineState) → s.torrent ≡ old.torrent → AreFollowed s old.book.wanted old.unmarked.items → OneChanged s t b was now
+        → AreFollowed t new.book.wanted new.unmarked.items)
+        → IsTied new
+    tied_new joined followed =
+        let torrent : new.torrent ≡ old.torrent = ap (λ (parts : Parts D H). parts.torrent) others in
+        let room = subst (λ (parts : Parts D H). max_peers ≤ vec_capacity parts.peers) (sym others) tied.room in
+        let fits = subst (λ (parts : Parts D H). EachFits parts.torrent.files parts.trees.items parts.slots.items) (sym others) (fits_then old next c tied) in
+        tied_followed old new tied torrent (ap (λ (parts : Parts D H). map (λ p. p.key) parts.peers.items) others) room joined
+        (ap (λ (parts : Parts D H). length parts.slots.items) others ∙ count_then old next c) fits
+        (followed (state_of old) (state_of new) refl (followed_tied old tied shaped)
+        (changed_to (state_of new) torrent (ap (λ (parts : Parts D H). map file_of parts.slots.items) others)))
