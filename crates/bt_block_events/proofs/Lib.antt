@@ -8,3 +8,5 @@ pub mod StoreChanges
 -- a block that comes
 pub mod Storing
 pub mod Arrivals
+-- a request
+pub mod Requests

@@ -138,3 +138,16 @@ module _ {D H : Type 0} {slots : List (Slot D H)} {trees : List Facts} {span : S
     marked = span_marked can r s is;
     stops = stops;
   }
+
+-- the same, of lists that are these
+pub sends_of : {D H : Type 0} {history : D → History} {honest : D → Type 0} {faults : D → ℕ} {dig : List ℕ → List ℕ} {xs : List (Slot D H)} {ks : List Facts}
+    {span : Span} {bytes : List ℕ} {ys : List (Slot D H)} (old : List (Slot D H)) (trees : List Facts) (new : List (Slot D H))
+    → SendsFromSlot history honest faults dig xs ks span bytes ys → xs ≡ old → ks ≡ trees → new ≡ ys
+    → SendsFromSlot history honest faults dig old trees span bytes new
+sends_of old trees new p e f h = rw (← e, ← f, h) p
+
+pub stops_of : {D H : Type 0} {history : D → History} {honest : D → Type 0} {faults : D → ℕ} {dig : List ℕ → List ℕ} {xs : List (Slot D H)} {ks : List Facts}
+    {span : Span} {found : ReadFault} {ys : List (Slot D H)} (old : List (Slot D H)) (trees : List Facts) (new : List (Slot D H))
+    → StopsInSlot history honest faults dig xs ks span found ys → xs ≡ old → ks ≡ trees → new ≡ ys
+    → StopsInSlot history honest faults dig old trees span found new
+stops_of old trees new p e f h = rw (← e, ← f, h) p

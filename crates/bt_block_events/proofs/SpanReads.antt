@@ -262,7 +262,7 @@ module _ (span : Span) (some : 1 ≤ span.length) (few : span.length ≤ 16384) 
   pub spans_first : Contains (spanned_blocks span) (first_block span)
   spans_first = subst (λ l. Contains l (first_block span)) (sym (spanned_is span some few)) (has_first (first_block span) (last_block span))
 
-  spans_last : Contains (spanned_blocks span) (last_block span)
+  pub spans_last : Contains (spanned_blocks span) (last_block span)
   spans_last = subst (λ l. Contains l (last_block span)) (sym (spanned_is span some few)) (has_last (first_block span) (last_block span))
 
   pub is_marked_span : (states : List BlockState) → slice_get states (first_block span) ≡ Some Marked
