@@ -276,31 +276,31 @@ module _ (span : Span) (some : 1 ≤ span.length) (few : span.length ≤ 16384) 
   ends_marked states m = (m.marked (first_block span) spans_first, m.marked (last_block span) spans_last)
 
   module _ (first last : ℕ) (is_first : first ≡ first_block span) (is_last : last ≡ last_block span) where
-   spanned_by : one_or_two first last ≡ spanned_blocks span
-   spanned_by = ap (λ i. one_or_two i last) is_first ∙ ap (λ i. one_or_two (first_block span) i) is_last ∙ sym (spanned_is span some few)
+    spanned_by : one_or_two first last ≡ spanned_blocks span
+    spanned_by = ap (λ i. one_or_two i last) is_first ∙ ap (λ i. one_or_two (first_block span) i) is_last ∙ sym (spanned_is span some few)
 
-   pub stops_span : {D : Type 0} (history : D → History) (honest : D → Type 0) (faults : D → ℕ) (dig : List ℕ → List ℕ) (k : Facts) (found : ReadFault) (old new : StoreView D)
-      → StopAtFault history honest faults dig k (one_or_two first last) found old new
-      → StopAtFault history honest faults dig k (spanned_blocks span) found old new
-   stops_span history honest faults dig k found old new r =
-      subst (λ l. StopAtFault history honest faults dig k l found old new) spanned_by r
+    pub stops_span : {D : Type 0} (history : D → History) (honest : D → Type 0) (faults : D → ℕ) (dig : List ℕ → List ℕ) (k : Facts) (found : ReadFault) (old new : StoreView D)
+        → StopAtFault history honest faults dig k (one_or_two first last) found old new
+        → StopAtFault history honest faults dig k (spanned_blocks span) found old new
+    stops_span history honest faults dig k found old new r =
+        subst (λ l. StopAtFault history honest faults dig k l found old new) spanned_by r
 
-   pub sends_span : {D : Type 0} (history : D → History) (honest : D → Type 0) (faults : D → ℕ) (dig : List ℕ → List ℕ) (k : Facts) (all sent : List ℕ) (old new : StoreView D)
-      → AreReadRight history honest faults dig k (one_or_two first last) all old new
-      → sent ≡ take span.length (drop (span.start % 16384) all)
-      → SendsSpan history honest faults dig k span sent old new
-   sends_span history honest faults dig k all sent old new r cut =
-      let whole = subst (λ l. AreReadRight history honest faults dig k l all old new) spanned_by r in
-      let offset : span.start % 16384 ≡ span.start - 16384 * (span.start / 16384) = omega arith in
-      record {
-        bytes = whole.bytes;
-        reads = whole.reads;
-        calls = whole.calls;
-        right = whole.right;
-        cut = cut ∙ ap (λ l. take span.length (drop (span.start % 16384) l)) whole.together
-            ∙ ap (λ n. take span.length (drop n (flat_map whole.bytes (spanned_blocks span)))) offset;
-        others = whole.others;
-      }
+    pub sends_span : {D : Type 0} (history : D → History) (honest : D → Type 0) (faults : D → ℕ) (dig : List ℕ → List ℕ) (k : Facts) (all sent : List ℕ) (old new : StoreView D)
+        → AreReadRight history honest faults dig k (one_or_two first last) all old new
+        → sent ≡ take span.length (drop (span.start % 16384) all)
+        → SendsSpan history honest faults dig k span sent old new
+    sends_span history honest faults dig k all sent old new r cut =
+        let whole = subst (λ l. AreReadRight history honest faults dig k l all old new) spanned_by r in
+        let offset : span.start % 16384 ≡ span.start - 16384 * (span.start / 16384) = omega arith in
+        record {
+          bytes = whole.bytes;
+          reads = whole.reads;
+          calls = whole.calls;
+          right = whole.right;
+          cut = cut ∙ ap (λ l. take span.length (drop (span.start % 16384) l)) whole.together
+              ∙ ap (λ n. take span.length (drop n (flat_map whole.bytes (spanned_blocks span)))) offset;
+          others = whole.others;
+        }
 
 -- ---- where a range lies
 

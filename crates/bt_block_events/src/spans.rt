@@ -10,12 +10,7 @@ use bt_tree::BLOCK_LEN;
 use bt_wire::Ask;
 
 /// The block of which these bytes of a piece, from the byte `begin` on, are all.
-pub(crate) fn block_of(
-    torrent: &Torrent,
-    piece: u32,
-    begin: u32,
-    bytes: &[u8],
-) -> Option<BlockId>
+pub(crate) fn block_of(torrent: &Torrent, piece: u32, begin: u32, bytes: &[u8]) -> Option<BlockId>
     ensures some { IfSome result (IsWholeBlock torrent.now piece begin (length bytes.now)) }
     ensures none { IfNone result
         ((b : BlockId) → ¬ IsWholeBlock torrent.now piece begin (length bytes.now) b) }

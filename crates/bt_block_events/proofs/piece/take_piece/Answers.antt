@@ -72,8 +72,7 @@ pub returns-then-not-came-clause-takes : goal.returns-then-not-came-clause-takes
 returns-then-not-came-clause-takes g c =
     let old = c.args.parts.now in
     let p = c.index_mut-peer.result.now in
-    let here = get_read old.peers.items c.args.index p c.requires.there c.index_mut-peer.ensures.value in
-    (
+    let here = get_read old.peers.items c.args.index p c.requires.there c.index_mut-peer.ensures.value in (
       _,
       have_none g.D.Disk.history g.D.Disk.honest g.D.Disk.faults (disks_of old),
       λ x at.
