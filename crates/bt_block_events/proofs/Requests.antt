@@ -4,17 +4,17 @@ use Rattle.std.specs.Global.{Vec}
 use Rattle.std.specs.Vec.{with_item}
 use Rattle.std.specs.Bool.{OnFalse}
 use Rattle.bt_store.specs.FileStore.{StoreView}
-use Rattle.bt_book.specs.Book.{asked_of, peers_of}
+use Rattle.bt_book.specs.Book.{asked_of}
 use Rattle.bt_machine.proofs.Lists.{some_is, here as first_of}
+use Rattle.bt_machine.specs.declared.answer.Note.{Note}
 use Rattle.bt_machine.specs.declared.answer.Note.TheVariants.{Damaged as DamagedNote, Device as DeviceNote}
 use Rattle.bt_machine.specs.State.{EngineState, PeerState, FileState}
-use Rattle.bt_machine.specs.Blocks.{block_id, state_at, with_file, with_peer}
+use Rattle.bt_machine.specs.Blocks.{block_id, state_at, with_file, with_peer, IsAsked}
 use Rattle.bt_machine.specs.Devices.{DeviceCalls, calls_at, reads_at}
 use Rattle.bt_machine.specs.Output.{noting, sending}
-use Rattle.bt_machine.specs.Request.{AreMarked, HandlesRequest, served, stopped, with_payload, damaged as machine_damaged, fault as machine_fault}
+use Rattle.bt_machine.specs.Request.{AreMarked, HandlesRequest, FindsFault, served, stopped, with_payload, damaged as machine_damaged, fault as machine_fault}
 use Rattle.bt_machine.specs.Shape.{IsShaped}
 use Rattle.bt_machine.specs.Spans.{first_block, last_block, spanned_blocks}
-use Rattle.bt_state.specs.BlockChange.{AreFollowed, OneChanged, HasChanged, asked_after}
 use Rattle.bt_state.specs.Parts.{state_of, peer_of}
 use Rattle.bt_state.specs.Ties.{IsTied}
 use Rattle.bt_state.specs.declared.peer.Peer.{Peer}
@@ -26,11 +26,13 @@ use Rattle.bt_block_events.specs.Request.{TakesRequest, effect_of}
 use Rattle.bt_block_events.specs.RequestSteps.{CanRead, SendsFromSlot, StopsInSlot}
 use Rattle.bt_block_events.specs.ServingSteps.{Finds, damaged, fault, IsMarkedSpan}
 use Rattle.bt_block_events.specs.SpansSteps.{IsShortSpan}
+use Rattle.bt_block_events.specs.declared.request.Served.{Served}
 use Rattle.bt_block_events.specs.declared.request.Served.TheVariants.{Sent, Found}
+use Rattle.bt_block_events.specs.declared.serving.ReadFault.{ReadFault}
 use Rattle.bt_block_events.specs.declared.serving.ReadFault.TheVariants.{Damaged, Device}
 use Rattle.bt_block_events.proofs.SpanReads.{spans_first, spans_last}
 use Rattle.bt_block_events.proofs.Stores.{has_state}
-use Rattle.bt_block_events.proofs.StoreChanges.{is_file, file_before, have_calls, state_same, tied_same, has_changed, state_new, have_new, tied_new}
+use Rattle.bt_block_events.proofs.StoreChanges.{ChangesParts, ChangesBlock, is_file, file_before, have_calls, state_same, tied_same, state_new, have_new}
 
 -- ---- which blocks are marked
 
@@ -43,19 +45,19 @@ module _ {D H : Type 0} (parts : Parts D H) (span : Span) (short : IsShortSpan s
   pub unmarked_first : i ≡ first_block span → OnFalse yes (state_at (state_of parts) (block_id span.file i) ≢ Some Marked)
       → OnFalse yes (¬ AreMarked (state_of parts) span)
   unmarked_first is not_it =
-      unmarked_by (state_of parts) span i (subst (λ i. Contains (spanned_blocks span) i) (sym is) (spans_first span short.some short.few)) yes not_it
+      unmarked_by (state_of parts) span i (subst (λ i. Contains (spanned_blocks span) i) (sym is) (spans_first short)) yes not_it
 
   pub unmarked_last : i ≡ last_block span → OnFalse yes (state_at (state_of parts) (block_id span.file i) ≢ Some Marked)
       → OnFalse yes (¬ AreMarked (state_of parts) span)
   unmarked_last is not_it =
-      unmarked_by (state_of parts) span i (subst (λ i. Contains (spanned_blocks span) i) (sym is) (spans_last span short.some short.few)) yes not_it
+      unmarked_by (state_of parts) span i (subst (λ i. Contains (spanned_blocks span) i) (sym is) (spans_last short)) yes not_it
 
 -- the blocks can be read
 pub can_read : {D H : Type 0} (parts : Parts D H) (span : Span) → IsTied parts → IsShortSpan span → AreMarked (state_of parts) span
     → CanRead parts.slots.items parts.trees.items span
 can_read parts span tied short are =
     let first = block_id span.file (first_block span) in
-    let s = has_state parts first Marked tied (are (first_block span) (spans_first span short.some short.few)) in
+    let s = has_state parts first Marked tied (are (first_block span) (spans_first short)) in
     record {
       slot = s.slot;
       store = s.store;
@@ -93,140 +95,132 @@ pub choking_is : {D H : Type 0} (parts : Parts D H) (i : ℕ) {p : Peer} → sli
 choking_is parts i here x at =
     ap (λ (x : PeerState). x.am_choking) (some_is (sym at ∙ get_mapped (peer_of parts.book) parts.peers.items i here))
 
-module _ {D H : Type 0} (history : D → History) (honest : D → Type 0) (faults : D → ℕ) (dig : List ℕ → List ℕ) (old next : Parts D H) (i : ℕ) {p : Peer}
-    (ask : Ask) (span : Span) (tied : IsTied old) (shaped : IsShaped old.torrent (state_of old)) (here : slice_get old.peers.items i ≡ Some p)
-    (open_to : p.am_choking ≡ false) (place : IsPlace old.torrent ask.piece ask.begin ask.length span) (are : AreMarked (state_of old) span) where
-  peer_is : (x : PeerState) → slice_get (state_of old).peers i ≡ Some x → peer_of old.book p ≡ x
-  peer_is x at = some_is (sym (get_mapped (peer_of old.book) old.peers.items i here) ∙ at)
+-- a request that is looked at: we do not choke the peer, and the blocks of the range are marked
+pub record IsLookedAt {D H : Type 0} (old : Parts D H) (i : ℕ) (ask : Ask) (span : Span) : Type 0 where
+  pub peer : Peer
+  pub tied : IsTied old
+  pub shaped : IsShaped old.torrent (state_of old)
+  pub here : slice_get old.peers.items i ≡ Some peer
+  pub open_to : peer.am_choking ≡ false
+  pub place : IsPlace old.torrent ask.piece ask.begin ask.length span
+  pub are : AreMarked (state_of old) span
+
+module _ {D H : Type 0} {history : D → History} {honest : D → Type 0} {faults : D → ℕ} {dig : List ℕ → List ℕ} {old : Parts D H} {i : ℕ} {ask : Ask} {span : Span}
+    (look : IsLookedAt old i ask span) (next : Parts D H) where
+  -- what the machine makes of the peer it makes of whatever stands there
+  takes_by : (served : Served) (calls : DeviceCalls) (new : EngineState)
+      → HandlesRequest dig (state_of old) i (peer_of old.book look.peer) ask calls (effect_of (peer_of old.book look.peer) ask served) new
+      → (x : PeerState) → slice_get (state_of old).peers i ≡ Some x → HandlesRequest dig (state_of old) i x ask calls (effect_of x ask served) new
+  takes_by served calls new handles x at =
+      subst (λ (x : PeerState). HandlesRequest dig (state_of old) i x ask calls (effect_of x ask served) new)
+      (some_is (sym (get_mapped (peer_of old.book) old.peers.items i look.here) ∙ at)) handles
 
   -- the range is sent
-  module _ (bytes : Vec ℕ) (r : SendsFromSlot history honest faults dig old.slots.items old.trees.items span bytes.items next.slots.items) (payload : ℕ) where
-    abbrev sent_parts : Parts D H
-    sent_parts = record old { slots = next.slots; peers = with_item old.peers i (record p { payload = payload }) }
+  module _ {bytes : Vec ℕ} (payload : ℕ) (r : SendsFromSlot history honest faults dig old.slots.items old.trees.items span bytes.items next.slots.items) where
+    abbrev pub sent_parts : Parts D H
+    sent_parts = record old { slots = next.slots; peers = with_item old.peers i (record look.peer { payload = payload }) }
+
+    parts : ChangesParts old next span.file r.before r.after r.tree
+    parts = record { tied = look.tied; shaped = look.shaped; store = r.changes }
 
     same : r.after.states ≡ r.before.states
     same = ap (λ (v : StoreView D). v.states) r.sends.others
 
-    tied_mid : IsTied (record old { slots = next.slots })
-    tied_mid = tied_same old next r.changes same tied shaped
+    pub tied_sent : IsTied sent_parts
+    tied_sent = tied_set (record old { slots = next.slots }) i (record look.peer { payload = payload }) (tied_same parts same) look.here refl
 
-    pub tied_sent : IsTied (record old { slots = next.slots; peers = with_item old.peers i (record p { payload = payload }) })
-    tied_sent = tied_set (record old { slots = next.slots }) i (record p { payload = payload }) tied_mid here refl
+    pub takes_sent : payload ≡ min (2 ^ 64 - 1) (look.peer.payload + span.length) → TakesRequest history honest faults dig old i ask (Sent bytes) sent_parts
+    takes_sent paid =
+        let calls = map (call_of r.tree.file_length) r.sends.reads in (
+          calls_at span.file calls,
+          have_calls parts calls r.sends.calls,
+          takes_by (Sent bytes) (calls_at span.file calls) (state_of sent_parts) (served span look.open_to look.place look.are (record {
+            file = file_before parts;
+            tree = r.tree;
+            bytes = r.sends.bytes;
+            reads = r.sends.reads;
+            is_file = is_file parts;
+            right = r.sends.right;
+            made = calls_are span.file r.tree.file_length r.sends.reads;
+            sent = ap (λ l. sending (peer_of old.book look.peer) (Piece ask.piece ask.begin l)) r.sends.cut;
+            after = state_set (record old { slots = next.slots }) i (record look.peer { payload = payload }) (tied_same parts same) look.here refl
+                ∙ ap (λ (s : EngineState). with_peer s i (peer_of old.book (record look.peer { payload = payload }))) (state_same parts same)
+                ∙ ap (λ n. with_peer (state_of old) i (peer_of old.book (record look.peer { payload = n }))) paid;
+          })),
+        )
 
-    module _ (paid : payload ≡ min (2 ^ 64 - 1) (p.payload + span.length)) where
-      state_sent : state_of sent_parts ≡ with_peer (state_of old) i (with_payload span.length (peer_of old.book p))
-      state_sent =
-          state_set (record old { slots = next.slots }) i (record p { payload = payload }) tied_mid here refl
-          ∙ ap (λ (s : EngineState). with_peer s i (peer_of old.book (record p { payload = payload }))) (state_same old next r.changes same)
-          ∙ ap (λ n. with_peer (state_of old) i (peer_of old.book (record p { payload = n }))) paid
+  -- it stops at a fault
+  stops_so : {found : ReadFault} (r : StopsInSlot history honest faults dig old.slots.items old.trees.items span found next.slots.items) (note : Note) (new : EngineState)
+      → FindsFault dig r.tree (state_of old) span.file r.stops.block (record { tree = r.changes.slot.tree; states = r.before.states }) r.stops.read (noting note) new
+      → (x : PeerState) → slice_get (state_of old).peers i ≡ Some x
+      → HandlesRequest dig (state_of old) i x ask (calls_at span.file (map (call_of r.tree.file_length) (r.stops.reads ++ r.stops.read ∷ []))) (noting note) new
+  stops_so r note new finds =
+      let parts : ChangesParts old next span.file r.before r.after r.tree = record { tied = look.tied; shaped = look.shaped; store = r.changes } in
+      takes_by (Found note) (calls_at span.file (map (call_of r.tree.file_length) (r.stops.reads ++ r.stops.read ∷ []))) new (stopped span look.open_to look.place look.are (record {
+        file = file_before parts;
+        tree = r.tree;
+        before = r.stops.before;
+        block = r.stops.block;
+        after = r.stops.after;
+        bytes = r.stops.bytes;
+        reads = r.stops.reads;
+        read = r.stops.read;
+        is_file = is_file parts;
+        blocks = r.stops.parts;
+        right = r.stops.right;
+        finds = finds;
+        made = calls_are span.file r.tree.file_length (r.stops.reads ++ r.stops.read ∷ []);
+      }))
 
-      pub takes_sent : TakesRequest history honest faults dig old i ask (Sent bytes)
-          (record old { slots = next.slots; peers = with_item old.peers i (record p { payload = payload }) })
-      takes_sent =
-          let calls = map (call_of r.tree.file_length) r.sends.reads in (
-            calls_at span.file calls,
-            have_calls old next r.changes history honest faults calls r.sends.calls,
-            λ x at.
-                subst (λ (x : PeerState). HandlesRequest dig (state_of old) i x ask (calls_at span.file calls) (effect_of x ask (Sent bytes)) (state_of sent_parts)) (peer_is x at)
-                (served span open_to place are (record {
-                  file = file_before old next r.changes;
-                  tree = r.tree;
-                  bytes = r.sends.bytes;
-                  reads = r.sends.reads;
-                  is_file = is_file old next r.changes;
-                  right = r.sends.right;
-                  made = calls_are span.file r.tree.file_length r.sends.reads;
-                  sent = ap (λ l. sending (peer_of old.book p) (Piece ask.piece ask.begin l)) r.sends.cut;
-                  after = state_sent;
-                })),
-          )
-
-  -- a block is damaged
-  module _ (block : ℕ) (r : StopsInSlot history honest faults dig old.slots.items old.trees.items span (Damaged block) next.slots.items) where
-    abbrev b : BlockId
-    b = block_id span.file block
-
+  -- at a damaged block
+  module _ {block : ℕ} (r : StopsInSlot history honest faults dig old.slots.items old.trees.items span (Damaged block) next.slots.items) where
     found : (bytes : List ℕ) × (r.stops.read ≡ given r.stops.block bytes) × (¬ IsRight dig r.tree r.stops.block bytes) × (block ≡ r.stops.block)
         × (r.after.states ≡ slice_set r.before.states r.stops.block Missing)
     found = finds_damaged dig r.tree r.stops.block r.stops.read block r.before.states r.after.states r.stops.finds
 
-    had : slice_get r.before.states block ≡ Some Marked
-    had = ap (λ i. slice_get r.before.states i) found.3 ∙ r.marked.marked r.stops.block (subst (λ (blocks : List ℕ). Contains blocks r.stops.block) (sym r.stops.parts)
-        (Contains-append_right r.stops.before (r.stops.block ∷ r.stops.after) r.stops.block (first_of r.stops.after refl)))
+    pub damage_changes : ChangesBlock old next (block_id span.file block) Marked Missing
+    damage_changes = record {
+      before = r.before;
+      after = r.after;
+      tree = r.tree;
+      parts = record { tied = look.tied; shaped = look.shaped; store = r.changes };
+      had = ap (λ i. slice_get r.before.states i) found.3
+          ∙ r.marked.marked r.stops.block (subst (λ (blocks : List ℕ). Contains blocks r.stops.block) (sym r.stops.parts)
+          (Contains-append_right r.stops.before (r.stops.block ∷ r.stops.after) r.stops.block (first_of r.stops.after refl)));
+      states = found.4 ∙ ap (λ i. slice_set r.before.states i Missing) (sym found.3);
+    }
 
-    states : r.after.states ≡ slice_set r.before.states block Missing
-    states = found.4 ∙ ap (λ i. slice_set r.before.states i Missing) (sym found.3)
+    pub takes_damaged : (new : Parts D H) → new ≡ record old { slots = next.slots; book = new.book; unmarked = new.unmarked }
+        → ((key : PeerKey) → asked_of new.book key ≡ asked_of old.book key)
+        → TakesRequest history honest faults dig old i ask (Found (DamagedNote (block_id span.file block))) new
+    unfolding damage_changes
+    takes_damaged new others asked =
+        let kept : Marked ≡ Missing → Missing ≢ Missing → ¬ IsAsked (state_of old) (block_id span.file block) = λ e. absurd cc in
+        let calls = map (call_of r.tree.file_length) (r.stops.reads ++ r.stops.read ∷ []) in
+        let finds = machine_damaged found.0 found.1 found.2 (ap (λ n. noting (DamagedNote (block_id span.file n))) found.3) (
+        state_new damage_changes new others asked kept
+        ∙ ap (λ (states : List BlockState). with_file (state_of old) span.file (record { tree = r.changes.slot.tree; states = states })) found.4
+        ) in (
+          calls_at span.file calls,
+          have_new damage_changes new others asked kept calls r.stops.calls,
+          stops_so r (DamagedNote (block_id span.file block)) (state_of new) finds,
+        )
 
-    pub damage_changed : HasChanged old.torrent old.book.wanted old.unmarked.items (block_id span.file block) Marked Missing
-    damage_changed = has_changed old next b Marked Missing r.changes tied shaped had states
-
-    module _ (new : Parts D H) (others : new ≡ record old { slots = next.slots; book = new.book; unmarked = new.unmarked })
-        (asked : (key : PeerKey) → asked_of new.book key ≡ asked_of old.book key) where
-      state_found : state_of new ≡ with_file (state_of old) span.file (record (file_before old next r.changes) { states = slice_set r.before.states r.stops.block Missing })
-      state_found =
-          state_new old next b Marked Missing r.changes tied shaped had states new others asked (λ known. absurd (known refl))
-          ∙ ap (λ (states : List BlockState). with_file (state_of old) span.file (record (file_before old next r.changes) { states = states })) found.4
-
-      pub takes_damaged : TakesRequest history honest faults dig old i ask (Found (DamagedNote (block_id span.file block))) new
-      takes_damaged =
-          let calls = map (call_of r.tree.file_length) (r.stops.reads ++ r.stops.read ∷ []) in (
-            calls_at span.file calls,
-            have_new old next b Marked Missing r.changes tied shaped had states new others asked (λ known. absurd (known refl)) history honest faults calls r.stops.calls,
-            λ x at.
-                subst (λ (x : PeerState). HandlesRequest dig (state_of old) i x ask (calls_at span.file calls) (noting (DamagedNote (block_id span.file block))) (state_of new)) (peer_is x at)
-                (stopped span open_to place are (record {
-                  file = file_before old next r.changes;
-                  tree = r.tree;
-                  before = r.stops.before;
-                  block = r.stops.block;
-                  after = r.stops.after;
-                  bytes = r.stops.bytes;
-                  reads = r.stops.reads;
-                  read = r.stops.read;
-                  is_file = is_file old next r.changes;
-                  blocks = r.stops.parts;
-                  right = r.stops.right;
-                  finds = machine_damaged found.0 found.1 found.2 (ap (λ n. noting (DamagedNote (block_id span.file n))) found.3) state_found;
-                  made = calls_are span.file r.tree.file_length (r.stops.reads ++ r.stops.read ∷ []);
-                })),
-          )
-
-      pub tied_damaged : peers_of new.book ≡ peers_of old.book
-          → ((s t : EngineState) → s.torrent ≡ old.torrent → AreFollowed s old.book.wanted old.unmarked.items → OneChanged s t (block_id span.file block) Marked Missing
-          → AreFollowed t new.book.wanted new.unmarked.items)
-          → IsTied new
-      tied_damaged joined followed =
-          tied_new old next b Marked Missing r.changes tied shaped had states new others asked (λ known. absurd (known refl)) joined followed
-
-  -- the device fails
+  -- at a fault of the device
   module _ (r : StopsInSlot history honest faults dig old.slots.items old.trees.items span Device next.slots.items) where
+    device_parts : ChangesParts old next span.file r.before r.after r.tree
+    device_parts = record { tied = look.tied; shaped = look.shaped; store = r.changes }
+
     failed_read : (r.stops.read ≡ failed r.stops.block) × (r.after.states ≡ r.before.states)
     failed_read = finds_device dig r.tree r.stops.block r.stops.read r.before.states r.after.states r.stops.finds
 
     pub tied_device : IsTied (record old { slots = next.slots })
-    tied_device = tied_same old next r.changes failed_read.1 tied shaped
+    tied_device = tied_same device_parts failed_read.1
 
     pub takes_device : TakesRequest history honest faults dig old i ask (Found (DeviceNote span.file)) (record old { slots = next.slots })
     takes_device =
         let calls = map (call_of r.tree.file_length) (r.stops.reads ++ r.stops.read ∷ []) in (
           calls_at span.file calls,
-          have_calls old next r.changes history honest faults calls r.stops.calls,
-          λ x at.
-              subst (λ (x : PeerState). HandlesRequest dig (state_of old) i x ask (calls_at span.file calls) (noting (DeviceNote span.file)) (state_of (record old { slots = next.slots })))
-              (peer_is x at)
-              (stopped span open_to place are (record {
-                file = file_before old next r.changes;
-                tree = r.tree;
-                before = r.stops.before;
-                block = r.stops.block;
-                after = r.stops.after;
-                bytes = r.stops.bytes;
-                reads = r.stops.reads;
-                read = r.stops.read;
-                is_file = is_file old next r.changes;
-                blocks = r.stops.parts;
-                right = r.stops.right;
-                finds = machine_fault failed_read.0 refl (state_same old next r.changes failed_read.1);
-                made = calls_are span.file r.tree.file_length (r.stops.reads ++ r.stops.read ∷ []);
-              })),
+          have_calls device_parts calls r.stops.calls,
+          stops_so r (DeviceNote span.file) (state_of (record old { slots = next.slots })) (machine_fault failed_read.0 refl (state_same device_parts failed_read.1)),
         )

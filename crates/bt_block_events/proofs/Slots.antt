@@ -10,6 +10,8 @@ use Rattle.bt_state.specs.declared.slot.Slot.{Slot}
 use Rattle.bt_block_events.specs.SlotSteps.{HasStore, ChangesStore}
 use Rattle.bt_block_events.specs.PieceSteps.{CanPut, PutsInSlot, IsOfMissing}
 use Rattle.std.specs.Global.{Vec}
+use Rattle.std.specs.Vec.{with_items}
+use Rattle.std.proofs.lemmas.List.{with_items_is}
 use Rattle.std.specs.Prelude.{IfOk, IfErr}
 use Rattle.bt_block_events.specs.declared.serving.ReadFault.{ReadFault}
 use Rattle.bt_machine.specs.Spans.{spanned_blocks}
@@ -95,12 +97,12 @@ module _ {D H : Type 0} {slots : List (Slot D H)} {trees : List Facts} {b : Bloc
         made = made;
       }
 
--- the same, of lists that are these
+-- the same, of the slots and trees of parts that were lent
 pub puts_of : {D H : Type 0} {history : D → History} {honest : D → Type 0} {faults : D → ℕ} {dig : List ℕ → List ℕ} {xs : List (Slot D H)} {ks : List Facts}
-    {b : BlockId} {bytes : List ℕ} {answer : Result Put StoreError} {ys : List (Slot D H)} (old : List (Slot D H)) (trees : List Facts) (new : List (Slot D H))
-    → PutsInSlot history honest faults dig xs ks b bytes answer ys → xs ≡ old → ks ≡ trees → new ≡ ys
-    → PutsInSlot history honest faults dig old trees b bytes answer new
-puts_of old trees new p e f h = rw (← e, ← f, h) p
+    {b : BlockId} {bytes : List ℕ} {answer : Result Put StoreError} {ys : List (Slot D H)} (old : Vec (Slot D H)) (trees : Vec Facts)
+    → PutsInSlot history honest faults dig xs ks b bytes answer ys → xs ≡ old.items → ks ≡ trees.items → length ys ≡ old.len
+    → PutsInSlot history honest faults dig old.items trees.items b bytes answer (with_items old ys).items
+puts_of {ys = ys} old trees p e f size = rw (with_items_is old ys size, ← e, ← f) p
 
 -- ---- a span that is read there
 
@@ -139,15 +141,15 @@ module _ {D H : Type 0} {slots : List (Slot D H)} {trees : List Facts} {span : S
     stops = stops;
   }
 
--- the same, of lists that are these
+-- the same, of the slots and trees of parts that were lent
 pub sends_of : {D H : Type 0} {history : D → History} {honest : D → Type 0} {faults : D → ℕ} {dig : List ℕ → List ℕ} {xs : List (Slot D H)} {ks : List Facts}
-    {span : Span} {bytes : List ℕ} {ys : List (Slot D H)} (old : List (Slot D H)) (trees : List Facts) (new : List (Slot D H))
-    → SendsFromSlot history honest faults dig xs ks span bytes ys → xs ≡ old → ks ≡ trees → new ≡ ys
-    → SendsFromSlot history honest faults dig old trees span bytes new
-sends_of old trees new p e f h = rw (← e, ← f, h) p
+    {span : Span} {bytes : List ℕ} {ys : List (Slot D H)} (old : Vec (Slot D H)) (trees : Vec Facts)
+    → SendsFromSlot history honest faults dig xs ks span bytes ys → xs ≡ old.items → ks ≡ trees.items → length ys ≡ old.len
+    → SendsFromSlot history honest faults dig old.items trees.items span bytes (with_items old ys).items
+sends_of {ys = ys} old trees p e f size = rw (with_items_is old ys size, ← e, ← f) p
 
 pub stops_of : {D H : Type 0} {history : D → History} {honest : D → Type 0} {faults : D → ℕ} {dig : List ℕ → List ℕ} {xs : List (Slot D H)} {ks : List Facts}
-    {span : Span} {found : ReadFault} {ys : List (Slot D H)} (old : List (Slot D H)) (trees : List Facts) (new : List (Slot D H))
-    → StopsInSlot history honest faults dig xs ks span found ys → xs ≡ old → ks ≡ trees → new ≡ ys
-    → StopsInSlot history honest faults dig old trees span found new
-stops_of old trees new p e f h = rw (← e, ← f, h) p
+    {span : Span} {found : ReadFault} {ys : List (Slot D H)} (old : Vec (Slot D H)) (trees : Vec Facts)
+    → StopsInSlot history honest faults dig xs ks span found ys → xs ≡ old.items → ks ≡ trees.items → length ys ≡ old.len
+    → StopsInSlot history honest faults dig old.items trees.items span found (with_items old ys).items
+stops_of {ys = ys} old trees p e f size = rw (with_items_is old ys size, ← e, ← f) p
