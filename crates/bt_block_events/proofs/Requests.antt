@@ -105,36 +105,36 @@ pub record IsLookedAt {D H : Type 0} (old : Parts D H) (i : ℕ) (ask : Ask) (sp
   pub place : IsPlace old.torrent ask.piece ask.begin ask.length span
   pub are : AreMarked (state_of old) span
 
+-- what the machine makes of the peer it makes of whatever stands there
+takes_by : {D H : Type 0} {dig : List ℕ → List ℕ} {old : Parts D H} {i : ℕ} {ask : Ask} {span : Span} (look : IsLookedAt old i ask span) (outcome : Served)
+    (calls : DeviceCalls) (new : EngineState)
+    → HandlesRequest dig (state_of old) i (peer_of old.book look.peer) ask calls (effect_of (peer_of old.book look.peer) ask outcome) new
+    → (x : PeerState) → slice_get (state_of old).peers i ≡ Some x → HandlesRequest dig (state_of old) i x ask calls (effect_of x ask outcome) new
+takes_by {dig = dig} {old = old} {i = i} {ask = ask} look outcome calls new handles x at =
+    subst (λ (x : PeerState). HandlesRequest dig (state_of old) i x ask calls (effect_of x ask outcome) new)
+    (some_is (sym (get_mapped (peer_of old.book) old.peers.items i look.here) ∙ at)) handles
+
 module _ {D H : Type 0} {history : D → History} {honest : D → Type 0} {faults : D → ℕ} {dig : List ℕ → List ℕ} {old : Parts D H} {i : ℕ} {ask : Ask} {span : Span}
     (look : IsLookedAt old i ask span) (next : Parts D H) where
-  -- what the machine makes of the peer it makes of whatever stands there
-  takes_by : (served : Served) (calls : DeviceCalls) (new : EngineState)
-      → HandlesRequest dig (state_of old) i (peer_of old.book look.peer) ask calls (effect_of (peer_of old.book look.peer) ask served) new
-      → (x : PeerState) → slice_get (state_of old).peers i ≡ Some x → HandlesRequest dig (state_of old) i x ask calls (effect_of x ask served) new
-  takes_by served calls new handles x at =
-      subst (λ (x : PeerState). HandlesRequest dig (state_of old) i x ask calls (effect_of x ask served) new)
-      (some_is (sym (get_mapped (peer_of old.book) old.peers.items i look.here) ∙ at)) handles
-
   -- the range is sent
-  module _ {bytes : Vec ℕ} (payload : ℕ) (r : SendsFromSlot history honest faults dig old.slots.items old.trees.items span bytes.items next.slots.items) where
-    abbrev pub sent_parts : Parts D H
-    sent_parts = record old { slots = next.slots; peers = with_item old.peers i (record look.peer { payload = payload }) }
-
+  module _ (bytes : Vec ℕ) (payload : ℕ) (r : SendsFromSlot history honest faults dig old.slots.items old.trees.items span bytes.items next.slots.items) where
     parts : ChangesParts old next span.file r.before r.after r.tree
     parts = record { tied = look.tied; shaped = look.shaped; store = r.changes }
 
     same : r.after.states ≡ r.before.states
     same = ap (λ (v : StoreView D). v.states) r.sends.others
 
-    pub tied_sent : IsTied sent_parts
+    pub tied_sent : IsTied (record old { slots = next.slots; peers = with_item old.peers i (record look.peer { payload = payload }) })
     tied_sent = tied_set (record old { slots = next.slots }) i (record look.peer { payload = payload }) (tied_same parts same) look.here refl
 
-    pub takes_sent : payload ≡ min (2 ^ 64 - 1) (look.peer.payload + span.length) → TakesRequest history honest faults dig old i ask (Sent bytes) sent_parts
+    pub takes_sent : payload ≡ min (2 ^ 64 - 1) (look.peer.payload + span.length) → TakesRequest history honest faults dig old i ask (Sent bytes)
+        (record old { slots = next.slots; peers = with_item old.peers i (record look.peer { payload = payload }) })
     takes_sent paid =
         let calls = map (call_of r.tree.file_length) r.sends.reads in (
           calls_at span.file calls,
           have_calls parts calls r.sends.calls,
-          takes_by (Sent bytes) (calls_at span.file calls) (state_of sent_parts) (served span look.open_to look.place look.are (record {
+          takes_by look (Sent bytes) (calls_at span.file calls) (state_of (record old { slots = next.slots; peers = with_item old.peers i (record look.peer { payload = payload }) }))
+          (served span look.open_to look.place look.are (record {
             file = file_before parts;
             tree = r.tree;
             bytes = r.sends.bytes;
@@ -156,7 +156,7 @@ module _ {D H : Type 0} {history : D → History} {honest : D → Type 0} {fault
       → HandlesRequest dig (state_of old) i x ask (calls_at span.file (map (call_of r.tree.file_length) (r.stops.reads ++ r.stops.read ∷ []))) (noting note) new
   stops_so r note new finds =
       let parts : ChangesParts old next span.file r.before r.after r.tree = record { tied = look.tied; shaped = look.shaped; store = r.changes } in
-      takes_by (Found note) (calls_at span.file (map (call_of r.tree.file_length) (r.stops.reads ++ r.stops.read ∷ []))) new (stopped span look.open_to look.place look.are (record {
+      takes_by look (Found note) (calls_at span.file (map (call_of r.tree.file_length) (r.stops.reads ++ r.stops.read ∷ []))) new (stopped span look.open_to look.place look.are (record {
         file = file_before parts;
         tree = r.tree;
         before = r.stops.before;
