@@ -26,15 +26,6 @@ pub record LiesIn (torrent : Metainfo) (b : BlockId) (piece : ℕ) : Type 0 wher
   pub has : HasBlock torrent b.file b.block
   pub is : piece ≡ has.entry.first_piece + full_block_length * b.block / torrent.piece_length
 
--- the first piece, from one on, of which this says true
-pub record IsNextPiece (pieces : List Bool) (from piece : ℕ) : Type 0 where
-  pub after : from ≤ piece
-  pub held : slice_index_or pieces piece false ≡ true
-  pub least : (q : ℕ) → from ≤ q → q < piece → slice_index_or pieces q false ≡ false
-
-abbrev pub HasNoPiece : List Bool → ℕ → Type 0
-HasNoPiece pieces from = (q : ℕ) → from ≤ q → slice_index_or pieces q false ≡ false
-
 -- No block behind this one lies in an earlier piece, and none before it in a later one; where one before it
 -- lies in the piece, it does, too.
 pub record IsFirstPiece (torrent : Metainfo) (from : BlockId) (piece : ℕ) : Type 0 where
