@@ -1,5 +1,5 @@
 -- The search for the least leaf that is needed of a peer: by what it has, by unknown leaves, and by marks.
-use Rattle.bt_machine.proofs.Base.{◌≡◌, ℕ, ◌+◌, ◌<◌, ◌≤◌, ◌⊎◌, inl, inr, Bool, true, false, List, length, get_or, Option, Some, None, refl, sym, ap, ◌∙◌, subst, arith, slice_get, option_map_or, cases_lt, block_count, BlockId, BlockState, Missing, Marked, Facts, blocks_of, held_at, value_at, HashKey}
+use Rattle.bt_machine.proofs.Base.{◌≡◌, ℕ, ◌+◌, ◌<◌, ◌⊎◌, inl, inr, Bool, true, false, List, length, get_or, Option, Some, None, refl, sym, ap, ◌∙◌, subst, arith, slice_get, option_map_or, cases_lt, block_count, BlockId, BlockState, Missing, Marked, Facts, blocks_of, held_at, value_at, HashKey}
 use Rattle.std.specs.Prelude.{◌/◌, ◌*◌, ◌-◌, ◌^◌, max, unwrap_or, IsSome, IsNone, IfSome, IfNone}
 use Rattle.std.specs.Option.{option_and_then}
 use Rattle.std.proofs.lemmas.Bool.{true≢false}
@@ -146,13 +146,13 @@ module _ (dig : List ℕ → List ℕ) (s : EngineState) (shaped : IsShaped s.to
         least next unknown here unmarked =
             let state = has_state s shaped held (held_lies s.torrent p.has held first.held).1.has in
             record {
-          needs = record {
-            has = has_of_held s shaped p held first.held;
-            not_marked = not_marked (state_at s held) state.1 unmarked;
-            unknown = unknown.unknown here;
-          };
-          least = λ c n before. none_before c before n;
-        }
+              needs = record {
+                has = has_of_held s shaped p held first.held;
+                not_marked = not_marked (state_at s held) state.1 unmarked;
+                unknown = unknown.unknown here;
+              };
+              least = λ c n before. none_before c before n;
+            }
 
         -- none up to the next unknown leaf, nor the block itself where its leaf is known or it is marked
         pub passed : (next to : ℕ) → IsUnknownFrom dig s held next → to ≡ max next (held.block + 1) → (next ≡ held.block → is_marked_in s held ≡ true)

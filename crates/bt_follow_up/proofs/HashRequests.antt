@@ -1,9 +1,9 @@
 -- The peer at a place is sent a hash request, or none.
-use Rattle.bt_machine.proofs.Base.{◌≡◌, ℕ, List, Option, Some, None, refl, sym, ap, slice_get, HashKey, HashRequest, PeerKey, map}
+use Rattle.bt_machine.proofs.Base.{◌≡◌, ℕ, List, Some, None, refl, sym, ap, slice_get, HashKey, HashRequest}
 use Rattle.std.specs.Vec.{with_item}
 use Rattle.bt_machine.proofs.Lists.{set_id}
 use Rattle.bt_machine.specs.declared.hash_state.HashState.TheVariants.{Idle, Asked}
-use Rattle.bt_machine.specs.State.{EngineState, PeerState}
+use Rattle.bt_machine.specs.State.{PeerState}
 use Rattle.bt_machine.specs.FollowUp.{requests, rests}
 use Rattle.bt_state.specs.Parts.{state_of, peer_of}
 use Rattle.bt_state.specs.Ties.{IsTied}

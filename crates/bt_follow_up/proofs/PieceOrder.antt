@@ -1,5 +1,5 @@
 -- The blocks of a torrent rise with their pieces, so that those that a peer has are found by its pieces.
-use Rattle.bt_machine.proofs.Base.{[], ◌∷◌, zero, suc, ◌≡◌, ℕ, ◌+◌, ◌-◌, ◌*◌, ◌/◌, ◌<◌, ◌≤◌, ◌⊎◌, inl, inr, Bool, true, false, ◌&&◌, List, length, Option, Some, None, refl, sym, ap, ◌∙◌, subst, arith, slice_get, get_or, option_map_or, File, piece_count, Metainfo, IsLaidOut, total_pieces, div_ceil_times, lt_of_mul-lt-mul_right, div-mul-add, cases_lt, lt-ltb, BlockId, block_count, block_length}
+use Rattle.bt_machine.proofs.Base.{◌≡◌, ℕ, ◌+◌, ◌-◌, ◌*◌, ◌/◌, ◌<◌, ◌≤◌, ◌⊎◌, inl, inr, Bool, true, false, ◌&&◌, List, length, Option, Some, None, refl, sym, ap, ◌∙◌, subst, arith, slice_get, get_or, option_map_or, File, piece_count, Metainfo, IsLaidOut, total_pieces, div_ceil_times, lt_of_mul-lt-mul_right, div-mul-add, cases_lt, lt-ltb, BlockId, block_count, block_length}
 use Rattle.std.specs.Prelude.{slice_index_or, nat_lt, ◌%◌, ◌≢◌, max}
 use Rattle.std.proofs.lemmas.Bool.{ltb-true}
 use Rattle.std.proofs.Math.Nat.{div-mul-le_self}

@@ -66,10 +66,7 @@ fn next_key<D: Disk + Drop, H: NodeHash>(parts: &Parts<D, H>, has: &PieceSet) ->
 /// The first block in a piece of the set that is not marked and whose leaf is unknown. It leaps from a block
 /// that the peer has to the next unknown leaf, and from that to the next block that the peer has. A marked
 /// block has a known leaf, so that it is passed by these leaps.
-fn least_need<D: Disk + Drop, H: NodeHash>(
-    parts: &Parts<D, H>,
-    has: &PieceSet,
-) -> Option<BlockId>
+fn least_need<D: Disk + Drop, H: NodeHash>(parts: &Parts<D, H>, has: &PieceSet) -> Option<BlockId>
     requires tied { IsTied parts.now }
     requires shaped { IsShaped parts.now.torrent (state_of parts.now) }
     ensures block { IfSome result (λ b. HasBlock parts.now.torrent b.file b.block) }

@@ -12,11 +12,7 @@ use bt_meta::Torrent;
 use bt_wire::{Ask, Message};
 
 /// Puts a message behind them, where there is one.
-pub(crate) fn send_message(
-    send: &mut Vec<(PeerKey, Frame)>,
-    key: PeerKey,
-    message: Option<Message>,
-)
+pub(crate) fn send_message(send: &mut Vec<(PeerKey, Frame)>, key: PeerKey, message: Option<Message>)
     requires room { vec_len send.old < vec_capacity send.old }
     ensures sent { send.new.items ≡ send.old.items ++ frames_of key message }
     ensures few { vec_len send.new ≤ vec_len send.old + 1 }
@@ -42,7 +38,8 @@ pub(crate) fn send_requests(
 {
     for block in blocks {
         let ask = request_of(torrent, *block);
-        send.push((key, Frame::Message(Message::Request(ask)))).unwrap();
+        send.push((key, Frame::Message(Message::Request(ask))))
+            .unwrap();
     }
 }
 

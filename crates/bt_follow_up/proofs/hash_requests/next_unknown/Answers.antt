@@ -1,4 +1,4 @@
-use Rattle.std.proofs.Common.{◌∙◌, ap, arith, ◌≤◌, ◌≡◌}
+use Rattle.std.proofs.Common.{◌∙◌, ap, ◌≡◌}
 use Rattle.std.specs.Option.{unwrap_or}
 use Rattle.bt_tree.specs.Blocks.{block_count}
 use Rattle.bt_sparse.specs.SparseTree.{blocks_of}

@@ -2,7 +2,7 @@ use Rattle.std.proofs.Common.{refl, ap, sym, ◌∙◌}
 use Rattle.bt_machine.proofs.Lists.{some_is}
 use Rattle.bt_machine.proofs.Shape.{map_set}
 use Rattle.bt_machine.specs.declared.hash_state.HashState.TheVariants.{Asked}
-use Rattle.bt_state.specs.Parts.{state_of, peer_of}
+use Rattle.bt_state.specs.Parts.{peer_of}
 use Rattle.bt_state.specs.declared.peer.Peer.{Peer}
 use Rattle.bt_state.proofs.Lists.{get_read}
 use Rattle.bt_state.proofs.Ties.{tied_set}

@@ -4,8 +4,11 @@ use Rattle.bt_follow_up.proofs.hash_requests.tree_at.Goals as goal
 
 pub offset_bounds-trees-slots : goal.offset_bounds-trees-slots
 offset_bounds-trees-slots g c =
-    omega (arith, tree_below c.args.parts.now c.requires.tied c.requires.shaped c.args.block c.requires.has c.as_slice-slots.result.now c.as_slice-slots.ensures.value
-    c.index-slots-block.result c.as_slice-trees.result.now c.as_slice-trees.ensures.value)
+    omega (
+      arith,
+      tree_below c.args.parts.now c.requires.tied c.requires.shaped c.args.block c.requires.has c.as_slice-slots.result.now c.as_slice-slots.ensures.value
+          c.index-slots-block.result c.as_slice-trees.result.now c.as_slice-trees.ensures.value,
+    )
 
 pub bounds-trees-slots : goal.bounds-trees-slots
 bounds-trees-slots g c =
