@@ -65,7 +65,8 @@ fn bare_parts<D: Disk + Drop, H: NodeHash>(
     hash: H,
 ) -> Result<Parts<D, H>, AllocError>
     requires digest { H.digest ≡ sha256 }
-    ensures { IfOk result (λ parts. AreBareParts H.digest torrent parts) }
+    ensures torrent { IfOk result (λ parts. parts.torrent ≡ torrent) }
+    ensures bare { IfOk result (λ parts. AreBareParts H.digest parts) }
 {
     torrent_is_lawful(&torrent);
     let (trees, slots) = bare_slots(alloc, hash, &torrent)?;

@@ -62,7 +62,7 @@ fn fill_slots<D: Disk + Drop, H: NodeHash>(
     ensures trees { map (λ slot. slot.tree) slots.new ≡ map (λ slot. slot.tree) slots.old }
     ensures spent { OnOk result (disks.new.items ≡ []) }
     ensures devices { disks.new.items ++ devices_in slots.new ≡ disks.old.items }
-    ensures capacity { vec_capacity disks.new ≡ vec_capacity disks.old }
+    ensures capacity { vec_capacity disks.old ≤ vec_capacity disks.new }
 {
     for index in (0..files.len()).rev() {
         fill_slot(alloc, hash, &files[index], &mut slots[index], disks)?;
@@ -84,7 +84,7 @@ fn fill_slot<D: Disk + Drop, H: NodeHash>(
     ensures slot { OnOk result (IsNewSlot (file_of file.now) slot.new) }
     ensures tree { slot.new.tree ≡ slot.old.tree }
     ensures devices { disks.new.items ++ option_to_list (disk_of slot.new) ≡ disks.old.items }
-    ensures capacity { vec_capacity disks.new ≡ vec_capacity disks.old }
+    ensures capacity { vec_capacity disks.old ≤ vec_capacity disks.new }
 {
     let Some(geometry) = Geometry::new(file.length) else {
         return Ok(());
