@@ -1,13 +1,16 @@
 -- An engine begins where its parts were bare and the devices are handed out.
 use Rattle.bt_machine.proofs.Base.{[], ◌≡◌, ℕ, zero, suc, ◌+◌, ◌<◌, ◌≤◌, inl, inr, Bool, true, false, List, ◌∷◌, length, map, replicate, Option, Some, None, refl, sym, ap, ◌∙◌, subst, arith, slice_get, option_map, option_map_or, option_and_then, length-map, length-replicate, cases_lt, block_count, File, Metainfo, Facts, BlockId, Missing}
 use Rattle.std.specs.Prelude.{◌↔◌, slice_index_or}
-use Rattle.std.proofs.lemmas.List.{get_or_past}
+use Rattle.std.specs.Vec.{with_items}
+use Rattle.std.proofs.lemmas.List.{get_or_past, with_items_is}
 use Rattle.std.proofs.lemmas.Option.{slice_get_past, get_or_from_slice_get}
 use Rattle.bt_store.specs.BlockStates.{is_marked}
 use Rattle.bt_store.specs.FileStore.{StoreView, new_states}
 use Rattle.bt_store.specs.declared.block_states.BlockState.{BlockState}
 use Rattle.bt_book.specs.Blocks.{Blocks, IsInRange, member, of_file}
 use Rattle.bt_book.specs.Book.{PeerRequests}
+use Rattle.bt_meta.specs.Files.{file_of as entry_of}
+use Rattle.bt_meta.specs.declared.torrent.FileEntry.{FileEntry}
 use Rattle.bt_machine.proofs.Lists.{some_is, some_below, get_some, get_map}
 use Rattle.bt_machine.proofs.Shape.{shape_at_first}
 use Rattle.bt_machine.specs.State.{EngineState, FileState, PeerState}
@@ -165,8 +168,8 @@ module _ {D H : Type 0} {dig : List ℕ → List ℕ} (bare next : Parts D H) (i
       subst (λ (f : FileState). IsNewFile file bare.trees.items f) slot.2
       (record { missing = states_new (new i file slot.0 listed slot.1); has_tree = slot_tree i slot.1 listed })
 
-  pub starts : Starts dig bare.torrent (state_of begun)
-  starts = record {
+  pub begins : Starts dig bare.torrent (state_of begun)
+  begins = record {
     is_new = record {
       roots = is.trees.roots;
       each_tree = is.trees.each;
@@ -205,6 +208,40 @@ module _ {D H : Type 0} {dig : List ℕ → List ℕ} (bare next : Parts D H) (i
         let own = new i file.0 slot file.1 at in
         record { file = file.0; listed = file.1; empty = empty_without own; some = fits_tree own (slot_tree i at file.1) }
         );
-    unmarked = sizes_unmarked (state_of begun) (shape_at_first dig starts) is.lawful.piece is.lawful.laid_out
+    unmarked = sizes_unmarked (state_of begun) (shape_at_first dig begins) is.lawful.piece is.lawful.laid_out
         (not_marked (state_of begun) bare.book.wanted bare.torrent.files is.wanted (length-map next.slots.items file_of ∙ as_many) missing) is.sizes;
   }
+
+-- ---- the same, where these are the slots that were made
+
+module _ {D H : Type 0} {dig : List ℕ → List ℕ} (bare : Parts D H) (made : List (Slot D H)) (is : AreBareParts dig bare) (new : AreNewSlots bare.torrent.files made)
+    (trees : map (λ slot. slot.tree) made ≡ map (λ slot. slot.tree) bare.slots.items) where
+  abbrev with_made : Parts D H
+  with_made = record bare { slots = with_items bare.slots made }
+
+  are_made : (with_items bare.slots made).items ≡ made
+  are_made =
+      let size = sym (length-map made (λ (slot : Slot D H). slot.tree)) ∙ ap (λ (ts : List ℕ). length ts) trees ∙ length-map bare.slots.items (λ (slot : Slot D H). slot.tree) in
+      with_items_is bare.slots made (size ∙ sym bare.slots.ok.0)
+
+  made_new : AreNewSlots bare.torrent.files (with_items bare.slots made).items
+  made_new = subst (λ (slots : List (Slot D H)). AreNewSlots bare.torrent.files slots) (sym are_made) new
+
+  made_trees : map (λ slot. slot.tree) (with_items bare.slots made).items ≡ map (λ slot. slot.tree) bare.slots.items
+  made_trees = ap (λ (slots : List (Slot D H)). map (λ slot. slot.tree) slots) are_made ∙ trees
+
+  pub made_starts : {torrent : Metainfo} → bare.torrent ≡ torrent → Starts dig torrent (state_of with_made)
+  made_starts same = subst (λ (torrent : Metainfo). Starts dig torrent (state_of with_made)) same (begins bare with_made is made_new made_trees)
+
+  pub made_devices : {torrent : Metainfo} {given : List D} → bare.torrent ≡ torrent → devices_in made ≡ given → AreDevicesOf torrent.files given (disks_of with_made)
+  made_devices {given = given} same in_order =
+      subst (λ (torrent : Metainfo). AreDevicesOf torrent.files given (disks_of with_made)) same
+      (are_devices bare with_made is made_new made_trees (ap (λ (slots : List (Slot D H)). devices_in slots) are_made ∙ in_order))
+
+  pub made_tied : IsTied with_made
+  made_tied = tied bare with_made is made_new made_trees
+
+pub counts_wanted : (files : List FileEntry) → map (λ n. replicate n true) (map (λ file. block_count file.length) files)
+    ≡ map (λ file. replicate (block_count file.length) true) (map entry_of files)
+counts_wanted [] = refl
+counts_wanted (file ∷ files) = ap (λ set. replicate (block_count file.length) true ∷ set) (counts_wanted files)
