@@ -168,7 +168,7 @@ module _ {D H : Type 0} {dig : List ℕ → List ℕ} (bare next : Parts D H) (i
       subst (λ (f : FileState). IsNewFile file bare.trees.items f) slot.2
       (record { missing = states_new (new i file slot.0 listed slot.1); has_tree = slot_tree i slot.1 listed })
 
-  pub begins : Starts dig bare.torrent (state_of begun)
+  begins : Starts dig bare.torrent (state_of begun)
   begins = record {
     is_new = record {
       roots = is.trees.roots;
@@ -180,7 +180,7 @@ module _ {D H : Type 0} {dig : List ℕ → List ℕ} (bare next : Parts D H) (i
         ∙ ap (λ n. record (state_of begun) { peers = []; next_key = n + 1 }) is.first_key ∙ ap (λ n. record (state_of begun) { peers = []; next_key = 1; turn = n }) is.first_turn;
   }
 
-  pub are_devices : {given : List D} → devices_in next.slots.items ≡ given → AreDevicesOf bare.torrent.files given (disks_of begun)
+  are_devices : {given : List D} → devices_in next.slots.items ≡ given → AreDevicesOf bare.torrent.files given (disks_of begun)
   are_devices in_order = record {
     count = length-map next.slots.items disk_of ∙ as_many;
     empty = λ i file listed. (
@@ -195,7 +195,7 @@ module _ {D H : Type 0} {dig : List ℕ → List ℕ} (bare next : Parts D H) (i
   missing : (i : ℕ) (file : File) (f : FileState) → slice_get bare.torrent.files i ≡ Some file → slice_get (state_of begun).files i ≡ Some f → f.states ≡ new_states file.length
   missing i file f listed at = (new_file i file f listed at).missing
 
-  pub tied : IsTied begun
+  tied : IsTied begun
   tied = record {
     joined = ap (λ (ps : List Peer). map (λ p. p.key) ps) is.peers ∙ sym (ap (λ (rs : List PeerRequests). map (λ r. r.peer) rs) is.book);
     in_order = λ i j d lt within. absurd (omega (arith, within, ap (λ (ps : List Peer). length ps) is.peers));
@@ -212,34 +212,32 @@ module _ {D H : Type 0} {dig : List ℕ → List ℕ} (bare next : Parts D H) (i
         (not_marked (state_of begun) bare.book.wanted bare.torrent.files is.wanted (length-map next.slots.items file_of ∙ as_many) missing) is.sizes;
   }
 
--- ---- the same, where these are the slots that were made
+-- ---- the same, where the slots were lent and made
 
-module _ {D H : Type 0} {dig : List ℕ → List ℕ} (bare : Parts D H) (made : List (Slot D H)) (is : AreBareParts dig bare) (new : AreNewSlots bare.torrent.files made)
-    (trees : map (λ slot. slot.tree) made ≡ map (λ slot. slot.tree) bare.slots.items) where
-  abbrev with_made : Parts D H
-  with_made = record bare { slots = with_items bare.slots made }
+pub record HaveBegun {D H : Type 0} (dig : List ℕ → List ℕ) (torrent : Metainfo) (given : List D) (parts : Parts D H) : Type 0 where
+  pub state : Starts dig torrent (state_of parts)
+  pub devices : AreDevicesOf torrent.files given (disks_of parts)
+  pub tied : IsTied parts
 
-  are_made : (with_items bare.slots made).items ≡ made
-  are_made =
-      let size = sym (length-map made (λ (slot : Slot D H). slot.tree)) ∙ ap (λ (ts : List ℕ). length ts) trees ∙ length-map bare.slots.items (λ (slot : Slot D H). slot.tree) in
-      with_items_is bare.slots made (size ∙ sym bare.slots.ok.0)
-
-  made_new : AreNewSlots bare.torrent.files (with_items bare.slots made).items
-  made_new = subst (λ (slots : List (Slot D H)). AreNewSlots bare.torrent.files slots) (sym are_made) new
-
-  made_trees : map (λ slot. slot.tree) (with_items bare.slots made).items ≡ map (λ slot. slot.tree) bare.slots.items
-  made_trees = ap (λ (slots : List (Slot D H)). map (λ slot. slot.tree) slots) are_made ∙ trees
-
-  pub made_starts : {torrent : Metainfo} → bare.torrent ≡ torrent → Starts dig torrent (state_of with_made)
-  made_starts same = subst (λ (torrent : Metainfo). Starts dig torrent (state_of with_made)) same (begins bare with_made is made_new made_trees)
-
-  pub made_devices : {torrent : Metainfo} {given : List D} → bare.torrent ≡ torrent → devices_in made ≡ given → AreDevicesOf torrent.files given (disks_of with_made)
-  made_devices {given = given} same in_order =
-      subst (λ (torrent : Metainfo). AreDevicesOf torrent.files given (disks_of with_made)) same
-      (are_devices bare with_made is made_new made_trees (ap (λ (slots : List (Slot D H)). devices_in slots) are_made ∙ in_order))
-
-  pub made_tied : IsTied with_made
-  made_tied = tied bare with_made is made_new made_trees
+pub have_begun : {D H : Type 0} {dig : List ℕ → List ℕ} (bare : Parts D H) (lent made : List (Slot D H)) {files : List File} {torrent : Metainfo} {given : List D}
+    → AreBareParts dig bare → bare.torrent ≡ torrent → files ≡ bare.torrent.files → lent ≡ bare.slots.items → AreNewSlots files made
+    → map (λ slot. slot.tree) made ≡ map (λ slot. slot.tree) lent → devices_in made ≡ given
+    → HaveBegun dig torrent given (record bare { slots = with_items bare.slots made })
+have_begun {D} {H} {dig} bare lent made {files} {torrent} {given} is same listed lends new trees in_order =
+    let Slots : Type 0 = List (Slot D H) in
+    let next : Parts D H = record bare { slots = with_items bare.slots made } in
+    let alike : map (λ slot. slot.tree) made ≡ map (λ slot. slot.tree) bare.slots.items = trees ∙ ap (λ (slots : Slots). map (λ slot. slot.tree) slots) lends in
+    let size : length made ≡ length bare.slots.items = sym (length-map made (λ (slot : Slot D H). slot.tree)) ∙ ap (λ (ts : List ℕ). length ts) alike
+    ∙ length-map bare.slots.items (λ (slot : Slot D H). slot.tree) in
+    let are = with_items_is bare.slots made (size ∙ sym bare.slots.ok.0) in
+    let own = subst (λ (slots : Slots). AreNewSlots bare.torrent.files slots) (sym are) (subst (λ (files : List File). AreNewSlots files made) listed new) in
+    let own_trees = ap (λ (slots : Slots). map (λ slot. slot.tree) slots) are ∙ alike in
+    record {
+      state = subst (λ (torrent : Metainfo). Starts dig torrent (state_of next)) same (begins bare next is own own_trees);
+      devices = subst (λ (torrent : Metainfo). AreDevicesOf torrent.files given (disks_of next)) same
+          (are_devices bare next is own own_trees (ap (λ (slots : Slots). devices_in slots) are ∙ in_order));
+      tied = tied bare next is own own_trees;
+    }
 
 pub counts_wanted : (files : List FileEntry) → map (λ n. replicate n true) (map (λ file. block_count file.length) files)
     ≡ map (λ file. replicate (block_count file.length) true) (map entry_of files)
