@@ -1,1 +1,5 @@
 pub mod Groups
+pub mod Recount
+pub mod Parts
+pub mod Settling
+pub mod Adoption

@@ -1,5 +1,4 @@
-ghost use Rattle.std.specs.Prelude.{◌≡◌, ◌+◌, ◌^◌, ◌<◌, List, IfOk, IfErr};
-ghost use Rattle.bt_sparse.specs.SparseTree.{blocks_of};
+ghost use Rattle.std.specs.Prelude.{◌≡◌, ◌+◌, ◌^◌, ◌<◌, List, IfOk, IfErr, length};
 ghost use Rattle.bt_store.specs.BlockReads.{BlockRead};
 ghost use Rattle.bt_machine.specs.Adopting.{adopted_together};
 ghost use Rattle.bt_adoption.specs.Groups.{TakesGroups, StopsTaking};
@@ -19,11 +18,13 @@ pub(crate) fn adopt_groups<D: Disk + Drop, H: NodeHash>(
     requires { tree.old.file_length ≡ store.old.file_length }
     ensures ok { IfOk result (λ total. (groups : List (List BlockRead)) × TakesGroups D.history D.honest D.faults
         H.digest tree.old store.old groups total tree.new store.new) }
-    ensures all { IfOk result (λ total. total.next ≡ blocks_of tree.old) }
+    ensures all { IfOk result (λ total. total.next ≡ length store.old.states) }
     ensures stop { IfErr result (λ _. StopsTaking D.history D.honest D.faults
         H.digest tree.old store.old tree.new store.new) }
 {
-    let blocks = tree.geometry().blocks();
+    let blocks = store.geometry().blocks();
+    // The clause of this call says that the tree is rooted.
+    let _ = tree.geometry();
     let mut total = Adopted {
         next: 0,
         anchor: 0,
