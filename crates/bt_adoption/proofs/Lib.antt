@@ -1,2 +1,4 @@
 pub mod Borders
 pub mod Takings
+pub mod Recounts
+pub mod Slots

@@ -1,5 +1,5 @@
 -- Groups of a file that are taken in one after the other.
-use Rattle.bt_machine.proofs.Base.{[], Result, Ok, Err, ◌≡◌, ◌≢◌, ℕ, zero, suc, ◌+◌, ◌<◌, ◌≤◌, false, List, ◌∷◌, ◌++◌, map, flat_map, cond, Some, refl, sym, ap, ◌∙◌, subst, arith, append-nil, slice_get, slice_set, Contains, Facts, blocks_of, IsRooted, block_count, inl, inr, History, BlockRead, call_of, Adopts, Adopted, BlockState, HashKey}
+use Rattle.bt_machine.proofs.Base.{[], Result, Ok, Err, Bool, true, length, length-set, judged, given, failed, known, accepted, Marked, Missing, ◌≡◌, ◌≢◌, ℕ, zero, suc, ◌+◌, ◌<◌, ◌≤◌, false, List, ◌∷◌, ◌++◌, map, flat_map, cond, Some, refl, sym, ap, ◌∙◌, subst, arith, append-nil, slice_get, slice_set, Contains, Facts, blocks_of, IsRooted, block_count, inl, inr, History, BlockRead, call_of, Adopts, Adopted, BlockState, HashKey}
 use Rattle.std.specs.Prelude.{IfErr}
 use Rattle.std.specs.List.{AllZip}
 use Rattle.std.proofs.lemmas.List.{map-append}
@@ -8,7 +8,7 @@ use Rattle.std.proofs.Common.{set-set}
 use Rattle.bt_disk.specs.Calls.{HasCalls}
 use Rattle.bt_disk.proofs.CallLists.{has_none, has_then}
 use Rattle.bt_store.specs.FileStore.{StoreView}
-use Rattle.bt_store.specs.Adoption.{IsAdopted, StopsAdopting}
+use Rattle.bt_store.specs.Adoption.{IsAdopted, StopsAdopting, marked_group}
 use Rattle.bt_store.specs.Law.{Extends}
 use Rattle.bt_store.proofs.AdoptionMarks.{adopt_extends}
 use Rattle.bt_machine.proofs.Lists.{here, later, contains_none, set_same, set_id}
@@ -39,6 +39,26 @@ listed dig k (key ∷ keys) each =
     let one = each key (here keys refl) in
     let more = listed dig k keys (λ other c. each other (later key keys c)) in
     (proof_of key one.digests ∷ more.0, ((one.digests, one.answer, refl), more.1))
+
+-- ---- a group leaves as many states as there were
+
+length_judged : (dig : List ℕ → List ℕ) (k : Facts) (forgiving : Bool) (reads : List BlockRead) (states : List BlockState)
+    → length (judged dig k forgiving reads states) ≡ length states
+length_judged dig k forgiving [] states = refl
+length_judged dig k forgiving (given i bytes ∷ reads) states = length_judged dig k _ reads _ ∙ length-set states i _
+length_judged dig k true (failed i ∷ reads) states = length_judged dig k true reads _
+length_judged dig k false (failed i ∷ reads) states = length_judged dig k false reads _ ∙ length-set states i Missing
+
+length_marked : (first count : ℕ) (states : List BlockState) → length (marked_group first count states) ≡ length states
+unfolding marked_group
+length_marked first zero states = refl
+length_marked first (suc count) states = length-set (marked_group first count states) (first + count) Marked ∙ length_marked first count states
+
+length_adopted : {dig : List ℕ → List ℕ} {k grown : Facts} {from : ℕ} {old new : List BlockState} {reads : List BlockRead} {adopted : Adopted}
+    → Adopts dig k from old reads adopted grown new → length new ≡ length old
+length_adopted {dig} {k} {grown} {from} {old} (known count rs group order) = length_judged dig k true rs old
+length_adopted {dig} {k} {grown} {from} {old} (accepted anchor first count rs g group whole accepts) = length_marked first count old
+length_adopted _ = refl
 
 -- ---- one group more
 
@@ -126,7 +146,7 @@ if_err_by (Err e) t = t
 
 module _ {D : Type 0} (history : D → History) (honest : D → Type 0) (faults : D → ℕ) (dig : List ℕ → List ℕ) (k : Facts) (old : StoreView D) where
   takes_none : TakesGroups history honest faults dig k old [] (nothing_adopted 0) k old
-  takes_none = record { calls = has_none history honest faults old.disk; taken = taken_none dig k old.states; same_file = refl; same_tree = refl }
+  takes_none = record { calls = has_none history honest faults old.disk; taken = taken_none dig k old.states; same_file = refl; same_size = refl; same_tree = refl }
 
   takes_more : (mid grown : Facts) (before new : StoreView D) (groups : List (List BlockRead)) (reads : List BlockRead) (total one : Adopted)
       → TakesGroups history honest faults dig k old groups total mid before → total.next < blocks_of mid
@@ -142,6 +162,7 @@ module _ {D : Type 0} (history : D → History) (honest : D → Type 0) (faults 
         (subst (λ n. HasCalls history honest faults before.disk (map (call_of n) reads) new.disk) takes.same_file adopted.calls));
     taken = taken_more dig k mid grown old.states before.states new.states groups reads total one takes.taken takes.same_tree left adopted.adopts;
     same_file = adopted.same_file ∙ takes.same_file;
+    same_size = length_adopted adopted.adopts ∙ takes.same_size;
     same_tree = (adopt_extends dig mid grown total.next before.states new.states reads one adopted.adopts).file_length ∙ takes.same_tree;
   }
 

@@ -1,5 +1,5 @@
 -- The groups of a file, taken in one after the other by its store.
-use Rattle.std.specs.Prelude.{◌≡◌, ℕ, List, map, flat_map}
+use Rattle.std.specs.Prelude.{◌≡◌, ℕ, List, length, map, flat_map}
 use Rattle.bt_disk.specs.History.{History}
 use Rattle.bt_disk.specs.Calls.{HasCalls}
 use Rattle.bt_sparse.specs.SparseTree.{Facts}
@@ -38,6 +38,7 @@ pub record TakesGroups {D : Type 0} (history : D → History) (honest : D → Ty
       old.disk (map (call_of old.file_length) (all_reads groups)) new.disk
   pub taken : AreTaken dig k old.states groups total grown new.states
   pub same_file : new.file_length ≡ old.file_length
+  pub same_size : length new.states ≡ length old.states
   pub same_tree : grown.file_length ≡ k.file_length
 
 -- Memory was refused: some groups were taken in; the next one was read or was not, and changed nothing.

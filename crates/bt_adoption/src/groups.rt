@@ -23,8 +23,8 @@ pub(crate) fn adopt_groups<D: Disk + Drop, H: NodeHash>(
         H.digest tree.old store.old tree.new store.new) }
 {
     let blocks = store.geometry().blocks();
-    // The clause of this call says that the tree is rooted.
-    let _ = tree.geometry();
+    // A clause of the root says that the tree is rooted.
+    let _ = tree.root();
     let mut total = Adopted {
         next: 0,
         anchor: 0,

@@ -1,6 +1,6 @@
 //! A file of which many blocks change at once is left out of the request book and of the counts of unmarked
 //! blocks, and counted in again when it has changed. So nothing has to keep the states that its blocks had.
-ghost use Rattle.std.specs.Prelude.{◌≡◌, ◌<◌, Some, length};
+ghost use Rattle.std.specs.Prelude.{◌≡◌, ◌<◌, Some, length, slice_get};
 ghost use Rattle.bt_book.specs.Book.{peers_of};
 ghost use Rattle.bt_machine.specs.Blocks.{block_id, state_at, states_of};
 ghost use Rattle.bt_state.specs.Parts.{state_of, file_of};
