@@ -2,3 +2,5 @@ pub mod Borders
 pub mod Takings
 pub mod Recounts
 pub mod Slots
+pub mod LeftOut
+pub mod Settlements

@@ -57,6 +57,10 @@ pub if_ok_two : {X E : Type 0} {P Q : X → Type 0} {R : X → Type 0} (r : Resu
 if_ok_two (Ok x) p q then_so = then_so x p q
 if_ok_two (Err e) p q then_so = p
 
+pub if_ok_then : {X E : Type 0} {P R : X → Type 0} (r : Result X E) → IfOk r P → ((x : X) → P x → R x) → IfOk r R
+if_ok_then (Ok x) p then_so = then_so x p
+if_ok_then (Err e) p then_so = p
+
 pub if_err_then : {X E : Type 0} {P Q : Type 0} (r : Result X E) → IfErr r (λ e. P) → (P → Q) → IfErr r (λ e. Q)
 if_err_then (Ok x) p then_so = p
 if_err_then (Err e) p then_so = then_so p

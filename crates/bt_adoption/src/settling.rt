@@ -42,11 +42,12 @@ fn settle_file<D: Disk + Drop, H: NodeHash>(parts: &mut Parts<D, H>, tree: usize
     ensures rest { KeepsRest parts.old parts.new }
     ensures in_line { AreInLine parts.new }
 {
-    if is_due(&parts.slots[file as usize], tree) {
-        leave_out(parts, file);
-        settle_slot(parts, tree, file);
-        count_in(parts, file);
+    if !is_due(&parts.slots[file as usize], tree) {
+        return;
     }
+    leave_out(parts, file);
+    settle_slot(parts, tree, file);
+    count_in(parts, file);
 }
 
 /// Whether a file is of the tree and has a block that waits.
@@ -74,5 +75,5 @@ fn settle_slot<D: Disk + Drop, H: NodeHash>(parts: &mut Parts<D, H>, tree: usize
         unreachable!();
     };
     let blocks = store.geometry().blocks();
-    let _ = store.settle(&parts.trees[tree], 0, blocks);
+    store.settle(&parts.trees[tree], 0, blocks).unwrap();
 }
