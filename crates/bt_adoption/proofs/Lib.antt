@@ -4,3 +4,4 @@ pub mod Recounts
 pub mod Slots
 pub mod LeftOut
 pub mod Settlements
+pub mod OtherFiles

@@ -1,10 +1,10 @@
 -- Files of a tree that are settled, one after the other.
 use Rattle.bt_machine.proofs.Base.{[], ◌≡◌, ◌≢◌, ℕ, zero, suc, ◌+◌, ◌<◌, ◌≤◌, inl, inr, Bool, true, false, not, cond, ◌&&◌, if◌then◌else◌, List, ◌∷◌, ◌++◌, length, map, flat_map, get_or, Option, Some, None, refl, sym, ap, ◌∙◌, subst, arith, ◌==◌, eqb-true, eq-eqb, lt-ltb, le-ltb, cases_lt, append-nil, length-map, slice_get, slice_set, option_map, option_map_or, range_with_len, Facts, History, BlockRead, block_of, call_of, judged, waiting_blocks, is_waiting, BlockState, blocks_of, block_count}
-use Rattle.std.specs.Prelude.{nat_lt}
+use Rattle.std.specs.Prelude.{nat_lt, IsTrue, ◌↔◌}
 use Rattle.std.specs.List.{count_by}
 use Rattle.std.specs.Vec.{with_item}
 use Rattle.std.proofs.Common.{append_assoc}
-use Rattle.std.proofs.lemmas.Bool.{cases_eq, ne_eqb}
+use Rattle.std.proofs.lemmas.Bool.{cases_eq, ne_eqb, ltb-true}
 use Rattle.bt_store.specs.FileStore.{StoreView}
 use Rattle.bt_store.specs.BlockReads.{IsJudged}
 use Rattle.bt_store.proofs.Reviews.{nothing_waits}
@@ -189,7 +189,7 @@ before file i other = nat_lt other i && is_other file other
 
 module _ (dig : List ℕ → List ℕ) (tree count : ℕ) where
   -- the meant files alone are named
-  same_meant : {p q : ℕ → Bool} {s new : EngineState} {calls : DeviceCalls} {notes : List Note} → ((f : ℕ) → f < length s.files → p f ≡ q f)
+  pub same_meant : {p q : ℕ → Bool} {s new : EngineState} {calls : DeviceCalls} {notes : List Note} → ((f : ℕ) → f < length s.files → p f ≡ q f)
       → SettlesIn dig p tree 0 count s calls notes new → SettlesIn dig q tree 0 count s calls notes new
   same_meant {p} {q} {s} same one = record {
     facts = one.facts;
@@ -203,7 +203,7 @@ module _ (dig : List ℕ → List ℕ) (tree count : ℕ) where
     others = one.others;
   }
 
-  settles_none : (p : ℕ → Bool) (s : EngineState) {k : Facts} → slice_get s.trees tree ≡ Some k → ((f : ℕ) → p f ≡ false)
+  pub settles_none : (p : ℕ → Bool) (s : EngineState) {k : Facts} → slice_get s.trees tree ≡ Some k → ((f : ℕ) → p f ≡ false)
       → SettlesIn dig p tree 0 count s [] (flat_map (λ file. settling_notes dig k file []) (file_numbers s)) s
   settles_none p s {k} here none = record {
     facts = k;
@@ -304,7 +304,7 @@ module _ (dig : List ℕ → List ℕ) (tree count : ℕ) where
           ap (reads_at j one.facts.file_length) (reads_high j from),
         )))
 
-    settles_then : (notes : List Note) × SettlesIn dig r tree 0 count s (c ++ d) notes new
+    pub settles_then : (notes : List Note) × SettlesIn dig r tree 0 count s (c ++ d) notes new
     settles_then = (
       flat_map (λ file. settling_notes dig one.facts file (both_reads file)) (file_numbers s),
       record {
@@ -318,3 +318,10 @@ module _ (dig : List ℕ → List ℕ) (tree count : ℕ) where
         others = two.others ∙ ap (λ (x : EngineState). record x { files = new.files }) one.others;
       },
     )
+
+pub due_is : {D H : Type 0} (slot : Slot D H) (tree : ℕ) {store : StoreView D} → slot.store ≡ Some store → slot.tree ≡ tree → (n : ℕ) → n ≡ count_by is_waiting store.states
+    → IsTrue (nat_lt 0 n) ↔ IsDue tree slot
+due_is {D} slot tree {store} has same n is = (
+  λ some. record { store = store; has = has; of_tree = same; waits = (let lt = ltb-true 0 n some in omega arith) },
+  λ due. lt-ltb 0 n (omega (arith, is, due.waits, ap (λ (s : StoreView D). count_by is_waiting s.states) (some_is (sym due.has ∙ has)))),
+)

@@ -42,7 +42,7 @@ listed dig k (key ∷ keys) each =
 
 -- ---- a group leaves as many states as there were
 
-length_judged : (dig : List ℕ → List ℕ) (k : Facts) (forgiving : Bool) (reads : List BlockRead) (states : List BlockState)
+pub length_judged : (dig : List ℕ → List ℕ) (k : Facts) (forgiving : Bool) (reads : List BlockRead) (states : List BlockState)
     → length (judged dig k forgiving reads states) ≡ length states
 length_judged dig k forgiving [] states = refl
 length_judged dig k forgiving (given i bytes ∷ reads) states = length_judged dig k _ reads _ ∙ length-set states i _
