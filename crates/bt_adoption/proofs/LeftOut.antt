@@ -71,6 +71,7 @@ module _ {D H : Type 0} (file : ℕ) (old left mid : Parts D H) (alone : old.pee
           ∙ sym (ap (λ (p : Parts D H). record old { slots = p.slots; trees = p.trees; book = new.book; unmarked = new.unmarked }) back);
       count = ap (λ (p : Parts D H). length p.slots.items) back ∙ changes.count ∙ ap (λ (p : Parts D H). length p.slots.items) out;
       trees = ap (λ (p : Parts D H). length p.trees.items) back ∙ changes.trees ∙ ap (λ (p : Parts D H). length p.trees.items) out;
+      blocks = λ tree. ap (λ (p : Parts D H). blocks_in (state_of p) tree) back ∙ changes.blocks tree ∙ ap (λ (p : Parts D H). blocks_in (state_of p) tree) out;
       peers = new_peers ∙ ap (λ (p : Parts D H). peers_of p.book) changes.others ∙ left_peers;
     }
 

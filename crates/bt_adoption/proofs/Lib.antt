@@ -5,3 +5,4 @@ pub mod Slots
 pub mod LeftOut
 pub mod Settlements
 pub mod OtherFiles
+pub mod Adoptions

@@ -17,13 +17,14 @@ use Rattle.bt_adoption.proofs.Settlements.{before, same_meant, settles_none, set
 
 module _ {D H : Type 0} where
   pub rest_none : (old : Parts D H) → KeepsRest old old
-  rest_none old = record { others = refl; count = refl; trees = refl; peers = refl }
+  rest_none old = record { others = refl; count = refl; trees = refl; blocks = λ tree. refl; peers = refl }
 
   pub rest_then : {old mid new : Parts D H} → KeepsRest old mid → KeepsRest mid new → KeepsRest old new
   rest_then {old} {mid} {new} one two = record {
     others = two.others ∙ ap (λ (p : Parts D H). record p { slots = new.slots; trees = new.trees; book = new.book; unmarked = new.unmarked }) one.others;
     count = two.count ∙ one.count;
     trees = two.trees ∙ one.trees;
+    blocks = λ tree. two.blocks tree ∙ one.blocks tree;
     peers = two.peers ∙ one.peers;
   }
 
@@ -82,11 +83,10 @@ module _ {D H : Type 0} (history : D → History) (honest : D → Type 0) (fault
       → KeepsRest parts new → AreInLine new → AreSettled (i + 1) new
   settled_more i parts new a apart (calls, notes, have, two) rest in_line =
       let one = a.settles.3 in
-      let blocks : blocks_in (state_of parts) tree ≡ blocks_in (state_of old) tree = ap (λ (s : EngineState). option_map_or blocks_of (slice_get s.trees tree) 0) one.others in
       let size : length (state_of parts).files ≡ length (state_of old).files =
       length-map parts.slots.items file_of ∙ a.rest.count ∙ sym (length-map old.slots.items file_of) in
       let both = settles_then dig tree (blocks_in (state_of old) tree) i one
-      (subst (λ n. SettlesIn dig (λ other. other == i) tree 0 n (state_of parts) calls notes (state_of new)) blocks two)
+      (subst (λ n. SettlesIn dig (λ other. other == i) tree 0 n (state_of parts) calls notes (state_of new)) (a.rest.blocks tree) two)
       size (none_from file i) (not_it file i) (same_before file i) (it_alone file i apart) in
       record {
         settles = (

@@ -20,7 +20,12 @@ pub record AreInLine {D H : Type 0} (parts : Parts D H) : Type 0 where
   pub follows : Follows parts (state_of parts)
   pub fits : AreFit parts
 
--- Nothing changed but slots, trees, the book and the counts, and there are as many slots and the same peers.
+-- how many blocks a file of this tree has
+abbrev pub blocks_in : EngineState → ℕ → ℕ
+blocks_in s tree = option_map_or blocks_of (slice_get s.trees tree) 0
+
+-- Nothing changed but slots, trees, the book and the counts. There are as many slots and trees as before, the
+-- trees are of as many blocks, and the book has the same peers.
 pub record KeepsRest {D H : Type 0} (old new : Parts D H) : Type 0 where
   pub others : new ≡ record old {
     slots = new.slots;
@@ -30,14 +35,11 @@ pub record KeepsRest {D H : Type 0} (old new : Parts D H) : Type 0 where
   }
   pub count : length new.slots.items ≡ length old.slots.items
   pub trees : length new.trees.items ≡ length old.trees.items
+  pub blocks : (tree : ℕ) → blocks_in (state_of new) tree ≡ blocks_in (state_of old) tree
   pub peers : peers_of new.book ≡ peers_of old.book
 
--- how many blocks a file of this tree has
-abbrev pub blocks_in : EngineState → ℕ → ℕ
-blocks_in s tree = option_map_or blocks_of (slice_get s.trees tree) 0
-
--- Nothing changed but slots and trees. Of the files only this one has changed, and it has as many blocks as
--- before; so has a file of each tree.
+-- Nothing changed but slots and trees, of which there are as many as before, and the trees are of as many
+-- blocks. Of the files only this one has changed, and has as many blocks as before.
 pub record ChangesFile {D H : Type 0} (file : ℕ) (old new : Parts D H) : Type 0 where
   pub others : new ≡ record old { slots = new.slots; trees = new.trees }
   pub count : length new.slots.items ≡ length old.slots.items

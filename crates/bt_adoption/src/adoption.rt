@@ -51,10 +51,10 @@ pub fn adopt<D: Disk + Drop, H: NodeHash>(
             faults: 0,
         });
     }
+    let tree = parts.slots[file as usize].tree as usize;
     let Ok(total) = adopt_file(parts, file) else {
         return Err(AdoptError::OutOfMemory);
     };
-    let tree = parts.slots[file as usize].tree as usize;
     settle_others(parts, tree, file);
     Ok(total)
 }
