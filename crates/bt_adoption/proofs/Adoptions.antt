@@ -2,7 +2,7 @@
 use Rattle.bt_machine.proofs.Base.{[], ◌≡◌, ◌≢◌, ℕ, ◌+◌, ◌<◌, ◌≤◌, List, ◌∷◌, ◌++◌, length, map, flat_map, Option, Some, None, Result, Ok, Err, refl, sym, ap, ◌∙◌, subst, arith, length-map, slice_get, option_map_or, History, Adopted, BlockState, max_peers, block_count, blocks_of}
 use Rattle.std.specs.Vec.{vec_capacity}
 use Rattle.bt_store.specs.FileStore.{StoreView}
-use Rattle.bt_machine.proofs.Lists.{get_some}
+use Rattle.bt_machine.proofs.Lists.{some_below}
 use Rattle.bt_machine.specs.declared.error.AdoptError.{AdoptError}
 use Rattle.bt_machine.specs.declared.error.AdoptError.TheVariants.{NoFile, Busy, OutOfMemory}
 use Rattle.bt_machine.specs.State.{EngineState, FileState}
@@ -77,6 +77,12 @@ module _ {D H : Type 0} (history : D → History) (honest : D → Type 0) (fault
     module _ (some : 0 < length (states_of (state_of old) file)) where
       not_empty : (file_of slot).states ≢ []
       not_empty none = absurd (omega (arith, some, ap (λ (xs : List BlockState). length xs) (states_are ∙ none)))
+
+      pub tree_below : AreInLine old → (store : Option (StoreView D)) → slot.store ≡ store → slot.tree < length old.trees.items
+      tree_below in_line None has =
+          absurd (let none = ap (λ (o : Option (StoreView D)). length (option_map_or (λ st. st.states) o [])) has in
+          let same = ap (λ (xs : List BlockState). length xs) states_are in omega (arith, some, none, same))
+      tree_below in_line (Some store) has = some_below old.trees.items slot.tree ((in_line.fits file slot here).some store has).stands
 
       pub steps_stopped : (new : Parts D H) → StopsIn history honest faults dig file old new → Steps (Err OutOfMemory) new
       steps_stopped new s = (s.made, s.calls, no_memory (no_peers alone) s.stops refl)
