@@ -19,9 +19,9 @@ use Rattle.bt_state.proofs.BlockChanges.{followed_tied, tied_followed}
 use Rattle.bt_state.proofs.Completeness.{states_all}
 use Rattle.bt_state.proofs.DeviceCalls.{have_none, have_then}
 use Rattle.bt_state.proofs.Lists.{get_mapped}
-use Rattle.bt_adoption.specs.Parts.{AreInLine, KeepsRest, blocks_in}
-use Rattle.bt_adoption.specs.Settling.{SettlesFiles}
-use Rattle.bt_adoption.specs.Adoption.{AdoptsIn, StopsIn}
+use Rattle.bt_adoption.specs.PartsSteps.{AreInLine, KeepsRest, blocks_in}
+use Rattle.bt_adoption.specs.SettlingSteps.{SettlesFiles}
+use Rattle.bt_adoption.specs.AdoptionSteps.{AdoptsIn, StopsIn}
 
 no_items : {X : Type 0} (xs : List X) → length xs ≤ 0 → xs ≡ []
 no_items [] none = refl

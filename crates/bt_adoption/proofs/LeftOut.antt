@@ -12,10 +12,10 @@ use Rattle.bt_state.specs.Parts.{state_of, disks_of, peer_of, file_of}
 use Rattle.bt_state.specs.declared.peer.Peer.{Peer}
 use Rattle.bt_state.specs.declared.parts.Parts.{Parts}
 use Rattle.bt_state.proofs.BlockChanges.{followed_alike}
-use Rattle.bt_adoption.specs.Recount.{left_out, Follows}
-use Rattle.bt_adoption.specs.Parts.{AreFit, AreInLine, KeepsRest, ChangesFile, blocks_in}
-use Rattle.bt_adoption.specs.Settling.{SettlesFiles}
-use Rattle.bt_adoption.specs.Adoption.{AdoptsIn, StopsIn}
+use Rattle.bt_adoption.specs.RecountSteps.{with_marked_file, Follows}
+use Rattle.bt_adoption.specs.PartsSteps.{AreFit, AreInLine, KeepsRest, ChangesFile, blocks_in}
+use Rattle.bt_adoption.specs.SettlingSteps.{SettlesFiles}
+use Rattle.bt_adoption.specs.AdoptionSteps.{AdoptsIn, StopsIn}
 
 -- what differs is the book and the counts
 abbrev pub Recounted : {D H : Type 0} → Parts D H → Parts D H → Type 0
@@ -43,15 +43,15 @@ module _ {D H : Type 0} (old new : Parts D H) (others : Recounted old new) where
   same_blocks file = ap (λ (p : Parts D H). states_of (state_of p) file) others
 
 module _ {D H : Type 0} (file : ℕ) (old left mid : Parts D H) (alone : old.peers.items ≡ []) (out : Recounted old left)
-    (left_follows : Follows left (left_out (state_of old) file)) (left_peers : peers_of left.book ≡ peers_of old.book) (changes : ChangesFile file left mid) where
+    (left_follows : Follows left (with_marked_file (state_of old) file)) (left_peers : peers_of left.book ≡ peers_of old.book) (changes : ChangesFile file left mid) where
   -- the file's change leaves the book and the counts right for the engine without it
-  pub follows_still : Follows mid (left_out (state_of mid) file)
+  pub follows_still : Follows mid (with_marked_file (state_of mid) file)
   follows_still =
       let torrent : mid.torrent ≡ old.torrent = ap (λ (p : Parts D H). p.torrent) changes.others ∙ ap (λ (p : Parts D H). p.torrent) out in
-      let files : (left_out (state_of mid) file).files ≡ (left_out (state_of old) file).files =
-      changes.alike ∙ ap (λ (p : Parts D H). (left_out (state_of p) file).files) out in
-      let here : Follows left (left_out (state_of mid) file) = followed_alike (left_out (state_of mid) file) left_follows torrent files in
-      subst (λ (p : Parts D H). Follows p (left_out (state_of mid) file)) (sym changes.others) here
+      let files : (with_marked_file (state_of mid) file).files ≡ (with_marked_file (state_of old) file).files =
+      changes.alike ∙ ap (λ (p : Parts D H). (with_marked_file (state_of p) file).files) out in
+      let here : Follows left (with_marked_file (state_of mid) file) = followed_alike (with_marked_file (state_of mid) file) left_follows torrent files in
+      subst (λ (p : Parts D H). Follows p (with_marked_file (state_of mid) file)) (sym changes.others) here
 
   alone_then : mid.peers.items ≡ []
   alone_then = ap (λ (p : Parts D H). p.peers.items) changes.others ∙ still_alone old left out alone

@@ -9,8 +9,8 @@ use Rattle.bt_machine.specs.Adopting.{is_other}
 use Rattle.bt_state.specs.Parts.{state_of, file_of, disks_of}
 use Rattle.bt_state.specs.declared.parts.Parts.{Parts}
 use Rattle.bt_state.proofs.DeviceCalls.{have_none, have_then}
-use Rattle.bt_adoption.specs.Parts.{AreInLine, KeepsRest, blocks_in}
-use Rattle.bt_adoption.specs.Settling.{SettlesFiles}
+use Rattle.bt_adoption.specs.PartsSteps.{AreInLine, KeepsRest, blocks_in}
+use Rattle.bt_adoption.specs.SettlingSteps.{SettlesFiles}
 use Rattle.bt_adoption.proofs.Settlements.{before, same_meant, settles_none, settles_then}
 
 -- ---- what stays

@@ -9,7 +9,7 @@ use Rattle.bt_state.specs.BlockChange.{AreFollowed, OneChanged, HasChanged}
 use Rattle.bt_state.specs.Parts.{state_of, file_of}
 use Rattle.bt_state.specs.declared.parts.Parts.{Parts}
 use Rattle.bt_state.proofs.SlotChanges.{block_changed, set_again}
-use Rattle.bt_adoption.specs.Recount.{with_states, left_out, Follows}
+use Rattle.bt_adoption.specs.RecountSteps.{with_states, with_marked_file, Follows}
 
 -- ---- states that are replaced from the first on
 

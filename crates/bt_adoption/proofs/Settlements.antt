@@ -21,9 +21,9 @@ use Rattle.bt_state.specs.declared.parts.Parts.{Parts}
 use Rattle.bt_state.proofs.Lists.{get_mapped}
 use Rattle.bt_state.proofs.DeviceCalls.{have_none, have_then}
 use Rattle.bt_state.proofs.SlotChanges.{file_here, files_changed, have_changed}
-use Rattle.bt_adoption.specs.Groups.{file_with}
-use Rattle.bt_adoption.specs.Parts.{blocks_in, KeepsRest, AreInLine}
-use Rattle.bt_adoption.specs.Settling.{SettlesFiles, IsDue}
+use Rattle.bt_adoption.specs.GroupsSteps.{file_with}
+use Rattle.bt_adoption.specs.PartsSteps.{blocks_in, KeepsRest, AreInLine}
+use Rattle.bt_adoption.specs.SettlingSteps.{SettlesFiles, IsDue}
 use Rattle.bt_adoption.proofs.Slots.{calls_are}
 
 -- ---- lists over numbers

@@ -19,10 +19,10 @@ use Rattle.bt_state.specs.declared.slot.Slot.{Slot}
 use Rattle.bt_state.specs.declared.parts.Parts.{Parts}
 use Rattle.bt_state.proofs.Lists.{get_mapped}
 use Rattle.bt_state.proofs.SlotChanges.{changed, file_here, files_changed, have_changed, fits_changed, set_again}
-use Rattle.bt_adoption.specs.Groups.{all_reads, file_with, TakesGroups, StopsTaking}
-use Rattle.bt_adoption.specs.Recount.{left_out}
-use Rattle.bt_adoption.specs.Parts.{AreFit, ChangesFile, blocks_in}
-use Rattle.bt_adoption.specs.Adoption.{AdoptsIn, StopsIn}
+use Rattle.bt_adoption.specs.GroupsSteps.{all_reads, file_with, TakesGroups, StopsTaking}
+use Rattle.bt_adoption.specs.RecountSteps.{with_marked_file}
+use Rattle.bt_adoption.specs.PartsSteps.{AreFit, ChangesFile, blocks_in}
+use Rattle.bt_adoption.specs.AdoptionSteps.{AdoptsIn, StopsIn}
 use Rattle.bt_adoption.proofs.Recounts.{files_with}
 
 -- ---- what is known of a slot with a store
@@ -107,7 +107,7 @@ module _ {D H : Type 0} (old : Parts D H) (file : ℕ) {slot : Slot D H} {store 
     (has : slot.store ≡ Some store) (after : StoreView D) (size : length after.states ≡ length store.states) where
   -- the file is the only one that differs
   files_alike : (new : Parts D H) → new.slots.items ≡ slice_set old.slots.items file (record slot { store = Some after })
-      → (left_out (state_of new) file).files ≡ (left_out (state_of old) file).files
+      → (with_marked_file (state_of new) file).files ≡ (with_marked_file (state_of old) file).files
   files_alike new is =
       let before : FileState = file_with slot.tree store.states in
       let then_file : FileState = file_with slot.tree after.states in

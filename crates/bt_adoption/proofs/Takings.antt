@@ -22,7 +22,7 @@ use Rattle.bt_machine.specs.Shape.{HasNoLog}
 use Rattle.bt_machine.specs.ProofKeys.{HasAnswer}
 use Rattle.bt_machine.specs.Adopting.{IsProof, AdoptsGroup, AdoptsGroups, nothing_adopted, adopted_together, StopsAt, unread, read}
 use Rattle.bt_adoption.proofs.Borders.{IsBorder, at_start, behind_group_of}
-use Rattle.bt_adoption.specs.Groups.{all_reads, file_with, AreTaken, TakesGroups, StopsTaking}
+use Rattle.bt_adoption.specs.GroupsSteps.{all_reads, file_with, AreTaken, TakesGroups, StopsTaking}
 
 -- ---- without a log nothing is pending
 
@@ -83,8 +83,7 @@ module _ (dig : List ℕ → List ℕ) where
       )
   groups_more s file from (first ∷ groups) calls total one g more =
       let rest = g.2 in
-      let last : rest.next ≡ total.next = sym (ap (λ t. t.next) g.5) in
-      (
+      let last : rest.next ≡ total.next = sym (ap (λ t. t.next) g.5) in (
         g.0,
         g.1,
         adopted_together g.2 one,
@@ -134,9 +133,9 @@ module _ (dig : List ℕ → List ℕ) where
 
   taken_none : (k : Facts) (states : List BlockState) → AreTaken dig k states [] (nothing_adopted 0) k states
   taken_none k states = λ s file tree no_log is. (
-      refl,
-      ap (λ fs. record s { files = fs; trees = slice_set s.trees tree k }) (set_id s.files file is.here) ∙ ap (λ ts. record s { trees = ts }) (set_id s.trees tree is.has_tree),
-    )
+    refl,
+    ap (λ fs. record s { files = fs; trees = slice_set s.trees tree k }) (set_id s.files file is.here) ∙ ap (λ ts. record s { trees = ts }) (set_id s.trees tree is.has_tree),
+  )
 
 pub if_err_by : {X E : Type 0} {T : Type 0} (r : Result X E) → T → IfErr r (λ e. T)
 if_err_by (Ok y) t = tt

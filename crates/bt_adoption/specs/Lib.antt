@@ -1,5 +1,6 @@
-pub mod Groups
-pub mod Recount
-pub mod Parts
-pub mod Settling
-pub mod Adoption
+-- what only private functions cite
+pub mod GroupsSteps
+pub mod RecountSteps
+pub mod PartsSteps
+pub mod SettlingSteps
+pub mod AdoptionSteps

@@ -5,8 +5,8 @@ ghost use Rattle.bt_machine.specs.Shape.{IsShaped};
 ghost use Rattle.bt_machine.specs.Adopting.{StepAdopt};
 ghost use Rattle.bt_state.specs.Parts.{state_of, disks_of};
 ghost use Rattle.bt_state.specs.Ties.{IsTied};
-ghost use Rattle.bt_adoption.specs.Parts.{AreFit, AreInLine, KeepsRest, ChangesFile};
-ghost use Rattle.bt_adoption.specs.Adoption.{AdoptsIn, StopsIn};
+ghost use Rattle.bt_adoption.specs.PartsSteps.{AreFit, AreInLine, KeepsRest, ChangesFile};
+ghost use Rattle.bt_adoption.specs.AdoptionSteps.{AdoptsIn, StopsIn};
 
 use crate::groups::adopt_groups;
 use crate::recount::{block_count, count_in, leave_out};

@@ -1,7 +1,7 @@
 ghost use Rattle.std.specs.Prelude.{◌≡◌, ◌+◌, ◌^◌, ◌<◌, List, IfOk, IfErr, length};
 ghost use Rattle.bt_store.specs.BlockReads.{BlockRead};
 ghost use Rattle.bt_machine.specs.Adopting.{adopted_together};
-ghost use Rattle.bt_adoption.specs.Groups.{TakesGroups, StopsTaking};
+ghost use Rattle.bt_adoption.specs.GroupsSteps.{TakesGroups, StopsTaking};
 
 use bt_disk::Disk;
 use bt_sparse::SparseTree;

@@ -4,7 +4,7 @@ ghost use Rattle.std.specs.Prelude.{◌≡◌, ◌<◌, Some, length, slice_get}
 ghost use Rattle.bt_book.specs.Book.{peers_of};
 ghost use Rattle.bt_machine.specs.Blocks.{block_id, state_at, states_of};
 ghost use Rattle.bt_state.specs.Parts.{state_of, file_of};
-ghost use Rattle.bt_adoption.specs.Recount.{Follows, left_out};
+ghost use Rattle.bt_adoption.specs.RecountSteps.{Follows, with_marked_file};
 
 use bt_book::BlockId;
 use bt_disk::Disk;
@@ -15,7 +15,7 @@ use bt_tree::NodeHash;
 /// Leaves a file out: the book and the counts become what they are where all its blocks are marked.
 pub(crate) fn leave_out<D: Disk + Drop, H: NodeHash>(parts: &mut Parts<D, H>, file: u32)
     requires { Follows parts.old (state_of parts.old) }
-    ensures left_out { Follows parts.new (left_out (state_of parts.old) file) }
+    ensures follows { Follows parts.new (with_marked_file (state_of parts.old) file) }
     ensures peers { peers_of parts.new.book ≡ peers_of parts.old.book }
     ensures others { parts.new ≡ record parts.old { book = parts.new.book; unmarked = parts.new.unmarked } }
 {
@@ -28,8 +28,8 @@ pub(crate) fn leave_out<D: Disk + Drop, H: NodeHash>(parts: &mut Parts<D, H>, fi
 
 /// Counts a file in that was left out.
 pub(crate) fn count_in<D: Disk + Drop, H: NodeHash>(parts: &mut Parts<D, H>, file: u32)
-    requires { Follows parts.old (left_out (state_of parts.old) file) }
-    ensures followed { Follows parts.new (state_of parts.old) }
+    requires { Follows parts.old (with_marked_file (state_of parts.old) file) }
+    ensures follows { Follows parts.new (state_of parts.old) }
     ensures peers { peers_of parts.new.book ≡ peers_of parts.old.book }
     ensures others { parts.new ≡ record parts.old { book = parts.new.book; unmarked = parts.new.unmarked } }
 {

@@ -1,8 +1,8 @@
 //! The other files of a tree, of which blocks waited for their leaf.
 ghost use Rattle.std.specs.Prelude.{[], ◌≡◌, ◌<◌, ◌==◌, ◌↔◌, IsTrue, length, vec_len, slice_get, Some};
 ghost use Rattle.bt_machine.specs.Adopting.{is_other};
-ghost use Rattle.bt_adoption.specs.Parts.{AreFit, AreInLine, KeepsRest, ChangesFile};
-ghost use Rattle.bt_adoption.specs.Settling.{SettlesFiles, IsDue};
+ghost use Rattle.bt_adoption.specs.PartsSteps.{AreFit, AreInLine, KeepsRest, ChangesFile};
+ghost use Rattle.bt_adoption.specs.SettlingSteps.{SettlesFiles, IsDue};
 
 use crate::recount::{count_in, leave_out};
 use bt_disk::Disk;

@@ -21,7 +21,7 @@ adopt_slot-adopted-requires-clause-some g c =
 
 pub count_in-requires : goal.count_in-requires
 count_in-requires g c =
-    follows_still c.args.file c.args.parts.now c.leave_out.new.parts c.adopt_slot-adopted.new.parts c.requires.alone c.leave_out.ensures.others c.leave_out.ensures.left_out
+    follows_still c.args.file c.args.parts.now c.leave_out.new.parts c.adopt_slot-adopted.new.parts c.requires.alone c.leave_out.ensures.others c.leave_out.ensures.follows
     c.leave_out.ensures.peers c.adopt_slot-adopted.ensures.changes
 
 pub returns-clause-ok : goal.returns-clause-ok
@@ -29,7 +29,7 @@ returns-clause-ok g c =
     let d = g.D.Disk in
     if_ok_then c.adopt_slot-adopted.result c.adopt_slot-adopted.ensures.ok (λ total adopts.
     adopts_again c.args.file c.args.parts.now c.leave_out.new.parts c.adopt_slot-adopted.new.parts c.requires.alone c.leave_out.ensures.others
-    c.leave_out.ensures.left_out c.leave_out.ensures.peers c.adopt_slot-adopted.ensures.changes c.count_in.new.parts c.count_in.ensures.others c.count_in.ensures.followed
+    c.leave_out.ensures.follows c.leave_out.ensures.peers c.adopt_slot-adopted.ensures.changes c.count_in.new.parts c.count_in.ensures.others c.count_in.ensures.follows
     c.count_in.ensures.peers d.history d.honest d.faults g.H.NodeHash.digest total adopts)
 
 pub returns-clause-stop : goal.returns-clause-stop
@@ -37,17 +37,17 @@ returns-clause-stop g c =
     let d = g.D.Disk in
     if_err_then c.adopt_slot-adopted.result c.adopt_slot-adopted.ensures.stop (λ stops.
     stops_again c.args.file c.args.parts.now c.leave_out.new.parts c.adopt_slot-adopted.new.parts c.requires.alone c.leave_out.ensures.others
-    c.leave_out.ensures.left_out c.leave_out.ensures.peers c.adopt_slot-adopted.ensures.changes c.count_in.new.parts c.count_in.ensures.others c.count_in.ensures.followed
+    c.leave_out.ensures.follows c.leave_out.ensures.peers c.adopt_slot-adopted.ensures.changes c.count_in.new.parts c.count_in.ensures.others c.count_in.ensures.follows
     c.count_in.ensures.peers d.history d.honest d.faults g.H.NodeHash.digest stops)
 
 pub returns-clause-rest : goal.returns-clause-rest
 returns-clause-rest g c =
     rest_again c.args.file c.args.parts.now c.leave_out.new.parts c.adopt_slot-adopted.new.parts c.requires.alone c.leave_out.ensures.others
-    c.leave_out.ensures.left_out c.leave_out.ensures.peers c.adopt_slot-adopted.ensures.changes c.count_in.new.parts c.count_in.ensures.others c.count_in.ensures.followed
+    c.leave_out.ensures.follows c.leave_out.ensures.peers c.adopt_slot-adopted.ensures.changes c.count_in.new.parts c.count_in.ensures.others c.count_in.ensures.follows
     c.count_in.ensures.peers
 
 pub returns-clause-in_line : goal.returns-clause-in_line
 returns-clause-in_line g c =
     in_line_again c.args.file c.args.parts.now c.leave_out.new.parts c.adopt_slot-adopted.new.parts c.requires.alone c.leave_out.ensures.others
-    c.leave_out.ensures.left_out c.leave_out.ensures.peers c.adopt_slot-adopted.ensures.changes c.count_in.new.parts c.count_in.ensures.others c.count_in.ensures.followed
+    c.leave_out.ensures.follows c.leave_out.ensures.peers c.adopt_slot-adopted.ensures.changes c.count_in.new.parts c.count_in.ensures.others c.count_in.ensures.follows
     c.count_in.ensures.peers

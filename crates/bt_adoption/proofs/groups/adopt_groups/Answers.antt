@@ -5,7 +5,7 @@ use Rattle.bt_tree.specs.Blocks.{block_count}
 use Rattle.bt_sparse.specs.SparseTree.{blocks_of}
 use Rattle.bt_store.specs.FileStore.{StoreView}
 use Rattle.bt_store.specs.declared.adoption.Adopted.{Adopted}
-use Rattle.bt_adoption.specs.Groups.{StopsTaking}
+use Rattle.bt_adoption.specs.GroupsSteps.{StopsTaking}
 use Rattle.bt_adoption.proofs.Takings.{AreTaking, taking_begun, taking_more, sums_fit, taking_stopped, if_err_by}
 use Rattle.bt_adoption.proofs.groups.adopt_groups.Goals as goal
 
@@ -52,5 +52,12 @@ loop-total-preserved g c =
 
 pub returns-clause-all : goal.returns-clause-all
 returns-clause-all g c =
-    omega (arith, c.loop-total-test.false, c.loop-total.invariant.inside, c.blocks-blocks.ensures.value, ap block_count (c.geometry.ensures.value ∙ sym c.requires),
-    ap block_count c.requires, c.geometry.ensures.states)
+    omega (
+      arith,
+      c.loop-total-test.false,
+      c.loop-total.invariant.inside,
+      c.blocks-blocks.ensures.value,
+      ap block_count (c.geometry.ensures.value ∙ sym c.requires),
+      ap block_count c.requires,
+      c.geometry.ensures.states,
+    )

@@ -4,7 +4,7 @@ use Rattle.bt_store.specs.declared.block_states.BlockState.TheVariants.{Marked}
 use Rattle.bt_machine.specs.State.{EngineState}
 use Rattle.bt_machine.specs.Blocks.{states_of}
 use Rattle.bt_state.specs.Parts.{state_of}
-use Rattle.bt_adoption.specs.Recount.{with_states, Follows}
+use Rattle.bt_adoption.specs.RecountSteps.{with_states, Follows}
 use Rattle.bt_adoption.proofs.Recounts.{IsBetween, own_states, replicate_at, between_begun, between_changes, between_more, same_count, told, mixed_done}
 use Rattle.bt_adoption.proofs.recount.leave_out.Goals as goal
 
@@ -40,8 +40,8 @@ loop-block-preserved g c =
     (told old c.args.file states marked c.loop-block.invariant c.block_state-state.ensures) (replicate_at Marked (length states) c.loop-block.block lt)
     c.follow_block.new.parts c.follow_block.ensures.followed c.follow_block.ensures.peers c.follow_block.ensures.others
 
-pub returns-clause-left_out : goal.returns-clause-left_out
-returns-clause-left_out g c =
+pub returns-clause-follows : goal.returns-clause-follows
+returns-clause-follows g c =
     let old = c.args.parts.now in
     let states = states_of (state_of old) c.args.file in
     let marked = replicate (length states) Marked in

@@ -4,7 +4,7 @@ use Rattle.bt_state.specs.declared.parts.Parts.{Parts}
 use Rattle.bt_state.specs.declared.slot.Slot.{Slot}
 use Rattle.bt_machine.proofs.Lists.{some_is, get_some}
 use Rattle.bt_state.proofs.Lists.{get_read}
-use Rattle.bt_adoption.specs.Settling.{IsDue}
+use Rattle.bt_adoption.specs.SettlingSteps.{IsDue}
 use Rattle.bt_adoption.proofs.LeftOut.{still_fit, follows_still, in_line_again, rest_again, settles_again}
 use Rattle.bt_adoption.proofs.Settlements.{settles_not}
 use Rattle.bt_adoption.proofs.settling.settle_file.Goals as goal
@@ -37,24 +37,24 @@ settle_slot-requires-clause-due g c =
 
 pub count_in-requires : goal.count_in-requires
 count_in-requires g c =
-    follows_still c.args.file c.args.parts.now c.leave_out.new.parts c.settle_slot.new.parts c.requires.alone c.leave_out.ensures.others c.leave_out.ensures.left_out
+    follows_still c.args.file c.args.parts.now c.leave_out.new.parts c.settle_slot.new.parts c.requires.alone c.leave_out.ensures.others c.leave_out.ensures.follows
     c.leave_out.ensures.peers c.settle_slot.ensures.changes
 
 pub returns-clause-settles : goal.returns-clause-settles
 returns-clause-settles g c =
     let d = g.D.Disk in
     settles_again c.args.file c.args.parts.now c.leave_out.new.parts c.settle_slot.new.parts c.requires.alone c.leave_out.ensures.others
-    c.leave_out.ensures.left_out c.leave_out.ensures.peers c.settle_slot.ensures.changes c.count_in.new.parts c.count_in.ensures.others c.count_in.ensures.followed
+    c.leave_out.ensures.follows c.leave_out.ensures.peers c.settle_slot.ensures.changes c.count_in.new.parts c.count_in.ensures.others c.count_in.ensures.follows
     c.count_in.ensures.peers d.history d.honest d.faults g.H.NodeHash.digest (λ other. other == c.args.file) c.args.tree c.settle_slot.ensures.settles
 
 pub returns-clause-rest : goal.returns-clause-rest
 returns-clause-rest g c =
     rest_again c.args.file c.args.parts.now c.leave_out.new.parts c.settle_slot.new.parts c.requires.alone c.leave_out.ensures.others
-    c.leave_out.ensures.left_out c.leave_out.ensures.peers c.settle_slot.ensures.changes c.count_in.new.parts c.count_in.ensures.others c.count_in.ensures.followed
+    c.leave_out.ensures.follows c.leave_out.ensures.peers c.settle_slot.ensures.changes c.count_in.new.parts c.count_in.ensures.others c.count_in.ensures.follows
     c.count_in.ensures.peers
 
 pub returns-clause-in_line : goal.returns-clause-in_line
 returns-clause-in_line g c =
     in_line_again c.args.file c.args.parts.now c.leave_out.new.parts c.settle_slot.new.parts c.requires.alone c.leave_out.ensures.others
-    c.leave_out.ensures.left_out c.leave_out.ensures.peers c.settle_slot.ensures.changes c.count_in.new.parts c.count_in.ensures.others c.count_in.ensures.followed
+    c.leave_out.ensures.follows c.leave_out.ensures.peers c.settle_slot.ensures.changes c.count_in.new.parts c.count_in.ensures.others c.count_in.ensures.follows
     c.count_in.ensures.peers

@@ -10,7 +10,7 @@ use Rattle.bt_machine.specs.Settling.{SettlesIn}
 use Rattle.bt_state.specs.Parts.{state_of, disks_of}
 use Rattle.bt_state.specs.declared.slot.Slot.{Slot}
 use Rattle.bt_state.specs.declared.parts.Parts.{Parts}
-use Rattle.bt_adoption.specs.Parts.{blocks_in}
+use Rattle.bt_adoption.specs.PartsSteps.{blocks_in}
 
 -- all blocks of the meant files of a tree are settled, by calls of these devices
 abbrev pub SettlesFiles : {D H : Type 0} → (D → History) → (D → Type 0) → (D → ℕ) → (List ℕ → List ℕ)

@@ -16,8 +16,8 @@ with_states s file states = record s {
 }
 
 -- the same engine, in which all blocks of this file are marked
-abbrev pub left_out : EngineState → ℕ → EngineState
-left_out s file = with_states s file (replicate (length (states_of s file)) Marked)
+abbrev pub with_marked_file : EngineState → ℕ → EngineState
+with_marked_file s file = with_states s file (replicate (length (states_of s file)) Marked)
 
 -- the parts' book and counts are right for an engine
 abbrev pub Follows : {D H : Type 0} → Parts D H → EngineState → Type 0

@@ -8,7 +8,7 @@ use Rattle.bt_state.specs.Parts.{state_of}
 use Rattle.bt_state.specs.Ties.{FitsFile}
 use Rattle.bt_state.specs.declared.slot.Slot.{Slot}
 use Rattle.bt_state.specs.declared.parts.Parts.{Parts}
-use Rattle.bt_adoption.specs.Recount.{left_out, Follows}
+use Rattle.bt_adoption.specs.RecountSteps.{with_marked_file, Follows}
 
 -- each slot is of its file, and of that file's tree
 abbrev pub AreFit : {D H : Type 0} → Parts D H → Type 0
@@ -44,6 +44,6 @@ pub record ChangesFile {D H : Type 0} (file : ℕ) (old new : Parts D H) : Type 
   pub others : new ≡ record old { slots = new.slots; trees = new.trees }
   pub count : length new.slots.items ≡ length old.slots.items
   pub trees : length new.trees.items ≡ length old.trees.items
-  pub alike : (left_out (state_of new) file).files ≡ (left_out (state_of old) file).files
+  pub alike : (with_marked_file (state_of new) file).files ≡ (with_marked_file (state_of old) file).files
   pub blocks : (tree : ℕ) → blocks_in (state_of new) tree ≡ blocks_in (state_of old) tree
   pub fits : AreFit new
