@@ -1,0 +1,153 @@
+//! The peers that are served.
+ghost use Rattle.std.specs.Prelude.{◌≡◌, ◌+◌, ◌*◌, ◌≤◌, ◌++◌, List, map, flat_map, length, vec_len, vec_capacity};
+ghost use Rattle.std.specs.List.{range_with_len};
+ghost use Rattle.bt_book.specs.Book.{BookState, max_peers};
+ghost use Rattle.bt_machine.specs.Orderly.{IsOrderly};
+ghost use Rattle.bt_machine.specs.Output.{Sent};
+ghost use Rattle.bt_machine.specs.Rechoke.{StepRechoke, FollowsEach, rechoked, chokes_sent, choking_sent};
+ghost use Rattle.bt_machine.specs.Shape.{IsShaped};
+ghost use Rattle.bt_machine.specs.State.{PeerState};
+ghost use Rattle.bt_state.specs.Parts.{state_of, disks_of};
+ghost use Rattle.bt_state.specs.Ties.{IsTied};
+ghost use Rattle.bt_follow_up.specs.Interest.{sent_if};
+ghost use Rattle.bt_upkeep.specs.ServingSteps.{standing_at, is_served, served_peer, served_sent};
+
+use crate::stand_in::follow_up;
+use arrayvec::ArrayVec;
+use bt_book::{PeerKey, Standing, choose};
+use bt_disk::Disk;
+use bt_machine::{Frame, Output};
+use bt_state::{Parts, Peer};
+use bt_tree::NodeHash;
+use bt_wire::Message;
+use std::alloc::{AllocError, Global};
+
+/// How many peers are connected at most.
+const MAX_PEERS: usize = 64;
+
+/// How many frames a peer is sent at most: a choke or an unchoke, and the 18 that follow.
+const MAX_FRAMES: usize = 19;
+
+/// Chooses the peers to serve anew. Errors: out of memory, and then nothing has changed.
+pub fn rechoke<D: Disk + Drop, H: NodeHash>(
+    alloc: Global,
+    parts: &mut Parts<D, H>,
+) -> Result<Output, AllocError>
+    requires tied { IsTied parts.old }
+    requires shaped { IsShaped parts.old.torrent (state_of parts.old) }
+    requires orderly { IsOrderly (state_of parts.old) }
+    ensures step { StepRechoke H.digest (state_of parts.old) result (state_of parts.new) }
+    ensures devices { disks_of parts.new ≡ disks_of parts.old }
+    ensures torrent { parts.new.torrent ≡ parts.old.torrent }
+    ensures tied { IsTied parts.new }
+{
+    let mut send = Vec::with_capacity(alloc, MAX_FRAMES * parts.peers.len())?;
+    choose_served(parts, &mut send);
+    follow_up_all(parts, &mut send);
+    Ok(Output {
+        send,
+        close: None,
+        notes: Vec::new(alloc),
+    })
+}
+
+/// Chooses the peers to serve, sends each of which that changes a choke or an unchoke, and begins the next
+/// turn, of which nothing is counted yet.
+fn choose_served<D: Disk + Drop, H: NodeHash>(
+    parts: &mut Parts<D, H>,
+    send: &mut Vec<(PeerKey, Frame)>,
+)
+    requires tied { IsTied parts.old }
+    requires few { length parts.old.peers.items ≤ max_peers }
+    requires room { vec_len send.old + length parts.old.peers.items ≤ vec_capacity send.old }
+    ensures chosen { state_of parts.new ≡ rechoked (state_of parts.old) }
+    ensures sent { send.new.items ≡ send.old.items ++ chokes_sent (state_of parts.old) }
+    ensures len { vec_len send.new ≤ vec_len send.old + length parts.old.peers.items }
+    ensures capacity { vec_capacity send.new ≡ vec_capacity send.old }
+    ensures devices { disks_of parts.new ≡ disks_of parts.old }
+    ensures torrent { parts.new.torrent ≡ parts.old.torrent }
+    ensures peers { length parts.new.peers.items ≡ length parts.old.peers.items }
+    ensures tied { IsTied parts.new }
+{
+    let standings = standings(&parts.peers);
+    let served = choose(standings.as_slice(), parts.turn);
+    serve(&mut parts.peers, served.as_slice(), send);
+    parts.turn = parts.turn.wrapping_add(1);
+}
+
+/// How each peer stands.
+fn standings(peers: &[Peer]) -> ArrayVec<Standing, MAX_PEERS>
+    requires { length peers.now ≤ max_peers }
+    ensures { result.items ≡ map standing_at peers.now }
+{
+    let mut standings = ArrayVec::new();
+    for peer in peers {
+        standings.push(Standing {
+            peer: peer.key,
+            interested: peer.peer_interested,
+            bytes: peer.payload,
+        });
+    }
+    standings
+}
+
+/// Serves the peers of these keys and no others, and sends each of which that changes a choke or an unchoke.
+fn serve(peers: &mut [Peer], served: &[PeerKey], send: &mut Vec<(PeerKey, Frame)>)
+    requires { vec_len send.old + length peers.old ≤ vec_capacity send.old }
+    ensures peers { peers.new ≡ map (served_peer served.now) peers.old }
+    ensures sent { (book : BookState) → send.new.items
+        ≡ send.old.items ++ flat_map (served_sent book served.now) peers.old }
+    ensures len { vec_len send.new ≤ vec_len send.old + length peers.old }
+    ensures capacity { vec_capacity send.new ≡ vec_capacity send.old }
+{
+    for peer in peers.iter_mut() {
+        if let Some(message) = serve_peer(peer, served) {
+            send.push_reserved((peer.key, Frame::Message(message)));
+        }
+    }
+}
+
+/// Serves the peer or not, and gives what it is to be told, where that has changed.
+fn serve_peer(peer: &mut Peer, served: &[PeerKey]) -> Option<Message>
+    ensures peer { peer.new ≡ served_peer served.now peer.old }
+    ensures told { (book : BookState) (p : PeerState) → p.key ≡ peer.old.key
+        → sent_if p result ≡ served_sent book served.now peer.old }
+{
+    let is_served = served.iter().any(|key| key.0 == peer.key.0);
+    let was_choking = peer.am_choking;
+    peer.am_choking = !is_served;
+    peer.payload = 0;
+    change_of_choking(was_choking, is_served)
+}
+
+/// What a peer is told that we choked or not, and serve now or not.
+fn change_of_choking(was_choking: bool, is_served: bool) -> Option<Message>
+    ensures { (p : PeerState) → sent_if p result ≡ choking_sent p was_choking is_served }
+{
+    match (was_choking, is_served) {
+        (true, true) => Some(Message::Unchoke),
+        (false, false) => Some(Message::Choke),
+        _ => None,
+    }
+}
+
+/// Does what follows for each peer, in the order of their keys.
+fn follow_up_all<D: Disk + Drop, H: NodeHash>(
+    parts: &mut Parts<D, H>,
+    send: &mut Vec<(PeerKey, Frame)>,
+)
+    requires tied { IsTied parts.old }
+    requires shaped { IsShaped parts.old.torrent (state_of parts.old) }
+    requires room { vec_len send.old + 18 * length parts.old.peers.items ≤ vec_capacity send.old }
+    ensures follows { (sent : List Sent)
+        × FollowsEach H.digest (range_with_len 0 (length (state_of parts.old).peers))
+        (state_of parts.old) sent (state_of parts.new)
+        × (send.new.items ≡ send.old.items ++ sent) }
+    ensures devices { disks_of parts.new ≡ disks_of parts.old }
+    ensures torrent { parts.new.torrent ≡ parts.old.torrent }
+    ensures tied { IsTied parts.new }
+{
+    for index in 0..parts.peers.len() {
+        follow_up(parts, index, send);
+    }
+}
