@@ -21,9 +21,12 @@ pub data SyncsSlot
       → SyncsSlot history honest faults old answer new
   rests : old.store ≡ None → answer ≡ Ok tt → new ≡ old → SyncsSlot history honest faults old answer new
 
--- what of a slot says nothing of its device: the tree, the file's length and the states
+-- what says nothing of the device: a file's length and its states, and a slot's tree
+abbrev pub kept_in : {D : Type 0} → StoreView D → ℕ × List BlockState
+kept_in store = (store.file_length, store.states)
+
 abbrev pub kept_of : {D H : Type 0} → Slot D H → ℕ × Option (ℕ × List BlockState)
-kept_of slot = (slot.tree, option_map (λ store. (store.file_length, store.states)) slot.store)
+kept_of slot = (slot.tree, option_map kept_in slot.store)
 
 -- The devices were synced as the machine flushes an engine of these files. All else stays.
 pub record SyncsSlots

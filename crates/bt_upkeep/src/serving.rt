@@ -1,10 +1,11 @@
 //! The peers that are served.
-ghost use Rattle.std.specs.Prelude.{◌≡◌, ◌+◌, ◌*◌, ◌≤◌, ◌++◌, List, map, flat_map, length, vec_len, vec_capacity};
+ghost use Rattle.std.specs.Prelude.{◌≡◌, ◌+◌, ◌*◌, ◌≤◌, ◌++◌, List, IfOk, map, flat_map, length, vec_len, vec_capacity};
 ghost use Rattle.std.specs.List.{range_with_len};
-ghost use Rattle.bt_book.specs.Book.{BookState, max_peers};
+ghost use Rattle.bt_book.specs.Book.{BookState};
+ghost use Rattle.bt_book.specs.Choking.{IsChoice};
 ghost use Rattle.bt_machine.specs.Orderly.{IsOrderly};
 ghost use Rattle.bt_machine.specs.Output.{Sent};
-ghost use Rattle.bt_machine.specs.Rechoke.{StepRechoke, FollowsEach, rechoked, chokes_sent, choking_sent};
+ghost use Rattle.bt_machine.specs.Rechoke.{StepRechoke, FollowsEach, rechoked, chokes_sent, choking_sent, standing_of};
 ghost use Rattle.bt_machine.specs.Shape.{IsShaped};
 ghost use Rattle.bt_machine.specs.State.{PeerState};
 ghost use Rattle.bt_state.specs.Parts.{state_of, disks_of};
@@ -13,7 +14,6 @@ ghost use Rattle.bt_follow_up.specs.Interest.{sent_if};
 ghost use Rattle.bt_upkeep.specs.ServingSteps.{standing_at, is_served, served_peer, served_sent};
 
 use crate::stand_in::follow_up;
-use arrayvec::ArrayVec;
 use bt_book::{PeerKey, Standing, choose};
 use bt_disk::Disk;
 use bt_machine::{Frame, Output};
@@ -21,9 +21,6 @@ use bt_state::{Parts, Peer};
 use bt_tree::NodeHash;
 use bt_wire::Message;
 use std::alloc::{AllocError, Global};
-
-/// How many peers are connected at most.
-const MAX_PEERS: usize = 64;
 
 /// How many frames a peer is sent at most: a choke or an unchoke, and the 18 that follow.
 const MAX_FRAMES: usize = 19;
@@ -41,8 +38,10 @@ pub fn rechoke<D: Disk + Drop, H: NodeHash>(
     ensures torrent { parts.new.torrent ≡ parts.old.torrent }
     ensures tied { IsTied parts.new }
 {
+    let standings = standings(alloc, &parts.peers)?;
     let mut send = Vec::with_capacity(alloc, MAX_FRAMES * parts.peers.len())?;
-    choose_served(parts, &mut send);
+    let served = choose(&standings, parts.turn);
+    begin_turn(parts, served.as_slice(), &mut send);
     follow_up_all(parts, &mut send);
     Ok(Output {
         send,
@@ -51,44 +50,41 @@ pub fn rechoke<D: Disk + Drop, H: NodeHash>(
     })
 }
 
-/// Chooses the peers to serve, sends each of which that changes a choke or an unchoke, and begins the next
-/// turn, of which nothing is counted yet.
-fn choose_served<D: Disk + Drop, H: NodeHash>(
-    parts: &mut Parts<D, H>,
-    send: &mut Vec<(PeerKey, Frame)>,
-)
-    requires tied { IsTied parts.old }
-    requires few { length parts.old.peers.items ≤ max_peers }
-    requires room { vec_len send.old + length parts.old.peers.items ≤ vec_capacity send.old }
-    ensures chosen { state_of parts.new ≡ rechoked (state_of parts.old) }
-    ensures sent { send.new.items ≡ send.old.items ++ chokes_sent (state_of parts.old) }
-    ensures len { vec_len send.new ≤ vec_len send.old + length parts.old.peers.items }
-    ensures capacity { vec_capacity send.new ≡ vec_capacity send.old }
-    ensures devices { disks_of parts.new ≡ disks_of parts.old }
-    ensures torrent { parts.new.torrent ≡ parts.old.torrent }
-    ensures peers { length parts.new.peers.items ≡ length parts.old.peers.items }
-    ensures tied { IsTied parts.new }
+/// How each peer stands. Errors: out of memory.
+fn standings(alloc: Global, peers: &[Peer]) -> Result<Vec<Standing>, AllocError>
+    ensures { IfOk result (λ standings. standings.items ≡ map standing_at peers.now) }
 {
-    let standings = standings(&parts.peers);
-    let served = choose(standings.as_slice(), parts.turn);
-    serve(&mut parts.peers, served.as_slice(), send);
-    parts.turn = parts.turn.wrapping_add(1);
-}
-
-/// How each peer stands.
-fn standings(peers: &[Peer]) -> ArrayVec<Standing, MAX_PEERS>
-    requires { length peers.now ≤ max_peers }
-    ensures { result.items ≡ map standing_at peers.now }
-{
-    let mut standings = ArrayVec::new();
+    let mut standings = Vec::new(alloc);
     for peer in peers {
         standings.push(Standing {
             peer: peer.key,
             interested: peer.peer_interested,
             bytes: peer.payload,
-        });
+        })?;
     }
-    standings
+    Ok(standings)
+}
+
+/// Serves the peers of these keys and no others from now on, sends a choke or an unchoke to each of which that
+/// changes, and begins the next turn, of which nothing is counted yet.
+fn begin_turn<D: Disk + Drop, H: NodeHash>(
+    parts: &mut Parts<D, H>,
+    served: &[PeerKey],
+    send: &mut Vec<(PeerKey, Frame)>,
+)
+    requires tied { IsTied parts.old }
+    requires choice { IsChoice (map standing_of (state_of parts.old).peers) parts.old.turn served.now }
+    requires room { vec_len send.old + length parts.old.peers.items ≤ vec_capacity send.old }
+    ensures state { state_of parts.new ≡ rechoked (state_of parts.old) }
+    ensures sent { send.new.items ≡ send.old.items ++ chokes_sent (state_of parts.old) }
+    ensures len { vec_len send.new ≤ vec_len send.old + length parts.old.peers.items }
+    ensures capacity { vec_capacity send.new ≡ vec_capacity send.old }
+    ensures devices { disks_of parts.new ≡ disks_of parts.old }
+    ensures torrent { parts.new.torrent ≡ parts.old.torrent }
+    ensures tied { IsTied parts.new }
+{
+    serve(&mut parts.peers, served, send);
+    parts.turn = parts.turn.wrapping_add(1);
 }
 
 /// Serves the peers of these keys and no others, and sends each of which that changes a choke or an unchoke.

@@ -1,0 +1,3 @@
+-- devices
+pub mod Flushes
+pub mod SlotTies
