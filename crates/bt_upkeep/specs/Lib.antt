@@ -1,2 +1,3 @@
 pub mod DevicesSteps
 pub mod ServingSteps
+pub mod StandIn

@@ -1,17 +1,16 @@
 //! The peers that are served.
-ghost use Rattle.std.specs.Prelude.{◌≡◌, ◌+◌, ◌*◌, ◌≤◌, ◌++◌, List, IfOk, map, flat_map, length, vec_len, vec_capacity};
-ghost use Rattle.std.specs.List.{range_with_len};
+ghost use Rattle.std.specs.Prelude.{◌≡◌, ◌+◌, ◌*◌, ◌≤◌, ◌++◌, IfOk, map, flat_map, length, vec_len, vec_capacity};
 ghost use Rattle.bt_book.specs.Book.{BookState};
 ghost use Rattle.bt_book.specs.Choking.{IsChoice};
 ghost use Rattle.bt_machine.specs.Orderly.{IsOrderly};
-ghost use Rattle.bt_machine.specs.Output.{Sent};
-ghost use Rattle.bt_machine.specs.Rechoke.{StepRechoke, FollowsEach, rechoked, chokes_sent, choking_sent, standing_of};
+ghost use Rattle.bt_machine.specs.Rechoke.{StepRechoke, rechoked, chokes_sent, choking_sent, standing_of};
 ghost use Rattle.bt_machine.specs.Shape.{IsShaped};
 ghost use Rattle.bt_machine.specs.State.{PeerState};
-ghost use Rattle.bt_state.specs.Parts.{state_of, disks_of};
+ghost use Rattle.bt_state.specs.Parts.{state_of, disks_of, peer_of};
 ghost use Rattle.bt_state.specs.Ties.{IsTied};
 ghost use Rattle.bt_follow_up.specs.Interest.{sent_if};
-ghost use Rattle.bt_upkeep.specs.ServingSteps.{standing_at, is_served, served_peer, served_sent};
+ghost use Rattle.bt_upkeep.specs.ServingSteps.{standing_at, is_served, served_peer, served_sent, SendsAllFollowUps};
+ghost use Rattle.bt_upkeep.specs.StandIn.{max_frames};
 
 use crate::stand_in::follow_up;
 use bt_book::{PeerKey, Standing, choose};
@@ -78,7 +77,7 @@ fn begin_turn<D: Disk + Drop, H: NodeHash>(
     ensures state { state_of parts.new ≡ rechoked (state_of parts.old) }
     ensures sent { send.new.items ≡ send.old.items ++ chokes_sent (state_of parts.old) }
     ensures len { vec_len send.new ≤ vec_len send.old + length parts.old.peers.items }
-    ensures capacity { vec_capacity send.new ≡ vec_capacity send.old }
+    ensures capacity { vec_capacity send.old ≤ vec_capacity send.new }
     ensures devices { disks_of parts.new ≡ disks_of parts.old }
     ensures torrent { parts.new.torrent ≡ parts.old.torrent }
     ensures tied { IsTied parts.new }
@@ -94,7 +93,7 @@ fn serve(peers: &mut [Peer], served: &[PeerKey], send: &mut Vec<(PeerKey, Frame)
     ensures sent { (book : BookState) → send.new.items
         ≡ send.old.items ++ flat_map (served_sent book served.now) peers.old }
     ensures len { vec_len send.new ≤ vec_len send.old + length peers.old }
-    ensures capacity { vec_capacity send.new ≡ vec_capacity send.old }
+    ensures capacity { vec_capacity send.old ≤ vec_capacity send.new }
 {
     for peer in peers.iter_mut() {
         if let Some(message) = serve_peer(peer, served) {
@@ -106,14 +105,21 @@ fn serve(peers: &mut [Peer], served: &[PeerKey], send: &mut Vec<(PeerKey, Frame)
 /// Serves the peer or not, and gives what it is to be told, where that has changed.
 fn serve_peer(peer: &mut Peer, served: &[PeerKey]) -> Option<Message>
     ensures peer { peer.new ≡ served_peer served.now peer.old }
-    ensures told { (book : BookState) (p : PeerState) → p.key ≡ peer.old.key
-        → sent_if p result ≡ served_sent book served.now peer.old }
+    ensures told { (book : BookState) → sent_if (peer_of book peer.old) result
+        ≡ served_sent book served.now peer.old }
 {
-    let is_served = served.iter().any(|key| key.0 == peer.key.0);
+    let serves = is_served(served, peer);
     let was_choking = peer.am_choking;
-    peer.am_choking = !is_served;
+    peer.am_choking = !serves;
     peer.payload = 0;
-    change_of_choking(was_choking, is_served)
+    change_of_choking(was_choking, serves)
+}
+
+/// Whether the peer is one of those to serve.
+fn is_served(served: &[PeerKey], peer: &Peer) -> bool
+    ensures { result ≡ is_served served.now peer.now }
+{
+    served.iter().any(|key| key.0 == peer.key.0)
 }
 
 /// What a peer is told that we choked or not, and serve now or not.
@@ -134,11 +140,9 @@ fn follow_up_all<D: Disk + Drop, H: NodeHash>(
 )
     requires tied { IsTied parts.old }
     requires shaped { IsShaped parts.old.torrent (state_of parts.old) }
-    requires room { vec_len send.old + 18 * length parts.old.peers.items ≤ vec_capacity send.old }
-    ensures follows { (sent : List Sent)
-        × FollowsEach H.digest (range_with_len 0 (length (state_of parts.old).peers))
-        (state_of parts.old) sent (state_of parts.new)
-        × (send.new.items ≡ send.old.items ++ sent) }
+    requires room { vec_len send.old + max_frames * length parts.old.peers.items ≤ vec_capacity send.old }
+    ensures follows { SendsAllFollowUps H.digest (state_of parts.old) send.old.items send.new.items
+        (state_of parts.new) }
     ensures devices { disks_of parts.new ≡ disks_of parts.old }
     ensures torrent { parts.new.torrent ≡ parts.old.torrent }
     ensures tied { IsTied parts.new }

@@ -1,17 +1,10 @@
-use Rattle.std.proofs.Common.{◌≡◌, ◌+◌, ◌*◌, ◌≤◌, ◌++◌, List, IfOk, map, flat_map, length, vec_len, vec_capacity, ℕ, ◌-◌, ◌<◌}
-use Rattle.std.specs.List.{range_with_len}
-use Rattle.bt_book.specs.Book.{BookState}
-use Rattle.bt_book.specs.Choking.{IsChoice}
-use Rattle.bt_machine.specs.Orderly.{IsOrderly}
-use Rattle.bt_machine.specs.Output.{Sent}
-use Rattle.bt_machine.specs.Rechoke.{StepRechoke, FollowsEach, rechoked, chokes_sent, choking_sent, standing_of}
-use Rattle.bt_machine.specs.Shape.{IsShaped}
-use Rattle.bt_machine.specs.State.{PeerState}
-use Rattle.bt_state.specs.Parts.{state_of, disks_of}
-use Rattle.bt_state.specs.Ties.{IsTied}
-use Rattle.bt_follow_up.specs.Interest.{sent_if}
-use Rattle.bt_upkeep.specs.ServingSteps.{standing_at, is_served, served_peer, served_sent}
+use Rattle.std.proofs.Common.{◌≡◌, ◌+◌, ◌-◌, ◌*◌, ◌≤◌, length}
+use Rattle.std.specs.Vec.{vec_len, vec_capacity}
+use Rattle.bt_upkeep.proofs.FollowUps.{AreFollowedBelow}
 use Rattle.bt_upkeep.proofs.serving.follow_up_all.Given as goal
 
 abbrev pub invariant-loop-index : goal.invariant-loop-index
-invariant-loop-index g l = ?
+invariant-loop-index g l = record {
+  followed : AreFollowedBelow g.H.NodeHash.digest l.fn.parts l.fn.send.items l.index l.parts l.send.items;
+  room : vec_len l.send + 18 * (length l.fn.parts.peers.items - l.index) ≤ vec_capacity l.send;
+}

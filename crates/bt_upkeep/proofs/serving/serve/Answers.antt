@@ -1,38 +1,34 @@
-use Rattle.std.proofs.Common.{rules, ◌≡◌, ◌+◌, ◌*◌, ◌≤◌, ◌++◌, List, IfOk, map, flat_map, length, vec_len, vec_capacity, ℕ, ◌-◌, ◌<◌, ◌/◌, ◌%◌, Bool, true, false, nat_eq, nat_lt, [], ◌∷◌, slice_index_or, slice_set, bit_and, bit_or, Fits, w8, w32, w64, Bor, MutBor}
-use Rattle.std.specs.List.{range_with_len}
-use Rattle.bt_book.specs.Book.{BookState}
-use Rattle.bt_book.specs.Choking.{IsChoice}
-use Rattle.bt_machine.specs.Orderly.{IsOrderly}
-use Rattle.bt_machine.specs.Output.{Sent}
-use Rattle.bt_machine.specs.Rechoke.{StepRechoke, FollowsEach, rechoked, chokes_sent, choking_sent, standing_of}
-use Rattle.bt_machine.specs.Shape.{IsShaped}
-use Rattle.bt_machine.specs.State.{PeerState}
-use Rattle.bt_state.specs.Parts.{state_of, disks_of}
-use Rattle.bt_state.specs.Ties.{IsTied}
-use Rattle.bt_follow_up.specs.Interest.{sent_if}
-use Rattle.bt_upkeep.specs.ServingSteps.{standing_at, is_served, served_peer, served_sent}
+use Rattle.std.proofs.Common.{◌<◌, length, set, arith, sym, ap, ◌∙◌, subst}
+use Rattle.std.proofs.lemmas.List.Edits.{map_over_more}
+use Rattle.bt_upkeep.specs.ServingSteps.{served_peer}
+use Rattle.bt_upkeep.proofs.Servings.{told_this, told_nothing}
 use Rattle.bt_upkeep.proofs.serving.serve.Goals as goal
+use Rattle.bt_upkeep.proofs.serving.serve.Goals.{in-Some, in_default}
 
--- src/serving.rt:99:5
-pub loop-peer-init : goal.loop-peer-init
-loop-peer-init c = ?
-
--- src/serving.rt:101:13
-pub push_reserved-requires : goal.push_reserved-requires
-push_reserved-requires c = ?
-
--- src/serving.rt:99:5
 pub loop-peer-preserved : goal.loop-peer-preserved
-loop-peer-preserved c = ?
-
--- src/serving.rt:91:1
-pub returns-clause-peers : goal.returns-clause-peers
-returns-clause-peers c = ?
-
--- src/serving.rt:91:1
-pub returns-clause-sent : goal.returns-clause-sent
-returns-clause-sent c = ?
-
--- src/serving.rt:91:1
-pub returns-clause-len : goal.returns-clause-len
-returns-clause-len c = ?
+loop-peer-preserved c =
+    let peers = c.args.peers.now in
+    let served = c.args.served.now in
+    let now = c.loop-peer.peers in
+    let i = c.loop-peer.peer-index in
+    let p = c.peer-item.result in
+    let so_far = c.loop-peer.invariant in
+    let lt = c.loop-peer-test.true in
+    let same = ap (set now i) (c.serve_peer.ensures.peer ∙ ap (served_peer served) (sym c.peer-item.is))
+    ∙ map_over_more (served_peer served) peers now i p lt so_far.peers c.peer-item.is in
+    elim c.match-serve_peer.branch [
+      | in-Some w ↦ record {
+        peers = w.peers-is ∙ same;
+        sent = λ book. rw w.send-is (w.push_reserved.ensures.items ∙ told_this book served peers now i p lt so_far.peers c.peer-item.is c.args.send.now.items c.loop-peer.send.items
+            (so_far.sent book) c.serve_peer.result (c.serve_peer.ensures.told book) w.in-Some.message c.serve_peer.new.peer w.in-Some.is c.serve_peer.ensures.peer);
+        len = rw w.send-is (omega (arith, so_far.len, w.push_reserved.ensures.len));
+        capacity = rw w.send-is (omega (arith, so_far.capacity, w.push_reserved.ensures.capacity));
+      }
+      | in_default w ↦ record {
+        peers = w.peers-is ∙ same;
+        sent = λ book. rw w.send-is (told_nothing book served peers now i p lt so_far.peers c.peer-item.is c.args.send.now.items c.loop-peer.send.items
+            (so_far.sent book) c.serve_peer.result (c.serve_peer.ensures.told book) w.in_default.is);
+        len = rw w.send-is (omega (arith, so_far.len));
+        capacity = rw w.send-is so_far.capacity;
+      }
+    ]

@@ -1,17 +1,14 @@
-use Rattle.std.proofs.Common.{◌≡◌, ◌+◌, ◌*◌, ◌≤◌, ◌++◌, List, IfOk, map, flat_map, length, vec_len, vec_capacity, ℕ, ◌-◌, ◌<◌}
-use Rattle.std.specs.List.{range_with_len}
+use Rattle.std.proofs.Common.{◌≡◌, ◌+◌, ◌≤◌, ◌++◌, map, take, drop}
+use Rattle.std.specs.Prelude.{flat_map}
+use Rattle.std.specs.Vec.{vec_len, vec_capacity}
 use Rattle.bt_book.specs.Book.{BookState}
-use Rattle.bt_book.specs.Choking.{IsChoice}
-use Rattle.bt_machine.specs.Orderly.{IsOrderly}
-use Rattle.bt_machine.specs.Output.{Sent}
-use Rattle.bt_machine.specs.Rechoke.{StepRechoke, FollowsEach, rechoked, chokes_sent, choking_sent, standing_of}
-use Rattle.bt_machine.specs.Shape.{IsShaped}
-use Rattle.bt_machine.specs.State.{PeerState}
-use Rattle.bt_state.specs.Parts.{state_of, disks_of}
-use Rattle.bt_state.specs.Ties.{IsTied}
-use Rattle.bt_follow_up.specs.Interest.{sent_if}
-use Rattle.bt_upkeep.specs.ServingSteps.{standing_at, is_served, served_peer, served_sent}
+use Rattle.bt_upkeep.specs.ServingSteps.{served_peer, served_sent}
 use Rattle.bt_upkeep.proofs.serving.serve.Given as goal
 
 abbrev pub invariant-loop-peer : goal.invariant-loop-peer
-invariant-loop-peer l = ?
+invariant-loop-peer l = record {
+  peers : l.peers ≡ map (served_peer l.served) (take l.peer-index l.fn.peers) ++ drop l.peer-index l.fn.peers;
+  sent : (book : BookState) → l.send.items ≡ l.fn.send.items ++ flat_map (served_sent book l.served) (take l.peer-index l.fn.peers);
+  len : vec_len l.send ≤ vec_len l.fn.send + l.peer-index;
+  capacity : vec_capacity l.fn.send ≤ vec_capacity l.send;
+}
