@@ -15,9 +15,10 @@ use Rattle.bt_machine.specs.Devices.{DeviceCalls, HaveCalls}
 use Rattle.bt_machine.specs.Flush.{StepFlush, syncs as all_made, fails, syncs_of}
 use Rattle.bt_state.specs.Parts.{file_of, disk_of}
 use Rattle.bt_state.specs.declared.slot.Slot.{Slot}
-use Rattle.bt_state.proofs.DeviceCalls.{have_none, have_one, have_then}
-use Rattle.bt_state.proofs.Lists.{get_mapped, map_set}
-use Rattle.bt_upkeep.specs.DevicesSteps.{SyncsSlot, syncs, rests, SyncsSlots, kept_of, kept_in}
+use Rattle.bt_state.proofs.DeviceCalls.{have_none, have_then}
+use Rattle.bt_state.proofs.Lists.{get_mapped}
+use Rattle.bt_state.proofs.SlotChanges.{have_changed}
+use Rattle.bt_upkeep.specs.DevicesSteps.{SyncsSlot, syncs, rests, SyncsSlots, without_disk, store_without_disk}
 
 -- ---- the files that have a block
 
@@ -75,13 +76,13 @@ only_device (Err Device) err = refl
 module _ {D H : Type 0} (history : D → History) (honest : D → Type 0) (faults : D → ℕ) where
   pub record AreSyncedBelow (old now : List (Slot D H)) (i : ℕ) : Type 0 where
     pub have : HaveCalls history honest faults (map disk_of old) (syncs_of (data_below (map file_of old) i)) (map disk_of now)
-    pub kept : map kept_of now ≡ map kept_of old
+    pub others : map without_disk now ≡ map without_disk old
     pub after : (j : ℕ) → i ≤ j → slice_get now j ≡ slice_get old j
 
   pub none_synced : (slots : List (Slot D H)) → AreSyncedBelow slots slots 0
   none_synced slots = record {
     have = have_none history honest faults (map disk_of slots);
-    kept = refl;
+    others = refl;
     after = λ j le. refl;
   }
 
@@ -93,19 +94,16 @@ module _ {D H : Type 0} (history : D → History) (honest : D → Type 0) (fault
       have_call : (call : Call) → HasCalls history honest faults store.disk (call ∷ []) disk
           → HaveCalls history honest faults (map disk_of old) (syncs_of (data_below (map file_of old) i) ++ (i, call) ∷ []) (map disk_of (slice_set now i new))
       have_call call calls =
-          let one = have_one history honest faults (map disk_of now) i store.disk disk (call ∷ [])
-          (get_mapped disk_of now i here ∙ ap (λ (o : Option (StoreView D)). Some (option_map (λ store. store.disk) o)) has) calls in
-          let set : map disk_of (slice_set now i new) ≡ slice_set (map disk_of now) i (Some disk) =
-          map_set disk_of disk_of now i new (λ j x apart e. refl) ∙ ap (λ (s : Slot D H). slice_set (map disk_of now) i (disk_of s)) is in
-          subst (λ (disks : List (Option D)). HaveCalls history honest faults (map disk_of old) (syncs_of (data_below (map file_of old) i) ++ (i, call) ∷ []) disks)
-          (sym set)
-          (have_then history honest faults (map disk_of old) (map disk_of now) (slice_set (map disk_of now) i (Some disk))
-          (syncs_of (data_below (map file_of old) i)) ((i, call) ∷ []) below.have one)
+          let after : StoreView D = record store { disk = disk } in
+          subst (λ (s : Slot D H). HaveCalls history honest faults (map disk_of old) (syncs_of (data_below (map file_of old) i) ++ (i, call) ∷ [])
+          (map disk_of (slice_set now i s))) (sym is)
+          (have_then history honest faults (map disk_of old) (map disk_of now) (map disk_of (slice_set now i (record slot { store = Some after })))
+          (syncs_of (data_below (map file_of old) i)) ((i, call) ∷ []) below.have (have_changed now i here has after history honest faults (call ∷ []) calls))
 
-      all_kept : map kept_of (slice_set now i new) ≡ map kept_of old
-      all_kept =
-          map_stays kept_of now i new here
-          (ap kept_of is ∙ sym (ap (λ (o : Option (StoreView D)). (slot.tree, option_map kept_in o)) has)) ∙ below.kept
+      all_others : map without_disk (slice_set now i new) ≡ map without_disk old
+      all_others =
+          map_stays without_disk now i new here
+          (ap without_disk is ∙ sym (ap (λ (o : Option (StoreView D)). (slot.tree, option_map store_without_disk o)) has)) ∙ below.others
 
     pub one_synced : SyncsSlot history honest faults slot (Ok tt) new → AreSyncedBelow old (slice_set now i new) (i + 1)
     one_synced (syncs store disk has some calls is) =
@@ -113,7 +111,7 @@ module _ {D H : Type 0} (history : D → History) (honest : D → Type 0) (fault
         record {
           have = subst (λ (cs : DeviceCalls). HaveCalls history honest faults (map disk_of old) cs (map disk_of (slice_set now i new)))
               (sym (ap syncs_of next ∙ map-append _ (data_below (map file_of old) i) (i ∷ []))) (have_call store disk has is _ calls);
-          kept = all_kept store disk has is;
+          others = all_others store disk has is;
           after = λ j le. set_other now i j new (λ e. absurd (omega (arith, le, e))) ∙ below.after j (omega arith);
         }
     one_synced (rests has answer is) =
@@ -121,7 +119,7 @@ module _ {D H : Type 0} (history : D → History) (honest : D → Type 0) (fault
         let same : slice_set now i new ≡ now = ap (slice_set now i) is ∙ set_id now i here in
         rw same (record {
           have = subst (λ (cs : DeviceCalls). HaveCalls history honest faults (map disk_of old) cs (map disk_of now)) (sym (ap syncs_of next)) below.have;
-          kept = below.kept;
+          others = below.others;
           after = λ j le. below.after j (omega arith);
         })
 
@@ -137,7 +135,7 @@ module _ {D H : Type 0} (history : D → History) (honest : D → Type 0) (fault
               (ap (λ (fs : List FileState). data_below fs (length fs)) same ∙ data_at files i (length files) lt
               ∙ ap (λ t. data_below files i ++ cond t (i ∷ data_after files i (length files) lt) (data_after files i (length files) lt)) stands)
               refl refl refl;
-          kept = all_kept store disk has is;
+          others = all_others store disk has is;
         }
     sync_failed e (rests has answer is) = absurd cc
 
@@ -153,5 +151,5 @@ module _ {D H : Type 0} (history : D → History) (honest : D → Type 0) (fault
     step = λ s logged same. all_made logged
         (ap (λ n. syncs_of (data_below (map file_of old) n)) (all ∙ sym (length-map old file_of))
         ∙ sym (ap (λ (fs : List FileState). syncs_of (data_below fs (length fs))) same)) refl refl;
-    kept = below.kept;
+    others = below.others;
   }

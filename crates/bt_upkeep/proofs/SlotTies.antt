@@ -16,42 +16,42 @@ use Rattle.bt_state.specs.Ties.{IsTied, FitsFile, FitsTree, AreUnmarked}
 use Rattle.bt_state.specs.declared.slot.Slot.{Slot}
 use Rattle.bt_state.specs.declared.parts.Parts.{Parts}
 use Rattle.bt_state.proofs.Lists.{get_mapped}
-use Rattle.bt_upkeep.specs.DevicesSteps.{kept_in, kept_of, SyncsSlots}
+use Rattle.bt_upkeep.specs.DevicesSteps.{store_without_disk, without_disk, SyncsSlots}
 
 -- the machine's file of what is kept
 abbrev file_from : ℕ × Option (ℕ × List BlockState) → FileState
 file_from kept = record { tree = kept.0; states = option_map_or (λ k. k.1) kept.1 [] }
 
-none_from : {D : Type 0} {o p : Option (StoreView D)} → option_map kept_in o ≡ option_map kept_in p
+none_from : {D : Type 0} {o p : Option (StoreView D)} → option_map store_without_disk o ≡ option_map store_without_disk p
     → p ≡ None → o ≡ None
 none_from {o = None} same none = refl
-none_from {o = Some store} same none = absurd (let gone = same ∙ ap (option_map kept_in) none in cc)
+none_from {o = Some store} same none = absurd (let gone = same ∙ ap (option_map store_without_disk) none in cc)
 
 module _ {D H : Type 0} where
-  file_kept : (slot : Slot D H) → file_of slot ≡ file_from (kept_of slot)
+  file_kept : (slot : Slot D H) → file_of slot ≡ file_from (without_disk slot)
   file_kept slot = ap (λ (states : List BlockState). record { tree = slot.tree; states = states }) (by slot.store)
     where
       by : (o : Option (StoreView D)) → option_map_or (λ store. store.states) o []
-          ≡ option_map_or (λ (k : ℕ × List BlockState). k.1) (option_map kept_in o) []
+          ≡ option_map_or (λ (k : ℕ × List BlockState). k.1) (option_map store_without_disk o) []
       by None = refl
       by (Some store) = refl
 
-  files_kept : (slots : List (Slot D H)) → map file_of slots ≡ map file_from (map kept_of slots)
+  files_kept : (slots : List (Slot D H)) → map file_of slots ≡ map file_from (map without_disk slots)
   files_kept [] = refl
-  files_kept (slot ∷ slots) = ap (λ f. f ∷ map file_of slots) (file_kept slot) ∙ ap (λ fs. file_from (kept_of slot) ∷ fs) (files_kept slots)
+  files_kept (slot ∷ slots) = ap (λ f. f ∷ map file_of slots) (file_kept slot) ∙ ap (λ fs. file_from (without_disk slot) ∷ fs) (files_kept slots)
 
-  pub files_stay : (old new : List (Slot D H)) → map kept_of new ≡ map kept_of old → map file_of new ≡ map file_of old
+  pub files_stay : (old new : List (Slot D H)) → map without_disk new ≡ map without_disk old → map file_of new ≡ map file_of old
   files_stay old new kept = files_kept new ∙ ap (map file_from) kept ∙ sym (files_kept old)
 
-  fits_kept : (files : List File) (trees : List Facts) (i : ℕ) (old new : Slot D H) → kept_of old ≡ kept_of new → FitsFile files trees i old
+  fits_kept : (files : List File) (trees : List Facts) (i : ℕ) (old new : Slot D H) → without_disk old ≡ without_disk new → FitsFile files trees i old
       → FitsFile files trees i new
   fits_kept files trees i old new kept fits = record {
     file = fits.file;
     listed = fits.listed;
     empty = λ none. fits.empty (none_from (ap (λ k. k.1) kept) none);
     some = λ store is. (
-        let was = map_some kept_in old.store
-        (ap (λ k. k.1) kept ∙ ap (option_map kept_in) is) in
+        let was = map_some store_without_disk old.store
+        (ap (λ k. k.1) kept ∙ ap (option_map store_without_disk) is) in
         let long : was.0.file_length ≡ store.file_length = ap (λ k. k.0) was.2 in
         let tree = fits.some was.0 was.1 in
         record {
@@ -70,7 +70,7 @@ module _ {D H : Type 0} where
       subst (λ (slots : List (Slot D H)). SyncsSlots history honest faults old r slots) (sym now)
       (subst (λ (slots : List (Slot D H)). SyncsSlots history honest faults slots r back) was synced)
 
-  module _ (old new : Parts D H) (kept : map kept_of new.slots.items ≡ map kept_of old.slots.items) where
+  module _ (old new : Parts D H) (kept : map without_disk new.slots.items ≡ map without_disk old.slots.items) where
     pub state_kept : state_of (record old { slots = new.slots }) ≡ state_of old
     state_kept = ap (λ (files : List FileState). record (state_of old) { files = files }) (files_stay old.slots.items new.slots.items kept)
 
@@ -86,7 +86,7 @@ module _ {D H : Type 0} where
 
     fits_still : IsTied old → (i : ℕ) (slot : Slot D H) → slice_get new.slots.items i ≡ Some slot → FitsFile old.torrent.files old.trees.items i slot
     fits_still tied i slot here =
-        let was = get_map kept_of old.slots.items i (ap (λ ks. slice_get ks i) (sym kept) ∙ get_mapped kept_of new.slots.items i here) in
+        let was = get_map without_disk old.slots.items i (ap (λ ks. slice_get ks i) (sym kept) ∙ get_mapped without_disk new.slots.items i here) in
         fits_kept old.torrent.files old.trees.items i was.0 slot was.2 (tied.each i was.0 was.1)
 
     pub tied_kept : IsTied old → IsTied (record old { slots = new.slots })
@@ -96,7 +96,7 @@ module _ {D H : Type 0} where
       room = tied.room;
       wanted = λ b. rw (ap (λ s. state_at s b) state_kept) (tied.wanted b);
       ranged = λ b x at. tied.ranged b x (sym (ap (λ s. state_at s b) state_kept) ∙ at);
-      count = sym (length-map new.slots.items kept_of) ∙ ap (λ ks. length ks) kept ∙ length-map old.slots.items kept_of ∙ tied.count;
+      count = sym (length-map new.slots.items without_disk) ∙ ap (λ ks. length ks) kept ∙ length-map old.slots.items without_disk ∙ tied.count;
       each = fits_still tied;
       unmarked = subst (λ (s : EngineState). AreUnmarked s old.unmarked.items) (sym state_kept) tied.unmarked;
     }

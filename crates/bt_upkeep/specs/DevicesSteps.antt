@@ -21,12 +21,12 @@ pub data SyncsSlot
       → SyncsSlot history honest faults old answer new
   rests : old.store ≡ None → answer ≡ Ok tt → new ≡ old → SyncsSlot history honest faults old answer new
 
--- what says nothing of the device: a file's length and its states, and a slot's tree
-abbrev pub kept_in : {D : Type 0} → StoreView D → ℕ × List BlockState
-kept_in store = (store.file_length, store.states)
+-- a store and a slot but for the device: a file's length and the states of its blocks, and a slot's tree
+abbrev pub store_without_disk : {D : Type 0} → StoreView D → ℕ × List BlockState
+store_without_disk store = (store.file_length, store.states)
 
-abbrev pub kept_of : {D H : Type 0} → Slot D H → ℕ × Option (ℕ × List BlockState)
-kept_of slot = (slot.tree, option_map kept_in slot.store)
+abbrev pub without_disk : {D H : Type 0} → Slot D H → ℕ × Option (ℕ × List BlockState)
+without_disk slot = (slot.tree, option_map store_without_disk slot.store)
 
 -- The devices were synced as the machine flushes an engine of these files. All else stays.
 pub record SyncsSlots
@@ -35,4 +35,4 @@ pub record SyncsSlots
   pub calls : DeviceCalls
   pub have : HaveCalls history honest faults (map disk_of old) calls (map disk_of new)
   pub step : (s : EngineState) → s.logged ≡ false → s.files ≡ map file_of old → StepFlush s calls answer s
-  pub kept : map kept_of new ≡ map kept_of old
+  pub others : map without_disk new ≡ map without_disk old

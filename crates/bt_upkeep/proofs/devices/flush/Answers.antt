@@ -2,7 +2,7 @@ use Rattle.std.proofs.Common.{List, sym, ap, ◌∙◌, subst}
 use Rattle.std.proofs.lemmas.List.{with_items_is}
 use Rattle.std.specs.Vec.{with_items}
 use Rattle.bt_state.specs.declared.slot.Slot.{Slot}
-use Rattle.bt_upkeep.specs.DevicesSteps.{SyncsSlots, kept_of}
+use Rattle.bt_upkeep.specs.DevicesSteps.{SyncsSlots, without_disk}
 use Rattle.bt_upkeep.proofs.SlotTies.{flushed, tied_kept, synced_as}
 use Rattle.bt_upkeep.proofs.devices.flush.Goals as goal
 
@@ -12,7 +12,7 @@ returns-clause-step g c =
     let old = c.args.parts.now in
     let items = with_items_is old.slots c.sync_slots.new.slots (c.sync_slots.auto.slots ∙ c.deref_mut.ensures.len) in
     let synced = synced_as d.history d.honest d.faults c.sync_slots.result c.deref_mut.ensures.value items c.sync_slots.ensures in
-    flushed old (record old { slots = with_items old.slots c.sync_slots.new.slots }) synced.kept d.history d.honest d.faults c.sync_slots.result synced
+    flushed old (record old { slots = with_items old.slots c.sync_slots.new.slots }) synced.others d.history d.honest d.faults c.sync_slots.result synced
 
 pub returns-clause-tied : goal.returns-clause-tied
 returns-clause-tied g c =
@@ -20,4 +20,4 @@ returns-clause-tied g c =
     let old = c.args.parts.now in
     let items = with_items_is old.slots c.sync_slots.new.slots (c.sync_slots.auto.slots ∙ c.deref_mut.ensures.len) in
     let synced = synced_as d.history d.honest d.faults c.sync_slots.result c.deref_mut.ensures.value items c.sync_slots.ensures in
-    tied_kept old (record old { slots = with_items old.slots c.sync_slots.new.slots }) synced.kept c.requires
+    tied_kept old (record old { slots = with_items old.slots c.sync_slots.new.slots }) synced.others c.requires
