@@ -24,7 +24,8 @@ use std::alloc::{AllocError, Global};
 /// How many frames a peer is sent at most: a choke or an unchoke, and the 18 that follow.
 const MAX_FRAMES: usize = 19;
 
-/// Chooses the peers to serve anew. Errors: out of memory, and then nothing has changed.
+/// Chooses the peers to serve anew, and begins the next turn. It sends chokes and unchokes where that changes,
+/// and behind them what follows for each peer. Errors: out of memory, and then nothing has changed.
 pub fn rechoke<D: Disk + Drop, H: NodeHash>(
     alloc: Global,
     parts: &mut Parts<D, H>,
@@ -64,8 +65,8 @@ fn standings(alloc: Global, peers: &[Peer]) -> Result<Vec<Standing>, AllocError>
     Ok(standings)
 }
 
-/// Serves the peers of these keys and no others from now on, sends a choke or an unchoke to each of which that
-/// changes, and begins the next turn, of which nothing is counted yet.
+/// Serves the peers of these keys and no others from now on, and begins the next turn, in which no byte is
+/// counted yet.
 fn begin_turn<D: Disk + Drop, H: NodeHash>(
     parts: &mut Parts<D, H>,
     served: &[PeerKey],
@@ -76,7 +77,7 @@ fn begin_turn<D: Disk + Drop, H: NodeHash>(
     requires room { vec_len send.old + length parts.old.peers.items ≤ vec_capacity send.old }
     ensures state { state_of parts.new ≡ rechoked (state_of parts.old) }
     ensures sent { send.new.items ≡ send.old.items ++ chokes_sent (state_of parts.old) }
-    ensures len { vec_len send.new ≤ vec_len send.old + length parts.old.peers.items }
+    ensures few { vec_len send.new ≤ vec_len send.old + length parts.old.peers.items }
     ensures capacity { vec_capacity send.old ≤ vec_capacity send.new }
     ensures devices { disks_of parts.new ≡ disks_of parts.old }
     ensures torrent { parts.new.torrent ≡ parts.old.torrent }
@@ -86,13 +87,13 @@ fn begin_turn<D: Disk + Drop, H: NodeHash>(
     parts.turn = parts.turn.wrapping_add(1);
 }
 
-/// Serves the peers of these keys and no others, and sends each of which that changes a choke or an unchoke.
+/// Serves the peers of these keys and no others, and sends a choke or an unchoke to each for which that changes.
 fn serve(peers: &mut [Peer], served: &[PeerKey], send: &mut Vec<(PeerKey, Frame)>)
     requires { vec_len send.old + length peers.old ≤ vec_capacity send.old }
     ensures peers { peers.new ≡ map (served_peer served.now) peers.old }
     ensures sent { (book : BookState) → send.new.items
         ≡ send.old.items ++ flat_map (served_sent book served.now) peers.old }
-    ensures len { vec_len send.new ≤ vec_len send.old + length peers.old }
+    ensures few { vec_len send.new ≤ vec_len send.old + length peers.old }
     ensures capacity { vec_capacity send.old ≤ vec_capacity send.new }
 {
     for peer in peers.iter_mut() {

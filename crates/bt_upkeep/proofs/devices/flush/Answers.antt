@@ -1,8 +1,6 @@
-use Rattle.std.proofs.Common.{List, sym, ap, ◌∙◌, subst}
+use Rattle.std.proofs.Common.{◌∙◌}
 use Rattle.std.proofs.lemmas.List.{with_items_is}
 use Rattle.std.specs.Vec.{with_items}
-use Rattle.bt_state.specs.declared.slot.Slot.{Slot}
-use Rattle.bt_upkeep.specs.DevicesSteps.{SyncsSlots, without_disk}
 use Rattle.bt_upkeep.proofs.SlotTies.{flushed, tied_kept, synced_as}
 use Rattle.bt_upkeep.proofs.devices.flush.Goals as goal
 

@@ -1,5 +1,4 @@
-use Rattle.std.proofs.Common.{Err, Ok, ap, refl, ◌∙◌, ◌∷◌, [], Some, Result, subst}
-use Rattle.bt_disk.specs.Calls.{HasCalls, sync_call}
+use Rattle.std.proofs.Common.{ap, Some}
 use Rattle.bt_store.specs.FileStore.{StoreView}
 use Rattle.bt_upkeep.specs.DevicesSteps.{syncs}
 use Rattle.bt_upkeep.proofs.devices.sync_slot.Goals as goal

@@ -1,6 +1,6 @@
-use Rattle.std.proofs.Common.{◌≡◌, ◌<◌, length, arith, sym, subst, Result, Ok, Err}
+use Rattle.std.proofs.Common.{arith, sym, subst, Ok, Err}
 use Rattle.bt_state.proofs.Lists.{get_read}
-use Rattle.bt_upkeep.specs.DevicesSteps.{SyncsSlot, SyncsSlots}
+use Rattle.bt_upkeep.specs.DevicesSteps.{SyncsSlot}
 use Rattle.bt_upkeep.proofs.Flushes.{one_synced, all_synced, failed_so}
 use Rattle.bt_upkeep.proofs.devices.sync_slots.Goals as goal
 

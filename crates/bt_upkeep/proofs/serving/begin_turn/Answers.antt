@@ -1,4 +1,4 @@
-use Rattle.std.proofs.Common.{List, ◌+◌, ◌%◌, ◌^◌, ◌++◌, map, refl, sym, ap, ◌∙◌}
+use Rattle.std.proofs.Common.{List, ◌+◌, ◌%◌, ◌^◌, ◌++◌, map, refl, ap, ◌∙◌}
 use Rattle.std.proofs.lemmas.List.{with_items_is}
 use Rattle.std.specs.Prelude.{flat_map}
 use Rattle.std.specs.Vec.{with_items}
@@ -29,4 +29,4 @@ returns-clause-tied g c =
     let served = c.args.served.now in
     let items = with_items_is old.peers c.serve.new.peers (c.serve.auto.peers ∙ c.deref_mut.ensures.len)
     ∙ c.serve.ensures.peers ∙ ap (map (served_peer served)) c.deref_mut.ensures.value in
-    turn_tied old served c.requires.tied c.requires.choice (record old { peers = with_items old.peers c.serve.new.peers; turn = (old.turn + 1) % 2 ^ 64 }) items c.requires.tied.room
+    turn_tied old served c.requires.tied c.requires.choice (record old { peers = with_items old.peers c.serve.new.peers; turn = _ }) items c.requires.tied.room

@@ -1,4 +1,4 @@
-use Rattle.std.proofs.Common.{◌<◌, length, set, arith, sym, ap, ◌∙◌, subst}
+use Rattle.std.proofs.Common.{set, arith, sym, ap, ◌∙◌}
 use Rattle.std.proofs.lemmas.List.Edits.{map_over_more}
 use Rattle.bt_upkeep.specs.ServingSteps.{served_peer}
 use Rattle.bt_upkeep.proofs.Servings.{told_this, told_nothing}
@@ -21,14 +21,14 @@ loop-peer-preserved c =
         peers = w.peers-is ∙ same;
         sent = λ book. rw w.send-is (w.push_reserved.ensures.items ∙ told_this book served peers now i p lt so_far.peers c.peer-item.is c.args.send.now.items c.loop-peer.send.items
             (so_far.sent book) c.serve_peer.result (c.serve_peer.ensures.told book) w.in-Some.message c.serve_peer.new.peer w.in-Some.is c.serve_peer.ensures.peer);
-        len = rw w.send-is (omega (arith, so_far.len, w.push_reserved.ensures.len));
+        few = rw w.send-is (omega (arith, so_far.few, w.push_reserved.ensures.len));
         capacity = rw w.send-is (omega (arith, so_far.capacity, w.push_reserved.ensures.capacity));
       }
       | in_default w ↦ record {
         peers = w.peers-is ∙ same;
         sent = λ book. rw w.send-is (told_nothing book served peers now i p lt so_far.peers c.peer-item.is c.args.send.now.items c.loop-peer.send.items
             (so_far.sent book) c.serve_peer.result (c.serve_peer.ensures.told book) w.in_default.is);
-        len = rw w.send-is (omega (arith, so_far.len));
+        few = rw w.send-is (omega (arith, so_far.few));
         capacity = rw w.send-is so_far.capacity;
       }
     ]

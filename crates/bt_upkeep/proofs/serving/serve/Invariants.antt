@@ -9,6 +9,6 @@ abbrev pub invariant-loop-peer : goal.invariant-loop-peer
 invariant-loop-peer l = record {
   peers : l.peers ≡ map (served_peer l.served) (take l.peer-index l.fn.peers) ++ drop l.peer-index l.fn.peers;
   sent : (book : BookState) → l.send.items ≡ l.fn.send.items ++ flat_map (served_sent book l.served) (take l.peer-index l.fn.peers);
-  len : vec_len l.send ≤ vec_len l.fn.send + l.peer-index;
+  few : vec_len l.send ≤ vec_len l.fn.send + l.peer-index;
   capacity : vec_capacity l.fn.send ≤ vec_capacity l.send;
 }
