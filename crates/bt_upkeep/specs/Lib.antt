@@ -1,0 +1,3 @@
+pub mod DevicesSteps
+pub mod ServingSteps
+pub mod StandIn

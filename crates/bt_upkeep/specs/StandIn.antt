@@ -1,0 +1,13 @@
+use Rattle.std.specs.Prelude.{◌≡◌, ℕ, List, ◌++◌}
+use Rattle.bt_machine.specs.State.{EngineState}
+use Rattle.bt_machine.specs.Output.{Sent}
+use Rattle.bt_machine.specs.FollowUp.{FollowsUp}
+
+abbrev pub max_frames : ℕ
+max_frames = 18
+
+pub record SendsFollowUp (dig : List ℕ → List ℕ) (s : EngineState) (i : ℕ) (before after : List Sent)
+    (new : EngineState) : Type 0 where
+  pub sent : List Sent
+  pub follows : FollowsUp dig s i sent new
+  pub behind : after ≡ before ++ sent
