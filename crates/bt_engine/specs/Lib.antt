@@ -1,7 +1,6 @@
 pub mod View
 pub mod Kept
 pub mod NewsSteps
-pub mod StandIn
 pub mod RoomSteps
 pub mod EventSteps
 pub mod NextSteps

@@ -4,8 +4,9 @@ use Rattle.bt_wire.specs.declared.message.Message.{Message as Sent}
 use Rattle.bt_wire.specs.declared.message.Message.TheVariants.{Request, Piece, Hashes}
 use Rattle.bt_wire.specs.declared.event.WireEvent.{WireEvent}
 use Rattle.bt_wire.specs.declared.event.WireEvent.TheVariants.{Message}
+use Rattle.bt_follow_up.specs.AfterEvent.{max_frames}
 use Rattle.bt_state.specs.declared.parts.Parts.{Parts}
-use Rattle.bt_engine.specs.StandIn.{IsNoteRoom}
+use Rattle.bt_wire_events.specs.Hashes.{IsNoteRoom}
 use Rattle.bt_engine.specs.declared.room.Room.{Room}
 
 -- a message has so many notes at most: hashes as many as blocks may have waited for them
@@ -24,5 +25,5 @@ IsNoteBound parts _ bound = bound ≡ 0
 pub record HasRoom (bound peers : ℕ) (room : Room) : Type 0 where
   pub nothing_sent : room.send.items ≡ []
   pub nothing_noted : room.notes.items ≡ []
-  pub send_room : bound * peers + 19 ≤ vec_capacity room.send
+  pub send_room : bound * peers + 1 + max_frames ≤ vec_capacity room.send
   pub note_room : bound + bound ≤ vec_capacity room.notes

@@ -2,31 +2,29 @@
 ghost use Rattle.std.specs.Prelude.{◌≡◌, ◌+◌, ◌≤◌, ◌<◌, ◌++◌, ℕ, Some, IfOk, IfErr, length, slice_get, vec_len, vec_capacity};
 ghost use Rattle.bt_machine.specs.State.{EngineState, PeerState};
 ghost use Rattle.bt_machine.specs.Devices.{DeviceCalls, HaveCalls};
-ghost use Rattle.bt_machine.specs.Law.{AreRooted};
 ghost use Rattle.bt_machine.specs.Next.{without_peer};
 ghost use Rattle.bt_machine.specs.Orderly.{IsOrderly};
 ghost use Rattle.bt_machine.specs.Shape.{IsShaped};
 ghost use Rattle.bt_state.specs.Parts.{state_of, disks_of};
 ghost use Rattle.bt_state.specs.Ties.{IsTied};
 ghost use Rattle.bt_wire_events.specs.Message.{IsPeerEvent};
-ghost use Rattle.bt_engine.specs.StandIn.{IsNoteRoom};
+ghost use Rattle.bt_wire_events.specs.Hashes.{IsNoteRoom};
 ghost use Rattle.bt_engine.specs.NewsSteps.{TellMarks};
 ghost use Rattle.bt_engine.specs.RoomSteps.{IsNoteBound, HasRoom};
 ghost use Rattle.bt_engine.specs.EventSteps.{sent_by, notes_in, note_count, reply_count, IsHandled, FollowsReply, GoesOn, closed_output};
 
 use crate::news::{announce_pieces, note_complete_files};
 use crate::room::{Room, reserve};
-use crate::stand_in::{
-    Effect, Learnt, Served, follow_up, take_hash_request, take_hashes, take_piece, take_request,
-};
+use bt_block_events::{Effect, Served, take_piece, take_request};
 use bt_book::PeerKey;
 use bt_disk::Disk;
+use bt_follow_up::follow_up;
+use bt_hashreq::HashKey;
 use bt_machine::{Frame, Note, Output, Why};
 use bt_state::Parts;
 use bt_tree::NodeHash;
-use bt_hashreq::HashKey;
 use bt_wire::{Ask, Bytes, Message, WireEvent};
-use bt_wire_events::take_peer_event;
+use bt_wire_events::{Learnt, take_hash_request, take_hashes, take_peer_event};
 use std::alloc::{AllocError, Global};
 
 /// What a wire event comes to by itself, where its peer stays.
@@ -59,7 +57,6 @@ pub(crate) fn take_event<D: Disk + Drop, H: NodeHash>(
     requires tied { IsTied parts.old }
     requires shaped { IsShaped parts.old.torrent (state_of parts.old) }
     requires orderly { IsOrderly (state_of parts.old) }
-    requires rooted { AreRooted H.digest (state_of parts.old) }
     requires inside { index < vec_len parts.old.peers }
     requires there { index < length parts.old.peers.items }
     ensures step { IfOk result (λ out. (calls : DeviceCalls)
@@ -124,8 +121,6 @@ fn keep<D: Disk + Drop, H: NodeHash>(
 ) -> Output
     requires tied { IsTied parts.old }
     requires shaped { IsShaped parts.old.torrent (state_of parts.old) }
-    requires orderly { IsOrderly (state_of parts.old) }
-    requires rooted { AreRooted H.digest (state_of parts.old) }
     requires inside { index < vec_len parts.old.peers }
     requires there { index < length parts.old.peers.items }
     requires told { (old : EngineState) × TellMarks old (state_of parts.old) (notes_in reply) }

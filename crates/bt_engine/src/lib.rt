@@ -7,7 +7,6 @@ mod event;
 mod news;
 mod next;
 mod room;
-mod stand_in;
 
 pub use bt_book::PeerKey;
 pub use bt_machine::{ConnectError, EngineError, FileReport};

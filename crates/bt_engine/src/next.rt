@@ -2,7 +2,6 @@
 ghost use Rattle.std.specs.Prelude.{◌≡◌, ◌<◌, IfOk, IfErr, length, vec_len};
 ghost use Rattle.bt_wire.specs.Cutter.{IsAnswer, IsRefusal};
 ghost use Rattle.bt_machine.specs.Devices.{DeviceCalls, HaveCalls};
-ghost use Rattle.bt_machine.specs.Law.{AreRooted};
 ghost use Rattle.bt_machine.specs.Next.{StepNext};
 ghost use Rattle.bt_machine.specs.Orderly.{IsOrderly};
 ghost use Rattle.bt_machine.specs.Shape.{IsShaped};
@@ -30,7 +29,6 @@ pub(crate) fn next<D: Disk + Drop, H: NodeHash>(
     requires tied { IsTied parts.old }
     requires shaped { IsShaped parts.old.torrent (state_of parts.old) }
     requires orderly { IsOrderly (state_of parts.old) }
-    requires rooted { AreRooted H.digest (state_of parts.old) }
     ensures step { (calls : DeviceCalls)
         × HaveCalls D.history D.honest D.faults (disks_of parts.old) calls (disks_of parts.new)
         × StepNext H.digest (state_of parts.old) key calls result (state_of parts.new) }

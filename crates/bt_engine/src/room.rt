@@ -1,17 +1,18 @@
 //! Room for what a wire event sends and notes. It is made before the event changes anything.
 ghost use Rattle.std.specs.Prelude.{◌^◌, ◌≤◌, ℕ, IfOk, length};
 ghost use Rattle.bt_machine.specs.Orderly.{IsOrderly};
+ghost use Rattle.bt_machine.specs.Shape.{IsShaped};
 ghost use Rattle.bt_state.specs.Parts.{state_of};
 ghost use Rattle.bt_state.specs.Ties.{IsTied};
 ghost use Rattle.bt_engine.specs.RoomSteps.{IsNoteBound, HasRoom};
 
-use crate::stand_in::room_for_notes;
 use bt_book::PeerKey;
 use bt_disk::Disk;
 use bt_machine::{Frame, Note};
 use bt_state::Parts;
 use bt_tree::NodeHash;
 use bt_wire::{Message, WireEvent};
+use bt_wire_events::room_for_notes;
 use std::alloc::{AllocError, Global};
 
 /// How many frames follow an event for its peer at most: our interest, a hash request and 16 requests.
@@ -32,6 +33,7 @@ pub(crate) fn reserve<D: Disk + Drop, H: NodeHash>(
     event: &WireEvent,
 ) -> Result<Room, AllocError>
     requires tied { IsTied parts.now }
+    requires shaped { IsShaped parts.now.torrent (state_of parts.now) }
     requires orderly { IsOrderly (state_of parts.now) }
     ensures { IfOk result (λ room. (bound : ℕ) × IsNoteBound parts.now event.now bound
         × HasRoom bound (length parts.now.peers.items) room) }
@@ -45,7 +47,8 @@ pub(crate) fn reserve<D: Disk + Drop, H: NodeHash>(
 
 /// How many notes the event has at most, without those of complete files.
 fn note_bound<D: Disk + Drop, H: NodeHash>(parts: &Parts<D, H>, event: &WireEvent) -> usize
-    requires { IsTied parts.now }
+    requires tied { IsTied parts.now }
+    requires shaped { IsShaped parts.now.torrent (state_of parts.now) }
     ensures bound { IsNoteBound parts.now event.now result }
     ensures small { result ≤ 2 ^ 26 }
 {

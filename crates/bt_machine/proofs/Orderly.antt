@@ -310,7 +310,7 @@ module _ (dig : Digest) where
       → IsOrderly (with_peer s i (record p { stream = rest }))
   stream_order {p} i rest at running o = changed at (replaced (record p { stream = rest }) refl refl refl refl (λ r. running)) o
 
-  pub event_order : {s : EngineState} {mid p : _} (i e calls effect : _) → slice_get s.peers i ≡ Some p → Handles dig s i p e calls effect mid
+  event_order : {s : EngineState} {mid p : _} (i e calls effect : _) → slice_get s.peers i ≡ Some p → Handles dig s i p e calls effect mid
       → IsOrderly s → IsOrderly mid
   event_order {p} i e calls effect at handles o =
       changed at (event_change e calls effect at (o.each p (contains_some _ i at)).pieces handles) o

@@ -145,10 +145,6 @@ group_rooted dig k grown from old new reads adopted a r = (adopt_extends dig k g
 pub step_rooted : (dig : Digest) → StepKeepsRooted dig
 step_rooted dig s new event calls answer = step_trees dig (IsRooted dig) (key_rooted dig) (group_rooted dig) s new event calls answer
 
--- also a wire event by itself
-pub event_rooted : (dig : Digest) (s mid : EngineState) (i p e calls effect : _) → Handles dig s i p e calls effect mid → AreRooted dig s → AreRooted dig mid
-event_rooted dig = event_keep dig (IsRooted dig) (key_rooted dig) (group_rooted dig)
-
 pub run_rooted : (dig : Digest) (s new es calls answers : _) → Run dig s es calls answers new → AreRooted dig s → AreRooted dig new
 run_rooted dig = run_trees dig (IsRooted dig) (key_rooted dig) (group_rooted dig)
 
