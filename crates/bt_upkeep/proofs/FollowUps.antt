@@ -13,7 +13,7 @@ use Rattle.bt_state.specs.Ties.{IsTied}
 use Rattle.bt_state.specs.declared.peer.Peer.{Peer}
 use Rattle.bt_state.specs.declared.parts.Parts.{Parts}
 use Rattle.bt_upkeep.specs.ServingSteps.{SendsAllFollowUps}
-use Rattle.bt_upkeep.specs.StandIn.{SendsFollowUp}
+use Rattle.bt_follow_up.specs.AfterEvent.{SendsFollowUp}
 
 module _ (dig : List ℕ → List ℕ) where
   each_more : (is : List ℕ) (i : ℕ) (s mid next : EngineState) (sent one : List Sent) → FollowsEach dig is s sent mid → FollowsUp dig mid i one next
