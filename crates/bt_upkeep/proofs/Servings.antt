@@ -1,5 +1,5 @@
 -- Peers that are served or not, one after the other.
-use Rattle.bt_machine.proofs.Base.{[], ◌≡◌, ℕ, ◌+◌, ◌<◌, List, ◌∷◌, ◌++◌, length, map, flat_map, take, drop, get_or, Option, Some, None, length-map, length-take, append-nil, refl, sym, ap, ◌∙◌, arith, PeerKey}
+use Rattle.bt_machine.proofs.Base.{[], ◌≡◌, ℕ, ◌+◌, ◌<◌, List, ◌∷◌, ◌++◌, length, map, flat_map, take, drop, get_or, Option, Some, None, length-map, length-take, append-nil, sym, ap, ◌∙◌, arith, PeerKey}
 use Rattle.std.proofs.Common.{append_assoc}
 use Rattle.std.proofs.lemmas.List.{take_more, drop_more, get_or_at}
 use Rattle.std.proofs.lemmas.Grind.{flat_map-append}
