@@ -1,18 +1,18 @@
 -- Slots whose devices are synced, one after the other.
-use Rattle.bt_machine.proofs.Base.{[], ◌≡◌, ℕ, zero, suc, ◌+◌, ◌-◌, ◌<◌, ◌≤◌, Bool, true, false, not, ◌==◌, cond, List, ◌∷◌, ◌++◌, length, map, filter, Option, Some, None, option_map_or, option_map, slice_get, slice_set, Result, Ok, Err, refl, sym, ap, ◌∙◌, subst, arith, range_with_len, filter-append, append-nil, length-map, History, Call, BlockState}
+use Rattle.bt_machine.proofs.Base.{[], ◌≡◌, ℕ, suc, ◌+◌, ◌-◌, ◌<◌, ◌≤◌, Bool, true, false, not, ◌==◌, cond, List, ◌∷◌, ◌++◌, length, map, filter, Option, Some, None, option_map_or, option_map, slice_get, slice_set, Result, Ok, Err, refl, sym, ap, ◌∙◌, subst, arith, range_with_len, filter-append, append-nil, length-map, History, Call}
 use Rattle.std.specs.Prelude.{IsErr}
 use Rattle.std.proofs.lemmas.Bool.{ne_eqb}
 use Rattle.std.proofs.lemmas.List.{map-append}
-use Rattle.bt_disk.specs.Calls.{HasCalls, sync_call}
+use Rattle.bt_disk.specs.Calls.{HasCalls}
 use Rattle.bt_store.proofs.Reviews.{range_split}
 use Rattle.bt_store.specs.FileStore.{StoreView}
 use Rattle.bt_machine.proofs.Lists.{set_id, set_other, some_below}
 use Rattle.bt_machine.proofs.Shape.{map_set as map_stays}
 use Rattle.bt_machine.specs.declared.error.FlushError.{FlushError}
 use Rattle.bt_machine.specs.declared.error.FlushError.TheVariants.{Device}
-use Rattle.bt_machine.specs.State.{EngineState, FileState}
+use Rattle.bt_machine.specs.State.{FileState}
 use Rattle.bt_machine.specs.Devices.{DeviceCalls, HaveCalls}
-use Rattle.bt_machine.specs.Flush.{StepFlush, syncs as all_made, fails, syncs_of}
+use Rattle.bt_machine.specs.Flush.{syncs as all_made, fails, syncs_of}
 use Rattle.bt_state.specs.Parts.{file_of, disk_of}
 use Rattle.bt_state.specs.declared.slot.Slot.{Slot}
 use Rattle.bt_state.proofs.DeviceCalls.{have_none, have_then}

@@ -1,9 +1,9 @@
 -- What follows for peers, one after the other.
-use Rattle.bt_machine.proofs.Base.{[], ◌≡◌, ℕ, suc, ◌+◌, ◌-◌, ◌*◌, ◌<◌, ◌≤◌, List, ◌∷◌, ◌++◌, length, map, slice_set, range_with_len, append-nil, length-map, refl, sym, ap, ◌∙◌, arith, subst, Metainfo, Ok, None}
+use Rattle.bt_machine.proofs.Base.{[], ◌≡◌, ℕ, ◌+◌, List, ◌∷◌, ◌++◌, length, map, range_with_len, append-nil, length-map, refl, sym, ap, ◌∙◌, arith, subst, Metainfo, Ok, None}
 use Rattle.std.proofs.Common.{append_assoc}
 use Rattle.bt_store.proofs.Reviews.{range_split}
 use Rattle.bt_machine.specs.Output.{Sent, Output}
-use Rattle.bt_machine.specs.State.{PeerState, EngineState}
+use Rattle.bt_machine.specs.State.{EngineState}
 use Rattle.bt_machine.specs.Shape.{IsShaped}
 use Rattle.bt_machine.specs.FollowUp.{FollowsUp}
 use Rattle.bt_machine.specs.Rechoke.{FollowsEach, rechoked, rechoked_peer, chokes_sent, StepRechoke, rechokes}
@@ -13,7 +13,7 @@ use Rattle.bt_state.specs.Ties.{IsTied}
 use Rattle.bt_state.specs.declared.peer.Peer.{Peer}
 use Rattle.bt_state.specs.declared.parts.Parts.{Parts}
 use Rattle.bt_upkeep.specs.ServingSteps.{SendsAllFollowUps}
-use Rattle.bt_upkeep.specs.StandIn.{SendsFollowUp}
+use Rattle.bt_follow_up.specs.AfterEvent.{SendsFollowUp}
 
 module _ (dig : List ℕ → List ℕ) where
   each_more : (is : List ℕ) (i : ℕ) (s mid next : EngineState) (sent one : List Sent) → FollowsEach dig is s sent mid → FollowsUp dig mid i one next

@@ -1,18 +1,16 @@
 -- The parts of an engine of which only devices changed.
 use Rattle.bt_machine.proofs.Base.{◌≡◌, ℕ, List, [], ◌∷◌, length, map, Option, Some, None, option_map, option_map_or, slice_get, refl, sym, ap, ◌∙◌, BlockState, length-map, subst, History, Result}
-use Rattle.std.proofs.lemmas.Simd.{map-map}
 use Rattle.bt_meta.specs.Files.{File}
 use Rattle.bt_sparse.specs.SparseTree.{Facts}
-use Rattle.bt_book.specs.declared.names.BlockId.{BlockId}
 use Rattle.bt_store.specs.FileStore.{StoreView}
-use Rattle.bt_machine.proofs.Lists.{get_map, map_some, some_is}
+use Rattle.bt_machine.proofs.Lists.{get_map, map_some}
 use Rattle.bt_machine.specs.State.{EngineState, FileState}
 use Rattle.bt_machine.specs.Blocks.{state_at}
 use Rattle.bt_machine.specs.declared.error.FlushError.{FlushError}
 use Rattle.bt_machine.specs.Devices.{DeviceCalls, HaveCalls}
 use Rattle.bt_machine.specs.Flush.{StepFlush}
 use Rattle.bt_state.specs.Parts.{state_of, file_of, disks_of}
-use Rattle.bt_state.specs.Ties.{IsTied, FitsFile, FitsTree, AreUnmarked}
+use Rattle.bt_state.specs.Ties.{IsTied, FitsFile, AreUnmarked}
 use Rattle.bt_state.specs.declared.slot.Slot.{Slot}
 use Rattle.bt_state.specs.declared.parts.Parts.{Parts}
 use Rattle.bt_state.proofs.Lists.{get_mapped}

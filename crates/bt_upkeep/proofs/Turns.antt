@@ -1,5 +1,5 @@
 -- The parts of an engine at the beginning of a turn.
-use Rattle.bt_machine.proofs.Base.{[], ◌≡◌, ◌≢◌, ℕ, suc, ◌+◌, ◌<◌, ◌≤◌, Bool, not, List, ◌∷◌, ◌++◌, map, flat_map, Some, slice_get, Contains, refl, sym, ap, ◌∙◌, arith, PeerKey, max_peers}
+use Rattle.bt_machine.proofs.Base.{[], ◌≡◌, ◌≢◌, ℕ, suc, ◌<◌, ◌≤◌, Bool, not, List, ◌∷◌, ◌++◌, map, flat_map, Some, slice_get, refl, sym, ap, ◌∙◌, arith, PeerKey, max_peers}
 use Rattle.std.specs.Vec.{vec_capacity}
 use Rattle.std.proofs.lemmas.Simd.{map-map}
 use Rattle.std.proofs.lemmas.List.Folds.{flat_map-map}
@@ -9,7 +9,7 @@ use Rattle.bt_book.specs.declared.choking.Standing.{Standing}
 use Rattle.bt_machine.proofs.Lists.{map_contains}
 use Rattle.bt_machine.proofs.Pairs.{to_pairs, from_pairs, pairs_map, contains_some}
 use Rattle.bt_machine.specs.Output.{Sent}
-use Rattle.bt_machine.specs.State.{PeerState, EngineState}
+use Rattle.bt_machine.specs.State.{PeerState}
 use Rattle.bt_machine.specs.Rechoke.{standing_of, is_served as serves, rechoked_peer, rechoked, next_turn, choking_sent, chokes_sent}
 use Rattle.bt_state.specs.Parts.{state_of, peer_of}
 use Rattle.bt_state.specs.Ties.{IsTied}
@@ -43,11 +43,17 @@ module _ {D H : Type 0} (old : Parts D H) (served : List PeerKey) (tied : IsTied
       is_same (map standing_of (state_of old).peers) old.turn served (rw same (own_keys old.peers.items tied.in_order)) choice (standing_at p)
       (rw same (map_contains standing_at old.peers.items (contains_some old.peers.items j here)))
 
-  pub sent_alike : flat_map (served_sent old.book served) old.peers.items ≡ chokes_sent (state_of old)
+  sent_alike : flat_map (served_sent old.book served) old.peers.items ≡ chokes_sent (state_of old)
   sent_alike =
       flat_agree (λ p. choking_sent (peer_of old.book p) p.am_choking (serves (state_of old) (peer_of old.book p))) (served_sent old.book served) old.peers.items
       (λ j p here. ap (choking_sent (peer_of old.book p) p.am_choking) (served_alike j p here))
       ∙ sym (flat_map-map (λ p. choking_sent p p.am_choking (serves (state_of old) p)) (peer_of old.book) old.peers.items)
+
+  -- the peers as they were passed, and what was sent behind the frames before
+  pub sent_begun : {passed : List Peer} (before after : List Sent) → passed ≡ old.peers.items
+      → after ≡ before ++ flat_map (served_sent old.book served) passed → after ≡ before ++ chokes_sent (state_of old)
+  sent_begun before after is sent =
+      sent ∙ ap (λ (peers : List Peer). before ++ flat_map (served_sent old.book served) peers) is ∙ ap (λ xs. before ++ xs) sent_alike
 
   peers_alike : map (peer_of old.book) (map (served_peer served) old.peers.items) ≡ map (rechoked_peer (state_of old)) (state_of old).peers
   peers_alike =

@@ -1,3 +1,2 @@
 pub mod DevicesSteps
 pub mod ServingSteps
-pub mod StandIn

@@ -1,11 +1,13 @@
 -- Who is served, by the keys of the peers that are chosen.
-use Rattle.std.specs.Prelude.{◌≡◌, ℕ, ◌==◌, Bool, not, List, ◌++◌, length}
+use Rattle.std.specs.Prelude.{[], ◌≡◌, ℕ, ◌==◌, Bool, not, List, ◌∷◌, ◌++◌, length, Option}
 use Rattle.std.specs.List.{list_any, range_with_len}
+use Rattle.std.specs.Option.{option_map_or}
 use Rattle.bt_book.specs.Book.{BookState}
 use Rattle.bt_book.specs.declared.names.PeerKey.{PeerKey}
 use Rattle.bt_book.specs.declared.choking.Standing.{Standing}
-use Rattle.bt_machine.specs.State.{EngineState}
-use Rattle.bt_machine.specs.Output.{Sent}
+use Rattle.bt_wire.specs.declared.message.Message.{Message}
+use Rattle.bt_machine.specs.State.{PeerState, EngineState}
+use Rattle.bt_machine.specs.Output.{Sent, sent_to}
 use Rattle.bt_machine.specs.Rechoke.{choking_sent, FollowsEach}
 use Rattle.bt_state.specs.Parts.{peer_of}
 use Rattle.bt_state.specs.declared.peer.Peer.{Peer}
@@ -24,6 +26,10 @@ served_peer served p = record p { am_choking = not (is_served served p); payload
 -- what it is sent where that changes
 abbrev pub served_sent : BookState → List PeerKey → Peer → List Sent
 served_sent book served p = choking_sent (peer_of book p) p.am_choking (is_served served p)
+
+-- the message is sent to the peer, where there is one
+abbrev pub message_sent : PeerState → Option Message → List Sent
+message_sent p message = option_map_or (λ m. sent_to p m ∷ []) message []
 
 -- what follows for each peer is sent behind the frames before, in the order of keys
 pub record SendsAllFollowUps (dig : List ℕ → List ℕ) (s : EngineState) (before after : List Sent)

@@ -4,7 +4,6 @@
 
 mod devices;
 mod serving;
-mod stand_in;
 
 pub use devices::flush;
 pub use serving::rechoke;

@@ -8,13 +8,12 @@ ghost use Rattle.bt_machine.specs.Shape.{IsShaped};
 ghost use Rattle.bt_machine.specs.State.{PeerState};
 ghost use Rattle.bt_state.specs.Parts.{state_of, disks_of, peer_of};
 ghost use Rattle.bt_state.specs.Ties.{IsTied};
-ghost use Rattle.bt_follow_up.specs.Interest.{sent_if};
-ghost use Rattle.bt_upkeep.specs.ServingSteps.{standing_at, is_served, served_peer, served_sent, SendsAllFollowUps};
-ghost use Rattle.bt_upkeep.specs.StandIn.{max_frames};
+ghost use Rattle.bt_follow_up.specs.AfterEvent.{max_frames};
+ghost use Rattle.bt_upkeep.specs.ServingSteps.{standing_at, is_served, served_peer, served_sent, message_sent, SendsAllFollowUps};
 
-use crate::stand_in::follow_up;
 use bt_book::{PeerKey, Standing, choose};
 use bt_disk::Disk;
+use bt_follow_up::follow_up;
 use bt_machine::{Frame, Output};
 use bt_state::{Parts, Peer};
 use bt_tree::NodeHash;
@@ -106,7 +105,7 @@ fn serve(peers: &mut [Peer], served: &[PeerKey], send: &mut Vec<(PeerKey, Frame)
 /// Serves the peer or not, and gives what it is to be told, where that has changed.
 fn serve_peer(peer: &mut Peer, served: &[PeerKey]) -> Option<Message>
     ensures peer { peer.new ≡ served_peer served.now peer.old }
-    ensures told { (book : BookState) → sent_if (peer_of book peer.old) result
+    ensures told { (book : BookState) → message_sent (peer_of book peer.old) result
         ≡ served_sent book served.now peer.old }
 {
     let serves = is_served(served, peer);
@@ -125,7 +124,7 @@ fn is_served(served: &[PeerKey], peer: &Peer) -> bool
 
 /// What a peer is told that we choked or not, and serve now or not.
 fn change_of_choking(was_choking: bool, is_served: bool) -> Option<Message>
-    ensures { (p : PeerState) → sent_if p result ≡ choking_sent p was_choking is_served }
+    ensures { (p : PeerState) → message_sent p result ≡ choking_sent p was_choking is_served }
 {
     match (was_choking, is_served) {
         (true, true) => Some(Message::Unchoke),

@@ -1,10 +1,8 @@
-use Rattle.std.proofs.Common.{List, ◌+◌, ◌%◌, ◌^◌, ◌++◌, map, refl, ap, ◌∙◌}
+use Rattle.std.proofs.Common.{◌+◌, ◌%◌, ◌^◌, map, refl, ap, ◌∙◌}
 use Rattle.std.proofs.lemmas.List.{with_items_is}
-use Rattle.std.specs.Prelude.{flat_map}
 use Rattle.std.specs.Vec.{with_items}
-use Rattle.bt_state.specs.declared.peer.Peer.{Peer}
-use Rattle.bt_upkeep.specs.ServingSteps.{served_peer, served_sent}
-use Rattle.bt_upkeep.proofs.Turns.{turn_begun, sent_alike, turn_tied}
+use Rattle.bt_upkeep.specs.ServingSteps.{served_peer}
+use Rattle.bt_upkeep.proofs.Turns.{turn_begun, sent_begun, turn_tied}
 use Rattle.bt_upkeep.proofs.serving.begin_turn.Goals as goal
 
 pub returns-clause-state : goal.returns-clause-state
@@ -18,10 +16,7 @@ returns-clause-state g c =
 pub returns-clause-sent : goal.returns-clause-sent
 returns-clause-sent g c =
     let old = c.args.parts.now in
-    let served = c.args.served.now in
-    c.serve.ensures.sent old.book
-    ∙ ap (λ (peers : List Peer). c.args.send.now.items ++ flat_map (served_sent old.book served) peers) c.deref_mut.ensures.value
-    ∙ ap (λ sent. c.args.send.now.items ++ sent) (sent_alike old served c.requires.tied c.requires.choice)
+    sent_begun old c.args.served.now c.requires.tied c.requires.choice c.args.send.now.items c.serve.new.send.items c.deref_mut.ensures.value (c.serve.ensures.sent old.book)
 
 pub returns-clause-tied : goal.returns-clause-tied
 returns-clause-tied g c =

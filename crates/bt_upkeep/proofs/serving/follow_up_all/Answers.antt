@@ -1,4 +1,4 @@
-use Rattle.std.proofs.Common.{arith, length, sym, ap, ◌∙◌}
+use Rattle.std.proofs.Common.{arith}
 use Rattle.bt_machine.proofs.Base.{length-map}
 use Rattle.bt_state.specs.Parts.{peer_of}
 use Rattle.bt_upkeep.proofs.FollowUps.{none_followed, one_followed, all_followed}
