@@ -2,3 +2,5 @@ pub mod Keeping
 pub mod MarkNotes
 pub mod NewWholes
 pub mod Announcements
+pub mod Events
+pub mod Handled

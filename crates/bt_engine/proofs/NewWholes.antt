@@ -15,7 +15,6 @@ use Rattle.bt_machine.specs.declared.answer.Note.TheVariants.{Marked as NowMarke
 use Rattle.bt_machine.proofs.Lists.{here, later, contains_none, contains_cases, contains_filter, filter_contains, contains_map, contains_flat_map, range_limits, range_contains, and_true, some_below, get_some, some_is}
 use Rattle.bt_machine.proofs.Pairs.{Pairs, to_pairs, from_pairs, some_at, contains_some}
 use Rattle.bt_machine.proofs.Changes.{piece_is_whole}
-use Rattle.bt_follow_up.specs.Held.{LiesIn}
 use Rattle.bt_follow_up.proofs.Blocks.{stands}
 use Rattle.bt_follow_up.proofs.PieceOrder.{rises, in_torrent}
 use Rattle.bt_engine.specs.NewsSteps.{IsNotedBefore, IsUnmarked, TellMarks, marked_piece, marked_file, unless_last}
@@ -306,16 +305,17 @@ module _ {old new : EngineState} {notes : List Note} (t : TellMarks old new note
     pub has_block : (b : BlockId) → Contains notes (NowMarked b) → HasBlock new.torrent b.file b.block
     has_block b c = (let x = noted_there b c in stands new shaped b x.1)
 
-    lies : (b : BlockId) {k : ℕ} → Contains notes (NowMarked b) → piece_of new.torrent b ≡ Some k → LiesIn new.torrent b k
-    lies b c e =
-        let h = has_block b c in
-        record { has = h; is = sym (some_is (ap (option_map (λ f. f.first_piece + 16384 * b.block / new.torrent.piece_length)) (sym h.found) ∙ e)) }
+    -- the piece that it lies in, by the file that it is in
+    lies : (b : BlockId) {k : ℕ} (h : HasBlock new.torrent b.file b.block) → piece_of new.torrent b ≡ Some k
+        → k ≡ h.entry.first_piece + 16384 * b.block / new.torrent.piece_length
+    lies b h e = sym (some_is (ap (option_map (λ f. f.first_piece + 16384 * b.block / new.torrent.piece_length)) (sym h.found) ∙ e))
 
     module _ (size : IsPieceLength new.torrent.piece_length) (lay : IsLaidOut new.torrent.piece_length new.torrent.files) where
       pub piece_inside : (note : Note) (k : ℕ) → Contains notes note → marked_piece new.torrent note ≡ Some k → k < total_pieces new.torrent
       piece_inside note k c e =
           let b = piece_of_note new.torrent note e in
-          in_torrent new.torrent size lay b.0 k (lies b.0 (subst (Contains notes) b.1 c) b.2)
+          let h = has_block b.0 (subst (Contains notes) b.1 c) in
+          in_torrent new.torrent size lay b.0 k (record { has = h; is = lies b.0 h b.2 })
 
       pub whole_news : new_whole_pieces old new ≡ filter (is_whole new) (numbers_after (marked_piece new.torrent) None notes)
       whole_news =
@@ -323,7 +323,9 @@ module _ {old new : EngineState} {notes : List Note} (t : TellMarks old new note
           (rising (marked_piece new.torrent) notes (λ n c. c) (λ m n k l own theirs before e f.
           let b = piece_of_note new.torrent m e in
           let c = piece_of_note new.torrent n f in
-          rises new.torrent size lay b.0 c.0 k l (lies b.0 (subst (Contains notes) b.1 own) b.2) (lies c.0 (subst (Contains notes) c.1 theirs) c.2)
+          let h = has_block b.0 (subst (Contains notes) b.1 own) in
+          let i = has_block c.0 (subst (Contains notes) c.1 theirs) in
+          rises new.torrent size lay b.0 c.0 k l (record { has = h; is = lies b.0 h b.2 }) (record { has = i; is = lies c.0 i c.2 })
           (from_before (before b.0 c.0 b.1 c.1))) noted_before)
           (λ note k c e.
           let b = piece_of_note new.torrent note e in
