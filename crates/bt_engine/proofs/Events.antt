@@ -8,6 +8,7 @@ use Rattle.bt_machine.specs.declared.answer.Why.{Why}
 use Rattle.bt_machine.specs.declared.answer.Why.TheVariants.{Wire}
 use Rattle.bt_machine.specs.declared.answer.Note.{Note}
 use Rattle.bt_machine.specs.declared.answer.Note.TheVariants.{Complete}
+use Rattle.bt_machine.specs.declared.answer.Frame.TheVariants.{Message as message_frame}
 use Rattle.bt_machine.specs.declared.error.EngineError.{EngineError}
 use Rattle.bt_machine.specs.declared.error.EngineError.TheVariants.{NoPeer, OutOfMemory as no_room}
 use Rattle.bt_machine.specs.State.{PeerState, EngineState, Hint}
@@ -36,7 +37,7 @@ use Rattle.bt_engine.proofs.MarkNotes.{tells}
 -- what is sent to a peer is known by its key
 same_sent : (p q : PeerState) (reply : Reply) → p.key ≡ q.key → sent_by p reply ≡ sent_by q reply
 same_sent p q Nothing e = refl
-same_sent p q (Sends message) e = ap (λ k. (k, _) ∷ []) e
+same_sent p q (Sends message) e = ap {A = PeerKey} {B = List Sent} (λ k. (k, message_frame message) ∷ []) e
 same_sent p q (Noted note) e = refl
 same_sent p q (Settled notes) e = refl
 
@@ -69,6 +70,13 @@ module _ {D H : Type 0} {history : D → History} {honest : D → Type 0} {fault
       omega (arith, some_below (state_of old).peers i h.here, ap (λ (ps : List PeerState). length ps) q.1, length-set (state_of old).peers i q.0,
       length-map mid.peers.items (peer_of mid.book))
 
+  -- there are as many peers
+  pub as_many : length mid.peers.items ≡ length old.peers.items
+  as_many =
+      let q = its_peer in
+      omega (arith, ap (λ (ps : List PeerState). length ps) q.1, length-set (state_of old).peers i q.0,
+      length-map mid.peers.items (peer_of mid.book), length-map old.peers.items (peer_of old.book))
+
   pub told_then : TellMarks (state_of old) (state_of mid) (effect_of h.peer handled h.proofs).notes
   told_then = tells dig (state_of old) (state_of mid) i h.peer event h.calls (effect_of h.peer handled h.proofs) h.here orderly h.handles
 
@@ -80,17 +88,17 @@ module _ {D H : Type 0} {history : D → History} {honest : D → Type 0} {fault
     same_peer : h.peer ≡ taken
     same_peer = some_is (sym h.here ∙ ap (λ (x : EngineState). slice_get x.peers i) from.after ∙ set_same s.peers i {x = taken} from.here)
 
-    moved : {effect : Effect} → Handles dig (state_of old) i h.peer event h.calls effect (state_of mid)
+    moved : (effect : Effect) → Handles dig (state_of old) i h.peer event h.calls effect (state_of mid)
         → Handles dig (with_peer s i taken) i taken event h.calls effect (state_of mid)
-    moved {effect} handles =
+    moved effect handles =
         subst (λ x. Handles dig x i taken event h.calls effect (state_of mid)) from.after
         (subst (λ q. Handles dig (state_of old) i q event h.calls effect (state_of mid)) same_peer handles)
 
 -- the peer stays
-pub stays_on : {D H : Type 0} {history : D → History} {honest : D → Type 0} {faults : D → ℕ} {dig : List ℕ → List ℕ} {old mid new : Parts D H} {i : ℕ}
+pub stays_on : {D H : Type 0} {history : D → History} {honest : D → Type 0} {faults : D → ℕ} {dig : List ℕ → List ℕ} {old mid : Parts D H} (new : Parts D H) {i : ℕ}
     {event : WireEvent} {reply : Reply} {out : Output} (h : IsHandled history honest faults dig old i event (Stays reply) mid) → IsOrderly (state_of old)
     → FollowsReply dig (state_of mid) i reply out (state_of new) → GoesOn dig i event h.calls out (state_of old) (state_of new)
-stays_on {dig = dig} {old = old} {mid = mid} {i = i} {reply = reply} {out = out} h orderly f = λ s p from.
+stays_on {dig = dig} {old = old} {mid = mid} new {i = i} {reply = reply} {out = out} h orderly f = λ s p from.
     let q = its_peer h orderly in
     let here = ap (λ (ps : List PeerState). slice_get ps i) q.1 ∙ set_same (state_of old).peers i {x = q.0} h.here in
     let marks = same_marks i (record p { stream = from.rest }) (subst (λ x. TellMarks x (state_of mid) (notes_in reply)) from.after (told_then h orderly)) in
@@ -99,7 +107,7 @@ stays_on {dig = dig} {old = old} {mid = mid} {i = i} {reply = reply} {out = out}
       effect = effect_of h.peer (Stays reply) h.proofs;
       handled = state_of mid;
       sent = f.0;
-      takes = record { event = _; rest = from.rest; takes = from.takes; handles = moved h orderly s p from h.handles };
+      takes = record { event = _; rest = from.rest; takes = from.takes; handles = moved h orderly s p from (effect_of h.peer (Stays reply) h.proofs) h.handles };
       stays = refl;
       follows = f.1;
       send = ap (λ (o : Output). o.send) said ∙ ap (λ (xs : List Sent). xs ++ haves s (state_of mid) ++ f.0) (same_sent q.0 h.peer reply q.2);
@@ -108,14 +116,14 @@ stays_on {dig = dig} {old = old} {mid = mid} {i = i} {reply = reply} {out = out}
     })
 
 -- it is closed
-pub closes_on : {D H : Type 0} {history : D → History} {honest : D → Type 0} {faults : D → ℕ} {dig : List ℕ → List ℕ} {old mid new : Parts D H} {i : ℕ}
+pub closes_on : {D H : Type 0} {history : D → History} {honest : D → Type 0} {faults : D → ℕ} {dig : List ℕ → List ℕ} {old mid : Parts D H} (new : Parts D H) {i : ℕ}
     {event : WireEvent} {why : Why} {out : Output} (h : IsHandled history honest faults dig old i event (Closed why) mid) → IsOrderly (state_of old)
     → out ≡ closed_output why → state_of new ≡ without_peer i (state_of mid) → GoesOn dig i event h.calls out (state_of old) (state_of new)
-closes_on {mid = mid} {why = why} h orderly said gone = λ s p from. inr (record {
+closes_on {mid = mid} new {why = why} h orderly said gone = λ s p from. inr (record {
   effect = effect_of h.peer (Closed why) h.proofs;
   handled = state_of mid;
   why = why;
-  takes = record { event = _; rest = from.rest; takes = from.takes; handles = moved h orderly s p from h.handles };
+  takes = record { event = _; rest = from.rest; takes = from.takes; handles = moved h orderly s p from (effect_of h.peer (Closed why) h.proofs) h.handles };
   closed = refl;
   is = said;
   after = gone;
@@ -137,63 +145,67 @@ shows_fault BadLength memory running r = r
 shows_fault OutOfMemory memory running r = absurd (memory refl)
 shows_fault Failed memory running r = absurd (let f = r.0 in cc)
 
-module _ {dig : List ℕ → List ℕ} {s t new : EngineState} {key : PeerKey} {i : ℕ} {p : PeerState} (is : IsPeer s key i p) where
-  module _ {cuts : Stream → Stream → Type 0} (c : IsCut s i cuts t) where
+module _ {s : EngineState} {key : PeerKey} {i : ℕ} {p : PeerState} (is : IsPeer s key i p) where
+  module _ {t : EngineState} {cuts : Stream → Stream → Type 0} (c : IsCut s i cuts t) where
     same : c.peer ≡ p
     same = some_is (sym c.here ∙ is.here)
-
-    abbrev rest_of : PeerState
-    rest_of = record p { stream = c.rest }
 
     cut_of : cuts p.stream c.rest
     cut_of = subst (λ (q : PeerState). cuts q.stream c.rest) same c.cut
 
-    after_of : t ≡ with_peer s i rest_of
+    after_of : t ≡ with_peer s i (record p { stream = c.rest })
     after_of = c.after ∙ ap (λ (q : PeerState). with_peer s i (record q { stream = c.rest })) same
 
-    gone_of : new ≡ without_peer i t → new ≡ without_peer i s
-    gone_of gone = gone ∙ ap (without_peer i) after_of ∙ gone_alike s i rest_of
+    gone_of : (new : EngineState) → new ≡ without_peer i t → new ≡ without_peer i s
+    gone_of new gone = gone ∙ ap (λ (x : EngineState). without_peer i x) after_of ∙ gone_alike s i (record p { stream = c.rest })
 
-  -- no event has come whole
-  pub waits_so : IsCut s i (λ was now. IsAnswer was None now) t → new ≡ t → StepNext dig s key [] (Ok None) new
-  waits_so c stays =
-      let w = cut_of c in
-      waits i p is w.0 refl refl
-      (stays ∙ after_of c ∙ ap (λ (x : Stream). with_peer s i (record p { stream = x })) w.1
-      ∙ ap (λ (ps : List PeerState). record s { peers = ps }) (set_id s.peers i is.here))
+  module _ (dig : List ℕ → List ℕ) {t : EngineState} (new : EngineState) where
+    -- no event has come whole
+    pub waits_so : IsCut s i (λ was now. IsAnswer was None now) t → new ≡ t → StepNext dig s key [] (Ok None) new
+    waits_so c stays =
+        let w = cut_of c in
+        waits i p is w.0 refl refl
+        (stays ∙ after_of c ∙ ap (λ (x : Stream). with_peer s i (record p { stream = x })) w.1
+        ∙ ap (λ (ps : List PeerState). record s { peers = ps }) (set_id s.peers i is.here))
 
-  -- one has come
-  pub taken_from : {event : WireEvent} → IsCut s i (λ was now. IsAnswer was (Some event) now) t → IsTakenFrom s i p event t
-  taken_from c = record { rest = c.rest; here = is.here; takes = cut_of c; after = after_of c }
+    -- one has come
+    pub goes_so : {event : WireEvent} {calls : DeviceCalls} {out : Output} → IsCut s i (λ was now. IsAnswer was (Some event) now) t
+        → GoesOn dig i event calls out t new → StepNext dig s key calls (Ok (Some out)) new
+    goes_so {out = out} c on = elim (on s p (record { rest = c.rest; here = is.here; takes = cut_of c; after = after_of c })) [
+      | inl keeps ↦ keeps_peer i p out is keeps refl
+      | inr closed ↦ closes i p out is closed refl
+    ]
 
-  pub goes_so : {event : WireEvent} {calls : DeviceCalls} {out : Output} → IsCut s i (λ was now. IsAnswer was (Some event) now) t
-      → GoesOn dig i event calls out t new → StepNext dig s key calls (Ok (Some out)) new
-  goes_so {out = out} c on = elim (on s p (taken_from c)) [
-    | inl keeps ↦ keeps_peer i p out is keeps refl
-    | inr closed ↦ closes i p out is closed refl
-  ]
+    -- there was no memory to handle it
+    pub drops_event : {event : WireEvent} → IsCut s i (λ was now. IsAnswer was (Some event) now) t → new ≡ without_peer i t
+        → StepNext dig s key [] (Err no_room) new
+    drops_event {event} c gone =
+        no_memory i p is (record { event = event; rest = c.rest; takes = cut_of c; made = refl; after = gone_of c new gone }) refl
 
-  -- there was no memory to handle it
-  pub drops_event : {event : WireEvent} → IsCut s i (λ was now. IsAnswer was (Some event) now) t → new ≡ without_peer i t
-      → StepNext dig s key [] (Err no_room) new
-  drops_event {event} c gone =
-      no_memory i p is (record { event = event; rest = c.rest; takes = cut_of c; made = refl; after = gone_of c gone }) refl
+    -- or to take it
+    pub drops_unread : IsCut s i (λ was now. IsRefusal was OutOfMemory now) t → new ≡ without_peer i t → StepNext dig s key [] (Err no_room) new
+    drops_unread c gone =
+        let w = cut_of c in
+        no_memory i p is (record { event = Message w.0.0; rest = w.0.1; takes = w.0.2; made = refl; after = gone_of c new gone }) refl
 
-  -- or to take it
-  pub drops_unread : IsCut s i (λ was now. IsRefusal was OutOfMemory now) t → new ≡ without_peer i t → StepNext dig s key [] (Err no_room) new
-  drops_unread c gone =
-      let w = cut_of c in
-      no_memory i p is (record { event = Message w.0.0; rest = w.0.1; takes = w.0.2; made = refl; after = gone_of c gone }) refl
+    -- the bytes show a fault
+    pub faulty_so : {fault : WireError} {out : Output} → (fault ≡ OutOfMemory → ⊥) → IsOrderly s → IsCut s i (λ was now. IsRefusal was fault now) t
+        → out ≡ closed_output (Wire fault) → new ≡ without_peer i t → StepNext dig s key [] (Ok (Some out)) new
+    faulty_so {fault} {out} memory orderly c said gone =
+        faulty i p out is (record {
+          fault = fault;
+          failed = c.rest;
+          fails = shows_fault fault memory (orderly.each p (contains_some s.peers i is.here)).running (cut_of c);
+          made = refl;
+          is = said;
+          after = gone_of c new gone;
+        }) refl
 
-  -- the bytes show a fault
-  pub faulty_so : {fault : WireError} {out : Output} → (fault ≡ OutOfMemory → ⊥) → IsOrderly s → IsCut s i (λ was now. IsRefusal was fault now) t
-      → out ≡ closed_output (Wire fault) → new ≡ without_peer i t → StepNext dig s key [] (Ok (Some out)) new
-  faulty_so {fault} {out} memory orderly c said gone =
-      faulty i p out is (record {
-        fault = fault;
-        failed = c.rest;
-        fails = shows_fault fault memory (orderly.each p (contains_some s.peers i is.here)).running (cut_of c);
-        made = refl;
-        is = said;
-        after = gone_of c gone;
-      }) refl
+-- ---- an output
+
+abbrev pub output : List Sent → List Note → Output
+output send notes = record { send = send; close = None; notes = notes }
+
+pub output_is : {send other : List Sent} {notes others : List Note} → send ≡ other → notes ≡ others
+    → output send notes ≡ output other others
+output_is {send} {other} {notes} {others} e f = ap (λ (ss : List Sent). output ss notes) e ∙ ap (λ (ns : List Note). output other ns) f

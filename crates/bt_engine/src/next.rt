@@ -47,11 +47,13 @@ pub(crate) fn next<D: Disk + Drop, H: NodeHash>(
                 Err(EngineError::OutOfMemory)
             }
         },
-        Err(WireError::OutOfMemory) => {
-            drop_peer(parts, index);
-            Err(EngineError::OutOfMemory)
-        }
-        Err(fault) => Ok(Some(close(alloc, parts, index, Why::Wire(fault)))),
+        Err(fault) => match fault {
+            WireError::OutOfMemory => {
+                drop_peer(parts, index);
+                Err(EngineError::OutOfMemory)
+            }
+            _ => Ok(Some(close(alloc, parts, index, Why::Wire(fault)))),
+        },
     }
 }
 
