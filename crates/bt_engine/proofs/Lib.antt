@@ -4,3 +4,4 @@ pub mod NewWholes
 pub mod Announcements
 pub mod Events
 pub mod Handled
+pub mod EventRuns

@@ -63,7 +63,8 @@ fn announce_piece<D: Disk + Drop, H: NodeHash>(
     ensures capacity { vec_capacity send.old ≤ vec_capacity send.new }
 {
     let unmarked = parts.unmarked.as_slice();
-    if unmarked[piece as usize] > 0 {
+    let left = unmarked[piece as usize];
+    if left > 0 {
         return;
     }
     for peer in &parts.peers {

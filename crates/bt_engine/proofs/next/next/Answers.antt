@@ -1,6 +1,7 @@
 use Rattle.std.proofs.Common.{[], ◌≡◌, List, Option, refl, sym, ap, ◌∙◌, subst}
 use Rattle.bt_machine.specs.Devices.{HaveCalls}
-use Rattle.bt_machine.specs.Next.{no_peer}
+use Rattle.bt_machine.specs.Next.{no_peer, without_peer}
+use Rattle.bt_state.specs.declared.parts.Parts.{Parts}
 use Rattle.bt_machine.specs.Orderly.{IsOrderly}
 use Rattle.bt_machine.specs.State.{EngineState}
 use Rattle.bt_machine.proofs.Orderly.{stream_order}
@@ -50,7 +51,30 @@ returns-in-Ok-Some-clause-step g c =
     let kept = c.in-Err-take_event.ensures.kept in (
       [],
       no_calls g.D.Disk.history g.D.Disk.honest g.D.Disk.faults g.H.NodeHash.digest c.args.parts.now c.drop_peer.new.parts
-          (c.drop_peer.ensures.devices ∙ ap (λ parts. disks_of parts) kept ∙ c.next_event.ensures.devices),
+          (c.drop_peer.ensures.devices ∙ ap (λ (x : Parts g.row.D.Denot g.row.H.Denot). disks_of x) kept ∙ c.next_event.ensures.devices),
       drops_event (peer_at c.args.parts.now c.in-Some.ensures.some) g.H.NodeHash.digest (state_of c.drop_peer.new.parts) found
-          (c.drop_peer.ensures.gone ∙ ap (λ parts. _) kept),
+          (c.drop_peer.ensures.gone ∙ ap (λ (x : Parts g.row.D.Denot g.row.H.Denot). without_peer c.in-Some.index (state_of x)) kept),
     )
+
+pub returns-in-OutOfMemory-clause-step : goal.returns-in-OutOfMemory-clause-step
+returns-in-OutOfMemory-clause-step g c =
+    let refused = rw c.in-OutOfMemory.is at c.in-Err.ensures.refused in (
+      [],
+      no_calls g.D.Disk.history g.D.Disk.honest g.D.Disk.faults g.H.NodeHash.digest c.args.parts.now c.drop_peer-in-OutOfMemory.new.parts
+          (c.drop_peer-in-OutOfMemory.ensures.devices ∙ c.next_event.ensures.devices),
+      drops_unread (peer_at c.args.parts.now c.in-Some.ensures.some) g.H.NodeHash.digest (state_of c.drop_peer-in-OutOfMemory.new.parts) refused
+          c.drop_peer-in-OutOfMemory.ensures.gone,
+    )
+
+pub returns : goal.returns
+returns g c = record {
+  step = (
+    [],
+    no_calls g.D.Disk.history g.D.Disk.honest g.D.Disk.faults g.H.NodeHash.digest c.args.parts.now c.close.new.parts
+        (c.close.ensures.devices ∙ c.next_event.ensures.devices),
+    faulty_so (peer_at c.args.parts.now c.in-Some.ensures.some) g.H.NodeHash.digest (state_of c.close.new.parts) c.in_default-fault.not-OutOfMemory
+        c.requires.orderly c.in-Err.ensures.refused c.close.ensures.is c.close.ensures.gone,
+  );
+  torrent = c.close.ensures.torrent ∙ c.next_event.ensures.torrent;
+  tied = c.close.ensures.tied;
+}
