@@ -67,15 +67,25 @@ module _ {D H : Type 0} {history : D → History} {honest : D → Type 0} {fault
   pub there_then : i < length mid.peers.items
   there_then =
       let q = its_peer in
-      omega (arith, some_below (state_of old).peers i h.here, ap (λ (ps : List PeerState). length ps) q.1, length-set (state_of old).peers i q.0,
-      length-map mid.peers.items (peer_of mid.book))
+      omega (
+        arith,
+        some_below (state_of old).peers i h.here,
+        ap (λ (ps : List PeerState). length ps) q.1,
+        length-set (state_of old).peers i q.0,
+        length-map mid.peers.items (peer_of mid.book),
+      )
 
   -- there are as many peers
   pub as_many : length mid.peers.items ≡ length old.peers.items
   as_many =
       let q = its_peer in
-      omega (arith, ap (λ (ps : List PeerState). length ps) q.1, length-set (state_of old).peers i q.0,
-      length-map mid.peers.items (peer_of mid.book), length-map old.peers.items (peer_of old.book))
+      omega (
+        arith,
+        ap (λ (ps : List PeerState). length ps) q.1,
+        length-set (state_of old).peers i q.0,
+        length-map mid.peers.items (peer_of mid.book),
+        length-map old.peers.items (peer_of old.book),
+      )
 
   pub told_then : TellMarks (state_of old) (state_of mid) (effect_of h.peer handled h.proofs).notes
   told_then = tells dig (state_of old) (state_of mid) i h.peer event h.calls (effect_of h.peer handled h.proofs) h.here orderly h.handles

@@ -280,8 +280,8 @@ module _ {old new : EngineState} {notes : List Note} (t : TellMarks old new note
       let b = file_of_note note e in
       let was = t.unmarked b.0 (subst (Contains notes) b.1 c) in (
         not_then (is_complete old k) (λ all. was.not_marked (marked_is was.state (all_true is_marked (states_of old k) all
-        (contains_some (states_of old k) b.0.block (subst (λ n. slice_get (states_of old n) b.0.block ≡ Some was.state) b.2
-        (of_state (slice_get old.files b.0.file) b.0.block was.here)))))),
+            (contains_some (states_of old k) b.0.block (subst (λ n. slice_get (states_of old n) b.0.block ≡ Some was.state) b.2
+            (of_state (slice_get old.files b.0.file) b.0.block was.here)))))),
         file_inside note k c e,
       ))
       (λ k lt now was.
@@ -289,11 +289,12 @@ module _ {old new : EngineState} {notes : List Note} (t : TellMarks old new note
       let i = some_at (states_of old k) x.1 in
       let b = block_id k i.0 in
       let y = get_some (states_of new k) i.0 (omega (arith, some_below (states_of old k) i.0 i.1, t.sizes k)) in
-      let marked = marked_is y.0 (all_true is_marked (states_of new k) now (contains_some (states_of new k) i.0 y.1)) in
-      (NowMarked b,
-      t.told b (to_state (slice_get new.files k) i.0 (y.1 ∙ ap (λ z. Some z) marked))
-      (λ same. absurd (let own = of_state (slice_get old.files k) i.0 same in let off = x.2 in let is : x.0 ≡ Marked = some_is (sym i.1 ∙ own) in let no = ap is_marked is in cc)),
-      refl))
+      let marked = marked_is y.0 (all_true is_marked (states_of new k) now (contains_some (states_of new k) i.0 y.1)) in (
+        NowMarked b,
+        t.told b (to_state (slice_get new.files k) i.0 (y.1 ∙ ap (λ z. Some z) marked))
+            (λ same. absurd (let own = of_state (slice_get old.files k) i.0 same in let off = x.2 in let is : x.0 ≡ Marked = some_is (sym i.1 ∙ own) in let no = ap is_marked is in cc)),
+        refl,
+      ))
     where
       not_above : (b c : BlockId) {k l : ℕ} → IsBefore b c → b.file ≡ k → c.file ≡ l → k ≤ l
       not_above b c (inl lt) e f = omega (arith, lt, e, f)
@@ -332,8 +333,8 @@ module _ {old new : EngineState} {notes : List Note} (t : TellMarks old new note
           let was = t.unmarked b.0 (subst (Contains notes) b.1 c) in
           let inside = some_below (states_of old b.0.file) b.0.block (of_state (slice_get old.files b.0.file) b.0.block was.here) in (
             not_then (is_whole old k) (λ all.
-            let marked = (piece_is_whole old k).0 all b.0 inside (ap (λ m. piece_of m b.0) (sym t.same_torrent) ∙ b.2) in
-            was.not_marked (some_is (sym was.here ∙ marked))),
+                let marked = (piece_is_whole old k).0 all b.0 inside (ap (λ m. piece_of m b.0) (sym t.same_torrent) ∙ b.2) in
+                was.not_marked (some_is (sym was.here ∙ marked))),
             piece_inside note k c e,
           ))
           (λ k lt now was.
@@ -341,10 +342,11 @@ module _ {old new : EngineState} {notes : List Note} (t : TellMarks old new note
           let of = contains_filter (is_in_piece old.torrent k) (all_blocks old) x.1 in
           let b = x.0 in
           let in_it = ap (λ m. piece_of m b) t.same_torrent ∙ number_there (piece_of old.torrent b) k of.1 in
-          let inside = is_among old of.0 in
-          (NowMarked b,
-          t.told b ((piece_is_whole new k).0 now b (omega (arith, inside, t.sizes b.file)) in_it) (was_not b x.2),
-          in_it))
+          let inside = is_among old of.0 in (
+            NowMarked b,
+            t.told b ((piece_is_whole new k).0 now b (omega (arith, inside, t.sizes b.file)) in_it) (was_not b x.2),
+            in_it,
+          ))
         where
           from_before : {b c : BlockId} → IsBefore b c → IsFrom b c
           from_before (inl lt) = inl lt

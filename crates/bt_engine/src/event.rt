@@ -147,12 +147,7 @@ fn keep<D: Disk + Drop, H: NodeHash>(
 }
 
 /// Adds what an event sends and notes by itself, for which there is room.
-fn put_reply(
-    key: PeerKey,
-    reply: Reply,
-    send: &mut Vec<(PeerKey, Frame)>,
-    notes: &mut Vec<Note>,
-)
+fn put_reply(key: PeerKey, reply: Reply, send: &mut Vec<(PeerKey, Frame)>, notes: &mut Vec<Note>)
     requires send_room { vec_len send.old < vec_capacity send.old }
     requires note_room { vec_len notes.old + reply_count reply ≤ vec_capacity notes.old }
     ensures sent { (p : PeerState) → p.key ≡ key → send.new.items ≡ send.old.items ++ sent_by p reply }

@@ -67,8 +67,10 @@ fn greet(
     ensures { IsGreeting torrent.now key bits result }
 {
     let mut send = send;
-    send.push((key, Frame::Hello(our_handshake(torrent)))).unwrap();
-    send.push((key, Frame::Message(Message::Bitfield(bits)))).unwrap();
+    send.push((key, Frame::Hello(our_handshake(torrent))))
+        .unwrap();
+    send.push((key, Frame::Message(Message::Bitfield(bits))))
+        .unwrap();
     Output {
         send,
         close: None,

@@ -12,8 +12,8 @@ mod run;
 
 pub use bt_book::PeerKey;
 pub use bt_machine::{
-    AdoptError, Answer, ConnectError, EngineError, Event, FileReport, FlushError, Frame, Note, Output,
-    StartError, StartRefused, Why,
+    AdoptError, Answer, ConnectError, EngineError, Event, FileReport, FlushError, Frame, Note,
+    Output, StartError, StartRefused, Why,
 };
 pub use bt_store::Adopted;
 pub use engine::Engine;

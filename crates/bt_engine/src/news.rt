@@ -68,7 +68,8 @@ fn announce_piece<D: Disk + Drop, H: NodeHash>(
         return;
     }
     for peer in &parts.peers {
-        send.push((peer.key, Frame::Message(Message::Have(piece)))).unwrap();
+        send.push((peer.key, Frame::Message(Message::Have(piece))))
+            .unwrap();
     }
 }
 

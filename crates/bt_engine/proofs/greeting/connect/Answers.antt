@@ -1,11 +1,13 @@
-use Rattle.std.proofs.Common.{rules, ◌≡◌, Err, codes, ℕ, ◌+◌, ◌-◌, ◌*◌, ◌<◌, ◌≤◌, length, ◌/◌, ◌%◌, Bool, true, false, nat_eq, nat_lt, List, [], ◌∷◌, ◌++◌, slice_index_or, slice_set, bit_and, bit_or, Fits, w8, w32, w64, Bor, MutBor}
-use Rattle.bt_machine.specs.Orderly.{IsOrderly}
-use Rattle.bt_machine.specs.Peers.{StepConnect, our_handshake, greeting}
-use Rattle.bt_state.specs.Parts.{state_of, disks_of}
-use Rattle.bt_state.specs.Ties.{IsTied}
-use Rattle.bt_engine.specs.GreetingSteps.{HasTwo, IsGreeting}
+use Rattle.std.proofs.Common.{◌≡◌, Result, Ok, sym, ap, ◌∙◌, subst}
+use Rattle.bt_book.specs.declared.names.PeerKey.{PeerKey}
+use Rattle.bt_machine.specs.declared.error.ConnectError.{ConnectError}
+use Rattle.bt_machine.specs.Output.{Output}
+use Rattle.bt_machine.specs.Peers.{StepConnect}
+use Rattle.bt_state.specs.Parts.{state_of}
 use Rattle.bt_engine.proofs.greeting.connect.Goals as goal
 
--- src/greeting.rt:25:1
 pub returns-in-Ok-connect-clause-step : goal.returns-in-Ok-connect-clause-step
-returns-in-Ok-connect-clause-step g c = ?
+returns-in-Ok-connect-clause-step g c =
+    let said = c.greet.ensures (state_of c.args.parts.now) (sym c.connect.ensures.torrent) in
+    subst (λ (out : Output). StepConnect (state_of c.args.parts.now) (Ok (c.in-Ok-connect.key, out)) (state_of c.connect.new.parts)) (sym said)
+    c.in-Ok-connect.ensures.step

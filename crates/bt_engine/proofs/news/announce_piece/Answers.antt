@@ -11,10 +11,10 @@ use Rattle.bt_state.proofs.Lists.{get_at}
 use Rattle.bt_engine.proofs.Announcements.{have_to, haves_alike, whole_is}
 use Rattle.bt_engine.proofs.news.announce_piece.Goals as goal
 
-pub returns-then-unmarked-piece-gt0-clause-sent : goal.returns-then-unmarked-piece-gt0-clause-sent
-returns-then-unmarked-piece-gt0-clause-sent g c =
+pub returns-then-left-gt0-clause-sent : goal.returns-then-left-gt0-clause-sent
+returns-then-left-gt0-clause-sent g c =
     let parts = c.args.parts.now in
-    let some : 0 < get_or parts.unmarked.items c.args.piece 0 = rw (← c.as_slice-unmarked.ensures.value) c.if-unmarked-piece-gt0.true in
+    let some : 0 < get_or parts.unmarked.items c.args.piece 0 = rw (← c.as_slice-unmarked.ensures.value) c.if-left-gt0.true in
     let below : c.args.piece < length parts.unmarked.items = omega (arith, c.requires.tied.unmarked.size, c.requires.inside) in
     let whole = whole_is (state_of parts) parts.unmarked.items c.args.piece c.requires.tied.unmarked c.requires.inside (get_at parts.unmarked.items c.args.piece 0 below) in
     let part : is_whole (state_of parts) c.args.piece ≡ false = whole ∙ ne_eqb _ 0 (λ e. absurd (omega (arith, some, e))) in
@@ -41,18 +41,19 @@ loop-peer-preserved g c =
     let pushed = c.push.ensures.succeeds (omega (arith, size, lt, room, so_far.1, so_far.2)) in
     let items = rw pushed at c.push.ensures.items in
     let len = rw pushed at c.push.ensures.len in
-    let more = map_more (have_to c.args.piece) c.deref-peer-items.result.now c.loop-peer.peer-index c.peer-item.result lt in
-    (items ∙ ap (λ (xs : List Sent). xs ++ have_to c.args.piece c.peer-item.result ∷ []) so_far.0
-    ∙ append_assoc c.args.send.now.items (map (have_to c.args.piece) (take c.loop-peer.peer-index c.deref-peer-items.result.now)) (have_to c.args.piece c.peer-item.result ∷ [])
-    ∙ ap (λ (xs : List Sent). c.args.send.now.items ++ xs)
-    (ap (λ (p : Peer). map (have_to c.args.piece) (take c.loop-peer.peer-index c.deref-peer-items.result.now) ++ have_to c.args.piece p ∷ []) c.peer-item.is ∙ sym more),
-    omega (arith, len, so_far.1),
-    omega (arith, c.push.ensures.capacity, so_far.2))
+    let more = map_more (have_to c.args.piece) c.deref-peer-items.result.now c.loop-peer.peer-index c.peer-item.result lt in (
+      items ∙ ap (λ (xs : List Sent). xs ++ have_to c.args.piece c.peer-item.result ∷ []) so_far.0
+          ∙ append_assoc c.args.send.now.items (map (have_to c.args.piece) (take c.loop-peer.peer-index c.deref-peer-items.result.now)) (have_to c.args.piece c.peer-item.result ∷ [])
+          ∙ ap (λ (xs : List Sent). c.args.send.now.items ++ xs)
+          (ap (λ (p : Peer). map (have_to c.args.piece) (take c.loop-peer.peer-index c.deref-peer-items.result.now) ++ have_to c.args.piece p ∷ []) c.peer-item.is ∙ sym more),
+      omega (arith, len, so_far.1),
+      omega (arith, c.push.ensures.capacity, so_far.2),
+    )
 
 pub returns-clause-sent : goal.returns-clause-sent
 returns-clause-sent g c =
     let parts = c.args.parts.now in
-    let none : get_or parts.unmarked.items c.args.piece 0 ≤ 0 = rw (← c.as_slice-unmarked.ensures.value) c.if-unmarked-piece-gt0.false in
+    let none : get_or parts.unmarked.items c.args.piece 0 ≤ 0 = rw (← c.as_slice-unmarked.ensures.value) c.if-left-gt0.false in
     let below : c.args.piece < length parts.unmarked.items = omega (arith, c.requires.tied.unmarked.size, c.requires.inside) in
     let whole = whole_is (state_of parts) parts.unmarked.items c.args.piece c.requires.tied.unmarked c.requires.inside (get_at parts.unmarked.items c.args.piece 0 below) in
     let all : is_whole (state_of parts) c.args.piece ≡ true = whole ∙ eq-eqb _ 0 (omega (arith, none)) in

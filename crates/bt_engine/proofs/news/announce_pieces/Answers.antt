@@ -31,12 +31,13 @@ pub loop-note-preserved-in_default : goal.loop-note-preserved-in_default
 loop-note-preserved-in_default g c =
     let n = length c.args.parts.now.peers.items in
     let so_far = c.loop-note.invariant in
-    let more : (c.loop-note.note-index + 1) * n ≡ c.loop-note.note-index * n + 1 * n = add-mul c.loop-note.note-index 1 n in
-    (skipped (is_whole (state_of c.args.parts.now)) (λ piece. map (λ p. sent_to p (Have piece)) (state_of c.args.parts.now).peers)
-    (marked_piece c.args.parts.now.torrent) c.loop-note.last c.args.notes.now c.loop-note.note-index blank c.loop-note.send.items _ c.loop-note-test.true
-    (ap (λ o. unless_last o c.loop-note.last) (sym c.marked_piece.ensures) ∙ sym c.unless_last.ensures ∙ c.in_default.is) so_far.0,
-    omega (arith, more, so_far.1),
-    so_far.2)
+    let more : (c.loop-note.note-index + 1) * n ≡ c.loop-note.note-index * n + 1 * n = add-mul c.loop-note.note-index 1 n in (
+      skipped (is_whole (state_of c.args.parts.now)) (λ piece. map (λ p. sent_to p (Have piece)) (state_of c.args.parts.now).peers)
+          (marked_piece c.args.parts.now.torrent) c.loop-note.last c.args.notes.now c.loop-note.note-index blank c.loop-note.send.items _ c.loop-note-test.true
+          (ap (λ o. unless_last o c.loop-note.last) (sym c.marked_piece.ensures) ∙ sym c.unless_last.ensures ∙ c.in_default.is) so_far.0,
+      omega (arith, more, so_far.1),
+      so_far.2,
+    )
 
 pub announce_piece-requires-clause-inside : goal.announce_piece-requires-clause-inside
 announce_piece-requires-clause-inside g c =
@@ -61,13 +62,14 @@ pub loop-note-preserved : goal.loop-note-preserved
 loop-note-preserved g c =
     let n = length c.args.parts.now.peers.items in
     let so_far = c.loop-note.invariant in
-    let more : (c.loop-note.note-index + 1) * n ≡ c.loop-note.note-index * n + 1 * n = add-mul c.loop-note.note-index 1 n in
-    (taken (is_whole (state_of c.args.parts.now)) (λ piece. map (λ p. sent_to p (Have piece)) (state_of c.args.parts.now).peers)
-    (marked_piece c.args.parts.now.torrent) c.loop-note.last c.args.notes.now c.loop-note.note-index blank c.loop-note.send.items _ c.loop-note-test.true
-    c.announce_piece.new.send.items c.in-Some.piece
-    (ap (λ o. unless_last o c.loop-note.last) (sym c.marked_piece.ensures) ∙ sym c.unless_last.ensures ∙ c.in-Some.is) c.announce_piece.ensures.sent so_far.0,
-    omega (arith, more, so_far.1, c.announce_piece.ensures.few),
-    omega (arith, so_far.2, c.announce_piece.ensures.capacity))
+    let more : (c.loop-note.note-index + 1) * n ≡ c.loop-note.note-index * n + 1 * n = add-mul c.loop-note.note-index 1 n in (
+      taken (is_whole (state_of c.args.parts.now)) (λ piece. map (λ p. sent_to p (Have piece)) (state_of c.args.parts.now).peers)
+          (marked_piece c.args.parts.now.torrent) c.loop-note.last c.args.notes.now c.loop-note.note-index blank c.loop-note.send.items _ c.loop-note-test.true
+          c.announce_piece.new.send.items c.in-Some.piece
+          (ap (λ o. unless_last o c.loop-note.last) (sym c.marked_piece.ensures) ∙ sym c.unless_last.ensures ∙ c.in-Some.is) c.announce_piece.ensures.sent so_far.0,
+      omega (arith, more, so_far.1, c.announce_piece.ensures.few),
+      omega (arith, so_far.2, c.announce_piece.ensures.capacity),
+    )
 
 pub returns-clause-sent : goal.returns-clause-sent
 returns-clause-sent g c = λ old told_so.

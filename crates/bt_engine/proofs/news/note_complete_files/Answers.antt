@@ -22,14 +22,15 @@ pub loop-index-preserved-in_default : goal.loop-index-preserved-in_default
 loop-index-preserved-in_default g c =
     let so_far = c.loop-index.invariant in
     let lt : c.loop-index.index < length c.args.notes.now.items = (let t = c.loop-index-test.true in omega (arith, t, c.len-index-end.ensures, c.args.notes.now.ok.0)) in
-    let read = c.index.ensures ∙ begins_at c.loop-index.index c.index.result.now so_far.1 lt in
-    (skipped (is_complete (state_of c.args.parts.now)) (λ file. Complete file ∷ []) marked_file c.loop-index.last c.args.notes.now.items c.loop-index.index c.index.result.now
-    c.loop-index.notes.items _ lt
-    (ap (λ n. unless_last (marked_file n) c.loop-index.last) (sym read) ∙ ap (λ o. unless_last o c.loop-index.last) (sym c.marked_file.ensures)
-    ∙ sym c.unless_last.ensures ∙ c.in_default.is) so_far.0,
-    so_far.1,
-    omega (arith, so_far.2),
-    so_far.3)
+    let read = c.index.ensures ∙ begins_at c.loop-index.index c.index.result.now so_far.1 lt in (
+      skipped (is_complete (state_of c.args.parts.now)) (λ file. Complete file ∷ []) marked_file c.loop-index.last c.args.notes.now.items c.loop-index.index c.index.result.now
+          c.loop-index.notes.items _ lt
+          (ap (λ n. unless_last (marked_file n) c.loop-index.last) (sym read) ∙ ap (λ o. unless_last o c.loop-index.last) (sym c.marked_file.ensures)
+          ∙ sym c.unless_last.ensures ∙ c.in_default.is) so_far.0,
+      so_far.1,
+      omega (arith, so_far.2),
+      so_far.3,
+    )
 
 pub note_if_complete-requires-clause-room : goal.note_if_complete-requires-clause-room
 note_if_complete-requires-clause-room g c =
@@ -41,14 +42,15 @@ pub loop-index-preserved : goal.loop-index-preserved
 loop-index-preserved g c =
     let so_far = c.loop-index.invariant in
     let lt : c.loop-index.index < length c.args.notes.now.items = (let t = c.loop-index-test.true in omega (arith, t, c.len-index-end.ensures, c.args.notes.now.ok.0)) in
-    let read = c.index.ensures ∙ begins_at c.loop-index.index c.index.result.now so_far.1 lt in
-    (taken (is_complete (state_of c.args.parts.now)) (λ file. Complete file ∷ []) marked_file c.loop-index.last c.args.notes.now.items c.loop-index.index c.index.result.now
-    c.loop-index.notes.items _ lt c.note_if_complete.new.notes.items c.in-Some.file
-    (ap (λ n. unless_last (marked_file n) c.loop-index.last) (sym read) ∙ ap (λ o. unless_last o c.loop-index.last) (sym c.marked_file.ensures)
-    ∙ sym c.unless_last.ensures ∙ c.in-Some.is) c.note_if_complete.ensures.noted so_far.0,
-    begins_then (notes_if_complete (state_of c.args.parts.now) c.in-Some.file) so_far.1 c.note_if_complete.ensures.noted,
-    omega (arith, so_far.2, c.note_if_complete.ensures.few),
-    omega (arith, so_far.3, c.note_if_complete.ensures.capacity))
+    let read = c.index.ensures ∙ begins_at c.loop-index.index c.index.result.now so_far.1 lt in (
+      taken (is_complete (state_of c.args.parts.now)) (λ file. Complete file ∷ []) marked_file c.loop-index.last c.args.notes.now.items c.loop-index.index c.index.result.now
+          c.loop-index.notes.items _ lt c.note_if_complete.new.notes.items c.in-Some.file
+          (ap (λ n. unless_last (marked_file n) c.loop-index.last) (sym read) ∙ ap (λ o. unless_last o c.loop-index.last) (sym c.marked_file.ensures)
+          ∙ sym c.unless_last.ensures ∙ c.in-Some.is) c.note_if_complete.ensures.noted so_far.0,
+      begins_then (notes_if_complete (state_of c.args.parts.now) c.in-Some.file) so_far.1 c.note_if_complete.ensures.noted,
+      omega (arith, so_far.2, c.note_if_complete.ensures.few),
+      omega (arith, so_far.3, c.note_if_complete.ensures.capacity),
+    )
 
 pub returns : goal.returns
 returns g c = record {
