@@ -13,12 +13,12 @@ use Rattle.bt_meta.specs.Files.{file_of as entry_of}
 use Rattle.bt_meta.specs.declared.torrent.FileEntry.{FileEntry}
 use Rattle.bt_machine.proofs.Lists.{some_is, some_below, get_some, get_map}
 use Rattle.bt_machine.proofs.Shape.{shape_at_first}
-use Rattle.bt_machine.specs.State.{EngineState, FileState, PeerState}
+use Rattle.bt_machine.specs.State.{EngineState, FileState}
 use Rattle.bt_machine.specs.Blocks.{state_at, is_marked_in}
 use Rattle.bt_machine.specs.Start.{Starts, AreDevicesOf, IsNewFile}
 use Rattle.bt_state.proofs.Lists.{get_mapped}
 use Rattle.bt_state.specs.Parts.{state_of, disks_of, file_of, disk_of, peer_of}
-use Rattle.bt_state.specs.Ties.{FitsFile, FitsTree, IsTied}
+use Rattle.bt_state.specs.Ties.{FitsTree, IsTied}
 use Rattle.bt_state.specs.declared.peer.Peer.{Peer}
 use Rattle.bt_state.specs.declared.slot.Slot.{Slot}
 use Rattle.bt_state.specs.declared.parts.Parts.{Parts}

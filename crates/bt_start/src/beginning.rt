@@ -46,15 +46,30 @@ pub fn start<D: Disk + Drop, H: NodeHash>(
     ensures sound { IfOk result (λ parts. IsSound D.history D.honest H.digest (state_of parts) (disks_of parts)) }
 {
     if disks.len() != device_count(torrent.files()) {
-        return Err(StartRefused { disks, cause: StartError::DiskCount });
+        return Err(StartRefused {
+            disks,
+            cause: StartError::DiskCount,
+        });
     }
     let Ok(mut parts) = bare_parts(alloc, torrent, hash) else {
-        return Err(StartRefused { disks, cause: StartError::OutOfMemory });
+        return Err(StartRefused {
+            disks,
+            cause: StartError::OutOfMemory,
+        });
     };
     let mut disks = disks;
-    match hand_out(alloc, hash, parts.torrent.files(), &mut parts.slots, &mut disks) {
+    match hand_out(
+        alloc,
+        hash,
+        parts.torrent.files(),
+        &mut parts.slots,
+        &mut disks,
+    ) {
         Ok(()) => Ok(parts),
-        Err(AllocError) => Err(StartRefused { disks, cause: StartError::OutOfMemory }),
+        Err(AllocError) => Err(StartRefused {
+            disks,
+            cause: StartError::OutOfMemory,
+        }),
     }
 }
 

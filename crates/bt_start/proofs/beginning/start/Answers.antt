@@ -1,4 +1,4 @@
-use Rattle.std.proofs.Common.{[], ◌≡◌, ℕ, None, List, All, map, length, refl, sym, ap, ◌∙◌, subst, arith}
+use Rattle.std.proofs.Common.{[], ◌≡◌, None, List, All, length, refl, sym, ap, ◌∙◌, subst}
 use Rattle.std.proofs.lemmas.List.{length-map}
 use Rattle.bt_tree.specs.NodeHash.{IsDigest, length-sha256}
 use Rattle.bt_meta.specs.Files.{File, file_of}
@@ -15,11 +15,11 @@ use Rattle.bt_start.proofs.beginning.start.Goals as goal
 
 pub returns-then-len-device_count-clause-answer : goal.returns-then-len-device_count-clause-answer
 returns-then-len-device_count-clause-answer g c = other_count _ (λ same. c.if-len-device_count.true (
-  c.len.ensures ∙ c.args.disks.ok.0 ∙ same ∙ ap device_count (sym c.files.ensures.said) ∙ sym c.device_count.ensures)) refl refl refl
+    c.len.ensures ∙ c.args.disks.ok.0 ∙ same ∙ ap device_count (sym c.files.ensures.said) ∙ sym c.device_count.ensures)) refl refl refl
 
 pub returns-in_default-clause-answer : goal.returns-in_default-clause-answer
 returns-in_default-clause-answer g c = no_memory _ (
-  sym c.args.disks.ok.0 ∙ sym c.len.ensures ∙ c.if-len-device_count.false ∙ c.device_count.ensures ∙ ap device_count c.files.ensures.said) refl refl refl
+    sym c.args.disks.ok.0 ∙ sym c.len.ensures ∙ c.if-len-device_count.false ∙ c.device_count.ensures ∙ ap device_count c.files.ensures.said) refl refl refl
 
 pub hand_out-requires-clause-count : goal.hand_out-requires-clause-count
 hand_out-requires-clause-count g c =
@@ -34,12 +34,12 @@ hand_out-requires-clause-bare g c =
     subst (λ (slots : List (Slot g.row.D.Denot g.row.H.Denot)). All (λ slot. slot.store ≡ None) slots) (sym c.deref_mut.ensures.value) (none_bare c.in-Ok.ensures.bare.slots)
 
 pub hand_out-requires-clause-enough : goal.hand_out-requires-clause-enough
-hand_out-requires-clause-enough g c = 
+hand_out-requires-clause-enough g c =
     sym c.args.disks.ok.0 ∙ sym c.len.ensures ∙ c.if-len-device_count.false ∙ c.device_count.ensures ∙ ap device_count c.files.ensures.said
     ∙ ap (λ (torrent : Metainfo). device_count torrent.files) (sym c.in-Ok.ensures.torrent) ∙ ap device_count (sym c.files-2.ensures.said)
 
 pub returns-in-Ok-hand_out-clause-answer : goal.returns-in-Ok-hand_out-clause-answer
-returns-in-Ok-hand_out-clause-answer g c = 
+returns-in-Ok-hand_out-clause-answer g c =
     let begun = have_begun c.in-Ok.parts c.deref_mut.result.now c.hand_out.new.slots c.in-Ok.ensures.bare c.in-Ok.ensures.torrent c.files-2.ensures.said c.deref_mut.ensures.value
     c.in-Ok-hand_out.ensures.slots c.in-Ok-hand_out.ensures.trees c.in-Ok-hand_out.ensures.devices in
     starts _ begun.state begun.devices refl
@@ -57,7 +57,7 @@ returns-in-Ok-hand_out-clause-orderly g c = order_of_runs g.H.NodeHash.digest c.
     c.in-Ok-hand_out.ensures.slots c.in-Ok-hand_out.ensures.trees c.in-Ok-hand_out.ensures.devices).state refl
 
 pub returns-in-Ok-hand_out-clause-rooted : goal.returns-in-Ok-hand_out-clause-rooted
-returns-in-Ok-hand_out-clause-rooted g c = 
+returns-in-Ok-hand_out-clause-rooted g c =
     let sizes = subst IsDigest (sym c.requires.digest) length-sha256 in
     let lawful = subst (λ (torrent : Metainfo). IsLawful torrent.piece_length torrent.files) c.in-Ok.ensures.torrent c.in-Ok.ensures.bare.lawful in
     start_rooted sizes lawful (have_begun c.in-Ok.parts c.deref_mut.result.now c.hand_out.new.slots c.in-Ok.ensures.bare c.in-Ok.ensures.torrent c.files-2.ensures.said c.deref_mut.ensures.value
@@ -69,4 +69,4 @@ returns-in-Ok-hand_out-clause-sound g c = start_sound g.D.Disk.history g.D.Disk.
 
 pub returns-in-Err-clause-answer : goal.returns-in-Err-clause-answer
 returns-in-Err-clause-answer g c = no_memory _ (
-  sym c.args.disks.ok.0 ∙ sym c.len.ensures ∙ c.if-len-device_count.false ∙ c.device_count.ensures ∙ ap device_count c.files.ensures.said) refl refl c.in-Err.ensures.refused
+    sym c.args.disks.ok.0 ∙ sym c.len.ensures ∙ c.if-len-device_count.false ∙ c.device_count.ensures ∙ ap device_count c.files.ensures.said) refl refl c.in-Err.ensures.refused
