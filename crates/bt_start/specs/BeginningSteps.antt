@@ -1,4 +1,5 @@
--- The parts of an engine that begins, before devices are handed out and then. No public contract cites them.
+-- The parts of an engine that begins, before its devices are handed out and after. No public contract cites
+-- them.
 use Rattle.std.specs.Prelude.{[], ◌≡◌, ℕ, ◌≤◌, true, List, map, replicate, vec_capacity}
 use Rattle.bt_tree.specs.Blocks.{block_count}
 use Rattle.bt_meta.specs.Torrent.{IsLawful}
@@ -25,7 +26,8 @@ pub record AreBareParts {D H : Type 0} (dig : List ℕ → List ℕ) (parts : Pa
   pub first_turn : parts.turn ≡ 0
 
 -- the torrent's engine has begun, with these devices
-pub record HaveBegun {D H : Type 0} (dig : List ℕ → List ℕ) (given : List D) (parts : Parts D H) : Type 0 where
+pub record HaveBegun {D H : Type 0} (dig : List ℕ → List ℕ) (given : List D) (parts : Parts D H)
+    : Type 0 where
   pub starts : Starts dig parts.torrent (state_of parts)
   pub devices : AreDevicesOf parts.torrent.files given (disks_of parts)
   pub tied : IsTied parts

@@ -28,9 +28,10 @@ const MAX_PEERS: usize = 64;
 
 /// The parts with which an engine of a torrent begins, without a log: all blocks are missing, and no peer is
 /// connected. Each file that has a byte takes one of the devices, in the torrent's order, and no call of them
-/// is made. It takes time in proportion to the files, the pieces and the blocks.
+/// is made. It goes once over the files, the pieces and the blocks.
 ///
-/// Errors: there is not one device for each file that has a byte, or out of memory. The devices are given back.
+/// Errors: there is not one device for each file that has a byte, or out of memory. The devices are given
+/// back.
 pub fn start<D: Disk + Drop, H: NodeHash>(
     alloc: Global,
     torrent: Torrent,
