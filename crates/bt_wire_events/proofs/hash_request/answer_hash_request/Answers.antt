@@ -1,8 +1,8 @@
 use Rattle.std.proofs.Common.{refl, subst}
 use Rattle.bt_machine.specs.HashMessages.{answered, rejected}
-use Rattle.bt_wire_events.specs.Hashes.{IsAnswerBy}
+use Rattle.bt_wire_events.specs.HashRequestSteps.{IsAnswerBy}
 use Rattle.bt_wire_events.proofs.HashAnswers.{stands_at, silent_more, answered_at, all_silent}
-use Rattle.bt_wire_events.proofs.hashes.answer_hash_request.Goals as goal
+use Rattle.bt_wire_events.proofs.hash_request.answer_hash_request.Goals as goal
 
 pub returns-in-Some : goal.returns-in-Some
 returns-in-Some g c = λ s p same.

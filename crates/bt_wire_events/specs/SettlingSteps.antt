@@ -1,10 +1,8 @@
 -- Blocks of a file that are read back.
-use Rattle.std.specs.Prelude.{◌≡◌, ℕ, ◌+◌, min, Bool, false, ◌&&◌, is_some, if◌then◌else◌, List, ◌++◌}
-use Rattle.std.specs.List.{count_by}
+use Rattle.std.specs.Prelude.{◌≡◌, ℕ, Bool, false, ◌&&◌, is_some, if◌then◌else◌, List, ◌++◌}
 use Rattle.bt_disk.specs.History.{History}
 use Rattle.bt_sparse.specs.SparseTree.{Facts, value_at}
 use Rattle.bt_store.specs.FileStore.{StoreView}
-use Rattle.bt_store.specs.BlockStates.{is_waiting}
 use Rattle.bt_store.specs.BlockReads.{BlockRead, IsJudged}
 use Rattle.bt_store.specs.Review.{is_waiting_at, is_marked_at, waiting_blocks}
 use Rattle.bt_store.specs.declared.block_states.BlockState.{BlockState}
@@ -20,10 +18,6 @@ is_due dig k states i = is_waiting_at states i && is_some (value_at dig k 0 i)
 -- what became of a block that was read back, where the file's blocks have these states then
 abbrev pub note_at : (file : ℕ) → List BlockState → ℕ → Note
 note_at file states i = if is_marked_at states i then Marked (block_id file i) else Freed (block_id file i)
-
--- how many notes there are at most: one for each block that waits, and one for the device
-abbrev pub note_room : (count : ℕ) → List BlockState → ℕ
-note_room count states = min count (count_by is_waiting states) + 1
 
 -- Those of so many blocks from one on were read back that wait and whose leaf is known, and to the notes that
 -- there were the machine's are added.

@@ -2,7 +2,7 @@ use Rattle.std.proofs.Common.{refl, arith}
 use Rattle.bt_machine.proofs.Lists.{some_below}
 use Rattle.bt_wire_events.proofs.HashAnswers.{stands_at}
 use Rattle.bt_wire_events.proofs.Learnings.{none_more}
-use Rattle.bt_wire_events.proofs.hashes.tree_of.Goals as goal
+use Rattle.bt_wire_events.proofs.learning.tree_of.Goals as goal
 
 pub returns-then-has_root-clause-some : goal.returns-then-has_root-clause-some
 returns-then-has_root-clause-some g c = (

@@ -1,5 +1,6 @@
 -- What hashes that come make of the trees and the files.
-use Rattle.std.specs.Prelude.{[], ◌≡◌, ◌≢◌, ℕ, List, map, Some, slice_get, slice_set}
+use Rattle.std.specs.Prelude.{[], ◌≡◌, ◌≢◌, ◌≤◌, ℕ, List, Some, slice_get, slice_set}
+use Rattle.std.specs.List.{sum_by}
 use Rattle.bt_disk.specs.History.{History}
 use Rattle.bt_sparse.specs.SparseTree.{Facts}
 use Rattle.bt_sparse.specs.Acceptance.{Accepts, IsRefused}
@@ -11,18 +12,12 @@ use Rattle.bt_hashreq.specs.declared.key.HashKey.{HashKey}
 use Rattle.bt_machine.specs.declared.answer.Note.{Note}
 use Rattle.bt_machine.specs.declared.answer.Why.{Why}
 use Rattle.bt_machine.specs.declared.answer.Why.TheVariants.{UnknownRoot, Proof}
-use Rattle.bt_machine.specs.declared.hash_state.HashState.{HashState}
-use Rattle.bt_machine.specs.declared.hash_state.HashState.TheVariants.{Idle}
-use Rattle.bt_machine.specs.State.{EngineState, PeerState, FileState, Hint}
-use Rattle.bt_machine.specs.Devices.{DeviceCalls, HaveCalls}
-use Rattle.bt_machine.specs.Blocks.{with_peer}
-use Rattle.bt_machine.specs.Output.{Effect, no_effect, closing}
-use Rattle.bt_machine.specs.HashMessages.{settled_count, Resolves, HandlesHashes}
-use Rattle.bt_state.specs.Parts.{file_of, disk_of}
-use Rattle.bt_wire_events.specs.Runs.{SettlesSlots, FitsLength}
+use Rattle.bt_machine.specs.HashMessages.{settled_count}
+use Rattle.bt_wire_events.specs.NoteRooms.{slot_room, run_room}
+use Rattle.bt_wire_events.specs.RunSteps.{SettlesSlots, FitsLength}
 use Rattle.bt_state.specs.declared.slot.Slot.{Slot}
-use Rattle.bt_wire_events.specs.declared.hashes.Learnt.{Learnt}
-use Rattle.bt_wire_events.specs.declared.hashes.Learnt.TheVariants.{Refused, Settled}
+use Rattle.bt_wire_events.specs.declared.learning.Learnt.{Learnt}
+use Rattle.bt_wire_events.specs.declared.learning.Learnt.TheVariants.{Refused, Settled}
 
 -- the tree of a root stands at i
 pub record HasRoot (trees : List Facts) (root : List ℕ) (i : ℕ) (k : Facts) : Type 0 where
@@ -65,32 +60,12 @@ ChangesByHashes history honest faults dig key digests trees slots (Refused why) 
 ChangesByHashes history honest faults dig key digests trees slots (Settled notes) grown settled =
     Learns history honest faults dig key digests trees slots notes.items grown settled
 
+-- the blocks of a run are settled in the tree of this root with at most so many notes
+abbrev pub IsRoomFor : {D H : Type 0} → List Facts → List (Slot D H) → HashKey → ℕ → Type 0
+IsRoomFor trees slots key room = (i : ℕ) (k : Facts) → HasRoot trees key.root i k
+    → sum_by (slot_room i (run_room key)) slots ≤ room
+
 -- each slot of a tree has a store of its length
 abbrev pub FitLengths : {D H : Type 0} → List Facts → List (Slot D H) → Type 0
 FitLengths {D} {H} trees slots = (file : ℕ) (slot : Slot D H) (k : Facts) → slice_get slots file ≡ Some slot
     → slice_get trees slot.tree ≡ Some k → FitsLength k slot.tree slot
-
--- ---- in an engine
-
-abbrev pub effect_of : Learnt → List Hint → Effect
-effect_of (Refused why) proofs = closing why
-effect_of (Settled notes) proofs = record no_effect { notes = notes.items; proofs = proofs }
-
--- The engine then, which has these trees and files. Its i-th peer has this hash state where a proof was
--- accepted.
-abbrev pub after_hashes : EngineState → ℕ → PeerState → HashState → Learnt → List Facts → List FileState
-    → EngineState
-after_hashes s i p hash (Refused why) trees files = record s { trees = trees; files = files }
-after_hashes s i p hash (Settled notes) trees files =
-    with_peer (record s { trees = trees; files = files }) i (record p { hash = hash })
-
--- in every engine of these trees and files the machine takes the hashes by calls of these devices
-abbrev pub TakesHashes : {D H : Type 0} → (D → History) → (D → Type 0) → (D → ℕ) → (List ℕ → List ℕ) → HashKey
-    → List ℕ → List Facts → List (Slot D H) → Learnt → List Facts → List (Slot D H) → Type 0
-TakesHashes history honest faults dig key digests trees slots learnt grown settled =
-    (calls : DeviceCalls) × (proofs : List Hint)
-    × HaveCalls history honest faults (map disk_of slots) calls (map disk_of settled)
-    × ((s : EngineState) (i : ℕ) (p : PeerState) (hash : HashState) → s.trees ≡ trees
-    → s.files ≡ map file_of slots → Resolves key Idle p.hash hash
-    → HandlesHashes dig s i p key digests calls (effect_of learnt proofs)
-    (after_hashes s i p hash learnt grown (map file_of settled)))
