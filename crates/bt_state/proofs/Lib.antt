@@ -14,3 +14,6 @@ pub mod Completeness
 pub mod DeviceCalls
 -- the counts of unmarked blocks
 pub mod Unmarked
+-- a block that has another state
+pub mod BlockChanges
+pub mod SlotChanges
