@@ -2,6 +2,7 @@ pub mod Lists
 -- pieces
 pub mod Bits
 pub mod Wholes
+pub mod NextPieces
 -- the book and the peers
 pub mod Books
 pub mod PeerLists

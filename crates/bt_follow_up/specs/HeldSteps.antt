@@ -1,5 +1,5 @@
 -- Which blocks of a torrent a peer has, by its pieces, and the first of them from a block on.
-use Rattle.std.specs.Prelude.{◌≡◌, ℕ, ◌+◌, ◌*◌, ◌/◌, ◌<◌, ◌≤◌, ◌&&◌, Bool, true, false, List, Option, IfSome, IfNone, slice_get, slice_index_or, nat_lt}
+use Rattle.std.specs.Prelude.{◌≡◌, ℕ, ◌+◌, ◌*◌, ◌/◌, ◌≤◌, ◌&&◌, Bool, false, List, Option, IfSome, IfNone, slice_get, slice_index_or, nat_lt}
 use Rattle.std.specs.Option.{option_map_or}
 use Rattle.bt_tree.specs.Limits.{full_block_length}
 use Rattle.bt_tree.specs.Blocks.{block_count}
@@ -25,15 +25,6 @@ IsNextHeld torrent pieces from r =
 pub record LiesIn (torrent : Metainfo) (b : BlockId) (piece : ℕ) : Type 0 where
   pub has : HasBlock torrent b.file b.block
   pub is : piece ≡ has.entry.first_piece + full_block_length * b.block / torrent.piece_length
-
--- the first piece, from one on, of which this says true
-pub record IsNextPiece (pieces : List Bool) (from piece : ℕ) : Type 0 where
-  pub after : from ≤ piece
-  pub held : slice_index_or pieces piece false ≡ true
-  pub least : (q : ℕ) → from ≤ q → q < piece → slice_index_or pieces q false ≡ false
-
-abbrev pub HasNoPiece : List Bool → ℕ → Type 0
-HasNoPiece pieces from = (q : ℕ) → from ≤ q → slice_index_or pieces q false ≡ false
 
 -- No block behind this one lies in an earlier piece, and none before it in a later one; where one before it
 -- lies in the piece, it does, too.
