@@ -24,8 +24,8 @@ pub enum Effect {
     Closed(Why),
 }
 
-/// Takes a block that comes from the peer at `index`: where the peer is asked for it, it is put into its file's
-/// store, and the peer is asked for it no more.
+/// Takes a block that comes from the peer at `index`, of which it has these bytes: where the peer is asked for
+/// it, it is put into its file's store, and the peer is asked for it no more.
 pub fn take_piece<D: Disk + Drop, H: NodeHash>(
     parts: &mut Parts<D, H>,
     index: usize,
