@@ -1,4 +1,4 @@
-use Rattle.std.proofs.Common.{◌≡◌, List, ap, ◌∙◌, refl, map, arith}
+use Rattle.std.proofs.Common.{List, ap, ◌∙◌, refl, map, arith}
 use Rattle.std.specs.Global.{Vec}
 use Rattle.bt_book.specs.Book.{BookState}
 use Rattle.bt_machine.proofs.Lists.{set_id}
