@@ -26,8 +26,8 @@ pub enum Effect {
     Closed(Why),
 }
 
-/// Takes bytes of a piece, from the byte `begin` on, that come from the peer at `index`: where they are all of
-/// a block that it is asked for, they are put into the file's store, and it is asked for the block no more.
+/// Takes bytes of a piece, from the byte `begin` on, that come from the peer at `index`: where they are all
+/// of a block that it is asked for, they are put into the file's store, and it is asked for it no more.
 pub fn take_piece<D: Disk + Drop, H: NodeHash>(
     parts: &mut Parts<D, H>,
     index: usize,

@@ -96,7 +96,8 @@ fn are_marked<D: Disk + Drop, H: NodeHash>(parts: &Parts<D, H>, span: Span) -> b
 
 /// Whether a block of a file is marked.
 fn is_marked<D: Disk + Drop, H: NodeHash>(parts: &Parts<D, H>, file: u32, block: u32) -> bool
-    ensures yes { OnTrue result (state_at (state_of parts.now) (block_id file block) ≡ Some BlockState.Marked) }
+    ensures yes { OnTrue result (state_at (state_of parts.now) (block_id file block)
+        ≡ Some BlockState.Marked) }
     ensures no { OnFalse result (state_at (state_of parts.now) (block_id file block)
         ≢ Some BlockState.Marked) }
 {
