@@ -2,7 +2,7 @@ use Rattle.bt_block_events.proofs.SpanReads.{place_is_short}
 use Rattle.std.proofs.Common.{subst}
 use Rattle.std.specs.List.{All}
 use Rattle.bt_meta.specs.Torrent.{IsLawfulFile}
-use Rattle.bt_block_events.proofs.serving.place_of.Goals as goal
+use Rattle.bt_block_events.proofs.spans.place_of.Goals as goal
 
 pub returns-clause-short : goal.returns-clause-short
 returns-clause-short c =

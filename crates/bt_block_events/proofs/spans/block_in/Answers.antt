@@ -1,7 +1,7 @@
 use Rattle.std.proofs.lemmas.Option.{IfSome_then}
 use Rattle.bt_machine.proofs.Places.{same_block}
 use Rattle.bt_block_events.proofs.Placing.{none_by, ends_inside, is_short, whole_of, all_of}
-use Rattle.bt_block_events.proofs.piece.block_of.Goals as goal
+use Rattle.bt_block_events.proofs.spans.block_in.Goals as goal
 
 pub returns-in_default-clause-none : goal.returns-in_default-clause-none
 returns-in_default-clause-none c = λ b w. (rw c.in_default.is at c.place.ensures.none) w.span w.place
