@@ -19,7 +19,8 @@ pub(crate) fn settle_others<D: Disk + Drop, H: NodeHash>(
     requires in_line { AreInLine parts.old }
     requires count { length parts.old.slots.items ≡ length parts.old.torrent.files }
     requires here { tree < vec_len parts.old.trees }
-    ensures settles { SettlesFiles D.history D.honest D.faults H.digest (is_other file) tree parts.old parts.new }
+    ensures settles { SettlesFiles D.history D.honest D.faults H.digest (is_other file) tree
+        parts.old parts.new }
     ensures rest { KeepsRest parts.old parts.new }
     ensures in_line { AreInLine parts.new }
 {
