@@ -1,4 +1,4 @@
-ghost use Rattle.std.specs.Prelude.{[], ◌≡◌, ◌<◌, List, IfOk, IfErr, flat_map, length, vec_len};
+ghost use Rattle.std.specs.Prelude.{[], ◌≡◌, ◌<◌, ◌↔◌, List, IsTrue, IfOk, IfErr, flat_map, length, vec_len};
 ghost use Rattle.bt_machine.specs.Devices.{DeviceCalls, HaveCalls};
 ghost use Rattle.bt_machine.specs.Blocks.{states_of};
 ghost use Rattle.bt_machine.specs.Shape.{IsShaped};
@@ -40,7 +40,7 @@ pub fn adopt<D: Disk + Drop, H: NodeHash>(
     if file as usize >= parts.slots.len() {
         return Err(AdoptError::NoFile);
     }
-    if parts.peers.len() > 0 {
+    if has_peer(parts) {
         return Err(AdoptError::Busy);
     }
     if block_count(parts, file) == 0 {
@@ -57,6 +57,13 @@ pub fn adopt<D: Disk + Drop, H: NodeHash>(
     };
     settle_others(parts, tree, file);
     Ok(total)
+}
+
+/// Whether a peer is connected.
+fn has_peer<D: Disk + Drop, H: NodeHash>(parts: &Parts<D, H>) -> bool
+    ensures { IsTrue result ↔ (0 < length parts.now.peers.items) }
+{
+    parts.peers.len() > 0
 }
 
 /// Takes in all groups of a file that has a block. No peer is connected.

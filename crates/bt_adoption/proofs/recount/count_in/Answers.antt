@@ -41,19 +41,17 @@ loop-block-preserved g c =
     (replicate_at Marked (length states) c.loop-block.block lt) (told old c.args.file marked states c.loop-block.invariant c.block_state-state.ensures)
     c.follow_block.new.parts c.follow_block.ensures.followed c.follow_block.ensures.peers c.follow_block.ensures.others
 
-pub returns-clause-follows : goal.returns-clause-follows
-returns-clause-follows g c =
+pub returns : goal.returns
+returns g c =
     let old = c.args.parts.now in
     let states = states_of (state_of old) c.args.file in
     let marked = replicate (length states) Marked in
     let size = length-replicate (length states) Marked in
-    subst (λ (s : EngineState). Follows c.loop-block.parts s)
-    (mixed_done (state_of old) c.args.file marked states (sym size) size c.loop-block.block
-    (omega (arith, size, c.block_count-count.ensures, c.loop-block-test.false, c.loop-block.auto.block-end)) ∙ own_states (state_of old) c.args.file)
-    c.loop-block.invariant.followed
-
-pub returns-clause-peers : goal.returns-clause-peers
-returns-clause-peers g c = c.loop-block.invariant.peers
-
-pub returns-clause-others : goal.returns-clause-others
-returns-clause-others g c = c.loop-block.invariant.others
+    let done = c.loop-block.invariant in
+    record {
+      follows = subst (λ (s : EngineState). Follows c.loop-block.parts s)
+          (mixed_done (state_of old) c.args.file marked states (sym size) size c.loop-block.block
+          (omega (arith, size, c.block_count-count.ensures, c.loop-block-test.false, c.loop-block.auto.block-end)) ∙ own_states (state_of old) c.args.file) done.followed;
+      peers = done.peers;
+      others = done.others;
+    }

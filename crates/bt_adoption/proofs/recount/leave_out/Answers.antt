@@ -40,18 +40,16 @@ loop-block-preserved g c =
     (told old c.args.file states marked c.loop-block.invariant c.block_state-state.ensures) (replicate_at Marked (length states) c.loop-block.block lt)
     c.follow_block.new.parts c.follow_block.ensures.followed c.follow_block.ensures.peers c.follow_block.ensures.others
 
-pub returns-clause-follows : goal.returns-clause-follows
-returns-clause-follows g c =
+pub returns : goal.returns
+returns g c =
     let old = c.args.parts.now in
     let states = states_of (state_of old) c.args.file in
     let marked = replicate (length states) Marked in
-    subst (λ (s : EngineState). Follows c.loop-block.parts s)
-    (mixed_done (state_of old) c.args.file states marked (length-replicate (length states) Marked) refl c.loop-block.block
-    (omega (arith, c.block_count-count.ensures, c.loop-block-test.false, c.loop-block.auto.block-end)))
-    c.loop-block.invariant.followed
-
-pub returns-clause-peers : goal.returns-clause-peers
-returns-clause-peers g c = c.loop-block.invariant.peers
-
-pub returns-clause-others : goal.returns-clause-others
-returns-clause-others g c = c.loop-block.invariant.others
+    let done = c.loop-block.invariant in
+    record {
+      follows = subst (λ (s : EngineState). Follows c.loop-block.parts s)
+          (mixed_done (state_of old) c.args.file states marked (length-replicate (length states) Marked) refl c.loop-block.block
+          (omega (arith, c.block_count-count.ensures, c.loop-block-test.false, c.loop-block.auto.block-end))) done.followed;
+      peers = done.peers;
+      others = done.others;
+    }

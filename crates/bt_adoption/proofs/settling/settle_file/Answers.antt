@@ -23,7 +23,7 @@ pub leave_out-requires : goal.leave_out-requires
 leave_out-requires g c = c.requires.in_line.follows
 
 pub settle_slot-requires-clause-fits : goal.settle_slot-requires-clause-fits
-settle_slot-requires-clause-fits g c = still_fit c.args.parts.now c.leave_out.new.parts c.leave_out.ensures.others c.requires.in_line.fits
+settle_slot-requires-clause-fits g c = still_fit c.leave_out.ensures c.requires.in_line.fits
 
 pub settle_slot-requires-clause-due : goal.settle_slot-requires-clause-due
 settle_slot-requires-clause-due g c =
@@ -36,25 +36,13 @@ settle_slot-requires-clause-due g c =
     (c.is_due.ensures.0 c.if-not-is_due.false)
 
 pub count_in-requires : goal.count_in-requires
-count_in-requires g c =
-    follows_still c.args.file c.args.parts.now c.leave_out.new.parts c.settle_slot.new.parts c.requires.alone c.leave_out.ensures.others c.leave_out.ensures.follows
-    c.leave_out.ensures.peers c.settle_slot.ensures.changes
+count_in-requires g c = follows_still c.leave_out.ensures c.requires.alone c.settle_slot.ensures.changes
 
 pub returns-clause-settles : goal.returns-clause-settles
-returns-clause-settles g c =
-    let d = g.D.Disk in
-    settles_again c.args.file c.args.parts.now c.leave_out.new.parts c.settle_slot.new.parts c.requires.alone c.leave_out.ensures.others
-    c.leave_out.ensures.follows c.leave_out.ensures.peers c.settle_slot.ensures.changes c.count_in.new.parts c.count_in.ensures.others c.count_in.ensures.follows
-    c.count_in.ensures.peers d.history d.honest d.faults g.H.NodeHash.digest (λ other. other == c.args.file) c.args.tree c.settle_slot.ensures.settles
+returns-clause-settles g c = settles_again c.leave_out.ensures c.requires.alone c.settle_slot.ensures.changes c.count_in.ensures c.settle_slot.ensures.settles
 
 pub returns-clause-rest : goal.returns-clause-rest
-returns-clause-rest g c =
-    rest_again c.args.file c.args.parts.now c.leave_out.new.parts c.settle_slot.new.parts c.requires.alone c.leave_out.ensures.others
-    c.leave_out.ensures.follows c.leave_out.ensures.peers c.settle_slot.ensures.changes c.count_in.new.parts c.count_in.ensures.others c.count_in.ensures.follows
-    c.count_in.ensures.peers
+returns-clause-rest g c = rest_again c.leave_out.ensures c.requires.alone c.settle_slot.ensures.changes c.count_in.ensures
 
 pub returns-clause-in_line : goal.returns-clause-in_line
-returns-clause-in_line g c =
-    in_line_again c.args.file c.args.parts.now c.leave_out.new.parts c.settle_slot.new.parts c.requires.alone c.leave_out.ensures.others
-    c.leave_out.ensures.follows c.leave_out.ensures.peers c.settle_slot.ensures.changes c.count_in.new.parts c.count_in.ensures.others c.count_in.ensures.follows
-    c.count_in.ensures.peers
+returns-clause-in_line g c = in_line_again c.leave_out.ensures c.requires.alone c.settle_slot.ensures.changes c.count_in.ensures
