@@ -79,7 +79,7 @@ module _ {D H : Type 0} (old : Parts D H) (file : ℕ) {slot : Slot D H} (here :
   has_store None has = absurd (not_empty old file here some has)
   has_store (Some st) has = (st, has)
 
-  pub tree_below : AreInLine old → slot.tree < length old.trees.items
+  pub tree_below : AreInLine old → slot.tree < old.trees.len
   tree_below in_line = tree_there old file here in_line.fits (has_store slot.store refl).1
 
   -- the file's tree is of as many blocks as the file has
