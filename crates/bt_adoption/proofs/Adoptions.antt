@@ -1,12 +1,11 @@
 -- The event in which what the device of a file has is taken in.
-use Rattle.bt_machine.proofs.Base.{[], ◌≡◌, ℕ, zero, suc, Bool, false, ◌+◌, ◌<◌, ◌≤◌, List, ◌∷◌, ◌++◌, length, map, flat_map, Option, Some, None, Result, Ok, Err, refl, sym, ap, ◌∙◌, subst, arith, length-map, slice_get, option_map_or, History, Adopted, BlockState, max_peers, block_count, blocks_of}
+use Rattle.bt_machine.proofs.Base.{[], ◌≡◌, ℕ, zero, suc, Bool, false, ◌<◌, ◌≤◌, List, ◌∷◌, ◌++◌, length, map, flat_map, Option, Some, None, Result, Ok, Err, refl, sym, ap, ◌∙◌, subst, arith, length-map, slice_get, option_map_or, History, Adopted, BlockState, max_peers, block_count, blocks_of}
 use Rattle.std.specs.Prelude.{IsTrue}
 use Rattle.std.specs.Vec.{vec_capacity}
 use Rattle.bt_store.specs.FileStore.{StoreView}
 use Rattle.bt_machine.proofs.Lists.{get_some}
 use Rattle.bt_machine.specs.declared.error.AdoptError.{AdoptError}
 use Rattle.bt_machine.specs.declared.error.AdoptError.TheVariants.{NoFile, Busy, OutOfMemory}
-use Rattle.bt_machine.specs.State.{EngineState, FileState}
 use Rattle.bt_machine.specs.Devices.{DeviceCalls, HaveCalls}
 use Rattle.bt_machine.specs.Blocks.{states_of}
 use Rattle.bt_machine.specs.Settling.{SettlesIn}

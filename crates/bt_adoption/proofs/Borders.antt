@@ -1,12 +1,12 @@
 -- Groups that are taken in one after the other, from the first block on, do not overlap.
-use Rattle.bt_machine.proofs.Base.{◌≡◌, ◌≢◌, ℕ, zero, suc, ◌+◌, ◌-◌, ◌*◌, ◌/◌, ◌%◌, ◌^◌, ◌<◌, ◌≤◌, ◌⊎◌, inl, inr, min, List, ◌++◌, Option, Some, None, is_some, IsSome, refl, sym, ap, ◌∙◌, subst, arith, length, map, length-map, length-range_with_len, div-add-mod, mul-mod_left, mul_assoc, div-div-eq-div-mul, div-mul-add, pow-add, pow_pos, height_of, block_count, cases_lt, count_by-le-length, Facts, blocks_of, height, held_at, value_at, IsRooted, value_covers, BlockRead, block_of, is_fault, right_count, fault_count, IsUnknownGroup, Adopts, none, known, accepted, not_accepted as refused, short, unread, Adopted, BlockState, Accepts}
+use Rattle.bt_machine.proofs.Base.{◌≡◌, ℕ, zero, suc, ◌+◌, ◌-◌, ◌*◌, ◌/◌, ◌%◌, ◌^◌, ◌<◌, ◌≤◌, ◌⊎◌, inl, inr, List, ◌++◌, Option, Some, None, is_some, IsSome, refl, sym, ap, ◌∙◌, subst, arith, length, map, length-map, length-range_with_len, div-add-mod, mul-mod_left, mul_assoc, div-div-eq-div-mul, div-mul-add, pow-add, pow_pos, height_of, block_count, cases_lt, count_by-le-length, Facts, blocks_of, height, held_at, value_at, IsRooted, value_covers, BlockRead, block_of, is_fault, IsUnknownGroup, Adopts, none, known, accepted, not_accepted as refused, short, unread, Adopted, BlockState}
 use Rattle.std.specs.List.{range_with_len}
 use Rattle.std.proofs.Math.Nat.{zero-div, mod-lt}
 use Rattle.std.proofs.lemmas.Bool.{cases_eq}
 use Rattle.bt_sparse.specs.SparseTree.{HasParent}
 use Rattle.bt_sparse.proofs.Anchors.{known_above, covers_above}
 use Rattle.bt_store.specs.BlockReads.{is_right_read}
-use Rattle.bt_store.specs.Adoption.{IsKnownGroup, AreWhole}
+use Rattle.bt_store.specs.Adoption.{IsKnownGroup}
 
 -- A group may begin at the first block, behind the blocks below a node that is held, or at the file's end.
 pub data IsBorder (k : Facts) (from : ℕ) : Type 0 where

@@ -1,9 +1,7 @@
 -- The files of a tree but one are settled, one after the other.
-use Rattle.bt_machine.proofs.Base.{[], ◌≡◌, ◌≢◌, ℕ, ◌+◌, ◌<◌, ◌≤◌, inl, inr, Bool, true, false, not, ◌&&◌, List, ◌++◌, length, refl, sym, ap, ◌∙◌, subst, arith, ◌==◌, eq-eqb, lt-ltb, le-ltb, cases_lt, length-map, slice_get, option_map_or, History, blocks_of}
+use Rattle.bt_machine.proofs.Base.{[], ◌≡◌, ◌≢◌, ℕ, ◌+◌, ◌<◌, ◌≤◌, inl, inr, false, not, ◌&&◌, List, ◌++◌, length, refl, sym, ap, ◌∙◌, subst, arith, ◌==◌, eq-eqb, lt-ltb, le-ltb, cases_lt, length-map, History}
 use Rattle.std.proofs.lemmas.Bool.{cases_eq, ne_eqb}
-use Rattle.bt_book.specs.Book.{peers_of}
 use Rattle.bt_machine.proofs.Lists.{get_some}
-use Rattle.bt_machine.specs.State.{EngineState}
 use Rattle.bt_machine.specs.Settling.{SettlesIn}
 use Rattle.bt_machine.specs.Adopting.{is_other}
 use Rattle.bt_state.specs.Parts.{state_of, file_of, disks_of}

@@ -1,15 +1,15 @@
 -- A file of which block after block gets another state.
-use Rattle.bt_machine.proofs.Base.{[], ◌≡◌, ◌≢◌, ℕ, zero, suc, ◌+◌, ◌<◌, ◌≤◌, List, ◌∷◌, ◌++◌, length, map, take, drop, replicate, Option, Some, None, refl, sym, ap, ◌∙◌, subst, arith, slice_get, slice_set, option_and_then, option_map_or, length-replicate, BlockId, BlockState, Marked}
+use Rattle.bt_machine.proofs.Base.{[], ◌≡◌, ℕ, zero, suc, ◌+◌, ◌<◌, List, ◌∷◌, ◌++◌, length, take, drop, replicate, Option, Some, None, refl, sym, ap, ◌∙◌, subst, arith, slice_get, slice_set, option_and_then, option_map_or, BlockState, Marked}
 use Rattle.std.proofs.Common.{add-one}
-use Rattle.bt_machine.proofs.Lists.{set_same, set_id, some_is, some_below, get_some}
+use Rattle.bt_machine.proofs.Lists.{set_same, set_id, some_is, some_below}
 use Rattle.bt_book.specs.Book.{peers_of}
 use Rattle.bt_machine.specs.State.{EngineState, FileState}
 use Rattle.bt_machine.specs.Blocks.{block_id, state_at, states_of}
 use Rattle.bt_state.specs.BlockChange.{AreFollowed, OneChanged, HasChanged}
-use Rattle.bt_state.specs.Parts.{state_of, file_of}
+use Rattle.bt_state.specs.Parts.{state_of}
 use Rattle.bt_state.specs.declared.parts.Parts.{Parts}
 use Rattle.bt_state.proofs.SlotChanges.{block_changed, set_again}
-use Rattle.bt_adoption.specs.RecountSteps.{with_states, with_marked_file, Follows}
+use Rattle.bt_adoption.specs.RecountSteps.{with_states, Follows}
 
 -- ---- states that are replaced from the first on
 

@@ -1,5 +1,5 @@
 -- Files of a tree that are settled, one after the other.
-use Rattle.bt_machine.proofs.Base.{[], ◌≡◌, ◌≢◌, ℕ, zero, suc, ◌+◌, ◌<◌, ◌≤◌, inl, inr, Bool, true, false, not, cond, ◌&&◌, if◌then◌else◌, List, ◌∷◌, ◌++◌, length, map, flat_map, get_or, Option, Some, None, refl, sym, ap, ◌∙◌, subst, arith, ◌==◌, eqb-true, eq-eqb, lt-ltb, le-ltb, cases_lt, append-nil, length-map, slice_get, slice_set, option_map, option_map_or, range_with_len, Facts, History, BlockRead, block_of, call_of, judged, waiting_blocks, is_waiting, BlockState, blocks_of, block_count}
+use Rattle.bt_machine.proofs.Base.{[], ◌≡◌, ◌≢◌, ℕ, zero, suc, ◌+◌, ◌<◌, ◌≤◌, inl, inr, Bool, true, false, cond, ◌&&◌, if◌then◌else◌, List, ◌∷◌, ◌++◌, length, map, flat_map, Option, Some, None, refl, sym, ap, ◌∙◌, arith, ◌==◌, eqb-true, eq-eqb, lt-ltb, le-ltb, cases_lt, append-nil, slice_get, option_map, option_map_or, range_with_len, Facts, History, BlockRead, block_of, call_of, judged, waiting_blocks, is_waiting, BlockState, blocks_of, block_count}
 use Rattle.std.specs.Prelude.{nat_lt, IsTrue, ◌↔◌}
 use Rattle.std.specs.List.{count_by}
 use Rattle.std.specs.Vec.{with_item}
@@ -11,18 +11,18 @@ use Rattle.bt_store.proofs.Reviews.{nothing_waits}
 use Rattle.bt_machine.proofs.Lists.{set_same, set_other, some_is, some_below, get_some}
 use Rattle.bt_machine.specs.declared.answer.Note.{Note}
 use Rattle.bt_machine.specs.State.{EngineState, FileState}
-use Rattle.bt_machine.specs.Devices.{DeviceCalls, HaveCalls, calls_at, reads_at}
+use Rattle.bt_machine.specs.Devices.{DeviceCalls, reads_at}
 use Rattle.bt_machine.specs.Blocks.{file_numbers}
 use Rattle.bt_machine.specs.Settling.{SettlesIn, judged_file, due_blocks, settling_notes}
 use Rattle.bt_machine.specs.Adopting.{is_other}
-use Rattle.bt_state.specs.Parts.{state_of, file_of, disk_of, disks_of}
+use Rattle.bt_state.specs.Parts.{state_of, file_of, disks_of}
 use Rattle.bt_state.specs.declared.slot.Slot.{Slot}
 use Rattle.bt_state.specs.declared.parts.Parts.{Parts}
 use Rattle.bt_state.proofs.Lists.{get_mapped}
-use Rattle.bt_state.proofs.DeviceCalls.{have_none, have_then}
-use Rattle.bt_state.proofs.SlotChanges.{file_here, files_changed, have_changed}
+use Rattle.bt_state.proofs.DeviceCalls.{have_none}
+use Rattle.bt_state.proofs.SlotChanges.{files_changed, have_changed}
 use Rattle.bt_adoption.specs.GroupsSteps.{file_with}
-use Rattle.bt_adoption.specs.PartsSteps.{blocks_in, KeepsRest, AreInLine}
+use Rattle.bt_adoption.specs.PartsSteps.{blocks_in}
 use Rattle.bt_adoption.specs.SettlingSteps.{SettlesFiles, IsDue}
 use Rattle.bt_adoption.proofs.Slots.{calls_are, IsKept}
 use Rattle.bt_adoption.proofs.Takings.{length_judged}

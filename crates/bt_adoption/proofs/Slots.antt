@@ -1,23 +1,23 @@
 -- A file's slot whose store has changed, and the tree of a file that has grown.
-use Rattle.bt_machine.proofs.Base.{[], ◌≡◌, ◌≢◌, ℕ, zero, suc, ◌+◌, ◌<◌, ◌≤◌, inl, inr, List, ◌∷◌, ◌++◌, length, map, flat_map, replicate, get_or, Option, Result, Ok, Err, Some, None, refl, sym, ap, ◌∙◌, subst, arith, length-set, slice_get, slice_set, option_map_or, Facts, File, History, BlockRead, call_of, BlockState, Marked, Adopted, block_count, blocks_of}
+use Rattle.bt_machine.proofs.Base.{[], ◌≡◌, ℕ, ◌<◌, inl, inr, List, ◌∷◌, ◌++◌, length, map, flat_map, replicate, get_or, Option, Result, Ok, Err, Some, None, refl, sym, ap, ◌∙◌, subst, arith, length-set, slice_get, slice_set, option_map_or, Facts, File, History, BlockRead, call_of, BlockState, Marked, Adopted, block_count, blocks_of}
 use Rattle.std.specs.Prelude.{IfOk, IfErr}
 use Rattle.std.proofs.lemmas.Bool.{cases_eq}
 use Rattle.std.proofs.lemmas.List.{map-append}
-use Rattle.std.specs.Vec.{with_item, vec_len}
+use Rattle.std.specs.Vec.{with_item}
 use Rattle.bt_disk.specs.Calls.{HasCalls}
 use Rattle.bt_disk.proofs.CallLists.{has_then}
 use Rattle.bt_store.specs.FileStore.{StoreView}
 use Rattle.bt_machine.proofs.Lists.{set_same, set_other, some_is, some_below}
-use Rattle.bt_machine.specs.State.{EngineState, FileState}
-use Rattle.bt_machine.specs.Devices.{DeviceCalls, HaveCalls, calls_at, reads_at}
+use Rattle.bt_machine.specs.State.{FileState}
+use Rattle.bt_machine.specs.Devices.{calls_at, reads_at}
 use Rattle.bt_machine.specs.Blocks.{states_of}
 use Rattle.bt_machine.specs.Adopting.{AdoptsGroups}
-use Rattle.bt_state.specs.Parts.{state_of, file_of, disk_of, disks_of}
+use Rattle.bt_state.specs.Parts.{state_of, file_of}
 use Rattle.bt_state.specs.Ties.{FitsFile, FitsTree}
 use Rattle.bt_state.specs.declared.slot.Slot.{Slot}
 use Rattle.bt_state.specs.declared.parts.Parts.{Parts}
 use Rattle.bt_state.proofs.Lists.{get_mapped, get_read}
-use Rattle.bt_state.proofs.SlotChanges.{changed, file_here, files_changed, have_changed, fits_changed, set_again}
+use Rattle.bt_state.proofs.SlotChanges.{file_here, files_changed, have_changed, fits_changed, set_again}
 use Rattle.bt_adoption.specs.GroupsSteps.{all_reads, file_with, AreTaken, TakesGroups, StopsTaking}
 use Rattle.bt_adoption.specs.RecountSteps.{with_marked_file}
 use Rattle.bt_adoption.specs.PartsSteps.{AreFit, ChangesFile, blocks_in}

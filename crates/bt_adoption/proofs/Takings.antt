@@ -1,5 +1,5 @@
 -- Groups of a file that are taken in one after the other.
-use Rattle.bt_machine.proofs.Base.{[], Result, Ok, Err, Bool, true, length, length-set, judged, given, failed, known, accepted, Marked, Missing, ◌≡◌, ◌≢◌, ℕ, zero, suc, ◌+◌, ◌<◌, ◌≤◌, false, List, ◌∷◌, ◌++◌, map, flat_map, cond, Some, refl, sym, ap, ◌∙◌, subst, arith, append-nil, slice_get, slice_set, Contains, Facts, blocks_of, IsRooted, block_count, inl, inr, History, BlockRead, call_of, Adopts, Adopted, BlockState, HashKey}
+use Rattle.bt_machine.proofs.Base.{[], Result, Ok, Err, Bool, true, length, length-set, judged, given, failed, known, accepted, Marked, Missing, ◌≡◌, ℕ, zero, suc, ◌+◌, ◌<◌, ◌≤◌, false, List, ◌∷◌, ◌++◌, map, cond, refl, sym, ap, ◌∙◌, subst, arith, append-nil, slice_set, Contains, Facts, blocks_of, IsRooted, block_count, inl, inr, History, BlockRead, call_of, Adopts, Adopted, BlockState, HashKey}
 use Rattle.std.specs.Prelude.{IfErr}
 use Rattle.std.specs.List.{AllZip}
 use Rattle.std.proofs.lemmas.List.{map-append}
@@ -9,9 +9,8 @@ use Rattle.bt_disk.specs.Calls.{HasCalls}
 use Rattle.bt_disk.proofs.CallLists.{has_none, has_then}
 use Rattle.bt_store.specs.FileStore.{StoreView}
 use Rattle.bt_store.specs.Adoption.{IsAdopted, StopsAdopting, marked_group}
-use Rattle.bt_store.specs.Law.{Extends}
 use Rattle.bt_store.proofs.AdoptionMarks.{adopt_extends}
-use Rattle.bt_machine.proofs.Lists.{here, later, contains_none, set_same, set_id}
+use Rattle.bt_machine.proofs.Lists.{here, later, set_same, set_id}
 use Rattle.bt_machine.proofs.ProofKeys.{proof_keys_answered}
 use Rattle.bt_machine.specs.State.{EngineState, Hint, proof_of, mark_of}
 use Rattle.bt_machine.specs.Devices.{DeviceCalls, reads_at}
@@ -20,7 +19,7 @@ use Rattle.bt_machine.specs.Next.{with_pending}
 use Rattle.bt_machine.specs.Request.{IsFile}
 use Rattle.bt_machine.specs.Shape.{HasNoLog}
 use Rattle.bt_machine.specs.ProofKeys.{HasAnswer}
-use Rattle.bt_machine.specs.Adopting.{IsProof, AdoptsGroup, AdoptsGroups, nothing_adopted, adopted_together, StopsAt, unread, read}
+use Rattle.bt_machine.specs.Adopting.{IsProof, AdoptsGroup, AdoptsGroups, nothing_adopted, adopted_together, unread, read}
 use Rattle.bt_adoption.proofs.Borders.{IsBorder, at_start, behind_group_of}
 use Rattle.bt_adoption.specs.GroupsSteps.{all_reads, file_with, AreTaken, TakesGroups, StopsTaking}
 

@@ -1,5 +1,5 @@
 -- A file that is left out of the request book and of the counts of unmarked blocks.
-use Rattle.std.specs.Prelude.{◌≡◌, ℕ, List, length, replicate, Some, slice_get, slice_set}
+use Rattle.std.specs.Prelude.{◌≡◌, ℕ, List, length, replicate, slice_get, slice_set}
 use Rattle.std.specs.Option.{option_map_or}
 use Rattle.bt_store.specs.declared.block_states.BlockState.{BlockState}
 use Rattle.bt_store.specs.declared.block_states.BlockState.TheVariants.{Marked}

@@ -1,4 +1,4 @@
-use Rattle.std.proofs.Common.{◌<◌, [], length, sym, ap, ◌∙◌, arith}
+use Rattle.std.proofs.Common.{length, sym, ap, ◌∙◌, arith}
 use Rattle.bt_state.specs.declared.parts.Parts.{Parts}
 use Rattle.bt_adoption.proofs.Slots.{here_at}
 use Rattle.bt_adoption.proofs.OtherFiles.{rest_then}

@@ -1,4 +1,4 @@
-use Rattle.std.proofs.Common.{◌<◌, ap, arith}
+use Rattle.std.proofs.Common.{ap, arith}
 use Rattle.bt_state.specs.declared.parts.Parts.{Parts}
 use Rattle.bt_adoption.proofs.Slots.{if_ok_then, if_err_then}
 use Rattle.bt_adoption.proofs.LeftOut.{still_fit, same_blocks, follows_still, in_line_again, rest_again, adopts_again, stops_again}

@@ -1,4 +1,4 @@
-use Rattle.bt_adoption.proofs.Slots.{here_at, not_empty, tree_there, stands_at, StandsAt, if_ok_two, if_err_then, either_way, adopts_in, stops_in, both_changed, kept_taken, kept_stopped}
+use Rattle.bt_adoption.proofs.Slots.{here_at, not_empty, tree_there, stands_at, if_ok_two, if_err_then, either_way, adopts_in, stops_in, both_changed, kept_taken, kept_stopped}
 use Rattle.bt_adoption.proofs.adoption.adopt_slot.Goals as goal
 
 pub unreachable-requires : goal.unreachable-requires

@@ -1,6 +1,5 @@
-use Rattle.std.proofs.Common.{◌<◌, arith, sym, ap, ◌∙◌, subst}
+use Rattle.std.proofs.Common.{arith, sym, ap, ◌∙◌, subst}
 use Rattle.bt_tree.specs.Blocks.{block_count}
-use Rattle.bt_sparse.specs.SparseTree.{blocks_of}
 use Rattle.bt_store.specs.declared.adoption.Adopted.{Adopted}
 use Rattle.bt_adoption.proofs.Takings.{AreTaking, taking_begun, taking_more, taking_stopped, if_err_by}
 use Rattle.bt_adoption.proofs.groups.adopt_groups.Goals as goal
