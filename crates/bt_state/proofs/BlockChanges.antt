@@ -1,17 +1,17 @@
 -- A block that has another state: what its piece's count, the book and the parts of an engine owe.
-use Rattle.bt_machine.proofs.Base.{[], ◌≡◌, ◌≢◌, ℕ, zero, suc, ◌+◌, ◌-◌, ◌*◌, ◌/◌, ◌%◌, ◌<◌, ◌≤◌, ◌⊎◌, inl, inr, Bool, true, false, not, cond, List, ◌∷◌, length, map, filter, min, get_or, Option, Some, None, refl, sym, ap, ◌∙◌, arith, subst, slice_get, slice_set, option_map, option_and_then, option_map_or, Contains, ◌==◌, eqb-true, eq-eqb, PeerKey, BlockId, BlockState, Missing, Waiting, Marked, Metainfo, File, IsLaidOut, total_pieces, AllPairs-filter, block_count, block_length, is_block, without_block, max_peers, length-set, Facts}
-use Rattle.std.specs.Prelude.{◌↔◌, ◌^◌, count_by, slice_index}
+use Rattle.bt_machine.proofs.Base.{[], ◌≡◌, ◌≢◌, ℕ, ◌+◌, ◌-◌, ◌*◌, ◌/◌, ◌%◌, ◌<◌, ◌≤◌, ◌⊎◌, inl, inr, Bool, true, false, not, cond, List, ◌∷◌, length, map, filter, min, get_or, Option, Some, None, refl, sym, ap, ◌∙◌, arith, subst, slice_get, slice_set, option_map, option_and_then, option_map_or, Contains, ◌==◌, eqb-true, eq-eqb, PeerKey, BlockId, BlockState, Missing, Waiting, Marked, Metainfo, File, IsLaidOut, total_pieces, AllPairs-filter, block_count, block_length, is_block, without_block, max_peers, Facts}
+use Rattle.std.specs.Prelude.{◌↔◌, ◌^◌, count_by}
 use Rattle.std.specs.Vec.{vec_capacity}
 use Rattle.std.proofs.lemmas.Option.{get_or_from_slice_get}
 use Rattle.std.proofs.lemmas.Bool.{cases_lt}
-use Rattle.std.proofs.lemmas.List.Sums.{length-filter, count_by-le-length}
+use Rattle.std.proofs.lemmas.List.Sums.{count_by-le-length}
 use Rattle.bt_tree.specs.TreeShape.{IsPieceLength}
-use Rattle.bt_meta.specs.PieceBlocks.{HasBlock, IsBlockRange, ArePieceBlocks, IsOfRun}
+use Rattle.bt_meta.specs.PieceBlocks.{HasBlock, ArePieceBlocks, IsOfRun}
 use Rattle.bt_meta.specs.declared.piece_blocks.BlockRun.{BlockRun}
 use Rattle.bt_meta.specs.declared.piece_blocks.PieceRange.{PieceRange}
 use Rattle.bt_meta.proofs.PieceBlocks.{blocks_per_piece, HasPieceOf, quotient, lies_in_piece}
-use Rattle.bt_book.specs.Blocks.{Blocks, IsBefore, IsInRange, member, of_file, with_block}
-use Rattle.bt_book.specs.Book.{BookState, asked_of, peers_of, pair_count}
+use Rattle.bt_book.specs.Blocks.{Blocks, IsBefore, IsInRange, member, with_block}
+use Rattle.bt_book.specs.Book.{BookState, IsBook, asked_of, peers_of, pair_count}
 use Rattle.bt_book.proofs.BlockSets.{member_with, shape_with}
 use Rattle.bt_book.proofs.Listed.{counted_blocks, asked_le_pairs}
 use Rattle.bt_book.proofs.Once.{filter_none}
@@ -22,7 +22,7 @@ use Rattle.bt_machine.specs.Blocks.{state_at, states_of, piece_of, is_in_piece, 
 use Rattle.bt_machine.specs.Changes.{DifferAt}
 use Rattle.bt_machine.specs.Orderly.{IsOrderly}
 use Rattle.bt_machine.specs.Shape.{IsShaped}
-use Rattle.bt_machine.proofs.Lists.{here, later, contains_none, contains_cases, contains_filter, contains_map, map_contains, map_some, some_below, some_is, get_some, and_then_some}
+use Rattle.bt_machine.proofs.Lists.{here, later, contains_none, contains_cases, contains_filter, contains_map, map_contains, some_below, some_is, get_some, and_then_some}
 use Rattle.bt_machine.proofs.Pairs.{Pairs, to_pairs, from_pairs, contains_some, pairs_map}
 use Rattle.bt_state.specs.BlockChange.{AreFollowed, OneChanged, HasChanged, asked_after}
 use Rattle.bt_state.specs.BlockChangeSteps.{mark_count}
@@ -219,10 +219,10 @@ module _ {s t : EngineState} {b : BlockId} {was now : BlockState} {blocks : Bloc
 
   -- the book's blocks and the counts, as the calls leave them
   pub follows : (v : Bool) → (v ≡ true) ↔ (now ≡ Missing) → (torrent : Metainfo) → s.torrent ≡ torrent → (piece : ℕ) → piece_of torrent b ≡ Some piece
-      → piece < total_pieces torrent → (book : Blocks) → book ≡ with_block blocks b v → (new : List ℕ)
-      → new ≡ slice_set counts piece (get_or counts piece 0 + mark_count was - mark_count now) → AreFollowed t book new
-  follows v means torrent same piece in_it below book booked new counted =
-      rw (booked, counted)
+      → piece < total_pieces torrent → (book : Blocks) → book ≡ with_block blocks b v → (lent back new : List ℕ)
+      → lent ≡ counts → back ≡ slice_set lent piece (get_or lent piece 0 + mark_count was - mark_count now) → new ≡ back → AreFollowed t book new
+  follows v means torrent same piece in_it below book booked lent back new is counted now_is =
+      rw (booked, now_is, counted, is)
       (followed_set v means _ (counts_then piece (ap (λ (m : Metainfo). piece_of m b) same ∙ in_it) (subst (λ (m : Metainfo). piece < total_pieces m) (sym same) below)))
 
 -- ---- what a caller shows
@@ -254,10 +254,33 @@ not_among b blocks none = filter_none (is_block b) blocks (elim (cases_lt 0 (cou
   | inr le ↦ omega arith
 ])
 
-asked_same : (b : BlockId) (now : BlockState) (blocks : List BlockId) → (now ≢ Missing → ¬ Contains blocks b) → asked_after b now blocks ≡ blocks
-asked_same b Missing blocks none = refl
-asked_same b Waiting blocks none = not_among b blocks (none (λ e. absurd cc))
-asked_same b Marked blocks none = not_among b blocks (none (λ e. absurd cc))
+-- a block that is missing, or was not missing, is asked of those that it was asked of
+asked_same : (b : BlockId) (was now : BlockState) (blocks : List BlockId) → (was ≡ Missing → now ≢ Missing → ¬ Contains blocks b)
+    → asked_after b was now blocks ≡ blocks
+asked_same b Missing Waiting blocks none = not_among b blocks (none refl (λ e. absurd cc))
+asked_same b Missing Marked blocks none = not_among b blocks (none refl (λ e. absurd cc))
+asked_same b Missing Missing blocks none = refl
+asked_same b Waiting now blocks none = refl
+asked_same b Marked now blocks none = refl
+
+pub asked_wanted : (b : BlockId) (was now : BlockState) (blocks : List BlockId) → now ≡ Missing → blocks ≡ asked_after b was now blocks
+asked_wanted b was now blocks is = sym (asked_same b was now blocks (λ _ known. absurd (known is)))
+
+pub asked_done : (b : BlockId) (was now : BlockState) (blocks : List BlockId) → now ≢ Missing → (was ≢ Missing → ¬ Contains blocks b)
+    → without_block b blocks ≡ asked_after b was now blocks
+asked_done b Missing Waiting blocks known none = refl
+asked_done b Missing Marked blocks known none = refl
+asked_done b Missing Missing blocks known none = absurd (known refl)
+asked_done b Waiting now blocks known none = not_among b blocks (none (λ e. absurd cc))
+asked_done b Marked now blocks known none = not_among b blocks (none (λ e. absurd cc))
+
+-- nobody is asked for a block that was not missing
+pub not_asked : {torrent : Metainfo} {counts : List ℕ} {b : BlockId} {was now : BlockState} (book : BookState) → HasChanged torrent book.wanted counts b was now
+    → IsBook book → was ≢ Missing → (key : PeerKey) → ¬ Contains (asked_of book key) b
+not_asked {b = b} book h laws known key among =
+    let some = (counted_blocks b (asked_of book key)).1 among in
+    let wanted = laws.wanted b (omega (arith, some, asked_le_pairs key b book.peers)) in
+    known (some_is (sym h.changed.before ∙ (h.followed.wanted b).0 wanted))
 
 -- a state is followed by what it has of the torrent and of files
 pub followed_alike : {s : EngineState} {blocks : Blocks} {counts : List ℕ} (t : EngineState) → AreFollowed s blocks counts
@@ -327,13 +350,13 @@ module _ {D H : Type 0} (old new : Parts D H) where
       ∙ ap {A = List PeerState} (λ peers. record (state_of old) { peers = peers }) (map_agree (peer_of old.book) (peer_of new.book) old.peers.items
       (λ i p at. ap {A = List BlockId} {B = PeerState} (λ asked. record (peer_of old.book p) { asked = asked }) (same i p at)))
 
-  -- no peer is asked for the block, or it is missing
-  pub state_followed : (b : BlockId) (now : BlockState) → new ≡ record old { book = new.book; unmarked = new.unmarked }
-      → ((key : PeerKey) → asked_of new.book key ≡ asked_after b now (asked_of old.book key)) → (now ≢ Missing → ¬ IsAsked (state_of old) b)
+  -- no peer is asked for the block, or it is missing, or was not
+  pub state_followed : (b : BlockId) (was now : BlockState) → new ≡ record old { book = new.book; unmarked = new.unmarked }
+      → ((key : PeerKey) → asked_of new.book key ≡ asked_after b was now (asked_of old.book key)) → (was ≡ Missing → now ≢ Missing → ¬ IsAsked (state_of old) b)
       → state_of new ≡ state_of old
-  state_followed b now others asked none =
-      state_kept others (λ i p at. asked p.key ∙ asked_same b now (asked_of old.book p.key)
-      (λ known among. none known (peer_of old.book p, contains_some (state_of old).peers i (get_mapped (peer_of old.book) old.peers.items i at), among)))
+  state_followed b was now others asked none =
+      state_kept others (λ i p at. asked p.key ∙ asked_same b was now (asked_of old.book p.key)
+      (λ missing known among. none missing known (peer_of old.book p, contains_some (state_of old).peers i (get_mapped (peer_of old.book) old.peers.items i at), among)))
 
 -- a block that is in no pair is asked of nobody
 pub free_unasked : {D H : Type 0} (parts : Parts D H) (b : BlockId) → pair_count parts.book b ≡ 0 → ¬ IsAsked (state_of parts) b

@@ -1,16 +1,16 @@
 -- A slot whose store has become another.
-use Rattle.bt_machine.proofs.Base.{[], ◌≡◌, ◌≢◌, ℕ, zero, suc, ◌<◌, inl, inr, List, ◌∷◌, length, map, Option, Some, None, refl, sym, ap, ◌∙◌, arith, subst, slice_get, slice_set, option_and_then, option_map, option_map_or, Contains, BlockId, BlockState, Facts, File, Metainfo, Call, History, length-set}
+use Rattle.bt_machine.proofs.Base.{[], ◌≡◌, ◌≢◌, ℕ, zero, suc, inl, inr, List, ◌∷◌, length, map, Option, Some, refl, sym, ap, ◌∙◌, subst, slice_get, slice_set, option_and_then, option_map, option_map_or, BlockId, BlockState, Facts, File, Call, History, length-set, ◌++◌, ◌+◌, take, drop, arith, ◌<◌}
+use Rattle.std.proofs.Common.{add-one}
 use Rattle.std.proofs.lemmas.Bool.{cases_eq}
 use Rattle.bt_disk.specs.Calls.{HasCalls}
 use Rattle.bt_store.specs.FileStore.{StoreView}
 use Rattle.bt_machine.specs.State.{EngineState, FileState}
 use Rattle.bt_machine.specs.Blocks.{state_at, states_of, block_id}
-use Rattle.bt_machine.specs.Changes.{DifferAt}
 use Rattle.bt_machine.specs.Devices.{calls_at, HaveCalls}
-use Rattle.bt_machine.proofs.Lists.{here as among_here, set_same, set_other, set_cases, some_is}
+use Rattle.bt_machine.proofs.Lists.{here as among_here, set_same, set_other, set_cases, some_is, set_get, same_some, some_below}
 use Rattle.bt_state.specs.BlockChange.{OneChanged}
 use Rattle.bt_state.specs.Parts.{file_of, disk_of}
-use Rattle.bt_state.specs.Ties.{FitsFile, FitsTree}
+use Rattle.bt_state.specs.Ties.{FitsTree}
 use Rattle.bt_state.specs.declared.slot.Slot.{Slot}
 use Rattle.bt_state.proofs.BlockChanges.{EachFits}
 use Rattle.bt_state.proofs.DeviceCalls.{have_one}
@@ -70,7 +70,65 @@ set_again [] (suc i) x y = refl
 set_again (z ∷ xs) zero x y = refl
 set_again (z ∷ xs) (suc i) x y = ap (λ ys. z ∷ ys) (set_again xs i x y)
 
+-- ---- the states of a file's blocks, of which those below k are the new ones
+
+abbrev pub states_up_to : List BlockState → List BlockState → ℕ → List BlockState
+states_up_to old new k = take k new ++ drop k old
+
+pub none_new : (old new : List BlockState) → states_up_to old new 0 ≡ old
+none_new old new = refl
+
+pub all_new : (old new : List BlockState) → length new ≡ length old → states_up_to old new (length old) ≡ new
+all_new [] [] size = refl
+all_new [] (y ∷ new) size = absurd (omega arith)
+all_new (x ∷ old) [] size = absurd (omega arith)
+all_new (x ∷ old) (y ∷ new) size = ap (λ ys. y ∷ ys) (all_new old new (omega arith))
+
+-- the block at k has its old state still
+pub still_old : (old new : List BlockState) (k : ℕ) → length new ≡ length old → k < length old
+    → slice_get (states_up_to old new k) k ≡ slice_get old k
+still_old [] new k size lt = absurd (omega arith)
+still_old (x ∷ old) new zero size lt = refl
+still_old (x ∷ old) [] (suc k) size lt = absurd (omega arith)
+still_old (x ∷ old) (y ∷ new) (suc k) size lt = still_old old new k (omega arith) (omega arith)
+
+next_by : (old new : List BlockState) (k : ℕ) {y : BlockState} → length new ≡ length old → slice_get new k ≡ Some y
+    → states_up_to old new (suc k) ≡ slice_set (states_up_to old new k) k y
+next_by [] [] k size is = absurd (let lt = some_below {X = BlockState} [] k is in omega arith)
+next_by [] (z ∷ new) k size is = absurd (omega arith)
+next_by (x ∷ old) [] k size is = absurd (omega arith)
+next_by (x ∷ old) (z ∷ new) zero size is = ap (λ w. w ∷ old) (some_is is)
+next_by (x ∷ old) (z ∷ new) (suc k) size is = ap (λ ys. z ∷ ys) (next_by old new k (omega arith) is)
+
+-- it gets its new one
+pub next_new : (old new : List BlockState) (k : ℕ) {y : BlockState} → length new ≡ length old → slice_get new k ≡ Some y
+    → states_up_to old new (k + 1) ≡ slice_set (states_up_to old new k) k y
+next_new old new k size is = rw (add-one k) (next_by old new k size is)
+
 -- ---- slots
+
+-- a tree has become another, of the same length
+pub fits_trees : {D H : Type 0} {files : List File} {trees : List Facts} (slots : List (Slot D H)) (i : ℕ) {k : Facts} (n : Facts)
+    → slice_get trees i ≡ Some k → n.file_length ≡ k.file_length → EachFits files trees slots → EachFits files (slice_set trees i n) slots
+fits_trees {trees = trees} slots i n stood same fits = λ j slot at.
+    let old = fits j slot at in
+    record {
+      file = old.file;
+      listed = old.listed;
+      empty = old.empty;
+      some = λ store e. (
+          let of = old.some store e in
+          elim (set_get trees i slot.tree {y = n} of.stands) [
+            | inl now ↦ record {
+              facts = n;
+              stands = now.1;
+              same = same ∙ ap (λ (x : Facts). x.file_length) (same_some stood (ap (λ t. slice_get trees t) (sym now.0) ∙ of.stands)) ∙ of.same;
+              long = of.long;
+            }
+            | inr kept ↦ record { facts = of.facts; stands = kept; same = of.same; long = of.long }
+          ]
+          );
+    }
 
 module _ {D H : Type 0} (slots : List (Slot D H)) (i : ℕ) {slot : Slot D H} {store : StoreView D} (here : slice_get slots i ≡ Some slot)
     (has : slot.store ≡ Some store) (after : StoreView D) where

@@ -35,8 +35,8 @@ pub record HasChanged (torrent : Metainfo) (blocks : Blocks) (counts : List ℕ)
   pub followed : AreFollowed first blocks counts
   pub changed : OneChanged first last b was now
 
--- what a peer is asked for where the block has this state: a block that is not missing is asked of nobody
-abbrev pub asked_after : BlockId → BlockState → List BlockId → List BlockId
-asked_after b Missing asked = asked
-asked_after b Waiting asked = without_block b asked
-asked_after b Marked asked = without_block b asked
+-- what a peer is asked for then: the block no more, where it is missing no more
+abbrev pub asked_after : BlockId → (was now : BlockState) → List BlockId → List BlockId
+asked_after b Missing Waiting asked = without_block b asked
+asked_after b Missing Marked asked = without_block b asked
+asked_after b was now asked = asked

@@ -28,11 +28,12 @@ pub fn follow_block<D: Disk + Drop, H: NodeHash>(
         → AreFollowed s parts.old.book.wanted parts.old.unmarked.items → OneChanged s t block was now
         → AreFollowed t parts.new.book.wanted parts.new.unmarked.items }
     ensures asked { (key : PeerKey)
-        → asked_of parts.new.book key ≡ asked_after block now (asked_of parts.old.book key) }
+        → asked_of parts.new.book key ≡ asked_after block was now (asked_of parts.old.book key) }
     ensures peers { peers_of parts.new.book ≡ peers_of parts.old.book }
     ensures others { parts.new ≡ record parts.old { book = parts.new.book; unmarked = parts.new.unmarked } }
 {
     keeps_laws(&parts.torrent);
+    parts.book.keeps_laws();
     let piece = piece_of(&parts.torrent, block);
     count_block(&mut parts.unmarked, piece, was, now);
     match now {
