@@ -1,6 +1,5 @@
 -- A file of which block after block gets another state.
 use Rattle.bt_machine.proofs.Base.{[], ◌≡◌, ℕ, zero, suc, ◌+◌, ◌<◌, List, ◌∷◌, ◌++◌, length, take, drop, replicate, Option, Some, None, refl, sym, ap, ◌∙◌, subst, arith, slice_get, slice_set, option_and_then, option_map_or, BlockState, Marked}
-use Rattle.std.proofs.Common.{add-one}
 use Rattle.bt_machine.proofs.Lists.{set_same, set_id, some_is, some_below}
 use Rattle.bt_book.specs.Book.{peers_of}
 use Rattle.bt_machine.specs.State.{EngineState, FileState}
@@ -8,34 +7,10 @@ use Rattle.bt_machine.specs.Blocks.{block_id, state_at, states_of}
 use Rattle.bt_state.specs.BlockChange.{AreFollowed, OneChanged, HasChanged}
 use Rattle.bt_state.specs.Parts.{state_of}
 use Rattle.bt_state.specs.declared.parts.Parts.{Parts}
-use Rattle.bt_state.proofs.SlotChanges.{block_changed, set_again}
+use Rattle.bt_state.proofs.SlotChanges.{block_changed, set_again, states_up_to, all_new, still_old, next_new}
 use Rattle.bt_adoption.specs.RecountSteps.{with_states, Follows}
 
--- ---- states that are replaced from the first on
-
--- the first states of one list, and the rest of another
-abbrev pub mixed : List BlockState → List BlockState → ℕ → List BlockState
-mixed was now i = take i now ++ drop i was
-
-mixed_at : (was now : List BlockState) (i : ℕ) → length now ≡ length was → i < length was → slice_get (mixed was now i) i ≡ slice_get was i
-mixed_at was now zero same lt = refl
-mixed_at [] now (suc i) same lt = absurd (omega arith)
-mixed_at (x ∷ was) [] (suc i) same lt = absurd (omega arith)
-mixed_at (x ∷ was) (y ∷ now) (suc i) same lt = mixed_at was now i (omega arith) (omega arith)
-
-mixed_next : (was now : List BlockState) (i : ℕ) {y : BlockState} → length now ≡ length was → slice_get now i ≡ Some y
-    → mixed was now (suc i) ≡ slice_set (mixed was now i) i y
-mixed_next [] [] i same at = absurd (let lt = some_below [] i at in omega arith)
-mixed_next [] (y ∷ now) i same at = absurd (omega arith)
-mixed_next (x ∷ was) [] i same at = absurd (omega arith)
-mixed_next (x ∷ was) (y ∷ now) zero same at = ap (λ z. z ∷ was) (some_is at)
-mixed_next (x ∷ was) (y ∷ now) (suc i) same at = ap (λ zs. y ∷ zs) (mixed_next was now i (omega arith) at)
-
-mixed_all : (was now : List BlockState) → length now ≡ length was → mixed was now (length was) ≡ now
-mixed_all [] [] same = refl
-mixed_all [] (y ∷ now) same = absurd (omega arith)
-mixed_all (x ∷ was) [] same = absurd (omega arith)
-mixed_all (x ∷ was) (y ∷ now) same = ap (λ zs. y ∷ zs) (mixed_all was now (omega arith))
+-- ---- marked blocks
 
 replicate_at : {X : Type 0} (x : X) (n i : ℕ) → i < n → slice_get (replicate n x) i ≡ Some x
 replicate_at x zero i lt = absurd (omega arith)
@@ -85,7 +60,7 @@ state_in (Some f) i = refl
 pub record IsBetween {D H : Type 0} (old : Parts D H) (file : ℕ) (was now : List BlockState) (block : ℕ) (parts : Parts D H) : Type 0 where
   pub same : length now ≡ length was
   pub whole : length was ≡ length (states_of (state_of old) file)
-  pub followed : Follows parts (with_states (state_of old) file (mixed was now block))
+  pub followed : Follows parts (with_states (state_of old) file (states_up_to was now block))
   pub peers : peers_of parts.book ≡ peers_of old.book
   pub others : parts ≡ record old { book = parts.book; unmarked = parts.unmarked }
 
@@ -103,21 +78,21 @@ module _ {D H : Type 0} {old : Parts D H} {file : ℕ} {was now : List BlockStat
       state_in (slice_get (state_of old).files file) block ∙ sym (ap (λ (p : Parts D H). state_at (state_of p) (block_id file block)) b.others) ∙ at
 
   pub between_done : length was ≡ block → Follows parts (with_states (state_of old) file now)
-  between_done all = subst (λ (xs : List BlockState). Follows parts (with_states (state_of old) file xs)) (ap (mixed was now) (sym all) ∙ mixed_all was now b.same) b.followed
+  between_done all = subst (λ (xs : List BlockState). Follows parts (with_states (state_of old) file xs)) (ap (states_up_to was now) (sym all) ∙ all_new was now b.same) b.followed
 
   module _ {x y : BlockState} (had : slice_get was block ≡ Some x) (has : slice_get now block ≡ Some y) where
     first : EngineState
-    first = with_states (state_of old) file (mixed was now block)
+    first = with_states (state_of old) file (states_up_to was now block)
 
     last : EngineState
-    last = with_states (state_of old) file (mixed was now (block + 1))
+    last = with_states (state_of old) file (states_up_to was now (block + 1))
 
-    mixed_changed : OneChanged first last (block_id file block) x y
+    changed : OneChanged first last (block_id file block) x y
     unfolding first last
-    mixed_changed =
+    changed =
         let f = file_there (slice_get (state_of old).files file) (subst (λ n. block < n) b.whole (some_below was block had)) in
-        one_more (state_of old) file f.1 (mixed was now block) (mixed was now (block + 1)) block (mixed_at was now block b.same (some_below was block had) ∙ had)
-        (ap (mixed was now) (add-one block) ∙ mixed_next was now block b.same has)
+        one_more (state_of old) file f.1 (states_up_to was now block) (states_up_to was now (block + 1)) block (still_old was now block b.same (some_below was block had) ∙ had)
+        (next_new was now block b.same has)
 
     same_torrent : first.torrent ≡ parts.torrent
     unfolding first
@@ -125,7 +100,7 @@ module _ {D H : Type 0} {old : Parts D H} {file : ℕ} {was now : List BlockStat
 
     pub between_changes : HasChanged parts.torrent parts.book.wanted parts.unmarked.items (block_id file block) x y
     unfolding first
-    between_changes = record { first = first; last = last; same_torrent = same_torrent; followed = b.followed; changed = mixed_changed }
+    between_changes = record { first = first; last = last; same_torrent = same_torrent; followed = b.followed; changed = changed }
 
     pub between_more : {new : Parts D H} → ((s t : EngineState) → s.torrent ≡ parts.torrent → AreFollowed s parts.book.wanted parts.unmarked.items
         → OneChanged s t (block_id file block) x y → AreFollowed t new.book.wanted new.unmarked.items)
@@ -134,7 +109,7 @@ module _ {D H : Type 0} {old : Parts D H} {file : ℕ} {was now : List BlockStat
     between_more {new} follows peers others = record {
       same = b.same;
       whole = b.whole;
-      followed = follows first last same_torrent b.followed mixed_changed;
+      followed = follows first last same_torrent b.followed changed;
       peers = peers ∙ b.peers;
       others = others ∙ ap (λ (p : Parts D H). record p { book = new.book; unmarked = new.unmarked }) b.others;
     }

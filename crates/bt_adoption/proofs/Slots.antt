@@ -17,7 +17,7 @@ use Rattle.bt_state.specs.Ties.{FitsFile, FitsTree}
 use Rattle.bt_state.specs.declared.slot.Slot.{Slot}
 use Rattle.bt_state.specs.declared.parts.Parts.{Parts}
 use Rattle.bt_state.proofs.Lists.{get_mapped, get_read}
-use Rattle.bt_state.proofs.SlotChanges.{file_here, files_changed, have_changed, fits_changed, set_again}
+use Rattle.bt_state.proofs.SlotChanges.{file_here, files_changed, have_changed, fits_changed, fits_trees, set_again}
 use Rattle.bt_adoption.specs.GroupsSteps.{all_reads, file_with, AreTaken, TakesGroups, StopsTaking}
 use Rattle.bt_adoption.specs.RecountSteps.{with_marked_file}
 use Rattle.bt_adoption.specs.PartsSteps.{AreFit, ChangesFile, blocks_in}
@@ -137,22 +137,6 @@ module _ {D H : Type 0} {old : Parts D H} {file : ℕ} {slot : Slot D H} {store 
     | inr apart ↦ ap (λ o. option_map_or blocks_of o 0) (set_other old.trees.items slot.tree tree grown apart)
   ]
 
-  tree_kept : (tree : ℕ) (entry : File) (other : StoreView D) → FitsTree old.trees.items tree entry other → FitsTree trees tree entry other
-  unfolding trees
-  tree_kept tree entry other fits = elim (cases_eq tree slot.tree) [
-    | inl own ↦ (
-        let is : fits.facts ≡ k = some_is (sym fits.stands ∙ ap (slice_get old.trees.items) own ∙ at.there) in
-        record {
-          facts = grown;
-          stands = ap (slice_get (slice_set old.trees.items slot.tree grown)) own ∙ set_same old.trees.items slot.tree at.there;
-          same = kept.tree_length ∙ ap (λ (f : Facts). f.file_length) (sym is) ∙ fits.same;
-          long = fits.long;
-        }
-        )
-    | inr apart ↦
-        record { facts = fits.facts; stands = set_other old.trees.items slot.tree tree grown apart ∙ fits.stands; same = fits.same; long = fits.long }
-  ]
-
   module _ (fits : AreFit old) where
     slots_fit : (i : ℕ) (other : Slot D H) → slice_get changed_slots i ≡ Some other → FitsFile old.torrent.files old.trees.items i other
     slots_fit = fits_changed old.slots.items file at.here at.has after kept.file_length fits
@@ -177,8 +161,7 @@ module _ {D H : Type 0} {old : Parts D H} {file : ℕ} {slot : Slot D H} {store 
       trees = length-set old.trees.items slot.tree grown;
       alike = alike (record old { slots = with_item old.slots file (record slot { store = Some after }); trees = with_item old.trees slot.tree grown }) refl;
       blocks = blocks_kept;
-      fits = λ i other there. (let of = slots_fit i other there in
-          record { file = of.file; listed = of.listed; empty = of.empty; some = λ st has. tree_kept other.tree of.file st (of.some st has) });
+      fits = fits_trees changed_slots slot.tree grown at.there kept.tree_length slots_fit;
     }
 
 -- ---- calls of a file's device

@@ -9,7 +9,7 @@ use bt_disk::Disk;
 use bt_state::{Parts, Slot};
 use bt_tree::NodeHash;
 
-/// Settles all blocks of the files of a tree, but of one of them. No peer is connected.
+/// Settles all blocks of the other files of a tree, all but this one. No peer is connected.
 pub(crate) fn settle_others<D: Disk + Drop, H: NodeHash>(
     parts: &mut Parts<D, H>,
     tree: usize,
