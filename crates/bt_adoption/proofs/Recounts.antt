@@ -1,6 +1,6 @@
 -- A file of which block after block gets another state.
-use Rattle.bt_machine.proofs.Base.{[], ◌≡◌, ℕ, zero, suc, ◌+◌, ◌<◌, List, ◌∷◌, ◌++◌, length, take, drop, replicate, Option, Some, None, refl, sym, ap, ◌∙◌, subst, arith, slice_get, slice_set, option_and_then, option_map_or, BlockState, Marked}
-use Rattle.bt_machine.proofs.Lists.{set_same, set_id, some_is, some_below}
+use Rattle.bt_machine.proofs.Base.{[], ◌≡◌, ℕ, zero, suc, ◌+◌, ◌<◌, List, length, replicate, Option, Some, None, refl, sym, ap, ◌∙◌, subst, arith, slice_get, slice_set, option_and_then, option_map_or, BlockState, Marked}
+use Rattle.bt_machine.proofs.Lists.{set_same, set_id, some_below}
 use Rattle.bt_book.specs.Book.{peers_of}
 use Rattle.bt_machine.specs.State.{EngineState, FileState}
 use Rattle.bt_machine.specs.Blocks.{block_id, state_at, states_of}

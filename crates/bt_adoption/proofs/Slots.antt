@@ -1,5 +1,5 @@
 -- A file's slot whose store has changed, and the tree of a file that has grown.
-use Rattle.bt_machine.proofs.Base.{[], ◌≡◌, ℕ, ◌<◌, inl, inr, List, ◌∷◌, ◌++◌, length, map, flat_map, replicate, get_or, Option, Result, Ok, Err, Some, None, refl, sym, ap, ◌∙◌, subst, arith, length-set, slice_get, slice_set, option_map_or, Facts, File, History, BlockRead, call_of, BlockState, Marked, Adopted, block_count, blocks_of}
+use Rattle.bt_machine.proofs.Base.{[], ◌≡◌, ℕ, ◌<◌, inl, inr, List, ◌∷◌, ◌++◌, length, map, flat_map, replicate, get_or, Option, Result, Ok, Err, Some, None, refl, sym, ap, ◌∙◌, subst, arith, length-set, slice_get, slice_set, option_map_or, Facts, History, BlockRead, call_of, BlockState, Marked, Adopted, block_count, blocks_of}
 use Rattle.std.specs.Prelude.{IfOk, IfErr}
 use Rattle.std.proofs.lemmas.Bool.{cases_eq}
 use Rattle.std.proofs.lemmas.List.{map-append}
@@ -13,7 +13,7 @@ use Rattle.bt_machine.specs.Devices.{calls_at, reads_at}
 use Rattle.bt_machine.specs.Blocks.{states_of}
 use Rattle.bt_machine.specs.Adopting.{AdoptsGroups}
 use Rattle.bt_state.specs.Parts.{state_of, file_of}
-use Rattle.bt_state.specs.Ties.{FitsFile, FitsTree}
+use Rattle.bt_state.specs.Ties.{FitsFile}
 use Rattle.bt_state.specs.declared.slot.Slot.{Slot}
 use Rattle.bt_state.specs.declared.parts.Parts.{Parts}
 use Rattle.bt_state.proofs.Lists.{get_mapped, get_read}

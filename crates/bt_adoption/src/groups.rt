@@ -17,7 +17,8 @@ pub(crate) fn adopt_groups<D: Disk + Drop, H: NodeHash>(
 ) -> Result<Adopted, AllocError>
     requires { tree.old.file_length ≡ store.old.file_length }
     ensures ok { IfOk result (λ total. (groups : List (List BlockRead))
-        × TakesGroups D.history D.honest D.faults H.digest tree.old store.old groups total tree.new store.new) }
+        × TakesGroups D.history D.honest D.faults H.digest
+        tree.old store.old groups total tree.new store.new) }
     ensures all { IfOk result (λ total. total.next ≡ length store.old.states) }
     ensures stop { IfErr result (λ _. StopsTaking D.history D.honest D.faults
         H.digest tree.old store.old tree.new store.new) }
