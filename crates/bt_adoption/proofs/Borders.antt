@@ -1,12 +1,12 @@
 -- Groups that are taken in one after the other, from the first block on, do not overlap.
-use Rattle.bt_machine.proofs.Base.{◌≡◌, ◌≢◌, ℕ, zero, suc, ◌+◌, ◌-◌, ◌*◌, ◌/◌, ◌%◌, ◌^◌, ◌<◌, ◌≤◌, ◌⊎◌, inl, inr, min, List, ◌++◌, Option, Some, None, is_some, IsSome, refl, sym, ap, ◌∙◌, subst, arith, length, map, length-map, length-range_with_len, div-add-mod, mul-mod_left, mul_assoc, div-div-eq-div-mul, div-mul-add, pow-add, pow_pos, height_of, block_count, cases_lt, count_by-le-length, Facts, blocks_of, height, held_at, value_at, IsRooted, value_covers, BlockRead, block_of, is_fault, right_count, fault_count, IsUnknownGroup, Adopts, none, known, accepted, not_accepted as refused, short, unread, Adopted, BlockState, Accepts}
+use Rattle.bt_machine.proofs.Base.{◌≡◌, ℕ, zero, suc, ◌+◌, ◌-◌, ◌*◌, ◌/◌, ◌%◌, ◌^◌, ◌<◌, ◌≤◌, ◌⊎◌, inl, inr, List, ◌++◌, Option, Some, None, is_some, IsSome, refl, sym, ap, ◌∙◌, subst, arith, length, map, length-map, length-range_with_len, div-add-mod, mul-mod_left, mul_assoc, div-div-eq-div-mul, div-mul-add, pow-add, pow_pos, height_of, block_count, cases_lt, count_by-le-length, Facts, blocks_of, height, held_at, value_at, IsRooted, value_covers, BlockRead, block_of, is_fault, IsUnknownGroup, Adopts, none, known, accepted, not_accepted as refused, short, unread, Adopted, BlockState}
 use Rattle.std.specs.List.{range_with_len}
 use Rattle.std.proofs.Math.Nat.{zero-div, mod-lt}
 use Rattle.std.proofs.lemmas.Bool.{cases_eq}
 use Rattle.bt_sparse.specs.SparseTree.{HasParent}
 use Rattle.bt_sparse.proofs.Anchors.{known_above, covers_above}
 use Rattle.bt_store.specs.BlockReads.{is_right_read}
-use Rattle.bt_store.specs.Adoption.{IsKnownGroup, AreWhole}
+use Rattle.bt_store.specs.Adoption.{IsKnownGroup}
 
 -- A group may begin at the first block, behind the blocks below a node that is held, or at the file's end.
 pub data IsBorder (k : Facts) (from : ℕ) : Type 0 where
@@ -37,7 +37,7 @@ divides_less n low high le even =
     let whole : n ≡ n / 2 ^ high * 2 ^ (high - low) * 2 ^ low = omega (arith, div-add-mod n (2 ^ high), even, times) in
     ap (λ m. m % 2 ^ low) whole ∙ mul-mod_left (n / 2 ^ high * 2 ^ (high - low)) (2 ^ low)
 
-module _ (dig : List ℕ → List ℕ) (k : Facts) (rooted : IsRooted dig k) where
+module _ {dig : List ℕ → List ℕ} {k : Facts} (rooted : IsRooted dig k) where
   parent_at : (layer i : ℕ) → layer < height k → IsSome (held_at k layer i) → HasParent dig k layer (i / 2)
   parent_at layer i low held =
       let d = some_of (held_at k layer i) held in
@@ -63,7 +63,7 @@ module _ (dig : List ℕ → List ℕ) (k : Facts) (rooted : IsRooted dig k) whe
         | inr right ↦ ap (λ o. is_some o) (sym known ∙ ap (value_at dig k layer) right ∙ up.right_value)
       ]
 
-  module _ (from anchor first count : ℕ) (inside : from < blocks_of k) (group : IsUnknownGroup k from anchor first count) where
+  module _ {from anchor first count : ℕ} (inside : from < blocks_of k) (group : IsUnknownGroup k from anchor first count) where
     none_below : (layer : ℕ) → layer < anchor → IsSome (held_at k layer (from / 2 ^ layer)) → ⊥
     none_below layer low held = absurd (let none = group.nearest.nearest layer low in cc)
 
@@ -125,8 +125,8 @@ module _ (dig : List ℕ → List ℕ) (k : Facts) (rooted : IsRooted dig k) whe
               (ap (λ n. n % 2 ^ anchor) next ∙ mul-mod_left (from / 2 ^ anchor + 1) (2 ^ anchor))
         ]
 
-  behind_known : (from count : ℕ) → IsKnownGroup dig k from count → IsBorder k (from + count)
-  behind_known from count group =
+  behind_known : {from count : ℕ} → IsKnownGroup dig k from count → IsBorder k (from + count)
+  behind_known {from} {count} group =
       let some = group.some in
       let inside = group.inside in
       let leaf = from + (count - 1) in
@@ -148,40 +148,32 @@ pub record IsBehind (from : ℕ) (adopted : Adopted) (grown : Facts) : Type 0 wh
 reads_size : (first count : ℕ) (reads : List BlockRead) → map block_of reads ≡ range_with_len first count → length reads ≡ count
 reads_size first count reads each = sym (length-map reads block_of) ∙ ap length each ∙ length-range_with_len first count
 
-pub behind_group_of : (dig : List ℕ → List ℕ) (k grown : Facts) (from : ℕ) (old new : List BlockState) (reads : List BlockRead) (adopted : Adopted) → IsRooted dig k
+pub behind_group_of : {dig : List ℕ → List ℕ} {k grown : Facts} {from : ℕ} {old new : List BlockState} {reads : List BlockRead} {adopted : Adopted} → IsRooted dig k
     → from < blocks_of k → IsBorder k from → Adopts dig k from old reads adopted grown new → IsBehind from adopted grown
-behind_group_of dig k grown from old new reads adopted rooted inside border (none end) = absurd (omega arith)
-behind_group_of dig k grown from old new reads adopted rooted inside border (known count rs group each) = record {
+behind_group_of rooted inside border (none end) = absurd (omega arith)
+behind_group_of {dig} {k} {grown} {from} rooted inside border (known count rs group each) = record {
   marked = omega (arith, reads_size from count rs each, count_by-le-length (is_right_read dig k) rs);
   faults = omega (arith, reads_size from count rs each, count_by-le-length is_fault rs);
-  border = behind_known dig k rooted from count group;
+  border = behind_known rooted group;
 }
-behind_group_of dig k grown from old new reads adopted rooted inside border (accepted anchor first count rs g group whole accepts) =
-    let at = begins dig k rooted from anchor first count inside group border in
+behind_group_of {dig} {k} rooted inside border (accepted anchor first count rs g group whole accepts) =
+    let at = begins rooted inside group border in
     record {
       marked = omega (arith, at);
       faults = omega (arith, at);
-      border = behind_group dig k rooted from anchor first count inside group g (ap block_count accepts.joins.file_length)
+      border = behind_group rooted inside group g (ap block_count accepts.joins.file_length)
           (λ layer i held. (let d = some_of (held_at k layer i) held in ap (λ o. is_some o) (accepts.joins.kept layer i d.0 d.1)));
     }
-behind_group_of dig k grown from old new reads adopted rooted inside border (refused anchor first count rs error group whole why other) =
-    let at = begins dig k rooted from anchor first count inside group border in
-    record {
-      marked = omega (arith, at);
-      faults = omega (arith, at);
-      border = behind_group dig k rooted from anchor first count inside group k refl (λ layer i held. held);
-    }
-behind_group_of dig k grown from old new reads adopted rooted inside border (short anchor first count rs group each sound few) =
-    let at = begins dig k rooted from anchor first count inside group border in
-    record {
-      marked = omega (arith, at);
-      faults = omega (arith, at);
-      border = behind_group dig k rooted from anchor first count inside group k refl (λ layer i held. held);
-    }
-behind_group_of dig k grown from old new reads adopted rooted inside border (unread anchor first count rs group each some) =
-    let at = begins dig k rooted from anchor first count inside group border in
+behind_group_of {dig} {k} rooted inside border (refused anchor first count rs error group whole why other) =
+    let at = begins rooted inside group border in
+    record { marked = omega (arith, at); faults = omega (arith, at); border = behind_group rooted inside group k refl (λ layer i held. held) }
+behind_group_of {dig} {k} rooted inside border (short anchor first count rs group each sound few) =
+    let at = begins rooted inside group border in
+    record { marked = omega (arith, at); faults = omega (arith, at); border = behind_group rooted inside group k refl (λ layer i held. held) }
+behind_group_of {dig} {k} rooted inside border (unread anchor first count rs group each some) =
+    let at = begins rooted inside group border in
     record {
       marked = omega (arith, at);
       faults = omega (arith, at, reads_size first count rs each, count_by-le-length is_fault rs);
-      border = behind_group dig k rooted from anchor first count inside group k refl (λ layer i held. held);
+      border = behind_group rooted inside group k refl (λ layer i held. held);
     }

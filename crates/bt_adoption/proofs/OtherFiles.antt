@@ -1,9 +1,7 @@
 -- The files of a tree but one are settled, one after the other.
-use Rattle.bt_machine.proofs.Base.{[], ◌≡◌, ◌≢◌, ℕ, ◌+◌, ◌<◌, ◌≤◌, inl, inr, Bool, true, false, not, ◌&&◌, List, ◌++◌, length, refl, sym, ap, ◌∙◌, subst, arith, ◌==◌, eq-eqb, lt-ltb, le-ltb, cases_lt, length-map, slice_get, option_map_or, History, blocks_of}
+use Rattle.bt_machine.proofs.Base.{[], ◌≡◌, ◌≢◌, ℕ, ◌+◌, ◌<◌, ◌≤◌, inl, inr, false, not, ◌&&◌, List, ◌++◌, length, refl, sym, ap, ◌∙◌, subst, arith, ◌==◌, eq-eqb, lt-ltb, le-ltb, cases_lt, length-map, History}
 use Rattle.std.proofs.lemmas.Bool.{cases_eq, ne_eqb}
-use Rattle.bt_book.specs.Book.{peers_of}
 use Rattle.bt_machine.proofs.Lists.{get_some}
-use Rattle.bt_machine.specs.State.{EngineState}
 use Rattle.bt_machine.specs.Settling.{SettlesIn}
 use Rattle.bt_machine.specs.Adopting.{is_other}
 use Rattle.bt_state.specs.Parts.{state_of, file_of, disks_of}
@@ -60,32 +58,33 @@ module _ (file i : ℕ) where
 
 -- ---- the loop over the files
 
-module _ {D H : Type 0} (history : D → History) (honest : D → Type 0) (faults : D → ℕ) (dig : List ℕ → List ℕ) (file tree : ℕ) (old : Parts D H) where
-  -- those before one are settled
-  pub record AreSettled (i : ℕ) (parts : Parts D H) : Type 0 where
-    pub settles : SettlesFiles history honest faults dig (before file i) tree old parts
-    pub rest : KeepsRest old parts
-    pub in_line : AreInLine parts
+-- those before one are settled
+pub record AreSettled {D H : Type 0} (history : D → History) (honest : D → Type 0) (faults : D → ℕ) (dig : List ℕ → List ℕ) (file tree : ℕ) (old : Parts D H)
+    (i : ℕ) (parts : Parts D H) : Type 0 where
+  pub settles : SettlesFiles history honest faults dig (before file i) tree old parts
+  pub rest : KeepsRest old parts
+  pub in_line : AreInLine parts
 
-  pub settled_begun : tree < length old.trees.items → AreInLine old → AreSettled 0 old
+module _ {D H : Type 0} {history : D → History} {honest : D → Type 0} {faults : D → ℕ} {dig : List ℕ → List ℕ} {file tree : ℕ} {old : Parts D H} where
+  pub settled_begun : tree < old.trees.len → AreInLine old → AreSettled history honest faults dig file tree old 0 old
   settled_begun lt in_line = record {
     settles = (
       [],
       _,
       have_none history honest faults (disks_of old),
-      settles_none dig tree (blocks_in (state_of old) tree) (before file 0) (state_of old) (get_some old.trees.items tree lt).1 (λ f. none_from file 0 f (omega arith)),
+      settles_none dig tree (blocks_in (state_of old) tree) (before file 0) (state_of old)
+          (get_some old.trees.items tree (omega (arith, lt, old.trees.ok.0))).1 (λ f. none_from file 0 f (omega arith)),
     );
     rest = rest_none old;
     in_line = in_line;
   }
 
-  pub settled_more : (i : ℕ) (parts new : Parts D H) → AreSettled i parts → i ≢ file → SettlesFiles history honest faults dig (λ other. other == i) tree parts new
-      → KeepsRest parts new → AreInLine new → AreSettled (i + 1) new
-  settled_more i parts new a apart (calls, notes, have, two) rest in_line =
-      let one = a.settles.3 in
+  pub settled_more : {i : ℕ} {parts new : Parts D H} → AreSettled history honest faults dig file tree old i parts → i ≢ file
+      → SettlesFiles history honest faults dig (λ other. other == i) tree parts new → KeepsRest parts new → AreInLine new → AreSettled history honest faults dig file tree old (i + 1) new
+  settled_more {i} {parts} {new} a apart (calls, notes, have, two) rest in_line =
       let size : length (state_of parts).files ≡ length (state_of old).files =
       length-map parts.slots.items file_of ∙ a.rest.count ∙ sym (length-map old.slots.items file_of) in
-      let both = settles_then dig tree (blocks_in (state_of old) tree) i one
+      let both = settles_then dig tree (blocks_in (state_of old) tree) i a.settles.3
       (subst (λ n. SettlesIn dig (λ other. other == i) tree 0 n (state_of parts) calls notes (state_of new)) (a.rest.blocks tree) two)
       size (none_from file i) (not_it file i) (same_before file i) (it_alone file i apart) in
       record {
@@ -99,15 +98,16 @@ module _ {D H : Type 0} (history : D → History) (honest : D → Type 0) (fault
         in_line = in_line;
       }
 
-  pub settled_skipped : (i : ℕ) (parts : Parts D H) → AreSettled i parts → i ≡ file → AreSettled (i + 1) parts
-  settled_skipped i parts a own = record {
+  pub settled_skipped : {i : ℕ} {parts : Parts D H} → AreSettled history honest faults dig file tree old i parts → i ≡ file → AreSettled history honest faults dig file tree old (i + 1) parts
+  settled_skipped {i} a own = record {
     settles = (a.settles.0, a.settles.1, a.settles.2, same_meant dig tree (blocks_in (state_of old) tree) (λ f lt. skipped file i own f) a.settles.3);
     rest = a.rest;
     in_line = a.in_line;
   }
 
-  pub settled_done : (i : ℕ) (parts : Parts D H) → AreSettled i parts → length old.slots.items ≡ i → SettlesFiles history honest faults dig (is_other file) tree old parts
-  settled_done i parts a all = (
+  pub settled_done : {i : ℕ} {parts : Parts D H} → AreSettled history honest faults dig file tree old i parts → length old.slots.items ≡ i
+      → SettlesFiles history honest faults dig (is_other file) tree old parts
+  settled_done {i} a all = (
     a.settles.0,
     a.settles.1,
     a.settles.2,

@@ -1,5 +1,5 @@
 -- Files of a tree that are settled, one after the other.
-use Rattle.bt_machine.proofs.Base.{[], ◌≡◌, ◌≢◌, ℕ, zero, suc, ◌+◌, ◌<◌, ◌≤◌, inl, inr, Bool, true, false, not, cond, ◌&&◌, if◌then◌else◌, List, ◌∷◌, ◌++◌, length, map, flat_map, get_or, Option, Some, None, refl, sym, ap, ◌∙◌, subst, arith, ◌==◌, eqb-true, eq-eqb, lt-ltb, le-ltb, cases_lt, append-nil, length-map, slice_get, slice_set, option_map, option_map_or, range_with_len, Facts, History, BlockRead, block_of, call_of, judged, waiting_blocks, is_waiting, BlockState, blocks_of, block_count}
+use Rattle.bt_machine.proofs.Base.{[], ◌≡◌, ◌≢◌, ℕ, zero, suc, ◌+◌, ◌<◌, ◌≤◌, inl, inr, Bool, true, false, cond, ◌&&◌, if◌then◌else◌, List, ◌∷◌, ◌++◌, length, map, flat_map, Option, Some, None, refl, sym, ap, ◌∙◌, arith, ◌==◌, eqb-true, eq-eqb, lt-ltb, le-ltb, cases_lt, append-nil, slice_get, option_map, option_map_or, range_with_len, Facts, History, BlockRead, block_of, call_of, judged, waiting_blocks, is_waiting, BlockState, blocks_of, block_count}
 use Rattle.std.specs.Prelude.{nat_lt, IsTrue, ◌↔◌}
 use Rattle.std.specs.List.{count_by}
 use Rattle.std.specs.Vec.{with_item}
@@ -11,20 +11,21 @@ use Rattle.bt_store.proofs.Reviews.{nothing_waits}
 use Rattle.bt_machine.proofs.Lists.{set_same, set_other, some_is, some_below, get_some}
 use Rattle.bt_machine.specs.declared.answer.Note.{Note}
 use Rattle.bt_machine.specs.State.{EngineState, FileState}
-use Rattle.bt_machine.specs.Devices.{DeviceCalls, HaveCalls, calls_at, reads_at}
+use Rattle.bt_machine.specs.Devices.{DeviceCalls, reads_at}
 use Rattle.bt_machine.specs.Blocks.{file_numbers}
 use Rattle.bt_machine.specs.Settling.{SettlesIn, judged_file, due_blocks, settling_notes}
 use Rattle.bt_machine.specs.Adopting.{is_other}
-use Rattle.bt_state.specs.Parts.{state_of, file_of, disk_of, disks_of}
+use Rattle.bt_state.specs.Parts.{state_of, file_of, disks_of}
 use Rattle.bt_state.specs.declared.slot.Slot.{Slot}
 use Rattle.bt_state.specs.declared.parts.Parts.{Parts}
 use Rattle.bt_state.proofs.Lists.{get_mapped}
-use Rattle.bt_state.proofs.DeviceCalls.{have_none, have_then}
-use Rattle.bt_state.proofs.SlotChanges.{file_here, files_changed, have_changed}
+use Rattle.bt_state.proofs.DeviceCalls.{have_none}
+use Rattle.bt_state.proofs.SlotChanges.{files_changed, have_changed}
 use Rattle.bt_adoption.specs.GroupsSteps.{file_with}
-use Rattle.bt_adoption.specs.PartsSteps.{blocks_in, KeepsRest, AreInLine}
+use Rattle.bt_adoption.specs.PartsSteps.{blocks_in}
 use Rattle.bt_adoption.specs.SettlingSteps.{SettlesFiles, IsDue}
-use Rattle.bt_adoption.proofs.Slots.{calls_are}
+use Rattle.bt_adoption.proofs.Slots.{calls_are, IsKept}
+use Rattle.bt_adoption.proofs.Takings.{length_judged}
 
 -- ---- lists over numbers
 
@@ -65,6 +66,16 @@ module _ {Y : Type 0} where
             ∙ ap (λ ys. ys ++ (g a ++ gs)) (sym none ∙ ap (λ ys. ys ++ fs) (sym e.0))
       ]
 
+-- ---- a store whose blocks were judged
+
+pub kept_judged : {D : Type 0} {history : D → History} {honest : D → Type 0} {faults : D → ℕ} {dig : List ℕ → List ℕ} {k : Facts} {blocks : List ℕ} {store after : StoreView D}
+    {reads : List BlockRead} → IsJudged history honest faults dig k false blocks store reads after → IsKept k store k after
+kept_judged {D} {history} {honest} {faults} {dig} {k} {blocks} {store} {after} {reads} is_judged = record {
+  file_length = is_judged.same_file;
+  size = ap (λ (xs : List BlockState). length xs) is_judged.states ∙ length_judged dig k false reads store.states;
+  tree_length = refl;
+}
+
 -- ---- reads of no block
 
 no_reads : (reads : List BlockRead) → map block_of reads ≡ [] → reads ≡ []
@@ -77,13 +88,13 @@ judged_none dig k (Some f) = refl
 
 -- ---- one file
 
-module _ {D H : Type 0} (history : D → History) (honest : D → Type 0) (faults : D → ℕ) (dig : List ℕ → List ℕ) (old : Parts D H) (file tree : ℕ) {slot : Slot D H}
-    (here : slice_get old.slots.items file ≡ Some slot) {k : Facts} (there : slice_get old.trees.items tree ≡ Some k) where
+module _ {D H : Type 0} (dig : List ℕ → List ℕ) (old : Parts D H) (file tree : ℕ) {slot : Slot D H} (here : slice_get old.slots.items file ≡ Some slot)
+    {k : Facts} (there : slice_get old.trees.items tree ≡ Some k) where
   abbrev count : ℕ
   count = blocks_in (state_of old) tree
 
-  size_is : file < length (state_of old).files
-  size_is = omega (arith, some_below old.slots.items file here, length-map old.slots.items file_of)
+  was : slice_get (state_of old).files file ≡ Some (file_of slot)
+  was = get_mapped file_of old.slots.items file here
 
   module _ (reads : List BlockRead) where
     abbrev reads_for : ℕ → List BlockRead
@@ -97,16 +108,14 @@ module _ {D H : Type 0} (history : D → History) (honest : D → Type 0) (fault
 
     calls_made : reads_at file k.file_length reads ≡ flat_map (λ other. reads_at other k.file_length (reads_for other)) (file_numbers (state_of old))
     calls_made =
-        sym (flat_map_one (λ other. reads_at other k.file_length (reads_for other)) file 0 (length (state_of old).files) (omega arith) (omega (arith, size_is))
-        (λ j apart. ap (reads_at j k.file_length) (others_none j apart)) ∙ ap (reads_at file k.file_length) own)
+        sym (flat_map_one (λ other. reads_at other k.file_length (reads_for other)) file 0 (length (state_of old).files) (omega arith)
+        (omega (arith, some_below (state_of old).files file was)) (λ j apart. ap (reads_at j k.file_length) (others_none j apart)) ∙ ap (reads_at file k.file_length) own)
 
     due_by : (other : ℕ) (f : FileState) (b : Bool) → (other == file) ≡ b → slice_get (state_of old).files other ≡ Some f
         → map block_of reads ≡ due_blocks dig k tree 0 count (file_of slot)
         → map block_of (cond b reads []) ≡ (if b then due_blocks dig k tree 0 count f else [])
     due_by other f true e at due =
-        let same : other ≡ file = eqb-true other file e in
-        let is : file_of slot ≡ f = some_is (sym (get_mapped file_of old.slots.items file here) ∙ ap (slice_get (state_of old).files) (sym same) ∙ at) in
-        due ∙ ap (due_blocks dig k tree 0 count) is
+        due ∙ ap (due_blocks dig k tree 0 count) (some_is (sym was ∙ ap (slice_get (state_of old).files) (sym (eqb-true other file e)) ∙ at))
     due_by other f false e at due = refl
 
     -- of this file these blocks were read, and the others stayed
@@ -114,47 +123,46 @@ module _ {D H : Type 0} (history : D → History) (honest : D → Type 0) (fault
         → ((other : ℕ) → other ≢ file → slice_get (state_of new).files other ≡ slice_get (state_of old).files other)
         → slice_get (state_of new).files file ≡ Some (judged_file dig k reads (file_of slot))
         → state_of new ≡ record (state_of old) { files = (state_of new).files }
-        → SettlesIn dig (λ other. other == file) tree 0 count (state_of old) (reads_at file k.file_length reads)
-        (flat_map (λ other. settling_notes dig k other (reads_for other)) (file_numbers (state_of old))) (state_of new)
-    settles_so new due same now rest = record {
-      facts = k;
-      reads = reads_for;
-      here = there;
-      due = λ other f at. due_by other f (other == file) refl at due;
-      made = calls_made;
-      noted = refl;
-      files = λ other. elim (cases_eq other file) [
-        | inl is ↦ ap (slice_get (state_of new).files) is ∙ now ∙ ap (λ rs. Some (judged_file dig k rs (file_of slot))) (sym own)
-            ∙ ap (option_map (judged_file dig k (reads_for file))) (sym (get_mapped file_of old.slots.items file here))
-            ∙ ap (λ n. option_map (judged_file dig k (reads_for n)) (slice_get (state_of old).files n)) (sym is)
-        | inr apart ↦ same other apart ∙ sym (judged_none dig k (slice_get (state_of old).files other))
-            ∙ ap (λ rs. option_map (judged_file dig k rs) (slice_get (state_of old).files other)) (sym (others_none other apart))
-      ];
-      others = rest;
-    }
+        → (notes : List Note) × SettlesIn dig (λ other. other == file) tree 0 count (state_of old) (reads_at file k.file_length reads) notes (state_of new)
+    settles_so new due same now rest = (
+      flat_map (λ other. settling_notes dig k other (reads_for other)) (file_numbers (state_of old)),
+      record {
+        facts = k;
+        reads = reads_for;
+        here = there;
+        due = λ other f at. due_by other f (other == file) refl at due;
+        made = calls_made;
+        noted = refl;
+        files = λ other. elim (cases_eq other file) [
+          | inl is ↦ ap (slice_get (state_of new).files) is ∙ now ∙ ap (λ rs. Some (judged_file dig k rs (file_of slot))) (sym own)
+              ∙ ap (option_map (judged_file dig k (reads_for file))) (sym was)
+              ∙ ap (λ n. option_map (judged_file dig k (reads_for n)) (slice_get (state_of old).files n)) (sym is)
+          | inr apart ↦ same other apart ∙ sym (judged_none dig k (slice_get (state_of old).files other))
+              ∙ ap (λ rs. option_map (judged_file dig k rs) (slice_get (state_of old).files other)) (sym (others_none other apart))
+        ];
+        others = rest;
+      },
+    )
 
-  pub settles_one : {store : StoreView D} (has : slot.store ≡ Some store) (after : StoreView D) (reads : List BlockRead) → slot.tree ≡ tree → k.file_length ≡ store.file_length
-      → IsJudged history honest faults dig k false (waiting_blocks dig k store.states 0 (block_count store.file_length)) store reads after
+  pub settles_one : {history : D → History} {honest : D → Type 0} {faults : D → ℕ} {store after : StoreView D} {reads : List BlockRead} (has : slot.store ≡ Some store) → slot.tree ≡ tree
+      → k.file_length ≡ store.file_length → IsJudged history honest faults dig k false (waiting_blocks dig k store.states 0 (block_count store.file_length)) store reads after
       → SettlesFiles history honest faults dig (λ other. other == file) tree old (record old { slots = with_item old.slots file (record slot { store = Some after }) })
-  settles_one {store} has after reads of_tree same is_judged =
-      let new : Parts D H = record old { slots = with_item old.slots file (record slot { store = Some after }) } in
+  settles_one {history} {honest} {faults} {store} {after} {reads} has of_tree same is_judged =
       let files = files_changed old.slots.items file here has after in
-      let blocks : count ≡ block_count store.file_length = ap (λ o. option_map_or blocks_of o 0) there ∙ ap block_count same in
-      let states : (file_of slot).states ≡ store.states = ap (λ (o : Option (StoreView D)). option_map_or (λ st. st.states) o []) has in
+      let blocks : block_count store.file_length ≡ count = sym (ap (λ o. option_map_or blocks_of o 0) there ∙ ap block_count same) in
+      let states : store.states ≡ (file_of slot).states = sym (ap (λ (o : Option (StoreView D)). option_map_or (λ st. st.states) o []) has) in
       let due : map block_of reads ≡ due_blocks dig k tree 0 count (file_of slot) =
-      is_judged.device.in_order ∙ ap (λ (xs : List BlockState). waiting_blocks dig k xs 0 (block_count store.file_length)) (sym states)
-      ∙ ap (waiting_blocks dig k (file_of slot).states 0) (sym blocks)
-      ∙ ap (λ b. if b then waiting_blocks dig k (file_of slot).states 0 count else []) (sym (eq-eqb slot.tree tree of_tree)) in (
+      is_judged.device.in_order ∙ ap (λ (xs : List BlockState). waiting_blocks dig k xs 0 (block_count store.file_length)) states
+      ∙ ap (waiting_blocks dig k (file_of slot).states 0) blocks
+      ∙ ap (λ b. if b then waiting_blocks dig k (file_of slot).states 0 count else []) (sym (eq-eqb slot.tree tree of_tree)) in
+      let settles = settles_so reads (record old { slots = with_item old.slots file (record slot { store = Some after }) }) due
+      (λ other apart. ap (λ (fs : List FileState). slice_get fs other) files ∙ set_other (state_of old).files file other (file_with slot.tree after.states) apart)
+      (ap (λ (fs : List FileState). slice_get fs file) files ∙ set_same (state_of old).files file was
+      ∙ ap (λ (xs : List BlockState). Some (file_with slot.tree xs)) (is_judged.states ∙ ap (λ (xs : List BlockState). judged dig k false reads xs) states)) refl in (
         reads_at file k.file_length reads,
-        flat_map (λ other. settling_notes dig k other (reads_for reads other)) (file_numbers (state_of old)),
-        subst (λ (cs : DeviceCalls). HaveCalls history honest faults (disks_of old) cs (disks_of new))
-            (sym (calls_are file k.file_length reads ∙ ap (λ n. calls_at file (map (call_of n) reads)) same))
-            (have_changed old.slots.items file here has after history honest faults (map (call_of store.file_length) reads) is_judged.device.calls),
-        settles_so reads new due
-            (λ other apart. ap (λ (fs : List FileState). slice_get fs other) files ∙ set_other (state_of old).files file other (file_with slot.tree after.states) apart)
-            (ap (λ (fs : List FileState). slice_get fs file) files ∙ set_same (state_of old).files file (get_mapped file_of old.slots.items file here)
-            ∙ ap (λ (xs : List BlockState). Some (file_with slot.tree xs)) (is_judged.states ∙ ap (λ (xs : List BlockState). judged dig k false reads xs) (sym states)))
-            refl,
+        settles.0,
+        rw (calls_are file reads same) (have_changed old.slots.items file here has after history honest faults (map (call_of store.file_length) reads) is_judged.device.calls),
+        settles.1,
       )
 
   -- nothing of it is due
@@ -173,13 +181,10 @@ module _ {D H : Type 0} (history : D → History) (honest : D → Type 0) (fault
       by true e = nothing_waits dig k (file_of slot).states 0 count (waits slot.store refl (eqb-true slot.tree tree e))
       by false e = refl
 
-  pub settles_not : (is_due : IsDue tree slot → ⊥) → SettlesFiles history honest faults dig (λ other. other == file) tree old old
-  settles_not is_due = (
-    reads_at file k.file_length [],
-    flat_map (λ other. settling_notes dig k other (reads_for [] other)) (file_numbers (state_of old)),
-    have_none history honest faults (disks_of old),
-    settles_so [] old (sym (none_due is_due)) (λ other apart. refl) (get_mapped file_of old.slots.items file here) refl,
-  )
+  pub settles_not : {history : D → History} {honest : D → Type 0} {faults : D → ℕ} (is_due : IsDue tree slot → ⊥) → SettlesFiles history honest faults dig (λ other. other == file) tree old old
+  settles_not {history} {honest} {faults} is_due =
+      let settles = settles_so [] old (sym (none_due is_due)) (λ other apart. refl) was refl in
+      (reads_at file k.file_length [], settles.0, have_none history honest faults (disks_of old), settles.1)
 
 -- ---- files in turn
 

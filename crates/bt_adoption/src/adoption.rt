@@ -1,4 +1,4 @@
-ghost use Rattle.std.specs.Prelude.{[], ◌≡◌, ◌<◌, List, IfOk, IfErr, flat_map, length, vec_len};
+ghost use Rattle.std.specs.Prelude.{[], ◌≡◌, ◌<◌, ◌↔◌, List, IsTrue, IfOk, IfErr, flat_map, length, vec_len};
 ghost use Rattle.bt_machine.specs.Devices.{DeviceCalls, HaveCalls};
 ghost use Rattle.bt_machine.specs.Blocks.{states_of};
 ghost use Rattle.bt_machine.specs.Shape.{IsShaped};
@@ -18,12 +18,12 @@ use bt_store::Adopted;
 use bt_tree::NodeHash;
 use std::alloc::AllocError;
 
-/// Takes in what the device of a file has already: every group of its blocks, and then the blocks that wait in
-/// the other files of its root, which are not counted in the answer. `next` is the file's count of blocks,
-/// `anchor` is 0, and `marked` and `faults` are the sums over the groups.
+/// Takes in what the device of a file has already: every group of its blocks, and then the blocks that wait
+/// in the other files of its root, which are not counted in the answer. `next` is the file's count of
+/// blocks, `anchor` is 0, and `marked` and `faults` are the sums over the groups, in blocks.
 ///
-/// Errors: no such file; a peer is connected; out of memory, after which the groups that were taken in stay so
-/// and no other file has changed.
+/// Errors: no such file; a peer is connected; out of memory, after which the groups that were taken in stay
+/// so, and no other file has changed.
 pub fn adopt<D: Disk + Drop, H: NodeHash>(
     parts: &mut Parts<D, H>,
     file: u32,
@@ -40,7 +40,7 @@ pub fn adopt<D: Disk + Drop, H: NodeHash>(
     if file as usize >= parts.slots.len() {
         return Err(AdoptError::NoFile);
     }
-    if parts.peers.len() > 0 {
+    if has_peer(parts) {
         return Err(AdoptError::Busy);
     }
     if block_count(parts, file) == 0 {
@@ -59,6 +59,13 @@ pub fn adopt<D: Disk + Drop, H: NodeHash>(
     Ok(total)
 }
 
+/// Whether a peer is connected.
+fn has_peer<D: Disk + Drop, H: NodeHash>(parts: &Parts<D, H>) -> bool
+    ensures { IsTrue result ↔ (0 < length parts.now.peers.items) }
+{
+    parts.peers.len() > 0
+}
+
 /// Takes in all groups of a file that has a block. No peer is connected.
 fn adopt_file<D: Disk + Drop, H: NodeHash>(
     parts: &mut Parts<D, H>,
@@ -68,8 +75,10 @@ fn adopt_file<D: Disk + Drop, H: NodeHash>(
     requires in_line { AreInLine parts.old }
     requires inside { file < vec_len parts.old.slots }
     requires some { 0 < length (states_of (state_of parts.old) file) }
-    ensures ok { IfOk result (λ total. AdoptsIn D.history D.honest D.faults H.digest file parts.old total parts.new) }
-    ensures stop { IfErr result (λ _. StopsIn D.history D.honest D.faults H.digest file parts.old parts.new) }
+    ensures ok { IfOk result (λ total. AdoptsIn D.history D.honest D.faults H.digest file
+        parts.old total parts.new) }
+    ensures stop { IfErr result (λ _. StopsIn D.history D.honest D.faults H.digest file
+        parts.old parts.new) }
     ensures rest { KeepsRest parts.old parts.new }
     ensures in_line { AreInLine parts.new }
 {
@@ -87,8 +96,10 @@ fn adopt_slot<D: Disk + Drop, H: NodeHash>(
     requires fits { AreFit parts.old }
     requires inside { file < vec_len parts.old.slots }
     requires some { 0 < length (states_of (state_of parts.old) file) }
-    ensures ok { IfOk result (λ total. AdoptsIn D.history D.honest D.faults H.digest file parts.old total parts.new) }
-    ensures stop { IfErr result (λ _. StopsIn D.history D.honest D.faults H.digest file parts.old parts.new) }
+    ensures ok { IfOk result (λ total. AdoptsIn D.history D.honest D.faults H.digest file
+        parts.old total parts.new) }
+    ensures stop { IfErr result (λ _. StopsIn D.history D.honest D.faults H.digest file
+        parts.old parts.new) }
     ensures changes { ChangesFile file parts.old parts.new }
 {
     let slot = &mut parts.slots[file as usize];

@@ -9,15 +9,16 @@ use bt_store::{Adopted, FileStore};
 use bt_tree::NodeHash;
 use std::alloc::AllocError;
 
-/// Takes in all groups of a file, one after the other, and gives the sums. The one error is out of memory; the
-/// groups that were taken in before stay so.
+/// Takes in all groups of a file, one after the other, and gives the sums. The one error is out of memory:
+/// the groups that were taken in before stay so.
 pub(crate) fn adopt_groups<D: Disk + Drop, H: NodeHash>(
     store: &mut FileStore<D, H>,
     tree: &mut SparseTree<H>,
 ) -> Result<Adopted, AllocError>
     requires { tree.old.file_length ≡ store.old.file_length }
-    ensures ok { IfOk result (λ total. (groups : List (List BlockRead)) × TakesGroups D.history D.honest D.faults
-        H.digest tree.old store.old groups total tree.new store.new) }
+    ensures ok { IfOk result (λ total. (groups : List (List BlockRead))
+        × TakesGroups D.history D.honest D.faults H.digest
+        tree.old store.old groups total tree.new store.new) }
     ensures all { IfOk result (λ total. total.next ≡ length store.old.states) }
     ensures stop { IfErr result (λ _. StopsTaking D.history D.honest D.faults
         H.digest tree.old store.old tree.new store.new) }

@@ -1,5 +1,5 @@
-//! What the device of a file has already is taken in: the file's blocks, group after group, and then the blocks
-//! that wait in the other files of its root.
+//! What the device of a file has already is taken in: the file's blocks, group after group, and then the
+//! blocks that wait in the other files of its root.
 #![tactic(auto)]
 
 mod adoption;

@@ -1,10 +1,9 @@
 //! A file of which many blocks change at once is left out of the request book and of the counts of unmarked
 //! blocks, and counted in again when it has changed. So nothing has to keep the states that its blocks had.
 ghost use Rattle.std.specs.Prelude.{◌≡◌, ◌<◌, Some, length, slice_get};
-ghost use Rattle.bt_book.specs.Book.{peers_of};
 ghost use Rattle.bt_machine.specs.Blocks.{block_id, state_at, states_of};
 ghost use Rattle.bt_state.specs.Parts.{state_of, file_of};
-ghost use Rattle.bt_adoption.specs.RecountSteps.{Follows, with_marked_file};
+ghost use Rattle.bt_adoption.specs.RecountSteps.{Follows, with_marked_file, LeavesOut, CountsIn};
 
 use bt_book::BlockId;
 use bt_disk::Disk;
@@ -15,9 +14,7 @@ use bt_tree::NodeHash;
 /// Leaves a file out: the book and the counts become what they are where all its blocks are marked.
 pub(crate) fn leave_out<D: Disk + Drop, H: NodeHash>(parts: &mut Parts<D, H>, file: u32)
     requires { Follows parts.old (state_of parts.old) }
-    ensures follows { Follows parts.new (with_marked_file (state_of parts.old) file) }
-    ensures peers { peers_of parts.new.book ≡ peers_of parts.old.book }
-    ensures others { parts.new ≡ record parts.old { book = parts.new.book; unmarked = parts.new.unmarked } }
+    ensures { LeavesOut file parts.old parts.new }
 {
     let count = block_count(parts, file);
     for block in 0..count {
@@ -29,9 +26,7 @@ pub(crate) fn leave_out<D: Disk + Drop, H: NodeHash>(parts: &mut Parts<D, H>, fi
 /// Counts a file in that was left out.
 pub(crate) fn count_in<D: Disk + Drop, H: NodeHash>(parts: &mut Parts<D, H>, file: u32)
     requires { Follows parts.old (with_marked_file (state_of parts.old) file) }
-    ensures follows { Follows parts.new (state_of parts.old) }
-    ensures peers { peers_of parts.new.book ≡ peers_of parts.old.book }
-    ensures others { parts.new ≡ record parts.old { book = parts.new.book; unmarked = parts.new.unmarked } }
+    ensures { CountsIn parts.old parts.new }
 {
     let count = block_count(parts, file);
     for block in 0..count {

@@ -9,7 +9,7 @@ use bt_disk::Disk;
 use bt_state::{Parts, Slot};
 use bt_tree::NodeHash;
 
-/// Settles all blocks of the files of a tree, but of one of them. No peer is connected.
+/// Settles all blocks of the other files of a tree, all but this one. No peer is connected.
 pub(crate) fn settle_others<D: Disk + Drop, H: NodeHash>(
     parts: &mut Parts<D, H>,
     tree: usize,
@@ -19,7 +19,8 @@ pub(crate) fn settle_others<D: Disk + Drop, H: NodeHash>(
     requires in_line { AreInLine parts.old }
     requires count { length parts.old.slots.items ≡ length parts.old.torrent.files }
     requires here { tree < vec_len parts.old.trees }
-    ensures settles { SettlesFiles D.history D.honest D.faults H.digest (is_other file) tree parts.old parts.new }
+    ensures settles { SettlesFiles D.history D.honest D.faults H.digest (is_other file) tree
+        parts.old parts.new }
     ensures rest { KeepsRest parts.old parts.new }
     ensures in_line { AreInLine parts.new }
 {

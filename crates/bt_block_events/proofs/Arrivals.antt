@@ -1,13 +1,13 @@
 -- A block that comes from a peer, in the parts of an engine.
-use Rattle.bt_machine.proofs.Base.{◌≡◌, ℕ, ◌+◌, ◌-◌, ◌^◌, ◌<◌, ◌≤◌, min, List, [], length, map, Some, refl, sym, ap, ◌∙◌, subst, arith, get_or, slice_get, slice_set, option_map, Contains, BlockId, Missing, PeerKey, without_block, states_after_put}
-use Rattle.std.specs.Vec.{with_item, vec_len}
+use Rattle.bt_machine.proofs.Base.{◌≡◌, ℕ, ◌+◌, ◌-◌, ◌^◌, min, List, [], length, map, Some, refl, sym, ap, ◌∙◌, subst, arith, get_or, slice_get, slice_set, Contains, BlockId, Missing, PeerKey, without_block, states_after_put}
+use Rattle.std.specs.Vec.{with_item}
 use Rattle.std.proofs.lemmas.Option.{get_or_from_slice_get}
 use Rattle.bt_machine.proofs.Lists.{some_is, set_id}
 use Rattle.bt_machine.proofs.Shape.{map_set}
 use Rattle.bt_tree.specs.Blocks.{block_length}
 use Rattle.bt_meta.specs.Files.{File}
 use Rattle.bt_meta.specs.Torrent.{Metainfo}
-use Rattle.bt_book.specs.Book.{BookState, IsBook, IsPair, KeepsOthers, asked_of, peers_of, pair_count}
+use Rattle.bt_book.specs.Book.{BookState, IsBook, IsPair, KeepsOthers, asked_of, peers_of}
 use Rattle.bt_book.proofs.Listed.{counted_blocks, asked_le_pairs}
 use Rattle.bt_machine.specs.State.{EngineState, PeerState, FileState}
 use Rattle.bt_machine.specs.Blocks.{state_at, with_file, with_peer}

@@ -1,5 +1,5 @@
 -- A request for a range of a piece, in the parts of an engine.
-use Rattle.bt_machine.proofs.Base.{[], ◌≡◌, ◌≢◌, ℕ, ◌+◌, ◌-◌, ◌^◌, min, Bool, true, false, List, ◌∷◌, ◌++◌, map, Some, refl, sym, ap, ◌∙◌, subst, slice_get, slice_set, option_and_then, Contains, Contains-append_right, IsPlace, Span, Facts, BlockRead, given, failed, call_of, IsRight, BlockState, Missing, Marked, History, Ask, Piece, PeerKey, BlockId, Metainfo}
+use Rattle.bt_machine.proofs.Base.{[], ◌≡◌, ◌≢◌, ℕ, ◌+◌, ◌-◌, ◌^◌, min, Bool, true, false, List, ◌∷◌, ◌++◌, map, Some, refl, sym, ap, ◌∙◌, subst, slice_get, slice_set, option_and_then, Contains, Contains-append_right, IsPlace, Span, Facts, BlockRead, given, failed, call_of, IsRight, BlockState, Missing, Marked, History, Ask, Piece, PeerKey}
 use Rattle.std.specs.Global.{Vec}
 use Rattle.std.specs.Vec.{with_item}
 use Rattle.std.specs.Bool.{OnFalse}
@@ -12,7 +12,7 @@ use Rattle.bt_machine.specs.State.{EngineState, PeerState, FileState}
 use Rattle.bt_machine.specs.Blocks.{block_id, state_at, with_file, with_peer, IsAsked}
 use Rattle.bt_machine.specs.Devices.{DeviceCalls, calls_at, reads_at}
 use Rattle.bt_machine.specs.Output.{noting, sending}
-use Rattle.bt_machine.specs.Request.{AreMarked, HandlesRequest, FindsFault, served, stopped, with_payload, damaged as machine_damaged, fault as machine_fault}
+use Rattle.bt_machine.specs.Request.{AreMarked, HandlesRequest, FindsFault, served, stopped, damaged as machine_damaged, fault as machine_fault}
 use Rattle.bt_machine.specs.Shape.{IsShaped}
 use Rattle.bt_machine.specs.Spans.{first_block, last_block, spanned_blocks}
 use Rattle.bt_state.specs.Parts.{state_of, peer_of}
@@ -24,7 +24,7 @@ use Rattle.bt_state.proofs.SlotChanges.{file_here}
 use Rattle.bt_state.proofs.Ties.{tied_set, state_set}
 use Rattle.bt_block_events.specs.Request.{TakesRequest, effect_of}
 use Rattle.bt_block_events.specs.RequestSteps.{CanRead, SendsFromSlot, StopsInSlot}
-use Rattle.bt_block_events.specs.ServingSteps.{Finds, damaged, fault, IsMarkedSpan}
+use Rattle.bt_block_events.specs.ServingSteps.{Finds, damaged, fault}
 use Rattle.bt_block_events.specs.SpansSteps.{IsShortSpan}
 use Rattle.bt_block_events.specs.declared.request.Served.{Served}
 use Rattle.bt_block_events.specs.declared.request.Served.TheVariants.{Sent, Found}
@@ -134,19 +134,19 @@ module _ {D H : Type 0} {history : D → History} {honest : D → Type 0} {fault
           calls_at span.file calls,
           have_calls parts calls r.sends.calls,
           takes_by look (Sent bytes) (calls_at span.file calls) (state_of (record old { slots = next.slots; peers = with_item old.peers i (record look.peer { payload = payload }) }))
-          (served span look.open_to look.place look.are (record {
-            file = file_before parts;
-            tree = r.tree;
-            bytes = r.sends.bytes;
-            reads = r.sends.reads;
-            is_file = is_file parts;
-            right = r.sends.right;
-            made = calls_are span.file r.tree.file_length r.sends.reads;
-            sent = ap (λ l. sending (peer_of old.book look.peer) (Piece ask.piece ask.begin l)) r.sends.cut;
-            after = state_set (record old { slots = next.slots }) i (record look.peer { payload = payload }) (tied_same parts same) look.here refl
-                ∙ ap (λ (s : EngineState). with_peer s i (peer_of old.book (record look.peer { payload = payload }))) (state_same parts same)
-                ∙ ap (λ n. with_peer (state_of old) i (peer_of old.book (record look.peer { payload = n }))) paid;
-          })),
+              (served span look.open_to look.place look.are (record {
+                file = file_before parts;
+                tree = r.tree;
+                bytes = r.sends.bytes;
+                reads = r.sends.reads;
+                is_file = is_file parts;
+                right = r.sends.right;
+                made = calls_are span.file r.tree.file_length r.sends.reads;
+                sent = ap (λ l. sending (peer_of old.book look.peer) (Piece ask.piece ask.begin l)) r.sends.cut;
+                after = state_set (record old { slots = next.slots }) i (record look.peer { payload = payload }) (tied_same parts same) look.here refl
+                    ∙ ap (λ (s : EngineState). with_peer s i (peer_of old.book (record look.peer { payload = payload }))) (state_same parts same)
+                    ∙ ap (λ n. with_peer (state_of old) i (peer_of old.book (record look.peer { payload = n }))) paid;
+              })),
         )
 
   -- it stops at a fault

@@ -1,5 +1,5 @@
 -- A block that has a state stands in the store of a slot.
-use Rattle.bt_machine.proofs.Base.{[], ◌≡◌, ℕ, ◌<◌, List, Some, None, Option, refl, sym, ap, ◌∙◌, arith, slice_get, map, length, option_and_then, BlockId, BlockState, Facts}
+use Rattle.bt_machine.proofs.Base.{[], ◌≡◌, ℕ, Some, None, Option, refl, ap, ◌∙◌, arith, slice_get, map, BlockId, BlockState, Facts}
 use Rattle.bt_machine.proofs.Lists.{get_map, and_then_some, some_below}
 use Rattle.bt_meta.specs.Files.{File}
 use Rattle.bt_store.specs.FileStore.{StoreView}

@@ -16,10 +16,10 @@ abbrev pub effect_of : Said → Effect
 effect_of (Noted note) = noting note
 effect_of (Closed why) = closing why
 
--- these calls of the devices were made, and by them the machine takes the piece of the peer at i, says this of
--- it and comes to the new parts
-abbrev pub TakesPiece : {D H : Type 0} → (D → History) → (D → Type 0) → (D → ℕ) → (List ℕ → List ℕ) → Parts D H
-    → (i piece begin : ℕ) → List ℕ → Said → Parts D H → Type 0
+-- these calls of the devices were made, and by them the machine takes the piece of the peer at i, says this
+-- of it and comes to the new parts
+abbrev pub TakesPiece : {D H : Type 0} → (D → History) → (D → Type 0) → (D → ℕ) → (List ℕ → List ℕ)
+    → Parts D H → (i piece begin : ℕ) → List ℕ → Said → Parts D H → Type 0
 TakesPiece history honest faults dig old i piece begin bytes said new =
     (calls : DeviceCalls) × HaveCalls history honest faults (disks_of old) calls (disks_of new)
     × ((p : PeerState) → slice_get (state_of old).peers i ≡ Some p

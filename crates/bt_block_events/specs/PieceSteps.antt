@@ -11,9 +11,9 @@ use Rattle.bt_store.specs.Arrival.{IsBlock, PutIsDue, calls_of_put, states_after
 use Rattle.bt_store.specs.declared.block_states.BlockState.{BlockState}
 use Rattle.bt_store.specs.declared.block_states.BlockState.TheVariants.{Missing, Waiting, Marked}
 use Rattle.bt_store.specs.declared.error.StoreError.{StoreError}
-use Rattle.bt_store.specs.declared.error.StoreError.TheVariants.{Range, Device}
+use Rattle.bt_store.specs.declared.error.StoreError.TheVariants.{Range}
 use Rattle.bt_store.specs.declared.arrival.Put.{Put}
-use Rattle.bt_store.specs.declared.arrival.Put.TheVariants.{Already, Wrong, Marked as PutMarked, Waiting as PutWaiting}
+use Rattle.bt_store.specs.declared.arrival.Put.TheVariants.{Already, Marked as PutMarked, Waiting as PutWaiting}
 use Rattle.bt_machine.specs.Devices.{DeviceCalls, HaveCalls}
 use Rattle.bt_machine.specs.Arrival.{Puts}
 use Rattle.bt_state.specs.Parts.{state_of, disks_of}

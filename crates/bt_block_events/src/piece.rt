@@ -20,12 +20,14 @@ use bt_tree::NodeHash;
 /// What is said of a message that came.
 #[derive(Clone, Copy, Debug, PartialEq, Eq)]
 pub enum Effect {
+    /// The peer stays, and this is noted.
     Noted(Note),
+    /// The peer is closed.
     Closed(Why),
 }
 
-/// Takes a block that comes from the peer at `index`: where the peer is asked for it, it is put into its file's
-/// store, and the peer is asked for it no more.
+/// Takes bytes of a piece, from the byte `begin` on, that come from the peer at `index`: where they are all
+/// of a block that it is asked for, they are put into the file's store, and it is asked for it no more.
 pub fn take_piece<D: Disk + Drop, H: NodeHash>(
     parts: &mut Parts<D, H>,
     index: usize,

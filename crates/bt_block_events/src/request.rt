@@ -1,7 +1,7 @@
 ghost use Rattle.std.specs.Prelude.{◌≡◌, ◌≢◌, ◌*◌, ◌<◌, IfErr, IfOk, Some, length, map, vec_len};
 ghost use Rattle.std.specs.Bool.{OnFalse, OnTrue};
 ghost use Rattle.bt_tree.specs.Limits.{full_block_length};
-ghost use Rattle.bt_machine.specs.Blocks.{state_at};
+ghost use Rattle.bt_machine.specs.Blocks.{block_id, state_at};
 ghost use Rattle.bt_machine.specs.Request.{AreMarked};
 ghost use Rattle.bt_machine.specs.Shape.{IsShaped};
 ghost use Rattle.bt_state.specs.Parts.{state_of};
@@ -91,35 +91,24 @@ fn are_marked<D: Disk + Drop, H: NodeHash>(parts: &Parts<D, H>, span: Span) -> b
     ensures yes { OnTrue result (AreMarked (state_of parts.now) span) }
     ensures no { OnFalse result (¬ AreMarked (state_of parts.now) span) }
 {
-    let file = span.file;
-    is_marked(
-        parts,
-        BlockId {
-            file,
-            block: first_block(span),
-        },
-    ) && is_marked(
-        parts,
-        BlockId {
-            file,
-            block: last_block(span),
-        },
-    )
+    is_marked(parts, span.file, first_block(span)) && is_marked(parts, span.file, last_block(span))
 }
 
-/// Whether a block is marked.
-fn is_marked<D: Disk + Drop, H: NodeHash>(parts: &Parts<D, H>, block: BlockId) -> bool
-    ensures yes { OnTrue result (state_at (state_of parts.now) block ≡ Some BlockState.Marked) }
-    ensures no { OnFalse result (state_at (state_of parts.now) block ≢ Some BlockState.Marked) }
+/// Whether a block of a file is marked.
+fn is_marked<D: Disk + Drop, H: NodeHash>(parts: &Parts<D, H>, file: u32, block: u32) -> bool
+    ensures yes { OnTrue result (state_at (state_of parts.now) (block_id file block)
+        ≡ Some BlockState.Marked) }
+    ensures no { OnFalse result (state_at (state_of parts.now) (block_id file block)
+        ≢ Some BlockState.Marked) }
 {
     let slots = parts.slots.as_slice();
-    let Some(slot) = slots.get(block.file as usize) else {
+    let Some(slot) = slots.get(file as usize) else {
         return false;
     };
     let Some(store) = &slot.store else {
         return false;
     };
-    store.state(block.block) == Some(BlockState::Marked)
+    store.state(block) == Some(BlockState::Marked)
 }
 
 /// Reads the blocks that a span lies in, all of them marked, and gives the bytes of the span. At the first

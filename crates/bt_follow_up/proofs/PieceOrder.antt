@@ -1,5 +1,5 @@
 -- The blocks of a torrent rise with their pieces, so that those that a peer has are found by its pieces.
-use Rattle.bt_machine.proofs.Base.{◌≡◌, ℕ, ◌+◌, ◌-◌, ◌*◌, ◌/◌, ◌<◌, ◌≤◌, ◌⊎◌, inl, inr, Bool, true, false, ◌&&◌, List, length, Option, Some, None, refl, sym, ap, ◌∙◌, subst, arith, slice_get, get_or, option_map_or, File, piece_count, Metainfo, IsLaidOut, total_pieces, div_ceil_times, lt_of_mul-lt-mul_right, div-mul-add, cases_lt, lt-ltb, BlockId, block_count, block_length}
+use Rattle.bt_machine.proofs.Base.{◌≡◌, ℕ, ◌+◌, ◌-◌, ◌*◌, ◌/◌, ◌<◌, ◌≤◌, inl, inr, Bool, true, false, ◌&&◌, List, length, Option, Some, None, refl, sym, ap, ◌∙◌, subst, arith, slice_get, get_or, option_map_or, File, piece_count, Metainfo, IsLaidOut, total_pieces, div_ceil_times, lt_of_mul-lt-mul_right, div-mul-add, cases_lt, lt-ltb, BlockId, block_count, block_length}
 use Rattle.std.specs.Prelude.{slice_index_or, nat_lt, ◌%◌, ◌≢◌, max}
 use Rattle.std.proofs.lemmas.Bool.{ltb-true}
 use Rattle.std.proofs.Math.Nat.{div-mul-le_self}
@@ -12,6 +12,7 @@ use Rattle.bt_meta.specs.declared.piece_blocks.PieceRange.{PieceRange}
 use Rattle.bt_meta.proofs.PlacePieces.{ends}
 use Rattle.bt_meta.proofs.PieceBlocks.{blocks_per_piece, listed, found, begins_inside, lies_in_piece, has_piece}
 use Rattle.bt_book.specs.Blocks.{IsFrom, IsBefore, IsFirst, HasNoFirst}
+use Rattle.bt_book.proofs.Firsts.{before_or_from, same_id}
 use Rattle.bt_book.specs.BitSet.{IsNext, HasNoneFrom}
 use Rattle.bt_follow_up.specs.HeldSteps.{is_held, LiesIn, IsFirstPiece, HasNoBlock}
 
@@ -55,6 +56,18 @@ lies_range l = record { has = l.has; piece = l.is; begin = refl; length = refl }
 
 one_entry : {torrent : Metainfo} {b c : BlockId} → b.file ≡ c.file → (h : HasBlock torrent b.file b.block) (k : HasBlock torrent c.file c.block) → h.entry ≡ k.entry
 one_entry {torrent} {b} {c} same h k = some_is (sym h.found ∙ ap (λ n. slice_get torrent.files n) same ∙ k.found)
+
+-- ---- the order of blocks
+
+from_before : {b c : BlockId} → IsBefore b c → IsFrom b c
+from_before (inl lt) = inl lt
+from_before (inr at) = inr (at.0, omega (arith, at.1))
+
+apart : {b c : BlockId} → IsFrom b c → IsBefore c b → ⊥
+apart (inl lt) (inl gt) = absurd (omega (arith, lt, gt))
+apart (inl lt) (inr at) = absurd (omega (arith, lt, at.0))
+apart (inr at) (inl gt) = absurd (omega (arith, at.0, gt))
+apart (inr at) (inr back) = absurd (omega (arith, at.1, back.1))
 
 -- ---- blocks rise with their pieces
 
@@ -100,10 +113,6 @@ module _ (torrent : Metainfo) (size : IsPieceLength torrent.piece_length) (lay :
     before = λ c q k sooner. rises c from q p k l (from_before sooner);
     here = λ c k sooner. l;
   }
-    where
-      from_before : {b c : BlockId} → IsBefore b c → IsFrom b c
-      from_before (inl lt) = inl lt
-      from_before (inr at) = inr (at.0, omega (arith, at.1))
 
   -- where it is no block of its file, they begin with the next file
   module _ (from : BlockId) (no : ¬ HasBlock torrent from.file from.block) where
@@ -183,31 +192,15 @@ module _ (torrent : Metainfo) (size : IsPieceLength torrent.piece_length) (lay :
           behind_begin : (c : BlockId) → IsFrom from c → is_held torrent pieces c ≡ true → IsFrom begin c
           behind_begin c after e =
               let h = held_behind c after e in
-              elim (order c begin) [
+              elim (before_or_from begin c) [
                 | inl sooner ↦ (
-                    let most = rises c begin h.0 q h.1 begin_lies (sooner_from sooner) in
+                    let most = rises c begin h.0 q h.1 begin_lies (from_before sooner) in
                     let same : h.0 ≡ q = omega (arith, most, h.2) in
                     let run_of = (lies_in_piece torrent q c.file c.block run _ size lay r (lies_range h.1)).0 same in
                     inr (sym run_of.same_file, run_of.from)
                     )
                 | inr from ↦ from
               ]
-            where
-              order : (b c : BlockId) → IsBefore b c ⊎ IsFrom c b
-              order b c = elim (cases_lt b.file c.file) [
-                | inl lt ↦ inl (inl lt)
-                | inr le ↦ elim (cases_lt c.file b.file) [
-                  | inl gt ↦ inr (inl gt)
-                  | inr ge ↦ elim (cases_lt b.block c.block) [
-                    | inl lt ↦ inl (inr (omega (arith, le, ge), lt))
-                    | inr back ↦ inr (inr (omega (arith, le, ge), back))
-                  ]
-                ]
-              ]
-
-              sooner_from : {b c : BlockId} → IsBefore b c → IsFrom b c
-              sooner_from (inl lt) = inl lt
-              sooner_from (inr at) = inr (at.0, omega (arith, at.1))
 
           -- the piece begins there or behind
           pub begins : IsFrom from begin → IsFirst (is_held torrent pieces) from begin
@@ -216,12 +209,6 @@ module _ (torrent : Metainfo) (size : IsPieceLength torrent.piece_length) (lay :
             held = lies_held torrent pieces begin begin_lies next.member;
             least = λ c behind sooner. not_true _ (λ e. apart (behind_begin c behind e) sooner);
           }
-            where
-              apart : {b c : BlockId} → IsFrom b c → IsBefore c b → ⊥
-              apart (inl lt) (inl gt) = absurd (omega (arith, lt, gt))
-              apart (inl lt) (inr at) = absurd (omega (arith, lt, at.0))
-              apart (inr at) (inl gt) = absurd (omega (arith, at.0, gt))
-              apart (inr at) (inr back) = absurd (omega (arith, at.1, back.1))
 
           -- it began before
           pub begun : IsBefore begin from → IsFirst (is_held torrent pieces) from from
@@ -234,12 +221,6 @@ module _ (torrent : Metainfo) (size : IsPieceLength torrent.piece_length) (lay :
                 held = lies_held torrent pieces from (subst (λ n. LiesIn torrent from n) (sym same) here) next.member;
                 least = λ c behind before. absurd (apart behind before);
               }
-            where
-              apart : {b c : BlockId} → IsFrom b c → IsBefore c b → ⊥
-              apart (inl lt) (inl gt) = absurd (omega (arith, lt, gt))
-              apart (inl lt) (inr at) = absurd (omega (arith, lt, at.0))
-              apart (inr at) (inl gt) = absurd (omega (arith, at.0, gt))
-              apart (inr at) (inr back) = absurd (omega (arith, at.1, back.1))
 
           pub in_place : run.file ≢ from.file → IsFirst (is_held torrent pieces) from begin
           in_place other = elim (cases_lt from.file run.file) [
@@ -260,13 +241,10 @@ module _ (torrent : Metainfo) (size : IsPieceLength torrent.piece_length) (lay :
           at_latest k same is = elim (cases_lt run.first from.block) [
             | inl lt ↦ (
                 let at : from.block ≡ k = omega (arith, is, lt) in
-                subst (λ (b : BlockId). IsFirst (is_held torrent pieces) from b) (same_block at same) (begun (inr (same, lt)))
+                subst (λ (b : BlockId). IsFirst (is_held torrent pieces) from b) (sym (same_id from (record { file = run.file; block = k }) same (sym at))) (begun (inr (same, lt)))
                 )
             | inr le ↦ (
                 let at : run.first ≡ k = omega (arith, is, le) in
                 subst (λ n. IsFirst (is_held torrent pieces) from (record { file = run.file; block = n })) at (begins (inr (sym same, le)))
                 )
           ]
-            where
-              same_block : {k : ℕ} → from.block ≡ k → run.file ≡ from.file → from ≡ record { file = run.file; block = k }
-              same_block {k} e f = ap (λ n. record from { block = n }) e ∙ ap (λ (n : ℕ). record from { file = n; block = k }) (sym f)

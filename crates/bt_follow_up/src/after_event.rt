@@ -14,9 +14,12 @@ use bt_machine::Frame;
 use bt_state::Parts;
 use bt_tree::NodeHash;
 
+/// How many frames follow at most: one tells our interest, one is a hash request, and 16 request blocks.
+pub const MAX_FRAMES: usize = 18;
+
 /// Does what follows from an event for the peer that stands at `index`: tells it a change of our interest,
 /// sends it a hash request, and requests blocks of it. The frames come behind those that are there, which
-/// have room for 18 more.
+/// have room for `MAX_FRAMES` more.
 pub fn follow_up<D: Disk + Drop, H: NodeHash>(
     parts: &mut Parts<D, H>,
     index: usize,

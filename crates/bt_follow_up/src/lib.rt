@@ -9,4 +9,4 @@ mod held;
 mod interest;
 mod sending;
 
-pub use after_event::follow_up;
+pub use after_event::{MAX_FRAMES, follow_up};

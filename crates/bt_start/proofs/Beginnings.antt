@@ -1,6 +1,6 @@
 -- An engine begins where its parts were bare and the devices are handed out.
-use Rattle.bt_machine.proofs.Base.{[], ◌≡◌, ℕ, zero, suc, ◌+◌, ◌<◌, ◌≤◌, inl, inr, Bool, true, false, List, ◌∷◌, length, map, replicate, Option, Some, None, refl, sym, ap, ◌∙◌, subst, arith, slice_get, option_map, option_map_or, option_and_then, length-map, length-replicate, cases_lt, block_count, File, Metainfo, Facts, BlockId, Missing}
-use Rattle.std.specs.Prelude.{◌↔◌, slice_index_or}
+use Rattle.bt_machine.proofs.Base.{[], ◌≡◌, ℕ, zero, suc, ◌+◌, ◌<◌, ◌≤◌, inl, inr, Bool, true, false, List, ◌∷◌, length, map, replicate, Option, Some, None, refl, sym, ap, ◌∙◌, subst, arith, slice_get, option_map, option_map_or, option_and_then, length-map, length-replicate, cases_lt, block_count, File, Facts, BlockId, Missing}
+use Rattle.std.specs.Prelude.{◌↔◌, slice_index_or, Result, Ok, Err, OnOk}
 use Rattle.std.specs.Vec.{with_items}
 use Rattle.std.proofs.lemmas.List.{get_or_past, with_items_is}
 use Rattle.std.proofs.lemmas.Option.{slice_get_past, get_or_from_slice_get}
@@ -13,16 +13,16 @@ use Rattle.bt_meta.specs.Files.{file_of as entry_of}
 use Rattle.bt_meta.specs.declared.torrent.FileEntry.{FileEntry}
 use Rattle.bt_machine.proofs.Lists.{some_is, some_below, get_some, get_map}
 use Rattle.bt_machine.proofs.Shape.{shape_at_first}
-use Rattle.bt_machine.specs.State.{EngineState, FileState, PeerState}
+use Rattle.bt_machine.specs.State.{EngineState, FileState}
 use Rattle.bt_machine.specs.Blocks.{state_at, is_marked_in}
 use Rattle.bt_machine.specs.Start.{Starts, AreDevicesOf, IsNewFile}
 use Rattle.bt_state.proofs.Lists.{get_mapped}
 use Rattle.bt_state.specs.Parts.{state_of, disks_of, file_of, disk_of, peer_of}
-use Rattle.bt_state.specs.Ties.{FitsFile, FitsTree, IsTied}
+use Rattle.bt_state.specs.Ties.{FitsTree, IsTied}
 use Rattle.bt_state.specs.declared.peer.Peer.{Peer}
 use Rattle.bt_state.specs.declared.slot.Slot.{Slot}
 use Rattle.bt_state.specs.declared.parts.Parts.{Parts}
-use Rattle.bt_start.specs.BeginningSteps.{AreBareParts}
+use Rattle.bt_start.specs.BeginningSteps.{AreBareParts, HaveBegun}
 use Rattle.bt_start.specs.DeviceSteps.{devices_in, IsNewSlot, AreNewSlots}
 use Rattle.bt_start.specs.TreeSteps.{HasTreeAt}
 use Rattle.bt_start.proofs.Sizes.{sizes_unmarked}
@@ -214,16 +214,11 @@ module _ {D H : Type 0} {dig : List ℕ → List ℕ} (bare next : Parts D H) (i
 
 -- ---- the same, where the slots were lent and made
 
-pub record HaveBegun {D H : Type 0} (dig : List ℕ → List ℕ) (torrent : Metainfo) (given : List D) (parts : Parts D H) : Type 0 where
-  pub state : Starts dig torrent (state_of parts)
-  pub devices : AreDevicesOf torrent.files given (disks_of parts)
-  pub tied : IsTied parts
-
-pub have_begun : {D H : Type 0} {dig : List ℕ → List ℕ} (bare : Parts D H) (lent made : List (Slot D H)) {files : List File} {torrent : Metainfo} {given : List D}
-    → AreBareParts dig bare → bare.torrent ≡ torrent → files ≡ bare.torrent.files → lent ≡ bare.slots.items → AreNewSlots files made
+pub have_begun : {D H : Type 0} {dig : List ℕ → List ℕ} (bare : Parts D H) (lent made : List (Slot D H)) {files : List File} {given : List D}
+    → AreBareParts dig bare → files ≡ bare.torrent.files → lent ≡ bare.slots.items → AreNewSlots files made
     → map (λ slot. slot.tree) made ≡ map (λ slot. slot.tree) lent → devices_in made ≡ given
-    → HaveBegun dig torrent given (record bare { slots = with_items bare.slots made })
-have_begun {D} {H} {dig} bare lent made {files} {torrent} {given} is same listed lends new trees in_order =
+    → HaveBegun dig given (record bare { slots = with_items bare.slots made })
+have_begun {D} {H} {dig} bare lent made {files} {given} is listed lends new trees in_order =
     let Slots : Type 0 = List (Slot D H) in
     let next : Parts D H = record bare { slots = with_items bare.slots made } in
     let alike : map (λ slot. slot.tree) made ≡ map (λ slot. slot.tree) bare.slots.items = trees ∙ ap (λ (slots : Slots). map (λ slot. slot.tree) slots) lends in
@@ -233,11 +228,15 @@ have_begun {D} {H} {dig} bare lent made {files} {torrent} {given} is same listed
     let own = subst (λ (slots : Slots). AreNewSlots bare.torrent.files slots) (sym are) (subst (λ (files : List File). AreNewSlots files made) listed new) in
     let own_trees = ap (λ (slots : Slots). map (λ slot. slot.tree) slots) are ∙ alike in
     record {
-      state = subst (λ (torrent : Metainfo). Starts dig torrent (state_of next)) same (begins bare next is own own_trees);
-      devices = subst (λ (torrent : Metainfo). AreDevicesOf torrent.files given (disks_of next)) same
-          (are_devices bare next is own own_trees (ap (λ (slots : Slots). devices_in slots) are ∙ in_order));
+      starts = begins bare next is own own_trees;
+      devices = are_devices bare next is own own_trees (ap (λ (slots : Slots). devices_in slots) are ∙ in_order);
       tied = tied bare next is own own_trees;
     }
+
+-- what follows of three clauses on success
+pub ok_follows : {X E P Q R S : Type 0} (result : Result X E) → (P → Q → R → S) → OnOk result P → OnOk result Q → OnOk result R → OnOk result S
+ok_follows (Ok x) follows p q r = follows p q r
+ok_follows (Err e) follows p q r = tt
 
 pub counts_wanted : (files : List FileEntry) → map (λ n. replicate n true) (map (λ file. block_count file.length) files)
     ≡ map (λ file. replicate (block_count file.length) true) (map entry_of files)

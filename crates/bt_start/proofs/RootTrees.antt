@@ -1,5 +1,5 @@
 -- Trees by their roots: one is found there, or is made.
-use Rattle.bt_machine.proofs.Base.{[], ◌≡◌, ◌≢◌, ℕ, ◌<◌, inl, inr, Bool, true, false, cond, List, ◌∷◌, ◌++◌, length, get_or, Option, Some, None, refl, sym, ap, ◌∙◌, subst, arith, slice_get, AllPairs, All, All-get_or, cases_lt, map, length-map, get_or-map, ◌≤◌, File, Metainfo, IsLawful, IsLawfulFile, Facts}
+use Rattle.bt_machine.proofs.Base.{[], ◌≡◌, ◌≢◌, ℕ, ◌<◌, inl, inr, Bool, true, false, cond, List, ◌∷◌, ◌++◌, length, get_or, Some, None, refl, sym, ap, ◌∙◌, subst, arith, slice_get, AllPairs, All, All-get_or, cases_lt, map, length-map, get_or-map, ◌≤◌, File, Metainfo, IsLawful, IsLawfulFile, Facts}
 use Rattle.std.specs.Ordering.{is_eq, nat_cmp}
 use Rattle.std.specs.Cmp.Lexicographic.{slice_cmp}
 use Rattle.std.specs.BTreeMap.{Updates, IsEmpty, is_at}

@@ -1,19 +1,19 @@
 -- How many blocks of an engine lie in a piece: as many as the run of the piece's blocks has.
-use Rattle.bt_machine.proofs.Base.{[], ◌≡◌, ◌≢◌, ℕ, zero, suc, ◌+◌, ◌-◌, ◌*◌, ◌/◌, ◌%◌, ◌<◌, ◌≤◌, inl, inr, min, Bool, true, false, not, cond, List, ◌∷◌, ◌++◌, length, map, filter, flat_map, Option, Some, refl, sym, ap, ◌∙◌, subst, arith, slice_get, option_map, option_map_or, range_with_len, cases_lt, eq-eqb, eqb-true, File, Metainfo, IsLaidOut, BlockId, block_count, block_length}
+use Rattle.bt_machine.proofs.Base.{[], ◌≡◌, ◌≢◌, ℕ, zero, suc, ◌+◌, ◌-◌, ◌*◌, ◌/◌, ◌%◌, ◌<◌, ◌≤◌, inl, inr, min, Bool, true, false, not, cond, List, ◌∷◌, length, map, filter, flat_map, Option, Some, refl, sym, ap, ◌∙◌, arith, slice_get, option_map, option_map_or, range_with_len, cases_lt, eq-eqb, eqb-true, File, IsLaidOut, BlockId, block_count, block_length}
 use Rattle.std.specs.Prelude.{max, count_by, ◌↔◌, ◌==◌}
 use Rattle.std.proofs.lemmas.Bool.{cases_eq}
 use Rattle.std.proofs.lemmas.List.Sums.{sum_by-append}
 use Rattle.std.proofs.lemmas.Option.{slice_get_past}
 use Rattle.bt_tree.specs.TreeShape.{IsPieceLength}
 use Rattle.bt_book.proofs.Once.{count_cons}
-use Rattle.bt_meta.specs.PieceBlocks.{HasBlock, ArePieceBlocks, IsOfRun, IsBlockRange}
+use Rattle.bt_meta.specs.PieceBlocks.{HasBlock, ArePieceBlocks, IsOfRun}
 use Rattle.bt_meta.specs.declared.piece_blocks.BlockRun.{BlockRun}
 use Rattle.bt_meta.proofs.PieceBlocks.{lies_in_piece}
-use Rattle.bt_machine.proofs.Lists.{some_is, some_below, get_some}
+use Rattle.bt_machine.proofs.Lists.{some_below, get_some}
 use Rattle.bt_machine.specs.State.{EngineState, FileState}
 use Rattle.bt_machine.specs.Blocks.{block_id, states_of, is_marked_in, is_in_piece, all_blocks}
 use Rattle.bt_machine.specs.Shape.{IsShaped}
-use Rattle.bt_state.specs.Ties.{unmarked_in, AreUnmarked}
+use Rattle.bt_state.specs.Ties.{AreUnmarked}
 use Rattle.bt_start.specs.PieceSteps.{ArePieceSizes}
 
 not_true : (t : Bool) → (t ≡ true → ⊥) → t ≡ false
@@ -150,9 +150,9 @@ module _ (s : EngineState) (shaped : IsShaped s.torrent s) (size : IsPieceLength
         let window = count_mapped (block_id run.file) (is_in_piece s.torrent piece) (range_with_len 0 n)
         ∙ count_window (λ b. is_in_piece s.torrent piece (block_id run.file b)) run.first run.count 0 n
         (λ b lt. let law = lies run.file b (omega arith) in (
-            λ e. (let of = law.0 e in (of.from, of.below)),
-            λ at. law.1 (record { same_file = refl; from = at.0; below = at.1 }),
-          )) in
+          λ e. (let of = law.0 e in (of.from, of.below)),
+          λ at. law.1 (record { same_file = refl; from = at.0; below = at.1 }),
+        )) in
         omega (arith, window, state_sizes run.file first.found, first.inside, are.count)
 
     run_counted : count_by (is_in_piece s.torrent piece) (all_blocks s) ≡ run.count

@@ -1,8 +1,12 @@
--- The parts of an engine that begins, before devices are handed out. No public contract cites them.
+-- The parts of an engine that begins, before its devices are handed out and after. No public contract cites
+-- them.
 use Rattle.std.specs.Prelude.{[], ◌≡◌, ℕ, ◌≤◌, true, List, map, replicate, vec_capacity}
 use Rattle.bt_tree.specs.Blocks.{block_count}
 use Rattle.bt_meta.specs.Torrent.{IsLawful}
 use Rattle.bt_book.specs.Book.{max_peers}
+use Rattle.bt_machine.specs.Start.{Starts, AreDevicesOf}
+use Rattle.bt_state.specs.Parts.{state_of, disks_of}
+use Rattle.bt_state.specs.Ties.{IsTied}
 use Rattle.bt_state.specs.declared.parts.Parts.{Parts}
 use Rattle.bt_start.specs.PieceSteps.{ArePieceSizes}
 use Rattle.bt_start.specs.TreeSteps.{AreTorrentTrees, AreBareSlots}
@@ -20,3 +24,10 @@ pub record AreBareParts {D H : Type 0} (dig : List ℕ → List ℕ) (parts : Pa
   pub room : max_peers ≤ vec_capacity parts.peers
   pub first_key : parts.last_key ≡ 0
   pub first_turn : parts.turn ≡ 0
+
+-- the torrent's engine has begun, with these devices
+pub record HaveBegun {D H : Type 0} (dig : List ℕ → List ℕ) (given : List D) (parts : Parts D H)
+    : Type 0 where
+  pub starts : Starts dig parts.torrent (state_of parts)
+  pub devices : AreDevicesOf parts.torrent.files given (disks_of parts)
+  pub tied : IsTied parts

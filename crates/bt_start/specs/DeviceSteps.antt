@@ -1,5 +1,5 @@
 -- The slots of files, once devices were handed out. No public contract cites them.
-use Rattle.std.specs.Prelude.{◌≡◌, ℕ, ◌<◌, List, length, Some, None, map, filter_map, slice_get}
+use Rattle.std.specs.Prelude.{◌≡◌, ℕ, ◌<◌, List, Some, None, map, filter_map, slice_get}
 use Rattle.bt_meta.specs.Files.{File}
 use Rattle.bt_store.specs.FileStore.{StoreView, new_states}
 use Rattle.bt_state.specs.Parts.{disk_of}

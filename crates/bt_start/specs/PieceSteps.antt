@@ -1,5 +1,5 @@
 -- How many blocks each piece has. No public contract cites it.
-use Rattle.std.specs.Prelude.{◌≡◌, ℕ, ◌<◌, List, length, Some, slice_get}
+use Rattle.std.specs.Prelude.{◌≡◌, ℕ, List, length, Some, slice_get}
 use Rattle.bt_meta.specs.Torrent.{Metainfo, total_pieces}
 use Rattle.bt_meta.specs.PieceBlocks.{ArePieceBlocks}
 use Rattle.bt_meta.specs.declared.piece_blocks.BlockRun.{BlockRun}

@@ -20,7 +20,8 @@ number_of numbers root = get (slice_cmp nat_cmp) numbers root
 abbrev pub IsListed : List File → File → Type 0
 IsListed files file = (i : ℕ) × (slice_get files i ≡ Some file)
 
--- trees of files of the torrent that have a block; each has its number, by its root, and no other root has one
+-- trees of files of the torrent that have a block; each has its number, by its root, and no other root has
+-- a number
 pub record AreByRoot (dig : List ℕ → List ℕ) (torrent : Metainfo) (trees : List Facts) (numbers : Numbers)
     : Type 0 where
   pub of_torrent : (t : ℕ) (k : Facts) → slice_get trees t ≡ Some k → IsTorrentTree dig torrent k

@@ -1,15 +1,15 @@
-ghost use Rattle.std.specs.Prelude.{◌≡◌, IfOk};
+ghost use Rattle.std.specs.Prelude.{◌≡◌, length, IfOk, OnOk, OnErr};
 ghost use Rattle.sha2.specs.Sha256.{sha256};
 ghost use Rattle.bt_meta.specs.Torrent.{IsLawful};
 ghost use Rattle.bt_machine.specs.Law.{AreRooted};
 ghost use Rattle.bt_machine.specs.Orderly.{IsOrderly};
 ghost use Rattle.bt_machine.specs.Shape.{IsShaped};
 ghost use Rattle.bt_machine.specs.Sound.{IsSound};
-ghost use Rattle.bt_machine.specs.Start.{AnswersStart};
+ghost use Rattle.bt_machine.specs.Start.{AnswersStart, device_count as count_of_devices};
 ghost use Rattle.bt_state.specs.Parts.{state_of, disks_of};
 ghost use Rattle.bt_state.specs.Ties.{IsTied};
 ghost use Rattle.bt_start.specs.Beginning.{answer_of};
-ghost use Rattle.bt_start.specs.BeginningSteps.{AreBareParts};
+ghost use Rattle.bt_start.specs.BeginningSteps.{AreBareParts, HaveBegun};
 
 use crate::block_counts::block_counts;
 use crate::devices::{device_count, hand_out};
@@ -28,9 +28,10 @@ const MAX_PEERS: usize = 64;
 
 /// The parts with which an engine of a torrent begins, without a log: all blocks are missing, and no peer is
 /// connected. Each file that has a byte takes one of the devices, in the torrent's order, and no call of them
-/// is made. It takes time in proportion to the files, the pieces and the blocks.
+/// is made. It goes once over the files, the pieces and the blocks.
 ///
-/// Errors: there is not one device for each file that has a byte, or out of memory. The devices are given back.
+/// Errors: there is not one device for each file that has a byte, or out of memory. The devices are given
+/// back.
 pub fn start<D: Disk + Drop, H: NodeHash>(
     alloc: Global,
     torrent: Torrent,
@@ -40,21 +41,31 @@ pub fn start<D: Disk + Drop, H: NodeHash>(
     requires digest { H.digest ≡ sha256 }
     ensures answer { AnswersStart H.digest torrent disks.items (answer_of result) }
     ensures tied { IfOk result (λ parts. IsTied parts) }
-    ensures shaped { IfOk result (λ parts. IsShaped torrent (state_of parts)) }
+    ensures shaped { IfOk result (λ parts. IsShaped parts.torrent (state_of parts)) }
     ensures orderly { IfOk result (λ parts. IsOrderly (state_of parts)) }
     ensures rooted { IfOk result (λ parts. AreRooted H.digest (state_of parts)) }
-    ensures sound { IfOk result (λ parts. IsSound D.history D.honest H.digest (state_of parts) (disks_of parts)) }
+    ensures sound { IfOk result (λ parts.
+        IsSound D.history D.honest H.digest (state_of parts) (disks_of parts)) }
 {
     if disks.len() != device_count(torrent.files()) {
-        return Err(StartRefused { disks, cause: StartError::DiskCount });
+        return Err(StartRefused {
+            disks,
+            cause: StartError::DiskCount,
+        });
     }
     let Ok(mut parts) = bare_parts(alloc, torrent, hash) else {
-        return Err(StartRefused { disks, cause: StartError::OutOfMemory });
+        return Err(StartRefused {
+            disks,
+            cause: StartError::OutOfMemory,
+        });
     };
     let mut disks = disks;
-    match hand_out(alloc, hash, parts.torrent.files(), &mut parts.slots, &mut disks) {
+    match give_devices(alloc, hash, &mut parts, &mut disks) {
         Ok(()) => Ok(parts),
-        Err(AllocError) => Err(StartRefused { disks, cause: StartError::OutOfMemory }),
+        Err(AllocError) => Err(StartRefused {
+            disks,
+            cause: StartError::OutOfMemory,
+        }),
     }
 }
 
@@ -81,6 +92,23 @@ fn bare_parts<D: Disk + Drop, H: NodeHash>(
         turn: 0,
         torrent,
     })
+}
+
+/// Gives each file that has a byte its device. Where memory is refused, all devices are back.
+fn give_devices<D: Disk + Drop, H: NodeHash>(
+    alloc: Global,
+    hash: H,
+    parts: &mut Parts<D, H>,
+    disks: &mut Vec<D>,
+) -> Result<(), AllocError>
+    requires bare { AreBareParts H.digest parts.old }
+    requires enough { length disks.old.items ≡ count_of_devices parts.old.torrent.files }
+    ensures torrent { parts.new.torrent ≡ parts.old.torrent }
+    ensures begun { OnOk result (HaveBegun H.digest disks.old.items parts.new) }
+    ensures refused { OnErr result (disks.new.items ≡ disks.old.items) }
+{
+    let files = parts.torrent.files();
+    hand_out(alloc, hash, files, &mut parts.slots, disks)
 }
 
 /// Every torrent is lawful: the clauses of its calls say so. It does nothing when it runs.

@@ -21,7 +21,7 @@ pub(crate) fn device_count(files: &[FileEntry]) -> usize
 }
 
 /// Gives each file that has a byte its device, and makes all its blocks missing. No call of a device is made.
-/// Where memory is refused, the devices stay in their order.
+/// Where memory is refused, all devices are back, in their order.
 pub(crate) fn hand_out<D: Disk + Drop, H: NodeHash>(
     alloc: Global,
     hash: H,

@@ -1,5 +1,5 @@
-//! How an engine begins: a torrent's trees, a slot for each of its files, which has its device, and a book that wants
-//! all blocks.
+//! How an engine begins: a torrent's trees, a slot for each of its files, with its device, and a book that
+//! wants all blocks.
 #![tactic(auto)]
 
 mod beginning;

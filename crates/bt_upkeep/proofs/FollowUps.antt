@@ -14,6 +14,7 @@ use Rattle.bt_state.specs.declared.peer.Peer.{Peer}
 use Rattle.bt_state.specs.declared.parts.Parts.{Parts}
 use Rattle.bt_upkeep.specs.ServingSteps.{SendsAllFollowUps}
 use Rattle.bt_follow_up.specs.AfterEvent.{SendsFollowUp}
+use Rattle.bt_follow_up.proofs.FollowUps.{shaped_again}
 
 module _ (dig : List ℕ → List ℕ) where
   each_more : (is : List ℕ) (i : ℕ) (s mid next : EngineState) (sent one : List Sent) → FollowsEach dig is s sent mid → FollowsUp dig mid i one next
@@ -28,10 +29,6 @@ module _ (dig : List ℕ → List ℕ) where
   )
   each_more (j ∷ is) i s mid next sent one f g =
       (f.0, f.1, f.2 ++ one, f.3, each_more is i f.0 mid next f.2 one f.4 g, ap (λ xs. xs ++ one) f.5 ∙ append_assoc f.1 f.2 one)
-
-  shape_after : {torrent : Metainfo} {s new : EngineState} {i : ℕ} {sent : List Sent} → FollowsUp dig s i sent new → IsShaped torrent s → IsShaped torrent new
-  shape_after {torrent} f shaped =
-      subst (λ s. IsShaped torrent s) (sym f.after) (record { same = shaped.same; roots = shaped.roots; count = shaped.count; each = shaped.each })
 
   pub shape_begun : {torrent : Metainfo} (s new : EngineState) → new ≡ rechoked s → IsShaped torrent s → IsShaped torrent new
   shape_begun {torrent} s new begun shaped =
@@ -91,7 +88,7 @@ module _ (dig : List ℕ → List ℕ) where
             devices = devices ∙ below.devices;
             torrent = torrent ∙ below.torrent;
             count = sym (length-map new.peers.items (λ (p : Peer). p.key)) ∙ ap (λ ks. length ks) keys ∙ length-map mid.peers.items (λ (p : Peer). p.key) ∙ below.count;
-            shaped = subst (λ (m : Metainfo). IsShaped m (state_of new)) (sym torrent) (shape_after sends.follows below.shaped);
+            shaped = shaped_again i _ below.shaped sends.follows.after;
             tied = tied;
           }
 

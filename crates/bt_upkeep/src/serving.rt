@@ -13,18 +13,18 @@ ghost use Rattle.bt_upkeep.specs.ServingSteps.{standing_at, is_served, served_pe
 
 use bt_book::{PeerKey, Standing, choose};
 use bt_disk::Disk;
-use bt_follow_up::follow_up;
+use bt_follow_up::{MAX_FRAMES, follow_up};
 use bt_machine::{Frame, Output};
 use bt_state::{Parts, Peer};
 use bt_tree::NodeHash;
 use bt_wire::Message;
 use std::alloc::{AllocError, Global};
 
-/// How many frames a peer is sent at most: a choke or an unchoke, and the 18 that follow.
-const MAX_FRAMES: usize = 19;
+/// How many frames a peer is sent at most: a choke or an unchoke, and those that follow.
+const FRAMES_PER_PEER: usize = 1 + MAX_FRAMES;
 
-/// Chooses the peers to serve anew, and begins the next turn. It sends chokes and unchokes where that changes,
-/// and behind them what follows for each peer. Errors: out of memory, and then nothing has changed.
+/// Chooses the peers to serve anew, and begins the next turn. It sends chokes and unchokes where that
+/// changes, and behind them what follows for each peer. Errors: out of memory, and then nothing has changed.
 pub fn rechoke<D: Disk + Drop, H: NodeHash>(
     alloc: Global,
     parts: &mut Parts<D, H>,
@@ -38,7 +38,7 @@ pub fn rechoke<D: Disk + Drop, H: NodeHash>(
     ensures tied { IsTied parts.new }
 {
     let standings = standings(alloc, &parts.peers)?;
-    let mut send = Vec::with_capacity(alloc, MAX_FRAMES * parts.peers.len())?;
+    let mut send = Vec::with_capacity(alloc, FRAMES_PER_PEER * parts.peers.len())?;
     let served = choose(&standings, parts.turn);
     begin_turn(parts, served.as_slice(), &mut send);
     follow_up_all(parts, &mut send);
@@ -86,7 +86,8 @@ fn begin_turn<D: Disk + Drop, H: NodeHash>(
     parts.turn = parts.turn.wrapping_add(1);
 }
 
-/// Serves the peers of these keys and no others, and sends a choke or an unchoke to each for which that changes.
+/// Serves the peers of these keys and no others, and sends a choke or an unchoke to each for which that
+/// changes.
 fn serve(peers: &mut [Peer], served: &[PeerKey], send: &mut Vec<(PeerKey, Frame)>)
     requires { vec_len send.old + length peers.old ≤ vec_capacity send.old }
     ensures peers { peers.new ≡ map (served_peer served.now) peers.old }

@@ -170,7 +170,7 @@ pub room_of : {D H : Type 0} (old : Parts D H) (trees : List Facts) (slots : Lis
 room_of {D} {H} old trees slots key room same_trees same_slots enough =
     subst (λ (ts : List Facts). IsRoomFor ts slots key room) (sym same_trees)
     (subst (λ (ss : List (Slot D H)). IsRoomFor old.trees.items ss key room) (sym same_slots)
-    (λ i k has. enough i k (record { here = has.here; same_root = has.same_root })))
+    (λ i k has. omega (arith, enough.known i k (record { here = has.here; same_root = has.same_root }))))
 
 -- the slots and trees that were lent fit each other
 pub fits_lent : {D H : Type 0} (old : Parts D H) (trees : List Facts) (slots : List (Slot D H)) → trees ≡ old.trees.items → slots ≡ old.slots.items
@@ -197,9 +197,13 @@ one_tree trees root i j {a} {b} apart first second = elim (cases_lt i j) [
 pub room_found : {D H : Type 0} (parts : Parts D H) (key : HashKey) (i : ℕ) (k : Facts) (trees : List Facts) (slots : List (Slot D H)) (count room : ℕ)
     → IsShaped parts.torrent (state_of parts) → trees ≡ parts.trees.items → slots ≡ parts.slots.items → HasRoot trees key.root i k
     → count ≡ run_room key → room ≡ sum_by (slot_room i count) slots → IsNoteRoom parts key room
-room_found {D} {H} parts key i k trees slots count room shaped same_trees same_slots has counted is tree j of =
+room_found {D} {H} parts key i k trees slots count room shaped same_trees same_slots has counted is =
     let found = subst (λ (ts : List Facts). HasRoot ts key.root i k) same_trees has in
-    let same : i ≡ tree = one_tree parts.trees.items key.root i tree shaped.roots found (record { here = of.here; same_root = of.same_root }) in
-    let total = is ∙ ap (λ n. sum_by (slot_room i n) slots) counted ∙ ap (λ (ss : List (Slot D H)). sum_by (slot_room i (run_room key)) ss) same_slots
-    ∙ ap (λ n. sum_by (slot_room n (run_room key)) parts.slots.items) same in
-    omega (arith, total)
+    record {
+      known = λ tree j of. (
+          let same = one_tree parts.trees.items key.root i tree shaped.roots found (record { here = of.here; same_root = of.same_root }) in
+          is ∙ ap (λ n. sum_by (slot_room i n) slots) counted ∙ ap (λ (ss : List (Slot D H)). sum_by (slot_room i (run_room key)) ss) same_slots
+          ∙ ap (λ n. sum_by (slot_room n (run_room key)) parts.slots.items) same
+          );
+      unknown = λ none. absurd (none i k (record { here = found.here; same_root = found.same_root }));
+    }

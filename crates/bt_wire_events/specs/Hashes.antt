@@ -1,5 +1,5 @@
 -- Hashes that come to an engine.
-use Rattle.std.specs.Prelude.{◌≡◌, ◌≤◌, ℕ, List, Some, slice_get}
+use Rattle.std.specs.Prelude.{◌≡◌, ℕ, List, Some, slice_get}
 use Rattle.std.specs.List.{sum_by}
 use Rattle.bt_disk.specs.History.{History}
 use Rattle.bt_sparse.specs.SparseTree.{Facts}
@@ -7,7 +7,7 @@ use Rattle.bt_hashreq.specs.declared.key.HashKey.{HashKey}
 use Rattle.bt_wire.specs.declared.message.Message.TheVariants.{Hashes as hashes_message}
 use Rattle.bt_machine.specs.State.{PeerState, Hint}
 use Rattle.bt_machine.specs.Devices.{DeviceCalls, HaveCalls}
-use Rattle.bt_machine.specs.HashMessages.{IsTreeOf}
+use Rattle.bt_machine.specs.HashMessages.{IsTreeOf, IsUnknownRoot}
 use Rattle.bt_machine.specs.Output.{Effect, no_effect, closing}
 use Rattle.bt_machine.specs.WireEvents.{HandlesMessage}
 use Rattle.bt_state.specs.Parts.{state_of, disks_of}
@@ -30,7 +30,8 @@ TakesHashes history honest faults dig old i key digests learnt new =
     × ((p : PeerState) → slice_get (state_of old).peers i ≡ Some p → HandlesMessage dig (state_of old) i p
     (hashes_message key digests) calls (effect_of learnt proofs) (state_of new))
 
--- there is room for a note of each block that may be settled, and for one of each device
-abbrev pub IsNoteRoom : {D H : Type 0} → Parts D H → HashKey → ℕ → Type 0
-IsNoteRoom parts key room = (tree : ℕ) (k : Facts) → IsTreeOf (state_of parts) key.root tree k
-    → sum_by (slot_room tree (run_room key)) parts.slots.items ≤ room
+-- so many notes there may be: those of all files of the root's tree, and none where no tree has the root
+pub record IsNoteRoom {D H : Type 0} (parts : Parts D H) (key : HashKey) (room : ℕ) : Type 0 where
+  pub known : (tree : ℕ) (k : Facts) → IsTreeOf (state_of parts) key.root tree k
+      → room ≡ sum_by (slot_room tree (run_room key)) parts.slots.items
+  pub unknown : IsUnknownRoot (state_of parts) key.root → room ≡ 0

@@ -28,7 +28,8 @@ pub record HasNoted (torrent : Metainfo) (blocks : Blocks) (counts : List ℕ) (
   pub noted : IsNoteOf first note last
 
 -- a state of the machine was followed, and these notes lead from it to that one
-pub record IsBehind (blocks : Blocks) (counts : List ℕ) (notes : List Note) (last : EngineState) : Type 0 where
+pub record IsBehind (blocks : Blocks) (counts : List ℕ) (notes : List Note) (last : EngineState)
+    : Type 0 where
   pub first : EngineState
   pub same_torrent : first.torrent ≡ last.torrent
   pub followed : AreFollowed first blocks counts

@@ -15,15 +15,15 @@ use bt_tree::{Hash32, NodeHash};
 use bt_wire::{Bytes, Message};
 use std::alloc::{AllocError, Global};
 
-/// The message that answers a hash request: the digests, or a reject where no tree knows them all. Errors: out
-/// of memory.
+/// The message that answers a hash request: the digests, or a reject where no tree knows them all. Errors:
+/// out of memory.
 pub fn take_hash_request<D: Disk + Drop, H: NodeHash>(
     alloc: Global,
     parts: &Parts<D, H>,
     key: &HashKey,
 ) -> Result<Message, AllocError>
-    ensures { IfOk result (λ message. (i : ℕ) (p : PeerState) → HandlesMessage H.digest (state_of parts.now) i p
-        (Message.HashRequest key.now) [] (sending p message) (state_of parts.now)) }
+    ensures { IfOk result (λ message. (i : ℕ) (p : PeerState) → HandlesMessage H.digest (state_of parts.now)
+        i p (Message.HashRequest key.now) [] (sending p message) (state_of parts.now)) }
 {
     match answer_hash_request(&parts.trees, key)? {
         Some(digests) => Ok(Message::Hashes(*key, joined(alloc, &digests)?)),

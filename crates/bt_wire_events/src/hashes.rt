@@ -24,9 +24,9 @@ use bt_store::BlockState;
 use bt_tree::NodeHash;
 use std::alloc::{AllocError, Global};
 
-/// Takes hashes that come from the peer at `index`: the tree of their root learns them, and then the blocks of
-/// their run that waited are read back in every file of the root. Where the peer is asked for these hashes, it
-/// may be asked for others. Errors: out of memory, and nothing changes then.
+/// Takes hashes that come from the peer at `index`: the tree of their root learns them, and then the blocks
+/// of their run that waited are read back in every file of the root. Where the peer is asked for these
+/// hashes, it may be asked for others. Errors: out of memory, and nothing changes then.
 pub fn take_hashes<D: Disk + Drop, H: NodeHash>(
     alloc: Global,
     parts: &mut Parts<D, H>,

@@ -1,5 +1,5 @@
-//! What wire events other than those about blocks do by themselves, in an engine that is to be a run of the machine
-//! of `bt_machine`: handshakes, messages that change their peer alone, and hash messages.
+//! What wire events other than those about blocks do by themselves, in an engine that is to be a run of the
+//! machine of `bt_machine`: handshakes, messages that change their peer alone, and hash messages.
 #![tactic(auto)]
 
 mod hash_request;

@@ -1,5 +1,4 @@
 use Rattle.std.proofs.Common.{◌-◌}
-use Rattle.bt_sparse.specs.SparseTree.{blocks_of}
 use Rattle.bt_adoption.proofs.Takings.{AreTaking}
 use Rattle.bt_adoption.proofs.groups.adopt_groups.Given as goal
 

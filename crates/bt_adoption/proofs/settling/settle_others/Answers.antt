@@ -1,4 +1,4 @@
-use Rattle.std.proofs.Common.{◌≡◌, ◌+◌, ◌<◌, List, length, refl, sym, ap, ◌∙◌, subst, arith}
+use Rattle.std.proofs.Common.{◌+◌, List, length, sym, ap, ◌∙◌, subst, arith}
 use Rattle.std.proofs.lemmas.List.{length-map}
 use Rattle.bt_meta.specs.Files.{File, file_of}
 use Rattle.bt_state.specs.declared.parts.Parts.{Parts}
@@ -7,9 +7,7 @@ use Rattle.bt_adoption.proofs.settling.settle_others.Goals as goal
 use Rattle.bt_adoption.proofs.settling.settle_others.Goals.{then-other-file, else-other-file}
 
 pub loop-other-init : goal.loop-other-init
-loop-other-init g c =
-    let d = g.D.Disk in
-    settled_begun d.history d.honest d.faults g.H.NodeHash.digest c.args.file c.args.tree c.args.parts.now (omega (arith, c.requires.here, c.args.parts.now.trees.ok.0)) c.requires.in_line
+loop-other-init g c = settled_begun c.requires.here c.requires.in_line
 
 pub settle_file-requires-clause-alone : goal.settle_file-requires-clause-alone
 settle_file-requires-clause-alone g c =
@@ -28,26 +26,19 @@ settle_file-requires-clause-here g c =
 pub loop-other-preserved : goal.loop-other-preserved
 loop-other-preserved g c =
     let d = g.D.Disk in
-    let dig = g.H.NodeHash.digest in
-    let old = c.args.parts.now in
-    let other = c.loop-other.other in
+    let same = λ (p : Parts g.row.D.Denot g.row.H.Denot). AreSettled d.history d.honest d.faults g.H.NodeHash.digest c.args.file c.args.tree c.args.parts.now (c.loop-other.other + 1) p in
     elim c.if-other-file.branch [
       | then-other-file w ↦
-          subst (λ (p : Parts g.row.D.Denot g.row.H.Denot). AreSettled d.history d.honest d.faults dig c.args.file c.args.tree old (c.loop-other.other + 1) p) (sym w.parts-is)
-          (settled_more d.history d.honest d.faults dig c.args.file c.args.tree old c.loop-other.other c.loop-other.parts w.settle_file.new.parts c.loop-other.invariant
-          w.if-other-file.true w.settle_file.ensures.settles w.settle_file.ensures.rest w.settle_file.ensures.in_line)
-      | else-other-file w ↦
-          subst (λ (p : Parts g.row.D.Denot g.row.H.Denot). AreSettled d.history d.honest d.faults dig c.args.file c.args.tree old (c.loop-other.other + 1) p) (sym w.parts-is)
-          (settled_skipped d.history d.honest d.faults dig c.args.file c.args.tree old c.loop-other.other c.loop-other.parts c.loop-other.invariant w.if-other-file.false)
+          subst same (sym w.parts-is)
+          (settled_more c.loop-other.invariant w.if-other-file.true w.settle_file.ensures.settles w.settle_file.ensures.rest w.settle_file.ensures.in_line)
+      | else-other-file w ↦ subst same (sym w.parts-is) (settled_skipped c.loop-other.invariant w.if-other-file.false)
     ]
 
 pub returns-clause-settles : goal.returns-clause-settles
 returns-clause-settles g c =
-    let d = g.D.Disk in
     let files = c.files.result.now in
     let size = sym (length-map files file_of) ∙ ap (λ (xs : List File). length xs) c.files.ensures.said ∙ sym c.requires.count in
-    settled_done d.history d.honest d.faults g.H.NodeHash.digest c.args.file c.args.tree c.args.parts.now c.loop-other.other c.loop-other.parts c.loop-other.invariant
-    (omega (arith, size, c.loop-other-test.false, c.loop-other.auto.other-end))
+    settled_done c.loop-other.invariant (omega (arith, size, c.loop-other-test.false, c.loop-other.auto.other-end))
 
 pub returns-clause-rest : goal.returns-clause-rest
 returns-clause-rest g c = c.loop-other.invariant.rest

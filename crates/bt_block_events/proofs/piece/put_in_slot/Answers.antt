@@ -1,4 +1,4 @@
-use Rattle.std.proofs.Common.{◌<◌, arith, length}
+use Rattle.std.proofs.Common.{arith}
 use Rattle.bt_block_events.proofs.Slots.{has_store, below_trees, geometry, puts_in_slot}
 use Rattle.bt_block_events.proofs.piece.put_in_slot.Goals as goal
 

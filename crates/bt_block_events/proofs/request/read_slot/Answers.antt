@@ -1,4 +1,4 @@
-use Rattle.std.proofs.Common.{◌<◌, arith, length}
+use Rattle.std.proofs.Common.{arith}
 use Rattle.bt_block_events.proofs.Slots.{has_store, below_trees, geometry, span_marked, sends_from_slot, stops_in_slot}
 use Rattle.bt_block_events.proofs.request.read_slot.Goals as goal
 

@@ -1,4 +1,4 @@
-use Rattle.std.proofs.Common.{◌≡◌, ◌+◌, ◌-◌, ◌^◌, min, List, ap, sym, ◌∙◌, refl, map, arith}
+use Rattle.std.proofs.Common.{ap, sym, ◌∙◌, refl, map, arith}
 use Rattle.std.specs.Vec.{with_items}
 use Rattle.bt_machine.proofs.Lists.{some_is}
 use Rattle.bt_machine.proofs.Shape.{map_set}

@@ -1,7 +1,6 @@
-use Rattle.std.proofs.Common.{◌≡◌, ℕ, true, List, map, replicate, refl, sym, ap, ◌∙◌, subst, arith}
+use Rattle.std.proofs.Common.{ℕ, true, List, map, replicate, refl, ap, ◌∙◌}
 use Rattle.bt_tree.specs.Blocks.{block_count}
 use Rattle.bt_meta.specs.Files.{File}
-use Rattle.bt_book.specs.Book.{BookState}
 use Rattle.bt_start.proofs.RootTrees.{all_short}
 use Rattle.bt_start.proofs.Beginnings.{counts_wanted}
 use Rattle.bt_start.proofs.beginning.bare_parts.Goals as goal

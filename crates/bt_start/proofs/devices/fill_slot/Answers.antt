@@ -1,4 +1,4 @@
-use Rattle.std.proofs.Common.{refl, sym, ap, ◌∙◌, arith}
+use Rattle.std.proofs.Common.{refl, ap, ◌∙◌, arith}
 use Rattle.bt_store.specs.FileStore.{new_states}
 use Rattle.bt_start.proofs.devices.fill_slot.Goals as goal
 

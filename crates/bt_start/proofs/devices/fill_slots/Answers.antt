@@ -1,5 +1,4 @@
-use Rattle.std.proofs.Common.{◌≡◌, ℕ, ◌+◌, ◌-◌, ◌<◌, ◌++◌, List, length, map, take, Some, refl, sym, ap, ◌∙◌, arith, rules, append-nil}
-use Rattle.std.specs.Prelude.{slice_get}
+use Rattle.std.proofs.Common.{◌≡◌, ℕ, ◌+◌, ◌-◌, ◌<◌, ◌++◌, List, length, map, refl, sym, ap, ◌∙◌, arith, rules, append-nil}
 use Rattle.std.proofs.lemmas.List.{length-map, length-set, take_all}
 use Rattle.bt_meta.specs.Files.{file_of}
 use Rattle.bt_meta.specs.declared.torrent.FileEntry.{FileEntry}

@@ -1,10 +1,9 @@
-use Rattle.std.proofs.Common.{[], ◌≡◌, ◌<◌, ◌++◌, ◌∷◌, List, length, get_or, Option, Some, refl, sym, ap, ◌∙◌, subst, cond, arith, append-nil}
+use Rattle.std.proofs.Common.{[], ◌≡◌, ◌++◌, ◌∷◌, length, get_or, Option, Some, refl, sym, ap, ◌∙◌, subst, cond, arith, append-nil}
 use Rattle.std.specs.Prelude.{slice_set}
 use Rattle.std.specs.Option.{option_map, option_to_list}
 use Rattle.std.proofs.lemmas.List.{length-set}
 use Rattle.bt_store.specs.FileStore.{StoreView}
 use Rattle.bt_state.proofs.Lists.{get_at}
-use Rattle.bt_state.specs.Parts.{disk_of}
 use Rattle.bt_state.specs.declared.slot.Slot.{Slot}
 use Rattle.bt_start.specs.DeviceSteps.{devices_in}
 use Rattle.bt_start.proofs.DeviceOrder.{AreBareBelow, no_devices, bare_above, taken_order, taken_room}

@@ -1,4 +1,4 @@
-use Rattle.std.proofs.Common.{◌≡◌, ◌≤◌, length, map}
+use Rattle.std.proofs.Common.{◌≡◌, ◌≤◌, length}
 use Rattle.bt_start.specs.TreeSteps.{AreByRoot, AreBareSlotsSoFar}
 use Rattle.bt_start.proofs.trees.bare_slots.Given as goal
 

@@ -1,4 +1,4 @@
-use Rattle.std.proofs.Common.{ap, ◌∙◌}
+use Rattle.std.proofs.Common.{ap, refl, ◌∙◌}
 use Rattle.std.specs.Prelude.{min, slice_get}
 use Rattle.bt_sparse.specs.Answer.{max_run_length}
 use Rattle.bt_wire_events.proofs.HashEvents.{room_found}
@@ -12,5 +12,8 @@ returns-in-Some-clause-room g c =
     (c.min.ensures ∙ ap (λ n. min n max_run_length) c.settled_count.ensures.value) c.room_for.ensures.value
 
 pub returns-in-None-clause-room : goal.returns-in-None-clause-room
-returns-in-None-clause-room g c = λ tree k of.
-    absurd (c.in-None.ensures.none tree k (record { here = ap (λ ts. slice_get ts tree) c.deref.ensures.value ∙ of.here; same_root = of.same_root }))
+returns-in-None-clause-room g c = record {
+  known = λ tree k of.
+      absurd (c.in-None.ensures.none tree k (record { here = ap (λ ts. slice_get ts tree) c.deref.ensures.value ∙ of.here; same_root = of.same_root }));
+  unknown = λ none. refl;
+}

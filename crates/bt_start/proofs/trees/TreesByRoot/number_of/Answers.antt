@@ -1,4 +1,4 @@
-use Rattle.std.proofs.Common.{[], ◌∷◌, refl, sym, ap, ◌∙◌, arith, Some, length}
+use Rattle.std.proofs.Common.{[], ◌∷◌, refl, sym, ap, ◌∙◌}
 use Rattle.std.specs.Option.{option_copied}
 use Rattle.bt_meta.specs.Files.{file_of}
 use Rattle.bt_start.proofs.RootTrees.{tree_is, lawful_file, known_tree, root_added}
