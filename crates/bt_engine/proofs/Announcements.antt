@@ -1,10 +1,9 @@
 -- What is said of each number of an event's notes, one note after the other.
-use Rattle.bt_machine.proofs.Base.{[], ◌≡◌, ◌≢◌, ℕ, zero, suc, ◌+◌, ◌<◌, ◌≤◌, Bool, true, false, cond, List, ◌∷◌, ◌++◌, length, map, flat_map, filter, drop, get_or, Option, Some, None, refl, sym, ap, ◌∙◌, subst, arith, slice_get, Contains, if◌then◌else◌, option_map_or, range_with_len, append-nil, length-append, get_or_append_left, get_or-range_with_len, length-range_with_len, total_pieces, BlockId}
+use Rattle.bt_machine.proofs.Base.{[], ◌≡◌, ℕ, ◌+◌, ◌<◌, ◌≤◌, Bool, true, false, cond, List, ◌∷◌, ◌++◌, length, map, flat_map, filter, drop, get_or, Option, Some, None, refl, sym, ap, ◌∙◌, arith, slice_get, if◌then◌else◌, option_map_or, range_with_len, append-nil, length-append, get_or_append_left, get_or-range_with_len, length-range_with_len, total_pieces}
 use Rattle.std.specs.Prelude.{◌==◌}
 use Rattle.std.proofs.Common.{append_assoc, add-one}
 use Rattle.std.proofs.Math.Seq.{drop-cons}
 use Rattle.std.proofs.lemmas.List.{drop_all}
-use Rattle.std.proofs.lemmas.Bool.{eq-eqb, ne_eqb}
 use Rattle.bt_book.specs.Book.{BookState}
 use Rattle.bt_wire.specs.declared.message.Message.TheVariants.{Have}
 use Rattle.bt_machine.specs.declared.answer.Frame.TheVariants.{Message as message_frame}
@@ -15,7 +14,7 @@ use Rattle.bt_machine.specs.Blocks.{is_whole, piece_numbers}
 use Rattle.bt_machine.specs.Output.{Sent, sent_to}
 use Rattle.bt_machine.proofs.Lists.{some_is}
 use Rattle.bt_state.specs.Parts.{peer_of}
-use Rattle.bt_state.specs.Ties.{unmarked_in, AreUnmarked}
+use Rattle.bt_state.specs.Ties.{AreUnmarked}
 use Rattle.bt_state.specs.declared.peer.Peer.{Peer}
 use Rattle.bt_state.proofs.Lists.{get_mapped, get_at}
 use Rattle.bt_state.proofs.Wholes.{wholes_are}

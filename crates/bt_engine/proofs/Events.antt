@@ -1,21 +1,19 @@
 -- A wire event that was taken and handled, and what followed from it, are a step of the machine.
-use Rattle.bt_machine.proofs.Base.{[], ◌≡◌, ◌≢◌, ℕ, zero, suc, ◌+◌, ◌<◌, ◌≤◌, ◌⊎◌, inl, inr, Bool, true, false, List, ◌∷◌, ◌++◌, length, map, take, drop, Option, Some, None, Ok, Err, refl, sym, ap, ◌∙◌, subst, arith, slice_get, slice_set, Contains, length-set, length-map, History, PeerKey, BlockId, WireEvent, Message, Metainfo}
+use Rattle.bt_machine.proofs.Base.{[], ◌≡◌, ℕ, ◌+◌, ◌<◌, inl, inr, false, List, ◌∷◌, ◌++◌, length, take, drop, Some, None, Ok, Err, refl, sym, ap, ◌∙◌, subst, arith, slice_get, slice_set, length-set, length-map, History, PeerKey, WireEvent, Message, Metainfo}
 use Rattle.std.proofs.lemmas.List.{take-set, drop-set-lt}
-use Rattle.bt_wire.specs.Cutter.{Stream, Takes, Waits, Fails, IsAnswer, IsRefusal}
+use Rattle.bt_wire.specs.Cutter.{Stream, Fails, IsAnswer, IsRefusal}
 use Rattle.bt_wire.specs.declared.event.WireError.{WireError}
 use Rattle.bt_wire.specs.declared.event.WireError.TheVariants.{BadProtocol, TooLong, BadLength, OutOfMemory, Failed}
 use Rattle.bt_machine.specs.declared.answer.Why.{Why}
 use Rattle.bt_machine.specs.declared.answer.Why.TheVariants.{Wire}
 use Rattle.bt_machine.specs.declared.answer.Note.{Note}
-use Rattle.bt_machine.specs.declared.answer.Note.TheVariants.{Complete}
 use Rattle.bt_machine.specs.declared.answer.Frame.TheVariants.{Message as message_frame}
-use Rattle.bt_machine.specs.declared.error.EngineError.{EngineError}
-use Rattle.bt_machine.specs.declared.error.EngineError.TheVariants.{NoPeer, OutOfMemory as no_room}
-use Rattle.bt_machine.specs.State.{PeerState, EngineState, Hint}
-use Rattle.bt_machine.specs.Devices.{DeviceCalls, HaveCalls}
-use Rattle.bt_machine.specs.Blocks.{with_peer, new_complete_files}
+use Rattle.bt_machine.specs.declared.error.EngineError.TheVariants.{OutOfMemory as no_room}
+use Rattle.bt_machine.specs.State.{PeerState, EngineState}
+use Rattle.bt_machine.specs.Devices.{DeviceCalls}
+use Rattle.bt_machine.specs.Blocks.{with_peer}
 use Rattle.bt_machine.specs.Output.{Sent, Output, Effect, haves}
-use Rattle.bt_machine.specs.Next.{IsPeer, KeepsPeer, Closes, StepNext, waits, keeps_peer, closes, faulty, no_memory, without_peer}
+use Rattle.bt_machine.specs.Next.{IsPeer, StepNext, waits, keeps_peer, closes, faulty, no_memory, without_peer}
 use Rattle.bt_machine.specs.Orderly.{IsOrderly}
 use Rattle.bt_machine.specs.Shape.{IsShaped}
 use Rattle.bt_machine.specs.WireEvents.{Handles}
@@ -23,9 +21,9 @@ use Rattle.bt_machine.proofs.Lists.{some_is, some_below, set_same, set_id}
 use Rattle.bt_machine.proofs.Pairs.{contains_some}
 use Rattle.bt_machine.proofs.Shape.{event_keeps, shape_after}
 use Rattle.bt_machine.proofs.Orderly.{event_peer}
-use Rattle.bt_state.specs.Parts.{state_of, disks_of, peer_of}
+use Rattle.bt_state.specs.Parts.{state_of, peer_of}
 use Rattle.bt_state.specs.declared.parts.Parts.{Parts}
-use Rattle.bt_engine.specs.NewsSteps.{IsUnmarked, TellMarks}
+use Rattle.bt_engine.specs.NewsSteps.{TellMarks}
 use Rattle.bt_engine.specs.EventSteps.{sent_by, notes_in, effect_of, IsHandled, closed_output, FollowsReply, IsTakenFrom, GoesOn}
 use Rattle.bt_engine.specs.NextSteps.{IsCut}
 use Rattle.bt_engine.specs.declared.event.Reply.{Reply}

@@ -1,9 +1,8 @@
 -- What holds of the parts of an engine holds after an event.
-use Rattle.std.proofs.Common.{[], ◌≡◌, List, ℕ, Option, ◌∷◌, Result, Ok, Err, refl, subst, sym}
+use Rattle.std.proofs.Common.{[], ◌≡◌, List, ℕ, Option, ◌∷◌, Ok, refl, subst, sym}
 use Rattle.bt_disk.specs.History.{History}
 use Rattle.bt_tree.specs.NodeHash.{IsDigest}
 use Rattle.bt_meta.specs.Torrent.{Metainfo}
-use Rattle.bt_machine.specs.declared.error.StartRefused.{StartRefused}
 use Rattle.bt_machine.specs.declared.event.Event.{Event}
 use Rattle.bt_machine.specs.declared.event.Answer.{Answer}
 use Rattle.bt_machine.specs.Devices.{HaveCalls}

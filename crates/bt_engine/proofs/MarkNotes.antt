@@ -1,13 +1,13 @@
 -- The notes of a wire event tell which blocks it marked, in their order.
-use Rattle.bt_machine.proofs.Base.{[], ◌≡◌, ◌≢◌, ℕ, zero, suc, ◌+◌, ◌<◌, ◌⊎◌, inl, inr, Bool, true, false, List, ◌∷◌, ◌++◌, length, map, flat_map, Some, Option, None, Result, Ok, Err, refl, sym, ap, ◌∙◌, subst, arith, slice_get, Contains, if◌then◌else◌, filter, range_with_len, option_map_or, AllPairs-filter, Contains-append_left, Contains-append_right, Contains-append_cases, Facts, waiting_blocks, states_after_put, BlockRead, given, failed, block_of, judged, is_right, fault_count, BlockState, Missing, Waiting, Marked, StoreError, DeviceFault, Range, Put, PutMarked, PutWaiting, Already, Wrong, PeerKey, BlockId, Hello, Message, Skipped, PeerMessage, KeepAlive, Choke, Unchoke, Interested, NotInterested, Have, Bitfield, Request, Piece, Cancel, HashRequest, Hashes, HashReject}
+use Rattle.bt_machine.proofs.Base.{[], ◌≡◌, ℕ, zero, suc, ◌+◌, ◌<◌, ◌⊎◌, inl, inr, Bool, true, false, List, ◌∷◌, length, map, flat_map, Some, Option, None, Result, Ok, Err, refl, sym, ap, ◌∙◌, subst, arith, slice_get, Contains, if◌then◌else◌, range_with_len, option_map_or, AllPairs-filter, Contains-append_left, Contains-append_cases, Facts, waiting_blocks, states_after_put, BlockRead, given, failed, block_of, judged, is_right, fault_count, Missing, Waiting, Marked, StoreError, DeviceFault, Range, Put, PutMarked, PutWaiting, Already, Wrong, BlockId, Hello, Message, Skipped, PeerMessage, KeepAlive, Choke, Unchoke, Interested, NotInterested, Have, Bitfield, Request, Piece, Cancel, HashRequest, Hashes, HashReject}
 use Rattle.std.specs.Prelude.{nat_lt, ◌==◌}
 use Rattle.bt_book.specs.Blocks.{IsBefore}
-use Rattle.bt_machine.proofs.Machine.{Digest, PeerState, FileState, EngineState, DeviceCalls, block_id, file_numbers, state_at, with_file, with_peer, Effect, noting, FindsFault, damaged as found_damaged, fault, HandlesRequest, ignored, no_place, not_marked, served, stopped, HasPutEffect, HandlesPiece, stale, arrives, SettlesIn, due_blocks, HandlesHashes, unknown_root, no_claim, refused, accepts_hashes, HandlesHave, in_range, out_of_range, HandlesBitfield, right, wrong, HandlesMessage, HandlesHello, ours, other as other_torrent, HandlesHashRequest, answered, rejected, Handles, IsOrderly}
+use Rattle.bt_machine.proofs.Machine.{Digest, PeerState, FileState, EngineState, DeviceCalls, block_id, file_numbers, state_at, with_file, with_peer, Effect, FindsFault, damaged as found_damaged, fault, HandlesRequest, ignored, no_place, not_marked, served, stopped, HasPutEffect, HandlesPiece, stale, arrives, due_blocks, HandlesHashes, unknown_root, no_claim, refused, accepts_hashes, HandlesHave, in_range, out_of_range, HandlesBitfield, right, wrong, HandlesMessage, HandlesHello, ours, other as other_torrent, HandlesHashRequest, answered, rejected, Handles, IsOrderly}
 use Rattle.bt_machine.specs.Blocks.{states_of}
 use Rattle.bt_machine.specs.Settling.{Settles, read_note, settling_notes}
 use Rattle.bt_machine.specs.declared.answer.Note.{Note}
 use Rattle.bt_machine.specs.declared.answer.Note.TheVariants.{Marked as NowMarked, Waiting as NowWaiting, Freed, Damaged, Device, Stale}
-use Rattle.bt_machine.proofs.Lists.{and_then_some, map_some, set_cases, set_same, map_contains, flat_map_contains, range_contains, some_below, contains_none, contains_cases, contains_map, contains_flat_map, range_limits, get_some, here, later}
+use Rattle.bt_machine.proofs.Lists.{and_then_some, map_some, set_cases, map_contains, flat_map_contains, range_contains, some_below, contains_none, contains_cases, contains_map, contains_flat_map, range_limits, get_some, here, later}
 use Rattle.bt_machine.proofs.Marks.{right_true, state_is, file_marked, missing_marks, judged_marks, meant_then}
 use Rattle.bt_machine.proofs.Pairs.{Pairs, to_pairs, from_pairs, pairs_append, contains_some}
 use Rattle.bt_machine.proofs.Shape.{Keeps, event_keeps}

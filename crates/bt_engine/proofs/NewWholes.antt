@@ -1,5 +1,5 @@
 -- What has become whole and complete is among the pieces and files of the blocks that notes say are marked.
-use Rattle.bt_machine.proofs.Base.{[], ◌≡◌, ◌≢◌, ℕ, zero, suc, ◌+◌, ◌*◌, ◌/◌, ◌<◌, ◌≤◌, ◌⊎◌, inl, inr, Bool, true, false, not, ◌&&◌, cond, List, ◌∷◌, ◌++◌, length, map, flat_map, filter, Option, Some, None, refl, sym, ap, ◌∙◌, subst, arith, slice_get, Contains, if◌then◌else◌, range_with_len, option_map, option_map_or, option_and_then, AllPairs-filter, eqb-true, eq-eqb, append-nil, length-append, Metainfo, total_pieces, IsLaidOut, BlockState, Missing, Waiting, Marked, BlockId, cases_lt}
+use Rattle.bt_machine.proofs.Base.{[], ◌≡◌, ◌≢◌, ℕ, zero, suc, ◌+◌, ◌*◌, ◌/◌, ◌<◌, ◌≤◌, ◌⊎◌, inl, inr, Bool, true, false, not, ◌&&◌, List, ◌∷◌, length, map, filter, Option, Some, None, refl, sym, ap, ◌∙◌, subst, arith, slice_get, Contains, if◌then◌else◌, range_with_len, option_map, option_map_or, option_and_then, AllPairs-filter, eqb-true, eq-eqb, Metainfo, total_pieces, IsLaidOut, BlockState, Missing, Waiting, Marked, BlockId}
 use Rattle.std.specs.Prelude.{◌==◌}
 use Rattle.std.specs.List.{list_all}
 use Rattle.std.proofs.lemmas.Bool.{cases_eq, ne_eqb}
@@ -8,16 +8,16 @@ use Rattle.bt_book.specs.Blocks.{IsBefore, IsFrom}
 use Rattle.bt_meta.specs.PieceBlocks.{HasBlock}
 use Rattle.bt_store.specs.BlockStates.{is_marked}
 use Rattle.bt_machine.specs.State.{EngineState, FileState}
-use Rattle.bt_machine.specs.Blocks.{block_id, states_of, state_at, piece_of, all_blocks, is_marked_in, is_in_piece, is_whole, is_complete, has_become, piece_numbers, file_numbers, new_whole_pieces, new_complete_files}
+use Rattle.bt_machine.specs.Blocks.{block_id, states_of, state_at, piece_of, all_blocks, is_marked_in, is_in_piece, is_whole, is_complete, has_become, file_numbers, new_whole_pieces, new_complete_files}
 use Rattle.bt_machine.specs.Shape.{IsShaped}
 use Rattle.bt_machine.specs.declared.answer.Note.{Note}
-use Rattle.bt_machine.specs.declared.answer.Note.TheVariants.{Marked as NowMarked, Waiting as NowWaiting, Freed, Damaged, Device, Stale, Complete}
+use Rattle.bt_machine.specs.declared.answer.Note.TheVariants.{Marked as NowMarked}
 use Rattle.bt_machine.proofs.Lists.{here, later, contains_none, contains_cases, contains_filter, filter_contains, contains_map, contains_flat_map, range_limits, range_contains, and_true, some_below, get_some, some_is}
 use Rattle.bt_machine.proofs.Pairs.{Pairs, to_pairs, from_pairs, some_at, contains_some}
 use Rattle.bt_machine.proofs.Changes.{piece_is_whole}
 use Rattle.bt_follow_up.proofs.Blocks.{stands}
 use Rattle.bt_follow_up.proofs.PieceOrder.{rises, in_torrent}
-use Rattle.bt_engine.specs.NewsSteps.{IsNotedBefore, IsUnmarked, TellMarks, marked_piece, marked_file, unless_last}
+use Rattle.bt_engine.specs.NewsSteps.{IsNotedBefore, TellMarks, marked_piece, marked_file, unless_last}
 
 -- ---- the numbers of notes, without those that follow their like
 

@@ -1,5 +1,5 @@
 -- What a wire event comes to by itself, and what follows from it.
-use Rattle.std.specs.Prelude.{[], ◌≡◌, ℕ, ◌⊎◌, List, ◌∷◌, ◌++◌, map, Option, Some, None, slice_get, vec_len}
+use Rattle.std.specs.Prelude.{[], ◌≡◌, ℕ, ◌⊎◌, List, ◌∷◌, ◌++◌, map, Some, None, slice_get, vec_len}
 use Rattle.bt_disk.specs.History.{History}
 use Rattle.bt_wire.specs.Cutter.{Stream, Takes}
 use Rattle.bt_wire.specs.declared.event.WireEvent.{WireEvent}

@@ -1,8 +1,7 @@
 -- What has become whole and complete, read off the notes of a wire event.
-use Rattle.std.specs.Prelude.{[], ◌≡◌, ◌≢◌, ℕ, ◌+◌, ◌≤◌, ◌==◌, if◌then◌else◌, Bool, false, List, ◌∷◌, map, length, Option, Some, None, Contains, vec_len, vec_capacity}
+use Rattle.std.specs.Prelude.{[], ◌≡◌, ◌≢◌, ℕ, ◌==◌, if◌then◌else◌, false, List, ◌∷◌, map, length, Option, Some, None, Contains}
 use Rattle.std.specs.Option.{option_map_or}
 use Rattle.std.specs.List.{AllPairs}
-use Rattle.std.specs.Global.{Vec}
 use Rattle.bt_meta.specs.Torrent.{Metainfo}
 use Rattle.bt_store.specs.declared.block_states.BlockState.{BlockState}
 use Rattle.bt_store.specs.declared.block_states.BlockState.TheVariants.{Marked}

@@ -1,7 +1,7 @@
 //! A peer that comes, and what it is sent.
-ghost use Rattle.std.specs.Prelude.{◌≡◌, Err, codes};
+ghost use Rattle.std.specs.Prelude.{◌≡◌, Err};
 ghost use Rattle.bt_machine.specs.Orderly.{IsOrderly};
-ghost use Rattle.bt_machine.specs.Peers.{StepConnect, our_handshake, greeting};
+ghost use Rattle.bt_machine.specs.Peers.{StepConnect, our_handshake};
 ghost use Rattle.bt_state.specs.Parts.{state_of, disks_of};
 ghost use Rattle.bt_state.specs.Ties.{IsTied};
 ghost use Rattle.bt_engine.specs.GreetingSteps.{HasTwo, IsGreeting};

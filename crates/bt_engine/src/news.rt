@@ -1,6 +1,6 @@
 //! What a wire event makes whole and complete, read off its notes: it costs as much as the event has notes,
 //! however large the torrent is.
-ghost use Rattle.std.specs.Prelude.{◌≡◌, ◌+◌, ◌*◌, ◌≤◌, ◌<◌, ◌++◌, map, length, Contains, vec_len, vec_capacity};
+ghost use Rattle.std.specs.Prelude.{◌≡◌, ◌+◌, ◌*◌, ◌≤◌, ◌<◌, ◌++◌, map, length, vec_len, vec_capacity};
 ghost use Rattle.bt_meta.specs.PieceBlocks.{HasBlock};
 ghost use Rattle.bt_meta.specs.Torrent.{total_pieces};
 ghost use Rattle.bt_book.specs.declared.names.BlockId.{BlockId as Block};

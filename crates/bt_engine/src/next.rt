@@ -8,7 +8,6 @@ ghost use Rattle.bt_machine.specs.Shape.{IsShaped};
 ghost use Rattle.bt_state.specs.Parts.{state_of, disks_of};
 ghost use Rattle.bt_state.specs.Ties.{IsTied};
 ghost use Rattle.bt_engine.specs.NextSteps.{IsCut};
-ghost use Rattle.bt_engine.specs.EventSteps.{GoesOn};
 
 use crate::event::{close, drop_peer, take_event};
 use bt_book::PeerKey;

@@ -1,9 +1,7 @@
-use Rattle.std.proofs.Common.{[], refl, ◌∙◌, ap, sym, subst}
-use Rattle.bt_wire.specs.declared.event.WireEvent.{WireEvent}
+use Rattle.std.proofs.Common.{[], refl}
 use Rattle.bt_wire.specs.declared.event.WireEvent.TheVariants.{Message}
 use Rattle.bt_wire.specs.declared.message.Message.TheVariants.{HashRequest}
-use Rattle.bt_engine.specs.EventSteps.{IsHandled}
-use Rattle.bt_engine.specs.declared.event.Handled.TheVariants.{Closed, Stays}
+use Rattle.bt_engine.specs.declared.event.Handled.TheVariants.{Stays}
 use Rattle.bt_engine.specs.declared.event.Reply.TheVariants.{Sends}
 use Rattle.bt_engine.proofs.Handled.{handled_by, no_calls}
 use Rattle.bt_engine.proofs.event.handle.Goals as goal

@@ -1,8 +1,7 @@
-use Rattle.std.proofs.Common.{[], refl}
 use Rattle.bt_wire.specs.declared.event.WireEvent.TheVariants.{Message}
 use Rattle.bt_wire.specs.declared.message.Message.TheVariants.{Hashes}
 use Rattle.bt_engine.specs.declared.event.Handled.TheVariants.{Closed, Stays}
-use Rattle.bt_engine.specs.declared.event.Reply.TheVariants.{Nothing, Sends, Noted, Settled}
+use Rattle.bt_engine.specs.declared.event.Reply.TheVariants.{Settled}
 use Rattle.bt_engine.proofs.Handled.{handled_by}
 use Rattle.bt_engine.proofs.event.handle_hashes.Goals as goal
 

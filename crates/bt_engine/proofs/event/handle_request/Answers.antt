@@ -1,8 +1,8 @@
-use Rattle.std.proofs.Common.{[], refl}
+use Rattle.std.proofs.Common.{[]}
 use Rattle.bt_wire.specs.declared.event.WireEvent.TheVariants.{Message}
 use Rattle.bt_wire.specs.declared.message.Message.TheVariants.{Request, Piece}
 use Rattle.bt_engine.specs.declared.event.Handled.TheVariants.{Closed, Stays}
-use Rattle.bt_engine.specs.declared.event.Reply.TheVariants.{Nothing, Sends, Noted, Settled}
+use Rattle.bt_engine.specs.declared.event.Reply.TheVariants.{Nothing, Sends, Noted}
 use Rattle.bt_engine.proofs.Handled.{handled_by}
 use Rattle.bt_engine.proofs.event.handle_request.Goals as goal
 

@@ -1,7 +1,6 @@
 use Rattle.bt_machine.specs.Blocks.{new_complete_files}
 use Rattle.bt_machine.specs.declared.answer.Note.TheVariants.{Complete}
-use Rattle.std.proofs.Common.{[], ◌≡◌, ◌++◌, List, map, refl, sym, ap, ◌∙◌, subst}
-use Rattle.bt_book.specs.declared.names.PeerKey.{PeerKey}
+use Rattle.std.proofs.Common.{◌≡◌, ◌++◌, List, map, sym, ap, ◌∙◌, subst}
 use Rattle.bt_machine.specs.declared.answer.Note.{Note}
 use Rattle.bt_machine.specs.Output.{Sent, haves}
 use Rattle.bt_machine.specs.State.{PeerState}

@@ -1,6 +1,4 @@
-use Rattle.std.proofs.Common.{◌≡◌, Result, Ok, sym, ap, ◌∙◌, subst}
-use Rattle.bt_book.specs.declared.names.PeerKey.{PeerKey}
-use Rattle.bt_machine.specs.declared.error.ConnectError.{ConnectError}
+use Rattle.std.proofs.Common.{Ok, sym, subst}
 use Rattle.bt_machine.specs.Output.{Output}
 use Rattle.bt_machine.specs.Peers.{StepConnect}
 use Rattle.bt_state.specs.Parts.{state_of}

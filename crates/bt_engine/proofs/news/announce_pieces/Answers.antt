@@ -1,19 +1,18 @@
 use Rattle.std.specs.Prelude.{Contains}
-use Rattle.std.proofs.Common.{[], ◌≡◌, ◌++◌, ◌+◌, ◌*◌, ◌<◌, ◌≤◌, ℕ, List, map, length, get_or, refl, sym, ap, ◌∙◌, subst, arith, None, vec_len, vec_capacity, flat_map}
+use Rattle.std.proofs.Common.{◌≡◌, ◌++◌, ◌+◌, ◌*◌, ◌≤◌, List, map, length, get_or, refl, sym, ap, ◌∙◌, subst, arith, flat_map}
 use Rattle.std.proofs.Math.Nat.{add-mul, mul-le-mul_right}
 use Rattle.bt_wire.specs.declared.message.Message.TheVariants.{Have}
-use Rattle.bt_book.specs.declared.names.BlockId.{BlockId}
 use Rattle.bt_meta.specs.Files.{File}
 use Rattle.bt_meta.specs.Torrent.{IsLaidOut}
 use Rattle.bt_tree.specs.TreeShape.{IsPieceLength}
 use Rattle.bt_machine.specs.declared.answer.Note.{Note}
-use Rattle.bt_machine.specs.declared.answer.Note.TheVariants.{Marked, Stale}
+use Rattle.bt_machine.specs.declared.answer.Note.TheVariants.{Marked}
 use Rattle.bt_machine.specs.Blocks.{is_whole}
-use Rattle.bt_machine.specs.Output.{Sent, sent_to}
+use Rattle.bt_machine.specs.Output.{sent_to}
 use Rattle.bt_state.specs.Parts.{state_of}
 use Rattle.bt_machine.proofs.Pairs.{contains_at}
-use Rattle.bt_engine.specs.NewsSteps.{TellMarks, marked_piece, unless_last}
-use Rattle.bt_engine.proofs.NewWholes.{numbers_after, has_block, piece_inside, whole_news}
+use Rattle.bt_engine.specs.NewsSteps.{marked_piece, unless_last}
+use Rattle.bt_engine.proofs.NewWholes.{has_block, piece_inside, whole_news}
 use Rattle.bt_engine.proofs.Announcements.{told, unless_some, skipped, taken, finished}
 use Rattle.bt_engine.proofs.news.announce_pieces.Goals as goal
 

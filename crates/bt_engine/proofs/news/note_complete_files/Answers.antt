@@ -1,12 +1,12 @@
-use Rattle.std.proofs.Common.{[], ◌∷◌, ◌≡◌, ◌++◌, ◌+◌, ◌<◌, ◌≤◌, ℕ, List, map, length, get_or, refl, sym, ap, ◌∙◌, arith, None, vec_len, vec_capacity, flat_map}
+use Rattle.std.proofs.Common.{[], ◌∷◌, ◌++◌, ◌+◌, ◌<◌, ◌≤◌, List, length, refl, sym, ap, ◌∙◌, arith, flat_map}
 use Rattle.bt_machine.specs.declared.answer.Note.{Note}
-use Rattle.bt_machine.specs.declared.answer.Note.TheVariants.{Marked, Complete}
+use Rattle.bt_machine.specs.declared.answer.Note.TheVariants.{Complete}
 use Rattle.bt_machine.specs.Blocks.{is_complete}
 use Rattle.bt_state.specs.Parts.{state_of}
 use Rattle.std.proofs.lemmas.List.{append-nil}
 use Rattle.bt_engine.specs.NewsSteps.{marked_file, unless_last, notes_if_complete}
-use Rattle.bt_engine.proofs.NewWholes.{numbers_after, complete_news}
-use Rattle.bt_engine.proofs.Announcements.{told, skipped, taken, finished, each_one, Begins, begins_then, begins_long, begins_at}
+use Rattle.bt_engine.proofs.NewWholes.{complete_news}
+use Rattle.bt_engine.proofs.Announcements.{skipped, taken, finished, each_one, begins_then, begins_long, begins_at}
 use Rattle.bt_engine.proofs.news.note_complete_files.Goals as goal
 
 pub loop-index-init : goal.loop-index-init

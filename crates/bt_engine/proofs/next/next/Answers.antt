@@ -1,4 +1,4 @@
-use Rattle.std.proofs.Common.{[], ◌≡◌, List, Option, refl, sym, ap, ◌∙◌, subst}
+use Rattle.std.proofs.Common.{[], List, Option, refl, sym, ap, ◌∙◌, subst}
 use Rattle.bt_machine.specs.Devices.{HaveCalls}
 use Rattle.bt_machine.specs.Next.{no_peer, without_peer}
 use Rattle.bt_state.specs.declared.parts.Parts.{Parts}

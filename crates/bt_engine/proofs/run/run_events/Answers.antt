@@ -1,4 +1,4 @@
-use Rattle.std.proofs.Common.{◌∷◌, ◌≡◌, ◌++◌, ◌+◌, ◌<◌, ◌≤◌, List, refl, sym, ap, ◌∙◌, arith}
+use Rattle.std.proofs.Common.{arith}
 use Rattle.bt_engine.proofs.EventRuns.{one_more_ran}
 use Rattle.bt_engine.proofs.run.run_events.Goals as goal
 
