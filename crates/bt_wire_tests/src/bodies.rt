@@ -3,9 +3,9 @@
 use crate::map_body::{MapTree, map_accept, map_known, new_map_tree};
 use crate::tree::{accept, claim_from, known, outcome_words};
 use crate::words::{RowError, Words, told};
-use bt_sparse::SparseTree;
+use bt_sparse::{Claim, SparseTree};
 use bt_tree::Plain;
-use std::alloc::Global;
+use std::alloc::{AllocError, Global};
 
 /// A tree with each body.
 #[derive(Drop)]
@@ -21,15 +21,29 @@ pub fn bodies_row(
     words: &mut Words,
 ) -> Result<String, RowError> {
     match words.word() {
-        "new" => {
-            *bodies = Some(new_bodies(alloc, words)?);
-            told(alloc, "two trees")
-        }
-        "accept" => match bodies {
-            Some(bodies) => accept_row(alloc, bodies, words),
-            None => Err(RowError::Unread),
-        },
+        "new" => new_row(alloc, bodies, words),
+        "accept" => any_accept_row(alloc, bodies, words),
         _ => Err(RowError::Unread),
+    }
+}
+
+fn new_row(
+    alloc: Global,
+    bodies: &mut Option<Bodies>,
+    words: &mut Words,
+) -> Result<String, RowError> {
+    *bodies = Some(new_bodies(alloc, words)?);
+    told(alloc, "two trees")
+}
+
+fn any_accept_row(
+    alloc: Global,
+    bodies: &mut Option<Bodies>,
+    words: &mut Words,
+) -> Result<String, RowError> {
+    match bodies {
+        Some(bodies) => accept_row(alloc, bodies, words),
+        None => Err(RowError::Unread),
     }
 }
 
@@ -45,26 +59,35 @@ fn new_bodies(alloc: Global, words: &mut Words) -> Result<Bodies, RowError> {
 /// What the pages answer, and whether the map answers the same, and then knows the same of each node.
 fn accept_row(alloc: Global, bodies: &mut Bodies, words: &mut Words) -> Result<String, RowError> {
     let claim = claim_from(alloc, words)?;
-    let ours = accept(&mut bodies.pages, &claim);
-    let maps = map_accept(&mut bodies.map, &claim)?;
-    let text = outcome_words(alloc, ours)?;
-    if ours != maps {
-        return Ok(format!(in alloc; "{text}, and the map another")?);
-    }
-    Ok(match first_difference(bodies) {
-        None => format!(in alloc; "{text}, and the map alike")?,
-        Some((layer, index)) => format!(in alloc; "{text}, and another node {layer} {index}")?,
-    })
+    Ok(both_words(alloc, bodies, &claim)?)
 }
 
-/// The first node of which the trees know another thing: of a tree of height 7, and some outside.
-fn first_difference(bodies: &Bodies) -> Option<(u32, u32)> {
+fn both_words(alloc: Global, bodies: &mut Bodies, claim: &Claim) -> Result<String, AllocError> {
+    let ours = accept(&mut bodies.pages, claim);
+    let is_same = map_accept(&mut bodies.map, claim)? == ours;
+    let mut text = outcome_words(alloc, ours)?;
+    text.push_str(comparison(bodies, is_same))?;
+    Ok(text)
+}
+
+fn comparison(bodies: &Bodies, is_same: bool) -> &'static str {
+    if !is_same {
+        ", and the map another"
+    } else if know_alike(bodies) {
+        ", and the map alike"
+    } else {
+        ", and the map knows another node"
+    }
+}
+
+/// Whether the trees know the same of each node of a tree of height 7, and of some outside.
+fn know_alike(bodies: &Bodies) -> bool {
     for layer in 0..9u32 {
         for index in 0..130u32 {
             if known(&bodies.pages, layer, index) != map_known(&bodies.map, layer, index) {
-                return Some((layer, index));
+                return false;
             }
         }
     }
-    None
+    true
 }

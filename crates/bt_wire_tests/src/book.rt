@@ -9,22 +9,17 @@ use std::alloc::Global;
 pub fn book_row(alloc: Global, book: &mut Book, words: &mut Words) -> Result<String, RowError> {
     match words.word() {
         "new" => new_row(alloc, book, words),
-        "join" => {
-            let joins = book.join(peer_from(words)?);
-            yes_or_no(alloc, joins)
-        }
-        "lost" => {
-            book.lost(peer_from(words)?);
-            told(alloc, "lost")
-        }
-        "choked" => {
-            book.choked(peer_from(words)?);
-            told(alloc, "choked")
-        }
+        "join" => join_row(alloc, book, words),
+        "lost" => lost_row(alloc, book, words),
+        "choked" => choked_row(alloc, book, words),
         "came" => came_row(alloc, book, words),
         "want" => want_row(alloc, book, words),
         "done" => done_row(alloc, book, words),
-        name => ask_row(alloc, book, name, words),
+        "ask" => ask_row(alloc, book, words),
+        "next" => next_row(alloc, book, words),
+        "wants" => wants_row(alloc, book, words),
+        "order" => order_row(alloc, words),
+        _ => Err(RowError::Unread),
     }
 }
 
@@ -44,11 +39,32 @@ fn new_row(alloc: Global, book: &mut Book, words: &mut Words) -> Result<String, 
     told(alloc, "a book")
 }
 
+fn join_row(alloc: Global, book: &mut Book, words: &mut Words) -> Result<String, RowError> {
+    let peer = peer_from(words)?;
+    let joins = book.join(peer);
+    yes_or_no(alloc, joins)
+}
+
+fn lost_row(alloc: Global, book: &mut Book, words: &mut Words) -> Result<String, RowError> {
+    let peer = peer_from(words)?;
+    book.lost(peer);
+    told(alloc, "lost")
+}
+
+fn choked_row(alloc: Global, book: &mut Book, words: &mut Words) -> Result<String, RowError> {
+    let peer = peer_from(words)?;
+    book.choked(peer);
+    told(alloc, "choked")
+}
+
 fn came_row(alloc: Global, book: &mut Book, words: &mut Words) -> Result<String, RowError> {
     let peer = peer_from(words)?;
     let block = block_from(words)?;
-    let came = book.came(peer, block);
-    yes_or_no(alloc, came)
+    yes_or_no(alloc, came(book, peer, block))
+}
+
+fn came(book: &mut Book, peer: PeerKey, block: BlockId) -> bool {
+    book.came(peer, block)
 }
 
 fn want_row(alloc: Global, book: &mut Book, words: &mut Words) -> Result<String, RowError> {
@@ -69,31 +85,21 @@ fn done_row(alloc: Global, book: &mut Book, words: &mut Words) -> Result<String,
     told(alloc, "done")
 }
 
-/// A call that is about what a peer has.
-fn ask_row(
-    alloc: Global,
-    book: &mut Book,
-    name: &str,
-    words: &mut Words,
-) -> Result<String, RowError> {
-    match name {
-        "ask" => {
-            let peer = peer_from(words)?;
-            let asked = ask(book, peer, held_from(words)?);
-            block_words(alloc, asked)
-        }
-        "next" => {
-            let peer = peer_from(words)?;
-            let asked = ask_next(book, peer, held_from(words)?);
-            block_words(alloc, asked)
-        }
-        "wants" => {
-            let is_wanted = wants(book, held_from(words)?);
-            yes_or_no(alloc, is_wanted)
-        }
-        "order" => order_row(alloc, words),
-        _ => Err(RowError::Unread),
-    }
+fn ask_row(alloc: Global, book: &mut Book, words: &mut Words) -> Result<String, RowError> {
+    let peer = peer_from(words)?;
+    let held = held_from(words)?;
+    block_words(alloc, ask(book, peer, held))
+}
+
+fn next_row(alloc: Global, book: &mut Book, words: &mut Words) -> Result<String, RowError> {
+    let peer = peer_from(words)?;
+    let held = held_from(words)?;
+    block_words(alloc, ask_next(book, peer, held))
+}
+
+fn wants_row(alloc: Global, book: &mut Book, words: &mut Words) -> Result<String, RowError> {
+    let held = held_from(words)?;
+    yes_or_no(alloc, wants(book, held))
 }
 
 fn block_words(alloc: Global, block: Option<BlockId>) -> Result<String, RowError> {

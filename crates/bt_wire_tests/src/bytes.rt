@@ -34,11 +34,15 @@ fn push_part(alloc: Global, bytes: &mut Vec<u8>, part: &str) -> Result<(), RowEr
     let (digits, times) = part.split_once('*').unwrap_or((part, "1"));
     let run = run_of(alloc, digits)?;
     let count = number_of(times)?;
-    if let [byte] = run.as_slice() {
-        return Ok(bytes.resize(bytes.len().saturating_add(count as usize), *byte)?);
+    Ok(push_run(bytes, &run, count)?)
+}
+
+fn push_run(bytes: &mut Vec<u8>, run: &[u8], count: u32) -> Result<(), AllocError> {
+    if let [byte] = run {
+        return bytes.resize(bytes.len().saturating_add(count as usize), *byte);
     }
     for _ in 0..count {
-        bytes.extend_from_slice(&run)?;
+        bytes.extend_from_slice(run)?;
     }
     Ok(())
 }

@@ -59,12 +59,27 @@ fn turns_row(alloc: Global, cutter: &mut Cutter, words: &mut Words) -> Result<St
     let bytes = words.bytes(alloc)?;
     let first = turn(alloc, cutter, &bytes, limit)?;
     for _ in 1..count {
-        let found = turn(alloc, cutter, &bytes, limit)?;
-        if found.as_str() != first.as_str() {
-            return Ok(format!(in alloc; "{first} and then {found}")?);
+        if let Some(other) = other_turn(alloc, cutter, &bytes, limit, first.as_str())? {
+            return Ok(other);
         }
     }
     Ok(first)
+}
+
+/// What one more turn finds, if it is something else.
+fn other_turn(
+    alloc: Global,
+    cutter: &mut Cutter,
+    bytes: &[u8],
+    limit: usize,
+    wanted: &str,
+) -> Result<Option<String>, AllocError> {
+    let found = turn(alloc, cutter, bytes, limit)?;
+    Ok(if found.as_str() == wanted {
+        None
+    } else {
+        Some(found)
+    })
 }
 
 fn turn(
@@ -162,21 +177,28 @@ fn one_text(alloc: Global, text: String, other: &str) -> Result<String, AllocErr
 pub fn cuts_row(alloc: Global, words: &mut Words) -> Result<String, RowError> {
     let bytes = words.bytes(alloc)?;
     let whole = findings(alloc, &[bytes.as_slice()])?;
+    match other_cut(alloc, &bytes, whole.as_str())? {
+        Some(other) => Ok(one_text(alloc, other, whole.as_str())?),
+        None => Ok(whole),
+    }
+}
+
+/// What a stream says else where it is cut, if there is such a cut.
+fn other_cut(alloc: Global, bytes: &[u8], wanted: &str) -> Result<Option<String>, AllocError> {
     for cut in 0..=bytes.len() {
         let (front, rest) = bytes.split_at(cut);
-        let found = findings(alloc, &[front, rest])?;
-        if found.as_str() != whole.as_str() {
-            return Ok(one_text(alloc, found, whole.as_str())?);
+        if let Some(other) = other_findings(alloc, &[front, rest], wanted)? {
+            return Ok(Some(other));
         }
-        if let Some(other) = other_cut(alloc, front, rest, whole.as_str())? {
-            return Ok(one_text(alloc, other, whole.as_str())?);
+        if let Some(other) = other_second_cut(alloc, front, rest, wanted)? {
+            return Ok(Some(other));
         }
     }
-    Ok(whole)
+    Ok(None)
 }
 
 /// What a part and the others, cut into two, say else, if there is such a cut.
-fn other_cut(
+fn other_second_cut(
     alloc: Global,
     front: &[u8],
     rest: &[u8],
@@ -184,10 +206,22 @@ fn other_cut(
 ) -> Result<Option<String>, AllocError> {
     for cut in 0..=rest.len() {
         let (middle, back) = rest.split_at(cut);
-        let found = findings(alloc, &[front, middle, back])?;
-        if found.as_str() != wanted {
-            return Ok(Some(found));
+        if let Some(other) = other_findings(alloc, &[front, middle, back], wanted)? {
+            return Ok(Some(other));
         }
     }
     Ok(None)
+}
+
+fn other_findings(
+    alloc: Global,
+    parts: &[&[u8]],
+    wanted: &str,
+) -> Result<Option<String>, AllocError> {
+    let found = findings(alloc, parts)?;
+    Ok(if found.as_str() == wanted {
+        None
+    } else {
+        Some(found)
+    })
 }

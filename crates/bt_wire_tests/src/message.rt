@@ -81,10 +81,14 @@ fn hashes_words(alloc: Global, key: &HashKey, digests: &[u8]) -> Result<String, 
 /// The bytes of a message, if it fits.
 pub fn write_row(alloc: Global, words: &mut Words) -> Result<String, RowError> {
     let message = message_from(alloc, words)?;
-    if !fits(&message) {
+    written(alloc, &message)
+}
+
+fn written(alloc: Global, message: &Message) -> Result<String, RowError> {
+    if !fits(message) {
         return told(alloc, "does not fit");
     }
-    let bytes = write_message(alloc, &message)?;
+    let bytes = write_message(alloc, message)?;
     Ok(shown(alloc, &bytes)?)
 }
 

@@ -308,13 +308,21 @@ fn answer_room_row<H: NodeHash>(
 ) -> Result<String, RowError> {
     let request = request_from(words)?;
     let mut room = [[9; 32]; 3];
-    let outcome = match answer_into(tree, request, &mut room) {
-        None => String::from_str(alloc, "another length")?,
-        Some(Ok(())) => String::from_str(alloc, "written")?,
-        Some(Err(error)) => format!(in alloc; "{error}")?,
-    };
-    let room = shown_digests(alloc, &room)?;
-    Ok(format!(in alloc; "{outcome} {room}")?)
+    let outcome = answer_into(tree, request, &mut room);
+    Ok(room_words(alloc, outcome, &room)?)
+}
+
+fn room_words(
+    alloc: Global,
+    outcome: Option<Result<(), AnswerError>>,
+    room: &[Hash32],
+) -> Result<String, AllocError> {
+    let room = shown_digests(alloc, room)?;
+    match outcome {
+        None => format!(in alloc; "another length {room}"),
+        Some(Ok(())) => format!(in alloc; "written {room}"),
+        Some(Err(error)) => format!(in alloc; "{error} {room}"),
+    }
 }
 
 /// The answer over these digests, where they are as many as it says; None where they are not.
