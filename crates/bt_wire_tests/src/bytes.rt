@@ -25,8 +25,9 @@ pub fn bytes_of(alloc: Global, word: &str) -> Result<Vec<u8>, RowError> {
     Err(RowError::Unread)
 }
 
-/// Adds the bytes of one part: bytes in hexadecimal, with `*COUNT` behind them where they stand so many times; or `FROM..END:HEX`,
-/// each number from FROM up to END in four bytes, the high one first, with the bytes HEX behind each.
+/// Adds the bytes of one part: bytes in hexadecimal, with `*COUNT` behind them where they stand so many
+/// times; or `FROM..END:HEX`, each number from FROM up to END in four bytes, the high one first, with the
+/// bytes HEX behind each.
 fn push_part(alloc: Global, bytes: &mut Vec<u8>, part: &str) -> Result<(), RowError> {
     if let Some((range, digits)) = part.split_once(':') {
         return push_numbers(alloc, bytes, range, digits);

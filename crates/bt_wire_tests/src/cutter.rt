@@ -52,7 +52,8 @@ fn room_row(alloc: Global, cutter: &Cutter, words: &mut Words) -> Result<String,
     Ok(format!(in alloc; "{word} {limit}")?)
 }
 
-/// Feeds bytes so many times, and takes what is there behind each, which has to be the same, and in no more room than this.
+/// Feeds bytes so many times, and takes what is there behind each, which has to be the same, and in no more
+/// room than this.
 fn turns_row(alloc: Global, cutter: &mut Cutter, words: &mut Words) -> Result<String, RowError> {
     let count = words.number()?;
     let limit = words.number()? as usize;

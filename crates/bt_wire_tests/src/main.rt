@@ -1,5 +1,5 @@
-//! Calls what makes and reads the bytes of the wire as the rows of `stdin` say, and prints what each call answers: `stdout` has what
-//! they are to answer. README.md tells the rows.
+//! Calls what makes and reads the bytes of the wire as the rows of `stdin` say, and prints what each call
+//! answers: `stdout` has what they are to answer. README.md tells the rows.
 #![tactic(auto)]
 
 mod bodies;

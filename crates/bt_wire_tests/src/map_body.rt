@@ -1,5 +1,5 @@
-//! A tree with an ordered map in place of pages, and with a reading of its own of what a claim names: all nodes
-//! of its run's layers and of its path. It looks at the padding of every one of them.
+//! A tree with an ordered map in place of pages, and with a reading of its own of what a claim names: all
+//! nodes of its run's layers and of its path. It looks at the padding of every one of them.
 ghost use Rattle.std.specs.Prelude.{◌≡◌, None, IsTrue, IfOk, OnErr, OnOk, ◌↔◌};
 ghost use Rattle.std.specs.FinMap as finite;
 ghost use Rattle.bt_sparse.specs.NodeMap.{digest_at};
@@ -142,8 +142,8 @@ fn counts(claim: &Claim) -> (u64, u64) {
     (run as u64, claim.uncles.as_slice().len() as u64)
 }
 
-/// Whether a claim is of a power of two of nodes, two at least, that begins at a multiple of it, and lies in a
-/// tree of this height, run and path.
+/// Whether a claim is of a power of two of nodes, two at least, that begins at a multiple of it, and lies in
+/// a tree of this height, run and path.
 fn has_shape(height: u32, claim: &Claim) -> bool {
     let (run, uncles) = counts(claim);
     if claim.base > height || run < 2 || !run.is_power_of_two() {

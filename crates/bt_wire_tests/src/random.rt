@@ -33,8 +33,8 @@ impl Random {
     }
 }
 
-/// Makes so many random calls. What each answers is told, or a dot, and behind it a `+` where a block is wanted that the peer has whose
-/// turn it is, of 70.
+/// Makes so many random calls. What each answers is told, or a dot, and behind it a `+` where a block is
+/// wanted that the peer has whose turn it is, of 70.
 pub fn random_row(
     alloc: Global,
     random: &mut Random,

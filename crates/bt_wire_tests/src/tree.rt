@@ -1,5 +1,5 @@
-//! Trees of which some nodes are known. They are called through functions without a contract, so that no proof here carries a
-//! clause of theirs.
+//! Trees of which some nodes are known. They are called through functions without a contract, so that no
+//! proof here carries a clause of theirs.
 
 use crate::bytes::{shown, shown_digests};
 use crate::key::{key_from, key_words};
@@ -183,8 +183,8 @@ fn known_row<H: NodeHash>(
     }
 }
 
-/// How many nodes of the tree are known, and which: layer by layer from the leaves, a 1 and the digest of each, and a 0 for each
-/// that is not known.
+/// How many nodes of the tree are known, and which: layer by layer from the leaves, a 1 and the digest of
+/// each, and a 0 for each that is not known.
 fn nodes_row<H: NodeHash>(alloc: Global, tree: &SparseTree<H>) -> Result<String, RowError> {
     let mut bytes = Vec::new(alloc);
     let mut count = 0u32;
@@ -300,7 +300,8 @@ fn length_row<H: NodeHash>(
     }
 }
 
-/// An answer that is written over three digests of 32 nines each, where it is no longer or shorter, and what stands there then.
+/// An answer that is written over three digests of 32 nines each, where it is no longer or shorter, and what
+/// stands there then.
 fn answer_room_row<H: NodeHash>(
     alloc: Global,
     tree: &SparseTree<H>,
