@@ -2,7 +2,7 @@ use Rattle.std.proofs.Common.{rules, sym, ap, ◌∙◌, ◌≡◌}
 use Rattle.std.specs.FinMap as finite
 use Rattle.bt_sparse.specs.NodeMap.{digest_at}
 use Rattle.bt_wire_tests.proofs.MapBodies.{map_get, map_insert}
-use Rattle.bt_wire_tests.proofs.sparse.map_body.OrderedNodes.insert.Goals as goal
+use Rattle.bt_wire_tests.proofs.map_body.OrderedNodes.insert.Goals as goal
 
 pub returns-clause-is_new : goal.returns-clause-is_new
 returns-clause-is_new c =

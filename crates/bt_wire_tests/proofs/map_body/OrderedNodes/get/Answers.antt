@@ -1,7 +1,7 @@
 use Rattle.std.proofs.Common.{sym, ap, ◌∙◌}
 use Rattle.bt_sparse.specs.NodeMap.{digest_at}
 use Rattle.bt_wire_tests.proofs.MapBodies.{map_get}
-use Rattle.bt_wire_tests.proofs.sparse.map_body.OrderedNodes.get.Goals as goal
+use Rattle.bt_wire_tests.proofs.map_body.OrderedNodes.get.Goals as goal
 
 pub returns : goal.returns
 returns c = c.copied.ensures ∙ c.get.ensures.value ∙ sym (map_get c.self.inside.digests (c.args.layer, c.args.index))

@@ -1,17 +1,18 @@
-//! A tree with an ordered map in place of pages, and with a reading of its own of what a claim names: all nodes
-//! of its run's layers and of its path. It looks at the padding of every one of them.
+//! A tree with an ordered map in place of pages, and with a reading of its own of what a claim names: all
+//! nodes of its run's layers and of its path. It looks at the padding of every one of them.
 ghost use Rattle.std.specs.Prelude.{◌≡◌, None, IsTrue, IfOk, OnErr, OnOk, ◌↔◌};
 ghost use Rattle.std.specs.FinMap as finite;
 ghost use Rattle.bt_sparse.specs.NodeMap.{digest_at};
 
-use super::*;
-use bt_tree::pad;
+use bt_sparse::{Claim, ProofError};
+use bt_tree::{Geometry, Hash32, NodeHash, Plain, pad};
+use std::alloc::{AllocError, Global};
 use std::collections::BTreeMap;
 use std::marker::Model;
 
 /// Digests at nodes, which are named by layer and index.
 #[derive(Drop)]
-pub(super) struct OrderedNodes {
+pub struct OrderedNodes {
     digests: BTreeMap<(u32, u32), Hash32>,
 }
 
@@ -55,14 +56,17 @@ impl OrderedNodes {
 
 /// A tree with such a body.
 #[derive(Drop)]
-pub(super) struct MapTree {
+pub struct MapTree {
     alloc: Global,
     geometry: Geometry,
     nodes: OrderedNodes,
 }
 
-pub(super) fn new_map_tree(alloc: Global, length: u64, root: &Hash32) -> Result<MapTree, Fail> {
-    let geometry = Geometry::new(length).ok_or("no geometry")?;
+pub fn new_map_tree(
+    alloc: Global,
+    geometry: Geometry,
+    root: &Hash32,
+) -> Result<MapTree, AllocError> {
     let mut nodes = OrderedNodes::new(alloc);
     nodes.insert(geometry.height() as u32, 0, *root)?;
     Ok(MapTree {
@@ -80,7 +84,7 @@ fn real(geometry: Geometry, layer: u32) -> u32 {
     geometry.real(layer as u8)
 }
 
-pub(super) fn map_known(tree: &MapTree, layer: u32, index: u32) -> Option<Hash32> {
+pub fn map_known(tree: &MapTree, layer: u32, index: u32) -> Option<Hash32> {
     let height = tree.geometry.height() as u32;
     if layer > height || index >= 1u32.wrapping_shl(height.wrapping_sub(layer)) {
         return None;
@@ -138,8 +142,8 @@ fn counts(claim: &Claim) -> (u64, u64) {
     (run as u64, claim.uncles.as_slice().len() as u64)
 }
 
-/// Whether a claim is of a power of two of nodes, two at least, that begins at a multiple of it, and lies in a
-/// tree of this height, run and path.
+/// Whether a claim is of a power of two of nodes, two at least, that begins at a multiple of it, and lies in
+/// a tree of this height, run and path.
 fn has_shape(height: u32, claim: &Claim) -> bool {
     let (run, uncles) = counts(claim);
     if claim.base > height || run < 2 || !run.is_power_of_two() {
@@ -151,6 +155,21 @@ fn has_shape(height: u32, claim: &Claim) -> bool {
     index % run == 0
         && index.saturating_add(run) <= width
         && run_top.saturating_add(uncles) <= height as u64
+}
+
+/// A digest of a list, and zeros past its end.
+fn at(digests: &[Hash32], index: usize) -> Hash32 {
+    digests.get(index).copied().unwrap_or([0; 32])
+}
+
+/// The digests of the layer above.
+fn parents(alloc: Global, nodes: &[Hash32]) -> Result<Vec<Hash32>, AllocError> {
+    let mut above = Vec::new(alloc);
+    for i in 0..nodes.len() / 2 {
+        let left = i.wrapping_mul(2);
+        above.push(Plain.pair(&at(nodes, left), &at(nodes, left.wrapping_add(1))))?;
+    }
+    Ok(above)
 }
 
 /// Adds the pairs that a layer's nodes make, from this index on.
@@ -263,7 +282,7 @@ fn name_nodes(
 }
 
 /// What `accept` returns where no held node has another digest than the claim says: there is no P6 here.
-pub(super) fn map_accept(
+pub fn map_accept(
     tree: &mut MapTree,
     claim: &Claim,
 ) -> Result<Result<u32, ProofError>, AllocError> {
