@@ -19,7 +19,7 @@ use crate::trees::bare_slots;
 use bt_disk::Disk;
 use bt_machine::{StartError, StartRefused};
 use bt_meta::Torrent;
-use bt_state::{Parts, MAX_PEERS};
+use bt_state::{MAX_PEERS, Parts};
 use bt_tree::NodeHash;
 use std::alloc::{AllocError, Global};
 
