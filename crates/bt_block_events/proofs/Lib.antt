@@ -1,6 +1,12 @@
+-- spans and the blocks that they lie in
 pub mod Placing
-pub mod Putting
-pub mod AskedStanding
-pub mod Arriving
 pub mod SpanReads
-pub mod Servings
+-- the store of a file
+pub mod Slots
+pub mod Stores
+pub mod StoreChanges
+-- a block that comes
+pub mod Storing
+pub mod Arrivals
+-- a request
+pub mod Requests

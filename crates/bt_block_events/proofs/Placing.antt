@@ -13,7 +13,7 @@ use Rattle.bt_meta.specs.declared.torrent.Span.{Span}
 use Rattle.bt_book.specs.declared.names.BlockId.{BlockId}
 use Rattle.bt_machine.specs.Spans.{IsWholeBlock}
 use Rattle.bt_machine.proofs.Places.{same_place}
-use Rattle.bt_block_events.specs.Piece.{IsAllOf}
+use Rattle.bt_block_events.specs.SpansSteps.{IsAllOf}
 
 pub none_by : {X : Type 0} {P Q : Type 0} (o : Option X) → IfNone o P → (P → Q) → IfNone o Q
 none_by None h f = f h

@@ -12,11 +12,11 @@ use Rattle.bt_store.specs.FileStore.{StoreView}
 use Rattle.bt_store.specs.SingleBlock.{Lends, right, damaged as lent_damaged, fault as lent_fault, IsLent}
 use Rattle.bt_store.specs.declared.error.ReadError.TheVariants.{Damaged as ReadDamaged, Device as ReadDevice}
 use Rattle.bt_machine.proofs.Lists.{contains_none, contains_cases, here, later}
-use Rattle.bt_machine.specs.declared.answer.Note.{Note}
-use Rattle.bt_machine.specs.declared.answer.Note.TheVariants.{Damaged, Device}
-use Rattle.bt_machine.specs.Blocks.{block_id}
+use Rattle.bt_block_events.specs.declared.serving.ReadFault.{ReadFault}
+use Rattle.bt_block_events.specs.declared.serving.ReadFault.TheVariants.{Damaged, Device}
 use Rattle.bt_machine.specs.Spans.{spanned_blocks, first_block, last_block}
-use Rattle.bt_block_events.specs.Serving.{one_or_two, IsReadRight, IsReadWrong, AreReadRight, StopAtFault, Finds, damaged, fault, IsMarkedSpan, SendsSpan}
+use Rattle.bt_block_events.specs.SpansSteps.{IsShortSpan}
+use Rattle.bt_block_events.specs.ServingSteps.{one_or_two, IsReadRight, IsReadWrong, AreReadRight, StopAtFault, Finds, damaged, fault, IsMarkedSpan, SendsSpan}
 
 -- ---- what a read of a marked block comes to
 
@@ -48,79 +48,76 @@ one_is a b e = ap (λ t. cond t (a ∷ []) (a ∷ b ∷ [])) (eq-eqb a b e)
 pub two_is : (a b : ℕ) → a ≢ b → one_or_two a b ≡ a ∷ b ∷ []
 two_is a b apart = ap (λ t. cond t (a ∷ []) (a ∷ b ∷ [])) (ne_eqb a b apart)
 
-module _ {D : Type 0} (history : D → History) (honest : D → Type 0) (faults : D → ℕ) (dig : List ℕ → List ℕ) (k : Facts) (file : ℕ) where
-  same_calls : (i : ℕ) (old new : StoreView D) {reads : List BlockRead} (read : BlockRead) → k.file_length ≡ old.file_length → reads ≡ read ∷ []
-      → HasCalls history honest faults old.disk (map (call_of old.file_length) reads) new.disk
-      → HasCalls history honest faults old.disk (call_of k.file_length read ∷ []) new.disk
-  same_calls i old new read size e calls =
-      subst (λ n. HasCalls history honest faults old.disk (call_of n read ∷ []) new.disk) (sym size)
-      (subst (λ rs. HasCalls history honest faults old.disk (map (call_of old.file_length) rs) new.disk) e calls)
+one_element : (P : ℕ → Type 0) (a : ℕ) → P a → (i : ℕ) → Contains (a ∷ []) i → P i
+one_element P a x i c = elim (contains_cases [] c) [ inl same ↦ subst P same x | inr none ↦ absurd (contains_none none) ]
 
-  pub read_right : (i : ℕ) (out : List ℕ) (old : StoreView D) (n : ℕ) (new : StoreView D) → k.file_length ≡ old.file_length
+-- the bytes of two blocks
+abbrev either : ℕ → List ℕ → List ℕ → ℕ → List ℕ
+either a x y i = cond (nat_eq i a) x y
+
+same_calls : {D : Type 0} {history : D → History} {honest : D → Type 0} {faults : D → ℕ} (n : ℕ) (old new : StoreView D) {reads : List BlockRead} (read : BlockRead)
+    → n ≡ old.file_length → reads ≡ read ∷ [] → HasCalls history honest faults old.disk (map (call_of old.file_length) reads) new.disk
+    → HasCalls history honest faults old.disk (call_of n read ∷ []) new.disk
+same_calls {history = history} {honest = honest} {faults = faults} n old new read size e calls =
+    subst (λ n. HasCalls history honest faults old.disk (call_of n read ∷ []) new.disk) (sym size)
+    (subst (λ rs. HasCalls history honest faults old.disk (map (call_of old.file_length) rs) new.disk) e calls)
+
+module _ {D : Type 0} {history : D → History} {honest : D → Type 0} {faults : D → ℕ} {dig : List ℕ → List ℕ} {k : Facts} where
+  pub read_right : {i n : ℕ} {out : List ℕ} {old new : StoreView D} → k.file_length ≡ old.file_length
       → (reads : List BlockRead) × IsLent history honest faults dig k i out old reads (Ok n) new
       → IsReadRight history honest faults dig k i (take n out) old new
-  read_right i out old n new size l =
+  read_right {i} {n} {out} {old} {new} size l =
       let a = lends_right l.1.answer in
       record {
-        calls = same_calls i old new (given i (take n out)) size a.0 l.1.calls;
+        calls = same_calls k.file_length old new (given i (take n out)) size a.0 l.1.calls;
         right = a.2;
         others = others_stay old new l.1.same_file a.1;
       }
 
-  pub read_damaged : (i : ℕ) (out : List ℕ) (old new : StoreView D) → k.file_length ≡ old.file_length
+  pub read_damaged : {i : ℕ} {out : List ℕ} {old new : StoreView D} → k.file_length ≡ old.file_length
       → (reads : List BlockRead) × IsLent history honest faults dig k i out old reads (Err ReadDamaged) new
-      → IsReadWrong history honest faults dig k file i (Damaged (block_id file i)) old new
-  read_damaged i out old new size l =
+      → IsReadWrong history honest faults dig k i (Damaged i) old new
+  read_damaged {i} {out} {old} {new} size l =
       let a = lends_damaged l.1.answer in
       record {
         read = given i a.0;
-        calls = same_calls i old new (given i a.0) size a.1 l.1.calls;
+        calls = same_calls k.file_length old new (given i a.0) size a.1 l.1.calls;
         finds = damaged a.0 refl a.3 refl a.2;
         same_file = l.1.same_file;
       }
 
-  pub read_failed : (i : ℕ) (out : List ℕ) (old new : StoreView D) → k.file_length ≡ old.file_length
+  pub read_failed : {i : ℕ} {out : List ℕ} {old new : StoreView D} → k.file_length ≡ old.file_length
       → (reads : List BlockRead) × IsLent history honest faults dig k i out old reads (Err ReadDevice) new
-      → IsReadWrong history honest faults dig k file i (Device file) old new
-  read_failed i out old new size l =
+      → IsReadWrong history honest faults dig k i Device old new
+  read_failed {i} {out} {old} {new} size l =
       let a = lends_fault l.1.answer in
       record {
         read = failed i;
-        calls = same_calls i old new (failed i) size a.0 l.1.calls;
+        calls = same_calls k.file_length old new (failed i) size a.0 l.1.calls;
         finds = fault refl refl a.1;
         same_file = l.1.same_file;
       }
 
-  -- ---- one read, and then another
+  -- ---- the one block or the two that stand between a first and a last
 
-  one_element : (P : ℕ → Type 0) (a : ℕ) → P a → (i : ℕ) → Contains (a ∷ []) i → P i
-  one_element P a x i c = elim (contains_cases [] c) [ inl same ↦ subst P same x | inr none ↦ absurd (contains_none none) ]
-
-  pub one_right : (a : ℕ) (bytes : List ℕ) (old new : StoreView D) → IsReadRight history honest faults dig k a bytes old new
-      → AreReadRight history honest faults dig k (a ∷ []) bytes old new
-  one_right a bytes old new r = record {
+  pub one_block : {a : ℕ} {bytes : List ℕ} {old new : StoreView D} (b : ℕ) → a ≡ b → IsReadRight history honest faults dig k a bytes old new
+      → AreReadRight history honest faults dig k (one_or_two a b) bytes old new
+  one_block {a} {bytes} {old} {new} b same r = subst (λ l. AreReadRight history honest faults dig k l bytes old new) (sym (one_is a b same)) (record {
     bytes = λ _. bytes;
     reads = given a bytes ∷ [];
     calls = r.calls;
-    right = record {
-      made = refl;
-      right = one_element (λ i. IsRight dig k i bytes) a r.right;
-    };
+    right = record { made = refl; right = one_element (λ i. IsRight dig k i bytes) a r.right };
     together = sym (append-nil bytes);
     others = r.others;
-  }
+  })
 
-  -- the bytes of two blocks
-  abbrev either : ℕ → List ℕ → List ℕ → ℕ → List ℕ
-  either a x y i = cond (nat_eq i a) x y
-
-  pub two_right : (a b : ℕ) (x y : List ℕ) (old mid new : StoreView D) → a ≢ b
+  pub two_blocks : {a b : ℕ} {x y : List ℕ} {old mid new : StoreView D} → a ≢ b
       → IsReadRight history honest faults dig k a x old mid → IsReadRight history honest faults dig k b y mid new
-      → AreReadRight history honest faults dig k (a ∷ b ∷ []) (x ++ y) old new
-  two_right a b x y old mid new apart r s =
+      → AreReadRight history honest faults dig k (one_or_two a b) (x ++ y) old new
+  two_blocks {a} {b} {x} {y} {old} {mid} {new} apart r s =
       let on_a : either a x y a ≡ x = ap (λ t. cond t x y) (eq-eqb a a refl) in
       let on_b : either a x y b ≡ y = ap (λ t. cond t x y) (ne_eqb b a (λ e. apart (sym e))) in
-      record {
+      subst (λ l. AreReadRight history honest faults dig k l (x ++ y) old new) (sym (two_is a b apart)) (record {
         bytes = either a x y;
         reads = given a x ∷ given b y ∷ [];
         calls = has_then history honest faults old.disk mid.disk new.disk (call_of k.file_length (given a x) ∷ []) (call_of k.file_length (given b y) ∷ []) r.calls s.calls;
@@ -128,75 +125,52 @@ module _ {D : Type 0} (history : D → History) (honest : D → Type 0) (faults 
           made = ap (λ l. given a l ∷ given b y ∷ []) (sym on_a) ∙ ap (λ l. given a (either a x y a) ∷ given b l ∷ []) (sym on_b);
           right = λ i c. elim (contains_cases (b ∷ []) c) [
             | inl same ↦ subst (λ i. IsRight dig k i (either a x y i)) same (subst (λ l. IsRight dig k a l) (sym on_a) r.right)
-            | inr more ↦ elim (contains_cases [] more) [
-              | inl same ↦ subst (λ i. IsRight dig k i (either a x y i)) same (subst (λ l. IsRight dig k b l) (sym on_b) s.right)
-              | inr none ↦ absurd (contains_none none)
-            ]
+            | inr more ↦ one_element (λ i. IsRight dig k i (either a x y i)) b (subst (λ l. IsRight dig k b l) (sym on_b) s.right) i more
           ];
         };
         together = ap (λ l. x ++ l) (sym (append-nil y)) ∙ ap (λ l. l ++ (y ++ [])) (sym on_a) ∙ ap (λ l. either a x y a ++ (l ++ [])) (sym on_b);
         others = s.others ∙ ap (λ (v : StoreView D). view_of v.file_length new.disk v.states) r.others;
+      })
+
+  pub first_fails : {a : ℕ} {found : ReadFault} {old new : StoreView D} (b : ℕ) → IsReadWrong history honest faults dig k a found old new
+      → StopAtFault history honest faults dig k (one_or_two a b) found old new
+  first_fails {a} {found} {old} {new} b r = elim (cases_eq a b) [
+    | inl same ↦ subst (λ l. StopAtFault history honest faults dig k l found old new) (sym (one_is a b same)) (wrong [])
+    | inr apart ↦ subst (λ l. StopAtFault history honest faults dig k l found old new) (sym (two_is a b apart)) (wrong (b ∷ []))
+  ]
+    where
+      wrong : (rest : List ℕ) → StopAtFault history honest faults dig k (a ∷ rest) found old new
+      wrong rest = record {
+        before = [];
+        block = a;
+        after = rest;
+        bytes = λ _. [];
+        reads = [];
+        read = r.read;
+        parts = refl;
+        right = record { made = refl; right = λ i c. absurd (contains_none c) };
+        calls = r.calls;
+        finds = r.finds;
+        same_file = r.same_file;
       }
 
-  pub first_wrong : (a : ℕ) (rest : List ℕ) (note : Note) (old new : StoreView D) → IsReadWrong history honest faults dig k file a note old new
-      → StopAtFault history honest faults dig k file (a ∷ rest) note old new
-  first_wrong a rest note old new r = record {
-    before = [];
-    block = a;
-    after = rest;
-    bytes = λ _. [];
-    reads = [];
-    read = r.read;
-    parts = refl;
-    right = record { made = refl; right = λ i c. absurd (contains_none c) };
-    calls = r.calls;
-    finds = r.finds;
-    same_file = r.same_file;
-  }
-
-  pub second_wrong : (a b : ℕ) (x : List ℕ) (note : Note) (old mid new : StoreView D)
-      → IsReadRight history honest faults dig k a x old mid → IsReadWrong history honest faults dig k file b note mid new
-      → StopAtFault history honest faults dig k file (a ∷ b ∷ []) note old new
-  second_wrong a b x note old mid new r s = record {
-    before = a ∷ [];
-    block = b;
-    after = [];
-    bytes = λ _. x;
-    reads = given a x ∷ [];
-    read = s.read;
-    parts = refl;
-    right = record { made = refl; right = one_element (λ i. IsRight dig k i x) a r.right };
-    calls = has_then history honest faults old.disk mid.disk new.disk (call_of k.file_length (given a x) ∷ []) (call_of k.file_length s.read ∷ []) r.calls s.calls;
-    finds = subst (λ states. Finds dig k file b s.read note states new.states) (ap (λ (v : StoreView D). v.states) r.others) s.finds;
-    same_file = s.same_file ∙ ap (λ (v : StoreView D). v.file_length) r.others;
-  }
-
-  -- ---- the same of the one block or the two that stand between a first and a last
-
-  pub one_block : (a b : ℕ) (all : List ℕ) (old new : StoreView D) → a ≡ b → IsReadRight history honest faults dig k a all old new
-      → AreReadRight history honest faults dig k (one_or_two a b) all old new
-  one_block a b all old new same r =
-      subst (λ l. AreReadRight history honest faults dig k l all old new) (sym (one_is a b same)) (one_right a all old new r)
-
-  pub two_blocks : (a b : ℕ) (x y all : List ℕ) (old mid new : StoreView D) → a ≢ b → all ≡ x ++ y
-      → IsReadRight history honest faults dig k a x old mid → IsReadRight history honest faults dig k b y mid new
-      → AreReadRight history honest faults dig k (one_or_two a b) all old new
-  two_blocks a b x y all old mid new apart e r s =
-      subst (λ l. AreReadRight history honest faults dig k l all old new) (sym (two_is a b apart))
-      (subst (λ all. AreReadRight history honest faults dig k (a ∷ b ∷ []) all old new) (sym e) (two_right a b x y old mid new apart r s))
-
-  pub first_fails : (a b : ℕ) (note : Note) (old new : StoreView D) → IsReadWrong history honest faults dig k file a note old new
-      → StopAtFault history honest faults dig k file (one_or_two a b) note old new
-  first_fails a b note old new r = elim (cases_eq a b) [
-    | inl same ↦ subst (λ l. StopAtFault history honest faults dig k file l note old new) (sym (one_is a b same)) (first_wrong a [] note old new r)
-    | inr apart ↦ subst (λ l. StopAtFault history honest faults dig k file l note old new) (sym (two_is a b apart)) (first_wrong a (b ∷ []) note old new r)
-  ]
-
-  pub second_fails : (a b : ℕ) (x : List ℕ) (note : Note) (old mid new : StoreView D) → a ≢ b
-      → IsReadRight history honest faults dig k a x old mid → IsReadWrong history honest faults dig k file b note mid new
-      → StopAtFault history honest faults dig k file (one_or_two a b) note old new
-  second_fails a b x note old mid new apart r s =
-      subst (λ l. StopAtFault history honest faults dig k file l note old new) (sym (two_is a b apart)) (second_wrong a b x note old mid new r s)
+  pub second_fails : {a b : ℕ} {x : List ℕ} {found : ReadFault} {old mid new : StoreView D} → a ≢ b
+      → IsReadRight history honest faults dig k a x old mid → IsReadWrong history honest faults dig k b found mid new
+      → StopAtFault history honest faults dig k (one_or_two a b) found old new
+  second_fails {a} {b} {x} {found} {old} {mid} {new} apart r s =
+      subst (λ l. StopAtFault history honest faults dig k l found old new) (sym (two_is a b apart)) (record {
+        before = a ∷ [];
+        block = b;
+        after = [];
+        bytes = λ _. x;
+        reads = given a x ∷ [];
+        read = s.read;
+        parts = refl;
+        right = record { made = refl; right = one_element (λ i. IsRight dig k i x) a r.right };
+        calls = has_then history honest faults old.disk mid.disk new.disk (call_of k.file_length (given a x) ∷ []) (call_of k.file_length s.read ∷ []) r.calls s.calls;
+        finds = subst (λ states. Finds dig k b s.read found states new.states) (ap (λ (v : StoreView D). v.states) r.others) s.finds;
+        same_file = s.same_file ∙ ap (λ (v : StoreView D). v.file_length) r.others;
+      })
 
 -- the second read goes behind the first
 pub both_parts : (a more : ℕ) (xs ys : List ℕ) → length xs ≡ 32768 → a ≤ 16384 → more ≤ 16384
@@ -231,21 +205,6 @@ near start count some few = elim (cases_eq ((start + count - 1) / 16384) (start 
   | inr apart ↦ inr (omega arith)
 ]
 
-pub spanned_is : (span : Span) → 1 ≤ span.length → span.length ≤ 16384 → spanned_blocks span ≡ one_or_two (first_block span) (last_block span)
-spanned_is span some few = range_is (first_block span) (last_block span) (near span.start span.length some few)
-
-ends_in : (P : ℕ → Type 0) (a b : ℕ) → P a → P b → (i : ℕ) → Contains (one_or_two a b) i → P i
-ends_in P a b x y i c = elim (cases_eq a b) [
-  | inl same ↦ elim (contains_cases [] (subst (λ l. Contains l i) (one_is a b same) c)) [
-    | inl e ↦ subst P e x
-    | inr none ↦ absurd (contains_none none)
-  ]
-  | inr apart ↦ elim (contains_cases (b ∷ []) (subst (λ l. Contains l i) (two_is a b apart) c)) [
-    | inl e ↦ subst P e x
-    | inr more ↦ elim (contains_cases [] more) [ inl e ↦ subst P e y | inr none ↦ absurd (contains_none none) ]
-  ]
-]
-
 has_first : (a b : ℕ) → Contains (one_or_two a b) a
 has_first a b = elim (cases_eq a b) [
   | inl same ↦ subst (λ l. Contains l a) (sym (one_is a b same)) (here [] refl)
@@ -258,52 +217,46 @@ has_last a b = elim (cases_eq a b) [
   | inr apart ↦ subst (λ l. Contains l b) (sym (two_is a b apart)) (later a (b ∷ []) (here [] refl))
 ]
 
-module _ (span : Span) (some : 1 ≤ span.length) (few : span.length ≤ 16384) where
+module _ {span : Span} (short : IsShortSpan span) where
+  spanned_is : spanned_blocks span ≡ one_or_two (first_block span) (last_block span)
+  spanned_is = range_is (first_block span) (last_block span) (near span.start span.length short.some short.few)
+
   pub spans_first : Contains (spanned_blocks span) (first_block span)
-  spans_first = subst (λ l. Contains l (first_block span)) (sym (spanned_is span some few)) (has_first (first_block span) (last_block span))
+  spans_first = subst (λ l. Contains l (first_block span)) (sym spanned_is) (has_first (first_block span) (last_block span))
 
-  spans_last : Contains (spanned_blocks span) (last_block span)
-  spans_last = subst (λ l. Contains l (last_block span)) (sym (spanned_is span some few)) (has_last (first_block span) (last_block span))
+  pub spans_last : Contains (spanned_blocks span) (last_block span)
+  spans_last = subst (λ l. Contains l (last_block span)) (sym spanned_is) (has_last (first_block span) (last_block span))
 
-  pub is_marked_span : (states : List BlockState) → slice_get states (first_block span) ≡ Some Marked
-      → slice_get states (last_block span) ≡ Some Marked → IsMarkedSpan states span
-  is_marked_span states first last = record {
-    marked = λ i c. ends_in (λ i. slice_get states i ≡ Some Marked) (first_block span) (last_block span) first last i (subst (λ l. Contains l i) (spanned_is span some few) c);
-  }
+  module _ {first last : ℕ} (is_first : first ≡ first_block span) (is_last : last ≡ last_block span) where
+    spanned_by : one_or_two first last ≡ spanned_blocks span
+    spanned_by = ap (λ i. one_or_two i last) is_first ∙ ap (λ i. one_or_two (first_block span) i) is_last ∙ sym spanned_is
 
-  pub ends_marked : (states : List BlockState) → IsMarkedSpan states span
-      → (slice_get states (first_block span) ≡ Some Marked) × (slice_get states (last_block span) ≡ Some Marked)
-  ends_marked states m = (m.marked (first_block span) spans_first, m.marked (last_block span) spans_last)
+    module _ {D : Type 0} {history : D → History} {honest : D → Type 0} {faults : D → ℕ} {dig : List ℕ → List ℕ} {k : Facts} {old new : StoreView D} where
+      pub stops_span : {found : ReadFault} → StopAtFault history honest faults dig k (one_or_two first last) found old new
+          → StopAtFault history honest faults dig k (spanned_blocks span) found old new
+      stops_span {found} r = subst (λ l. StopAtFault history honest faults dig k l found old new) spanned_by r
 
-  pub stops_span : {D : Type 0} (history : D → History) (honest : D → Type 0) (faults : D → ℕ) (dig : List ℕ → List ℕ) (k : Facts) (file : ℕ) (note : Note) (old new : StoreView D)
-      → StopAtFault history honest faults dig k file (one_or_two (first_block span) (last_block span)) note old new
-      → StopAtFault history honest faults dig k file (spanned_blocks span) note old new
-  stops_span history honest faults dig k file note old new r =
-      subst (λ l. StopAtFault history honest faults dig k file l note old new) (sym (spanned_is span some few)) r
-
-  pub sends_span : {D : Type 0} (history : D → History) (honest : D → Type 0) (faults : D → ℕ) (dig : List ℕ → List ℕ) (k : Facts) (all sent : List ℕ) (old new : StoreView D)
-      → AreReadRight history honest faults dig k (one_or_two (first_block span) (last_block span)) all old new
-      → sent ≡ take span.length (drop (span.start % 16384) all)
-      → SendsSpan history honest faults dig k span sent old new
-  sends_span history honest faults dig k all sent old new r cut =
-      let whole = subst (λ l. AreReadRight history honest faults dig k l all old new) (sym (spanned_is span some few)) r in
-      let offset : span.start % 16384 ≡ span.start - 16384 * (span.start / 16384) = omega arith in
-      record {
-        bytes = whole.bytes;
-        reads = whole.reads;
-        calls = whole.calls;
-        right = whole.right;
-        cut = cut ∙ ap (λ l. take span.length (drop (span.start % 16384) l)) whole.together
-            ∙ ap (λ n. take span.length (drop n (flat_map whole.bytes (spanned_blocks span)))) offset;
-        others = whole.others;
-      }
+      pub sends_span : {all sent : List ℕ} → AreReadRight history honest faults dig k (one_or_two first last) all old new
+          → sent ≡ take span.length (drop (span.start % 16384) all) → SendsSpan history honest faults dig k span sent old new
+      sends_span {all} r cut =
+          let whole = subst (λ l. AreReadRight history honest faults dig k l all old new) spanned_by r in
+          let offset : span.start % 16384 ≡ span.start - 16384 * (span.start / 16384) = omega arith in
+          record {
+            bytes = whole.bytes;
+            reads = whole.reads;
+            calls = whole.calls;
+            right = whole.right;
+            cut = cut ∙ ap (λ l. take span.length (drop (span.start % 16384) l)) whole.together
+                ∙ ap (λ n. take span.length (drop n (flat_map whole.bytes (spanned_blocks span)))) offset;
+            others = whole.others;
+          }
 
 -- ---- where a range lies
 
 pub place_is_short : (torrent : Metainfo) (piece begin count : ℕ) (o : Option Span) → All (IsLawfulFile torrent.piece_length) torrent.files
-    → IfSome o (IsPlace torrent piece begin count) → IfSome o (λ span. span.start + span.length ≤ max_file_length)
+    → IfSome o (IsPlace torrent piece begin count) → IfSome o IsShortSpan
 place_is_short torrent piece begin count None all place = place
 place_is_short torrent piece begin count (Some span) all place =
     let lawful = All-get_or (IsLawfulFile torrent.piece_length) torrent.files span.file place.file place.listed all in
     let short : place.file.length ≤ max_file_length = subst (λ f. f.length ≤ max_file_length) (place.found place.file) lawful.short in
-    omega arith
+    record { some = omega (arith, place.all, place.some); few = omega (arith, place.all, place.block); inside = omega (arith, place.all, place.in_file) }

@@ -1,3 +1,7 @@
-pub mod AskedPeer
+pub mod SlotSteps
+pub mod SpansSteps
+pub mod ServingSteps
 pub mod Piece
-pub mod Serving
+pub mod PieceSteps
+pub mod Request
+pub mod RequestSteps

@@ -1,11 +1,11 @@
-//! What messages about blocks do by themselves, in an engine that is to be a run of the machine of `bt_machine`:
-//! a block that comes is put into its store, and a range that is requested is served.
+//! What messages about blocks do to the parts of an engine that is to be a run of the machine of `bt_machine`: a
+//! block that comes is put into its file's store, and a range that is requested is served.
 #![tactic(auto)]
 
-mod peer;
 mod piece;
+mod request;
 mod serving;
+mod spans;
 
-pub use peer::Peer;
-pub use piece::{Effect, block_of, put_block, take_piece};
-pub use serving::{Served, serve};
+pub use piece::{Effect, take_piece};
+pub use request::{Served, take_request};

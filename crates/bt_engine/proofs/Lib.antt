@@ -1,1 +1,4 @@
 pub mod Keeping
+pub mod MarkNotes
+pub mod NewWholes
+pub mod Announcements

@@ -1,2 +1,6 @@
 pub mod View
 pub mod Kept
+pub mod NewsSteps
+pub mod RoomSteps
+pub mod EventSteps
+pub mod NextSteps

@@ -3,6 +3,10 @@
 #![tactic(auto)]
 
 mod engine;
+mod event;
+mod news;
+mod next;
+mod room;
 
 pub use bt_book::PeerKey;
 pub use bt_machine::{ConnectError, EngineError, FileReport};

@@ -7,7 +7,7 @@ use Rattle.bt_machine.proofs.Lists.{and_then_some, some_below, get_some}
 use Rattle.bt_machine.specs.State.{EngineState, PeerState, FileState}
 use Rattle.bt_machine.specs.Blocks.{state_at, Has}
 use Rattle.bt_machine.specs.Shape.{IsShaped}
-use Rattle.bt_follow_up.specs.Held.{is_held, LiesIn}
+use Rattle.bt_follow_up.specs.HeldSteps.{is_held, LiesIn}
 use Rattle.bt_follow_up.proofs.PieceOrder.{held_lies, lies_held}
 
 get_of_index : (xs : List Bool) (q : ℕ) → slice_index_or xs q false ≡ true → slice_get xs q ≡ Some true

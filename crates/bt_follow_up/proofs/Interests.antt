@@ -10,7 +10,7 @@ use Rattle.bt_machine.specs.FollowUp.{IsInteresting}
 use Rattle.bt_state.specs.Parts.{state_of}
 use Rattle.bt_state.specs.Ties.{IsTied}
 use Rattle.bt_state.specs.declared.parts.Parts.{Parts}
-use Rattle.bt_follow_up.specs.Held.{is_held}
+use Rattle.bt_follow_up.specs.HeldSteps.{is_held}
 use Rattle.bt_follow_up.proofs.Blocks.{has_of_held, held_of_has}
 
 module _ {D H : Type 0} (parts : Parts D H) (p : PeerState) (tied : IsTied parts) (shaped : IsShaped parts.torrent (state_of parts))

@@ -17,8 +17,8 @@ use Rattle.bt_state.specs.declared.peer.Peer.{Peer}
 use Rattle.bt_state.specs.declared.parts.Parts.{Parts}
 use Rattle.bt_state.proofs.Lists.{get_mapped}
 use Rattle.bt_state.proofs.PeerLists.{peers_set}
-use Rattle.bt_follow_up.specs.Held.{is_held}
-use Rattle.bt_follow_up.specs.Asking.{AreBlocksAsked}
+use Rattle.bt_follow_up.specs.HeldSteps.{is_held}
+use Rattle.bt_follow_up.specs.AskingSteps.{AreBlocksAsked}
 use Rattle.bt_follow_up.proofs.Blocks.{has_of_held, held_of_has}
 
 module _ {D H : Type 0} (old : Parts D H) (i : ℕ) (p : Peer) (tied : IsTied old) (laws : IsBook old.book) (here : slice_get old.peers.items i ≡ Some p) where

@@ -1,5 +1,5 @@
 -- The blocks of a torrent rise with their pieces, so that those that a peer has are found by its pieces.
-use Rattle.bt_machine.proofs.Base.{[], ◌∷◌, zero, suc, ◌≡◌, ℕ, ◌+◌, ◌-◌, ◌*◌, ◌/◌, ◌<◌, ◌≤◌, ◌⊎◌, inl, inr, Bool, true, false, ◌&&◌, List, length, Option, Some, None, refl, sym, ap, ◌∙◌, subst, arith, slice_get, get_or, option_map_or, File, piece_count, Metainfo, IsLaidOut, total_pieces, div_ceil_times, lt_of_mul-lt-mul_right, div-mul-add, cases_lt, lt-ltb, BlockId, block_count, block_length}
+use Rattle.bt_machine.proofs.Base.{◌≡◌, ℕ, ◌+◌, ◌-◌, ◌*◌, ◌/◌, ◌<◌, ◌≤◌, ◌⊎◌, inl, inr, Bool, true, false, ◌&&◌, List, length, Option, Some, None, refl, sym, ap, ◌∙◌, subst, arith, slice_get, get_or, option_map_or, File, piece_count, Metainfo, IsLaidOut, total_pieces, div_ceil_times, lt_of_mul-lt-mul_right, div-mul-add, cases_lt, lt-ltb, BlockId, block_count, block_length}
 use Rattle.std.specs.Prelude.{slice_index_or, nat_lt, ◌%◌, ◌≢◌, max}
 use Rattle.std.proofs.lemmas.Bool.{ltb-true}
 use Rattle.std.proofs.Math.Nat.{div-mul-le_self}
@@ -12,18 +12,14 @@ use Rattle.bt_meta.specs.declared.piece_blocks.PieceRange.{PieceRange}
 use Rattle.bt_meta.proofs.PlacePieces.{ends}
 use Rattle.bt_meta.proofs.PieceBlocks.{blocks_per_piece, listed, found, begins_inside, lies_in_piece, has_piece}
 use Rattle.bt_book.specs.Blocks.{IsFrom, IsBefore, IsFirst, HasNoFirst}
-use Rattle.bt_follow_up.specs.Held.{is_held, LiesIn, IsNextPiece, HasNoPiece, IsFirstPiece, HasNoBlock}
+use Rattle.bt_book.specs.BitSet.{IsNext, HasNoneFrom}
+use Rattle.bt_follow_up.specs.HeldSteps.{is_held, LiesIn, IsFirstPiece, HasNoBlock}
 
 -- ---- what a bit says
 
 pub not_true : (t : Bool) → (t ≡ true → ⊥) → t ≡ false
 not_true true wrong = absurd (wrong refl)
 not_true false _ = refl
-
-pub none_past : (pieces : List Bool) (q : ℕ) → length pieces ≤ q → slice_index_or pieces q false ≡ false
-none_past [] q past = refl
-none_past (t ∷ pieces) zero past = absurd (omega (arith, past))
-none_past (t ∷ pieces) (suc q) past = none_past pieces q (omega (arith, past))
 
 module _ (torrent : Metainfo) (pieces : List Bool) (b : BlockId) where
   held_by : (o : Option File) → slice_get torrent.files b.file ≡ o
@@ -152,13 +148,13 @@ module _ (torrent : Metainfo) (size : IsPieceLength torrent.piece_length) (lay :
     none_behind none c after = not_true _ (λ e. let h = held_lies torrent pieces c e in none c h.0 h.1 after)
 
     module _ (p : ℕ) (first : IsFirstPiece torrent from p) where
-      pub none_held : HasNoPiece pieces p → HasNoFirst (is_held torrent pieces) from
+      pub none_held : HasNoneFrom pieces p → HasNoFirst (is_held torrent pieces) from
       none_held none c after = not_true _ (λ e.
           let h = held_lies torrent pieces c e in
           let no = none h.0 (first.behind c h.0 h.1 after) in
           let yes = h.2 in absurd cc)
 
-      module _ (q : ℕ) (next : IsNextPiece pieces p q) where
+      module _ (q : ℕ) (next : IsNext pieces p q) where
         -- what is held from there on lies in that piece or behind it
         held_behind : (c : BlockId) → IsFrom from c → is_held torrent pieces c ≡ true → (r : ℕ) × LiesIn torrent c r × (q ≤ r)
         held_behind c after e =
@@ -217,7 +213,7 @@ module _ (torrent : Metainfo) (size : IsPieceLength torrent.piece_length) (lay :
           pub begins : IsFrom from begin → IsFirst (is_held torrent pieces) from begin
           begins after = record {
             after = after;
-            held = lies_held torrent pieces begin begin_lies next.held;
+            held = lies_held torrent pieces begin begin_lies next.member;
             least = λ c behind sooner. not_true _ (λ e. apart (behind_begin c behind e) sooner);
           }
             where
@@ -235,7 +231,7 @@ module _ (torrent : Metainfo) (size : IsPieceLength torrent.piece_length) (lay :
               let here = first.here begin (subst (λ n. LiesIn torrent begin n) same begin_lies) sooner in
               record {
                 after = inr (refl, omega arith);
-                held = lies_held torrent pieces from (subst (λ n. LiesIn torrent from n) (sym same) here) next.held;
+                held = lies_held torrent pieces from (subst (λ n. LiesIn torrent from n) (sym same) here) next.member;
                 least = λ c behind before. absurd (apart behind before);
               }
             where

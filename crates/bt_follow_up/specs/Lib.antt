@@ -1,4 +1,6 @@
-pub mod Held
-pub mod Interest
-pub mod Asking
-pub mod Requests
+pub mod AfterEvent
+pub mod HeldSteps
+pub mod SendingSteps
+pub mod InterestSteps
+pub mod HashRequestsSteps
+pub mod AskingSteps

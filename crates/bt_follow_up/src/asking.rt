@@ -3,8 +3,8 @@ ghost use Rattle.std.specs.Prelude.{◌≡◌, ◌<◌, length, vec_len};
 ghost use Rattle.bt_machine.specs.Shape.{IsShaped};
 ghost use Rattle.bt_state.specs.Parts.{state_of, disks_of};
 ghost use Rattle.bt_state.specs.Ties.{IsTied};
-ghost use Rattle.bt_follow_up.specs.Held.{IsNextHeld};
-ghost use Rattle.bt_follow_up.specs.Asking.{AreBlocksAsked};
+ghost use Rattle.bt_follow_up.specs.HeldSteps.{IsNextHeld};
+ghost use Rattle.bt_follow_up.specs.AskingSteps.{AreBlocksAsked};
 
 use crate::held::next_held;
 use arrayvec::ArrayVec;
@@ -15,7 +15,7 @@ use bt_tree::NodeHash;
 
 /// Asks a peer for the first blocks that may be asked of it, until it is asked for 16: for none where it
 /// chokes us or we are not interested. These blocks are to be requested.
-pub fn ask_blocks<D: Disk + Drop, H: NodeHash>(
+pub(crate) fn ask_blocks<D: Disk + Drop, H: NodeHash>(
     parts: &mut Parts<D, H>,
     index: usize,
 ) -> ArrayVec<BlockId, MAX_REQUESTS>
@@ -26,6 +26,7 @@ pub fn ask_blocks<D: Disk + Drop, H: NodeHash>(
     ensures asked { AreBlocksAsked (state_of parts.old) index result.items (state_of parts.new) }
     ensures devices { disks_of parts.new ≡ disks_of parts.old }
     ensures torrent { parts.new.torrent ≡ parts.old.torrent }
+    ensures peers { parts.new.peers ≡ parts.old.peers }
     ensures tied { IsTied parts.new }
 {
     parts.book.keeps_laws();

@@ -2,19 +2,19 @@
 ghost use Rattle.std.specs.Prelude.{IfSome, IfNone};
 ghost use Rattle.bt_tree.specs.TreeShape.{IsPieceLength};
 ghost use Rattle.bt_meta.specs.Torrent.{IsLaidOut};
-ghost use Rattle.bt_follow_up.specs.Held.{IsNextPiece, HasNoPiece, IsFirstPiece, HasNoBlock, IsNextHeld};
+ghost use Rattle.bt_follow_up.specs.HeldSteps.{IsFirstPiece, HasNoBlock, IsNextHeld};
 
 use bt_book::BlockId;
 use bt_meta::Torrent;
 use bt_state::PieceSet;
 
 /// The first block, from one on, in a piece of the set. The block need not be one of the torrent's.
-pub fn next_held(torrent: &Torrent, has: &PieceSet, from: BlockId) -> Option<BlockId>
+pub(crate) fn next_held(torrent: &Torrent, has: &PieceSet, from: BlockId) -> Option<BlockId>
     ensures { IsNextHeld torrent.now has.now from result }
 {
     keeps_laws(torrent);
     let first = first_piece(torrent, from)?;
-    let piece = next_piece(has, first)?;
+    let piece = has.next(first)?;
     let run = torrent.blocks_of(piece)?;
     let block = if run.file == from.file {
         run.first.max(from.block)
@@ -42,23 +42,10 @@ fn first_piece(torrent: &Torrent, from: BlockId) -> Option<u32>
 }
 
 /// What every torrent keeps to. It does nothing when it runs.
-fn keeps_laws(torrent: &Torrent)
+pub(crate) fn keeps_laws(torrent: &Torrent)
     ensures size { IsPieceLength torrent.now.piece_length }
     ensures laid_out { IsLaidOut torrent.now.piece_length torrent.now.files }
 {
     let _ = torrent.piece_length();
     let _ = torrent.files();
-}
-
-/// The first piece of the set, from one on.
-fn next_piece(set: &PieceSet, from: u32) -> Option<u32>
-    ensures some { IfSome result (IsNextPiece set.now from) }
-    ensures none { IfNone result (HasNoPiece set.now from) }
-{
-    for piece in from..set.pieces() {
-        if set.contains(piece) {
-            return Some(piece);
-        }
-    }
-    None
 }

@@ -1,12 +1,13 @@
 //! Whether we are interested in a peer (BEP 3).
-ghost use Rattle.std.specs.Prelude.{◌≡◌, ◌<◌, ◌↔◌, IsTrue, length, vec_len};
+ghost use Rattle.std.specs.Prelude.{◌≡◌, ◌<◌, ◌↔◌, IsTrue, length, map, vec_len};
 ghost use Rattle.bt_machine.specs.State.{PeerState};
 ghost use Rattle.bt_machine.specs.Shape.{IsShaped};
 ghost use Rattle.bt_machine.specs.FollowUp.{IsInteresting, interest_sent};
 ghost use Rattle.bt_state.specs.Parts.{state_of, disks_of};
 ghost use Rattle.bt_state.specs.Ties.{IsTied};
-ghost use Rattle.bt_follow_up.specs.Held.{IsNextHeld};
-ghost use Rattle.bt_follow_up.specs.Interest.{IsInterestTold, sent_if};
+ghost use Rattle.bt_follow_up.specs.HeldSteps.{IsNextHeld};
+ghost use Rattle.bt_follow_up.specs.SendingSteps.{frames_of};
+ghost use Rattle.bt_follow_up.specs.InterestSteps.{IsInterestTold};
 
 use crate::held::next_held;
 use bt_book::BlockId;
@@ -16,7 +17,7 @@ use bt_tree::NodeHash;
 use bt_wire::Message;
 
 /// Finds out whether we are interested in a peer, and gives what it is to be told, where that has changed.
-pub fn tell_interest<D: Disk + Drop, H: NodeHash>(
+pub(crate) fn tell_interest<D: Disk + Drop, H: NodeHash>(
     parts: &mut Parts<D, H>,
     index: usize,
 ) -> Option<Message>
@@ -27,7 +28,8 @@ pub fn tell_interest<D: Disk + Drop, H: NodeHash>(
     ensures told { IsInterestTold (state_of parts.old) index result (state_of parts.new) }
     ensures devices { disks_of parts.new ≡ disks_of parts.old }
     ensures torrent { parts.new.torrent ≡ parts.old.torrent }
-    ensures peers { length parts.new.peers.items ≡ length parts.old.peers.items }
+    ensures keys { map (λ p. p.key) parts.new.peers.items ≡ map (λ p. p.key) parts.old.peers.items }
+    ensures peers { vec_len parts.new.peers ≡ vec_len parts.old.peers }
     ensures tied { IsTied parts.new }
 {
     let interested = is_interesting(parts, &parts.peers[index].has);
@@ -39,7 +41,7 @@ pub fn tell_interest<D: Disk + Drop, H: NodeHash>(
 
 /// What a peer is told, where our interest in it has changed.
 fn change_of_interest(was_interested: bool, interested: bool) -> Option<Message>
-    ensures { (p : PeerState) → sent_if p result ≡ interest_sent p was_interested interested }
+    ensures { (p : PeerState) → frames_of p.key result ≡ interest_sent p was_interested interested }
 {
     if interested == was_interested {
         return None;

@@ -2,12 +2,11 @@
 //! requested.
 #![tactic(auto)]
 
+mod after_event;
 mod asking;
+mod hash_requests;
 mod held;
 mod interest;
-mod requests;
+mod sending;
 
-pub use asking::ask_blocks;
-pub use held::next_held;
-pub use interest::tell_interest;
-pub use requests::{has_block, request_blocks, request_of};
+pub use after_event::follow_up;

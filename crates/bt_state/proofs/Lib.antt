@@ -2,6 +2,7 @@ pub mod Lists
 -- pieces
 pub mod Bits
 pub mod Wholes
+pub mod NextPieces
 -- the book and the peers
 pub mod Books
 pub mod PeerLists
@@ -13,3 +14,6 @@ pub mod Completeness
 pub mod DeviceCalls
 -- the counts of unmarked blocks
 pub mod Unmarked
+-- a block that has another state
+pub mod BlockChanges
+pub mod SlotChanges

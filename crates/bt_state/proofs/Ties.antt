@@ -63,7 +63,7 @@ found_at {peers} {key} {i} p at read =
     (here, ap (λ (x : Peer). x.key) (some_is (sym here ∙ at.here)) ∙ at.same_key)
 
 -- what a count of unmarked blocks speaks of
-same_counts : (s t : EngineState) (counts : List ℕ) → t.torrent ≡ s.torrent → t.files ≡ s.files → AreUnmarked s counts → AreUnmarked t counts
+pub same_counts : (s t : EngineState) (counts : List ℕ) → t.torrent ≡ s.torrent → t.files ≡ s.files → AreUnmarked s counts → AreUnmarked t counts
 same_counts s t counts torrent files has =
     let at : AreUnmarked (record t { torrent = s.torrent; files = s.files }) counts = record { size = has.size; each = has.each } in
     subst (λ (fs : List FileState). AreUnmarked (record t { files = fs }) counts) (sym files)

@@ -43,24 +43,29 @@ apart : (b c : BlockId) → IsBefore b c → b ≢ c
 apart b c (inl lt) same = absurd (let e = ap (λ x. x.file) same in omega arith)
 apart b c (inr lt) same = absurd (let e = ap (λ x. x.block) same in let l = lt.1 in omega arith)
 
+abbrev pub one_if : Bool → ℕ
+one_if t = cond t 1 0
+
+one_of : (t : Bool) → one_if (not t) + one_if t ≡ 1
+one_of true = refl
+one_of false = refl
+
 -- of blocks in order all but one are counted alike
-count_one : (f g : BlockId → Bool) (b : BlockId) (xs : List BlockId) → Pairs IsBefore xs → Contains xs b → ((c : BlockId) → c ≢ b → f c ≡ g c)
-    → f b ≡ true → g b ≡ false → count_by f xs ≡ 1 + count_by g xs
-count_one f g b [] p c same held lost = absurd (contains_none c)
-count_one f g b (x ∷ xs) p c same held lost = elim (contains_cases xs c) [
+count_but_one : (f g : BlockId → Bool) (b : BlockId) (xs : List BlockId) → Pairs IsBefore xs → Contains xs b → ((c : BlockId) → c ≢ b → f c ≡ g c)
+    → count_by f xs + one_if (g b) ≡ count_by g xs + one_if (f b)
+count_but_one f g b [] p c same = absurd (contains_none c)
+count_but_one f g b (x ∷ xs) p c same = elim (contains_cases xs c) [
   | inl is ↦ (
-      let own : f x ≡ true = ap f is ∙ held in
-      let off : g x ≡ false = ap g is ∙ lost in
       let rest = count_agree f g xs (λ y d. same y (λ e. apart x y (p.0 y d) (is ∙ sym e))) in
-      let one : count_by f (x ∷ xs) ≡ 1 + count_by f xs = count_cons f x xs ∙ ap (λ t. cond t 1 0 + count_by f xs) own in
-      let two : count_by g (x ∷ xs) ≡ 0 + count_by g xs = count_cons g x xs ∙ ap (λ t. cond t 1 0 + count_by g xs) off in
+      let one : count_by f (x ∷ xs) ≡ one_if (f b) + count_by f xs = count_cons f x xs ∙ ap (λ y. one_if (f y) + count_by f xs) is in
+      let two : count_by g (x ∷ xs) ≡ one_if (g b) + count_by g xs = count_cons g x xs ∙ ap (λ y. one_if (g y) + count_by g xs) is in
       omega (arith, one, two, rest)
       )
   | inr more ↦ (
-      let off = same x (apart x b (p.0 b more)) in
-      let rest = count_one f g b xs p.1 more same held lost in
-      let one : count_by f (x ∷ xs) ≡ cond (g x) 1 0 + count_by f xs = count_cons f x xs ∙ ap (λ t. cond t 1 0 + count_by f xs) off in
-      let two : count_by g (x ∷ xs) ≡ cond (g x) 1 0 + count_by g xs = count_cons g x xs in
+      let rest = count_but_one f g b xs p.1 more same in
+      let one : count_by f (x ∷ xs) ≡ one_if (g x) + count_by f xs =
+      count_cons f x xs ∙ ap (λ t. one_if t + count_by f xs) (same x (apart x b (p.0 b more))) in
+      let two = count_cons g x xs in
       omega (arith, one, two, rest)
       )
 ]
@@ -97,6 +102,16 @@ among s b lt =
     (range_contains (length s.files) (has_file (λ f. f.states) s.files b.file b.block lt))
     (map_contains (block_id b.file) (range_with_len 0 (length (states_of s b.file))) (range_contains (length (states_of s b.file)) lt))
 
+pub is_among : (s : EngineState) {b : BlockId} → Contains (all_blocks s) b → b.block < length (states_of s b.file)
+is_among s {b} c =
+    let y = contains_flat_map (λ file. map (block_id file) (range_with_len 0 (length (states_of s file)))) (file_numbers s) c in
+    let z = contains_map (block_id y.0) (range_with_len 0 (length (states_of s y.0))) y.2 in
+    let below = (range_limits 0 (length (states_of s y.0)) z.1).1 in
+    rw (← z.2) (omega arith)
+
+pub all_in_order : (s : EngineState) → Pairs IsBefore (all_blocks s)
+all_in_order s = blocks_in_order (λ file. length (states_of s file)) (file_numbers s) (range_in_order 0 (length s.files))
+
 flat_map_same : {X Y : Type 0} (f g : X → List Y) (xs : List X) → ((x : X) → f x ≡ g x) → flat_map f xs ≡ flat_map g xs
 flat_map_same f g [] same = refl
 flat_map_same f g (x ∷ xs) same = rw (same x, flat_map_same f g xs same) refl
@@ -123,18 +138,21 @@ module _ {s t : EngineState} {b : BlockId} (d : DifferAt (b ∷ []) s t) (inside
       ap (λ o. option_map_or is_marked o false)
       (d.others c (λ among. elim (contains_cases [] among) [ inl same ↦ other (sym same) | inr none ↦ contains_none none ]))
 
-  -- it has become marked
-  pub one_less : (piece : ℕ) → is_in_piece s.torrent piece b ≡ true → is_marked_in s b ≡ false → is_marked_in t b ≡ true
-      → unmarked_in s piece ≡ 1 + unmarked_in t piece
-  one_less piece in_it was now =
+  -- the count of its piece moves with its mark
+  pub count_moves : (piece : ℕ) → is_in_piece s.torrent piece b ≡ true
+      → unmarked_in s piece + one_if (is_marked_in s b) ≡ unmarked_in t piece + one_if (is_marked_in t b)
+  count_moves piece in_it =
       let all = all_blocks s in
       let f : BlockId → Bool = λ c. is_in_piece s.torrent piece c && not (is_marked_in s c) in
       let g : BlockId → Bool = λ c. is_in_piece s.torrent piece c && not (is_marked_in t c) in
-      count_filtered (is_in_piece s.torrent piece) (λ c. not (is_marked_in s c)) all
-      ∙ count_one f g b all (blocks_in_order (λ file. length (states_of s file)) (file_numbers s) (range_in_order 0 (length s.files))) (among s b inside)
-      (λ c other. ap (λ m. is_in_piece s.torrent piece c && not m) (sym (others c other)))
-      (ap (λ x. x && not (is_marked_in s b)) in_it ∙ ap not was) (ap (λ x. x && not (is_marked_in t b)) in_it ∙ ap not now)
-      ∙ ap (λ n. 1 + n) (sym (counts_alike d piece))
+      let move : count_by f all + one_if (g b) ≡ count_by g all + one_if (f b) =
+      count_but_one f g b all (all_in_order s) (among s b inside)
+      (λ c other. ap (λ m. is_in_piece s.torrent piece c && not m) (sym (others c other))) in
+      let own_f : one_if (f b) ≡ one_if (not (is_marked_in s b)) = ap (λ x. one_if (x && not (is_marked_in s b))) in_it in
+      let own_g : one_if (g b) ≡ one_if (not (is_marked_in t b)) = ap (λ x. one_if (x && not (is_marked_in t b))) in_it in
+      let first : unmarked_in s piece ≡ count_by f all = count_filtered (is_in_piece s.torrent piece) (λ c. not (is_marked_in s c)) all in
+      let then : unmarked_in t piece ≡ count_by g all = counts_alike d piece in
+      omega (arith, move, own_f, own_g, first, then, one_of (is_marked_in s b), one_of (is_marked_in t b))
 
   -- a piece that it does not lie in has the same count
   pub none_less : (piece : ℕ) → is_in_piece s.torrent piece b ≡ false → unmarked_in t piece ≡ unmarked_in s piece

@@ -1,3 +1,5 @@
 pub mod Parts
 pub mod Ties
 pub mod Connection
+pub mod BlockChange
+pub mod BlockChangeSteps

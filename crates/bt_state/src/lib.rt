@@ -3,6 +3,7 @@
 //! done to them.
 #![tactic(auto)]
 
+mod block_change;
 mod connection;
 mod greeting;
 mod parts;
@@ -12,6 +13,7 @@ mod piece_set;
 mod reports;
 mod slot;
 
+pub use block_change::follow_block;
 pub use connection::connect;
 pub use parts::Parts;
 pub use peer::Peer;

@@ -1,6 +1,7 @@
 ghost use Rattle.std.specs.List.{All};
-ghost use Rattle.std.specs.Prelude.{◌≡◌, ◌*◌, ◌<◌, ◌≤◌, true, false, length, replicate, slice_index_or, slice_set, take, IfOk};
+ghost use Rattle.std.specs.Prelude.{◌≡◌, ◌*◌, ◌<◌, ◌≤◌, true, false, length, replicate, slice_index_or, slice_set, take, IfOk, IfSome, IfNone};
 ghost use Rattle.std.specs.Int.{div_ceil};
+ghost use Rattle.bt_book.specs.BitSet.{IsNext, HasNoneFrom};
 ghost use Rattle.bt_machine.specs.WireEvents.{bits_in};
 
 use std::alloc::{AllocError, Global};
@@ -47,6 +48,25 @@ impl PieceSet {
         ensures { result ≡ slice_index_or self.now piece false }
     {
         piece < self.pieces && bit(&self.bytes, piece as usize)
+    }
+
+    /// The first piece of the set from one on. A byte without one is passed at once.
+    pub fn next(&self, from: u32) -> Option<u32>
+        ensures some { IfSome result (IsNext self.now from) }
+        ensures none { IfNone result (HasNoneFrom self.now from) }
+    {
+        let pieces = self.pieces() as usize;
+        let mut piece = from as usize;
+        while piece < pieces {
+            if self.bytes[piece / 8] == 0 {
+                piece = (piece / 8 + 1) * 8;
+            } else if bit(&self.bytes, piece) {
+                return Some(piece as u32);
+            } else {
+                piece += 1;
+            }
+        }
+        None
     }
 
     pub fn insert(&mut self, piece: u32)

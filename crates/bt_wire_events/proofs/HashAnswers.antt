@@ -7,7 +7,7 @@ use Rattle.bt_hashreq.specs.declared.key.HashKey.{HashKey}
 use Rattle.bt_machine.proofs.Lists.{some_is, some_below}
 use Rattle.bt_machine.specs.State.{EngineState}
 use Rattle.bt_machine.specs.HashMessages.{IsAnswered}
-use Rattle.bt_wire_events.specs.Hashes.{IsAnsweredBy}
+use Rattle.bt_wire_events.specs.HashRequestSteps.{IsAnsweredBy}
 
 -- the tree that the loop stands at
 pub stands_at : {X : Type 0} (xs : List X) (i : ℕ) {x : X} → i < length xs → x ≡ get_or xs i x → slice_get xs i ≡ Some x

@@ -4,19 +4,20 @@ use Rattle.std.proofs.lemmas.List.{map-append}
 use Rattle.bt_disk.specs.Calls.{HasCalls}
 use Rattle.bt_disk.proofs.CallLists.{has_none}
 use Rattle.bt_machine.proofs.Lists.{some_is, some_below, set_same, get_map, get_some, contains_none, contains_map, map_contains, contains_flat_map, range_limits}
-use Rattle.bt_machine.specs.State.{EngineState, PeerState, FileState, Hint}
+use Rattle.bt_machine.specs.State.{EngineState, PeerState, FileState}
 use Rattle.bt_machine.specs.Devices.{DeviceCalls, HaveCalls, calls_of, reads_at}
 use Rattle.bt_machine.specs.Blocks.{with_tree, with_peer}
+use Rattle.bt_machine.specs.Output.{no_effect, closing}
 use Rattle.bt_machine.specs.Settling.{judged_file, due_blocks, settling_notes, SettlesIn}
 use Rattle.bt_machine.specs.declared.answer.Note.{Note}
 use Rattle.bt_machine.specs.declared.answer.Why.{Why}
-use Rattle.bt_machine.specs.HashMessages.{HandlesHashes, settled_count, unknown_root as no_such_root, no_claim as makes_no_claim, refused as is_refused, accepts_hashes, new_proofs}
+use Rattle.bt_machine.specs.declared.hash_state.HashState.{HashState}
+use Rattle.bt_machine.specs.declared.hash_state.HashState.TheVariants.{Idle}
+use Rattle.bt_machine.specs.HashMessages.{HandlesHashes, Resolves, settled_count, unknown_root as no_such_root, no_claim as makes_no_claim, refused as is_refused, accepts_hashes, new_proofs}
 use Rattle.bt_state.specs.Parts.{file_of, disk_of}
-use Rattle.bt_wire_events.specs.Runs.{HasCallsIfAny, SettlesSlot, SettlesSlots}
-use Rattle.bt_wire_events.specs.Learning.{AreRefused, unknown_root, no_claim, refused, ChangesByHashes, TakesHashes, effect_of}
+use Rattle.bt_wire_events.specs.RunSteps.{HasCallsIfAny, SettlesSlot, SettlesSlots}
+use Rattle.bt_wire_events.specs.LearningSteps.{AreRefused, unknown_root, no_claim, refused, Learns}
 use Rattle.bt_state.specs.declared.slot.Slot.{Slot}
-use Rattle.bt_wire_events.specs.declared.hashes.Learnt.{Learnt}
-use Rattle.bt_wire_events.specs.declared.hashes.Learnt.TheVariants.{Refused, Settled}
 
 -- ---- reads of one file among those of all
 
@@ -80,7 +81,7 @@ no_element : {X : Type 0} (xs : List X) (i : ℕ) (o : Option X) → slice_get x
 no_element xs i None at past = refl
 no_element xs i (Some x) at past = absurd (let lt = some_below xs i at in omega arith)
 
-nothing_called : {D : Type 0} (history : D → History) (honest : D → Type 0) (faults : D → ℕ) (disks : List (Option D))
+pub nothing_called : {D : Type 0} (history : D → History) (honest : D → Type 0) (faults : D → ℕ) (disks : List (Option D))
     → HaveCalls history honest faults disks [] disks
 nothing_called history honest faults disks = record {
   count = refl;
@@ -109,7 +110,7 @@ module _ {D H : Type 0} (history : D → History) (honest : D → Type 0) (fault
   any_called calls call (Some d) n has c = (has.0, has.1)
 
   -- the old slot of a file, and what became of it
-  at_file : (file : ℕ) {n : Slot D H} → slice_get new file ≡ Some n → (o : Slot D H) × (slice_get old file ≡ Some o)
+  pub at_file : (file : ℕ) {n : Slot D H} → slice_get new file ≡ Some n → (o : Slot D H) × (slice_get old file ≡ Some o)
       × SettlesSlot history honest faults dig k tree from count o (s.reads file) n
   at_file file {n} there =
       let lt = some_below new file there in
@@ -187,42 +188,38 @@ module _ {D H : Type 0} (history : D → History) (honest : D → Type 0) (fault
 
 -- ---- the event
 
-module _ {D H : Type 0} (history : D → History) (honest : D → Type 0) (faults : D → ℕ) (dig : List ℕ → List ℕ) (key : HashKey) (digests : List ℕ)
-    (trees : List Facts) (slots : List (Slot D H)) (grown : List Facts) (settled : List (Slot D H)) where
-  refused_so : (why : Why) → AreRefused dig trees key digests why → (s : EngineState) (i : ℕ) (p : PeerState) (proofs : List Hint) (handled : EngineState)
-      → s.trees ≡ trees → handled ≡ s → HandlesHashes dig s i p key digests [] (effect_of (Refused why) proofs) handled
-  refused_so why (unknown_root none) s i p proofs handled same is =
+module _ (dig : List ℕ → List ℕ) (key : HashKey) (digests : List ℕ) (trees : List Facts) where
+  pub refused_so : (why : Why) → AreRefused dig trees key digests why → (s : EngineState) (i : ℕ) (p : PeerState) (handled : EngineState)
+      → s.trees ≡ trees → handled ≡ s → HandlesHashes dig s i p key digests [] (closing why) handled
+  refused_so why (unknown_root none) s i p handled same is =
       no_such_root (λ tree k of. none tree k (record { here = ap (λ ts. slice_get ts tree) (sym same) ∙ of.here; same_root = of.same_root })) refl refl is
-  refused_so why (no_claim fault tree k has memory unmade) s i p proofs handled same is =
+  refused_so why (no_claim fault tree k has memory unmade) s i p handled same is =
       makes_no_claim fault (λ unknown. unknown tree k (record { here = ap (λ ts. slice_get ts tree) same ∙ has.here; same_root = has.same_root })) unmade
       (record { not_memory = memory; made = refl; has_effect = refl; after = is })
-  refused_so why (refused fault tree k claim has memory claims bad) s i p proofs handled same is =
+  refused_so why (refused fault tree k claim has memory claims bad) s i p handled same is =
       is_refused fault tree k claim (record { here = ap (λ ts. slice_get ts tree) same ∙ has.here; same_root = has.same_root }) claims bad
       (record { not_memory = memory; made = refl; has_effect = refl; after = is })
 
-  pub takes_so : (learnt : Learnt) → ChangesByHashes history honest faults dig key digests trees slots learnt grown settled
-      → TakesHashes history honest faults dig key digests trees slots learnt grown settled
-  takes_so (Refused why) c = (
-    [],
-    [],
-    subst (λ (xs : List (Slot D H)). HaveCalls history honest faults (map disk_of slots) [] (map disk_of xs)) (sym c.2) (nothing_called history honest faults (map disk_of slots)),
-    λ s i p hash same files resolves. refused_so why c.0 s i p [] (record s { trees = grown; files = map file_of settled }) same
-        (ap (λ (ts : List Facts). record s { trees = ts; files = map file_of settled }) (c.1 ∙ sym same)
-        ∙ ap (λ (xs : List (Slot D H)). record s { files = map file_of xs }) c.2
-        ∙ ap (λ (fs : List FileState). record s { files = fs }) (sym files)),
-  )
-  takes_so (Settled notes) l = (
-    the_calls history honest faults dig l.new l.tree key.index (settled_count key) slots settled l.settles,
-    new_proofs key digests l.old l.new,
-    have_calls history honest faults dig l.new l.tree key.index (settled_count key) slots settled l.settles,
-    λ s i p hash same files resolves.
+  module _ {D H : Type 0} (history : D → History) (honest : D → Type 0) (faults : D → ℕ) (slots : List (Slot D H)) {notes : List Note}
+      (grown : List Facts) (settled : List (Slot D H)) (l : Learns history honest faults dig key digests trees slots notes grown settled) where
+    -- the calls of the devices
+    abbrev pub learning_calls : DeviceCalls
+    learning_calls = the_calls history honest faults dig l.new l.tree key.index (settled_count key) slots settled l.settles
+
+    pub have_learning_calls : HaveCalls history honest faults (map disk_of slots) learning_calls (map disk_of settled)
+    have_learning_calls = have_calls history honest faults dig l.new l.tree key.index (settled_count key) slots settled l.settles
+
+    pub learnt_so : (s : EngineState) (i : ℕ) (p : PeerState) (hash : HashState) → s.trees ≡ trees → s.files ≡ map file_of slots → Resolves key Idle p.hash hash
+        → HandlesHashes dig s i p key digests learning_calls (record no_effect { notes = notes; proofs = new_proofs key digests l.old l.new })
+        (with_peer (record s { trees = grown; files = map file_of settled }) i (record p { hash = hash }))
+    learnt_so s i p hash same files resolves =
         let was : slice_get s.trees l.tree ≡ Some l.old = ap (λ ts. slice_get ts l.tree) same ∙ l.here.here in
         accepts_hashes (record {
           tree = l.tree;
           old = l.old;
           new = l.new;
           claim = l.claim;
-          notes = notes.items;
+          notes = notes;
           settled = record (with_tree s l.tree l.new) { files = map file_of settled };
           hash = hash;
           here = record { here = was; same_root = l.here.same_root };
@@ -234,5 +231,4 @@ module _ {D H : Type 0} (history : D → History) (honest : D → Type 0) (fault
           has_effect = refl;
           after = ap (λ (ts : List Facts). with_peer (record s { trees = ts; files = map file_of settled }) i (record p { hash = hash }))
               (l.grows ∙ ap (λ ts. slice_set ts l.tree l.new) (sym same));
-        }),
-  )
+        })

@@ -3,8 +3,8 @@ use Rattle.bt_machine.proofs.Base.{◌≡◌, ◌≢◌, ℕ, ◌+◌, ◌<◌, 
 use Rattle.std.specs.Prelude.{IfOk, IfErr}
 use Rattle.std.proofs.lemmas.Option.{slice_get-get_or}
 use Rattle.bt_machine.proofs.Lists.{some_is}
-use Rattle.bt_wire_events.specs.Runs.{FitsLength}
-use Rattle.bt_wire_events.specs.Learning.{HasRoot, FitLengths}
+use Rattle.bt_wire_events.specs.RunSteps.{FitsLength}
+use Rattle.bt_wire_events.specs.LearningSteps.{HasRoot, FitLengths}
 use Rattle.bt_state.specs.declared.slot.Slot.{Slot}
 
 -- the tree keeps its length, so each slot of it still fits

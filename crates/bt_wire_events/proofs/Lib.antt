@@ -4,4 +4,8 @@ pub mod HashAnswers
 pub mod Settlings
 pub mod RunSettlings
 pub mod Learnings
+pub mod Vectors
+pub mod NotedBlocks
+pub mod Following
 pub mod HashesHandled
+pub mod HashEvents

@@ -11,9 +11,9 @@ use Rattle.bt_store.proofs.Reviews.{range_split}
 use Rattle.bt_machine.proofs.Lists.{some_is, some_below, set_same, set_other}
 use Rattle.bt_machine.specs.declared.answer.Note.{Note}
 use Rattle.bt_machine.specs.Settling.{settling_notes, due_blocks}
-use Rattle.bt_wire_events.specs.Settling.{SettlesBlocks, is_due}
+use Rattle.bt_wire_events.specs.SettlingSteps.{SettlesBlocks, is_due}
 use Rattle.bt_state.specs.Parts.{file_of, disk_of}
-use Rattle.bt_wire_events.specs.Runs.{HasCallsIfAny, SettlesSlot, SettlesSlots}
+use Rattle.bt_wire_events.specs.RunSteps.{HasCallsIfAny, SettlesSlot, SettlesSlots}
 use Rattle.bt_state.specs.declared.slot.Slot.{Slot}
 
 -- ---- a run that goes past the file's end
@@ -59,7 +59,7 @@ nothing_called history honest faults (Some disk) = (disk, refl, has_none history
 module _ {D H : Type 0} (history : D → History) (honest : D → Type 0) (faults : D → ℕ) (dig : List ℕ → List ℕ) (k : Facts) (tree from count : ℕ) where
   -- nothing is due
   pub slot_kept : (slot : Slot D H) → due_blocks dig k tree from count (file_of slot) ≡ [] → SettlesSlot history honest faults dig k tree from count slot [] slot
-  slot_kept slot none = record { due = sym none; judged = refl; made = nothing_called history honest faults (disk_of slot) }
+  slot_kept slot none = record { due = sym none; judged = refl; same_file = refl; made = nothing_called history honest faults (disk_of slot) }
 
   pub of_other : (slot : Slot D H) → slot.tree ≢ tree → due_blocks dig k tree from count (file_of slot) ≡ []
   of_other slot apart = by (slot.tree == tree) refl
@@ -89,6 +89,7 @@ module _ {D H : Type 0} (history : D → History) (honest : D → Type 0) (fault
     judged =
         ap (λ (states : List BlockState). record { tree = slot.tree; states = states })
         (s.judged.states ∙ ap (λ (store : Option (StoreView D)). judged dig k false s.reads (option_map_or (λ st. st.states) store [])) (sym has));
+    same_file = ap (λ n. Some n) s.judged.same_file ∙ sym (ap (option_map (λ st. st.file_length)) has);
     made = subst (λ (disk : Option (StoreView D)). HasCallsIfAny history honest faults (option_map (λ st. st.disk) disk) (map (call_of k.file_length) s.reads) (Some new.disk)) (sym has)
         (new.disk, refl, subst (λ (n : ℕ). HasCalls history honest faults old.disk (map (call_of n) s.reads) new.disk) (sym length) s.judged.device.calls);
   }

@@ -14,7 +14,8 @@ use Rattle.bt_machine.specs.declared.answer.Note.{Note}
 use Rattle.bt_machine.specs.declared.answer.Note.TheVariants.{Marked as NowMarked, Freed, Device}
 use Rattle.bt_machine.specs.Blocks.{block_id}
 use Rattle.bt_machine.specs.Settling.{read_note}
-use Rattle.bt_wire_events.specs.Settling.{SettlesBlocks, note_at, note_room, is_due}
+use Rattle.bt_wire_events.specs.SettlingSteps.{SettlesBlocks, note_at, is_due}
+use Rattle.bt_wire_events.specs.NoteRooms.{note_room}
 
 drop_nil : {X : Type 0} (i : ℕ) → drop {A = X} i [] ≡ []
 drop_nil zero = refl

@@ -1,6 +1,9 @@
 pub mod Peer
 pub mod Message
+pub mod HashRequestSteps
+pub mod SettlingSteps
+pub mod NoteRooms
+pub mod RunSteps
+pub mod LearningSteps
 pub mod Hashes
-pub mod Settling
-pub mod Runs
-pub mod Learning
+pub mod HashesSteps

@@ -1,147 +1,107 @@
-ghost use Rattle.std.specs.Prelude.{[], ◌≡◌, ◌≢◌, ◌≤◌, ◌<◌, ◌↔◌, ℕ, IsTrue, IfOk, IfErr, IfSome, IfNone, length, slice_get};
+ghost use Rattle.std.specs.Prelude.{◌≡◌, ◌+◌, ◌*◌, ◌<◌, ◌≤◌, ℕ, IfOk, IfErr, length, map, vec_len};
 ghost use Rattle.bt_meta.specs.Limits.{max_file_count};
-ghost use Rattle.bt_sparse.specs.SparseTree.{Facts};
-ghost use Rattle.bt_machine.specs.State.{EngineState, PeerState};
-ghost use Rattle.bt_machine.specs.HashMessages.{HandlesHashRequest, settled_count};
-ghost use Rattle.bt_machine.specs.WireEvents.{HandlesMessage};
+ghost use Rattle.bt_book.specs.Book.{asked_of, peers_of};
+ghost use Rattle.bt_book.specs.declared.names.PeerKey.{PeerKey};
+ghost use Rattle.bt_sparse.specs.Answer.{max_run_length};
+ghost use Rattle.bt_machine.specs.Shape.{IsShaped};
+ghost use Rattle.bt_machine.specs.State.{EngineState};
+ghost use Rattle.bt_state.specs.BlockChange.{AreFollowed};
 ghost use Rattle.bt_state.specs.Parts.{state_of};
-ghost use Rattle.bt_wire_events.specs.Hashes.{effect_of, IsAnswerBy};
-ghost use Rattle.bt_wire_events.specs.Learning.{HasRoot, LacksRoot, FitLengths, TakesHashes};
+ghost use Rattle.bt_state.specs.Ties.{IsTied};
+ghost use Rattle.bt_wire_events.specs.NoteRooms.{note_count};
+ghost use Rattle.bt_wire_events.specs.Hashes.{TakesHashes, IsNoteRoom};
+ghost use Rattle.bt_wire_events.specs.HashesSteps.{IsNoteOf, HasNoted, IsBehind};
 
-use crate::runs::{room_for, settle_slots};
+use crate::learning::{Learnt, learn_hashes, settled_count, tree_of};
+use crate::message::resolved_hash_state;
+use crate::runs::room_for;
 use bt_disk::Disk;
-use bt_hashreq::{HashKey, to_claim};
-use bt_machine::{Note, Why};
-use bt_sparse::{AnswerError, ProofError, SparseTree};
-use bt_state::{Parts, Slot};
-use bt_tree::{Hash32, NodeHash};
-use bt_wire::Message;
+use bt_hashreq::HashKey;
+use bt_machine::{HashState, Note};
+use bt_sparse::MAX_RUN_LENGTH;
+use bt_state::{Parts, follow_block};
+use bt_store::BlockState;
+use bt_tree::NodeHash;
 use std::alloc::{AllocError, Global};
 
-/// What hashes that came come to.
-#[derive(Debug, Drop)]
-pub enum Learnt {
-    /// They are refused, and the peer is closed.
-    Refused(Why),
-    /// The tree of their root knows them, and this became of the blocks that waited for them.
-    Settled(Vec<Note>),
-}
-
-/// Takes hashes that come: the tree of their root learns them, and then the blocks of their run are settled
-/// in every file of the root. Where memory is refused, nothing changes.
+/// Takes hashes that come from the peer at `index`: the tree of their root learns them, and then the blocks of
+/// their run that waited are read back in every file of the root. Where the peer is asked for these hashes, it
+/// may be asked for others. Errors: out of memory, and nothing changes then.
 pub fn take_hashes<D: Disk + Drop, H: NodeHash>(
     alloc: Global,
-    slots: &mut [Slot<D, H>],
-    trees: &mut [SparseTree<H>],
+    parts: &mut Parts<D, H>,
+    index: usize,
     key: &HashKey,
     digests: &[u8],
 ) -> Result<Learnt, AllocError>
-    requires fit { FitLengths trees.old slots.old }
-    requires files { length slots.old ≤ max_file_count }
+    requires tied { IsTied parts.old }
+    requires shaped { IsShaped parts.old.torrent (state_of parts.old) }
+    requires inside { index < vec_len parts.old.peers }
+    requires there { index < length parts.old.peers.items }
     ensures takes { IfOk result (λ learnt. TakesHashes D.history D.honest D.faults H.digest
-        key.now digests.now trees.old slots.old learnt trees.new slots.new) }
-    ensures trees { IfErr result (λ _. trees.new ≡ trees.old) }
-    ensures slots { IfErr result (λ _. slots.new ≡ slots.old) }
+        parts.old index key.now digests.now learnt parts.new) }
+    ensures few { IfOk result (λ learnt.
+        (room : ℕ) → IsNoteRoom parts.old key.now room → note_count learnt ≤ room) }
+    ensures peers { map (λ p. p.key) parts.new.peers.items ≡ map (λ p. p.key) parts.old.peers.items }
+    ensures len { vec_len parts.new.peers ≡ vec_len parts.old.peers }
+    ensures torrent { parts.new.torrent ≡ parts.old.torrent }
+    ensures tied { IsTied parts.new }
+    ensures kept { IfErr result (λ _. parts.new ≡ parts.old) }
 {
-    let Some(index) = tree_of(trees, &key.root) else {
-        return Ok(Learnt::Refused(Why::UnknownRoot));
-    };
-    let claim = match to_claim(alloc, key, digests) {
-        Ok(claim) => claim,
-        Err(fault) => return refusal(fault),
-    };
-    let count = settled_count(key);
-    let mut notes = Vec::with_capacity(alloc, room_for(slots, index, count))?;
-    let tree = &mut trees[index];
-    if let Err(fault) = tree.accept(&claim) {
-        return refusal(fault);
-    }
-    settle_slots(&mut notes, slots, tree, index, key.index, count);
-    Ok(Learnt::Settled(notes))
-}
-
-/// Where the tree of a root stands, if there is one.
-fn tree_of<H: NodeHash>(trees: &[SparseTree<H>], root: &Hash32) -> Option<usize>
-    ensures inside { IfSome result (λ i. i < length trees.now) }
-    ensures some { IfSome result (λ i. (k : Facts) × HasRoot trees.now root.now i k) }
-    ensures none { IfNone result (LacksRoot trees.now root.now) }
-{
-    for (index, tree) in trees.iter().enumerate() {
-        if has_root(tree, root) {
-            return Some(index);
+    // A clause of this call says how many files there are at most.
+    let _ = parts.torrent.files();
+    match learn_hashes(alloc, &mut parts.slots, &mut parts.trees, key, digests)? {
+        Learnt::Refused(why) => Ok(Learnt::Refused(why)),
+        Learnt::Settled(notes) => {
+            let peer = &mut parts.peers[index];
+            peer.hash = resolved_hash_state(peer.hash, *key, HashState::Idle);
+            follow_notes(parts, &notes);
+            Ok(Learnt::Settled(notes))
         }
     }
-    None
 }
 
-/// Whether it is the tree of a root.
-fn has_root<H: NodeHash>(tree: &SparseTree<H>, root: &Hash32) -> bool
-    ensures { IsTrue result ↔ (tree.now.root ≡ root.now) }
+/// How many notes hashes of this key come to at most.
+pub fn room_for_notes<D: Disk + Drop, H: NodeHash>(parts: &Parts<D, H>, key: &HashKey) -> usize
+    requires tied { IsTied parts.now }
+    requires shaped { IsShaped parts.now.torrent (state_of parts.now) }
+    ensures room { IsNoteRoom parts.now key.now result }
+    ensures small { result ≤ (max_run_length + 1) * max_file_count }
 {
-    tree.root() == *root
-}
-
-/// How many blocks the hashes may have waited for: with leaves in the run, as many as it has.
-fn settled_count(key: &HashKey) -> u32
-    ensures value { result ≡ settled_count key.now }
-    ensures few { result ≤ key.now.length }
-{
-    if key.base == 0 { key.length } else { 0 }
-}
-
-/// What hashes come to that are refused.
-fn refusal(fault: ProofError) -> Result<Learnt, AllocError>
-    ensures ok { IfOk result (λ learnt. learnt ≡ Learnt.Refused (Why.Proof fault)) }
-    ensures other { IfOk result (λ _. fault ≢ ProofError.OutOfMemory) }
-    ensures memory { IfErr result (λ _. fault ≡ ProofError.OutOfMemory) }
-{
-    match fault {
-        ProofError::OutOfMemory => Err(AllocError),
-        _ => Ok(Learnt::Refused(Why::Proof(fault))),
+    // A clause of this call says how many files there are at most.
+    let _ = parts.torrent.files();
+    match tree_of(&parts.trees, &key.root) {
+        Some(index) => room_for(&parts.slots, index, settled_count(key).min(MAX_RUN_LENGTH)),
+        None => 0,
     }
 }
 
-/// Answers a hash request, or rejects it (None). Nothing changes.
-pub fn take_hash_request<D: Disk + Drop, H: NodeHash>(
-    parts: &Parts<D, H>,
-    key: &HashKey,
-) -> Result<Option<Vec<Hash32>>, AllocError>
-    ensures { IfOk result (λ digests. (i : ℕ) (p : PeerState) → HandlesMessage H.digest (state_of parts.now) i p
-        (Message.HashRequest key.now) [] (effect_of p key.now digests) (state_of parts.now)) }
+/// Brings the request book and the counts of unmarked blocks in line with the blocks that these notes name.
+fn follow_notes<D: Disk + Drop, H: NodeHash>(parts: &mut Parts<D, H>, notes: &[Note])
+    requires { IsBehind parts.old.book.wanted parts.old.unmarked.items notes.now (state_of parts.old) }
+    ensures followed { AreFollowed (state_of parts.old) parts.new.book.wanted parts.new.unmarked.items }
+    ensures asked { (key : PeerKey) → asked_of parts.new.book key ≡ asked_of parts.old.book key }
+    ensures peers { peers_of parts.new.book ≡ peers_of parts.old.book }
+    ensures others { parts.new ≡ record parts.old { book = parts.new.book; unmarked = parts.new.unmarked } }
 {
-    answer_hash_request(&parts.trees, key)
+    for note in notes {
+        follow_note(parts, note);
+    }
 }
 
-/// The digests that answer a hash request; None where no tree has them all, and the request is rejected.
-fn answer_hash_request<H: NodeHash>(
-    trees: &[SparseTree<H>],
-    key: &HashKey,
-) -> Result<Option<Vec<Hash32>>, AllocError>
-    ensures { IfOk result (λ digests. (s : EngineState) (p : PeerState) → s.trees ≡ trees.now
-        → HandlesHashRequest H.digest s p key.now (effect_of p key.now digests)) }
+/// The same of one note.
+fn follow_note<D: Disk + Drop, H: NodeHash>(parts: &mut Parts<D, H>, note: &Note)
+    requires { HasNoted parts.old.torrent parts.old.book.wanted parts.old.unmarked.items note.now }
+    ensures followed { (s t : EngineState) → s.torrent ≡ parts.old.torrent
+        → AreFollowed s parts.old.book.wanted parts.old.unmarked.items → IsNoteOf s note.now t
+        → AreFollowed t parts.new.book.wanted parts.new.unmarked.items }
+    ensures asked { (key : PeerKey) → asked_of parts.new.book key ≡ asked_of parts.old.book key }
+    ensures peers { peers_of parts.new.book ≡ peers_of parts.old.book }
+    ensures others { parts.new ≡ record parts.old { book = parts.new.book; unmarked = parts.new.unmarked } }
 {
-    for tree in trees {
-        if let Some(digests) = answer_by(tree, key)? {
-            return Ok(Some(digests));
-        }
-    }
-    Ok(None)
-}
-
-/// What one tree answers.
-fn answer_by<H: NodeHash>(
-    tree: &SparseTree<H>,
-    key: &HashKey,
-) -> Result<Option<Vec<Hash32>>, AllocError>
-    ensures { IfOk result (IsAnswerBy H.digest tree.now key.now) }
-{
-    if tree.root() != key.root {
-        return Ok(None);
-    }
-    match tree.answer(key.base, key.index, key.length, key.layers) {
-        Ok(digests) => Ok(Some(digests)),
-        Err(AnswerError::Shape) => Ok(None),
-        Err(AnswerError::Unknown) => Ok(None),
-        Err(AnswerError::OutOfMemory) => Err(AllocError),
+    match note {
+        Note::Marked(block) => follow_block(parts, *block, BlockState::Waiting, BlockState::Marked),
+        Note::Freed(block) => follow_block(parts, *block, BlockState::Waiting, BlockState::Missing),
+        _ => {}
     }
 }

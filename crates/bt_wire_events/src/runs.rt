@@ -1,11 +1,12 @@
-ghost use Rattle.std.specs.Prelude.{◌≡◌, ◌+◌, ◌<◌, ◌≤◌, ◌++◌, List, length, sum_by};
+ghost use Rattle.std.specs.Prelude.{◌≡◌, ◌+◌, ◌*◌, ◌<◌, ◌≤◌, ◌++◌, List, length, sum_by};
 ghost use Rattle.std.specs.List.{All};
 ghost use Rattle.std.specs.Vec.{vec_len, vec_capacity};
 ghost use Rattle.bt_meta.specs.Limits.{max_file_count};
 ghost use Rattle.bt_sparse.specs.Answer.{max_run_length};
 ghost use Rattle.bt_store.specs.BlockReads.{BlockRead};
 ghost use Rattle.bt_machine.specs.Settling.{settling_notes};
-ghost use Rattle.bt_wire_events.specs.Runs.{SettlesSlot, SettlesSlots, FitsLength, slot_room};
+ghost use Rattle.bt_wire_events.specs.NoteRooms.{slot_room};
+ghost use Rattle.bt_wire_events.specs.RunSteps.{SettlesSlot, SettlesSlots, FitsLength};
 
 use crate::settling::settle_blocks;
 use bt_disk::Disk;
@@ -28,8 +29,9 @@ pub(crate) fn settle_slots<D: Disk + Drop, H: NodeHash>(
     requires files { length slots.old ≤ max_file_count }
     requires few { count ≤ max_run_length }
     requires room { vec_len notes.old + sum_by (slot_room index count) slots.old ≤ vec_capacity notes.old }
-    ensures { SettlesSlots D.history D.honest D.faults H.digest tree.now index from count slots.old
+    ensures settles { SettlesSlots D.history D.honest D.faults H.digest tree.now index from count slots.old
         notes.old.items notes.new.items slots.new }
+    ensures few { vec_len notes.new ≤ vec_len notes.old + sum_by (slot_room index count) slots.old }
 {
     for file in 0..slots.len() {
         settle_slot(
@@ -83,7 +85,8 @@ pub(crate) fn room_for<D: Disk + Drop, H: NodeHash>(
 ) -> usize
     requires files { length slots.now ≤ max_file_count }
     requires few { count ≤ max_run_length }
-    ensures { result ≡ sum_by (slot_room index count) slots.now }
+    ensures value { result ≡ sum_by (slot_room index count) slots.now }
+    ensures small { result ≤ (max_run_length + 1) * length slots.now }
 {
     let mut room = 0;
     for slot in slots {

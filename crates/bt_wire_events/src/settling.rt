@@ -3,7 +3,8 @@ ghost use Rattle.std.specs.Vec.{vec_len, vec_capacity};
 ghost use Rattle.bt_tree.specs.Blocks.{block_count};
 ghost use Rattle.bt_sparse.specs.Answer.{max_run_length};
 ghost use Rattle.bt_store.specs.Review.{waiting_blocks};
-ghost use Rattle.bt_wire_events.specs.Settling.{SettlesBlocks, note_room, note_at, is_due};
+ghost use Rattle.bt_wire_events.specs.NoteRooms.{note_room};
+ghost use Rattle.bt_wire_events.specs.SettlingSteps.{SettlesBlocks, note_at, is_due};
 
 use arrayvec::ArrayVec;
 use bt_book::BlockId;

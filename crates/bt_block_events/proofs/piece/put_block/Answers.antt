@@ -1,22 +1,42 @@
-use Rattle.std.proofs.Common.{Ok, Err, refl}
-use Rattle.bt_machine.specs.declared.answer.Note.TheVariants.{Marked, Waiting, Device}
-use Rattle.bt_machine.specs.declared.answer.Why.TheVariants.{WrongBlock}
-use Rattle.bt_block_events.specs.declared.piece.Effect.TheVariants.{Noted, Closed}
-use Rattle.bt_block_events.proofs.Putting.{puts_block}
+use Rattle.std.proofs.Common.{ap, ◌∙◌}
+use Rattle.std.specs.Vec.{with_items}
+use Rattle.bt_block_events.proofs.Slots.{below_slots, puts_of}
+use Rattle.bt_block_events.proofs.StoreChanges.{has_changed, tied_new}
+use Rattle.bt_block_events.proofs.Storing.{can_put, put_changes, puts_block}
+use Rattle.bt_state.proofs.BlockChanges.{free_unasked}
 use Rattle.bt_block_events.proofs.piece.put_block.Goals as goal
 
-pub returns-in-Ok-Marked-clause-puts : goal.returns-in-Ok-Marked-clause-puts
-returns-in-Ok-Marked-clause-puts g c = λ s file is_file same. let x = c.in-Ok-Marked in
-    (_, x.ensures.calls, puts_block g.H.NodeHash.digest c.args.tree.now c.args.block c.args.bytes.now c.args.store.now.states c.put.new.self.states (Ok x.field-0) (Noted (Marked c.args.block)) x.ensures.why (rw x.field-0-is refl) x.ensures.states s file is_file same)
+pub put_in_slot-answer-requires-clause-inside : goal.put_in_slot-answer-requires-clause-inside
+put_in_slot-answer-requires-clause-inside g c =
+    rw c.deref_mut.ensures.value (below_slots (can_put c.args.parts.now c.args.block c.args.bytes.now c.requires.tied c.requires.missing c.requires.whole).has_store)
 
-pub returns-in-Ok-Waiting-clause-puts : goal.returns-in-Ok-Waiting-clause-puts
-returns-in-Ok-Waiting-clause-puts g c = λ s file is_file same. let x = c.in-Ok-Waiting in
-    (_, x.ensures.calls, puts_block g.H.NodeHash.digest c.args.tree.now c.args.block c.args.bytes.now c.args.store.now.states c.put.new.self.states (Ok x.field-0) (Noted (Waiting c.args.block)) x.ensures.why (rw x.field-0-is refl) x.ensures.states s file is_file same)
+pub put_in_slot-answer-requires-clause-can : goal.put_in_slot-answer-requires-clause-can
+put_in_slot-answer-requires-clause-can g c =
+    rw (c.deref_mut.ensures.value, c.deref.ensures.value) (can_put c.args.parts.now c.args.block c.args.bytes.now c.requires.tied c.requires.missing c.requires.whole)
 
-pub returns-in-Ok-Wrong-clause-puts : goal.returns-in-Ok-Wrong-clause-puts
-returns-in-Ok-Wrong-clause-puts g c = λ s file is_file same. let x = c.in-Ok-Wrong in
-    (_, x.ensures.calls, puts_block g.H.NodeHash.digest c.args.tree.now c.args.block c.args.bytes.now c.args.store.now.states c.put.new.self.states (Ok x.field-0) (Closed WrongBlock) x.ensures.why (rw x.field-0-is refl) x.ensures.states s file is_file same)
+pub follow_block-requires : goal.follow_block-requires
+follow_block-requires g c =
+    let old = c.args.parts.now in
+    let a = c.put_in_slot-answer in
+    let puts = puts_of old.slots old.trees a.ensures c.deref_mut.ensures.value c.deref.ensures.value (a.auto.slots ∙ c.deref_mut.ensures.len) in
+    has_changed (put_changes old (record old { slots = with_items old.slots a.new.slots }) c.requires.tied c.requires.shaped c.requires.missing puts c.state_after.ensures)
 
-pub returns-in-Err-Device-clause-puts : goal.returns-in-Err-Device-clause-puts
-returns-in-Err-Device-clause-puts g c = λ s file is_file same. let x = c.in-Err-Device in
-    (_, x.ensures.calls, puts_block g.H.NodeHash.digest c.args.tree.now c.args.block c.args.bytes.now c.args.store.now.states c.put.new.self.states (Err x.field-0) (Noted (Device c.args.block.file)) x.ensures.why (rw x.field-0-is refl) x.ensures.states s file is_file same)
+pub effect_of-requires : goal.effect_of-requires
+effect_of-requires g c = c.put_in_slot-answer.ensures.of_missing
+
+pub returns : goal.returns
+returns g c =
+    let old = c.args.parts.now in
+    let a = c.put_in_slot-answer in
+    let next = record old { slots = with_items old.slots a.new.slots } in
+    let puts = puts_of old.slots old.trees a.ensures c.deref_mut.ensures.value c.deref.ensures.value (a.auto.slots ∙ c.deref_mut.ensures.len) in
+    let f = c.follow_block.ensures in
+    let new = c.follow_block.new.parts in
+    record {
+      puts = puts_block old next c.requires.tied c.requires.shaped c.requires.missing puts c.state_after.ensures new f.others f.asked c.requires.alone
+          c.effect_of.result c.effect_of.ensures;
+      torrent = ap (λ p. p.torrent) f.others;
+      peers = ap (λ p. p.peers) f.others;
+      tied = tied_new (put_changes old next c.requires.tied c.requires.shaped c.requires.missing puts c.state_after.ensures) new f.others f.asked
+          (λ _ _. free_unasked old c.args.block c.requires.alone) f.peers f.followed;
+    }

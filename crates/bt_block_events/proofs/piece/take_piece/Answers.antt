@@ -1,30 +1,95 @@
-use Rattle.std.proofs.Common.{ℕ, length, subst, sym}
-use Rattle.bt_meta.specs.Torrent.{Metainfo}
-use Rattle.bt_machine.specs.Request.{IsFile}
-use Rattle.bt_block_events.specs.Piece.{IsAskedBlock}
-use Rattle.bt_block_events.proofs.Arriving.{no_calls, takes_stale, takes_asked, is_stored}
+use Rattle.std.proofs.Common.{◌≡◌, List, ap, ◌∙◌, refl, map, arith}
+use Rattle.std.specs.Global.{Vec}
+use Rattle.bt_book.specs.Book.{BookState}
+use Rattle.bt_machine.specs.Arrival.{stale}
+use Rattle.bt_machine.proofs.Lists.{set_id}
+use Rattle.bt_state.specs.Parts.{disks_of}
+use Rattle.bt_state.specs.declared.peer.Peer.{Peer}
+use Rattle.bt_state.proofs.Lists.{get_read}
+use Rattle.bt_state.proofs.DeviceCalls.{have_none}
+use Rattle.bt_block_events.proofs.Arrivals.{is_block_of, tied_mid, shaped_mid, keys_mid, arrives_so, pair_missing, tied_still, stale_so}
 use Rattle.bt_block_events.proofs.piece.take_piece.Goals as goal
 
 pub returns-in_default-clause-takes : goal.returns-in_default-clause-takes
-returns-in_default-clause-takes g c = λ s i p f torrent here is is_file same.
-    let none = rw c.in_default.is at c.asked_block.ensures.none in (
-      _,
-      _,
-      no_calls _ _ _ _,
-      takes_stale g.H.NodeHash.digest s i p f c.args.piece c.args.begin c.args.bytes.now c.args.peer.now is c.args.file c.args.tree.now c.args.store.now.states here is_file same
-          (λ b asked. none b (subst (λ (t : Metainfo). IsAskedBlock t c.args.piece c.args.begin (length c.args.bytes.now) c.args.peer.now b) torrent asked)),
-    )
+returns-in_default-clause-takes g c = (
+  _,
+  have_none g.D.Disk.history g.D.Disk.honest g.D.Disk.faults (disks_of c.args.parts.now),
+  λ p at. stale (λ b whole. absurd ((rw c.in_default.is at c.block_of.ensures.none) b whole)) refl refl refl,
+)
+
+pub put_block-requires-clause-tied : goal.put_block-requires-clause-tied
+put_block-requires-clause-tied g c =
+    let old = c.args.parts.now in
+    let p = c.index_mut-peer.result.now in
+    let here = get_read old.peers.items c.args.index p c.requires.there c.index_mut-peer.ensures.value in
+    tied_mid old c.args.index c.in-Some.block c.came.new.self c.saturating_add-peer.result c.requires.tied here c.came.ensures.others (ap (λ (book : BookState). book.wanted) c.came.ensures.now) c.came.ensures.peers
+
+pub put_block-requires-clause-shaped : goal.put_block-requires-clause-shaped
+put_block-requires-clause-shaped g c =
+    let old = c.args.parts.now in
+    let p = c.index_mut-peer.result.now in
+    let here = get_read old.peers.items c.args.index p c.requires.there c.index_mut-peer.ensures.value in
+    shaped_mid old c.args.index c.in-Some.block c.came.new.self c.saturating_add-peer.result c.requires.tied here c.came.ensures.others c.requires.shaped
+
+pub put_block-requires-clause-missing : goal.put_block-requires-clause-missing
+put_block-requires-clause-missing g c =
+    let old = c.args.parts.now in
+    let p = c.index_mut-peer.result.now in
+    let here = get_read old.peers.items c.args.index p c.requires.there c.index_mut-peer.ensures.value in
+    pair_missing old p.key c.in-Some.block c.requires.tied c.keeps_laws.ensures (c.if-not-came.ensures.was.0 refl)
+
+pub put_block-requires-clause-alone : goal.put_block-requires-clause-alone
+put_block-requires-clause-alone g c = c.if-not-came.ensures.free
 
 pub put_block-requires-clause-whole : goal.put_block-requires-clause-whole
 put_block-requires-clause-whole g c =
-    let asked = c.in-Some.ensures.some in
-    is_stored c.args.torrent.now c.args.piece c.args.begin c.args.bytes.now c.in-Some.block c.args.store.now.file_length c.args.file c.requires.of_file asked.whole (c.requires.awaited c.in-Some.block asked).of_file
+    is_block_of c.args.parts.now.torrent c.args.piece c.args.begin c.args.bytes.now c.in-Some.block c.in-Some.ensures.some
 
 pub returns-clause-takes : goal.returns-clause-takes
-returns-clause-takes g c = λ s i p f torrent here is is_file same.
-    let b = c.in-Some.block in
-    let asked = c.in-Some.ensures.some in
-    let of_file = (c.requires.awaited b asked).of_file in
-    let asked_here = subst (λ (t : Metainfo). IsAskedBlock t c.args.piece c.args.begin (length c.args.bytes.now) c.args.peer.now b) (sym torrent) asked in
-    let put = c.put_block.ensures.puts s f (subst (λ (n : ℕ). IsFile s n f c.args.tree.now) (sym of_file) is_file) same in
-    (put.0, _, put.1, takes_asked g.H.NodeHash.digest s i p f c.args.piece c.args.begin c.args.bytes.now c.args.peer.now is c.args.file put.0 c.put_block.result c.put_block.new.store.states c.forget.new.peer b asked_here of_file put.2 c.forget.ensures.asked c.forget.ensures.others)
+returns-clause-takes g c =
+    let old = c.args.parts.now in
+    let p = c.index_mut-peer.result.now in
+    let here = get_read old.peers.items c.args.index p c.requires.there c.index_mut-peer.ensures.value in
+    let puts = c.put_block.ensures.puts in (
+      puts.0,
+      puts.1,
+      λ x at.
+          arrives_so old c.args.index c.in-Some.block c.came.new.self c.saturating_add-peer.result c.requires.tied here c.came.ensures.others g.H.NodeHash.digest c.args.piece c.args.begin c.args.bytes.now
+          puts.0 _ _ x at c.in-Some.ensures.some (c.if-not-came.ensures.was.0 refl) c.came.ensures.asked (omega (arith, c.saturating_add-peer.ensures)) puts.2,
+    )
+
+pub returns-clause-peers : goal.returns-clause-peers
+returns-clause-peers g c =
+    let old = c.args.parts.now in
+    let p = c.index_mut-peer.result.now in
+    let here = get_read old.peers.items c.args.index p c.requires.there c.index_mut-peer.ensures.value in
+    ap (λ (peers : Vec Peer). map (λ (p : Peer). p.key) peers.items) c.put_block.ensures.peers ∙ keys_mid old c.args.index c.in-Some.block c.came.new.self c.saturating_add-peer.result c.requires.tied here c.came.ensures.others
+
+pub returns-clause-len : goal.returns-clause-len
+returns-clause-len g c = ap (λ (peers : Vec Peer). peers.len) c.put_block.ensures.peers
+
+pub returns-then-not-came-clause-takes : goal.returns-then-not-came-clause-takes
+returns-then-not-came-clause-takes g c =
+    let old = c.args.parts.now in
+    let p = c.index_mut-peer.result.now in
+    let here = get_read old.peers.items c.args.index p c.requires.there c.index_mut-peer.ensures.value in (
+      _,
+      have_none g.D.Disk.history g.D.Disk.honest g.D.Disk.faults (disks_of old),
+      λ x at.
+          stale_so old c.args.index c.came.new.self c.requires.tied here c.if-not-came.ensures.kept g.H.NodeHash.digest c.args.piece c.args.begin c.args.bytes.now
+          c.in-Some.block x at (λ d whole. c.block_of.ensures.one d c.in-Some.block whole c.in-Some.ensures.some) (λ pair. absurd (let f = c.if-not-came.ensures.was.1 pair in cc)),
+    )
+
+pub returns-then-not-came-clause-peers : goal.returns-then-not-came-clause-peers
+returns-then-not-came-clause-peers g c =
+    let old = c.args.parts.now in
+    let p = c.index_mut-peer.result.now in
+    let here = get_read old.peers.items c.args.index p c.requires.there c.index_mut-peer.ensures.value in
+    ap (λ (ps : List Peer). map (λ (p : Peer). p.key) ps) (set_id old.peers.items c.args.index here)
+
+pub returns-then-not-came-clause-tied : goal.returns-then-not-came-clause-tied
+returns-then-not-came-clause-tied g c =
+    let old = c.args.parts.now in
+    let p = c.index_mut-peer.result.now in
+    let here = get_read old.peers.items c.args.index p c.requires.there c.index_mut-peer.ensures.value in
+    tied_still old c.args.index c.came.new.self c.requires.tied here c.if-not-came.ensures.kept

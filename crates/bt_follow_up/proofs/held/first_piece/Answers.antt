@@ -2,7 +2,7 @@ use Rattle.std.proofs.Common.{arith, ap, sym, ◌∙◌, ◌≡◌, ◌<◌, ◌
 use Rattle.std.proofs.lemmas.List.{length-map}
 use Rattle.bt_meta.specs.Files.{file_of}
 use Rattle.bt_meta.proofs.PlacePieces.{entry_at}
-use Rattle.bt_follow_up.specs.Held.{IsFirstPiece}
+use Rattle.bt_follow_up.specs.HeldSteps.{IsFirstPiece}
 use Rattle.bt_follow_up.proofs.PieceOrder.{lies_first, range_lies, next_first, none_first}
 use Rattle.bt_follow_up.proofs.held.first_piece.Goals as goal
 

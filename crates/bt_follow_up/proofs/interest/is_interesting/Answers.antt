@@ -1,5 +1,5 @@
 use Rattle.std.proofs.Common.{sym, subst}
-use Rattle.bt_follow_up.specs.Held.{IsNextHeld}
+use Rattle.bt_follow_up.specs.HeldSteps.{IsNextHeld}
 use Rattle.bt_follow_up.proofs.Interests.{interest_is}
 use Rattle.bt_follow_up.proofs.interest.is_interesting.Goals as goal
 

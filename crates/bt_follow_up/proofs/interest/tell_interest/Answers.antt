@@ -1,5 +1,6 @@
 use Rattle.std.proofs.Common.{refl, ap, sym, ◌∙◌}
 use Rattle.bt_machine.proofs.Lists.{some_is}
+use Rattle.bt_machine.proofs.Shape.{map_set}
 use Rattle.bt_state.specs.Parts.{peer_of}
 use Rattle.bt_state.specs.declared.peer.Peer.{Peer}
 use Rattle.bt_state.proofs.Lists.{get_mapped, get_read}
@@ -31,3 +32,10 @@ returns-clause-tied g c =
     let p = c.index_mut-peer.result.now in
     let here = get_read old.peers.items c.args.index p c.requires.there c.index_mut-peer.ensures.value in
     tied_set old c.args.index (record p { am_interested = c.is_interesting-interested.result }) c.requires.tied here refl
+
+pub returns-clause-keys : goal.returns-clause-keys
+returns-clause-keys g c =
+    let peers = c.args.parts.now.peers.items in
+    let p = c.index_mut-peer.result.now in
+    map_set (λ (q : Peer). q.key) peers c.args.index (record p { am_interested = c.is_interesting-interested.result })
+    (get_read peers c.args.index p c.requires.there c.index_mut-peer.ensures.value) refl

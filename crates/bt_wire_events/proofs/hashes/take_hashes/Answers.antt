@@ -1,79 +1,142 @@
-use Rattle.std.proofs.Common.{ℕ, List, [], refl, ap, ◌∙◌, get_or, subst}
-use Rattle.std.proofs.lemmas.Option.{slice_get-get_or}
-use Rattle.std.specs.Prelude.{slice_set}
-use Rattle.bt_machine.proofs.Lists.{set_id}
+use Rattle.std.proofs.Common.{◌≤◌, List, map, ap, sym, ◌∙◌, subst, refl}
+use Rattle.std.proofs.lemmas.List.{with_items_is}
+use Rattle.std.specs.Vec.{with_items, with_item}
+use Rattle.bt_machine.proofs.Shape.{map_set}
 use Rattle.bt_machine.specs.declared.answer.Note.{Note}
-use Rattle.bt_wire_events.specs.Runs.{SettlesSlots}
-use Rattle.bt_machine.specs.declared.answer.Why.TheVariants.{UnknownRoot, Proof}
-use Rattle.bt_wire_events.specs.Learning.{unknown_root, no_claim, refused, TakesHashes}
-use Rattle.bt_wire_events.specs.declared.hashes.Learnt.TheVariants.{Refused, Settled}
-use Rattle.bt_wire_events.proofs.Learnings.{fits_all, if_ok_by, if_err_by, root_at}
-use Rattle.bt_wire_events.proofs.HashesHandled.{takes_so}
+use Rattle.bt_state.proofs.Lists.{get_read}
+use Rattle.bt_state.specs.Ties.{IsTied}
+use Rattle.bt_state.specs.Parts.{state_of}
+use Rattle.bt_state.specs.declared.parts.Parts.{Parts}
+use Rattle.bt_state.specs.declared.peer.Peer.{Peer}
+use Rattle.bt_wire_events.specs.Hashes.{TakesHashes}
+use Rattle.bt_wire_events.specs.HashesSteps.{IsBehind}
+use Rattle.bt_wire_events.proofs.Learnings.{if_err_by}
+use Rattle.bt_wire_events.specs.NoteRooms.{note_count}
+use Rattle.bt_wire_events.specs.declared.learning.Learnt.{Learnt}
+use Rattle.bt_wire_events.specs.declared.learning.Learnt.TheVariants.{Refused, Settled}
+use Rattle.bt_wire_events.proofs.HashEvents.{fits_lent, changes_of, parts_kept, takes_refused, room_of, notes_behind, tied_learnt, takes_learnt}
 use Rattle.bt_wire_events.proofs.hashes.take_hashes.Goals as goal
 
-pub returns-in_default-clause-takes : goal.returns-in_default-clause-takes
-returns-in_default-clause-takes g c =
-    let d = g.D.Disk in
-    takes_so d.history d.honest d.faults g.H.NodeHash.digest c.args.key.now c.args.digests.now c.args.trees.now c.args.slots.now c.args.trees.now c.args.slots.now
-    (Refused UnknownRoot) (unknown_root c.in_default.ensures.none, refl, refl)
+pub learn_hashes-requires-clause-fit : goal.learn_hashes-requires-clause-fit
+learn_hashes-requires-clause-fit g c =
+    fits_lent c.args.parts.now c.deref_mut-2.result.now c.deref_mut.result.now c.deref_mut-2.ensures.value c.deref_mut.ensures.value c.requires.tied
 
-pub returns-in-Err-clause-takes : goal.returns-in-Err-clause-takes
-returns-in-Err-clause-takes g c =
-    let d = g.D.Disk in
-    let has = c.in-Some.ensures.some in
-    if_ok_by (λ learnt. TakesHashes d.history d.honest d.faults g.H.NodeHash.digest c.args.key.now c.args.digests.now c.args.trees.now c.args.slots.now learnt c.args.trees.now c.args.slots.now)
-    c.refusal.result c.refusal.ensures.ok c.refusal.ensures.other
-    (λ memory. takes_so d.history d.honest d.faults g.H.NodeHash.digest c.args.key.now c.args.digests.now c.args.trees.now c.args.slots.now c.args.trees.now c.args.slots.now
-    (Refused (Proof c.in-Err.fault)) (no_claim c.in-Err.fault c.in-Some.index has.0 has.1 memory c.in-Err.ensures.refused, refl, refl))
+pub returns-in_err-why-clause-kept : goal.returns-in_err-why-clause-kept
+returns-in_err-why-clause-kept g c =
+    let old = c.args.parts.now in
+    let n = c.learn_hashes.new in
+    if_err_by c.from_residual.result
+    (parts_kept old n.trees n.slots (c.learn_hashes.auto.trees ∙ c.deref_mut-2.ensures.len) (c.in_err-why.ensures.trees ∙ c.deref_mut-2.ensures.value)
+    (c.learn_hashes.auto.slots ∙ c.deref_mut.ensures.len) (c.in_err-why.ensures.slots ∙ c.deref_mut.ensures.value))
 
-pub returns-in-Err-accept-clause-takes : goal.returns-in-Err-accept-clause-takes
-returns-in-Err-accept-clause-takes g c =
-    let d = g.D.Disk in
-    let x = get_or c.args.trees.now c.in-Some.index c.index-trees-index.result in
-    let trees = c.args.trees.now in
-    let here = slice_get-get_or trees c.in-Some.index c.index-trees-index.result c.in-Some.ensures.inside in
-    let same = ap (λ k. slice_set trees c.in-Some.index k) c.in-Err-accept.ensures.unchanged ∙ set_id trees c.in-Some.index here in
-    if_ok_by (λ learnt. TakesHashes d.history d.honest d.faults g.H.NodeHash.digest c.args.key.now c.args.digests.now trees c.args.slots.now learnt (slice_set trees c.in-Some.index c.accept.new.self) c.args.slots.now)
-    c.refusal-in-Err-accept.result c.refusal-in-Err-accept.ensures.ok c.refusal-in-Err-accept.ensures.other
-    (λ memory. takes_so d.history d.honest d.faults g.H.NodeHash.digest c.args.key.now c.args.digests.now trees c.args.slots.now (slice_set trees c.in-Some.index c.accept.new.self) c.args.slots.now
-    (Refused (Proof c.in-Err-accept.fault))
-    (refused c.in-Err-accept.fault c.in-Some.index x c.in-Ok.claim (root_at trees c.args.key.now.root c.in-Some.index here c.in-Some.ensures.some) memory c.in-Ok.ensures.claim c.in-Err-accept.ensures.refused, same, refl))
+pub returns-in_err-why-clause-tied : goal.returns-in_err-why-clause-tied
+returns-in_err-why-clause-tied g c =
+    let old = c.args.parts.now in
+    let n = c.learn_hashes.new in
+    let same = parts_kept old n.trees n.slots (c.learn_hashes.auto.trees ∙ c.deref_mut-2.ensures.len) (c.in_err-why.ensures.trees ∙ c.deref_mut-2.ensures.value)
+    (c.learn_hashes.auto.slots ∙ c.deref_mut.ensures.len) (c.in_err-why.ensures.slots ∙ c.deref_mut.ensures.value) in
+    subst (λ (x : Parts g.row.D.Denot g.row.H.Denot). IsTied x) (sym same) c.requires.tied
 
-pub returns-in-Err-accept-clause-trees : goal.returns-in-Err-accept-clause-trees
-returns-in-Err-accept-clause-trees g c =
-    let trees = c.args.trees.now in
-    let here = slice_get-get_or trees c.in-Some.index c.index-trees-index.result c.in-Some.ensures.inside in
-    if_err_by c.refusal-in-Err-accept.result (ap (λ k. slice_set trees c.in-Some.index k) c.in-Err-accept.ensures.unchanged ∙ set_id trees c.in-Some.index here)
-
-pub settle_slots-requires-clause-fits : goal.settle_slots-requires-clause-fits
-settle_slots-requires-clause-fits g c =
-    let trees = c.args.trees.now in
-    let here = slice_get-get_or trees c.in-Some.index c.index-trees-index.result c.in-Some.ensures.inside in
-    fits_all trees c.args.slots.now c.in-Some.index (get_or trees c.in-Some.index c.index-trees-index.result) c.accept.new.self c.requires.fit here c.in_default-accept.ensures.ok.joins.file_length
-
-pub returns-clause-takes : goal.returns-clause-takes
-returns-clause-takes g c =
+pub returns-in-Refused-clause-takes : goal.returns-in-Refused-clause-takes
+returns-in-Refused-clause-takes g c =
     let d = g.D.Disk in
     let dig = g.H.NodeHash.digest in
-    let trees = c.args.trees.now in
-    let slots = c.args.slots.now in
+    let old = c.args.parts.now in
+    let n = c.learn_hashes.new in
+    let changes = changes_of d.history d.honest d.faults dig c.args.key.now c.args.digests.now old c.deref_mut-2.result.now c.deref_mut.result.now
+    c.in_ok-why.field-0 (Refused c.in-Refused.why) n.trees n.slots c.deref_mut-2.ensures.value c.deref_mut.ensures.value c.in-Refused.is c.in_ok-why.ensures.changes in
+    let same = parts_kept old n.trees n.slots (c.learn_hashes.auto.trees ∙ c.deref_mut-2.ensures.len) changes.1
+    (c.learn_hashes.auto.slots ∙ c.deref_mut.ensures.len) changes.2 in
+    takes_refused d.history d.honest d.faults dig c.args.key.now c.args.digests.now old
+    (record old { trees = with_items old.trees n.trees; slots = with_items old.slots n.slots }) c.args.index c.in-Refused.why same changes.0
+
+pub returns-in-Refused-clause-tied : goal.returns-in-Refused-clause-tied
+returns-in-Refused-clause-tied g c =
+    let d = g.D.Disk in
+    let old = c.args.parts.now in
+    let n = c.learn_hashes.new in
+    let changes = changes_of d.history d.honest d.faults g.H.NodeHash.digest c.args.key.now c.args.digests.now old c.deref_mut-2.result.now c.deref_mut.result.now
+    c.in_ok-why.field-0 (Refused c.in-Refused.why) n.trees n.slots c.deref_mut-2.ensures.value c.deref_mut.ensures.value c.in-Refused.is c.in_ok-why.ensures.changes in
+    let same = parts_kept old n.trees n.slots (c.learn_hashes.auto.trees ∙ c.deref_mut-2.ensures.len) changes.1
+    (c.learn_hashes.auto.slots ∙ c.deref_mut.ensures.len) changes.2 in
+    subst (λ (x : Parts g.row.D.Denot g.row.H.Denot). IsTied x) (sym same) c.requires.tied
+
+pub follow_notes-requires : goal.follow_notes-requires
+follow_notes-requires g c =
+    let d = g.D.Disk in
+    let dig = g.H.NodeHash.digest in
     let key = c.args.key.now in
-    let index = c.in-Some.index in
-    let new = c.accept.new.self in
-    let notes = c.settle_slots.new.notes.items in
-    let settled = c.settle_slots.new.slots in
-    let here = slice_get-get_or trees index c.index-trees-index.result c.in-Some.ensures.inside in
-    let settles = subst (λ (n : ℕ). SettlesSlots d.history d.honest d.faults dig new index key.index n slots [] notes settled) c.settled_count-count.ensures.value
-    (subst (λ (ns : List Note). SettlesSlots d.history d.honest d.faults dig new index key.index c.settled_count-count.result slots ns notes settled) c.in_ok-notes.ensures.items c.settle_slots.ensures) in
-    takes_so d.history d.honest d.faults dig key c.args.digests.now trees slots (slice_set trees index new) settled (Settled c.settle_slots.new.notes)
-    (record {
-      tree = index;
-      old = get_or trees index c.index-trees-index.result;
-      new = new;
-      claim = c.in-Ok.claim;
-      here = root_at trees key.root index here c.in-Some.ensures.some;
-      claims = c.in-Ok.ensures.claim;
-      accepts = c.in_default-accept.ensures.ok;
-      grows = refl;
-      settles = settles;
-    })
+    let digests = c.args.digests.now in
+    let old = c.args.parts.now in
+    let n = c.learn_hashes.new in
+    let notes = c.in-Settled.notes in
+    let l = changes_of d.history d.honest d.faults dig key digests old c.deref_mut-2.result.now c.deref_mut.result.now
+    c.in_ok-why.field-0 (Settled notes) n.trees n.slots c.deref_mut-2.ensures.value c.deref_mut.ensures.value c.in-Settled.is c.in_ok-why.ensures.changes in
+    let next : Parts g.row.D.Denot g.row.H.Denot = record old { trees = with_items old.trees n.trees; slots = with_items old.slots n.slots } in
+    let p = c.index_mut-peer.result.now in
+    let q : Peer = record p { hash = c.resolved_hash_state-peer.result } in
+    subst (λ (ns : List Note). IsBehind old.book.wanted old.unmarked.items ns (state_of (record next { peers = with_item old.peers c.args.index q }))) (sym c.deref.ensures.value)
+    (notes_behind d.history d.honest d.faults dig key digests old c.requires.tied notes n.trees n.slots l next c.args.index q
+    (get_read old.peers.items c.args.index p c.requires.there c.index_mut-peer.ensures.value) refl
+    (with_items_is old.trees n.trees (c.learn_hashes.auto.trees ∙ c.deref_mut-2.ensures.len))
+    (with_items_is old.slots n.slots (c.learn_hashes.auto.slots ∙ c.deref_mut.ensures.len)) c.requires.shaped)
+
+pub returns-in-Settled-clause-takes : goal.returns-in-Settled-clause-takes
+returns-in-Settled-clause-takes g c =
+    let d = g.D.Disk in
+    let dig = g.H.NodeHash.digest in
+    let key = c.args.key.now in
+    let digests = c.args.digests.now in
+    let old = c.args.parts.now in
+    let n = c.learn_hashes.new in
+    let new = c.follow_notes.new.parts in
+    let notes = c.in-Settled.notes in
+    let l = changes_of d.history d.honest d.faults dig key digests old c.deref_mut-2.result.now c.deref_mut.result.now
+    c.in_ok-why.field-0 (Settled notes) n.trees n.slots c.deref_mut-2.ensures.value c.deref_mut.ensures.value c.in-Settled.is c.in_ok-why.ensures.changes in
+    let next : Parts g.row.D.Denot g.row.H.Denot =
+    record old { trees = with_items old.trees n.trees; slots = with_items old.slots n.slots; book = new.book; unmarked = new.unmarked } in
+    let p = c.index_mut-peer.result.now in
+    let q : Peer = record p { hash = c.resolved_hash_state-peer.result } in
+    subst (λ (x : Parts g.row.D.Denot g.row.H.Denot). TakesHashes d.history d.honest d.faults dig old c.args.index key digests (Settled notes) x) (sym c.follow_notes.ensures.others)
+    (takes_learnt d.history d.honest d.faults dig key digests old c.requires.tied notes n.trees n.slots l next c.args.index q
+    (get_read old.peers.items c.args.index p c.requires.there c.index_mut-peer.ensures.value) refl
+    (with_items_is old.trees n.trees (c.learn_hashes.auto.trees ∙ c.deref_mut-2.ensures.len))
+    (with_items_is old.slots n.slots (c.learn_hashes.auto.slots ∙ c.deref_mut.ensures.len))
+    c.resolved_hash_state-peer.result refl c.resolved_hash_state-peer.ensures c.follow_notes.ensures.asked)
+
+pub returns-in-Settled-clause-few : goal.returns-in-Settled-clause-few
+returns-in-Settled-clause-few g c = λ room enough.
+    subst (λ (learnt : Learnt). note_count learnt ≤ room) c.in-Settled.is
+    (c.in_ok-why.ensures.few room
+    (room_of c.args.parts.now c.deref_mut-2.result.now c.deref_mut.result.now c.args.key.now room c.deref_mut-2.ensures.value c.deref_mut.ensures.value enough))
+
+pub returns-in-Settled-clause-peers : goal.returns-in-Settled-clause-peers
+returns-in-Settled-clause-peers g c =
+    let old = c.args.parts.now in
+    let p = c.index_mut-peer.result.now in
+    let q : Peer = record p { hash = c.resolved_hash_state-peer.result } in
+    ap (λ (x : Parts g.row.D.Denot g.row.H.Denot). map (λ (r : Peer). r.key) x.peers.items) c.follow_notes.ensures.others
+    ∙ map_set (λ (r : Peer). r.key) old.peers.items c.args.index q (get_read old.peers.items c.args.index p c.requires.there c.index_mut-peer.ensures.value) refl
+
+pub returns-in-Settled-clause-tied : goal.returns-in-Settled-clause-tied
+returns-in-Settled-clause-tied g c =
+    let d = g.D.Disk in
+    let dig = g.H.NodeHash.digest in
+    let key = c.args.key.now in
+    let digests = c.args.digests.now in
+    let old = c.args.parts.now in
+    let n = c.learn_hashes.new in
+    let new = c.follow_notes.new.parts in
+    let notes = c.in-Settled.notes in
+    let l = changes_of d.history d.honest d.faults dig key digests old c.deref_mut-2.result.now c.deref_mut.result.now
+    c.in_ok-why.field-0 (Settled notes) n.trees n.slots c.deref_mut-2.ensures.value c.deref_mut.ensures.value c.in-Settled.is c.in_ok-why.ensures.changes in
+    let next : Parts g.row.D.Denot g.row.H.Denot =
+    record old { trees = with_items old.trees n.trees; slots = with_items old.slots n.slots; book = new.book; unmarked = new.unmarked } in
+    let p = c.index_mut-peer.result.now in
+    let q : Peer = record p { hash = c.resolved_hash_state-peer.result } in
+    subst (λ (x : Parts g.row.D.Denot g.row.H.Denot). IsTied x) (sym c.follow_notes.ensures.others)
+    (tied_learnt d.history d.honest d.faults dig key digests old c.requires.tied notes n.trees n.slots l next c.args.index q
+    (get_read old.peers.items c.args.index p c.requires.there c.index_mut-peer.ensures.value) refl
+    (with_items_is old.trees n.trees (c.learn_hashes.auto.trees ∙ c.deref_mut-2.ensures.len))
+    (with_items_is old.slots n.slots (c.learn_hashes.auto.slots ∙ c.deref_mut.ensures.len))
+    c.follow_notes.ensures.peers c.follow_notes.ensures.followed)

@@ -1,6 +1,6 @@
 use Rattle.std.proofs.Common.{◌≡◌, ◌*◌, ◌≤◌, take}
 use Rattle.std.specs.Prelude.{sum_by}
-use Rattle.bt_wire_events.specs.Runs.{slot_room}
+use Rattle.bt_wire_events.specs.NoteRooms.{slot_room}
 use Rattle.bt_wire_events.proofs.runs.room_for.Given as goal
 
 abbrev pub invariant-loop-slot : goal.invariant-loop-slot

@@ -3,7 +3,7 @@ use Rattle.std.specs.Option.{option_map_or}
 use Rattle.bt_tree.specs.Blocks.{block_count}
 use Rattle.bt_store.specs.FileStore.{StoreView}
 use Rattle.bt_store.specs.Review.{waiting_blocks}
-use Rattle.bt_wire_events.specs.Runs.{SettlesSlot}
+use Rattle.bt_wire_events.specs.RunSteps.{SettlesSlot}
 use Rattle.bt_wire_events.proofs.RunSettlings.{slot_kept, of_tree, of_empty, none_past, due_cut, slot_settled}
 use Rattle.bt_wire_events.proofs.runs.settle_slot.Goals as goal
 

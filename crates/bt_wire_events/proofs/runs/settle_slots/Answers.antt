@@ -1,5 +1,6 @@
 use Rattle.std.proofs.Common.{◌<◌, length, arith}
-use Rattle.bt_wire_events.specs.Runs.{FitsLength, slot_room}
+use Rattle.bt_wire_events.specs.RunSteps.{FitsLength}
+use Rattle.bt_wire_events.specs.NoteRooms.{slot_room}
 use Rattle.bt_wire_events.proofs.RunSettlings.{settled_none, settled_more, settled_all, stays_at, all_at, room_at}
 use Rattle.std.proofs.lemmas.Option.{slice_get-get_or}
 use Rattle.bt_wire_events.proofs.runs.settle_slots.Goals as goal
@@ -9,6 +10,7 @@ loop-file-init g c =
     let d = g.D.Disk in
     record {
       settled = settled_none d.history d.honest d.faults g.H.NodeHash.digest c.args.tree.now c.args.index c.args.from c.args.count c.args.slots.now c.args.notes.now.items;
+      few = omega arith;
       room = c.requires.room;
     }
 
@@ -36,11 +38,15 @@ loop-file-preserved g c =
     record {
       settled = settled_more d.history d.honest d.faults g.H.NodeHash.digest c.args.tree.now c.args.index c.args.from c.args.count c.args.slots.now c.args.notes.now.items
           file c.loop-file.notes.items c.settle_slot.new.notes.items now c.settle_slot.new.slot r.0 c.loop-file.invariant.settled (slice_get-get_or now file x lt) r.1 r.2;
+      few = omega (arith, room_at c.args.slots.now now file x (slot_room c.args.index c.args.count) at, c.loop-file.invariant.few, c.settle_slot.ensures.few);
       room = omega (arith, room_at c.args.slots.now now file x (slot_room c.args.index c.args.count) at, c.loop-file.invariant.room, c.settle_slot.ensures.few, c.settle_slot.ensures.capacity);
     }
 
-pub returns : goal.returns
-returns g c =
+pub returns-clause-settles : goal.returns-clause-settles
+returns-clause-settles g c =
     let d = g.D.Disk in
     settled_all d.history d.honest d.faults g.H.NodeHash.digest c.args.tree.now c.args.index c.args.from c.args.count c.args.slots.now c.args.notes.now.items
     c.loop-file.file c.loop-file.notes.items c.loop-file.slots (omega (arith, c.loop-file-test.false, c.loop-file.auto.file-end)) c.loop-file.invariant.settled
+
+pub returns-clause-few : goal.returns-clause-few
+returns-clause-few g c = omega (arith, c.loop-file.invariant.few)

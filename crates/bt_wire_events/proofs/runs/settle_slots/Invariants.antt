@@ -1,7 +1,7 @@
 use Rattle.std.proofs.Common.{◌+◌, ◌≤◌, drop}
 use Rattle.std.specs.Prelude.{sum_by}
 use Rattle.std.specs.Vec.{vec_len, vec_capacity}
-use Rattle.bt_wire_events.specs.Runs.{slot_room}
+use Rattle.bt_wire_events.specs.NoteRooms.{slot_room}
 use Rattle.bt_wire_events.proofs.RunSettlings.{AreSettledTo}
 use Rattle.bt_wire_events.proofs.runs.settle_slots.Given as goal
 
@@ -9,5 +9,6 @@ abbrev pub invariant-loop-file : goal.invariant-loop-file
 invariant-loop-file g l = record {
   settled : AreSettledTo g.D.Disk.history g.D.Disk.honest g.D.Disk.faults g.H.NodeHash.digest l.tree l.index l.from l.count
       l.fn.slots l.fn.notes.items l.file l.notes.items l.slots;
+  few : vec_len l.notes + sum_by (slot_room l.index l.count) (drop l.file l.fn.slots) ≤ vec_len l.fn.notes + sum_by (slot_room l.index l.count) l.fn.slots;
   room : vec_len l.notes + sum_by (slot_room l.index l.count) (drop l.file l.fn.slots) ≤ vec_capacity l.notes;
 }

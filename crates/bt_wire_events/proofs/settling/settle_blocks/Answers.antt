@@ -1,7 +1,7 @@
 use Rattle.std.proofs.Common.{◌≡◌, ◌++◌, ◌∷◌, [], length, map, take, ap, ◌∙◌, arith}
 use Rattle.std.proofs.Math.Seq.{take-length}
 use Rattle.bt_machine.specs.declared.answer.Note.TheVariants.{Device}
-use Rattle.bt_wire_events.specs.Settling.{note_at}
+use Rattle.bt_wire_events.specs.SettlingSteps.{note_at}
 use Rattle.bt_wire_events.proofs.Settlings.{due_few, with_fault, without_fault, blocks_settled}
 use Rattle.bt_wire_events.proofs.settling.settle_blocks.Goals as goal
 

@@ -1,6 +1,6 @@
 use Rattle.std.proofs.Common.{◌≡◌, ◌+◌, ◌≤◌, ◌++◌, map, take}
 use Rattle.std.specs.Vec.{vec_len, vec_capacity}
-use Rattle.bt_wire_events.specs.Settling.{note_at}
+use Rattle.bt_wire_events.specs.SettlingSteps.{note_at}
 use Rattle.bt_wire_events.proofs.settling.settle_blocks.Given as goal
 
 abbrev pub invariant-loop-block : goal.invariant-loop-block

@@ -1,0 +1,29 @@
+-- What a request for a range of a piece does to the parts of an engine.
+use Rattle.std.specs.Prelude.{◌≡◌, ℕ, List, Some, slice_get}
+use Rattle.bt_disk.specs.History.{History}
+use Rattle.bt_wire.specs.declared.message.Ask.{Ask}
+use Rattle.bt_wire.specs.declared.message.Message.TheVariants.{Piece, Request}
+use Rattle.bt_machine.specs.State.{PeerState}
+use Rattle.bt_machine.specs.Devices.{DeviceCalls, HaveCalls}
+use Rattle.bt_machine.specs.Output.{Effect, no_effect, noting, closing, sending}
+use Rattle.bt_machine.specs.WireEvents.{HandlesMessage}
+use Rattle.bt_state.specs.Parts.{state_of, disks_of}
+use Rattle.bt_state.specs.declared.parts.Parts.{Parts}
+use Rattle.bt_block_events.specs.declared.request.Served.{Served}
+use Rattle.bt_block_events.specs.declared.request.Served.TheVariants.{Nothing, Closed, Sent, Found}
+
+-- what the machine does to the peer and notes where a request comes to this
+abbrev pub effect_of : PeerState → Ask → Served → Effect
+effect_of p ask Nothing = no_effect
+effect_of p ask (Closed why) = closing why
+effect_of p ask (Sent bytes) = sending p (Piece ask.piece ask.begin bytes.items)
+effect_of p ask (Found note) = noting note
+
+-- these calls of the devices were made, and by them the machine takes the request of the peer at i, does this
+-- and comes to the new parts
+abbrev pub TakesRequest : {D H : Type 0} → (D → History) → (D → Type 0) → (D → ℕ) → (List ℕ → List ℕ)
+    → Parts D H → ℕ → Ask → Served → Parts D H → Type 0
+TakesRequest history honest faults dig old i ask served new =
+    (calls : DeviceCalls) × HaveCalls history honest faults (disks_of old) calls (disks_of new)
+    × ((p : PeerState) → slice_get (state_of old).peers i ≡ Some p
+    → HandlesMessage dig (state_of old) i p (Request ask) calls (effect_of p ask served) (state_of new))

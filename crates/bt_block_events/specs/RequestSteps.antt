@@ -1,0 +1,41 @@
+-- How a span is read from the store of its file.
+use Rattle.std.specs.Prelude.{ℕ, List}
+use Rattle.bt_disk.specs.History.{History}
+use Rattle.bt_meta.specs.declared.torrent.Span.{Span}
+use Rattle.bt_sparse.specs.SparseTree.{Facts}
+use Rattle.bt_store.specs.FileStore.{StoreView}
+use Rattle.bt_machine.specs.Spans.{spanned_blocks}
+use Rattle.bt_state.specs.declared.slot.Slot.{Slot}
+use Rattle.bt_block_events.specs.SlotSteps.{HasStore, ChangesStore}
+use Rattle.bt_block_events.specs.declared.serving.ReadFault.{ReadFault}
+use Rattle.bt_block_events.specs.ServingSteps.{IsMarkedSpan, SendsSpan, StopAtFault}
+
+-- the blocks of the span are marked in the store of its file
+pub record CanRead {D H : Type 0} (slots : List (Slot D H)) (trees : List Facts) (span : Span) : Type 0 where
+  pub slot : Slot D H
+  pub store : StoreView D
+  pub tree : Facts
+  pub has_store : HasStore slots trees span.file slot store tree
+  pub marked : IsMarkedSpan store.states span
+
+-- they were read there and are right, and these bytes are cut from them
+pub record SendsFromSlot {D H : Type 0} (history : D → History) (honest : D → Type 0) (faults : D → ℕ)
+    (dig : List ℕ → List ℕ) (old : List (Slot D H)) (trees : List Facts) (span : Span) (bytes : List ℕ)
+    (new : List (Slot D H)) : Type 0 where
+  pub before : StoreView D
+  pub after : StoreView D
+  pub tree : Facts
+  pub changes : ChangesStore trees span.file old before after tree new
+  pub marked : IsMarkedSpan before.states span
+  pub sends : SendsSpan history honest faults dig tree span bytes before after
+
+-- they were read there up to the first that is not right
+pub record StopsInSlot {D H : Type 0} (history : D → History) (honest : D → Type 0) (faults : D → ℕ)
+    (dig : List ℕ → List ℕ) (old : List (Slot D H)) (trees : List Facts) (span : Span) (found : ReadFault)
+    (new : List (Slot D H)) : Type 0 where
+  pub before : StoreView D
+  pub after : StoreView D
+  pub tree : Facts
+  pub changes : ChangesStore trees span.file old before after tree new
+  pub marked : IsMarkedSpan before.states span
+  pub stops : StopAtFault history honest faults dig tree (spanned_blocks span) found before after

@@ -1,0 +1,148 @@
+ghost use Rattle.std.specs.Prelude.{◌≡◌, ◌≢◌, ◌*◌, ◌<◌, IfErr, IfOk, Some, length, map, vec_len};
+ghost use Rattle.std.specs.Bool.{OnFalse, OnTrue};
+ghost use Rattle.bt_tree.specs.Limits.{full_block_length};
+ghost use Rattle.bt_machine.specs.Blocks.{state_at};
+ghost use Rattle.bt_machine.specs.Request.{AreMarked};
+ghost use Rattle.bt_machine.specs.Shape.{IsShaped};
+ghost use Rattle.bt_state.specs.Parts.{state_of};
+ghost use Rattle.bt_state.specs.Ties.{IsTied};
+ghost use Rattle.bt_block_events.specs.Request.{TakesRequest};
+ghost use Rattle.bt_block_events.specs.RequestSteps.{CanRead, SendsFromSlot, StopsInSlot};
+ghost use Rattle.bt_block_events.specs.SpansSteps.{IsShortSpan};
+
+use crate::serving::{ReadFault, read_span};
+use crate::spans::{first_block, last_block, place_of};
+use bt_book::BlockId;
+use bt_disk::Disk;
+use bt_machine::{Note, Why};
+use bt_meta::Span;
+use bt_sparse::SparseTree;
+use bt_state::{Parts, Slot, follow_block};
+use bt_store::BlockState;
+use bt_tree::{BLOCK_LEN, NodeHash};
+use bt_wire::Ask;
+use std::alloc::{AllocError, Global};
+
+/// What a request for a range of a piece comes to.
+#[derive(Debug, Drop)]
+pub enum Served {
+    /// It is ignored.
+    Nothing,
+    /// The peer is closed.
+    Closed(Why),
+    /// The bytes of the range are sent.
+    Sent(Vec<u8>),
+    /// A fault is found, and nothing is sent.
+    Found(Note),
+}
+
+/// Serves a request of the peer at `index` for a range of a piece: it is ignored while we choke the peer and
+/// where a block of the range is not marked. Where memory is refused, no block is read and nothing changes.
+pub fn take_request<D: Disk + Drop, H: NodeHash>(
+    alloc: Global,
+    parts: &mut Parts<D, H>,
+    index: usize,
+    ask: Ask,
+) -> Result<Served, AllocError>
+    requires tied { IsTied parts.old }
+    requires shaped { IsShaped parts.old.torrent (state_of parts.old) }
+    requires inside { index < vec_len parts.old.peers }
+    requires there { index < length parts.old.peers.items }
+    ensures takes { IfOk result (λ served.
+        TakesRequest D.history D.honest D.faults H.digest parts.old index ask served parts.new) }
+    ensures kept { IfErr result (λ _. parts.new ≡ parts.old) }
+    ensures torrent { parts.new.torrent ≡ parts.old.torrent }
+    ensures peers { map (λ p. p.key) parts.new.peers.items ≡ map (λ p. p.key) parts.old.peers.items }
+    ensures len { vec_len parts.new.peers ≡ vec_len parts.old.peers }
+    ensures tied { IsTied parts.new }
+{
+    if parts.peers[index].am_choking {
+        return Ok(Served::Nothing);
+    }
+    let Some(span) = place_of(&parts.torrent, ask) else {
+        return Ok(Served::Closed(Why::BadRequest));
+    };
+    if !are_marked(parts, span) {
+        return Ok(Served::Nothing);
+    }
+    // It is made before the first read, so that a refusal leaves all as it was.
+    let room = vec![in alloc; 0; 2 * BLOCK_LEN]?;
+    match read_slot(&mut parts.slots, &parts.trees, span, room) {
+        Ok(bytes) => {
+            let peer = &mut parts.peers[index];
+            peer.payload = peer.payload.saturating_add(span.length as u64);
+            Ok(Served::Sent(bytes))
+        }
+        Err(ReadFault::Damaged(block)) => {
+            let block = BlockId {
+                file: span.file,
+                block,
+            };
+            follow_block(parts, block, BlockState::Marked, BlockState::Missing);
+            Ok(Served::Found(Note::Damaged(block)))
+        }
+        Err(ReadFault::Device) => Ok(Served::Found(Note::Device(span.file))),
+    }
+}
+
+/// Whether all blocks that a span lies in are marked.
+fn are_marked<D: Disk + Drop, H: NodeHash>(parts: &Parts<D, H>, span: Span) -> bool
+    requires { IsShortSpan span }
+    ensures yes { OnTrue result (AreMarked (state_of parts.now) span) }
+    ensures no { OnFalse result (¬ AreMarked (state_of parts.now) span) }
+{
+    let file = span.file;
+    is_marked(
+        parts,
+        BlockId {
+            file,
+            block: first_block(span),
+        },
+    ) && is_marked(
+        parts,
+        BlockId {
+            file,
+            block: last_block(span),
+        },
+    )
+}
+
+/// Whether a block is marked.
+fn is_marked<D: Disk + Drop, H: NodeHash>(parts: &Parts<D, H>, block: BlockId) -> bool
+    ensures yes { OnTrue result (state_at (state_of parts.now) block ≡ Some BlockState.Marked) }
+    ensures no { OnFalse result (state_at (state_of parts.now) block ≢ Some BlockState.Marked) }
+{
+    let slots = parts.slots.as_slice();
+    let Some(slot) = slots.get(block.file as usize) else {
+        return false;
+    };
+    let Some(store) = &slot.store else {
+        return false;
+    };
+    store.state(block.block) == Some(BlockState::Marked)
+}
+
+/// Reads the blocks that a span lies in, all of them marked, and gives the bytes of the span. At the first
+/// block that is not right it stops.
+fn read_slot<D: Disk + Drop, H: NodeHash>(
+    slots: &mut [Slot<D, H>],
+    trees: &[SparseTree<H>],
+    span: Span,
+    room: Vec<u8>,
+) -> Result<Vec<u8>, ReadFault>
+    requires inside { span.file < length slots.old }
+    requires short { IsShortSpan span }
+    requires marked { CanRead slots.old trees.now span }
+    requires room { length room.items ≡ 2 * full_block_length }
+    ensures right { IfOk result (λ bytes. SendsFromSlot D.history D.honest D.faults H.digest slots.old
+        trees.now span bytes.items slots.new) }
+    ensures wrong { IfErr result (λ fault. StopsInSlot D.history D.honest D.faults H.digest slots.old
+        trees.now span fault slots.new) }
+{
+    let slot = &mut slots[span.file as usize];
+    let Some(store) = &mut slot.store else {
+        unreachable!();
+    };
+    let tree = &trees[slot.tree as usize];
+    read_span(store, tree, span, room)
+}

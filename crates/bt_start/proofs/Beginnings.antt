@@ -1,0 +1,245 @@
+-- An engine begins where its parts were bare and the devices are handed out.
+use Rattle.bt_machine.proofs.Base.{[], ◌≡◌, ℕ, zero, suc, ◌+◌, ◌<◌, ◌≤◌, inl, inr, Bool, true, false, List, ◌∷◌, length, map, replicate, Option, Some, None, refl, sym, ap, ◌∙◌, subst, arith, slice_get, option_map, option_map_or, option_and_then, length-map, length-replicate, cases_lt, block_count, File, Metainfo, Facts, BlockId, Missing}
+use Rattle.std.specs.Prelude.{◌↔◌, slice_index_or}
+use Rattle.std.specs.Vec.{with_items}
+use Rattle.std.proofs.lemmas.List.{get_or_past, with_items_is}
+use Rattle.std.proofs.lemmas.Option.{slice_get_past, get_or_from_slice_get}
+use Rattle.bt_store.specs.BlockStates.{is_marked}
+use Rattle.bt_store.specs.FileStore.{StoreView, new_states}
+use Rattle.bt_store.specs.declared.block_states.BlockState.{BlockState}
+use Rattle.bt_book.specs.Blocks.{Blocks, IsInRange, member, of_file}
+use Rattle.bt_book.specs.Book.{PeerRequests}
+use Rattle.bt_meta.specs.Files.{file_of as entry_of}
+use Rattle.bt_meta.specs.declared.torrent.FileEntry.{FileEntry}
+use Rattle.bt_machine.proofs.Lists.{some_is, some_below, get_some, get_map}
+use Rattle.bt_machine.proofs.Shape.{shape_at_first}
+use Rattle.bt_machine.specs.State.{EngineState, FileState, PeerState}
+use Rattle.bt_machine.specs.Blocks.{state_at, is_marked_in}
+use Rattle.bt_machine.specs.Start.{Starts, AreDevicesOf, IsNewFile}
+use Rattle.bt_state.proofs.Lists.{get_mapped}
+use Rattle.bt_state.specs.Parts.{state_of, disks_of, file_of, disk_of, peer_of}
+use Rattle.bt_state.specs.Ties.{FitsFile, FitsTree, IsTied}
+use Rattle.bt_state.specs.declared.peer.Peer.{Peer}
+use Rattle.bt_state.specs.declared.slot.Slot.{Slot}
+use Rattle.bt_state.specs.declared.parts.Parts.{Parts}
+use Rattle.bt_start.specs.BeginningSteps.{AreBareParts}
+use Rattle.bt_start.specs.DeviceSteps.{devices_in, IsNewSlot, AreNewSlots}
+use Rattle.bt_start.specs.TreeSteps.{HasTreeAt}
+use Rattle.bt_start.proofs.Sizes.{sizes_unmarked}
+
+-- ---- a book that wants all blocks, where all blocks are missing
+
+missing_at : (n i : ℕ) → (slice_index_or (replicate n true) i false ≡ true) ↔ (slice_get (replicate n Missing) i ≡ Some Missing)
+missing_at zero zero = (λ e. absurd cc, λ e. absurd cc)
+missing_at zero (suc i) = (λ e. absurd cc, λ e. absurd cc)
+missing_at (suc n) zero = (λ e. refl, λ e. refl)
+missing_at (suc n) (suc i) = missing_at n i
+
+none_marked : (n i : ℕ) → option_map_or is_marked (slice_get (replicate n Missing) i) false ≡ false
+none_marked zero zero = refl
+none_marked zero (suc i) = refl
+none_marked (suc n) zero = refl
+none_marked (suc n) (suc i) = none_marked n i
+
+module _ (s : EngineState) (wanted : Blocks) (files : List File) (is : wanted ≡ map (λ file. replicate (block_count file.length) true) files)
+    (count : length s.files ≡ length files)
+    (missing : (i : ℕ) (file : File) (f : FileState) → slice_get files i ≡ Some file → slice_get s.files i ≡ Some f → f.states ≡ new_states file.length)
+    (b : BlockId) where
+  block_in : b.file < length files → (n : ℕ) × (of_file wanted b.file ≡ replicate n true) × (state_at s b ≡ slice_get (replicate n Missing) b.block)
+  block_in lt =
+      let file = get_some files b.file lt in
+      let f = get_some s.files b.file (omega (arith, count)) in
+      let listed = get_mapped (λ (file : File). replicate (block_count file.length) true) files b.file file.1 in (
+        block_count file.0.length,
+        ap (λ (set : Blocks). of_file set b.file) is
+            ∙ get_or_from_slice_get (map (λ (file : File). replicate (block_count file.length) true) files) b.file (replicate (block_count file.0.length) true) [] listed,
+        ap (λ (o : Option FileState). option_and_then (λ f. slice_get f.states b.block) o) f.1
+            ∙ ap (λ (states : List BlockState). slice_get states b.block) (missing b.file file.0 f.0 file.1 f.1),
+      )
+
+  state_past : length files ≤ b.file → state_at s b ≡ None
+  state_past past =
+      ap (λ (o : Option FileState). option_and_then (λ f. slice_get f.states b.block) o) (slice_get_past s.files b.file (omega (arith, count)))
+
+  wanted_past : length files ≤ b.file → member wanted b ≡ false
+  wanted_past past =
+      let size = ap (λ (set : Blocks). length set) is ∙ length-map files (λ (file : File). replicate (block_count file.length) true) in
+      ap (λ (xs : List Bool). slice_index_or xs b.block false) (get_or_past wanted b.file [] (omega (arith, size))) ∙ get_or_past [] b.block false (omega arith)
+
+  wanted_missing : (member wanted b ≡ true) ↔ (state_at s b ≡ Some Missing)
+  wanted_missing = elim (cases_lt b.file (length files)) [
+    | inl lt ↦ (
+        let own = block_in lt in
+        let both = missing_at own.0 b.block in
+        let bit = ap (λ (xs : List Bool). slice_index_or xs b.block false) own.1 in
+        (λ e. own.2 ∙ both.0 (sym bit ∙ e), λ e. bit ∙ both.1 (sym own.2 ∙ e))
+        )
+    | inr past ↦ (
+        let first = wanted_past past in
+        let second = state_past past in
+        (λ e. absurd cc, λ e. absurd cc)
+        )
+  ]
+
+  known_ranged : (x : BlockState) → state_at s b ≡ Some x → IsInRange wanted b
+  known_ranged x at = elim (cases_lt b.file (length files)) [
+    | inl lt ↦ (
+        let own = block_in lt in
+        let below = some_below (replicate own.0 Missing) b.block (sym own.2 ∙ at) in
+        omega (arith, below, length-replicate own.0 Missing, length-replicate own.0 true, ap (λ (xs : List Bool). length xs) own.1)
+        )
+    | inr past ↦ absurd (let none = state_past past in cc)
+  ]
+
+  not_marked : is_marked_in s b ≡ false
+  not_marked = elim (cases_lt b.file (length files)) [
+    | inl lt ↦ (let own = block_in lt in ap (λ (o : Option BlockState). option_map_or is_marked o false) own.2 ∙ none_marked own.0 b.block)
+    | inr past ↦ ap (λ (o : Option BlockState). option_map_or is_marked o false) (state_past past)
+  ]
+
+-- ---- a slot that has its device
+
+module _ {D H : Type 0} {file : File} {slot : Slot D H} (new : IsNewSlot file slot) where
+  states_new : (file_of slot).states ≡ new_states file.length
+  states_new = elim (cases_lt 0 file.length) [
+    | inl some ↦ (let store = new.some some in ap (λ (o : Option (StoreView D)). option_map_or (λ store. store.states) o []) store.1 ∙ store.3)
+    | inr none ↦ (
+        let empty : file.length ≡ 0 = omega arith in
+        ap (λ (o : Option (StoreView D)). option_map_or (λ store. store.states) o []) (new.empty empty) ∙ sym (ap new_states empty)
+        )
+  ]
+
+  empty_without : slot.store ≡ None → file.length ≡ 0
+  empty_without none = elim (cases_lt 0 file.length) [
+    | inl some ↦ absurd (let store = new.some some in let clash = sym none ∙ store.1 in cc)
+    | inr le ↦ omega arith
+  ]
+
+  has_device : (Some (disk_of slot) ≡ Some None) ↔ (file.length ≡ 0)
+  has_device = (
+    λ e. elim (cases_lt 0 file.length) [
+      | inl some ↦ absurd (
+          let store = new.some some in
+          let disk = ap (λ (o : Option (StoreView D)). option_map (λ store. store.disk) o) store.1 in
+          let clash = sym disk ∙ some_is e in
+          cc
+          )
+      | inr le ↦ omega arith
+    ],
+    λ empty. ap (λ (o : Option (StoreView D)). Some (option_map (λ store. store.disk) o)) (new.empty empty),
+  )
+
+  fits_tree : {trees : List Facts} → HasTreeAt file trees slot.tree → (store : StoreView D) → slot.store ≡ Some store → FitsTree trees slot.tree file store
+  fits_tree has_tree store at = elim (cases_lt 0 file.length) [
+    | inl some ↦ (
+        let own = new.some some in
+        let same : own.0 ≡ store = some_is (sym own.1 ∙ at) in
+        let long = ap (λ (store : StoreView D). store.file_length) (sym same) ∙ own.2 in
+        let k = has_tree some in
+        record { facts = k.0; stands = k.1; same = k.3 ∙ sym long; long = long }
+        )
+    | inr le ↦ absurd (let clash = sym (new.empty (omega arith)) ∙ at in cc)
+  ]
+
+-- ---- the parts
+
+module _ {D H : Type 0} {dig : List ℕ → List ℕ} (bare next : Parts D H) (is : AreBareParts dig bare) (new : AreNewSlots bare.torrent.files next.slots.items)
+    (trees : map (λ slot. slot.tree) next.slots.items ≡ map (λ slot. slot.tree) bare.slots.items) where
+  abbrev begun : Parts D H
+  begun = record bare { slots = next.slots }
+
+  as_many : length next.slots.items ≡ length bare.torrent.files
+  as_many =
+      sym (length-map next.slots.items (λ (slot : Slot D H). slot.tree)) ∙ ap (λ (ts : List ℕ). length ts) trees
+      ∙ length-map bare.slots.items (λ (slot : Slot D H). slot.tree) ∙ is.slots.count
+
+  slot_tree : (i : ℕ) {slot : Slot D H} {file : File} → slice_get next.slots.items i ≡ Some slot → slice_get bare.torrent.files i ≡ Some file
+      → HasTreeAt file bare.trees.items slot.tree
+  slot_tree i {slot} {file} at listed some =
+      let old = get_map (λ (slot : Slot D H). slot.tree) bare.slots.items i
+      (ap (λ (ts : List ℕ). slice_get ts i) (sym trees) ∙ get_mapped (λ (slot : Slot D H). slot.tree) next.slots.items i at) in
+      let k = (is.slots.each i file old.0 listed old.1).has_tree some in
+      (k.0, ap (λ t. slice_get bare.trees.items t) (sym old.2) ∙ k.1, k.2, k.3)
+
+  new_file : (i : ℕ) (file : File) (f : FileState) → slice_get bare.torrent.files i ≡ Some file → slice_get (map file_of next.slots.items) i ≡ Some f
+      → IsNewFile file bare.trees.items f
+  new_file i file f listed at =
+      let slot = get_map file_of next.slots.items i at in
+      subst (λ (f : FileState). IsNewFile file bare.trees.items f) slot.2
+      (record { missing = states_new (new i file slot.0 listed slot.1); has_tree = slot_tree i slot.1 listed })
+
+  begins : Starts dig bare.torrent (state_of begun)
+  begins = record {
+    is_new = record {
+      roots = is.trees.roots;
+      each_tree = is.trees.each;
+      count = length-map next.slots.items file_of ∙ as_many;
+      each_file = new_file;
+    };
+    is = ap (λ (ps : List Peer). record (state_of begun) { peers = map (peer_of bare.book) ps }) is.peers
+        ∙ ap (λ n. record (state_of begun) { peers = []; next_key = n + 1 }) is.first_key ∙ ap (λ n. record (state_of begun) { peers = []; next_key = 1; turn = n }) is.first_turn;
+  }
+
+  are_devices : {given : List D} → devices_in next.slots.items ≡ given → AreDevicesOf bare.torrent.files given (disks_of begun)
+  are_devices in_order = record {
+    count = length-map next.slots.items disk_of ∙ as_many;
+    empty = λ i file listed. (
+        let slot = get_some next.slots.items i (omega (arith, as_many, some_below bare.torrent.files i listed)) in
+        let there = get_mapped disk_of next.slots.items i slot.1 in
+        let both = has_device (new i file slot.0 listed slot.1) in
+        (λ e. both.0 (sym there ∙ e), λ e. there ∙ both.1 e)
+        );
+    in_order = in_order;
+  }
+
+  missing : (i : ℕ) (file : File) (f : FileState) → slice_get bare.torrent.files i ≡ Some file → slice_get (state_of begun).files i ≡ Some f → f.states ≡ new_states file.length
+  missing i file f listed at = (new_file i file f listed at).missing
+
+  tied : IsTied begun
+  tied = record {
+    joined = ap (λ (ps : List Peer). map (λ p. p.key) ps) is.peers ∙ sym (ap (λ (rs : List PeerRequests). map (λ r. r.peer) rs) is.book);
+    in_order = λ i j d lt within. absurd (omega (arith, within, ap (λ (ps : List Peer). length ps) is.peers));
+    room = is.room;
+    wanted = wanted_missing (state_of begun) bare.book.wanted bare.torrent.files is.wanted (length-map next.slots.items file_of ∙ as_many) missing;
+    ranged = known_ranged (state_of begun) bare.book.wanted bare.torrent.files is.wanted (length-map next.slots.items file_of ∙ as_many) missing;
+    count = as_many;
+    each = λ i slot at. (
+        let file = get_some bare.torrent.files i (omega (arith, as_many, some_below next.slots.items i at)) in
+        let own = new i file.0 slot file.1 at in
+        record { file = file.0; listed = file.1; empty = empty_without own; some = fits_tree own (slot_tree i at file.1) }
+        );
+    unmarked = sizes_unmarked (state_of begun) (shape_at_first dig begins) is.lawful.piece is.lawful.laid_out
+        (not_marked (state_of begun) bare.book.wanted bare.torrent.files is.wanted (length-map next.slots.items file_of ∙ as_many) missing) is.sizes;
+  }
+
+-- ---- the same, where the slots were lent and made
+
+pub record HaveBegun {D H : Type 0} (dig : List ℕ → List ℕ) (torrent : Metainfo) (given : List D) (parts : Parts D H) : Type 0 where
+  pub state : Starts dig torrent (state_of parts)
+  pub devices : AreDevicesOf torrent.files given (disks_of parts)
+  pub tied : IsTied parts
+
+pub have_begun : {D H : Type 0} {dig : List ℕ → List ℕ} (bare : Parts D H) (lent made : List (Slot D H)) {files : List File} {torrent : Metainfo} {given : List D}
+    → AreBareParts dig bare → bare.torrent ≡ torrent → files ≡ bare.torrent.files → lent ≡ bare.slots.items → AreNewSlots files made
+    → map (λ slot. slot.tree) made ≡ map (λ slot. slot.tree) lent → devices_in made ≡ given
+    → HaveBegun dig torrent given (record bare { slots = with_items bare.slots made })
+have_begun {D} {H} {dig} bare lent made {files} {torrent} {given} is same listed lends new trees in_order =
+    let Slots : Type 0 = List (Slot D H) in
+    let next : Parts D H = record bare { slots = with_items bare.slots made } in
+    let alike : map (λ slot. slot.tree) made ≡ map (λ slot. slot.tree) bare.slots.items = trees ∙ ap (λ (slots : Slots). map (λ slot. slot.tree) slots) lends in
+    let size : length made ≡ length bare.slots.items = sym (length-map made (λ (slot : Slot D H). slot.tree)) ∙ ap (λ (ts : List ℕ). length ts) alike
+    ∙ length-map bare.slots.items (λ (slot : Slot D H). slot.tree) in
+    let are = with_items_is bare.slots made (size ∙ sym bare.slots.ok.0) in
+    let own = subst (λ (slots : Slots). AreNewSlots bare.torrent.files slots) (sym are) (subst (λ (files : List File). AreNewSlots files made) listed new) in
+    let own_trees = ap (λ (slots : Slots). map (λ slot. slot.tree) slots) are ∙ alike in
+    record {
+      state = subst (λ (torrent : Metainfo). Starts dig torrent (state_of next)) same (begins bare next is own own_trees);
+      devices = subst (λ (torrent : Metainfo). AreDevicesOf torrent.files given (disks_of next)) same
+          (are_devices bare next is own own_trees (ap (λ (slots : Slots). devices_in slots) are ∙ in_order));
+      tied = tied bare next is own own_trees;
+    }
+
+pub counts_wanted : (files : List FileEntry) → map (λ n. replicate n true) (map (λ file. block_count file.length) files)
+    ≡ map (λ file. replicate (block_count file.length) true) (map entry_of files)
+counts_wanted [] = refl
+counts_wanted (file ∷ files) = ap (λ set. replicate (block_count file.length) true ∷ set) (counts_wanted files)

@@ -1,0 +1,5 @@
+pub mod Beginning
+pub mod BeginningSteps
+pub mod DeviceSteps
+pub mod PieceSteps
+pub mod TreeSteps

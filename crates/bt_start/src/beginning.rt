@@ -1,0 +1,93 @@
+ghost use Rattle.std.specs.Prelude.{◌≡◌, IfOk};
+ghost use Rattle.sha2.specs.Sha256.{sha256};
+ghost use Rattle.bt_meta.specs.Torrent.{IsLawful};
+ghost use Rattle.bt_machine.specs.Law.{AreRooted};
+ghost use Rattle.bt_machine.specs.Orderly.{IsOrderly};
+ghost use Rattle.bt_machine.specs.Shape.{IsShaped};
+ghost use Rattle.bt_machine.specs.Sound.{IsSound};
+ghost use Rattle.bt_machine.specs.Start.{AnswersStart};
+ghost use Rattle.bt_state.specs.Parts.{state_of, disks_of};
+ghost use Rattle.bt_state.specs.Ties.{IsTied};
+ghost use Rattle.bt_start.specs.Beginning.{answer_of};
+ghost use Rattle.bt_start.specs.BeginningSteps.{AreBareParts};
+
+use crate::block_counts::block_counts;
+use crate::devices::{device_count, hand_out};
+use crate::new_book::new_book;
+use crate::piece_sizes::piece_sizes;
+use crate::trees::bare_slots;
+use bt_disk::Disk;
+use bt_machine::{StartError, StartRefused};
+use bt_meta::Torrent;
+use bt_state::Parts;
+use bt_tree::NodeHash;
+use std::alloc::{AllocError, Global};
+
+/// How many peers are connected at most.
+const MAX_PEERS: usize = 64;
+
+/// The parts with which an engine of a torrent begins, without a log: all blocks are missing, and no peer is
+/// connected. Each file that has a byte takes one of the devices, in the torrent's order, and no call of them
+/// is made. It takes time in proportion to the files, the pieces and the blocks.
+///
+/// Errors: there is not one device for each file that has a byte, or out of memory. The devices are given back.
+pub fn start<D: Disk + Drop, H: NodeHash>(
+    alloc: Global,
+    torrent: Torrent,
+    hash: H,
+    disks: Vec<D>,
+) -> Result<Parts<D, H>, StartRefused<D>>
+    requires digest { H.digest ≡ sha256 }
+    ensures answer { AnswersStart H.digest torrent disks.items (answer_of result) }
+    ensures tied { IfOk result (λ parts. IsTied parts) }
+    ensures shaped { IfOk result (λ parts. IsShaped torrent (state_of parts)) }
+    ensures orderly { IfOk result (λ parts. IsOrderly (state_of parts)) }
+    ensures rooted { IfOk result (λ parts. AreRooted H.digest (state_of parts)) }
+    ensures sound { IfOk result (λ parts. IsSound D.history D.honest H.digest (state_of parts) (disks_of parts)) }
+{
+    if disks.len() != device_count(torrent.files()) {
+        return Err(StartRefused { disks, cause: StartError::DiskCount });
+    }
+    let Ok(mut parts) = bare_parts(alloc, torrent, hash) else {
+        return Err(StartRefused { disks, cause: StartError::OutOfMemory });
+    };
+    let mut disks = disks;
+    match hand_out(alloc, hash, parts.torrent.files(), &mut parts.slots, &mut disks) {
+        Ok(()) => Ok(parts),
+        Err(AllocError) => Err(StartRefused { disks, cause: StartError::OutOfMemory }),
+    }
+}
+
+/// The parts of an engine that begins, but for the devices. Errors: out of memory.
+fn bare_parts<D: Disk + Drop, H: NodeHash>(
+    alloc: Global,
+    torrent: Torrent,
+    hash: H,
+) -> Result<Parts<D, H>, AllocError>
+    requires digest { H.digest ≡ sha256 }
+    ensures torrent { IfOk result (λ parts. parts.torrent ≡ torrent) }
+    ensures bare { IfOk result (λ parts. AreBareParts H.digest parts) }
+{
+    torrent_is_lawful(&torrent);
+    let (trees, slots) = bare_slots(alloc, hash, &torrent)?;
+    let counts = block_counts(alloc, torrent.files())?;
+    Ok(Parts {
+        trees,
+        slots,
+        unmarked: piece_sizes(alloc, &torrent)?,
+        peers: Vec::with_capacity(alloc, MAX_PEERS)?,
+        book: new_book(alloc, &counts)?,
+        last_key: 0,
+        turn: 0,
+        torrent,
+    })
+}
+
+/// Every torrent is lawful: the clauses of its calls say so. It does nothing when it runs.
+fn torrent_is_lawful(torrent: &Torrent)
+    ensures { IsLawful torrent.now.piece_length torrent.now.files }
+{
+    let _ = torrent.piece_length();
+    let _ = torrent.pieces();
+    let _ = torrent.files();
+}

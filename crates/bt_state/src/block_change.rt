@@ -1,0 +1,82 @@
+ghost use Rattle.std.specs.Prelude.{◌≡◌, ℕ, ◌+◌, ◌-◌, ◌^◌, ◌<◌, ◌≤◌, Some, length, slice_index, slice_set};
+ghost use Rattle.bt_tree.specs.TreeShape.{IsPieceLength};
+ghost use Rattle.bt_meta.specs.Torrent.{total_pieces, IsLaidOut};
+ghost use Rattle.bt_meta.specs.PieceBlocks.{HasBlock};
+ghost use Rattle.bt_book.specs.Book.{asked_of, peers_of};
+ghost use Rattle.bt_machine.specs.State.{EngineState};
+ghost use Rattle.bt_machine.specs.Blocks.{piece_of as piece_in};
+ghost use Rattle.bt_state.specs.BlockChange.{AreFollowed, OneChanged, HasChanged, asked_after};
+ghost use Rattle.bt_state.specs.BlockChangeSteps.{mark_count};
+
+use crate::parts::Parts;
+use bt_book::{BlockId, PeerKey};
+use bt_disk::Disk;
+use bt_meta::Torrent;
+use bt_store::BlockState;
+use bt_tree::NodeHash;
+
+/// Brings the request book and the counts of unmarked blocks in line with one block: in its store, its state
+/// was `was` and is `now`.
+pub fn follow_block<D: Disk + Drop, H: NodeHash>(
+    parts: &mut Parts<D, H>,
+    block: BlockId,
+    was: BlockState,
+    now: BlockState,
+)
+    requires { HasChanged parts.old.torrent parts.old.book.wanted parts.old.unmarked.items block was now }
+    ensures followed { (s t : EngineState) → s.torrent ≡ parts.old.torrent
+        → AreFollowed s parts.old.book.wanted parts.old.unmarked.items → OneChanged s t block was now
+        → AreFollowed t parts.new.book.wanted parts.new.unmarked.items }
+    ensures asked { (key : PeerKey)
+        → asked_of parts.new.book key ≡ asked_after block was now (asked_of parts.old.book key) }
+    ensures peers { peers_of parts.new.book ≡ peers_of parts.old.book }
+    ensures others { parts.new ≡ record parts.old { book = parts.new.book; unmarked = parts.new.unmarked } }
+{
+    keeps_laws(&parts.torrent);
+    parts.book.keeps_laws();
+    let piece = piece_of(&parts.torrent, block);
+    count_block(&mut parts.unmarked, piece, was, now);
+    match now {
+        BlockState::Missing => parts.book.want(block),
+        BlockState::Waiting | BlockState::Marked => parts.book.done(block),
+    }
+}
+
+/// The piece of a block of the torrent.
+fn piece_of(torrent: &Torrent, block: BlockId) -> u32
+    requires { HasBlock torrent.now block.file block.block }
+    ensures lies { piece_in torrent.now block ≡ Some result }
+    ensures inside { result < total_pieces torrent.now }
+{
+    keeps_laws(torrent);
+    let Some(range) = torrent.range_of(block.file, block.block) else {
+        unreachable!();
+    };
+    range.piece
+}
+
+/// What every torrent keeps to. It does nothing when it runs.
+fn keeps_laws(torrent: &Torrent)
+    ensures size { IsPieceLength torrent.now.piece_length }
+    ensures laid_out { IsLaidOut torrent.now.piece_length torrent.now.files }
+{
+    let _ = torrent.piece_length();
+    let _ = torrent.files();
+}
+
+/// Takes a block of a piece out of the count of those that are not marked, or into it.
+fn count_block(unmarked: &mut [u32], piece: u32, was: BlockState, now: BlockState)
+    requires inside { piece < length unmarked.old }
+    requires room { slice_index unmarked.old piece + mark_count was < 2 ^ 32 }
+    requires some { mark_count now ≤ slice_index unmarked.old piece + mark_count was }
+    ensures { unmarked.new ≡ slice_set unmarked.old piece
+        (slice_index unmarked.old piece + mark_count was - mark_count now) }
+{
+    let count = &mut unmarked[piece as usize];
+    if was == BlockState::Marked {
+        *count += 1;
+    }
+    if now == BlockState::Marked {
+        *count -= 1;
+    }
+}
