@@ -4,6 +4,7 @@
 
 mod answers;
 mod bytes;
+mod device;
 mod event;
 mod stage;
 
@@ -11,7 +12,7 @@ use stage::Stage;
 
 fn main(rt: HostRuntime) -> anyhow::Result<()> {
     let alloc = rt.alloc();
-    let mut stage = Stage::new(alloc);
+    let mut stage = Stage::Empty;
     for line in rt.lines(alloc) {
         let line = line?;
         let answer = stage.answer(alloc, line.as_str())?;

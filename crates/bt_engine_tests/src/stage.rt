@@ -14,7 +14,7 @@ pub type TestEngine = Engine<FaultDisk<MemoryDisk>, Lanes>;
 
 /// A torrent whose engine has not begun, and the devices of its files that have a byte.
 #[derive(Drop)]
-struct Beginning {
+pub struct Beginning {
     torrent: Torrent,
     devices: Vec<Device>,
 }
