@@ -55,11 +55,7 @@ fn feed_lines(
     }
 }
 
-fn next_lines(
-    alloc: Global,
-    engine: &mut TestEngine,
-    key: PeerKey,
-) -> Result<String, AllocError> {
+fn next_lines(alloc: Global, engine: &mut TestEngine, key: PeerKey) -> Result<String, AllocError> {
     match engine.next(key) {
         Ok(Some(output)) => {
             let lines = output_lines(alloc, &output)?;
@@ -122,14 +118,13 @@ fn rechoke_lines(alloc: Global, engine: &mut TestEngine) -> Result<String, Alloc
     }
 }
 
-fn adopt_line(
-    alloc: Global,
-    engine: &mut TestEngine,
-    file: &str,
-) -> Result<String, AllocError> {
+fn adopt_line(alloc: Global, engine: &mut TestEngine, file: &str) -> Result<String, AllocError> {
     match engine.adopt(file.parse().unwrap_or(u32::MAX)) {
         Ok(adopted) => {
-            format!(in alloc; "adopted {} of {}, {} faults\n", adopted.marked, adopted.next, adopted.faults)
+            format!(in alloc;
+                "adopted {} of {}, {} faults\n",
+                adopted.marked, adopted.next, adopted.faults
+            )
         }
         Err(error) => format!(in alloc; "refused {error}\n"),
     }
