@@ -11,7 +11,7 @@ use Rattle.bt_machine.proofs.Survival.{images_run}
 use Rattle.bt_machine.proofs.Unmarks.{run_marks_kept}
 use Rattle.bt_machine.proofs.View.{without_devices}
 use Rattle.bt_runs.specs.Promises.{RunsMarkByBytes, SoundFilesArePublished, RunsKeepMarks, RunsKeepImages}
-use Rattle.bt_runs.proofs.Paths.{run_marks}
+use Rattle.bt_runs.proofs.Paths.{sends_on_path, run_marks}
 
 published : (dig : Digest) → IsDigest dig → {file : File} {k : Facts} {bytes : List ℕ} → k.file_length ≡ file.length → k.root ≡ file.root → HasFile dig k bytes
     → IsPublished dig file bytes
@@ -33,7 +33,8 @@ module _ {D : Type 0} (history : D → History) (honest : D → Type 0) (faults 
         run = runs.run;
         marks = run_marks dig old.state.torrent old.state new.state events runs.calls answers shaped rooted plain;
         sends = λ before answer after is key piece begin bytes sent.
-            run_sends dig old.state new.state events runs.calls before answer after (rw (← is) plain) key piece begin bytes sent;
+            sends_on_path dig old.state.torrent events runs.calls before answer after key piece begin bytes shaped rooted
+            (run_sends dig old.state new.state events runs.calls before answer after (rw (← is) plain) key piece begin bytes sent);
       }
 
   pub files_published : IsDigest dig → SoundFilesArePublished history honest dig

@@ -13,12 +13,13 @@ use Rattle.bt_machine.specs.declared.event.Event.{Event}
 use Rattle.bt_machine.specs.declared.event.Answer.{Answer}
 use Rattle.bt_machine.specs.State.{FileState, EngineState, EngineView}
 use Rattle.bt_machine.specs.Devices.{DeviceCalls}
-use Rattle.bt_machine.specs.Blocks.{state_at, tree_of}
+use Rattle.bt_machine.specs.Blocks.{block_id, state_at, tree_of}
 use Rattle.bt_machine.specs.Crash.{IsBlockKept}
 use Rattle.bt_machine.specs.Headline.{IsComplete, IsPublished}
 use Rattle.bt_machine.specs.Law.{AreRooted, IsMarkedBy, IsServed, IsSoAt, brought, read_back, found, sent_by}
 use Rattle.bt_machine.specs.Request.{IsFile}
 use Rattle.bt_machine.specs.Shape.{IsShaped}
+use Rattle.bt_machine.specs.Spans.{spanned_blocks}
 use Rattle.bt_machine.specs.Sound.{IsSound, RunOn}
 use Rattle.bt_machine.specs.View.{RunsTo}
 
@@ -58,15 +59,22 @@ MarksByBytes dig old events calls answers new = (b : BlockId) → state_at new b
 
 -- ---- data
 
--- Each data byte that an answer sends was asked for at that answer's own event, and is cut from blocks that were
--- read in it, each with the digest of its leaf.
+-- A peer asked for these bytes of a piece in this event, and they are cut from blocks that were read in it. The
+-- digest of each block lies on a checked path.
+pub record IsServedOnPath (dig : List ℕ → List ℕ) (s : EngineState) (event : Event) (calls : DeviceCalls)
+    (key : PeerKey) (piece begin : ℕ) (bytes : List ℕ) : Type 0 where
+  pub served : IsServed dig s event calls key piece begin bytes
+  pub paths : (i : ℕ) → Contains (spanned_blocks served.span) i
+      → IsOnCheckedPath dig s (block_id served.span.file i) (served.blocks i)
+
+-- so all data is that an answer sends, at that answer's own event
 abbrev pub SendsReadBytes : (List ℕ → List ℕ) → EngineState → List Event → List DeviceCalls → List Answer
     → EngineState → Type 0
 SendsReadBytes dig old events calls answers new = (before : List Answer) (answer : Answer) (after : List Answer)
     → answers ≡ before ++ answer ∷ after → (key : PeerKey) (piece begin : ℕ) (bytes : List ℕ)
     → Contains (sent_by answer) (key, Message (Piece piece begin bytes))
     → IsSoAt dig old events calls before answer after new
-    (λ s event calls_then next. IsServed dig s event calls_then key piece begin bytes)
+    (λ s event calls_then next. IsServedOnPath dig s event calls_then key piece begin bytes)
 
 -- ---- the run
 
