@@ -169,6 +169,12 @@ module _ {s : EngineState} {key : PeerKey} {i : ℕ} {p : PeerState} (is : IsPee
     gone_of : (new : EngineState) → new ≡ without_peer i t → new ≡ without_peer i s
     gone_of new gone = gone ∙ ap (λ (x : EngineState). without_peer i x) after_of ∙ gone_alike s i (record p { stream = c.rest })
 
+  -- no fault has been shown yet
+  pub has_not_failed : {t : EngineState} → IsOrderly s → IsCut s i (λ was now. IsRefusal was Failed now) t → ⊥
+  has_not_failed orderly c =
+      let failed = (cut_of c).0 in
+      let running = (orderly.each p (contains_some s.peers i is.here)).running in absurd cc
+
   module _ (dig : List ℕ → List ℕ) {t : EngineState} (new : EngineState) where
     -- no event has come whole
     pub waits_so : IsCut s i (λ was now. IsAnswer was None now) t → new ≡ t → StepNext dig s key [] (Ok None) new

@@ -1,40 +1,53 @@
 -- What holds of the parts of an engine holds after an event.
-use Rattle.std.proofs.Common.{[], ◌≡◌, List, ℕ, Option, subst, sym}
+use Rattle.std.proofs.Common.{[], ◌≡◌, List, ℕ, Option, ◌∷◌, Result, Ok, Err, refl, subst, sym}
 use Rattle.bt_disk.specs.History.{History}
+use Rattle.bt_tree.specs.NodeHash.{IsDigest}
 use Rattle.bt_meta.specs.Torrent.{Metainfo}
+use Rattle.bt_machine.specs.declared.error.StartRefused.{StartRefused}
 use Rattle.bt_machine.specs.declared.event.Event.{Event}
-use Rattle.bt_machine.specs.Devices.{DeviceCalls, HaveCalls}
 use Rattle.bt_machine.specs.declared.event.Answer.{Answer}
-use Rattle.bt_machine.specs.Step.{Step}
+use Rattle.bt_machine.specs.Devices.{HaveCalls}
 use Rattle.bt_machine.specs.Shape.{IsShaped}
+use Rattle.bt_machine.specs.Start.{Starts, AnswersStart, starts, other_count, no_memory}
+use Rattle.bt_machine.specs.State.{EngineView}
+use Rattle.bt_machine.specs.Step.{Step}
+use Rattle.bt_machine.specs.View.{StepsTo}
 use Rattle.bt_machine.proofs.Orderly.{order_kept}
 use Rattle.bt_machine.proofs.Shape.{step_shape}
-use Rattle.bt_machine.proofs.Rooted.{step_rooted}
+use Rattle.bt_machine.proofs.Rooted.{step_rooted, run_sparse}
 use Rattle.bt_machine.proofs.Sound.{step_sound}
 use Rattle.bt_state.specs.Parts.{state_of, disks_of}
 use Rattle.bt_state.specs.Ties.{IsTied}
 use Rattle.bt_state.specs.declared.parts.Parts.{Parts}
 use Rattle.bt_state.proofs.DeviceCalls.{have_none}
-use Rattle.bt_engine.specs.Kept.{IsKept}
+use Rattle.bt_engine.specs.Kept.{view_of, IsKept}
 
 module _ {D H : Type 0} (history : D → History) (honest : D → Type 0) (faults : D → ℕ) (dig : List ℕ → List ℕ)
     (old new : Parts D H) (event : Event) (answer : Answer) where
-  pub kept_after : (calls : DeviceCalls) → IsKept history honest dig old
-      → Step dig (state_of old) event calls answer (state_of new)
-      → HaveCalls history honest faults (disks_of old) calls (disks_of new)
-      → new.torrent ≡ old.torrent → IsTied new → IsKept history honest dig new
-  kept_after calls kept step have same tied = record {
-    tied = tied;
-    shaped = subst (λ (t : Metainfo). IsShaped t (state_of new)) (sym same) (step_shape dig event calls answer kept.shaped step);
-    orderly = order_kept dig (state_of old) (state_of new) event calls answer step kept.orderly;
-    rooted = step_rooted dig (state_of old) (state_of new) event calls answer step kept.rooted;
-    sound = step_sound history honest faults dig (state_of old) (state_of new) event calls answer (disks_of old) (disks_of new) step have kept.sound;
+  -- an event that calls no device
+  pub steps_without : Step dig (state_of old) event [] answer (state_of new) → disks_of new ≡ disks_of old
+      → StepsTo history honest faults dig (view_of old) event answer (view_of new)
+  steps_without step devices = record {
+    calls = [];
+    step = step;
+    made = subst (λ (ds : List (Option D)). HaveCalls history honest faults (disks_of old) [] ds) (sym devices) (have_none history honest faults (disks_of old));
   }
 
-  -- where no device is called
-  pub kept_without : IsKept history honest dig old → Step dig (state_of old) event [] answer (state_of new)
-      → disks_of new ≡ disks_of old → new.torrent ≡ old.torrent → IsTied new → IsKept history honest dig new
-  kept_without kept step devices same tied =
-      kept_after [] kept step
-      (subst (λ (ds : List (Option D)). HaveCalls history honest faults (disks_of old) [] ds) (sym devices) (have_none history honest faults (disks_of old)))
-      same tied
+  pub kept_after : IsDigest dig → IsKept history honest dig old → StepsTo history honest faults dig (view_of old) event answer (view_of new)
+      → new.torrent ≡ old.torrent → IsTied new → IsKept history honest dig new
+  kept_after sizes kept s same tied = record {
+    tied = tied;
+    shaped = subst (λ (t : Metainfo). IsShaped t (state_of new)) (sym same) (step_shape dig event s.calls answer kept.shaped s.step);
+    orderly = order_kept dig (state_of old) (state_of new) event s.calls answer s.step kept.orderly;
+    sparse = run_sparse dig sizes (state_of old) (state_of new) (event ∷ []) (s.calls ∷ []) (answer ∷ []) (state_of new, s.step, refl) kept.sparse;
+    rooted = step_rooted dig (state_of old) (state_of new) event s.calls answer s.step kept.rooted;
+    sound = step_sound history honest faults dig (state_of old) (state_of new) event s.calls answer (disks_of old) (disks_of new) s.step s.made kept.sound;
+  }
+
+-- an engine that was started begins as the machine does
+pub begun : {D : Type 0} {dig : List ℕ → List ℕ} {torrent : Metainfo} {given : List D} (engine : EngineView D) → AnswersStart dig torrent given (Ok engine)
+    → Starts dig torrent engine.state
+begun {D = D} {dig = dig} {torrent = torrent} engine (starts other begins devices is) =
+    subst (λ (e : EngineView D). Starts dig torrent e.state) (let same : other ≡ engine = cc in same) begins
+begun engine (other_count refused differ is cause back) = absurd cc
+begun engine (no_memory refused same is cause back) = absurd cc

@@ -59,8 +59,8 @@ effect_of p (Stays reply) proofs = record {
 
 -- the event of the peer at i was handled by these calls of devices
 pub record IsHandled {D H : Type 0} (history : D → History) (honest : D → Type 0) (faults : D → ℕ)
-    (dig : List ℕ → List ℕ) (old : Parts D H) (i : ℕ) (event : WireEvent) (handled : Handled) (new : Parts D H)
-    : Type 0 where
+    (dig : List ℕ → List ℕ) (old : Parts D H) (i : ℕ) (event : WireEvent) (handled : Handled)
+    (new : Parts D H) : Type 0 where
   pub peer : PeerState
   pub calls : DeviceCalls
   pub proofs : List Hint
@@ -73,8 +73,8 @@ pub record IsHandled {D H : Type 0} (history : D → History) (honest : D → Ty
 abbrev pub closed_output : Why → Output
 closed_output why = record { send = []; close = Some why; notes = [] }
 
--- The answer is sent, then haves of what has become whole since an engine, then what follows for the peer. The
--- notes come first, then the files that have become complete since then.
+-- The answer is sent, then haves of what has become whole since an engine, then what follows for the peer.
+-- The notes come first, then the files that have become complete since then.
 abbrev pub FollowsReply : (List ℕ → List ℕ) → EngineState → ℕ → Reply → Output → EngineState → Type 0
 FollowsReply dig handled i reply out new =
     (sent : List Sent) × FollowsUp dig handled i sent new

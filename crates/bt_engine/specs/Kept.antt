@@ -1,6 +1,7 @@
 -- What holds of the parts of every engine.
 use Rattle.std.specs.Prelude.{ℕ, List}
 use Rattle.bt_disk.specs.History.{History}
+use Rattle.bt_machine.specs.Frames.{AreSparseTrees}
 use Rattle.bt_machine.specs.Law.{AreRooted}
 use Rattle.bt_machine.specs.Sound.{IsSound}
 use Rattle.bt_machine.specs.Orderly.{IsOrderly}
@@ -13,12 +14,13 @@ use Rattle.bt_machine.specs.State.{EngineView}
 abbrev pub view_of : {D H : Type 0} → Parts D H → EngineView D
 view_of parts = record { state = state_of parts; disks = disks_of parts }
 
--- They are tied together, they have the torrent's shape, the peers are in order, the trees hang from their
--- roots, and on honest devices the marked blocks are right.
+-- They are tied together, they have the torrent's shape, the peers are in order, the trees are sparse trees
+-- that hang from their roots, and on honest devices the marked blocks are right.
 pub record IsKept {D H : Type 0} (history : D → History) (honest : D → Type 0) (dig : List ℕ → List ℕ)
     (parts : Parts D H) : Type 0 where
   pub tied : IsTied parts
   pub shaped : IsShaped parts.torrent (state_of parts)
   pub orderly : IsOrderly (state_of parts)
+  pub sparse : AreSparseTrees dig (state_of parts)
   pub rooted : AreRooted dig (state_of parts)
   pub sound : IsSound history honest dig (state_of parts) (disks_of parts)

@@ -5,7 +5,8 @@ use Rattle.bt_machine.specs.State.{PeerState, EngineState}
 use Rattle.bt_machine.specs.Blocks.{with_peer}
 
 -- the bytes of the peer at i were cut so, and nothing else changed
-pub record IsCut (s : EngineState) (i : ℕ) (cuts : Stream → Stream → Type 0) (new : EngineState) : Type 0 where
+pub record IsCut (s : EngineState) (i : ℕ) (cuts : Stream → Stream → Type 0) (new : EngineState)
+    : Type 0 where
   pub peer : PeerState
   pub rest : Stream
   pub here : slice_get s.peers i ≡ Some peer

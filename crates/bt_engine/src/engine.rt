@@ -1,25 +1,23 @@
 ghost use Rattle.std.specs.Prelude.{◌≡◌, slice_get};
-ghost use Rattle.sha2.specs.Sha256.{sha256};
 ghost use Rattle.std.specs.Option.{option_and_then, option_copied};
-ghost use Rattle.bt_machine.specs.Report.{report as file_report, all_complete, peer_count};
-ghost use Rattle.bt_machine.specs.Adopting.{StepAdopt};
-ghost use Rattle.bt_machine.specs.Devices.{DeviceCalls, HaveCalls};
-ghost use Rattle.bt_machine.specs.Flush.{StepFlush};
-ghost use Rattle.bt_machine.specs.Next.{StepNext};
-ghost use Rattle.bt_machine.specs.Peers.{StepConnect, StepFeed, StepLost};
-ghost use Rattle.bt_machine.specs.Rechoke.{StepRechoke};
-ghost use Rattle.bt_machine.specs.Start.{AnswersStart};
+ghost use Rattle.sha2.specs.Sha256.{sha256};
+ghost use Rattle.bt_meta.specs.Torrent.{IsLawful};
+ghost use Rattle.bt_machine.specs.Frames.{AreSparseTrees};
 ghost use Rattle.bt_machine.specs.Law.{AreRooted};
 ghost use Rattle.bt_machine.specs.Orderly.{IsOrderly};
+ghost use Rattle.bt_machine.specs.Report.{report as file_report, all_complete, peer_count};
 ghost use Rattle.bt_machine.specs.Shape.{IsShaped};
 ghost use Rattle.bt_machine.specs.Sound.{IsSound};
+ghost use Rattle.bt_machine.specs.Start.{AnswersStart};
+ghost use Rattle.bt_machine.specs.View.{StepsTo};
 
 use crate::greeting::connect;
 use crate::next::next;
 use bt_book::PeerKey;
 use bt_disk::Disk;
 use bt_machine::{
-    AdoptError, ConnectError, EngineError, FileReport, FlushError, Output, StartRefused,
+    AdoptError, Answer, ConnectError, EngineError, Event, FileReport, FlushError, Output,
+    StartRefused,
 };
 use bt_meta::Torrent;
 use bt_state::Parts;
@@ -52,8 +50,8 @@ impl<D: Disk + Drop, H: NodeHash> Model for Engine<D, H> {
 }
 
 impl<D: Disk + Drop, H: NodeHash> Engine<D, H> {
-    /// Starts an engine of a torrent over the devices of its files that have a byte, in the torrent's order. All
-    /// blocks are missing, no peer is connected, and no device is called.
+    /// Starts an engine of a torrent over the devices of its files that have a byte, in the torrent's order.
+    /// All blocks are missing, no peer is connected, and no device is called.
     ///
     /// Errors: there is not one device for each file that has a byte, or out of memory. The devices are given
     /// back.
@@ -66,6 +64,7 @@ impl<D: Disk + Drop, H: NodeHash> Engine<D, H> {
         requires { H.digest ≡ sha256 }
         ensures { AnswersStart H.digest torrent disks.items result }
     {
+        torrent_is_lawful(&torrent);
         match bt_start::start(alloc, torrent, hash, disks) {
             Ok(parts) => Ok(Engine { alloc, parts }),
             Err(refused) => Err(refused),
@@ -75,7 +74,8 @@ impl<D: Disk + Drop, H: NodeHash> Engine<D, H> {
     /// Connects a peer: gives the key by which it is called from then on, and what it is to be sent, our
     /// handshake and our bitfield. A refusal leaves the engine as it was.
     pub fn connect(&mut self) -> Result<(PeerKey, Output), ConnectError>
-        ensures step { StepConnect self.old.state result self.new.state }
+        ensures step { StepsTo D.history D.honest D.faults H.digest
+            self.old Event.Connect (Answer.Connected result) self.new }
         ensures devices { self.new.disks ≡ self.old.disks }
     {
         connect(self.alloc, &mut self.parts)
@@ -83,36 +83,39 @@ impl<D: Disk + Drop, H: NodeHash> Engine<D, H> {
 
     /// Puts bytes behind those of a peer that no event was taken from, all or none.
     pub fn feed(&mut self, peer: PeerKey, bytes: &[u8]) -> Result<(), EngineError>
-        ensures step { StepFeed self.old.state peer bytes.now result self.new.state }
+        ensures step { StepsTo D.history D.honest D.faults H.digest
+            self.old (Event.Feed peer bytes.now) (Answer.Fed result) self.new }
         ensures devices { self.new.disks ≡ self.old.disks }
     {
         bt_state::feed(&mut self.parts, peer, bytes)
     }
 
-    /// Takes the next wire event of a peer, and does what follows from it: what is to be sent, and to whom; why
-    /// the peer is closed, if it is; and what was done. None where no event has come whole.
+    /// Takes the next wire event of a peer, and does what follows from it: what is to be sent, and to whom;
+    /// why the peer is closed, if it is; and what was done. None where no event has come whole.
     ///
-    /// Errors: no peer has the key; out of memory, by which the event is lost and the peer with it, and nothing
-    /// else changes.
+    /// Errors: no peer has the key; out of memory, by which the event is lost and the peer with it, and
+    /// nothing else changes.
     pub fn next(&mut self, peer: PeerKey) -> Result<Option<Output>, EngineError>
-        ensures { (calls : DeviceCalls)
-            × HaveCalls D.history D.honest D.faults self.old.disks calls self.new.disks
-            × StepNext H.digest self.old.state peer calls result self.new.state }
+        ensures { StepsTo D.history D.honest D.faults H.digest
+            self.old (Event.Next peer) (Answer.Stepped result) self.new }
     {
         next(self.alloc, &mut self.parts, peer)
     }
 
     /// Lets a peer go. What it was asked for may be asked of others.
     pub fn lost(&mut self, peer: PeerKey) -> Result<(), EngineError>
-        ensures step { StepLost self.old.state peer result self.new.state }
+        ensures step { StepsTo D.history D.honest D.faults H.digest
+            self.old (Event.Lost peer) (Answer.Lost result) self.new }
         ensures devices { self.new.disks ≡ self.old.disks }
     {
         bt_state::lost(&mut self.parts, peer)
     }
 
-    /// Chooses the peers to serve anew, and gives what is to be sent. Errors: out of memory; nothing changed then.
+    /// Chooses the peers to serve anew, and gives what is to be sent. Errors: out of memory; nothing changed
+    /// then.
     pub fn rechoke(&mut self) -> Result<Output, AllocError>
-        ensures step { StepRechoke H.digest self.old.state result self.new.state }
+        ensures step { StepsTo D.history D.honest D.faults H.digest
+            self.old Event.Rechoke (Answer.Rechoked result) self.new }
         ensures devices { self.new.disks ≡ self.old.disks }
     {
         bt_upkeep::rechoke(self.alloc, &mut self.parts)
@@ -123,18 +126,16 @@ impl<D: Disk + Drop, H: NodeHash> Engine<D, H> {
     ///
     /// Errors: no such file; a peer is connected; out of memory, after which what was taken in stays so.
     pub fn adopt(&mut self, file: u32) -> Result<Adopted, AdoptError>
-        ensures { (calls : DeviceCalls)
-            × HaveCalls D.history D.honest D.faults self.old.disks calls self.new.disks
-            × StepAdopt H.digest self.old.state file calls result self.new.state }
+        ensures { StepsTo D.history D.honest D.faults H.digest
+            self.old (Event.Adopt file) (Answer.Adopted result) self.new }
     {
         bt_adoption::adopt(&mut self.parts, file)
     }
 
     /// Syncs all devices, in the order of files, up to the first that fails.
     pub fn flush(&mut self) -> Result<(), FlushError>
-        ensures { (calls : DeviceCalls)
-            × HaveCalls D.history D.honest D.faults self.old.disks calls self.new.disks
-            × StepFlush self.old.state calls result self.new.state }
+        ensures { StepsTo D.history D.honest D.faults H.digest
+            self.old Event.Flush (Answer.Flushed result) self.new }
     {
         bt_upkeep::flush(&mut self.parts)
     }
@@ -168,15 +169,25 @@ impl<D: Disk + Drop, H: NodeHash> Engine<D, H> {
     }
 
     /// The laws of an engine: it has the torrent's files and the trees of their roots, its peers are in
-    /// order, its trees are rooted, and on honest devices the marked blocks are right. It does nothing when it
-    /// runs.
+    /// order, its trees are rooted and their digests have 32 bytes, and on honest devices the marked blocks
+    /// are right. It does nothing when it runs.
     pub fn keeps_laws(&self)
+        ensures lawful { IsLawful self.now.state.torrent.piece_length self.now.state.torrent.files }
         ensures shaped { IsShaped self.now.state.torrent self.now.state }
         ensures orderly { IsOrderly self.now.state }
         ensures rooted { AreRooted H.digest self.now.state }
+        ensures sparse { AreSparseTrees H.digest self.now.state }
         ensures sound { IsSound D.history D.honest H.digest self.now.state self.now.disks }
     {
-        // A proof knows what holds of an engine only from a step that looks at its fields.
-        let _ = &self.parts;
+        torrent_is_lawful(&self.parts.torrent);
     }
+}
+
+/// Every torrent is lawful: the clauses of its calls say so. It does nothing when it runs.
+fn torrent_is_lawful(torrent: &Torrent)
+    ensures { IsLawful torrent.now.piece_length torrent.now.files }
+{
+    let _ = torrent.piece_length();
+    let _ = torrent.pieces();
+    let _ = torrent.files();
 }

@@ -47,7 +47,8 @@ pub(crate) enum Handled {
     Stays(Reply),
 }
 
-/// Takes an event that came from the peer at `index`, to the end. Errors: out of memory; nothing changed then.
+/// Takes an event that came from the peer at `index`, to the end. Errors: out of memory; nothing changed
+/// then.
 pub(crate) fn take_event<D: Disk + Drop, H: NodeHash>(
     alloc: Global,
     parts: &mut Parts<D, H>,
@@ -111,8 +112,8 @@ pub(crate) fn drop_peer<D: Disk + Drop, H: NodeHash>(parts: &mut Parts<D, H>, in
     let _ = bt_state::lost(parts, key);
 }
 
-/// What follows where the peer at an index stays: it is sent its answer, all are sent haves of the pieces that
-/// have become whole, and then the peer is sent what follows for it.
+/// What follows where the peer at an index stays: it is sent its answer, all are sent haves of the pieces
+/// that have become whole, and then the peer is sent what follows for it.
 fn keep<D: Disk + Drop, H: NodeHash>(
     parts: &mut Parts<D, H>,
     index: usize,
@@ -124,7 +125,8 @@ fn keep<D: Disk + Drop, H: NodeHash>(
     requires inside { index < vec_len parts.old.peers }
     requires there { index < length parts.old.peers.items }
     requires told { (old : EngineState) × TellMarks old (state_of parts.old) (notes_in reply) }
-    requires room { (bound : ℕ) × (reply_count reply ≤ bound) × HasRoom bound (length parts.old.peers.items) room }
+    requires room { (bound : ℕ) × (reply_count reply ≤ bound)
+        × HasRoom bound (length parts.old.peers.items) room }
     ensures follows { FollowsReply H.digest (state_of parts.old) index reply result (state_of parts.new) }
     ensures devices { disks_of parts.new ≡ disks_of parts.old }
     ensures torrent { parts.new.torrent ≡ parts.old.torrent }

@@ -30,7 +30,8 @@ pub(crate) fn announce_pieces<D: Disk + Drop, H: NodeHash>(
     requires tied { IsTied parts.now }
     requires shaped { IsShaped parts.now.torrent (state_of parts.now) }
     requires told { (old : EngineState) × TellMarks old (state_of parts.now) notes.now }
-    requires room { vec_len send.old + length notes.now * length parts.now.peers.items ≤ vec_capacity send.old }
+    requires room { vec_len send.old + length notes.now * length parts.now.peers.items
+        ≤ vec_capacity send.old }
     ensures sent { (old : EngineState) → TellMarks old (state_of parts.now) notes.now
         → send.new.items ≡ send.old.items ++ haves old (state_of parts.now) }
     ensures few { vec_len send.new ≤ vec_len send.old + length notes.now * length parts.now.peers.items }

@@ -52,6 +52,8 @@ pub(crate) fn next<D: Disk + Drop, H: NodeHash>(
                 drop_peer(parts, index);
                 Err(EngineError::OutOfMemory)
             }
+            // The bytes of an orderly peer have shown no fault yet.
+            WireError::Failed => unreachable!(),
             _ => Ok(Some(close(alloc, parts, index, Why::Wire(fault)))),
         },
     }

@@ -8,15 +8,13 @@ ghost use Rattle.bt_engine.specs.RoomSteps.{IsNoteBound, HasRoom};
 
 use bt_book::PeerKey;
 use bt_disk::Disk;
+use bt_follow_up::MAX_FRAMES;
 use bt_machine::{Frame, Note};
 use bt_state::Parts;
 use bt_tree::NodeHash;
 use bt_wire::{Message, WireEvent};
 use bt_wire_events::room_for_notes;
 use std::alloc::{AllocError, Global};
-
-/// How many frames follow an event for its peer at most: our interest, a hash request and 16 requests.
-const FOLLOWING: usize = 18;
 
 /// Lists of what an event sends and notes.
 #[derive(Debug, Drop)]
@@ -40,7 +38,7 @@ pub(crate) fn reserve<D: Disk + Drop, H: NodeHash>(
 {
     let bound = note_bound(parts, event);
     let peers = parts.peers.as_slice().len();
-    let send = Vec::with_capacity(alloc, bound * peers + 1 + FOLLOWING)?;
+    let send = Vec::with_capacity(alloc, bound * peers + 1 + MAX_FRAMES)?;
     let notes = Vec::with_capacity(alloc, 2 * bound)?;
     Ok(Room { send, notes })
 }

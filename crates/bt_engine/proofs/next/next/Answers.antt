@@ -8,7 +8,7 @@ use Rattle.bt_machine.proofs.Orderly.{stream_order}
 use Rattle.bt_follow_up.proofs.FollowUps.{shaped_again}
 use Rattle.bt_state.specs.Parts.{state_of, disks_of}
 use Rattle.bt_state.proofs.Ties.{no_peer_of, peer_at}
-use Rattle.bt_engine.proofs.Events.{waits_so, goes_so, drops_event, drops_unread, faulty_so}
+use Rattle.bt_engine.proofs.Events.{waits_so, goes_so, drops_event, drops_unread, has_not_failed, faulty_so}
 use Rattle.bt_engine.proofs.Handled.{no_calls}
 use Rattle.bt_engine.proofs.next.next.Goals as goal
 
@@ -65,6 +65,11 @@ returns-in-OutOfMemory-clause-step g c =
       drops_unread (peer_at c.args.parts.now c.in-Some.ensures.some) g.H.NodeHash.digest (state_of c.drop_peer-in-OutOfMemory.new.parts) refused
           c.drop_peer-in-OutOfMemory.ensures.gone,
     )
+
+pub unreachable-requires : goal.unreachable-requires
+unreachable-requires g c =
+    let refused = rw c.in-Failed.is at c.in-Err.ensures.refused in
+    has_not_failed (peer_at c.args.parts.now c.in-Some.ensures.some) c.requires.orderly refused
 
 pub returns : goal.returns
 returns g c = record {

@@ -1,10 +1,18 @@
 use Rattle.std.proofs.Common.{refl}
 use Rattle.bt_machine.specs.declared.event.Event.TheVariants.{Feed}
 use Rattle.bt_machine.specs.declared.event.Answer.TheVariants.{Fed}
-use Rattle.bt_engine.proofs.Keeping.{kept_without}
+use Rattle.bt_engine.proofs.Keeping.{steps_without, kept_after}
 use Rattle.bt_engine.proofs.engine.Engine.feed.Goals as goal
 
 pub invariant_of-self : goal.invariant_of-self
 invariant_of-self g c =
-    kept_without g.D.Disk.history g.D.Disk.honest g.D.Disk.faults g.H.NodeHash.digest c.self.inside.parts c.feed.new.parts (Feed c.args.peer c.args.bytes.now) (Fed c.feed.result)
-    c.self.invariant (c.feed.result, refl, refl, c.feed.ensures.step) c.feed.ensures.devices c.feed.ensures.torrent c.feed.ensures.tied
+    kept_after g.D.Disk.history g.D.Disk.honest g.D.Disk.faults g.H.NodeHash.digest c.self.inside.parts c.feed.new.parts (Feed c.args.peer c.args.bytes.now) (Fed c.feed.result)
+    g.met.H.NodeHash.has_32_bytes c.self.invariant
+    (steps_without g.D.Disk.history g.D.Disk.honest g.D.Disk.faults g.H.NodeHash.digest c.self.inside.parts c.feed.new.parts (Feed c.args.peer c.args.bytes.now) (Fed c.feed.result)
+    (c.feed.result, refl, refl, c.feed.ensures.step) c.feed.ensures.devices)
+    c.feed.ensures.torrent c.feed.ensures.tied
+
+pub returns-clause-step : goal.returns-clause-step
+returns-clause-step g c = rw (← c.self.view_is) (
+    steps_without g.D.Disk.history g.D.Disk.honest g.D.Disk.faults g.H.NodeHash.digest c.self.inside.parts c.feed.new.parts (Feed c.args.peer c.args.bytes.now) (Fed c.feed.result)
+    (c.feed.result, refl, refl, c.feed.ensures.step) c.feed.ensures.devices)

@@ -8,7 +8,8 @@ pub invariant_of-self : goal.invariant_of-self
 invariant_of-self g c =
     let step = c.next.ensures.step in
     kept_after g.D.Disk.history g.D.Disk.honest g.D.Disk.faults g.H.NodeHash.digest c.self.inside.parts c.next.new.parts (Next c.args.peer) (Stepped c.next.result)
-    step.0 c.self.invariant (c.next.result, refl, step.2) step.1 c.next.ensures.torrent c.next.ensures.tied
+    g.met.H.NodeHash.has_32_bytes c.self.invariant (record { calls = step.0; step = (c.next.result, refl, step.2); made = step.1 })
+    c.next.ensures.torrent c.next.ensures.tied
 
 pub returns : goal.returns
-returns g c = rw (← c.self.view_is) c.next.ensures.step
+returns g c = (let step = c.next.ensures.step in rw (← c.self.view_is) (record { calls = step.0; step = (c.next.result, refl, step.2); made = step.1 }))
