@@ -16,12 +16,10 @@ use Rattle.bt_machine.specs.Devices.{DeviceCalls}
 use Rattle.bt_machine.specs.Blocks.{block_id, state_at, tree_of}
 use Rattle.bt_machine.specs.Crash.{IsBlockKept}
 use Rattle.bt_machine.specs.Headline.{IsComplete, IsPublished}
-use Rattle.bt_machine.specs.Law.{AreRooted, IsMarkedBy, IsServed, IsSoAt, brought, read_back, found, sent_by}
+use Rattle.bt_machine.specs.Law.{IsMarkedBy, IsServed, IsSoAt, brought, read_back, found, sent_by}
 use Rattle.bt_machine.specs.Request.{IsFile}
-use Rattle.bt_machine.specs.Shape.{IsShaped}
 use Rattle.bt_machine.specs.Spans.{spanned_blocks}
-use Rattle.bt_machine.specs.Sound.{IsSound, RunOn}
-use Rattle.bt_machine.specs.View.{RunsTo}
+use Rattle.bt_machine.specs.Sound.{RunOn}
 
 -- ---- marks
 
@@ -39,8 +37,8 @@ pub record IsOnCheckedPath (dig : List ℕ → List ℕ) (s : EngineState) (b : 
     pub has_tree : tree_of s b.file ≡ Some tree
     pub path : IsChecked dig tree 0 b.block (dig bytes)
 
--- The block became marked at one of the events of a run, by bytes of that event, whose digest lies on a checked
--- path in the tree that the engine has after the event.
+-- The block became marked at one of the events of a run, by bytes of that event, whose digest lies on a
+-- checked path in the tree that the engine has after the event.
 pub record IsMarkedOnPath (dig : List ℕ → List ℕ) (first : EngineState) (events : List Event)
     (calls : List DeviceCalls) (answers : List Answer) (last : EngineState) (b : BlockId) : Type 0 where
   pub before : List Answer
@@ -59,8 +57,8 @@ MarksByBytes dig old events calls answers new = (b : BlockId) → state_at new b
 
 -- ---- data
 
--- A peer asked for these bytes of a piece in this event, and they are cut from blocks that were read in it. The
--- digest of each block lies on a checked path.
+-- A peer asked for these bytes of a piece in this event, and they are cut from blocks that were read in it.
+-- The digest of each block lies on a checked path.
 pub record IsServedOnPath (dig : List ℕ → List ℕ) (s : EngineState) (event : Event) (calls : DeviceCalls)
     (key : PeerKey) (piece begin : ℕ) (bytes : List ℕ) : Type 0 where
   pub served : IsServed dig s event calls key piece begin bytes
@@ -70,19 +68,22 @@ pub record IsServedOnPath (dig : List ℕ → List ℕ) (s : EngineState) (event
 -- so all data is that an answer sends, at that answer's own event
 abbrev pub SendsReadBytes : (List ℕ → List ℕ) → EngineState → List Event → List DeviceCalls → List Answer
     → EngineState → Type 0
-SendsReadBytes dig old events calls answers new = (before : List Answer) (answer : Answer) (after : List Answer)
-    → answers ≡ before ++ answer ∷ after → (key : PeerKey) (piece begin : ℕ) (bytes : List ℕ)
+SendsReadBytes dig old events calls answers new =
+    (before : List Answer) (answer : Answer) (after : List Answer) → answers ≡ before ++ answer ∷ after → (key : PeerKey) (piece begin : ℕ) (bytes : List ℕ)
     → Contains (sent_by answer) (key, Message (Piece piece begin bytes))
     → IsSoAt dig old events calls before answer after new
     (λ s event calls_then next. IsServedOnPath dig s event calls_then key piece begin bytes)
 
 -- ---- the run
 
--- The events led from one engine to the other with these answers, as the machine's steps do, by calls that were
--- made of the devices; and by the bytes of these calls and of the peers it marks and serves.
-pub record RunsByBytes
-    {D : Type 0} (history : D → History) (honest : D → Type 0) (faults : D → ℕ) (dig : List ℕ → List ℕ)
-    (old : EngineView D) (events : List Event) (answers : List Answer) (new : EngineView D) : Type 0 where
+-- The events led from one engine to the other, as the machine's steps do, by calls that were made of the
+-- devices, and their answers stand behind those before. By the bytes of these calls and of the peers blocks
+-- are marked and data is sent.
+pub record RunsByBytes {D : Type 0} (history : D → History) (honest : D → Type 0) (faults : D → ℕ)
+    (dig : List ℕ → List ℕ) (old : EngineView D) (events : List Event) (before after : List Answer)
+    (new : EngineView D) : Type 0 where
+  pub answers : List Answer
+  pub behind : after ≡ before ++ answers
   pub calls : List DeviceCalls
   pub run : RunOn history honest faults dig old.state old.disks events calls answers new.state new.disks
   pub marks : MarksByBytes dig old.state events calls answers new.state
@@ -90,8 +91,8 @@ pub record RunsByBytes
 
 -- ---- files and devices
 
--- Each file that is complete, on an honest device, has the torrent's length and root; so it equals each file of
--- that length and root, or at one place of their trees two different inputs have one digest.
+-- Each file that is complete, on an honest device, has the torrent's length and root; so it equals each file
+-- of that length and root, or at one place of their trees two different inputs have one digest.
 abbrev pub ArePublished : {D : Type 0} → (D → History) → (D → Type 0) → (List ℕ → List ℕ) → EngineView D
     → Type 0
 ArePublished {D} history honest dig s = (number : ℕ) (file : File) (d : D)
@@ -103,34 +104,11 @@ abbrev pub KeepsMarks : {D : Type 0} → (D → Type 0) → EngineView D → Eng
 KeepsMarks {D} honest old new = (b : BlockId) (d : D) → slice_get new.disks b.file ≡ Some (Some d)
     → honest d → state_at old.state b ≡ Some Marked → state_at new.state b ≡ Some Marked
 
--- What every image of an honest device since a moment has of a marked block, every image goes on to have, also
--- those that a crash within an event leaves.
+-- What every image of an honest device since a moment has of a marked block, every image goes on to have,
+-- also those that a crash within an event leaves.
 abbrev pub KeepsImages : {D : Type 0} → (D → History) → (D → Type 0) → EngineView D → EngineView D → Type 0
-KeepsImages {D} history honest old new = (file i moment : ℕ) (f : FileState) (k : Facts) (bytes : List ℕ) (d : D)
-    → IsFile old.state file f k → slice_get f.states i ≡ Some Marked
+KeepsImages {D} history honest old new =
+    (file i moment : ℕ) (f : FileState) (k : Facts) (bytes : List ℕ) (d : D) → IsFile old.state file f k → slice_get f.states i ≡ Some Marked
     → length bytes ≡ block_length k.file_length i → slice_get new.disks file ≡ Some (Some d) → honest d
     → ((was : D) → slice_get old.disks file ≡ Some (Some was) → IsBlockKept (history was) moment i bytes)
     → IsBlockKept (history d) moment i bytes
-
--- ---- laws
-
--- It is so of every list of events of an engine that has its torrent's files and rooted trees.
-abbrev pub RunsMarkByBytes : {D : Type 0} → (D → History) → (D → Type 0) → (D → ℕ) → (List ℕ → List ℕ) → Type 0
-RunsMarkByBytes {D} history honest faults dig = (old new : EngineView D) (events : List Event)
-    (answers : List Answer) → IsShaped old.state.torrent old.state → AreRooted dig old.state
-    → RunsTo history honest faults dig old events answers new
-    → RunsByBytes history honest faults dig old events answers new
-
-abbrev pub SoundFilesArePublished : {D : Type 0} → (D → History) → (D → Type 0) → (List ℕ → List ℕ) → Type 0
-SoundFilesArePublished {D} history honest dig = (s : EngineView D) → IsShaped s.state.torrent s.state
-    → AreRooted dig s.state → IsSound history honest dig s.state s.disks → ArePublished history honest dig s
-
-abbrev pub RunsKeepMarks : {D : Type 0} → (D → History) → (D → Type 0) → (D → ℕ) → (List ℕ → List ℕ) → Type 0
-RunsKeepMarks {D} history honest faults dig = (old new : EngineView D) (events : List Event)
-    (answers : List Answer) → IsSound history honest dig old.state old.disks
-    → RunsTo history honest faults dig old events answers new → KeepsMarks honest old new
-
-abbrev pub RunsKeepImages : {D : Type 0} → (D → History) → (D → Type 0) → (D → ℕ) → (List ℕ → List ℕ) → Type 0
-RunsKeepImages {D} history honest faults dig = (old new : EngineView D) (events : List Event)
-    (answers : List Answer) → IsSound history honest dig old.state old.disks
-    → RunsTo history honest faults dig old events answers new → KeepsImages history honest old new

@@ -1,6 +1,6 @@
-//! What is promised of every list of events of an engine, whatever peers send and devices answer.
+//! Lists of events of an engine, and what is promised of every one of them.
 #![tactic(auto)]
 
 mod promises;
 
-pub use promises::runs_keep_promises;
+pub use promises::run_as_promised;
