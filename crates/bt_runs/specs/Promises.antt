@@ -69,7 +69,8 @@ pub record IsServedOnPath (dig : List ℕ → List ℕ) (s : EngineState) (event
 abbrev pub SendsReadBytes : (List ℕ → List ℕ) → EngineState → List Event → List DeviceCalls → List Answer
     → EngineState → Type 0
 SendsReadBytes dig old events calls answers new =
-    (before : List Answer) (answer : Answer) (after : List Answer) → answers ≡ before ++ answer ∷ after → (key : PeerKey) (piece begin : ℕ) (bytes : List ℕ)
+    (before : List Answer) (answer : Answer) (after : List Answer)
+    → answers ≡ before ++ answer ∷ after → (key : PeerKey) (piece begin : ℕ) (bytes : List ℕ)
     → Contains (sent_by answer) (key, Message (Piece piece begin bytes))
     → IsSoAt dig old events calls before answer after new
     (λ s event calls_then next. IsServedOnPath dig s event calls_then key piece begin bytes)
@@ -108,7 +109,8 @@ KeepsMarks {D} honest old new = (b : BlockId) (d : D) → slice_get new.disks b.
 -- also those that a crash within an event leaves.
 abbrev pub KeepsImages : {D : Type 0} → (D → History) → (D → Type 0) → EngineView D → EngineView D → Type 0
 KeepsImages {D} history honest old new =
-    (file i moment : ℕ) (f : FileState) (k : Facts) (bytes : List ℕ) (d : D) → IsFile old.state file f k → slice_get f.states i ≡ Some Marked
+    (file i moment : ℕ) (f : FileState) (k : Facts) (bytes : List ℕ) (d : D)
+    → IsFile old.state file f k → slice_get f.states i ≡ Some Marked
     → length bytes ≡ block_length k.file_length i → slice_get new.disks file ≡ Some (Some d) → honest d
     → ((was : D) → slice_get old.disks file ≡ Some (Some was) → IsBlockKept (history was) moment i bytes)
     → IsBlockKept (history d) moment i bytes
