@@ -19,12 +19,9 @@ use crate::trees::bare_slots;
 use bt_disk::Disk;
 use bt_machine::{StartError, StartRefused};
 use bt_meta::Torrent;
-use bt_state::Parts;
+use bt_state::{MAX_PEERS, Parts};
 use bt_tree::NodeHash;
 use std::alloc::{AllocError, Global};
-
-/// How many peers are connected at most.
-const MAX_PEERS: usize = 64;
 
 /// The parts with which an engine of a torrent begins, without a log: all blocks are missing, and no peer is
 /// connected. Each file that has a byte takes one of the devices, in the torrent's order, and no call of them

@@ -19,7 +19,7 @@ use bt_wire::{Bytes, Cutter};
 use std::alloc::Global;
 
 /// How many peers are connected at most.
-const MAX_PEERS: usize = 64;
+pub const MAX_PEERS: usize = 64;
 
 /// Connects a peer, and gives its key and the bitfield that it is to be sent.
 pub fn connect<D: Disk + Drop, H: NodeHash>(

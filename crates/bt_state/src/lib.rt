@@ -14,7 +14,7 @@ mod reports;
 mod slot;
 
 pub use block_change::follow_block;
-pub use connection::connect;
+pub use connection::{MAX_PEERS, connect};
 pub use parts::Parts;
 pub use peer::Peer;
 pub use peers::{feed, index_of, lost};

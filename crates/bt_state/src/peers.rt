@@ -1,4 +1,5 @@
 ghost use Rattle.std.specs.Prelude.{◌≡◌, ◌<◌, IfSome, IfNone, length, vec_len};
+ghost use Rattle.bt_machine.specs.Orderly.{IsOrderly};
 ghost use Rattle.bt_machine.specs.Peers.{StepFeed, StepLost};
 ghost use Rattle.bt_state.specs.Parts.{state_of, disks_of, IsPeerAt, LacksPeer};
 ghost use Rattle.bt_state.specs.Ties.{IsTied};
@@ -8,6 +9,7 @@ use bt_book::PeerKey;
 use bt_disk::Disk;
 use bt_machine::EngineError;
 use bt_tree::NodeHash;
+use bt_wire::WireError;
 
 /// Where the peer of a key stands, if it stands.
 pub fn index_of<D: Disk + Drop, H: NodeHash>(parts: &Parts<D, H>, key: PeerKey) -> Option<usize>
@@ -29,7 +31,8 @@ pub fn feed<D: Disk + Drop, H: NodeHash>(
     key: PeerKey,
     bytes: &[u8],
 ) -> Result<(), EngineError>
-    requires { IsTied parts.old }
+    requires tied { IsTied parts.old }
+    requires orderly { IsOrderly (state_of parts.old) }
     ensures step { StepFeed (state_of parts.old) key bytes.now result (state_of parts.new) }
     ensures devices { disks_of parts.new ≡ disks_of parts.old }
     ensures torrent { parts.new.torrent ≡ parts.old.torrent }
@@ -39,10 +42,14 @@ pub fn feed<D: Disk + Drop, H: NodeHash>(
         return Err(EngineError::NoPeer);
     };
     let peer = &mut parts.peers[index];
-    if let Err(_) = peer.cutter.feed(bytes) {
-        return Err(EngineError::OutOfMemory);
+    match peer.cutter.feed(bytes) {
+        Ok(()) => Ok(()),
+        Err(WireError::OutOfMemory) => Err(EngineError::OutOfMemory),
+        // a peer whose stream showed a fault has gone
+        Err(WireError::Failed) => unreachable!(),
+        // the bytes are looked at when an event is taken
+        Err(WireError::BadProtocol | WireError::TooLong | WireError::BadLength) => unreachable!(),
     }
-    Ok(())
 }
 
 /// Lets a peer go. What it was asked for may be asked of others.

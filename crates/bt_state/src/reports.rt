@@ -80,9 +80,7 @@ pub fn disk<D: Disk + Drop, H: NodeHash>(parts: &Parts<D, H>, file: u32) -> Opti
     ensures { option_copied result ≡ option_and_then (λ disk. disk) (slice_get (disks_of parts.now) file) }
 {
     let slots = parts.slots.as_slice();
-    let Some(slot) = slots.get(file as usize) else {
-        return None;
-    };
+    let slot = slots.get(file as usize)?;
     match &slot.store {
         Some(store) => Some(store.disk()),
         None => None,

@@ -1,0 +1,31 @@
+#!/usr/bin/env python3
+"""Times the events of an engine: each kind of message at files of 2^10, 2^16 and 2^22 blocks, whose time is not to grow with the file
+(a bitfield's does), and the fetch of a file of 1 GiB into a device in memory, of which the events' own time is told by kind.
+
+    python3 bench/engine.py [FOLDER]
+
+The program `bench/engine/main.rt.in` is proved and built beside copies of the crates that it stands on in FOLDER (a new temporary
+folder by default), which takes some minutes; it then runs once.
+"""
+
+import pathlib
+import subprocess
+import sys
+import tempfile
+
+from measure import built
+
+CRATES = ["bt_engine", "bt_machine", "bt_meta", "bt_wire", "bt_hashreq", "bt_disk", "bt_lanes", "bt_tree"]
+
+
+def main():
+    folder = pathlib.Path(sys.argv[1] if len(sys.argv) > 1 else tempfile.mkdtemp())
+    folder.mkdir(parents=True, exist_ok=True)
+    told = subprocess.run([built(folder, "engine", CRATES)], check=True, capture_output=True, text=True).stdout
+    for line in told.splitlines():
+        *what, blocks, count, nanoseconds = line.split()
+        print(f"{' '.join(what):14} of {int(blocks):8} blocks: {int(nanoseconds) / int(count) / 1000:12.2f} us, {count} times")
+
+
+if __name__ == "__main__":
+    main()
