@@ -1,0 +1,6 @@
+//! Lists of events of an engine, and what is promised of every one of them.
+#![tactic(auto)]
+
+mod promises;
+
+pub use promises::run_as_promised;

@@ -1,0 +1,32 @@
+//! What is promised of lists of events.
+ghost use Rattle.std.specs.Prelude.{◌≡◌, OnOk, OnErr};
+ghost use Rattle.bt_runs.specs.Promises.{RunsByBytes, ArePublished, KeepsMarks, KeepsImages};
+
+use bt_disk::Disk;
+use bt_engine::{Engine, run_events};
+use bt_machine::{Answer, Event};
+use bt_tree::NodeHash;
+use std::alloc::AllocError;
+
+/// Lets the events happen to the engine, one after the other, and puts the answer of each behind those that
+/// are there, as `run_events` does. Its contract says what is promised of that, whatever peers send and
+/// devices answer. Errors: there is no memory for so many answers, and then no event happened.
+pub fn run_as_promised<D: Disk + Drop, H: NodeHash>(
+    engine: &mut Engine<D, H>,
+    events: &[Event],
+    answers: &mut Vec<Answer>,
+) -> Result<(), AllocError>
+    ensures run { OnOk result (RunsByBytes D.history D.honest D.faults H.digest engine.old events.now
+        answers.old.items answers.new.items engine.new) }
+    ensures kept { OnErr result (engine.new ≡ engine.old) }
+    ensures unanswered { OnErr result (answers.new.items ≡ answers.old.items) }
+    ensures published { ArePublished D.history D.honest H.digest engine.new }
+    ensures marks { KeepsMarks D.honest engine.old engine.new }
+    ensures images { KeepsImages D.history D.honest engine.old engine.new }
+{
+    // These calls say what holds of an engine before the events and after them.
+    engine.keeps_laws();
+    let result = run_events(engine, events, answers);
+    engine.keeps_laws();
+    result
+}
