@@ -1,0 +1,2 @@
+pub mod FrameLists
+pub mod OnePeer

@@ -1,0 +1,8 @@
+//! A session with one peer: its bytes are fed to an engine, and what the engine sends to it is written, over
+//! any reader and any writer.
+#![tactic(auto)]
+
+mod end;
+mod frames;
+
+pub use end::SessionEnd;
