@@ -1,2 +1,3 @@
 pub mod FrameLists
 pub mod OnePeer
+pub mod Runs

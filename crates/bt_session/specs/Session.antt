@@ -15,7 +15,7 @@ use Rattle.bt_machine.specs.Law.{sent_by}
 use Rattle.bt_machine.specs.Output.{Output}
 use Rattle.bt_machine.specs.Report.{all_complete}
 use Rattle.bt_machine.specs.State.{EngineState, EngineView}
-use Rattle.bt_machine.specs.View.{StepsTo}
+use Rattle.bt_machine.specs.View.{StepsTo, RunsTo}
 use Rattle.bt_session.specs.Frames.{spellings, frames_to}
 use Rattle.bt_session.specs.declared.end.SessionEnd.{SessionEnd}
 use Rattle.bt_session.specs.declared.end.SessionEnd.TheVariants.{Complete, Ended, Closed, TurnsSpent, ReadFault, WriteFault, Memory}
@@ -59,6 +59,13 @@ pub data Session {D : Type 0} (history : D → History) (honest : D → Type 0) 
       → StepsTo history honest faults dig mid event answer now
       → Session history honest faults dig key until_complete first (events ++ event ∷ []) (answers ++ answer ∷ [])
       answer now
+
+-- Its events are a run of the engine.
+abbrev pub SessionsAreRuns : {D : Type 0} → (D → History) → (D → Type 0) → (D → ℕ) → (List ℕ → List ℕ) → Type 0
+SessionsAreRuns {D} history honest faults dig = (key : PeerKey) (until_complete : Bool) (first : EngineView D)
+    (events : List Event) (answers : List Answer) (last : Answer) (now : EngineView D)
+    → Session history honest faults dig key until_complete first events answers last now
+    → RunsTo history honest faults dig first events answers now
 
 -- ---- what is read and written
 

@@ -4,5 +4,7 @@
 
 mod end;
 mod frames;
+mod law;
 
 pub use end::SessionEnd;
+pub use law::sessions_are_runs;
