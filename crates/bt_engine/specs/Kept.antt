@@ -8,7 +8,7 @@ use Rattle.bt_machine.specs.Shape.{IsShaped}
 use Rattle.bt_state.specs.Parts.{state_of, disks_of}
 use Rattle.bt_state.specs.Ties.{IsTied}
 use Rattle.bt_state.specs.declared.parts.Parts.{Parts}
-use Rattle.bt_engine.specs.View.{EngineView}
+use Rattle.bt_machine.specs.State.{EngineView}
 
 abbrev pub view_of : {D H : Type 0} → Parts D H → EngineView D
 view_of parts = record { state = state_of parts; disks = disks_of parts }

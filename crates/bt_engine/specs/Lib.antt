@@ -1,2 +1,7 @@
-pub mod View
 pub mod Kept
+pub mod NewsSteps
+pub mod RoomSteps
+pub mod EventSteps
+pub mod NextSteps
+pub mod GreetingSteps
+pub mod Run

@@ -1,20 +1,31 @@
 ghost use Rattle.std.specs.Prelude.{◌≡◌, slice_get};
+ghost use Rattle.sha2.specs.Sha256.{sha256};
 ghost use Rattle.std.specs.Option.{option_and_then, option_copied};
 ghost use Rattle.bt_machine.specs.Report.{report as file_report, all_complete, peer_count};
+ghost use Rattle.bt_machine.specs.Adopting.{StepAdopt};
+ghost use Rattle.bt_machine.specs.Devices.{DeviceCalls, HaveCalls};
+ghost use Rattle.bt_machine.specs.Flush.{StepFlush};
+ghost use Rattle.bt_machine.specs.Next.{StepNext};
 ghost use Rattle.bt_machine.specs.Peers.{StepConnect, StepFeed, StepLost};
-ghost use Rattle.bt_state.specs.Connection.{greeted};
+ghost use Rattle.bt_machine.specs.Rechoke.{StepRechoke};
+ghost use Rattle.bt_machine.specs.Start.{AnswersStart};
 ghost use Rattle.bt_machine.specs.Law.{AreRooted};
 ghost use Rattle.bt_machine.specs.Orderly.{IsOrderly};
 ghost use Rattle.bt_machine.specs.Shape.{IsShaped};
 ghost use Rattle.bt_machine.specs.Sound.{IsSound};
 
+use crate::greeting::connect;
+use crate::next::next;
 use bt_book::PeerKey;
 use bt_disk::Disk;
-use bt_machine::{ConnectError, EngineError, FileReport};
+use bt_machine::{
+    AdoptError, ConnectError, EngineError, FileReport, FlushError, Output, StartRefused,
+};
+use bt_meta::Torrent;
 use bt_state::Parts;
+use bt_store::Adopted;
 use bt_tree::NodeHash;
-use bt_wire::Bytes;
-use std::alloc::Global;
+use std::alloc::{AllocError, Global};
 use std::marker::Model;
 
 /// An engine over the devices of a torrent's files.
@@ -27,7 +38,7 @@ pub struct Engine<D: Disk + Drop, H: NodeHash> {
 impl<D: Disk + Drop, H: NodeHash> Model for Engine<D, H> {
     ghost use Rattle.std.specs.Coded.{codes};
     ghost use Rattle.bt_sparse.specs.SparseTree.{facts_code};
-    ghost use Rattle.bt_engine.specs.View.{EngineView};
+    ghost use Rattle.bt_machine.specs.State.{EngineView};
 
     ghost Value = { EngineView D };
 
@@ -41,13 +52,33 @@ impl<D: Disk + Drop, H: NodeHash> Model for Engine<D, H> {
 }
 
 impl<D: Disk + Drop, H: NodeHash> Engine<D, H> {
-    /// Connects a peer: gives the key by which it is called from then on, and the bitfield that it is to be
-    /// sent behind our handshake. A refusal leaves the engine as it was.
-    pub fn connect(&mut self) -> Result<(PeerKey, Bytes), ConnectError>
-        ensures step { StepConnect self.old.state (greeted self.old.state result) self.new.state }
+    /// Starts an engine of a torrent over the devices of its files that have a byte, in the torrent's order. All
+    /// blocks are missing, no peer is connected, and no device is called.
+    ///
+    /// Errors: there is not one device for each file that has a byte, or out of memory. The devices are given
+    /// back.
+    pub fn start(
+        alloc: Global,
+        torrent: Torrent,
+        hash: H,
+        disks: Vec<D>,
+    ) -> Result<Self, StartRefused<D>>
+        requires { H.digest ≡ sha256 }
+        ensures { AnswersStart H.digest torrent disks.items result }
+    {
+        match bt_start::start(alloc, torrent, hash, disks) {
+            Ok(parts) => Ok(Engine { alloc, parts }),
+            Err(refused) => Err(refused),
+        }
+    }
+
+    /// Connects a peer: gives the key by which it is called from then on, and what it is to be sent, our
+    /// handshake and our bitfield. A refusal leaves the engine as it was.
+    pub fn connect(&mut self) -> Result<(PeerKey, Output), ConnectError>
+        ensures step { StepConnect self.old.state result self.new.state }
         ensures devices { self.new.disks ≡ self.old.disks }
     {
-        bt_state::connect(self.alloc, &mut self.parts)
+        connect(self.alloc, &mut self.parts)
     }
 
     /// Puts bytes behind those of a peer that no event was taken from, all or none.
@@ -58,12 +89,54 @@ impl<D: Disk + Drop, H: NodeHash> Engine<D, H> {
         bt_state::feed(&mut self.parts, peer, bytes)
     }
 
+    /// Takes the next wire event of a peer, and does what follows from it: what is to be sent, and to whom; why
+    /// the peer is closed, if it is; and what was done. None where no event has come whole.
+    ///
+    /// Errors: no peer has the key; out of memory, by which the event is lost and the peer with it, and nothing
+    /// else changes.
+    pub fn next(&mut self, peer: PeerKey) -> Result<Option<Output>, EngineError>
+        ensures { (calls : DeviceCalls)
+            × HaveCalls D.history D.honest D.faults self.old.disks calls self.new.disks
+            × StepNext H.digest self.old.state peer calls result self.new.state }
+    {
+        next(self.alloc, &mut self.parts, peer)
+    }
+
     /// Lets a peer go. What it was asked for may be asked of others.
     pub fn lost(&mut self, peer: PeerKey) -> Result<(), EngineError>
         ensures step { StepLost self.old.state peer result self.new.state }
         ensures devices { self.new.disks ≡ self.old.disks }
     {
         bt_state::lost(&mut self.parts, peer)
+    }
+
+    /// Chooses the peers to serve anew, and gives what is to be sent. Errors: out of memory; nothing changed then.
+    pub fn rechoke(&mut self) -> Result<Output, AllocError>
+        ensures step { StepRechoke H.digest self.old.state result self.new.state }
+        ensures devices { self.new.disks ≡ self.old.disks }
+    {
+        bt_upkeep::rechoke(self.alloc, &mut self.parts)
+    }
+
+    /// Takes in what the device of a file has already, and says how much of it. `next` is the number of its
+    /// blocks then.
+    ///
+    /// Errors: no such file; a peer is connected; out of memory, after which what was taken in stays so.
+    pub fn adopt(&mut self, file: u32) -> Result<Adopted, AdoptError>
+        ensures { (calls : DeviceCalls)
+            × HaveCalls D.history D.honest D.faults self.old.disks calls self.new.disks
+            × StepAdopt H.digest self.old.state file calls result self.new.state }
+    {
+        bt_adoption::adopt(&mut self.parts, file)
+    }
+
+    /// Syncs all devices, in the order of files, up to the first that fails.
+    pub fn flush(&mut self) -> Result<(), FlushError>
+        ensures { (calls : DeviceCalls)
+            × HaveCalls D.history D.honest D.faults self.old.disks calls self.new.disks
+            × StepFlush self.old.state calls result self.new.state }
+    {
+        bt_upkeep::flush(&mut self.parts)
     }
 
     /// How far a file is, in constant time; None where there is no such file.

@@ -3,7 +3,18 @@
 #![tactic(auto)]
 
 mod engine;
+mod event;
+mod greeting;
+mod news;
+mod next;
+mod room;
+mod run;
 
 pub use bt_book::PeerKey;
-pub use bt_machine::{ConnectError, EngineError, FileReport};
+pub use bt_machine::{
+    AdoptError, Answer, ConnectError, EngineError, Event, FileReport, FlushError, Frame, Note,
+    Output, StartError, StartRefused, Why,
+};
+pub use bt_store::Adopted;
 pub use engine::Engine;
+pub use run::run_events;

@@ -1,6 +1,7 @@
 -- Peers and what they are asked for, over steps.
 use Rattle.bt_machine.proofs.Base.{[], ◌≡◌, ◌≢◌, ℕ, zero, suc, ◌+◌, ◌*◌, ◌<◌, ◌≤◌, ◌⊎◌, inl, inr, Bool, true, false, not, ◌∷◌, ◌++◌, length, map, take, drop, Some, refl, sym, ap, ◌∙◌, subst, arith, length-append, slice_get, slice_set, option_map, Contains, ◌&&◌, ◌==◌, Result, Ok, option_and_then, AllPairs, cases_lt, eqb-true, eq-eqb, length-set, length-take, length-map, length-replicate, AllPairs-filter, length-filter, count_by-le-length, div_ceil_times, Contains-append_cases, total_pieces, given, failed, block_of, judged, states_after_put, Missing, Waiting, Marked, StoreError, Put, PutMarked, PutWaiting, PeerKey, BlockId, is_block, max_peers, without_block, PeerMessage as Sent, KeepAlive, Choke, Have, Bitfield, Request, Piece, Cancel, HashRequest, Hashes, HashReject, Message}
 use Rattle.bt_machine.proofs.Machine.{Digest, Connect, Feed, Next, Lost, Rechoke, Adopt, Flush, PeerState, FileState, EngineState, state_at, with_file, with_peer, FindsFault, damaged, fault, with_payload, HandlesRequest, ignored, no_place, not_marked, served, stopped, Arrives, HandlesPiece, stale, arrives, judged_file, SettlesIn, HandlesHashes, unknown_root, no_claim, refused, accepts_hashes, bits_of, bits_in, HandlesHave, in_range, out_of_range, HandlesBitfield, right, wrong, HandlesMessage, Handles, RequestsHashes, requests, rests, FollowsUp, without_peer, with_pending, TakesEvent, StepNext, no_peer, waits, keeps_peer, closes, faulty, no_memory, new_peer, StepConnect, joins, full, spent, no_room, StepFeed, feeds, not_fed, no_room as no_room_to_feed, StepLost, goes, not_fed as not_lost, rechoked_peer, rechoked, FollowsEach, StepRechoke, rechokes, not_rechoked, AdoptsGroups, StepAdopt, no_file, busy, empty, adopts, not_adopted, StepFlush, syncs, fails, Run, IsOrderlyPeer, IsOrderly, AskedApart, StepKeepsOrder, RunsAreOrderly}
+use Rattle.bt_wire.specs.Cutter.{Stream}
 use Rattle.bt_machine.proofs.Lists.{set_id, set_other, set_same, and_then_some, and_true, contains_none, contains_cases, contains_filter, contains_map, here, later}
 use Rattle.bt_machine.proofs.Marks.{state_is, meant_then}
 use Rattle.bt_machine.proofs.Pairs.{Pairs, to_pairs, from_pairs, contains_some, pairs_at, contains_set, pairs_set, contains_without, pairs_without, length-without, pairs_append, pairs_map}
@@ -304,13 +305,27 @@ module _ (dig : Digest) where
   event_change (Message m) calls effect at pieces t = message_change m calls effect at pieces t
   event_change _ calls effect at pieces t = quiet at t.2
 
+  -- an event is taken from the bytes of a peer, and handled
+  pub stream_order : {s : EngineState} {p : _} (i : ℕ) (rest : Stream) → slice_get s.peers i ≡ Some p → rest.failed ≡ false → IsOrderly s
+      → IsOrderly (with_peer s i (record p { stream = rest }))
+  stream_order {p} i rest at running o = changed at (replaced (record p { stream = rest }) refl refl refl refl (λ r. running)) o
+
+  event_order : {s : EngineState} {mid p : _} (i e calls effect : _) → slice_get s.peers i ≡ Some p → Handles dig s i p e calls effect mid
+      → IsOrderly s → IsOrderly mid
+  event_order {p} i e calls effect at handles o =
+      changed at (event_change e calls effect at (o.each p (contains_some _ i at)).pieces handles) o
+
+  -- its peer is another then, of the same key
+  pub event_peer : {s : EngineState} {p : PeerState} (mid : EngineState) (i e calls effect : _) → slice_get s.peers i ≡ Some p → Handles dig s i p e calls effect mid
+      → IsOrderly s → (q : PeerState) × (mid.peers ≡ slice_set s.peers i q) × (q.key ≡ p.key)
+  event_peer {s} {p} mid i e calls effect at handles o =
+      let c : PeerChange s i p mid = event_change e calls effect at (o.each p (contains_some _ i at)).pieces handles in
+      (c.new, c.peers, c.key)
+
   taken_order : {s : EngineState} {mid i p calls effect : _} → slice_get s.peers i ≡ Some p → TakesEvent dig s i p calls effect mid → IsOrderly s
       → IsOrderly mid
-  taken_order {s} {i} {p} {calls} {effect} at t o =
-      let fed : PeerState = record p { stream = t.rest } in
-      let there = set_same _ i at in
-      let before = changed at (replaced fed refl refl refl refl (λ r. t.takes.not_failed)) o in
-      changed there (event_change _ calls _ there (o.each p (contains_some _ i at)).pieces t.handles) before
+  taken_order {s} {i} {calls} {effect} at t o =
+      event_order i t.event calls effect (set_same _ i at) t.handles (stream_order i t.rest at t.takes.not_failed o)
 
   -- ---- events
 

@@ -210,7 +210,7 @@ module _ (dig : Digest) where
   message_keeps i p (HashReject key) calls effect h = with_peer_keeps i _ h.2.after
   message_keeps i p _ calls effect h = with_peer_keeps i _ h.2
 
-  event_keeps : {s mid : _} (i p e calls effect : _) → Handles dig s i p e calls effect mid → Keeps s mid
+  pub event_keeps : {s mid : _} (i p e calls effect : _) → Handles dig s i p e calls effect mid → Keeps s mid
   event_keeps i p (Message m) calls effect t = message_keeps i p m calls effect t
   event_keeps i p _ calls effect t = is_same t.2
 
@@ -330,7 +330,7 @@ module _ (dig : Digest) where
         );
   }
 
-  shape_after : {torrent s new : _} → IsShaped torrent s → Keeps s new → IsShaped torrent new
+  pub shape_after : {torrent s new : _} → IsShaped torrent s → Keeps s new → IsShaped torrent new
   shape_after {s} {new} shaped k = record {
     same = cc;
     roots = roots_apart _ _ k.roots shaped.roots;

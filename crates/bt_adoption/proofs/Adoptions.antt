@@ -1,0 +1,114 @@
+-- The event in which what the device of a file has is taken in.
+use Rattle.bt_machine.proofs.Base.{[], ◌≡◌, ℕ, zero, suc, Bool, false, ◌<◌, ◌≤◌, List, ◌∷◌, ◌++◌, length, map, flat_map, Option, Some, None, Result, Ok, Err, refl, sym, ap, ◌∙◌, subst, arith, length-map, slice_get, option_map_or, History, Adopted, BlockState, max_peers, block_count, blocks_of}
+use Rattle.std.specs.Prelude.{IsTrue}
+use Rattle.std.specs.Vec.{vec_capacity}
+use Rattle.bt_store.specs.FileStore.{StoreView}
+use Rattle.bt_machine.proofs.Lists.{get_some}
+use Rattle.bt_machine.specs.declared.error.AdoptError.{AdoptError}
+use Rattle.bt_machine.specs.declared.error.AdoptError.TheVariants.{NoFile, Busy, OutOfMemory}
+use Rattle.bt_machine.specs.Devices.{DeviceCalls, HaveCalls}
+use Rattle.bt_machine.specs.Blocks.{states_of}
+use Rattle.bt_machine.specs.Settling.{SettlesIn}
+use Rattle.bt_machine.specs.Shape.{IsShaped}
+use Rattle.bt_machine.specs.Adopting.{is_other, nothing_adopted, StepAdopt, no_file, busy, empty, adopts, no_memory}
+use Rattle.bt_state.specs.Parts.{state_of, file_of, peer_of, disks_of}
+use Rattle.bt_state.specs.Ties.{IsTied}
+use Rattle.bt_state.specs.declared.slot.Slot.{Slot}
+use Rattle.bt_state.specs.declared.parts.Parts.{Parts}
+use Rattle.bt_state.proofs.BlockChanges.{followed_tied, tied_followed}
+use Rattle.bt_state.proofs.Completeness.{states_all}
+use Rattle.bt_state.proofs.DeviceCalls.{have_none, have_then}
+use Rattle.bt_state.proofs.Lists.{get_mapped}
+use Rattle.bt_adoption.proofs.Slots.{states_are, not_empty, tree_there, length_is}
+use Rattle.bt_adoption.specs.PartsSteps.{AreInLine, KeepsRest, blocks_in}
+use Rattle.bt_adoption.specs.SettlingSteps.{SettlesFiles}
+use Rattle.bt_adoption.specs.AdoptionSteps.{AdoptsIn, StopsIn}
+
+no_items : {X : Type 0} (xs : List X) → length xs ≤ 0 → xs ≡ []
+no_items [] none = refl
+no_items (x ∷ xs) none = absurd (omega arith)
+
+-- no peer is connected
+pub alone_if : {X : Type 0} {xs : List X} {b : Bool} → (0 < length xs → IsTrue b) → b ≡ false → xs ≡ []
+alone_if {X} {xs} {b} has off = no_items xs (by (length xs) refl)
+  where
+    by : (n : ℕ) → length xs ≡ n → length xs ≤ 0
+    by zero e = omega arith
+    by (suc n) e = absurd (let yes = has (omega arith) in cc)
+
+module _ {D H : Type 0} (old : Parts D H) (tied : IsTied old) where
+  pub in_line_first : IsShaped old.torrent (state_of old) → AreInLine old
+  in_line_first shaped = record { follows = followed_tied old tied shaped; fits = tied.each }
+
+  pub tied_last : (new : Parts D H) → KeepsRest old new → AreInLine new → IsTied new
+  tied_last new rest in_line =
+      tied_followed old new tied (ap (λ (p : Parts D H). p.torrent) rest.others) (ap (λ (p : Parts D H). map (λ q. q.key) p.peers.items) rest.others)
+      (subst (λ (p : Parts D H). max_peers ≤ vec_capacity p.peers) (sym rest.others) tied.room) rest.peers rest.count in_line.fits in_line.follows
+
+-- ---- the answers
+
+-- in this event calls of these devices were made
+abbrev pub Steps : {D H : Type 0} → (D → History) → (D → Type 0) → (D → ℕ) → (List ℕ → List ℕ) → Parts D H → ℕ → Result Adopted AdoptError → Parts D H → Type 0
+Steps history honest faults dig old file answer new = (calls : DeviceCalls) × HaveCalls history honest faults (disks_of old) calls (disks_of new)
+    × StepAdopt dig (state_of old) file calls answer (state_of new)
+
+module _ {D H : Type 0} {history : D → History} {honest : D → Type 0} {faults : D → ℕ} {dig : List ℕ → List ℕ} (old : Parts D H) (file : ℕ) where
+  nothing : {answer : Result Adopted AdoptError} → StepAdopt dig (state_of old) file [] answer (state_of old) → Steps history honest faults dig old file answer old
+  nothing step = ([], have_none history honest faults (disks_of old), step)
+
+  pub steps_no_file : old.slots.len ≤ file → Steps history honest faults dig old file (Err NoFile) old
+  steps_no_file past = nothing (no_file (omega (arith, past, length-map old.slots.items file_of, old.slots.ok.0)) refl refl refl)
+
+  pub steps_busy : file < old.slots.len → 0 < length old.peers.items → Steps history honest faults dig old file (Err Busy) old
+  steps_busy lt some =
+      nothing (busy (omega (arith, lt, length-map old.slots.items file_of, old.slots.ok.0))
+      (λ none. absurd (omega (arith, some, ap (λ xs. length xs) none, length-map old.peers.items (peer_of old.book)))) refl refl refl)
+
+  pub steps_empty : old.peers.items ≡ [] → file < old.slots.len → length (states_of (state_of old) file) ≡ 0 → Steps history honest faults dig old file (Ok (nothing_adopted 0)) old
+  steps_empty alone lt none =
+      let slot = get_some old.slots.items file (omega (arith, lt, old.slots.ok.0)) in
+      nothing (empty (file_of slot.0) (ap (map (peer_of old.book)) alone) (get_mapped file_of old.slots.items file slot.1)
+      (no_items (file_of slot.0).states (omega (arith, none, ap (λ (xs : List BlockState). length xs) (states_are old file slot.1)))) refl refl refl)
+
+  pub steps_stopped : {new : Parts D H} → old.peers.items ≡ [] → StopsIn history honest faults dig file old new → Steps history honest faults dig old file (Err OutOfMemory) new
+  steps_stopped alone s = (s.made, s.calls, no_memory (ap (map (peer_of old.book)) alone) s.stops refl)
+
+module _ {D H : Type 0} (old : Parts D H) (file : ℕ) {slot : Slot D H} (here : slice_get old.slots.items file ≡ Some slot) (some : 0 < length (states_of (state_of old) file)) where
+  has_store : (store : Option (StoreView D)) → slot.store ≡ store → (st : StoreView D) × (slot.store ≡ Some st)
+  has_store None has = absurd (not_empty old file here some has)
+  has_store (Some st) has = (st, has)
+
+  pub tree_below : AreInLine old → slot.tree < old.trees.len
+  tree_below in_line = tree_there old file here in_line.fits (has_store slot.store refl).1
+
+  -- the file's tree is of as many blocks as the file has
+  blocks_are : IsTied old → IsShaped old.torrent (state_of old) → blocks_in (state_of old) slot.tree ≡ length (states_of (state_of old) file)
+  blocks_are tied shaped =
+      let store = has_store slot.store refl in
+      let fits = (tied.each file slot here).some store.0 store.1 in
+      ap (λ o. option_map_or blocks_of o 0) fits.stands ∙ ap block_count fits.same ∙ sym (states_all old tied shaped file slot here store.0 store.1)
+      ∙ sym (length_is old file here store.1)
+
+  pub steps_adopted : {history : D → History} {honest : D → Type 0} {faults : D → ℕ} {dig : List ℕ → List ℕ} {mid : Parts D H} {total : Adopted} (new : Parts D H) → old.peers.items ≡ [] → IsTied old → IsShaped old.torrent (state_of old)
+      → AdoptsIn history honest faults dig file old total mid → KeepsRest old mid → SettlesFiles history honest faults dig (is_other file) slot.tree mid new → Steps history honest faults dig old file (Ok total) new
+  steps_adopted {history} {honest} {faults} {dig} {mid} {total} new alone tied shaped a rest (calls, notes, have, settles) =
+      let states = ap (λ (xs : List BlockState). length xs) (states_are old file here) in
+      let count : blocks_in (state_of mid) slot.tree ≡ length (file_of slot).states = rest.blocks slot.tree ∙ blocks_are tied shaped ∙ states in (
+        flat_map (λ c. c) a.groups ++ calls,
+        have_then history honest faults (disks_of old) (disks_of mid) (disks_of new) (flat_map (λ c. c) a.groups) calls a.calls have,
+        adopts total (ap (map (peer_of old.book)) alone) (record {
+          state = file_of slot;
+          groups = a.groups;
+          taken_in = state_of mid;
+          settling = calls;
+          notes = notes;
+          settled = state_of new;
+          here = get_mapped file_of old.slots.items file here;
+          some = λ none. absurd (let e = ap (λ (xs : List BlockState). length xs) none in omega (arith, some, states, e));
+          adopts = a.adopts;
+          all = a.all ∙ states;
+          settles = subst (λ n. SettlesIn dig (is_other file) slot.tree 0 n (state_of mid) calls notes (state_of new)) count settles;
+          made = refl;
+          after = refl;
+        }) refl,
+      )

@@ -1,0 +1,8 @@
+pub mod Borders
+pub mod Takings
+pub mod Recounts
+pub mod Slots
+pub mod LeftOut
+pub mod Settlements
+pub mod OtherFiles
+pub mod Adoptions

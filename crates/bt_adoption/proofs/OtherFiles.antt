@@ -1,0 +1,116 @@
+-- The files of a tree but one are settled, one after the other.
+use Rattle.bt_machine.proofs.Base.{[], ◌≡◌, ◌≢◌, ℕ, ◌+◌, ◌<◌, ◌≤◌, inl, inr, false, not, ◌&&◌, List, ◌++◌, length, refl, sym, ap, ◌∙◌, subst, arith, ◌==◌, eq-eqb, lt-ltb, le-ltb, cases_lt, length-map, History}
+use Rattle.std.proofs.lemmas.Bool.{cases_eq, ne_eqb}
+use Rattle.bt_machine.proofs.Lists.{get_some}
+use Rattle.bt_machine.specs.Settling.{SettlesIn}
+use Rattle.bt_machine.specs.Adopting.{is_other}
+use Rattle.bt_state.specs.Parts.{state_of, file_of, disks_of}
+use Rattle.bt_state.specs.declared.parts.Parts.{Parts}
+use Rattle.bt_state.proofs.DeviceCalls.{have_none, have_then}
+use Rattle.bt_adoption.specs.PartsSteps.{AreInLine, KeepsRest, blocks_in}
+use Rattle.bt_adoption.specs.SettlingSteps.{SettlesFiles}
+use Rattle.bt_adoption.proofs.Settlements.{before, same_meant, settles_none, settles_then}
+
+-- ---- what stays
+
+module _ {D H : Type 0} where
+  pub rest_none : (old : Parts D H) → KeepsRest old old
+  rest_none old = record { others = refl; count = refl; trees = refl; blocks = λ tree. refl; peers = refl }
+
+  pub rest_then : {old mid new : Parts D H} → KeepsRest old mid → KeepsRest mid new → KeepsRest old new
+  rest_then {old} {mid} {new} one two = record {
+    others = two.others ∙ ap (λ (p : Parts D H). record p { slots = new.slots; trees = new.trees; book = new.book; unmarked = new.unmarked }) one.others;
+    count = two.count ∙ one.count;
+    trees = two.trees ∙ one.trees;
+    blocks = λ tree. two.blocks tree ∙ one.blocks tree;
+    peers = two.peers ∙ one.peers;
+  }
+
+-- ---- which files are meant
+
+module _ (file i : ℕ) where
+  none_from : (f : ℕ) → i ≤ f → before file i f ≡ false
+  none_from f le = ap (λ b. b && is_other file f) (le-ltb f i le)
+
+  not_it : (f : ℕ) → f < i → (f == i) ≡ false
+  not_it f lt = ne_eqb f i (λ e. absurd (omega arith))
+
+  same_before : (f : ℕ) → f < i → before file (i + 1) f ≡ before file i f
+  same_before f lt = ap (λ b. b && is_other file f) (lt-ltb f (i + 1) (omega arith) ∙ sym (lt-ltb f i lt))
+
+  it_alone : i ≢ file → (f : ℕ) → i ≤ f → before file (i + 1) f ≡ (f == i)
+  it_alone apart f le = elim (cases_eq f i) [
+    | inl same ↦ ap (λ b. b && is_other file f) (lt-ltb f (i + 1) (omega arith)) ∙ ap not (ap (λ n. n == file) same ∙ ne_eqb i file apart) ∙ sym (eq-eqb f i same)
+    | inr other ↦ ap (λ b. b && is_other file f) (le-ltb f (i + 1) (omega arith)) ∙ sym (ne_eqb f i other)
+  ]
+
+  skipped : i ≡ file → (f : ℕ) → before file i f ≡ before file (i + 1) f
+  skipped own f = elim (cases_eq f i) [
+    | inl same ↦ none_from f (omega arith) ∙ sym (ap (λ b. b && is_other file f) (lt-ltb f (i + 1) (omega arith)) ∙ ap not (eq-eqb f file (same ∙ own)))
+    | inr other ↦ elim (cases_lt f i) [
+      | inl lt ↦ sym (same_before f lt)
+      | inr le ↦ none_from f le ∙ sym (ap (λ b. b && is_other file f) (le-ltb f (i + 1) (omega arith)))
+    ]
+  ]
+
+  all_before : (f : ℕ) → f < i → before file i f ≡ is_other file f
+  all_before f lt = ap (λ b. b && is_other file f) (lt-ltb f i lt)
+
+-- ---- the loop over the files
+
+-- those before one are settled
+pub record AreSettled {D H : Type 0} (history : D → History) (honest : D → Type 0) (faults : D → ℕ) (dig : List ℕ → List ℕ) (file tree : ℕ) (old : Parts D H)
+    (i : ℕ) (parts : Parts D H) : Type 0 where
+  pub settles : SettlesFiles history honest faults dig (before file i) tree old parts
+  pub rest : KeepsRest old parts
+  pub in_line : AreInLine parts
+
+module _ {D H : Type 0} {history : D → History} {honest : D → Type 0} {faults : D → ℕ} {dig : List ℕ → List ℕ} {file tree : ℕ} {old : Parts D H} where
+  pub settled_begun : tree < old.trees.len → AreInLine old → AreSettled history honest faults dig file tree old 0 old
+  settled_begun lt in_line = record {
+    settles = (
+      [],
+      _,
+      have_none history honest faults (disks_of old),
+      settles_none dig tree (blocks_in (state_of old) tree) (before file 0) (state_of old)
+          (get_some old.trees.items tree (omega (arith, lt, old.trees.ok.0))).1 (λ f. none_from file 0 f (omega arith)),
+    );
+    rest = rest_none old;
+    in_line = in_line;
+  }
+
+  pub settled_more : {i : ℕ} {parts new : Parts D H} → AreSettled history honest faults dig file tree old i parts → i ≢ file
+      → SettlesFiles history honest faults dig (λ other. other == i) tree parts new → KeepsRest parts new → AreInLine new → AreSettled history honest faults dig file tree old (i + 1) new
+  settled_more {i} {parts} {new} a apart (calls, notes, have, two) rest in_line =
+      let size : length (state_of parts).files ≡ length (state_of old).files =
+      length-map parts.slots.items file_of ∙ a.rest.count ∙ sym (length-map old.slots.items file_of) in
+      let both = settles_then dig tree (blocks_in (state_of old) tree) i a.settles.3
+      (subst (λ n. SettlesIn dig (λ other. other == i) tree 0 n (state_of parts) calls notes (state_of new)) (a.rest.blocks tree) two)
+      size (none_from file i) (not_it file i) (same_before file i) (it_alone file i apart) in
+      record {
+        settles = (
+          a.settles.0 ++ calls,
+          both.0,
+          have_then history honest faults (disks_of old) (disks_of parts) (disks_of new) a.settles.0 calls a.settles.2 have,
+          both.1,
+        );
+        rest = rest_then a.rest rest;
+        in_line = in_line;
+      }
+
+  pub settled_skipped : {i : ℕ} {parts : Parts D H} → AreSettled history honest faults dig file tree old i parts → i ≡ file → AreSettled history honest faults dig file tree old (i + 1) parts
+  settled_skipped {i} a own = record {
+    settles = (a.settles.0, a.settles.1, a.settles.2, same_meant dig tree (blocks_in (state_of old) tree) (λ f lt. skipped file i own f) a.settles.3);
+    rest = a.rest;
+    in_line = a.in_line;
+  }
+
+  pub settled_done : {i : ℕ} {parts : Parts D H} → AreSettled history honest faults dig file tree old i parts → length old.slots.items ≡ i
+      → SettlesFiles history honest faults dig (is_other file) tree old parts
+  settled_done {i} a all = (
+    a.settles.0,
+    a.settles.1,
+    a.settles.2,
+    same_meant dig tree (blocks_in (state_of old) tree)
+        (λ f lt. all_before file i f (omega (arith, lt, all, length-map old.slots.items file_of))) a.settles.3,
+  )

@@ -1,0 +1,27 @@
+-- Files of a tree that are settled.
+use Rattle.std.specs.Prelude.{◌≡◌, ℕ, ◌<◌, Bool, List, Some}
+use Rattle.std.specs.List.{count_by}
+use Rattle.bt_disk.specs.History.{History}
+use Rattle.bt_store.specs.FileStore.{StoreView}
+use Rattle.bt_store.specs.BlockStates.{is_waiting}
+use Rattle.bt_machine.specs.declared.answer.Note.{Note}
+use Rattle.bt_machine.specs.Devices.{DeviceCalls, HaveCalls}
+use Rattle.bt_machine.specs.Settling.{SettlesIn}
+use Rattle.bt_state.specs.Parts.{state_of, disks_of}
+use Rattle.bt_state.specs.declared.slot.Slot.{Slot}
+use Rattle.bt_state.specs.declared.parts.Parts.{Parts}
+use Rattle.bt_adoption.specs.PartsSteps.{blocks_in}
+
+-- all blocks of the meant files of a tree are settled, by calls of these devices
+abbrev pub SettlesFiles : {D H : Type 0} → (D → History) → (D → Type 0) → (D → ℕ) → (List ℕ → List ℕ)
+    → (ℕ → Bool) → ℕ → Parts D H → Parts D H → Type 0
+SettlesFiles history honest faults dig is_meant tree old new = (calls : DeviceCalls) × (notes : List Note)
+    × HaveCalls history honest faults (disks_of old) calls (disks_of new)
+    × SettlesIn dig is_meant tree 0 (blocks_in (state_of old) tree) (state_of old) calls notes (state_of new)
+
+-- the file is of the tree, and has a block that waits
+pub record IsDue {D H : Type 0} (tree : ℕ) (slot : Slot D H) : Type 0 where
+  pub store : StoreView D
+  pub has : slot.store ≡ Some store
+  pub of_tree : slot.tree ≡ tree
+  pub waits : 0 < count_by is_waiting store.states

@@ -1,0 +1,110 @@
+ghost use Rattle.std.specs.Prelude.{[], ◌≡◌, ◌<◌, ◌↔◌, List, IsTrue, IfOk, IfErr, flat_map, length, vec_len};
+ghost use Rattle.bt_machine.specs.Devices.{DeviceCalls, HaveCalls};
+ghost use Rattle.bt_machine.specs.Blocks.{states_of};
+ghost use Rattle.bt_machine.specs.Shape.{IsShaped};
+ghost use Rattle.bt_machine.specs.Adopting.{StepAdopt};
+ghost use Rattle.bt_state.specs.Parts.{state_of, disks_of};
+ghost use Rattle.bt_state.specs.Ties.{IsTied};
+ghost use Rattle.bt_adoption.specs.PartsSteps.{AreFit, AreInLine, KeepsRest, ChangesFile};
+ghost use Rattle.bt_adoption.specs.AdoptionSteps.{AdoptsIn, StopsIn};
+
+use crate::groups::adopt_groups;
+use crate::recount::{block_count, count_in, leave_out};
+use crate::settling::settle_others;
+use bt_disk::Disk;
+use bt_machine::AdoptError;
+use bt_state::Parts;
+use bt_store::Adopted;
+use bt_tree::NodeHash;
+use std::alloc::AllocError;
+
+/// Takes in what the device of a file has already: every group of its blocks, and then the blocks that wait
+/// in the other files of its root, which are not counted in the answer. `next` is the file's count of
+/// blocks, `anchor` is 0, and `marked` and `faults` are the sums over the groups, in blocks.
+///
+/// Errors: no such file; a peer is connected; out of memory, after which the groups that were taken in stay
+/// so, and no other file has changed.
+pub fn adopt<D: Disk + Drop, H: NodeHash>(
+    parts: &mut Parts<D, H>,
+    file: u32,
+) -> Result<Adopted, AdoptError>
+    requires tied { IsTied parts.old }
+    requires shaped { IsShaped parts.old.torrent (state_of parts.old) }
+    ensures step { (calls : DeviceCalls)
+        × HaveCalls D.history D.honest D.faults (disks_of parts.old) calls (disks_of parts.new)
+        × StepAdopt H.digest (state_of parts.old) file calls result (state_of parts.new) }
+    ensures torrent { parts.new.torrent ≡ parts.old.torrent }
+    ensures peers { parts.new.peers ≡ parts.old.peers }
+    ensures tied { IsTied parts.new }
+{
+    if file as usize >= parts.slots.len() {
+        return Err(AdoptError::NoFile);
+    }
+    if has_peer(parts) {
+        return Err(AdoptError::Busy);
+    }
+    if block_count(parts, file) == 0 {
+        return Ok(Adopted {
+            next: 0,
+            anchor: 0,
+            marked: 0,
+            faults: 0,
+        });
+    }
+    let tree = parts.slots[file as usize].tree as usize;
+    let Ok(total) = adopt_file(parts, file) else {
+        return Err(AdoptError::OutOfMemory);
+    };
+    settle_others(parts, tree, file);
+    Ok(total)
+}
+
+/// Whether a peer is connected.
+fn has_peer<D: Disk + Drop, H: NodeHash>(parts: &Parts<D, H>) -> bool
+    ensures { IsTrue result ↔ (0 < length parts.now.peers.items) }
+{
+    parts.peers.len() > 0
+}
+
+/// Takes in all groups of a file that has a block. No peer is connected.
+fn adopt_file<D: Disk + Drop, H: NodeHash>(
+    parts: &mut Parts<D, H>,
+    file: u32,
+) -> Result<Adopted, AllocError>
+    requires alone { parts.old.peers.items ≡ [] }
+    requires in_line { AreInLine parts.old }
+    requires inside { file < vec_len parts.old.slots }
+    requires some { 0 < length (states_of (state_of parts.old) file) }
+    ensures ok { IfOk result (λ total. AdoptsIn D.history D.honest D.faults H.digest file
+        parts.old total parts.new) }
+    ensures stop { IfErr result (λ _. StopsIn D.history D.honest D.faults H.digest file
+        parts.old parts.new) }
+    ensures rest { KeepsRest parts.old parts.new }
+    ensures in_line { AreInLine parts.new }
+{
+    leave_out(parts, file);
+    let adopted = adopt_slot(parts, file);
+    count_in(parts, file);
+    adopted
+}
+
+/// Takes in all groups of a file that has a block. The book and the counts stay as they were.
+fn adopt_slot<D: Disk + Drop, H: NodeHash>(
+    parts: &mut Parts<D, H>,
+    file: u32,
+) -> Result<Adopted, AllocError>
+    requires fits { AreFit parts.old }
+    requires inside { file < vec_len parts.old.slots }
+    requires some { 0 < length (states_of (state_of parts.old) file) }
+    ensures ok { IfOk result (λ total. AdoptsIn D.history D.honest D.faults H.digest file
+        parts.old total parts.new) }
+    ensures stop { IfErr result (λ _. StopsIn D.history D.honest D.faults H.digest file
+        parts.old parts.new) }
+    ensures changes { ChangesFile file parts.old parts.new }
+{
+    let slot = &mut parts.slots[file as usize];
+    let Some(store) = &mut slot.store else {
+        unreachable!();
+    };
+    adopt_groups(store, &mut parts.trees[slot.tree as usize])
+}

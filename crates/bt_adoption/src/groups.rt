@@ -1,0 +1,54 @@
+ghost use Rattle.std.specs.Prelude.{◌≡◌, ◌+◌, ◌^◌, ◌<◌, List, IfOk, IfErr, length};
+ghost use Rattle.bt_store.specs.BlockReads.{BlockRead};
+ghost use Rattle.bt_machine.specs.Adopting.{adopted_together};
+ghost use Rattle.bt_adoption.specs.GroupsSteps.{TakesGroups, StopsTaking};
+
+use bt_disk::Disk;
+use bt_sparse::SparseTree;
+use bt_store::{Adopted, FileStore};
+use bt_tree::NodeHash;
+use std::alloc::AllocError;
+
+/// Takes in all groups of a file, one after the other, and gives the sums. The one error is out of memory:
+/// the groups that were taken in before stay so.
+pub(crate) fn adopt_groups<D: Disk + Drop, H: NodeHash>(
+    store: &mut FileStore<D, H>,
+    tree: &mut SparseTree<H>,
+) -> Result<Adopted, AllocError>
+    requires { tree.old.file_length ≡ store.old.file_length }
+    ensures ok { IfOk result (λ total. (groups : List (List BlockRead))
+        × TakesGroups D.history D.honest D.faults H.digest
+        tree.old store.old groups total tree.new store.new) }
+    ensures all { IfOk result (λ total. total.next ≡ length store.old.states) }
+    ensures stop { IfErr result (λ _. StopsTaking D.history D.honest D.faults
+        H.digest tree.old store.old tree.new store.new) }
+{
+    let blocks = store.geometry().blocks();
+    // A clause of the root says that the tree is rooted.
+    let _ = tree.root();
+    let mut total = Adopted {
+        next: 0,
+        anchor: 0,
+        marked: 0,
+        faults: 0,
+    };
+    while total.next < blocks {
+        let group = store.adopt(tree, total.next)?;
+        total = together(total, group);
+    }
+    Ok(total)
+}
+
+/// What was taken in before, and in the next group.
+fn together(before: Adopted, group: Adopted) -> Adopted
+    requires marked { before.marked + group.marked < 2 ^ 32 }
+    requires faults { before.faults + group.faults < 2 ^ 32 }
+    ensures { result ≡ adopted_together before group }
+{
+    Adopted {
+        next: group.next,
+        anchor: 0,
+        marked: before.marked + group.marked,
+        faults: before.faults + group.faults,
+    }
+}

@@ -1,0 +1,80 @@
+//! The other files of a tree, of which blocks waited for their leaf.
+ghost use Rattle.std.specs.Prelude.{[], ◌≡◌, ◌<◌, ◌==◌, ◌↔◌, IsTrue, length, vec_len, slice_get, Some};
+ghost use Rattle.bt_machine.specs.Adopting.{is_other};
+ghost use Rattle.bt_adoption.specs.PartsSteps.{AreFit, AreInLine, KeepsRest, ChangesFile};
+ghost use Rattle.bt_adoption.specs.SettlingSteps.{SettlesFiles, IsDue};
+
+use crate::recount::{count_in, leave_out};
+use bt_disk::Disk;
+use bt_state::{Parts, Slot};
+use bt_tree::NodeHash;
+
+/// Settles all blocks of the other files of a tree, all but this one. No peer is connected.
+pub(crate) fn settle_others<D: Disk + Drop, H: NodeHash>(
+    parts: &mut Parts<D, H>,
+    tree: usize,
+    file: u32,
+)
+    requires alone { parts.old.peers.items ≡ [] }
+    requires in_line { AreInLine parts.old }
+    requires count { length parts.old.slots.items ≡ length parts.old.torrent.files }
+    requires here { tree < vec_len parts.old.trees }
+    ensures settles { SettlesFiles D.history D.honest D.faults H.digest (is_other file) tree
+        parts.old parts.new }
+    ensures rest { KeepsRest parts.old parts.new }
+    ensures in_line { AreInLine parts.new }
+{
+    let count = parts.torrent.files().len() as u32;
+    for other in 0..count {
+        if other != file {
+            settle_file(parts, tree, other);
+        }
+    }
+}
+
+/// Settles all blocks of a file, where it is of the tree.
+fn settle_file<D: Disk + Drop, H: NodeHash>(parts: &mut Parts<D, H>, tree: usize, file: u32)
+    requires alone { parts.old.peers.items ≡ [] }
+    requires in_line { AreInLine parts.old }
+    requires inside { file < vec_len parts.old.slots }
+    requires here { tree < vec_len parts.old.trees }
+    ensures settles { SettlesFiles D.history D.honest D.faults H.digest (λ other. other == file) tree
+        parts.old parts.new }
+    ensures rest { KeepsRest parts.old parts.new }
+    ensures in_line { AreInLine parts.new }
+{
+    if !is_due(&parts.slots[file as usize], tree) {
+        return;
+    }
+    leave_out(parts, file);
+    settle_slot(parts, tree, file);
+    count_in(parts, file);
+}
+
+/// Whether a file is of the tree and has a block that waits.
+fn is_due<D: Disk + Drop, H: NodeHash>(slot: &Slot<D, H>, tree: usize) -> bool
+    ensures { IsTrue result ↔ IsDue tree slot.now }
+{
+    match &slot.store {
+        Some(store) => slot.tree as usize == tree && store.waiting() > 0,
+        None => false,
+    }
+}
+
+/// Settles all blocks of a file of the tree. The book and the counts stay as they were.
+fn settle_slot<D: Disk + Drop, H: NodeHash>(parts: &mut Parts<D, H>, tree: usize, file: u32)
+    requires fits { AreFit parts.old }
+    requires inside { file < vec_len parts.old.slots }
+    requires here { tree < vec_len parts.old.trees }
+    requires due { (slot : Slot D H) → slice_get parts.old.slots.items file ≡ Some slot → IsDue tree slot }
+    ensures settles { SettlesFiles D.history D.honest D.faults H.digest (λ other. other == file) tree
+        parts.old parts.new }
+    ensures changes { ChangesFile file parts.old parts.new }
+{
+    let slot = &mut parts.slots[file as usize];
+    let Some(store) = &mut slot.store else {
+        unreachable!();
+    };
+    let blocks = store.geometry().blocks();
+    store.settle(&parts.trees[tree], 0, blocks).unwrap();
+}

@@ -1,0 +1,56 @@
+-- What the functions of one message do is what is said of an event that was handled.
+use Rattle.bt_machine.proofs.Base.{[], ◌≡◌, ◌≢◌, ℕ, ◌<◌, ◌⊎◌, inl, inr, List, length, map, Option, Some, Ok, Err, Result, refl, sym, ap, ◌∙◌, subst, arith, slice_get, length-map, History, PeerKey, WireEvent}
+use Rattle.std.specs.Prelude.{IfOk, IfErr}
+use Rattle.std.proofs.lemmas.Bool.{cases_eq}
+use Rattle.bt_machine.specs.declared.error.EngineError.{EngineError}
+use Rattle.bt_machine.specs.State.{PeerState, EngineState, Hint}
+use Rattle.bt_machine.specs.Devices.{DeviceCalls, HaveCalls}
+use Rattle.bt_machine.specs.Next.{without_peer}
+use Rattle.bt_machine.specs.Peers.{StepLost, goes, no_peer}
+use Rattle.bt_machine.specs.WireEvents.{Handles}
+use Rattle.bt_machine.proofs.Lists.{get_some, get_map}
+use Rattle.bt_state.specs.Parts.{state_of, disks_of, peer_of}
+use Rattle.bt_state.specs.Ties.{IsTied}
+use Rattle.bt_state.specs.declared.peer.Peer.{Peer}
+use Rattle.bt_state.specs.declared.parts.Parts.{Parts}
+use Rattle.bt_state.proofs.DeviceCalls.{have_none}
+use Rattle.bt_state.proofs.Lists.{get_mapped}
+use Rattle.bt_state.proofs.PeerLists.{keys_apart}
+use Rattle.bt_engine.specs.EventSteps.{effect_of, IsHandled}
+use Rattle.bt_engine.specs.declared.event.Handled.{Handled}
+
+pub if_ok : {A E : Type 0} (P Q : A → Type 0) (r : Result A E) → IfOk r P → ((x : A) → P x → Q x) → IfOk r Q
+if_ok P Q (Ok x) p f = f x p
+if_ok P Q (Err e) p f = p
+
+pub if_err : {A E : Type 0} (P Q : E → Type 0) (r : Result A E) → IfErr r P → ((x : E) → P x → Q x) → IfErr r Q
+if_err P Q (Ok x) p f = p
+if_err P Q (Err e) p f = f e p
+
+module _ {D H : Type 0} (history : D → History) (honest : D → Type 0) (faults : D → ℕ) (dig : List ℕ → List ℕ) (old mid : Parts D H) where
+  -- no device was called
+  pub no_calls : disks_of mid ≡ disks_of old → HaveCalls history honest faults (disks_of old) [] (disks_of mid)
+  no_calls same =
+      subst (λ (ds : List (Option D)). HaveCalls history honest faults (disks_of old) [] ds) (sym same) (have_none history honest faults (disks_of old))
+
+  pub handled_by : (i : ℕ) (event : WireEvent) (handled : Handled) (calls : DeviceCalls) (proofs : List Hint) → i < length old.peers.items
+      → HaveCalls history honest faults (disks_of old) calls (disks_of mid)
+      → ((p : PeerState) → slice_get (state_of old).peers i ≡ Some p
+      → Handles dig (state_of old) i p event calls (effect_of p handled proofs) (state_of mid))
+      → IsHandled history honest faults dig old i event handled mid
+  handled_by i event handled calls proofs lt made handles =
+      let p = get_some (state_of old).peers i (omega (arith, length-map old.peers.items (peer_of old.book))) in
+      record { peer = p.0; calls = calls; proofs = proofs; here = p.1; made = made; handles = handles p.0 p.1 }
+
+-- the peer that is lost is the one that stands there
+pub lost_at : {D H : Type 0} (parts : Parts D H) (i : ℕ) {p : Peer} {r : Result (Unit {0}) EngineError} {new : EngineState} → IsTied parts
+    → slice_get parts.peers.items i ≡ Some p → StepLost (state_of parts) p.key r new → new ≡ without_peer i (state_of parts)
+lost_at parts i {p} tied at (goes j q is e after) = elim (cases_eq j i) [
+  | inl same ↦ after ∙ ap (λ n. without_peer n (state_of parts)) same
+  | inr apart ↦ (
+      let m = get_map (peer_of parts.book) parts.peers.items j is.here in
+      absurd (keys_apart parts.peers.items i j tied.in_order at m.1 apart (ap (λ (k : PeerKey). k.0) (ap (λ (p : PeerState). p.key) m.2 ∙ is.same_key)))
+      )
+]
+lost_at parts i {p} tied at (no_peer none e after) =
+    absurd (none i (peer_of parts.book p) (record { here = get_mapped (peer_of parts.book) parts.peers.items i at; same_key = refl }))

@@ -1,0 +1,14 @@
+use Rattle.std.proofs.Common.{refl}
+use Rattle.bt_machine.specs.declared.event.Event.TheVariants.{Adopt}
+use Rattle.bt_machine.specs.declared.event.Answer.TheVariants.{Adopted}
+use Rattle.bt_engine.proofs.Keeping.{kept_after}
+use Rattle.bt_engine.proofs.engine.Engine.adopt.Goals as goal
+
+pub invariant_of-self : goal.invariant_of-self
+invariant_of-self g c =
+    let step = c.adopt.ensures.step in
+    kept_after g.D.Disk.history g.D.Disk.honest g.D.Disk.faults g.H.NodeHash.digest c.self.inside.parts c.adopt.new.parts (Adopt c.args.file) (Adopted c.adopt.result)
+    step.0 c.self.invariant (c.adopt.result, refl, step.2) step.1 c.adopt.ensures.torrent c.adopt.ensures.tied
+
+pub returns : goal.returns
+returns g c = rw (← c.self.view_is) c.adopt.ensures.step

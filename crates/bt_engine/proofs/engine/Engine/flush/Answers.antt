@@ -1,0 +1,14 @@
+use Rattle.std.proofs.Common.{refl}
+use Rattle.bt_machine.specs.declared.event.Event.TheVariants.{Flush}
+use Rattle.bt_machine.specs.declared.event.Answer.TheVariants.{Flushed}
+use Rattle.bt_engine.proofs.Keeping.{kept_after}
+use Rattle.bt_engine.proofs.engine.Engine.flush.Goals as goal
+
+pub invariant_of-self : goal.invariant_of-self
+invariant_of-self g c =
+    let step = c.flush.ensures.step in
+    kept_after g.D.Disk.history g.D.Disk.honest g.D.Disk.faults g.H.NodeHash.digest c.self.inside.parts c.flush.new.parts Flush (Flushed c.flush.result)
+    step.0 c.self.invariant (c.flush.result, refl, step.2) step.1 c.flush.ensures.torrent c.flush.ensures.tied
+
+pub returns : goal.returns
+returns g c = rw (← c.self.view_is) c.flush.ensures.step

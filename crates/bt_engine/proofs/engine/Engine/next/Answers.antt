@@ -1,0 +1,14 @@
+use Rattle.std.proofs.Common.{refl}
+use Rattle.bt_machine.specs.declared.event.Event.TheVariants.{Next}
+use Rattle.bt_machine.specs.declared.event.Answer.TheVariants.{Stepped}
+use Rattle.bt_engine.proofs.Keeping.{kept_after}
+use Rattle.bt_engine.proofs.engine.Engine.next.Goals as goal
+
+pub invariant_of-self : goal.invariant_of-self
+invariant_of-self g c =
+    let step = c.next.ensures.step in
+    kept_after g.D.Disk.history g.D.Disk.honest g.D.Disk.faults g.H.NodeHash.digest c.self.inside.parts c.next.new.parts (Next c.args.peer) (Stepped c.next.result)
+    step.0 c.self.invariant (c.next.result, refl, step.2) step.1 c.next.ensures.torrent c.next.ensures.tied
+
+pub returns : goal.returns
+returns g c = rw (← c.self.view_is) c.next.ensures.step

@@ -1,0 +1,13 @@
+use Rattle.std.proofs.Common.{refl}
+use Rattle.bt_machine.specs.declared.event.Event.TheVariants.{Rechoke}
+use Rattle.bt_machine.specs.declared.event.Answer.TheVariants.{Rechoked}
+use Rattle.bt_engine.proofs.Keeping.{kept_without}
+use Rattle.bt_engine.proofs.engine.Engine.rechoke.Goals as goal
+
+pub invariant_of-self : goal.invariant_of-self
+invariant_of-self g c =
+    kept_without g.D.Disk.history g.D.Disk.honest g.D.Disk.faults g.H.NodeHash.digest c.self.inside.parts c.rechoke.new.parts Rechoke (Rechoked c.rechoke.result)
+    c.self.invariant (c.rechoke.result, refl, refl, c.rechoke.ensures.step) c.rechoke.ensures.devices c.rechoke.ensures.torrent c.rechoke.ensures.tied
+
+pub returns-clause-step : goal.returns-clause-step
+returns-clause-step g c = rw (← c.self.view_is) c.rechoke.ensures.step

@@ -1,0 +1,18 @@
+use Rattle.std.proofs.Common.{[], refl, ◌∙◌, ap, sym, subst}
+use Rattle.bt_wire.specs.declared.event.WireEvent.{WireEvent}
+use Rattle.bt_wire.specs.declared.event.WireEvent.TheVariants.{Message}
+use Rattle.bt_wire.specs.declared.message.Message.TheVariants.{HashRequest}
+use Rattle.bt_engine.specs.EventSteps.{IsHandled}
+use Rattle.bt_engine.specs.declared.event.Handled.TheVariants.{Closed, Stays}
+use Rattle.bt_engine.specs.declared.event.Reply.TheVariants.{Sends}
+use Rattle.bt_engine.proofs.Handled.{handled_by, no_calls}
+use Rattle.bt_engine.proofs.event.handle.Goals as goal
+
+pub returns-in_ok-message-in-HashRequest-clause-handled : goal.returns-in_ok-message-in-HashRequest-clause-handled
+returns-in_ok-message-in-HashRequest-clause-handled g c =
+    rw (c.in-Message.is, c.in-HashRequest.is) (
+    handled_by g.D.Disk.history g.D.Disk.honest g.D.Disk.faults g.H.NodeHash.digest c.args.parts.now c.args.parts.now c.args.index (Message (HashRequest c.in-HashRequest.key))
+    (Stays (Sends c.in_ok-message-in-HashRequest.message)) [] [] c.requires.there
+    (no_calls g.D.Disk.history g.D.Disk.honest g.D.Disk.faults g.H.NodeHash.digest c.args.parts.now c.args.parts.now refl)
+    (λ p here. c.in_ok-message-in-HashRequest.ensures c.args.index p)
+    )

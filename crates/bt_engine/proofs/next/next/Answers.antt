@@ -1,0 +1,80 @@
+use Rattle.std.proofs.Common.{[], ◌≡◌, List, Option, refl, sym, ap, ◌∙◌, subst}
+use Rattle.bt_machine.specs.Devices.{HaveCalls}
+use Rattle.bt_machine.specs.Next.{no_peer, without_peer}
+use Rattle.bt_state.specs.declared.parts.Parts.{Parts}
+use Rattle.bt_machine.specs.Orderly.{IsOrderly}
+use Rattle.bt_machine.specs.State.{EngineState}
+use Rattle.bt_machine.proofs.Orderly.{stream_order}
+use Rattle.bt_follow_up.proofs.FollowUps.{shaped_again}
+use Rattle.bt_state.specs.Parts.{state_of, disks_of}
+use Rattle.bt_state.proofs.Ties.{no_peer_of, peer_at}
+use Rattle.bt_engine.proofs.Events.{waits_so, goes_so, drops_event, drops_unread, faulty_so}
+use Rattle.bt_engine.proofs.Handled.{no_calls}
+use Rattle.bt_engine.proofs.next.next.Goals as goal
+
+pub returns-in_default-clause-step : goal.returns-in_default-clause-step
+returns-in_default-clause-step g c = (
+  [],
+  no_calls g.D.Disk.history g.D.Disk.honest g.D.Disk.faults g.H.NodeHash.digest c.args.parts.now c.args.parts.now refl,
+  no_peer (no_peer_of c.args.parts.now c.args.key c.in_default.ensures.none) refl refl refl,
+)
+
+pub returns-in-Ok-None-clause-step : goal.returns-in-Ok-None-clause-step
+returns-in-Ok-None-clause-step g c =
+    let found = rw c.in-Ok-None.field-0-is at c.in-Ok-None.ensures.found in (
+      [],
+      no_calls g.D.Disk.history g.D.Disk.honest g.D.Disk.faults g.H.NodeHash.digest c.args.parts.now c.next_event.new.parts c.next_event.ensures.devices,
+      waits_so (peer_at c.args.parts.now c.in-Some.ensures.some) g.H.NodeHash.digest (state_of c.next_event.new.parts) found refl,
+    )
+
+pub take_event-requires-clause-shaped : goal.take_event-requires-clause-shaped
+take_event-requires-clause-shaped g c = shaped_again _ _ c.requires.shaped c.in-Ok-Some.ensures.found.after
+
+pub take_event-requires-clause-orderly : goal.take_event-requires-clause-orderly
+take_event-requires-clause-orderly g c =
+    let found = rw c.in-Ok-Some.field-0-is at c.in-Ok-Some.ensures.found in
+    subst (λ (x : EngineState). IsOrderly x) (sym found.after) (stream_order g.H.NodeHash.digest c.in-Some.index found.rest found.here found.cut.not_failed c.requires.orderly)
+
+pub returns-in-Ok-clause-step : goal.returns-in-Ok-clause-step
+returns-in-Ok-clause-step g c =
+    let found = rw c.in-Ok-Some.field-0-is at c.in-Ok-Some.ensures.found in
+    let step = c.in-Ok.ensures.step in (
+      step.0,
+      subst (λ (ds : List (Option g.row.D.Denot)). HaveCalls g.D.Disk.history g.D.Disk.honest g.D.Disk.faults ds step.0 (disks_of c.take_event.new.parts))
+          c.next_event.ensures.devices step.1,
+      goes_so (peer_at c.args.parts.now c.in-Some.ensures.some) g.H.NodeHash.digest (state_of c.take_event.new.parts) found step.2,
+    )
+
+pub returns-in-Ok-Some-clause-step : goal.returns-in-Ok-Some-clause-step
+returns-in-Ok-Some-clause-step g c =
+    let found = rw c.in-Ok-Some.field-0-is at c.in-Ok-Some.ensures.found in
+    let kept = c.in-Err-take_event.ensures.kept in (
+      [],
+      no_calls g.D.Disk.history g.D.Disk.honest g.D.Disk.faults g.H.NodeHash.digest c.args.parts.now c.drop_peer.new.parts
+          (c.drop_peer.ensures.devices ∙ ap (λ (x : Parts g.row.D.Denot g.row.H.Denot). disks_of x) kept ∙ c.next_event.ensures.devices),
+      drops_event (peer_at c.args.parts.now c.in-Some.ensures.some) g.H.NodeHash.digest (state_of c.drop_peer.new.parts) found
+          (c.drop_peer.ensures.gone ∙ ap (λ (x : Parts g.row.D.Denot g.row.H.Denot). without_peer c.in-Some.index (state_of x)) kept),
+    )
+
+pub returns-in-OutOfMemory-clause-step : goal.returns-in-OutOfMemory-clause-step
+returns-in-OutOfMemory-clause-step g c =
+    let refused = rw c.in-OutOfMemory.is at c.in-Err.ensures.refused in (
+      [],
+      no_calls g.D.Disk.history g.D.Disk.honest g.D.Disk.faults g.H.NodeHash.digest c.args.parts.now c.drop_peer-in-OutOfMemory.new.parts
+          (c.drop_peer-in-OutOfMemory.ensures.devices ∙ c.next_event.ensures.devices),
+      drops_unread (peer_at c.args.parts.now c.in-Some.ensures.some) g.H.NodeHash.digest (state_of c.drop_peer-in-OutOfMemory.new.parts) refused
+          c.drop_peer-in-OutOfMemory.ensures.gone,
+    )
+
+pub returns : goal.returns
+returns g c = record {
+  step = (
+    [],
+    no_calls g.D.Disk.history g.D.Disk.honest g.D.Disk.faults g.H.NodeHash.digest c.args.parts.now c.close.new.parts
+        (c.close.ensures.devices ∙ c.next_event.ensures.devices),
+    faulty_so (peer_at c.args.parts.now c.in-Some.ensures.some) g.H.NodeHash.digest (state_of c.close.new.parts) c.in_default-fault.not-OutOfMemory
+        c.requires.orderly c.in-Err.ensures.refused c.close.ensures.is c.close.ensures.gone,
+  );
+  torrent = c.close.ensures.torrent ∙ c.next_event.ensures.torrent;
+  tied = c.close.ensures.tied;
+}

@@ -1,0 +1,40 @@
+use Rattle.std.proofs.Common.{refl}
+use Rattle.bt_wire.specs.Cutter.{Stream, IsAnswer, IsRefusal}
+use Rattle.bt_state.specs.Parts.{state_of, peer_of}
+use Rattle.bt_state.proofs.Lists.{get_mapped, get_read}
+use Rattle.bt_state.proofs.Ties.{tied_set, state_set}
+use Rattle.bt_engine.specs.NextSteps.{IsCut}
+use Rattle.bt_engine.proofs.Handled.{if_ok, if_err}
+use Rattle.bt_engine.proofs.next.next_event.Goals as goal
+
+pub returns-clause-found : goal.returns-clause-found
+returns-clause-found g c =
+    let old = c.args.parts.now in
+    let p = c.index_mut-peer.result.now in
+    let at = get_read old.peers.items c.args.index p c.requires.there c.index_mut-peer.ensures.value in
+    if_ok _ _ c.next.result c.next.ensures.answer (λ found answer. record {
+      peer = peer_of old.book p;
+      rest = c.next.new.self;
+      here = get_mapped (peer_of old.book) old.peers.items c.args.index at;
+      cut = answer;
+      after = state_set old c.args.index (record p { cutter = c.next.new.self }) c.requires.tied at refl;
+    })
+
+pub returns-clause-refused : goal.returns-clause-refused
+returns-clause-refused g c =
+    let old = c.args.parts.now in
+    let p = c.index_mut-peer.result.now in
+    let at = get_read old.peers.items c.args.index p c.requires.there c.index_mut-peer.ensures.value in
+    if_err _ _ c.next.result c.next.ensures.refused (λ error refusal. record {
+      peer = peer_of old.book p;
+      rest = c.next.new.self;
+      here = get_mapped (peer_of old.book) old.peers.items c.args.index at;
+      cut = refusal;
+      after = state_set old c.args.index (record p { cutter = c.next.new.self }) c.requires.tied at refl;
+    })
+
+pub returns-clause-tied : goal.returns-clause-tied
+returns-clause-tied g c =
+    let p = c.index_mut-peer.result.now in
+    let at = get_read c.args.parts.now.peers.items c.args.index p c.requires.there c.index_mut-peer.ensures.value in
+    tied_set c.args.parts.now c.args.index (record p { cutter = c.next.new.self }) c.requires.tied at refl

@@ -1,0 +1,29 @@
+-- Room for what a wire event sends and notes.
+use Rattle.std.specs.Prelude.{[], ◌≡◌, ℕ, ◌+◌, ◌*◌, ◌≤◌, vec_capacity}
+use Rattle.bt_wire.specs.declared.message.Message.{Message as Sent}
+use Rattle.bt_wire.specs.declared.message.Message.TheVariants.{Request, Piece, Hashes}
+use Rattle.bt_wire.specs.declared.event.WireEvent.{WireEvent}
+use Rattle.bt_wire.specs.declared.event.WireEvent.TheVariants.{Message}
+use Rattle.bt_follow_up.specs.AfterEvent.{max_frames}
+use Rattle.bt_state.specs.declared.parts.Parts.{Parts}
+use Rattle.bt_wire_events.specs.Hashes.{IsNoteRoom}
+use Rattle.bt_engine.specs.declared.room.Room.{Room}
+
+-- a message has so many notes at most: hashes as many as blocks may have waited for them
+abbrev pub IsMessageBound : {D H : Type 0} → Parts D H → Sent → ℕ → Type 0
+IsMessageBound parts (Request ask) bound = bound ≡ 1
+IsMessageBound parts (Piece piece begin bytes) bound = bound ≡ 1
+IsMessageBound parts (Hashes key digests) bound = IsNoteRoom parts key bound
+IsMessageBound parts _ bound = bound ≡ 0
+
+-- as an event has
+abbrev pub IsNoteBound : {D H : Type 0} → Parts D H → WireEvent → ℕ → Type 0
+IsNoteBound parts (Message message) bound = IsMessageBound parts message bound
+IsNoteBound parts _ bound = bound ≡ 0
+
+-- nothing is sent or noted yet, and there is room for an event of so many notes, with so many peers
+pub record HasRoom (bound peers : ℕ) (room : Room) : Type 0 where
+  pub nothing_sent : room.send.items ≡ []
+  pub nothing_noted : room.notes.items ≡ []
+  pub send_room : bound * peers + 1 + max_frames ≤ vec_capacity room.send
+  pub note_room : bound + bound ≤ vec_capacity room.notes

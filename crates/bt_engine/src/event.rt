@@ -1,0 +1,308 @@
+//! A wire event of a peer: what it does by itself, and what follows from it.
+ghost use Rattle.std.specs.Prelude.{◌≡◌, ◌+◌, ◌≤◌, ◌<◌, ◌++◌, ℕ, Some, IfOk, IfErr, length, slice_get, vec_len, vec_capacity};
+ghost use Rattle.bt_machine.specs.State.{EngineState, PeerState};
+ghost use Rattle.bt_machine.specs.Devices.{DeviceCalls, HaveCalls};
+ghost use Rattle.bt_machine.specs.Next.{without_peer};
+ghost use Rattle.bt_machine.specs.Orderly.{IsOrderly};
+ghost use Rattle.bt_machine.specs.Shape.{IsShaped};
+ghost use Rattle.bt_state.specs.Parts.{state_of, disks_of};
+ghost use Rattle.bt_state.specs.Ties.{IsTied};
+ghost use Rattle.bt_wire_events.specs.Message.{IsPeerEvent};
+ghost use Rattle.bt_wire_events.specs.Hashes.{IsNoteRoom};
+ghost use Rattle.bt_engine.specs.NewsSteps.{TellMarks};
+ghost use Rattle.bt_engine.specs.RoomSteps.{IsNoteBound, HasRoom};
+ghost use Rattle.bt_engine.specs.EventSteps.{sent_by, notes_in, note_count, reply_count, IsHandled, FollowsReply, GoesOn, closed_output};
+
+use crate::news::{announce_pieces, note_complete_files};
+use crate::room::{Room, reserve};
+use bt_block_events::{Effect, Served, take_piece, take_request};
+use bt_book::PeerKey;
+use bt_disk::Disk;
+use bt_follow_up::follow_up;
+use bt_hashreq::HashKey;
+use bt_machine::{Frame, Note, Output, Why};
+use bt_state::Parts;
+use bt_tree::NodeHash;
+use bt_wire::{Ask, Bytes, Message, WireEvent};
+use bt_wire_events::{Learnt, take_hash_request, take_hashes, take_peer_event};
+use std::alloc::{AllocError, Global};
+
+/// What a wire event comes to by itself, where its peer stays.
+#[derive(Debug, Drop)]
+pub(crate) enum Reply {
+    /// Nothing is sent, and nothing noted.
+    Nothing,
+    /// The peer is sent this.
+    Sends(Message),
+    Noted(Note),
+    /// Blocks were settled, with these notes.
+    Settled(Vec<Note>),
+}
+
+/// What a wire event comes to by itself.
+#[derive(Debug, Drop)]
+pub(crate) enum Handled {
+    /// The peer is closed.
+    Closed(Why),
+    Stays(Reply),
+}
+
+/// Takes an event that came from the peer at `index`, to the end. Errors: out of memory; nothing changed then.
+pub(crate) fn take_event<D: Disk + Drop, H: NodeHash>(
+    alloc: Global,
+    parts: &mut Parts<D, H>,
+    index: usize,
+    event: &WireEvent,
+) -> Result<Output, AllocError>
+    requires tied { IsTied parts.old }
+    requires shaped { IsShaped parts.old.torrent (state_of parts.old) }
+    requires orderly { IsOrderly (state_of parts.old) }
+    requires inside { index < vec_len parts.old.peers }
+    requires there { index < length parts.old.peers.items }
+    ensures step { IfOk result (λ out. (calls : DeviceCalls)
+        × HaveCalls D.history D.honest D.faults (disks_of parts.old) calls (disks_of parts.new)
+        × GoesOn H.digest index event.now calls out (state_of parts.old) (state_of parts.new)) }
+    ensures kept { IfErr result (λ _. parts.new ≡ parts.old) }
+    ensures torrent { parts.new.torrent ≡ parts.old.torrent }
+    ensures tied { IsTied parts.new }
+{
+    let room = reserve(alloc, parts, event)?;
+    match handle(alloc, parts, index, event)? {
+        Handled::Closed(why) => Ok(close(alloc, parts, index, why)),
+        Handled::Stays(reply) => Ok(keep(parts, index, reply, room)),
+    }
+}
+
+/// Closes the peer at an index for a reason.
+pub(crate) fn close<D: Disk + Drop, H: NodeHash>(
+    alloc: Global,
+    parts: &mut Parts<D, H>,
+    index: usize,
+    why: Why,
+) -> Output
+    requires tied { IsTied parts.old }
+    requires inside { index < vec_len parts.old.peers }
+    requires there { index < length parts.old.peers.items }
+    ensures is { result ≡ closed_output why }
+    ensures gone { state_of parts.new ≡ without_peer index (state_of parts.old) }
+    ensures devices { disks_of parts.new ≡ disks_of parts.old }
+    ensures torrent { parts.new.torrent ≡ parts.old.torrent }
+    ensures tied { IsTied parts.new }
+{
+    drop_peer(parts, index);
+    Output {
+        send: Vec::new(alloc),
+        close: Some(why),
+        notes: Vec::new(alloc),
+    }
+}
+
+/// Lets the peer at an index go. What it was asked for may be asked of others.
+pub(crate) fn drop_peer<D: Disk + Drop, H: NodeHash>(parts: &mut Parts<D, H>, index: usize)
+    requires tied { IsTied parts.old }
+    requires inside { index < vec_len parts.old.peers }
+    requires there { index < length parts.old.peers.items }
+    ensures gone { state_of parts.new ≡ without_peer index (state_of parts.old) }
+    ensures devices { disks_of parts.new ≡ disks_of parts.old }
+    ensures torrent { parts.new.torrent ≡ parts.old.torrent }
+    ensures tied { IsTied parts.new }
+{
+    let key = parts.peers[index].key;
+    let _ = bt_state::lost(parts, key);
+}
+
+/// What follows where the peer at an index stays: it is sent its answer, all are sent haves of the pieces that
+/// have become whole, and then the peer is sent what follows for it.
+fn keep<D: Disk + Drop, H: NodeHash>(
+    parts: &mut Parts<D, H>,
+    index: usize,
+    reply: Reply,
+    room: Room,
+) -> Output
+    requires tied { IsTied parts.old }
+    requires shaped { IsShaped parts.old.torrent (state_of parts.old) }
+    requires inside { index < vec_len parts.old.peers }
+    requires there { index < length parts.old.peers.items }
+    requires told { (old : EngineState) × TellMarks old (state_of parts.old) (notes_in reply) }
+    requires room { (bound : ℕ) × (reply_count reply ≤ bound) × HasRoom bound (length parts.old.peers.items) room }
+    ensures follows { FollowsReply H.digest (state_of parts.old) index reply result (state_of parts.new) }
+    ensures devices { disks_of parts.new ≡ disks_of parts.old }
+    ensures torrent { parts.new.torrent ≡ parts.old.torrent }
+    ensures tied { IsTied parts.new }
+{
+    let Room {
+        mut send,
+        mut notes,
+    } = room;
+    let key = parts.peers[index].key;
+    put_reply(key, reply, &mut send, &mut notes);
+    announce_pieces(parts, notes.as_slice(), &mut send);
+    note_complete_files(parts, &mut notes);
+    follow_up(parts, index, &mut send);
+    Output {
+        send,
+        close: None,
+        notes,
+    }
+}
+
+/// Adds what an event sends and notes by itself, for which there is room.
+fn put_reply(key: PeerKey, reply: Reply, send: &mut Vec<(PeerKey, Frame)>, notes: &mut Vec<Note>)
+    requires send_room { vec_len send.old < vec_capacity send.old }
+    requires note_room { vec_len notes.old + reply_count reply ≤ vec_capacity notes.old }
+    ensures sent { (p : PeerState) → p.key ≡ key → send.new.items ≡ send.old.items ++ sent_by p reply }
+    ensures noted { notes.new.items ≡ notes.old.items ++ notes_in reply }
+    ensures few_sent { vec_len send.new ≤ vec_len send.old + 1 }
+    ensures few_noted { vec_len notes.new ≡ vec_len notes.old + reply_count reply }
+    ensures send_capacity { vec_capacity send.old ≤ vec_capacity send.new }
+    ensures note_capacity { vec_capacity notes.old ≤ vec_capacity notes.new }
+{
+    match reply {
+        Reply::Nothing => {}
+        Reply::Sends(message) => send.push((key, Frame::Message(message))).unwrap(),
+        Reply::Noted(note) => notes.push(note).unwrap(),
+        Reply::Settled(settled) => notes.extend_from_slice(settled.as_slice()).unwrap(),
+    }
+}
+
+/// What the event does by itself. Errors: out of memory; nothing changed then.
+fn handle<D: Disk + Drop, H: NodeHash>(
+    alloc: Global,
+    parts: &mut Parts<D, H>,
+    index: usize,
+    event: &WireEvent,
+) -> Result<Handled, AllocError>
+    requires tied { IsTied parts.old }
+    requires shaped { IsShaped parts.old.torrent (state_of parts.old) }
+    requires orderly { IsOrderly (state_of parts.old) }
+    requires inside { index < vec_len parts.old.peers }
+    requires there { index < length parts.old.peers.items }
+    ensures handled { IfOk result (λ handled. IsHandled D.history D.honest D.faults H.digest
+        parts.old index event.now handled parts.new) }
+    ensures few { IfOk result (λ handled. (bound : ℕ) → IsNoteBound parts.old event.now bound
+        → note_count handled ≤ bound) }
+    ensures kept { IfErr result (λ _. parts.new ≡ parts.old) }
+    ensures torrent { parts.new.torrent ≡ parts.old.torrent }
+    ensures tied { IsTied parts.new }
+{
+    match event {
+        WireEvent::Message(message) => match message {
+            Message::Request(ask) => handle_request(alloc, parts, index, *ask),
+            Message::Piece {
+                piece,
+                begin,
+                bytes,
+            } => Ok(handle_piece(parts, index, *piece, *begin, bytes)),
+            Message::HashRequest(key) => {
+                let message = take_hash_request(alloc, parts, key)?;
+                Ok(Handled::Stays(Reply::Sends(message)))
+            }
+            Message::Hashes(key, digests) => handle_hashes(alloc, parts, index, key, digests),
+            _ => Ok(handle_own(parts, index, event)),
+        },
+        _ => Ok(handle_own(parts, index, event)),
+    }
+}
+
+/// What an event does that changes its peer alone, or nothing.
+fn handle_own<D: Disk + Drop, H: NodeHash>(
+    parts: &mut Parts<D, H>,
+    index: usize,
+    event: &WireEvent,
+) -> Handled
+    requires tied { IsTied parts.old }
+    requires orderly { IsOrderly (state_of parts.old) }
+    requires inside { index < vec_len parts.old.peers }
+    requires there { index < length parts.old.peers.items }
+    requires own { IsPeerEvent event.now }
+    ensures handled { IsHandled D.history D.honest D.faults H.digest parts.old index event.now result
+        parts.new }
+    ensures few { note_count result ≡ 0 }
+    ensures torrent { parts.new.torrent ≡ parts.old.torrent }
+    ensures tied { IsTied parts.new }
+{
+    match take_peer_event(parts, index, event) {
+        Some(why) => Handled::Closed(why),
+        None => Handled::Stays(Reply::Nothing),
+    }
+}
+
+/// What a block does that comes.
+fn handle_piece<D: Disk + Drop, H: NodeHash>(
+    parts: &mut Parts<D, H>,
+    index: usize,
+    piece: u32,
+    begin: u32,
+    bytes: &Bytes,
+) -> Handled
+    requires tied { IsTied parts.old }
+    requires shaped { IsShaped parts.old.torrent (state_of parts.old) }
+    requires inside { index < vec_len parts.old.peers }
+    requires there { index < length parts.old.peers.items }
+    ensures handled { IsHandled D.history D.honest D.faults H.digest parts.old index
+        (WireEvent.Message (Message.Piece piece begin bytes.now)) result parts.new }
+    ensures few { note_count result ≤ 1 }
+    ensures torrent { parts.new.torrent ≡ parts.old.torrent }
+    ensures tied { IsTied parts.new }
+{
+    match take_piece(parts, index, piece, begin, bytes.as_slice()) {
+        Effect::Noted(note) => Handled::Stays(Reply::Noted(note)),
+        Effect::Closed(why) => Handled::Closed(why),
+    }
+}
+
+/// What a request for a range does. Errors: out of memory; nothing changed then.
+fn handle_request<D: Disk + Drop, H: NodeHash>(
+    alloc: Global,
+    parts: &mut Parts<D, H>,
+    index: usize,
+    ask: Ask,
+) -> Result<Handled, AllocError>
+    requires tied { IsTied parts.old }
+    requires shaped { IsShaped parts.old.torrent (state_of parts.old) }
+    requires inside { index < vec_len parts.old.peers }
+    requires there { index < length parts.old.peers.items }
+    ensures handled { IfOk result (λ handled. IsHandled D.history D.honest D.faults H.digest parts.old index
+        (WireEvent.Message (Message.Request ask)) handled parts.new) }
+    ensures few { IfOk result (λ handled. note_count handled ≤ 1) }
+    ensures kept { IfErr result (λ _. parts.new ≡ parts.old) }
+    ensures torrent { parts.new.torrent ≡ parts.old.torrent }
+    ensures tied { IsTied parts.new }
+{
+    match take_request(alloc, parts, index, ask)? {
+        Served::Nothing => Ok(Handled::Stays(Reply::Nothing)),
+        Served::Closed(why) => Ok(Handled::Closed(why)),
+        Served::Sent(bytes) => Ok(Handled::Stays(Reply::Sends(Message::Piece {
+            piece: ask.piece,
+            begin: ask.begin,
+            bytes: Bytes::new(bytes),
+        }))),
+        Served::Found(note) => Ok(Handled::Stays(Reply::Noted(note))),
+    }
+}
+
+/// What hashes do that come. Errors: out of memory; nothing changed then.
+fn handle_hashes<D: Disk + Drop, H: NodeHash>(
+    alloc: Global,
+    parts: &mut Parts<D, H>,
+    index: usize,
+    key: &HashKey,
+    digests: &Bytes,
+) -> Result<Handled, AllocError>
+    requires tied { IsTied parts.old }
+    requires shaped { IsShaped parts.old.torrent (state_of parts.old) }
+    requires inside { index < vec_len parts.old.peers }
+    requires there { index < length parts.old.peers.items }
+    ensures handled { IfOk result (λ handled. IsHandled D.history D.honest D.faults H.digest parts.old index
+        (WireEvent.Message (Message.Hashes key.now digests.now)) handled parts.new) }
+    ensures few { IfOk result (λ handled. (bound : ℕ) → IsNoteRoom parts.old key.now bound
+        → note_count handled ≤ bound) }
+    ensures kept { IfErr result (λ _. parts.new ≡ parts.old) }
+    ensures torrent { parts.new.torrent ≡ parts.old.torrent }
+    ensures tied { IsTied parts.new }
+{
+    match take_hashes(alloc, parts, index, key, digests.as_slice())? {
+        Learnt::Refused(why) => Ok(Handled::Closed(why)),
+        Learnt::Settled(notes) => Ok(Handled::Stays(Reply::Settled(notes))),
+    }
+}

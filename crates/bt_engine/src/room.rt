@@ -1,0 +1,64 @@
+//! Room for what a wire event sends and notes. It is made before the event changes anything.
+ghost use Rattle.std.specs.Prelude.{◌^◌, ◌≤◌, ℕ, IfOk, length};
+ghost use Rattle.bt_machine.specs.Orderly.{IsOrderly};
+ghost use Rattle.bt_machine.specs.Shape.{IsShaped};
+ghost use Rattle.bt_state.specs.Parts.{state_of};
+ghost use Rattle.bt_state.specs.Ties.{IsTied};
+ghost use Rattle.bt_engine.specs.RoomSteps.{IsNoteBound, HasRoom};
+
+use bt_book::PeerKey;
+use bt_disk::Disk;
+use bt_machine::{Frame, Note};
+use bt_state::Parts;
+use bt_tree::NodeHash;
+use bt_wire::{Message, WireEvent};
+use bt_wire_events::room_for_notes;
+use std::alloc::{AllocError, Global};
+
+/// How many frames follow an event for its peer at most: our interest, a hash request and 16 requests.
+const FOLLOWING: usize = 18;
+
+/// Lists of what an event sends and notes.
+#[derive(Debug, Drop)]
+pub(crate) struct Room {
+    pub send: Vec<(PeerKey, Frame)>,
+    pub notes: Vec<Note>,
+}
+
+/// Makes room for whatever the event sends and notes: an answer, a have to each peer for each note, and what
+/// follows; its notes, and for each a complete file.
+pub(crate) fn reserve<D: Disk + Drop, H: NodeHash>(
+    alloc: Global,
+    parts: &Parts<D, H>,
+    event: &WireEvent,
+) -> Result<Room, AllocError>
+    requires tied { IsTied parts.now }
+    requires shaped { IsShaped parts.now.torrent (state_of parts.now) }
+    requires orderly { IsOrderly (state_of parts.now) }
+    ensures { IfOk result (λ room. (bound : ℕ) × IsNoteBound parts.now event.now bound
+        × HasRoom bound (length parts.now.peers.items) room) }
+{
+    let bound = note_bound(parts, event);
+    let peers = parts.peers.as_slice().len();
+    let send = Vec::with_capacity(alloc, bound * peers + 1 + FOLLOWING)?;
+    let notes = Vec::with_capacity(alloc, 2 * bound)?;
+    Ok(Room { send, notes })
+}
+
+/// How many notes the event has at most, without those of complete files.
+fn note_bound<D: Disk + Drop, H: NodeHash>(parts: &Parts<D, H>, event: &WireEvent) -> usize
+    requires tied { IsTied parts.now }
+    requires shaped { IsShaped parts.now.torrent (state_of parts.now) }
+    ensures bound { IsNoteBound parts.now event.now result }
+    ensures small { result ≤ 2 ^ 26 }
+{
+    match event {
+        WireEvent::Message(message) => match message {
+            Message::Request(_) => 1,
+            Message::Piece { .. } => 1,
+            Message::Hashes(key, _) => room_for_notes(parts, key),
+            _ => 0,
+        },
+        _ => 0,
+    }
+}

@@ -1,0 +1,8 @@
+-- devices
+pub mod Flushes
+pub mod SlotTies
+-- peers
+pub mod Choices
+pub mod Turns
+pub mod Servings
+pub mod FollowUps

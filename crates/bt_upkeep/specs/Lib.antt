@@ -1,0 +1,2 @@
+pub mod DevicesSteps
+pub mod ServingSteps
