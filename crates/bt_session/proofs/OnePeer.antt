@@ -3,7 +3,7 @@ use Rattle.bt_machine.proofs.Base.{[], ◌≡◌, ◌≢◌, ℕ, zero, suc, ◌
 use Rattle.bt_machine.proofs.Machine.{Digest, PeerState, EngineState, with_file, with_peer, FindsFault, damaged, fault, with_payload, HandlesRequest, ignored, no_place, not_marked, served, stopped, Arrives, HandlesPiece, stale, arrives, HandlesHashes, unknown_root, no_claim, refused, accepts_hashes, HandlesHave, in_range, out_of_range, HandlesBitfield, right, wrong, HandlesMessage, Handles, RequestsHashes, requests, rests, FollowsUp, IsPeer, without_peer, with_pending, TakesEvent, StepNext, no_peer, waits, keeps_peer, closes, faulty, no_memory, new_peer, StepConnect, joins, full, spent, no_room, StepFeed, feeds, not_fed, no_room as no_room_to_feed, StepLost, goes, not_fed as not_lost, rechoked, rechoked_peer, FollowsEach, StepRechoke, rechokes, not_rechoked}
 use Rattle.bt_machine.proofs.Lists.{set_id, set_same}
 use Rattle.std.specs.List.{sum_by, range_with_len}
-use Rattle.std.specs.Prelude.{Bool, false}
+use Rattle.std.specs.Prelude.{Bool, false, IfOk, IfErr}
 use Rattle.std.specs.Int.{w32, to_be_bytes}
 use Rattle.bt_wire.specs.Cutter.{Stream, fed}
 use Rattle.bt_wire.specs.Event.{IsEvent}
@@ -19,7 +19,7 @@ use Rattle.bt_machine.specs.declared.error.EngineError.TheVariants.{OutOfMemory}
 use Rattle.bt_machine.specs.declared.error.ConnectError.{ConnectError}
 use Rattle.bt_machine.specs.Output.{Output}
 use Rattle.bt_machine.specs.Peers.{greeting}
-use Rattle.bt_session.specs.PeerSteps.{IsAlone, HasNoOther, unread_count}
+use Rattle.bt_session.specs.PeerSteps.{IsAlone, HasNoOther, LeavesPeer, unread_count}
 
 -- ---- an event leaves its peer's key and bytes
 
@@ -220,6 +220,12 @@ module _ (dig : Digest) where
   next_refused {s} error (no_memory i p peer g e) a =
       let at = only_at a.peer i p (ap (λ l. slice_get l i) (sym a.only) ∙ peer.here) in (cc, gone i a.peer s _ a.only at.0 g.after)
 
+  pub next_leaves : {s new : EngineState} {key calls : _} (answer : Result (Option Output) EngineError) → StepNext dig s key calls answer new → IsAlone key s
+      → LeavesPeer key s answer new
+  next_leaves (Ok (Some out)) step a = (λ stays. next_stays out step stays a, λ why closed. next_closed out why step closed a)
+  next_leaves (Ok None) step a = next_waits step a
+  next_leaves (Err error) step a = next_refused error step a
+
   -- ---- the other events
 
   pub rechoke_stays : {s new : EngineState} {key : PeerKey} {answer : _} → StepRechoke dig s answer new → IsAlone key s → IsAlone key new
@@ -264,3 +270,13 @@ lost_gone {s} (goes i p peer e w) (inr a) =
     let at = only_at a.peer i p (ap (λ l. slice_get l i) (sym a.only) ∙ peer.here) in gone i a.peer s _ a.only at.0 w
 lost_gone (not_lost x e w) (inl none) = ap (λ (x : EngineState). x.peers) w ∙ none
 lost_gone (not_lost x e w) (inr a) = absurd (x 0 a.peer (is_first a))
+
+pub connect_alone : {s new : EngineState} (answer : Result (PeerKey × Output) ConnectError) → StepConnect s answer new → s.peers ≡ []
+    → IfOk answer (λ joined. IsAlone joined.0 new)
+connect_alone (Ok joined) step none = connect_joins joined.0 joined.1 step none
+connect_alone (Err error) step none = tt
+
+pub feed_error : {s new : EngineState} {key bytes : _} (answer : Result (Unit {0}) EngineError) → StepFeed s key bytes answer new → IsAlone key s
+    → IfErr answer (λ error. error ≡ OutOfMemory)
+feed_error (Ok done) step a = tt
+feed_error (Err error) step a = feed_refused error step a

@@ -2,6 +2,7 @@
 //! any reader and any writer.
 #![tactic(auto)]
 
+mod calls;
 mod end;
 mod frames;
 mod law;
