@@ -1,6 +1,6 @@
 -- The steps of an engine to which one peer is connected.
-use Rattle.bt_machine.proofs.Base.{[], ◌≡◌, ◌≢◌, ℕ, zero, suc, ◌+◌, ◌<◌, ◌≤◌, inl, inr, true, List, ◌∷◌, ◌++◌, length, map, take, drop, Option, Some, None, refl, sym, ap, ◌∙◌, subst, arith, length-append, slice_get, slice_set, Result, Ok, Err, without_block, PeerKey, PeerMessage as Sent, KeepAlive, Choke, Have, Bitfield, Request, Piece, Cancel, HashRequest, Hashes, HashReject, Message}
-use Rattle.bt_machine.proofs.Machine.{Digest, PeerState, EngineState, with_file, with_peer, FindsFault, damaged, fault, with_payload, HandlesRequest, ignored, no_place, not_marked, served, stopped, Arrives, HandlesPiece, stale, arrives, HandlesHashes, unknown_root, no_claim, refused, accepts_hashes, HandlesHave, in_range, out_of_range, HandlesBitfield, right, wrong, HandlesMessage, Handles, RequestsHashes, requests, rests, FollowsUp, IsPeer, without_peer, with_pending, TakesEvent, StepNext, no_peer, waits, keeps_peer, closes, faulty, no_memory, new_peer, StepConnect, joins, full, spent, no_room, StepFeed, feeds, not_fed, no_room as no_room_to_feed, StepLost, goes, not_fed as not_lost, rechoked, rechoked_peer, FollowsEach, StepRechoke, rechokes, not_rechoked}
+use Rattle.bt_machine.proofs.Base.{[], ◌≡◌, ℕ, zero, suc, ◌+◌, ◌<◌, inl, inr, true, List, ◌∷◌, ◌++◌, length, map, take, drop, Option, Some, None, refl, sym, ap, ◌∙◌, subst, arith, length-append, slice_get, slice_set, Result, Ok, Err, without_block, PeerKey, PeerMessage as Sent, KeepAlive, Have, Bitfield, Request, Piece, Cancel, HashRequest, Hashes, HashReject, Message}
+use Rattle.bt_machine.proofs.Machine.{Digest, PeerState, EngineState, with_peer, FindsFault, damaged, fault, with_payload, HandlesRequest, ignored, no_place, not_marked, served, stopped, HandlesPiece, stale, arrives, HandlesHashes, unknown_root, no_claim, refused, accepts_hashes, HandlesHave, in_range, out_of_range, HandlesBitfield, right, wrong, HandlesMessage, Handles, RequestsHashes, requests, rests, FollowsUp, IsPeer, without_peer, TakesEvent, StepNext, no_peer, waits, keeps_peer, closes, faulty, no_memory, new_peer, StepConnect, joins, full, spent, no_room, StepFeed, feeds, not_fed, no_room as no_room_to_feed, StepLost, goes, not_fed as not_lost, rechoked, rechoked_peer, FollowsEach, StepRechoke, rechokes, not_rechoked}
 use Rattle.bt_machine.proofs.Lists.{set_id, set_same}
 use Rattle.std.specs.List.{sum_by, range_with_len}
 use Rattle.std.specs.Prelude.{Bool, false, IfOk, IfErr}
@@ -178,7 +178,7 @@ module _ (dig : Digest) where
       let f : IsNow h.new new = follow_same h.new h.peers g.follows in
       let after : unread_count new ≡ length g.takes.rest.unread = unread_of new f.new f.peers ∙ ap (λ (x : Stream). length x.unread) (f.stream ∙ h.stream) in
       let before : unread_count s ≡ length (g.takes.takes.bytes ++ g.takes.rest.unread) =
-          unread_of s a.peer a.only ∙ ap (λ (x : PeerState). length x.stream.unread) (sym at.1) ∙ ap length g.takes.takes.front in
+      unread_of s a.peer a.only ∙ ap (λ (x : PeerState). length x.stream.unread) (sym at.1) ∙ ap length g.takes.takes.front in
       let some : 0 < length g.takes.takes.bytes = event_some p.stream.greeted g.takes.event g.takes.takes.bytes g.takes.takes.event in
       let sum = length-append g.takes.takes.bytes g.takes.rest.unread in (
         record { peer = f.new; only = f.peers; same_key = f.key ∙ h.key ∙ peer.same_key },
@@ -232,7 +232,7 @@ module _ (dig : Digest) where
   rechoke_stays {s} {new} {key} (rechokes out r e) a =
       let p : PeerState = rechoked_peer s a.peer in
       let each : FollowsEach dig (0 ∷ []) (rechoked s) r.sent new =
-          subst (λ l. FollowsEach dig (range_with_len 0 (length l)) (rechoked s) r.sent new) a.only r.follows in
+      subst (λ l. FollowsEach dig (range_with_len 0 (length l)) (rechoked s) r.sent new) a.only r.follows in
       let f : IsNow p each.0 = follow_same p (ap (map (rechoked_peer s)) a.only) each.3 in
       alone_as (record { peer = f.new; only = f.peers; same_key = f.key ∙ a.same_key }) each.4.1
   rechoke_stays (not_rechoked e w) a = alone_as a w

@@ -1,5 +1,5 @@
 -- The frames that are sent to one peer, and how they are spelled.
-use Rattle.std.specs.Prelude.{◌≡◌, ℕ, ◌==◌, List, map, filter, flat_map, Bool, Option, Contains, Result, Ok, Err}
+use Rattle.std.specs.Prelude.{ℕ, ◌==◌, List, map, filter, flat_map, Bool, Option, Contains, Result, Ok, Err}
 use Rattle.std.specs.Io.KnownBytes.{Appends, Keeps}
 use Rattle.bt_book.specs.declared.names.PeerKey.{PeerKey}
 use Rattle.bt_wire.specs.Handshake.{handshake_spelling}

@@ -11,8 +11,8 @@ spell-requires c = record { fits = c.requires.fit c.loop-to-item.result (c.loop-
 pub loop-to-preserved : goal.loop-to-preserved
 loop-to-preserved c =
     let more =
-        take_more c.args.send.now c.loop-to.to-index c.loop-to-item.result c.loop-to-test.true
-        ∙ ap (λ s. take c.loop-to.to-index c.args.send.now ++ s ∷ []) (sym c.loop-to-item.is) in
+    take_more c.args.send.now c.loop-to.to-index c.loop-to-item.result c.loop-to-test.true
+    ∙ ap (λ s. take c.loop-to.to-index c.args.send.now ++ s ∷ []) (sym c.loop-to-item.is) in
     elim c.if-eq.branch [
       | then-eq+in_ok-spell w ↦ rw w.buffer-is
           (spelled_more c.args.key _ _ c.loop-to-item.result _ _ c.loop-to.invariant more (sym c.eq.ensures ∙ w.if-eq.true) w.in_ok-spell.ensures)
