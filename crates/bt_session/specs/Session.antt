@@ -22,7 +22,8 @@ read_length = 16384
 
 -- the bytes of one read are fed
 abbrev pub FeedsRead : PeerKey → Event → Type 0
-FeedsRead key event = (bytes : List ℕ) × (0 < length bytes) × (length bytes ≤ read_length) × (event ≡ Feed key bytes)
+FeedsRead key event = (bytes : List ℕ)
+    × (0 < length bytes) × (length bytes ≤ read_length) × (event ≡ Feed key bytes)
 
 -- The event that a session makes behind an answer that left the engine so. Behind a greeting and behind the
 -- choice of peers to serve bytes are fed; then wire events are taken until none is there; then the peers to
@@ -36,7 +37,7 @@ Follows key until s (Stepped (Ok None)) event = event ≡ Rechoke
 Follows key until s (Rechoked (Ok _)) event = FeedsRead key event
 Follows key until s _ event = ⊥
 
--- A session begins as its peer is connected, and goes on event by event. `last` is the answer of the last one.
+-- A session begins as its peer is connected, and goes on event by event. `last` is the last answer.
 pub data Session {D : Type 0} (history : D → History) (honest : D → Type 0) (faults : D → ℕ)
     (dig : List ℕ → List ℕ) (key : PeerKey) (until_complete : Bool) (first : EngineView D)
     : List Event → List Answer → (last : Answer) → EngineView D → Type 0 where
@@ -47,11 +48,12 @@ pub data Session {D : Type 0} (history : D → History) (honest : D → Type 0) 
       → Session history honest faults dig key until_complete first events answers last mid
       → Follows key until_complete mid.state last event
       → StepsTo history honest faults dig mid event answer now
-      → Session history honest faults dig key until_complete first (events ++ event ∷ []) (answers ++ answer ∷ [])
-      answer now
+      → Session history honest faults dig key until_complete first (events ++ event ∷ [])
+      (answers ++ answer ∷ []) answer now
 
 -- Its events are a run of the engine.
-abbrev pub SessionsAreRuns : {D : Type 0} → (D → History) → (D → Type 0) → (D → ℕ) → (List ℕ → List ℕ) → Type 0
+abbrev pub SessionsAreRuns : {D : Type 0} → (D → History) → (D → Type 0) → (D → ℕ) → (List ℕ → List ℕ)
+    → Type 0
 SessionsAreRuns {D} history honest faults dig = (key : PeerKey) (until_complete : Bool) (first : EngineView D)
     (events : List Event) (answers : List Answer) (last : Answer) (now : EngineView D)
     → Session history honest faults dig key until_complete first events answers last now

@@ -34,8 +34,8 @@ pub(crate) fn write_frames<W: Write>(
     }
 }
 
-/// Spells those frames that are sent to a peer, one after the other, in place of what the buffer held. Errors:
-/// out of memory.
+/// Spells those frames that are sent to a peer, one after the other, in place of what the buffer held.
+/// Errors: out of memory.
 fn spell_frames(
     alloc: Global,
     key: PeerKey,
