@@ -1,0 +1,3 @@
+pub mod FrameLists
+pub mod OnePeer
+pub mod Runs

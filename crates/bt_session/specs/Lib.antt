@@ -1,0 +1,3 @@
+pub mod Frames
+pub mod Session
+pub mod PeerSteps

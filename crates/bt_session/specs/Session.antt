@@ -1,0 +1,60 @@
+-- What happens in a session with a peer, and how it ends.
+use Rattle.std.specs.Prelude.{[], ◌≡◌, ℕ, ◌<◌, ◌≤◌, Bool, true, List, ◌∷◌, ◌++◌, length, Some, None, Ok}
+use Rattle.bt_disk.specs.History.{History}
+use Rattle.bt_book.specs.declared.names.PeerKey.{PeerKey}
+use Rattle.bt_machine.specs.declared.event.Event.{Event}
+use Rattle.bt_machine.specs.declared.event.Event.TheVariants.{Connect, Feed, Next, Rechoke}
+use Rattle.bt_machine.specs.declared.event.Answer.{Answer}
+use Rattle.bt_machine.specs.declared.event.Answer.TheVariants.{Connected, Fed, Stepped, Rechoked}
+use Rattle.bt_machine.specs.Report.{all_complete}
+use Rattle.bt_machine.specs.State.{EngineState, EngineView}
+use Rattle.bt_machine.specs.View.{StepsTo, RunsTo}
+
+-- ---- which event follows
+
+-- a session asked to go on until the engine is complete is done then
+abbrev pub IsDone : (until_complete : Bool) → EngineState → Type 0
+IsDone until_complete s = (until_complete ≡ true) × (all_complete s ≡ true)
+
+-- a reader is asked for so many bytes
+abbrev pub read_length : ℕ
+read_length = 16384
+
+-- the bytes of one read are fed
+abbrev pub FeedsRead : PeerKey → Event → Type 0
+FeedsRead key event = (bytes : List ℕ)
+    × (0 < length bytes) × (length bytes ≤ read_length) × (event ≡ Feed key bytes)
+
+-- The event that a session makes behind an answer that left the engine so. Behind a greeting and behind the
+-- choice of peers to serve bytes are fed; then wire events are taken until none is there; then the peers to
+-- serve are chosen.
+abbrev pub Follows : PeerKey → (until_complete : Bool) → EngineState → Answer → Event → Type 0
+Follows key until s (Connected (Ok _)) event = ¬ IsDone until s × FeedsRead key event
+Follows key until s (Fed (Ok _)) event = event ≡ Next key
+Follows key until s (Stepped (Ok (Some out))) event =
+    (out.close ≡ None) × ¬ IsDone until s × (event ≡ Next key)
+Follows key until s (Stepped (Ok None)) event = event ≡ Rechoke
+Follows key until s (Rechoked (Ok _)) event = FeedsRead key event
+Follows key until s _ event = ⊥
+
+-- A session begins as its peer is connected, and goes on event by event. `last` is the last answer.
+pub data Session {D : Type 0} (history : D → History) (honest : D → Type 0) (faults : D → ℕ)
+    (dig : List ℕ → List ℕ) (key : PeerKey) (until_complete : Bool) (first : EngineView D)
+    : List Event → List Answer → (last : Answer) → EngineView D → Type 0 where
+  begins : (answer : Answer) (now : EngineView D) → StepsTo history honest faults dig first Connect answer now
+      → Session history honest faults dig key until_complete first (Connect ∷ []) (answer ∷ []) answer now
+  goes_on : (events : List Event) (answers : List Answer) (last answer : Answer) (event : Event)
+      (mid now : EngineView D)
+      → Session history honest faults dig key until_complete first events answers last mid
+      → Follows key until_complete mid.state last event
+      → StepsTo history honest faults dig mid event answer now
+      → Session history honest faults dig key until_complete first (events ++ event ∷ [])
+      (answers ++ answer ∷ []) answer now
+
+-- Its events are a run of the engine.
+abbrev pub SessionsAreRuns : {D : Type 0} → (D → History) → (D → Type 0) → (D → ℕ) → (List ℕ → List ℕ)
+    → Type 0
+SessionsAreRuns {D} history honest faults dig = (key : PeerKey) (until_complete : Bool) (first : EngineView D)
+    (events : List Event) (answers : List Answer) (last : Answer) (now : EngineView D)
+    → Session history honest faults dig key until_complete first events answers last now
+    → RunsTo history honest faults dig first events answers now

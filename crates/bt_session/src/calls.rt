@@ -1,0 +1,80 @@
+//! The calls of an engine with one peer: each is an event of the machine, and leaves the peer or takes it.
+ghost use Rattle.std.specs.Prelude.{[], ◌≡◌, IfOk, IfErr};
+ghost use Rattle.bt_machine.specs.declared.error.EngineError.TheVariants.{OutOfMemory};
+ghost use Rattle.bt_machine.specs.declared.event.Event.TheVariants.{Connect, Feed, Next, Lost, Rechoke};
+ghost use Rattle.bt_machine.specs.declared.event.Answer.TheVariants.{Connected, Fed, Stepped, Lost as LostAnswer, Rechoked};
+ghost use Rattle.bt_machine.specs.View.{StepsTo};
+ghost use Rattle.bt_session.specs.PeerSteps.{IsAlone, HasNoOther, LeavesPeer};
+
+use bt_book::PeerKey;
+use bt_disk::Disk;
+use bt_engine::Engine;
+use bt_machine::{ConnectError, EngineError, Output};
+use bt_tree::NodeHash;
+use std::alloc::AllocError;
+
+/// Connects the peer: gives its key, and what it is to be sent.
+pub(crate) fn connect<D: Disk + Drop, H: NodeHash>(
+    engine: &mut Engine<D, H>,
+) -> Result<(PeerKey, Output), ConnectError>
+    requires empty { engine.old.state.peers ≡ [] }
+    ensures step { StepsTo D.history D.honest D.faults H.digest engine.old Connect (Connected result)
+        engine.new }
+    ensures alone { IfOk result (λ joined. IsAlone joined.0 engine.new.state) }
+{
+    engine.connect()
+}
+
+/// Feeds bytes of the peer, all or none. Errors: out of memory.
+pub(crate) fn feed<D: Disk + Drop, H: NodeHash>(
+    engine: &mut Engine<D, H>,
+    key: PeerKey,
+    bytes: &[u8],
+) -> Result<(), EngineError>
+    requires alone { IsAlone key engine.old.state }
+    ensures step { StepsTo D.history D.honest D.faults H.digest engine.old (Feed key bytes.now) (Fed result)
+        engine.new }
+    ensures alone { IsAlone key engine.new.state }
+    ensures refused { IfErr result (λ error. error ≡ OutOfMemory) }
+{
+    engine.feed(key, bytes)
+}
+
+/// Takes the next wire event of the peer. Errors: out of memory, and the peer is gone.
+pub(crate) fn next<D: Disk + Drop, H: NodeHash>(
+    engine: &mut Engine<D, H>,
+    key: PeerKey,
+) -> Result<Option<Output>, EngineError>
+    requires alone { IsAlone key engine.old.state }
+    ensures step { StepsTo D.history D.honest D.faults H.digest engine.old (Next key) (Stepped result)
+        engine.new }
+    ensures leaves { LeavesPeer key engine.old.state result engine.new.state }
+{
+    engine.next(key)
+}
+
+/// Chooses the peers to serve anew. Errors: out of memory.
+pub(crate) fn rechoke<D: Disk + Drop, H: NodeHash>(
+    engine: &mut Engine<D, H>,
+    key: PeerKey,
+) -> Result<Output, AllocError>
+    requires alone { IsAlone key engine.old.state }
+    ensures step { StepsTo D.history D.honest D.faults H.digest engine.old Rechoke (Rechoked result)
+        engine.new }
+    ensures alone { IsAlone key engine.new.state }
+{
+    engine.rechoke()
+}
+
+/// Removes the peer, where it is not gone already.
+pub(crate) fn remove<D: Disk + Drop, H: NodeHash>(
+    engine: &mut Engine<D, H>,
+    key: PeerKey,
+) -> Result<(), EngineError>
+    requires no_other { HasNoOther key engine.old.state }
+    ensures step { StepsTo D.history D.honest D.faults H.digest engine.old (Lost key) (LostAnswer result)
+        engine.new }
+    ensures gone { engine.new.state.peers ≡ [] }
+{
+    engine.lost(key)
+}

@@ -1,0 +1,69 @@
+//! What an engine sends to one peer, written.
+ghost use Rattle.std.specs.Prelude.{◌≡◌, ◌++◌, IfOk};
+ghost use Rattle.bt_machine.specs.Frames.{CanBeWritten};
+ghost use Rattle.bt_session.specs.Frames.{spelling, spellings, frames_to, AllFit, AreWritten};
+
+use crate::end::SessionEnd;
+use bt_book::PeerKey;
+use bt_machine::Frame;
+use bt_wire::{write_handshake, write_message};
+use std::alloc::{AllocError, Global};
+use std::io::Write;
+
+/// Writes those frames that are sent to a peer, by one write where the writer takes all, and flushes it. The
+/// buffer is one that is used again. Errors: Memory, with nothing written; WriteFault.
+pub(crate) fn write_frames<W: Write>(
+    alloc: Global,
+    writer: &mut W,
+    key: PeerKey,
+    send: &[(PeerKey, Frame)],
+    buffer: &mut Vec<u8>,
+) -> Result<(), SessionEnd>
+    requires fit { AllFit send.now }
+    ensures { AreWritten (W.contents writer.old) (W.contents writer.new) (frames_to key send.now) result }
+{
+    if spell_frames(alloc, key, send, buffer).is_err() {
+        return Err(SessionEnd::Memory);
+    }
+    if writer.write_all(buffer.as_slice()).is_err() {
+        return Err(SessionEnd::WriteFault);
+    }
+    match writer.flush() {
+        Ok(()) => Ok(()),
+        Err(_) => Err(SessionEnd::WriteFault),
+    }
+}
+
+/// Spells those frames that are sent to a peer, one after the other, in place of what the buffer held.
+/// Errors: out of memory.
+fn spell_frames(
+    alloc: Global,
+    key: PeerKey,
+    send: &[(PeerKey, Frame)],
+    buffer: &mut Vec<u8>,
+) -> Result<(), AllocError>
+    requires fit { AllFit send.now }
+    ensures { IfOk result (λ _. buffer.new.items ≡ spellings (frames_to key send.now)) }
+{
+    buffer.clear();
+    for (to, frame) in send {
+        if *to == key {
+            spell(alloc, frame, buffer)?;
+        }
+    }
+    Ok(())
+}
+
+/// Spells a frame behind what the buffer holds. Errors: out of memory.
+fn spell(alloc: Global, frame: &Frame, buffer: &mut Vec<u8>) -> Result<(), AllocError>
+    requires fits { CanBeWritten frame.now }
+    ensures { IfOk result (λ _. buffer.new.items ≡ buffer.old.items ++ spelling frame.now) }
+{
+    match frame {
+        Frame::Hello(handshake) => buffer.extend_from_slice(&write_handshake(handshake)),
+        Frame::Message(message) => {
+            let bytes = write_message(alloc, message)?;
+            buffer.extend_from_slice(bytes.as_slice())
+        }
+    }
+}

@@ -1,0 +1,11 @@
+//! A session with one peer: its bytes are fed to an engine, and what the engine sends to it is written, over
+//! any reader and any writer.
+#![tactic(auto)]
+
+mod calls;
+mod end;
+mod frames;
+mod law;
+
+pub use end::SessionEnd;
+pub use law::sessions_are_runs;
