@@ -19,11 +19,3 @@ pub mod DeterminedPeers
 pub mod DeterminedAdopt
 pub mod Determined
 -- worked examples
-pub mod ExamplePeer
-pub mod ExampleOneBlock
-pub mod ExampleThreeTree
-pub mod ExampleThreeEngine
-pub mod ExampleServing
-pub mod ExampleTwins
-pub mod ExampleFlush
-pub mod ExampleAdopting

@@ -7,13 +7,6 @@ pub use Rattle.bt_machine.specs.Arrival.{arrives, stale, HandlesPiece, HasPutEff
 pub use Rattle.bt_machine.specs.Blocks.{with_peer, state_at, tree_of, with_file, with_tree, block_id, Has, file_numbers, IsAsked, new_complete_files, is_whole, piece_numbers, is_complete, has_become, new_whole_pieces, leaf_at, piece_of}
 pub use Rattle.bt_machine_checks.specs.LeftFree.{IsOutOfMemory, HaveMemory, plain_answer, without_asked, LacksOneAtMost, other_frames, block_requests, is_block_request, asked_nothing, IsReached, StepIsDetermined, StepIsForced, RunsAreDetermined}
 pub use Rattle.bt_machine.specs.Devices.{DeviceCalls, reads_at, calls_at}
-pub use Rattle.bt_machine_checks.specs.ExampleAdopting.{AdoptedBlockIsRun, IsWrongAbc}
-pub use Rattle.bt_machine_checks.specs.ExampleFlush.{FlushesAreRun, second_key, free_peer, busy_peer, keepalive_bytes, LostPeerIsRun}
-pub use Rattle.bt_machine_checks.specs.ExampleOneBlock.{abc_file, abc_torrent, abc_engine, served_peer, abc_events, abc_calls, abc_answers, abc, piece_bytes, FetchOfAbcIsRun}
-pub use Rattle.bt_machine_checks.specs.ExamplePeer.{all_taken, first_key, to_first, their_handshake, unchoke_bytes, peer_with, bitfield_bytes}
-pub use Rattle.bt_machine_checks.specs.ExampleServing.{KnowsTwo, marked_engine, reader, interested_bytes, request_bytes, long_request_bytes, serving_events, serving_calls, serving_answers, ServingIsRun}
-pub use Rattle.bt_machine_checks.specs.ExampleThreeBlocks.{ThreeBlocks, three_torrent, leaves_key, four_leaves, AreWhole, leaves_message, three_root, three_file, zero_leaf, left_node, right_node}
-pub use Rattle.bt_machine_checks.specs.ExampleTwins.{twin_files, twin_engine, twin_peer, TwinFilesAreRun}
 pub use Rattle.bt_machine.specs.Flush.{StepFlush, syncs, fails, syncs_of, data_files}
 pub use Rattle.bt_machine.specs.FollowUp.{FollowsUp, rests, requests, interest_sent, RequestsHashes, IsOpen, RequestsEach, NeedsLeaf, IsInteresting, RequestsBlock, AsksBlocks, TellsInterest, IsLeastNeed}
 pub use Rattle.bt_machine.specs.HashMessages.{accepts_hashes, unknown_root, refused, HandlesHashes, no_claim, rejected, HandlesHashRequest, answered, new_proofs, ours as resolved, IsTreeOf, IsAnswered, settled_count, Resolves, other as other_asked, AcceptsHashes, OnlyCloses}

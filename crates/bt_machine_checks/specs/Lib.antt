@@ -2,10 +2,3 @@ pub mod LeftFree
 pub mod AnswerLaw
 pub mod AnswerDue
 -- worked examples
-pub mod ExamplePeer
-pub mod ExampleOneBlock
-pub mod ExampleThreeBlocks
-pub mod ExampleServing
-pub mod ExampleTwins
-pub mod ExampleFlush
-pub mod ExampleAdopting

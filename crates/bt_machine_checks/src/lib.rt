@@ -1,11 +1,9 @@
 //! That the definitions of `bt_machine` say what they should: that they leave nothing free but which blocks
-//! are requested, that they let certain wrong engines in nowhere, and that they can be met. Nothing stands
-//! on it.
+//! are requested, and that they let certain wrong engines in nowhere. Nothing stands on it.
 #![tactic(auto)]
 
 mod answer_due;
 mod answer_law;
-mod example;
 mod left_free;
 
 pub use answer_due::{
@@ -14,9 +12,5 @@ pub use answer_due::{
 };
 pub use answer_law::{
     next_notes_complete_files, step_announces_whole_pieces, step_closes_for_cause,
-};
-pub use example::{
-    adopted_block_is_run, fetch_of_abc_is_run, flushes_are_run, lost_peer_is_run, serving_is_run,
-    twin_files_are_run,
 };
 pub use left_free::{runs_are_determined, step_is_determined, step_is_forced};
