@@ -1,4 +1,5 @@
 pub mod LeftFree
 pub mod AnswerLaw
 pub mod AnswerDue
+
 -- worked examples
