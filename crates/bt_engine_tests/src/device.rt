@@ -1,3 +1,6 @@
+ghost use Rattle.std.specs.Prelude.{◌<◌, ◌-◌, ◌^◌};
+ghost use Rattle.std.specs.Bool.{OnTrue};
+
 use crate::bytes::bytes_of;
 use bt_disk::{FaultDisk, MemoryDisk};
 use std::alloc::{AllocError, Global};
@@ -44,17 +47,30 @@ impl Device {
 
     pub fn into_disk(self, alloc: Global) -> FaultDisk<MemoryDisk> {
         let Device { bytes, fault, flip } = self;
-        let mut disk = FaultDisk::new(MemoryDisk::new(alloc, bytes));
-        if let Some(call) = fault
-            && is_call(call)
-        {
-            disk = disk.failing_once(call);
+        let disk = FaultDisk::new(MemoryDisk::new(alloc, bytes));
+        let disk = match fault {
+            Some(call) => with_fault(disk, call),
+            None => disk,
+        };
+        match flip {
+            Some((call, place)) => with_flip(disk, call, place),
+            None => disk,
         }
-        if let Some((call, place)) = flip
-            && is_call(call)
-        {
-            disk = disk.flipping(call, place);
-        }
+    }
+}
+
+fn with_fault(disk: FaultDisk<MemoryDisk>, call: u64) -> FaultDisk<MemoryDisk> {
+    if is_call(call) {
+        disk.failing_once(call)
+    } else {
+        disk
+    }
+}
+
+fn with_flip(disk: FaultDisk<MemoryDisk>, call: u64, place: u64) -> FaultDisk<MemoryDisk> {
+    if is_call(call) {
+        disk.flipping(call, place)
+    } else {
         disk
     }
 }
@@ -66,6 +82,9 @@ fn call_number(word: &str) -> Option<u64> {
 }
 
 /// Whether a call has this number: from 1 to 2^64 - 2.
-fn is_call(call: u64) -> bool {
+fn is_call(call: u64) -> bool
+    ensures some { OnTrue result (0 < call) }
+    ensures within { OnTrue result (call < 2 ^ 64 - 1) }
+{
     0 < call && call < u64::MAX
 }
