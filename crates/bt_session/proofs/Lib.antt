@@ -1,3 +1,4 @@
 pub mod FrameLists
 pub mod OnePeer
 pub mod Runs
+pub mod OwnSteps
