@@ -1,11 +1,10 @@
-ghost use Rattle.std.specs.Prelude.{◌≡◌, ℕ, ◌+◌, ◌*◌, ◌<◌, ◌≤◌, List, IfSome, Some, None, length, map, slice_index_or};
-ghost use Rattle.std.specs.Bool.{OnTrue, OnFalse};
+ghost use Rattle.std.specs.Prelude.{◌≡◌, ℕ, ◌+◌, ◌*◌, ◌<◌, ◌≤◌, IfSome, None, length, map, slice_index_or};
 ghost use Rattle.bt_tree.specs.Limits.{full_block_length};
 ghost use Rattle.bt_tree.specs.Blocks.{block_count, block_at, block_length};
 ghost use Rattle.bt_disk.specs.Calls.{HasCalls};
 ghost use Rattle.bt_store.specs.BlockReads.{call_of};
 ghost use Rattle.bt_store.specs.BatchesSteps.{batch_reads, found_of};
-ghost use Rattle.bt_store.specs.declared.batches.BlockFound.TheVariants.{Whole, Failed};
+ghost use Rattle.bt_store.specs.declared.batches.BlockFound.TheVariants.{Failed};
 
 use crate::arrival::place_of;
 use bt_disk::Disk;
@@ -16,6 +15,9 @@ pub(crate) const BATCH_BLOCKS: usize = 8;
 
 /// How many bytes these have at most.
 pub(crate) const BATCH_LEN: usize = BATCH_BLOCKS * BLOCK_LEN;
+
+/// From how many full blocks on eight parts digested together take less time than each block by itself.
+const LEAST_TOGETHER: usize = 3;
 
 /// What the read of a block found.
 #[derive(Clone, Copy)]
@@ -55,8 +57,8 @@ pub(crate) fn read_batch<D: Disk>(
     lengths
 }
 
-/// What the reads of blocks that lie next to each other found, by how many bytes each gave: eight whole
-/// blocks are digested together.
+/// What the reads of blocks that lie next to each other found, by how many bytes each gave. Where enough of
+/// them are full they are digested together.
 pub(crate) fn digest_batch<H: NodeHash>(
     hash: H,
     geometry: Geometry,
@@ -72,43 +74,68 @@ pub(crate) fn digest_batch<H: NodeHash>(
         ≡ found_of H.digest geometry (first + j) (slice_index_or lengths.now j None)
         (block_at buffer.now j) }
 {
-    if count == BATCH_BLOCKS && is_full(geometry, first, lengths) {
-        return digest_eight(hash, buffer);
-    }
+    let together = digest_together(hash, lengths, buffer);
     let mut blocks_found = [BlockFound::Failed; BATCH_BLOCKS];
     for j in 0..count {
         let from = j * BLOCK_LEN;
         let slot = &buffer[from..from + BLOCK_LEN];
-        blocks_found[j] = digest_slot(hash, geometry, first + j as u32, lengths[j], slot);
+        let block = first + j as u32;
+        blocks_found[j] = find_slot(hash, geometry, block, lengths[j], slot, together[j]);
     }
     blocks_found
 }
 
-/// Whether each of eight reads gave a full block.
-fn is_full(geometry: Geometry, first: u32, lengths: &[Option<usize>; BATCH_BLOCKS]) -> bool
-    requires { first + 8 ≤ block_count geometry }
-    ensures yes { OnTrue result ((j : ℕ) → j < 8
-        → (slice_index_or lengths.now j None ≡ Some full_block_length)
-        × (block_length geometry (first + j) ≡ full_block_length)) }
-    ensures no { OnFalse result (¬ ((j : ℕ) → j < 8
-        → (slice_index_or lengths.now j None ≡ Some full_block_length)
-        × (block_length geometry (first + j) ≡ full_block_length))) }
+/// The digests of the eight parts of a buffer, made together: none where it has fewer parts, or where so few
+/// reads filled theirs that these are digested sooner one by one. A part that no read filled costs nothing
+/// more, and nobody asks for its digest.
+fn digest_together<H: NodeHash>(
+    hash: H,
+    lengths: &[Option<usize>; BATCH_BLOCKS],
+    buffer: &[u8],
+) -> [Option<Hash32>; BATCH_BLOCKS]
+    ensures { (j : ℕ) → j < 8
+        → IfSome (slice_index_or result j None) (λ digest. digest ≡ H.digest (block_at buffer.now j)) }
 {
-    geometry.block_len(first + 7) == BLOCK_LEN
-        && lengths.iter().all(|length| *length == Some(BLOCK_LEN))
-}
-
-/// Digests eight full blocks together, with which the buffer begins.
-fn digest_eight<H: NodeHash>(hash: H, buffer: &[u8]) -> [BlockFound; BATCH_BLOCKS]
-    requires { 8 * full_block_length ≤ length buffer.now }
-    ensures { (j : ℕ) → j < 8 → slice_index_or result j Failed ≡ Whole (H.digest (block_at buffer.now j)) }
-{
+    let mut together = [None; BATCH_BLOCKS];
+    if buffer.len() < BATCH_LEN || full_count(lengths) < LEAST_TOGETHER {
+        return together;
+    }
     let digests = hash.blocks8(&buffer[..BATCH_LEN]);
-    let mut blocks_found = [BlockFound::Failed; BATCH_BLOCKS];
     for j in 0..BATCH_BLOCKS {
-        blocks_found[j] = BlockFound::Whole(digests[j]);
+        together[j] = Some(digests[j]);
     }
-    blocks_found
+    together
+}
+
+/// How many reads gave a full block.
+fn full_count(lengths: &[Option<usize>; BATCH_BLOCKS]) -> usize {
+    lengths
+        .iter()
+        .filter(|length| **length == Some(BLOCK_LEN))
+        .count()
+}
+
+/// What the read of a block found, by how many bytes it gave into its part of the buffer, where the digest of
+/// that part may be known.
+fn find_slot<H: NodeHash>(
+    hash: H,
+    geometry: Geometry,
+    block: u32,
+    given: Option<usize>,
+    slot: &[u8],
+    known: Option<Hash32>,
+) -> BlockFound
+    requires inside { block < block_count geometry }
+    requires room { length slot.now ≡ full_block_length }
+    requires known { IfSome known (λ digest. digest ≡ H.digest slot.now) }
+    ensures { result ≡ found_of H.digest geometry block given slot.now }
+{
+    match known {
+        Some(digest) if given == Some(BLOCK_LEN) && geometry.block_len(block) == BLOCK_LEN => {
+            BlockFound::Whole(digest)
+        }
+        _ => digest_slot(hash, geometry, block, given, slot),
+    }
 }
 
 /// What the read of a block found, by how many bytes it gave into its part of the buffer.
