@@ -12,6 +12,7 @@ pub mod DeviceBytes
 pub mod EntryChecks
 pub mod CheckFault
 pub mod ReportLines
+pub mod PoolNumbers
 -- `show`
 pub mod TorrentFileText
 pub mod ShowText

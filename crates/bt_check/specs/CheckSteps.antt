@@ -1,7 +1,6 @@
 -- Steps of a check of one file that only private functions cite.
 use Rattle.std.specs.Prelude.{◌≡◌, ℕ, ◌<◌, ◌≤◌, ◌↔◌, List, [], None, Some, length, map, slice_index_or, IsTrue}
 use Rattle.std.specs.List.{range_with_len}
-use Rattle.sha2.specs.Sha256.{sha256}
 use Rattle.bt_tree.specs.Blocks.{block_count}
 use Rattle.bt_tree.specs.TreeShape.{height_of, real_width}
 use Rattle.bt_disk.specs.History.{History}

@@ -3,7 +3,7 @@ ghost use Rattle.std.specs.Prelude.{◌≡◌, ◌⊎◌, ◌↔◌, map, IfOk, 
 ghost use Rattle.std.specs.List.{All};
 ghost use Rattle.std.specs.Path.{path_buf_bytes};
 ghost use Rattle.bt_meta.specs.Files.{file_of};
-ghost use Rattle.bt_check.specs.DataFile.{file_at, IsAbsence, IsAtPath};
+ghost use Rattle.bt_check.specs.DataFile.{file_at, AreOfOnePool, IsAbsence, IsAtPath, IsNextOf};
 ghost use Rattle.bt_check.specs.Fault.{device, out_of_memory};
 
 use crate::fault::Fault;
@@ -55,6 +55,7 @@ pub fn open_data_files<'a, R: Files + AllocGlobal + Clone + Drop>(
 ) -> Result<Vec<DataFile<'a, PooledDisk<R>>>, Fault>
     ensures each { IfOk result (λ files. map file_at files.items ≡ map file_of entries.now) }
     ensures paths { IfOk result (λ files. All (IsAtPath dir.now) files.items) }
+    ensures one_pool { IfOk result (λ files. AreOfOnePool files.items) }
     ensures fault { IfErr result (λ fault. (fault ≡ device) ⊎ (fault ≡ out_of_memory)) }
 {
     let mut pool = HandlePool::new(rt.alloc(), rt.clone()?, OPEN_FILES)?;
@@ -76,6 +77,7 @@ pub fn open_data_file<R: Files + Drop>(
     path: PathBuf,
 ) -> Result<Option<PooledDisk<R>>, Fault>
     ensures path { IfOk result (λ found. IfSome found (λ disk. disk.path ≡ path_buf_bytes path)) }
+    ensures next { IfOk result (IsNextOf pool.old.made pool.new.made) }
     ensures fault { IfErr result (λ fault. fault ≡ device) }
 {
     let trouble = fs::metadata(rt, path.as_path())
@@ -93,6 +95,7 @@ fn device_at<R: Files + Drop>(
     ensures absent { IsSomeAnd trouble IsAbsence → result ≡ Ok None }
     ensures present { ¬ IsSomeAnd trouble IsAbsence → IfOk result (λ found. IsSome found) }
     ensures path { IfOk result (λ found. IfSome found (λ disk. disk.path ≡ path_buf_bytes path)) }
+    ensures next { IfOk result (IsNextOf pool.old.made pool.new.made) }
     ensures fault { IfErr result (λ fault. fault ≡ device) }
 {
     if tells_absence(trouble) {

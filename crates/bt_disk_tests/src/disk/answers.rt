@@ -47,17 +47,36 @@ fn a_read_or_write_in_parts_is_whole(rt: HostRuntime) -> Result<(), Fail> {
     Ok(())
 }
 
-/// Whether a read that fails in its midst is a fault, and the next one is as any other.
+/// Whether a read of `abcdefgh` that fails in its midst is a fault, and the next one is as any other.
+fn fails_and_reads_on<D: Disk>(disk: &mut D) -> bool {
+    !is_made(disk, Step::Read(0, 8)) && gives(disk, 3, 4, b"defg")
+}
+
+/// The same of a file.
 fn fails_in_mid_read(rt: &HostRuntime, path: &str) -> Result<bool, DeviceFault> {
     let counts = Counts::new();
     let mut disk = opened(rt, Manner::ReadFaults, &counts, path)?;
-    Ok(!is_made(&mut disk, Step::Read(0, 8)) && gives(&mut disk, 3, 4, b"defg"))
+    Ok(fails_and_reads_on(&mut disk))
+}
+
+/// The same of a file of a pool, which stays open.
+fn stays_open_in_mid_read(system: System<'_>, path: &String) -> Result<bool, Fail> {
+    let mut pool = HandlePool::new(system.host.alloc(), system, 1)?;
+    let mut disk = pool.reading(path.clone()?)?;
+    Ok(fails_and_reads_on(&mut disk) && system.counts.taken().opened == 1)
 }
 
 #[test]
 fn a_fault_in_mid_read_is_a_fault(rt: HostRuntime) -> Result<(), Fail> {
     let path = file_with(&rt, "mid-read", b"abcdefgh")?;
+    let counts = Counts::new();
+    let system = System {
+        host: &rt,
+        manner: Manner::ReadFaults,
+        counts: &counts,
+    };
     assert!(rt; fails_in_mid_read(&rt, path.as_str())?);
+    assert!(rt; stays_open_in_mid_read(system, &path)?);
     fs::remove_file(&rt, path.as_str())?;
     Ok(())
 }
@@ -126,6 +145,21 @@ fn a_file_without_rights_is_refused(rt: HostRuntime) -> Result<(), Fail> {
     fs::remove_file(&rt, path.as_str())?;
     // One that is absent is not opened, so nobody asks for rights.
     assert!(rt; is_absent(&system, path.as_str()));
+    Ok(())
+}
+
+/// A file that goes between the look at it and its opening is absent, as one that went before.
+#[test]
+fn a_file_that_goes_before_it_is_opened_is_absent(rt: HostRuntime) -> Result<(), Fail> {
+    let path = file_with(&rt, "gone", b"abc")?;
+    let counts = Counts::new();
+    let system = System {
+        host: &rt,
+        manner: Manner::Gone,
+        counts: &counts,
+    };
+    assert!(rt; is_absent(&system, path.as_str()));
+    fs::remove_file(&rt, path.as_str())?;
     Ok(())
 }
 

@@ -20,6 +20,8 @@ pub enum Manner {
     Full,
     /// It opens no file, for want of rights.
     NoRights,
+    /// A file that it finds at a path is gone before it is opened.
+    Gone,
     /// It goes to no byte of a file, but to its end, and changes and syncs no file.
     Broken,
 }
@@ -130,8 +132,10 @@ impl<'a> Files for System<'a> {
     type Dir = <HostRuntime as Files>::Dir;
 
     fn open_file(&self, how: &OpenOptions, path: &str) -> io::Result<SystemFile<'a>> {
-        if self.manner == Manner::NoRights {
-            return Err(io::Error::from(ErrorKind::PermissionDenied));
+        match self.manner {
+            Manner::NoRights => return Err(io::Error::from(ErrorKind::PermissionDenied)),
+            Manner::Gone => return Err(io::Error::from(ErrorKind::NotFound)),
+            _ => {}
         }
         let file = self.host.open_file(how, path)?;
         let full = OpenOptions::new().write(true).open(self.host, "/dev/full")?;

@@ -27,6 +27,7 @@ enum Failing {
     Syncs,
     Renames,
     Modes,
+    Links,
 }
 
 impl Failing {
@@ -43,7 +44,8 @@ impl Failing {
 /// The words of a command line, the host's file system, of which some calls fail, in which every folder lists these names, and in which a
 /// path that ends in `pipe` is a device, which neither a read nor a write is to reach. Of looks and opens those
 /// of a path that ends in `last` fail, and of reads the third of each file. A file that has bytes takes no mode
-/// any more. What lies at `proc` and at `sys` has the number 1, each on a device of its own.
+/// any more, and one that has none is not synced. What lies at `proc` and at `sys` is a folder to a look that follows
+/// links, of the number 1, each on a device of its own, and what lies at `gone` is not there to such a look.
 #[derive(Clone, Copy)]
 struct Device<'a> {
     host: &'a HostRuntime,
@@ -78,6 +80,8 @@ fn followed_path(path: &str) -> &str {
         "/proc"
     } else if path.ends_with("/sys") {
         "/sys"
+    } else if path.ends_with("/gone") {
+        "/proc/gone"
     } else {
         host_path(path)
     }
@@ -149,6 +153,7 @@ impl<'a> Files for Device<'a> {
     }
 
     fn read_link<B: Allocator>(&self, alloc: B, path: &str) -> io::Result<PathBuf<B>> {
+        self.failing.at(Failing::Links)?;
         self.host.read_link(alloc, path)
     }
 
@@ -234,6 +239,9 @@ impl OpenFile for DeviceFile {
 
     fn sync_all(&self) -> io::Result<()> {
         self.failing.at(Failing::Syncs)?;
+        if !self.has_bytes {
+            return Err(io::Error::from(ErrorKind::Other));
+        }
         self.file.sync_all()
     }
 
@@ -393,6 +401,18 @@ fn what_can_not_be_looked_at_is_not_replaced(rt: HostRuntime) -> Result<(), Fail
     remove_folder(&rt, top.as_str())
 }
 
+/// It is no want of memory: what a link leads to is as it was.
+#[test]
+fn a_link_that_can_not_be_read_is_a_device_fault(rt: HostRuntime) -> Result<(), Fail> {
+    let steps = [Step::File("old", b"old"), Step::Link("old", "kept")];
+    let top = set_up(&rt, "unread-link", &steps)?;
+    let path = path_in(&rt, top.as_str(), "kept")?;
+    let written = replace(&Device::new(&rt, Failing::Links), path.as_str());
+    confirm(written == Err(Fault::Device), "another answer")?;
+    expect_bytes(&rt, top.as_str(), "old", b"old")?;
+    remove_folder(&rt, top.as_str())
+}
+
 const PIPE_HASH: &str =
     "infohash 8f53afa3f000da0fa96bf989b7997ce06588b0c5dbc772bc7dc83e68669bd27f\n";
 
@@ -501,19 +521,39 @@ fn a_folder_that_can_not_be_listed_is_a_device_fault(rt: HostRuntime) -> Result<
     remove_folder(&rt, top.as_str())
 }
 
-/// Two files of one number lie on two devices: `OUT` is none of the folder's.
-#[test]
-fn a_file_of_another_device_is_another(rt: HostRuntime) -> Result<(), Fail> {
-    let steps = [Step::Folder("files"), Step::File("files/sys", b"abc")];
-    let top = set_up(&rt, "other-device", &steps)?;
+/// Expects a device fault in making a torrent of a folder that lists these names, to `OUT` at this name.
+fn expect_unmade(rt: &HostRuntime, top: &str, names: &[u8], out: &str) -> Result<(), Fail> {
     let device = Device {
-        host: &rt,
+        host: rt,
         failing: Failing::Nothing,
-        names: b"sys\0",
+        names,
         words: &[],
     };
-    let line = "make @/files @/proc --name n";
-    expect(&device, top.as_str(), line, 3, "", DEVICE_FAULT)?;
+    let line = format!(in rt.alloc(); "make @/files @/{out} --name n")?;
+    expect(&device, top, line.as_str(), 3, "", DEVICE_FAULT)
+}
+
+/// Two files of one number lie on two devices: `OUT` is none of the folder's. A folder took the place of the
+/// folder's file since it was listed, and is not opened in place of it.
+#[test]
+fn a_file_of_another_device_is_another(rt: HostRuntime) -> Result<(), Fail> {
+    let steps = [Step::Folder("files"), Step::File("files/sys", b"")];
+    let top = set_up(&rt, "other-device", &steps)?;
+    expect_unmade(&rt, top.as_str(), b"sys\0", "proc")?;
+    remove_folder(&rt, top.as_str())
+}
+
+/// A file that was listed and can't be looked at again may be that of `OUT`.
+#[test]
+fn a_file_that_is_gone_is_a_device_fault(rt: HostRuntime) -> Result<(), Fail> {
+    let steps = [
+        Step::Folder("files"),
+        Step::File("files/gone", b""),
+        Step::File("kept", b"old"),
+    ];
+    let top = set_up(&rt, "gone", &steps)?;
+    expect_unmade(&rt, top.as_str(), b"gone\0", "kept")?;
+    expect_bytes(&rt, top.as_str(), "kept", b"old")?;
     remove_folder(&rt, top.as_str())
 }
 

@@ -1,7 +1,8 @@
 //! The command `make`.
 
 use super::steps::{Step, play, play_in, set_up};
-use super::tools::{abc_torrent, front, remove_folder, three_blocks};
+use super::tools::{abc_torrent, confirm, folder, front, put, remove_folder, three_blocks};
+use bt_commands::files_in;
 use std::test::Fail;
 
 const ABC_HASH: &str =
@@ -258,6 +259,25 @@ fn a_folder_is_walked_to_its_end(rt: HostRuntime) -> Result<(), Fail> {
         Step::Run("check @/t @/files", 0, DEEP_LINES),
     ];
     play(&rt, "deep", &steps)
+}
+
+/// Puts down so many empty files.
+fn put_files(rt: &HostRuntime, top: &str, count: u32) -> Result<(), Fail> {
+    for number in 0..count {
+        let name = format!(in rt.alloc(); "{number}")?;
+        put(rt, top, name.as_str(), b"")?;
+    }
+    Ok(())
+}
+
+/// The walk has no bound of its own.
+#[test]
+fn a_folder_of_many_files_is_walked(rt: HostRuntime) -> Result<(), Fail> {
+    let top = folder(&rt, "many-files")?;
+    put_files(&rt, top.as_str(), 3000)?;
+    let files = files_in(&rt, top.as_str())?;
+    confirm(files.len() == 3000, "another count")?;
+    remove_folder(&rt, top.as_str())
 }
 
 #[test]
