@@ -3,7 +3,7 @@
 use super::files::{is_absent, is_refused};
 use super::system::{Calls, Counts, Manner, System, SystemFile};
 use super::tools::{
-    Step, can_write, file_with, free_path, gives, has_bytes, has_len, is_made, refuses_all,
+    Step, can_tell_len, can_write, file_with, gives, has_bytes, is_made, refuses_all,
 };
 use bt_disk::{DeviceFault, Disk, FileDisk, HandlePool, PooledDisk};
 use std::fs;
@@ -89,18 +89,31 @@ fn full_is_a_fault(rt: &HostRuntime, path: &str) -> Result<bool, DeviceFault> {
 }
 
 /// What a system refuses that is broken.
-const REFUSED: [Step; 4] = [
+const REFUSED: [Step; 5] = [
+    Step::Len,
     Step::Read(2, 3),
     Step::Write(0, b"x"),
     Step::SetLen(1),
     Step::Sync,
 ];
 
-/// Whether the calls fail that a broken system refuses, but for a read past the end.
+/// Whether the calls of a device of `abc` fail that a broken system refuses, but for a read past the end.
+fn fails_but_past_the_end<D: Disk>(disk: &mut D) -> bool {
+    gives(disk, 3, 3, b"") && refuses_all(disk, &REFUSED)
+}
+
+/// The same of a file.
 fn broken_is_a_fault(rt: &HostRuntime, path: &str) -> Result<bool, DeviceFault> {
     let counts = Counts::new();
     let mut disk = opened(rt, Manner::Broken, &counts, path)?;
-    Ok(gives(&mut disk, 3, 3, b"") && refuses_all(&mut disk, &REFUSED))
+    Ok(fails_but_past_the_end(&mut disk))
+}
+
+/// The same of a file of a pool.
+fn broken_is_a_fault_of_a_pool(system: System<'_>, path: &String) -> Result<bool, Fail> {
+    let mut pool = HandlePool::new(system.host.alloc(), system, 1)?;
+    let mut disk = pool.writing(path.clone()?)?;
+    Ok(fails_but_past_the_end(&mut disk))
 }
 
 /// A write that finds no space fails, as do calls that the system refuses, but for a read past the end.
@@ -109,6 +122,21 @@ fn a_refused_call_is_a_fault(rt: HostRuntime) -> Result<(), Fail> {
     let path = file_with(&rt, "refusals", b"abc")?;
     assert!(rt; full_is_a_fault(&rt, path.as_str())?);
     assert!(rt; broken_is_a_fault(&rt, path.as_str())?);
+    assert!(rt; has_bytes(&rt, path.as_str(), b"abc")?);
+    fs::remove_file(&rt, path.as_str())?;
+    Ok(())
+}
+
+#[test]
+fn a_refused_call_of_a_file_of_a_pool_is_a_fault(rt: HostRuntime) -> Result<(), Fail> {
+    let path = file_with(&rt, "pool-refusals", b"abc")?;
+    let counts = Counts::new();
+    let system = System {
+        host: &rt,
+        manner: Manner::Broken,
+        counts: &counts,
+    };
+    assert!(rt; broken_is_a_fault_of_a_pool(system, &path)?);
     assert!(rt; has_bytes(&rt, path.as_str(), b"abc")?);
     fs::remove_file(&rt, path.as_str())?;
     Ok(())
@@ -159,6 +187,29 @@ fn a_file_that_goes_before_it_is_opened_is_absent(rt: HostRuntime) -> Result<(),
         counts: &counts,
     };
     assert!(rt; is_absent(&system, path.as_str()));
+    fs::remove_file(&rt, path.as_str())?;
+    Ok(())
+}
+
+/// Whether a pool of a system refuses each file but the first that it opens, this one too once it is opened again.
+fn refuses_all_but_the_first(system: System<'_>, path: &String) -> Result<bool, Fail> {
+    let mut pool = HandlePool::new(system.host.alloc(), system, 1)?;
+    let mut disk = pool.reading(path.clone()?)?;
+    let refuses = pool_cannot_read(&mut pool, path.clone()?);
+    Ok(refuses && pool_cannot_write(&mut pool, path.clone()?) && !can_tell_len(&mut disk))
+}
+
+/// What is no regular file once it is open is not used, though one was there at the look.
+#[test]
+fn what_took_a_files_place_after_the_look_is_refused(rt: HostRuntime) -> Result<(), Fail> {
+    let path = file_with(&rt, "swapped", b"abc")?;
+    let counts = Counts::new();
+    let system = System {
+        host: &rt,
+        manner: Manner::Swapped,
+        counts: &counts,
+    };
+    assert!(rt; refuses_all_but_the_first(system, &path)?);
     fs::remove_file(&rt, path.as_str())?;
     Ok(())
 }

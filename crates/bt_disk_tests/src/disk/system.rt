@@ -22,7 +22,11 @@ pub enum Manner {
     NoRights,
     /// A file that it finds at a path is gone before it is opened.
     Gone,
-    /// It goes to no byte of a file, but to its end, and changes and syncs no file.
+    /// The first file that it opens is the one at the path; each later one is a device, which took the file's place
+    /// since the look at it.
+    Swapped,
+    /// It goes to no byte of a file, but to its end, changes and syncs no file, and tells nothing of one that is
+    /// open, but once.
     Broken,
 }
 
@@ -126,6 +130,17 @@ pub struct System<'a> {
     pub counts: &'a Counts,
 }
 
+impl System<'_> {
+    /// The path of the host that is opened in place of a path.
+    fn opened_path<'p>(&self, path: &'p str) -> &'p str {
+        if self.manner == Manner::Swapped && self.counts.most_open() > 0 {
+            "/dev/null"
+        } else {
+            path
+        }
+    }
+}
+
 impl<'a> Files for System<'a> {
     type File = SystemFile<'a>;
 
@@ -137,7 +152,7 @@ impl<'a> Files for System<'a> {
             Manner::Gone => return Err(io::Error::from(ErrorKind::NotFound)),
             _ => {}
         }
-        let file = self.host.open_file(how, path)?;
+        let file = self.host.open_file(how, self.opened_path(path))?;
         let full = OpenOptions::new().write(true).open(self.host, "/dev/full")?;
         self.counts.open_one(how.asks_write());
         Ok(SystemFile {
@@ -270,8 +285,12 @@ impl Seek for SystemFile<'_> {
 
 impl OpenFile for SystemFile<'_> {
     fn metadata(&self) -> io::Result<Metadata> {
-        // A broken system does it too: a file is looked at when it is opened.
-        self.counts.call();
+        // A broken system does it once too: a file is looked at when it is opened.
+        if self.counts.calls.get().other == 0 {
+            self.counts.call();
+        } else {
+            self.other_call()?;
+        }
         self.file.metadata()
     }
 

@@ -1,5 +1,6 @@
 //! Devices that fail: a runtime that stands in for the file system.
 
+use super::limits::{TOO_LONG, put_sparse};
 use super::steps::{Step, expect_bytes, expect_entries, play_in, set_up};
 use super::tools::{confirm, expect, folder, front, path_in, put, remove_folder, three_blocks};
 use bt_check::{Fault, found_path};
@@ -15,7 +16,7 @@ use std::process::ExitCode;
 use std::rt::Files;
 use std::test::Fail;
 
-/// The calls that fail.
+/// The calls that fail. Of the reads of what a folder lists, that is the one behind all names.
 #[derive(Clone, Copy, PartialEq, Eq)]
 enum Failing {
     Nothing,
@@ -28,6 +29,7 @@ enum Failing {
     Renames,
     Modes,
     Links,
+    Listings,
 }
 
 impl Failing {
@@ -45,7 +47,8 @@ impl Failing {
 /// path that ends in `pipe` is a device, which neither a read nor a write is to reach. Of looks and opens those
 /// of a path that ends in `last` fail, and of reads the third of each file. A file that has bytes takes no mode
 /// any more, and one that has none is not synced. What lies at `proc` and at `sys` is a folder to a look that follows
-/// links, of the number 1, each on a device of its own, and what lies at `gone` is not there to such a look.
+/// links, of the number 1, each on a device of its own. What lies at `gone` is not there to such a look while it has bytes,
+/// and has none from then on.
 #[derive(Clone, Copy)]
 struct Device<'a> {
     host: &'a HostRuntime,
@@ -80,11 +83,18 @@ fn followed_path(path: &str) -> &str {
         "/proc"
     } else if path.ends_with("/sys") {
         "/sys"
-    } else if path.ends_with("/gone") {
-        "/proc/gone"
     } else {
         host_path(path)
     }
+}
+
+/// Empties a file, and fails where it had bytes.
+fn empty(host: &HostRuntime, path: &str) -> io::Result<()> {
+    if host.metadata(path)?.len() == 0 {
+        return Ok(());
+    }
+    File::create(host, path)?;
+    Err(io::Error::from(ErrorKind::NotFound))
 }
 
 impl Alloc for Device<'_> {
@@ -117,7 +127,7 @@ impl Env for Device<'_> {
 impl<'a> Files for Device<'a> {
     type File = DeviceFile;
 
-    type Dir = &'a [u8];
+    type Dir = DeviceDir<'a>;
 
     fn open_file(&self, how: &OpenOptions, path: &str) -> io::Result<DeviceFile> {
         if path.ends_with("last") {
@@ -131,16 +141,22 @@ impl<'a> Files for Device<'a> {
         })
     }
 
-    fn open_dir(&self, path: &str) -> io::Result<&'a [u8]> {
+    fn open_dir(&self, path: &str) -> io::Result<DeviceDir<'a>> {
         if path.ends_with("last/") {
             self.failing.at(Failing::Opens)?;
         }
-        Ok(self.names)
+        Ok(DeviceDir {
+            names: self.names,
+            failing: self.failing,
+        })
     }
 
     fn metadata(&self, path: &str) -> io::Result<Metadata> {
         if path.ends_with("last") {
             self.failing.at(Failing::Looks)?;
+        }
+        if path.ends_with("/gone") {
+            empty(self.host, path)?;
         }
         self.host.metadata(followed_path(path))
     }
@@ -180,6 +196,22 @@ impl<'a> Files for Device<'a> {
 
     fn remove_dir_all<B: Allocator>(&self, alloc: B, path: &str) -> io::Result<()> {
         self.host.remove_dir_all(alloc, path)
+    }
+}
+
+/// What a folder lists: its names, each with a zero behind it.
+#[derive(Drop)]
+struct DeviceDir<'a> {
+    names: &'a [u8],
+    failing: Failing,
+}
+
+impl Read for DeviceDir<'_> {
+    fn read(&mut self, buf: &mut [u8]) -> io::Result<usize> {
+        if self.names.is_empty() {
+            self.failing.at(Failing::Listings)?;
+        }
+        self.names.read(buf)
     }
 }
 
@@ -496,28 +528,31 @@ fn a_file_that_cannot_be_opened_ends_a_check_unwritten(rt: HostRuntime) -> Resul
     remove_folder(&rt, top.as_str())
 }
 
-/// Why no files are found in a folder that lists these names, of files that are not there.
-fn fault_of_names(rt: &HostRuntime, dir: &str, names: &[u8]) -> Option<Fault> {
+/// Why no files are found in a folder that lists these names, where some calls fail.
+fn walk_fault(rt: &HostRuntime, dir: &str, failing: Failing, names: &[u8]) -> Option<Fault> {
     let device = Device {
         host: rt,
-        failing: Failing::Nothing,
+        failing,
         names,
         words: &[],
     };
     files_in(&device, dir).err()
 }
 
+/// The same of names of files that are not there.
+fn fault_of_names(rt: &HostRuntime, dir: &str, names: &[u8]) -> Option<Fault> {
+    walk_fault(rt, dir, Failing::Nothing, names)
+}
+
+/// A subfolder is not opened, or what is listed ends in a fault.
 #[test]
 fn a_folder_that_can_not_be_listed_is_a_device_fault(rt: HostRuntime) -> Result<(), Fail> {
-    let top = set_up(&rt, "unlisted", &[Step::Folder("last")])?;
-    let device = Device {
-        host: &rt,
-        failing: Failing::Opens,
-        names: b"last\0",
-        words: &[],
-    };
-    let found = files_in(&device, top.as_str()).err();
+    let steps = [Step::Folder("last"), Step::File("kept", b"")];
+    let top = set_up(&rt, "unlisted", &steps)?;
+    let found = walk_fault(&rt, top.as_str(), Failing::Opens, b"last\0");
     confirm(found == Some(Fault::Device), "it is passed over")?;
+    let found = walk_fault(&rt, top.as_str(), Failing::Listings, b"kept\0");
+    confirm(found == Some(Fault::Device), "it ends early")?;
     remove_folder(&rt, top.as_str())
 }
 
@@ -543,12 +578,36 @@ fn a_file_of_another_device_is_another(rt: HostRuntime) -> Result<(), Fail> {
     remove_folder(&rt, top.as_str())
 }
 
-/// A file that was listed and can't be looked at again may be that of `OUT`.
+/// The lengths of all files are looked at before the first is opened.
+#[test]
+fn a_file_too_long_is_told_before_one_that_is_not_opened(rt: HostRuntime) -> Result<(), Fail> {
+    let steps = [Step::Folder("files"), Step::File("files/last", b"abc")];
+    let top = set_up(&rt, "unopened-too-long", &steps)?;
+    put_sparse(&rt, top.as_str(), "files/long", TOO_LONG)?;
+    let device = Device {
+        host: &rt,
+        failing: Failing::Opens,
+        names: b"last\0long\0",
+        words: &[],
+    };
+    let line = "make @/files @/t --name n";
+    expect(
+        &device,
+        top.as_str(),
+        line,
+        2,
+        "",
+        "btseed: N3 FileLength\n",
+    )?;
+    remove_folder(&rt, top.as_str())
+}
+
+/// A file that was listed and can't be looked at again may be that of `OUT`, also where a later look would find it.
 #[test]
 fn a_file_that_is_gone_is_a_device_fault(rt: HostRuntime) -> Result<(), Fail> {
     let steps = [
         Step::Folder("files"),
-        Step::File("files/gone", b""),
+        Step::File("files/gone", b"x"),
         Step::File("kept", b"old"),
     ];
     let top = set_up(&rt, "gone", &steps)?;

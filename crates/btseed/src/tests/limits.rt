@@ -17,13 +17,13 @@ fn a_file_of_too_many_pieces_is_not_read(rt: HostRuntime) -> Result<(), Fail> {
 }
 
 /// Makes a file of this length, which takes no room on the disk.
-fn put_sparse(rt: &HostRuntime, top: &str, name: &str, length: u64) -> Result<(), Fail> {
+pub fn put_sparse(rt: &HostRuntime, top: &str, name: &str, length: u64) -> Result<(), Fail> {
     let path = path_in(rt, top, name)?;
     File::create(rt, path.as_str())?.set_len(length)?;
     Ok(())
 }
 
-const TOO_LONG: u64 = (1 << 40) + 1;
+pub const TOO_LONG: u64 = (1 << 40) + 1;
 
 const TOO_MANY_PIECES: u64 = (1 << 35) + 1;
 
