@@ -5,9 +5,9 @@
 
 The program `bench/resume/main.rt.in` is proved and built beside copies of the crates that it stands on in FOLDER (a new temporary
 folder by default), which takes some minutes. It opens a log of marks alone for each LENGTH (2^24, 2^26 and 2^28 bytes by default), and
-a log of the shortest proofs; the least processor time of three runs and the greatest peak are printed. The time on the clock is not:
-on a machine with other work it differed threefold between runs of one log. Nothing is taken off the peak. A peak below that of this
-script, some 14 MiB, is not told (see `measured_once`), so short logs tell nothing of memory.
+a log of the shortest proofs, and goes over the hints once; the least processor time of three runs and the greatest peak are printed.
+The time on the clock is not: on a machine with other work it differed threefold between runs of one log. Nothing is taken off the
+peak. A peak below that of this script, some 14 MiB, is not told (see `measured_once`), so short logs tell nothing of memory.
 """
 
 import pathlib

@@ -2,6 +2,8 @@
 pub mod Spellings
 -- Hints at the front of bytes.
 pub mod Takings
+-- Hints that are kept.
+pub mod Keepings
 -- Logs that are read.
 pub mod Readings
 -- Readings of the same bytes.

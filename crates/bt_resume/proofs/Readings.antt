@@ -12,7 +12,8 @@ use Rattle.bt_resume.specs.declared.error.LogError.TheVariants.{OtherTorrent, To
 use Rattle.bt_resume.specs.Hint.{hint_spelling, hints_spelling, IsHint, BeginsNoHint, AreHints}
 use Rattle.bt_resume.specs.ResumeLog.{log_length, OfBytes, HasHeader, IsLog, IsOther, Reads, read, too_long, other_torrent, no_memory, no_length, unread, Opens, opened, made, unwritten, unsynced}
 use Rattle.bt_resume.specs.Contents.{hints_of, IsHeaderCheck, IsWindow, AreContents, IsContentsRead, IsMade}
-use Rattle.bt_resume.proofs.Takings.{spelling_append, hint_is_short, hint_is_some}
+use Rattle.bt_resume.specs.OneSpelling.{hint_is_some}
+use Rattle.bt_resume.proofs.Takings.{spelling_append, hint_is_short}
 
 -- ---- windows
 
@@ -92,7 +93,7 @@ module _ {D : Type 0} (history : D → History) (honest : D → Type 0) (faults 
   }
 
   -- all is read where what is left begins with no hint
-  pub all_read : (len : ℕ) (old new : D) (contents : Contents) → HasRead len old contents.hints.items contents.end new → len ≤ 2 ^ 40
+  pub all_read : (len : ℕ) (old new : D) (contents : Contents) → HasRead len old contents.hints contents.end new → len ≤ 2 ^ 40
       → OfBytes history honest faults old (λ bytes. BeginsNoHint (drop contents.end bytes)) → AreContents history honest faults old contents new
   all_read len old new contents before limit none = record {
     calls = before.calls;
@@ -104,19 +105,19 @@ module _ {D : Type 0} (history : D → History) (honest : D → Type 0) (faults 
 
   pub window_last : (len : ℕ) (old mid new : D) (hints taken : List Hint) (end room : ℕ) (contents : Contents) → HasRead len old hints end mid
       → IsWindow history honest faults end room mid taken 0 new → end < len → room ≡ min (len - end) 65536 → len ≤ 2 ^ 40
-      → (honest old → len ≡ length (history old).now.bytes) → contents.hints.items ≡ hints ++ taken → contents.end ≡ end
+      → (honest old → len ≡ length (history old).now.bytes) → contents.hints ≡ hints ++ taken → contents.end ≡ end
       → AreContents history honest faults old contents new
   window_last len old mid new hints taken end room contents before window inside room_is limit len_is same end_is =
       let nothing : end + 0 ≡ end = omega arith in
       let more : HasRead len old (hints ++ taken) end new =
       subst (λ e. HasRead len old (hints ++ taken) e new) nothing (window_more len old mid new hints taken end room 0 before window (omega (arith, room_is))) in
-      let read : HasRead len old contents.hints.items contents.end new = rw (same, end_is) more in
+      let read : HasRead len old contents.hints contents.end new = rw (same, end_is) more in
       all_read len old new contents read limit
       (λ h. rw end_is (window_tells (drop end (history old).now.bytes) room
       (omega (arith, room_is, len_is h, length-drop end (history old).now.bytes))
       (of_same (λ bytes. BeginsNoHint (take room (drop end bytes))) old mid before.calls (λ m. (window.taken_are m).longest) h)))
 
-  pub read_to_end : (len : ℕ) (old new : D) (contents : Contents) → HasRead len old contents.hints.items contents.end new → len ≤ contents.end → len ≤ 2 ^ 40
+  pub read_to_end : (len : ℕ) (old new : D) (contents : Contents) → HasRead len old contents.hints contents.end new → len ≤ contents.end → len ≤ 2 ^ 40
       → (honest old → len ≡ length (history old).now.bytes) → AreContents history honest faults old contents new
   read_to_end len old new contents before past limit len_is =
       all_read len old new contents before limit
@@ -149,11 +150,11 @@ module _ {D : Type 0} (history : D → History) (honest : D → Type 0) (faults 
       → OfBytes history honest faults old (HasHeader infohash) → IsContentsRead history honest faults mid result new
       → Reads history honest faults infohash old (hints_of result) new
   reads_contents infohash old mid new (Ok contents) first headed contents_are =
-      read contents.hints.items new (has_then history honest faults old mid new [] [] first contents_are.calls) contents_are.lawful
+      read contents.hints new (has_then history honest faults old mid new [] [] first contents_are.calls) contents_are.lawful
       (omega (arith, contents_are.end_is, contents_are.within))
       (λ h. record {
         begins = headed h;
-        hints_are = of_same (λ bytes. AreHints (drop 40 bytes) contents.hints.items) old mid first contents_are.hints_are h;
+        hints_are = of_same (λ bytes. AreHints (drop 40 bytes) contents.hints) old mid first contents_are.hints_are h;
       })
   reads_contents infohash old mid new (Err Device) first headed unread_is =
       unread new unread_is.0 unread_is.1 (has_then history honest faults old mid new [] _ first unread_is.2) (λ h. (headed h).within)

@@ -6,7 +6,7 @@ use Rattle.bt_resume.specs.declared.hint.Hint.{Hint}
 use Rattle.bt_resume.specs.Hint.{hint_spelling, hints_spelling, IsHint, AreHints}
 use Rattle.bt_resume.specs.ResumeLog.{header, log_length, log_spelling}
 use Rattle.bt_resume.specs.Law.{AreReadBack, HasOneReading, Begin, AreReadFirst, KeptLogsOpen}
-use Rattle.bt_resume.proofs.Spellings.{same_hint}
+use Rattle.bt_resume.specs.OneSpelling.{same_hint}
 
 pub are_read_back : AreReadBack
 are_read_back hints rest lawful none = record { lawful = lawful; rest = rest; spelled = refl; longest = none }

@@ -9,10 +9,9 @@ use Rattle.bt_hashreq.specs.Key.{key_spelling}
 use Rattle.bt_hashreq.specs.Claim.{HasShape}
 use Rattle.bt_resume.specs.declared.hint.Hint.{Hint}
 use Rattle.bt_resume.specs.declared.hint.Hint.TheVariants.{Proof, Mark}
-use Rattle.bt_resume.specs.declared.reader.FoundHint.{FoundHint}
 use Rattle.bt_resume.specs.Hint.{joined, hint_spelling, hints_spelling, IsHint}
 use Rattle.bt_resume.specs.Reader.{IsFirst}
-use Rattle.bt_resume.proofs.Spellings.{key_size, joined_length}
+use Rattle.bt_resume.specs.OneSpelling.{key_size, joined_length, hint_is_some}
 
 -- these hints begin the bytes, spelled by so many of them
 pub record AreFront (bytes : List ℕ) (hints : List Hint) (used : ℕ) : Type 0 where
@@ -35,22 +34,18 @@ hint_is_short (Mark f b) is = omega arith
 hint_is_short (Proof k ds) is =
     omega (arith, length-append (key_spelling k) (joined ds), key_size k is.typed.0, joined_length ds is.typed.1, is.readable.1, few_digests k is.readable.0)
 
-pub hint_is_some : (h : Hint) → IsHint h → 1 ≤ length (hint_spelling h)
-hint_is_some (Mark f b) is = omega arith
-hint_is_some (Proof k ds) is = omega arith
-
 pub front_none : (bytes : List ℕ) → AreFront bytes [] 0
 front_none bytes = record { lawful = All-nil IsHint; size = refl; spelled = refl; inside = omega arith }
 
-pub front_more : (bytes : List ℕ) (hints : List Hint) (used : ℕ) (found : FoundHint) → AreFront bytes hints used → IsFirst (drop used bytes) found
-    → AreFront bytes (hints ++ found.hint ∷ []) (used + found.len)
-front_more bytes hints used found front first =
-    let same : hints_spelling (hints ++ found.hint ∷ []) ≡ hints_spelling hints ++ hint_spelling found.hint
-    = spelling_append hints (found.hint ∷ []) ∙ ap (λ l. hints_spelling hints ++ l) (append-nil (hint_spelling found.hint)) in
-    let size : length (take found.len (drop used bytes)) ≡ found.len = ap length first.spelled ∙ sym first.size in
+pub front_more : (bytes : List ℕ) (hints : List Hint) (used : ℕ) (hint : Hint) (len : ℕ) → AreFront bytes hints used → IsFirst (drop used bytes) hint len
+    → AreFront bytes (hints ++ hint ∷ []) (used + len)
+front_more bytes hints used hint len front first =
+    let same : hints_spelling (hints ++ hint ∷ []) ≡ hints_spelling hints ++ hint_spelling hint
+    = spelling_append hints (hint ∷ []) ∙ ap (λ l. hints_spelling hints ++ l) (append-nil (hint_spelling hint)) in
+    let size : length (take len (drop used bytes)) ≡ len = ap length first.spelled ∙ sym first.size in
     record {
-      lawful = All-push IsHint hints found.hint front.lawful first.is_hint;
-      size = omega (arith, ap length same, length-append (hints_spelling hints) (hint_spelling found.hint), front.size, first.size);
-      spelled = take-add used found.len bytes ∙ ap (λ l. l ++ take found.len (drop used bytes)) front.spelled ∙ ap (λ l. hints_spelling hints ++ l) first.spelled ∙ sym same;
-      inside = omega (arith, size, front.inside, length-take found.len (drop used bytes), length-drop used bytes, first.size, hint_is_some found.hint first.is_hint);
+      lawful = All-push IsHint hints hint front.lawful first.is_hint;
+      size = omega (arith, ap length same, length-append (hints_spelling hints) (hint_spelling hint), front.size, first.size);
+      spelled = take-add used len bytes ∙ ap (λ l. l ++ take len (drop used bytes)) front.spelled ∙ ap (λ l. hints_spelling hints ++ l) first.spelled ∙ sym same;
+      inside = omega (arith, size, front.inside, length-take len (drop used bytes), length-drop used bytes, first.size, hint_is_some hint first.is_hint);
     }

@@ -13,7 +13,7 @@ use Rattle.bt_resume.specs.declared.error.LogError.TheVariants.{OtherTorrent, To
 
 -- the hints that were read, or why none were
 abbrev pub hints_of : Result Contents LogError → Result (List Hint) LogError
-hints_of (Ok contents) = Ok contents.hints.items
+hints_of (Ok contents) = Ok contents.hints
 hints_of (Err cause) = Err cause
 
 module _ {D : Type 0} (history : D → History) (honest : D → Type 0) (faults : D → ℕ) where
@@ -52,11 +52,11 @@ module _ {D : Type 0} (history : D → History) (honest : D → Type 0) (faults 
   -- the hints behind the header, and where they end
   pub record AreContents (old : D) (contents : Contents) (new : D) : Type 0 where
     pub calls : HasCalls history honest faults old [] new
-    pub lawful : All IsHint contents.hints.items
-    pub end_is : contents.end ≡ log_length contents.hints.items
+    pub lawful : All IsHint contents.hints
+    pub end_is : contents.end ≡ log_length contents.hints
     pub within : contents.end ≤ max_log_length
     pub hints_are :
-        OfBytes history honest faults old (λ bytes. AreHints (drop header_length bytes) contents.hints.items)
+        OfBytes history honest faults old (λ bytes. AreHints (drop header_length bytes) contents.hints)
 
   -- all hints were read
   abbrev pub IsContentsRead : D → Result Contents LogError → D → Type 0

@@ -6,8 +6,7 @@ ghost use Rattle.bt_resume.specs.ResumeLog.{header, log_length, Reads, Opens};
 ghost use Rattle.bt_resume.specs.Contents.{hints_of, IsHeaderCheck, IsWindowRead, IsContentsRead, IsMade};
 
 use crate::error::LogError;
-use crate::hint::Hint;
-use crate::reader::take_hints;
+use crate::hints::Hints;
 use bt_disk::Disk;
 use bt_hashreq::put;
 use bt_tree::Hash32;
@@ -25,7 +24,7 @@ pub(crate) const MAX_LOG_LEN: u64 = 1 << 40;
 /// The hints of a log, and where they end.
 #[derive(Drop)]
 pub(crate) struct Contents {
-    pub(crate) hints: Vec<Hint>,
+    pub(crate) hints: Hints,
     pub(crate) end: u64,
 }
 
@@ -63,21 +62,21 @@ fn is_header(bytes: &[u8], infohash: &Hash32) -> bool
 }
 
 /// Reads a part of the device into a window, puts the hints that begin it behind the others, and says how
-/// many bytes spell them.
+/// many bytes spell them. The list asks for no more memory than `room` bytes.
 fn read_window<D: Disk>(
-    alloc: Global,
     disk: &mut D,
     at: u64,
     window: &mut [u8],
-    hints: &mut Vec<Hint>,
+    hints: &mut Hints,
+    room: usize,
 ) -> Result<usize, LogError>
-    ensures { IsWindowRead D.history D.honest D.faults at (length window.old) disk.old hints.old.items
-        result hints.new.items disk.new }
+    ensures { IsWindowRead D.history D.honest D.faults at (length window.old) disk.old hints.old
+        result hints.new disk.new }
 {
     let Ok(count) = disk.read_at(at, window) else {
         return Err(LogError::Device);
     };
-    let Ok(used) = take_hints(alloc, &window[..count], hints) else {
+    let Ok(used) = hints.take(&window[..count], room) else {
         return Err(LogError::OutOfMemory);
     };
     Ok(used)
@@ -89,12 +88,12 @@ fn read_hints<D: Disk>(alloc: Global, disk: &mut D, len: u64) -> Result<Contents
     requires len { D.honest disk.old → len ≡ length (D.history disk.old).now.bytes }
     ensures { IsContentsRead D.history D.honest D.faults disk.old result disk.new }
 {
-    let mut hints = Vec::new(alloc);
+    let mut hints = Hints::new(alloc);
     let mut end = HEADER_LEN as u64;
     let mut window = [0; WINDOW_LEN];
     while end < len {
         let room = (len - end).min(WINDOW_LEN as u64) as usize;
-        let used = read_window(alloc, disk, end, &mut window[..room], &mut hints)?;
+        let used = read_window(disk, end, &mut window[..room], &mut hints, len as usize)?;
         if used == 0 {
             return Ok(Contents { hints, end });
         }
@@ -112,7 +111,7 @@ fn read_contents<D: Disk>(
 ) -> Result<Contents, LogError>
     requires { D.honest disk.old → len ≡ length (D.history disk.old).now.bytes }
     ensures reads { Reads D.history D.honest D.faults infohash.now disk.old (hints_of result) disk.new }
-    ensures end { IfOk result (λ contents. contents.end ≡ log_length contents.hints.items) }
+    ensures end { IfOk result (λ contents. contents.end ≡ log_length contents.hints) }
     ensures within { IfOk result (λ contents. contents.end ≤ max_log_length) }
 {
     if len > MAX_LOG_LEN {
@@ -129,7 +128,7 @@ pub(crate) fn read_log<D: Disk>(
     infohash: &Hash32,
 ) -> Result<Contents, LogError>
     ensures reads { Reads D.history D.honest D.faults infohash.now disk.old (hints_of result) disk.new }
-    ensures end { IfOk result (λ contents. contents.end ≡ log_length contents.hints.items) }
+    ensures end { IfOk result (λ contents. contents.end ≡ log_length contents.hints) }
     ensures within { IfOk result (λ contents. contents.end ≤ max_log_length) }
 {
     let Ok(len) = disk.len() else {
@@ -145,7 +144,7 @@ pub(crate) fn open_log<D: Disk>(
     infohash: &Hash32,
 ) -> Result<Contents, LogError>
     ensures opens { Opens D.history D.honest D.faults infohash.now disk.old (hints_of result) disk.new }
-    ensures end { IfOk result (λ contents. contents.end ≡ log_length contents.hints.items) }
+    ensures end { IfOk result (λ contents. contents.end ≡ log_length contents.hints) }
     ensures within { IfOk result (λ contents. contents.end ≤ max_log_length) }
 {
     let Ok(len) = disk.len() else {
@@ -156,7 +155,7 @@ pub(crate) fn open_log<D: Disk>(
     }
     make_log(disk, infohash)?;
     Ok(Contents {
-        hints: Vec::new(alloc),
+        hints: Hints::new(alloc),
         end: HEADER_LEN as u64,
     })
 }

@@ -4,6 +4,7 @@ ghost use Rattle.bt_resume.specs.Hint.{CanBeRead};
 use crate::digest_count::digest_count;
 use bt_hashreq::HashKey;
 use bt_sparse::Digests;
+use bt_tree::Hash32;
 
 /// What a log records. It is a hint: whoever reads it proves and reads again before anything is marked.
 #[derive(Debug, Drop)]
@@ -28,4 +29,13 @@ impl Hint {
             Hint::Mark { .. } => true,
         }
     }
+}
+
+/// A hint as a log lends it: the digests lie where the log keeps them.
+#[derive(Clone, Copy, Debug)]
+pub enum LentHint<'a> {
+    /// As in `Hint`.
+    Proof(HashKey, &'a [Hash32]),
+    /// As in `Hint`.
+    Mark { file: u32, block: u32 },
 }

@@ -5,6 +5,7 @@ ghost use Rattle.bt_resume.specs.ResumeLog.{IsAttached, Opens, IsReloaded, IsApp
 use crate::contents::{Contents, MAX_LOG_LEN, open_log, read_log};
 use crate::error::{AppendError, LogError, Refused};
 use crate::hint::Hint;
+use crate::hints::Hints;
 use crate::writer::{MAX_HINT_LEN, write_hint};
 use bt_disk::{DeviceFault, Disk};
 use bt_tree::Hash32;
@@ -17,13 +18,13 @@ use std::marker::Model;
 /// other. The first bytes that are no hint, and all behind them, are ignored and later written over. No
 /// checksum is needed, since a hint is never trusted. The format is this project's own.
 ///
-/// Only `attach` and `reload` take memory: in proportion to the hints that are read.
+/// Only `attach` and `reload` take memory: as much as the hints that are read take in the log.
 #[derive(Drop)]
 pub struct ResumeLog<D: Disk + Drop> {
     alloc: Global,
     disk: D,
     infohash: Hash32,
-    hints: Vec<Hint>,
+    hints: Hints,
     /// Where the next hint is written.
     end: u64,
     /// Where the log ended at the last flush or reading that succeeded.
@@ -40,7 +41,7 @@ impl<D: Disk + Drop> Model for ResumeLog<D> {
     ghost view = { λ a. record {
       disk = a.disk;
       infohash = a.infohash;
-      hints = a.hints.items;
+      hints = a.hints;
       end = a.end;
       kept = a.kept;
     } };
@@ -89,10 +90,10 @@ impl<D: Disk + Drop> ResumeLog<D> {
     }
 
     /// The hints, in order, as they were last read from the device: without those that were appended since.
-    pub fn hints(&self) -> &[Hint]
+    pub fn hints(&self) -> &Hints
         ensures { result.now ≡ self.now.hints }
     {
-        self.hints.as_slice()
+        &self.hints
     }
 
     /// The device.

@@ -4,10 +4,11 @@
 ghost use Rattle.std.specs.Prelude.{◌≡◌, []};
 ghost use Rattle.bt_disk.specs.Limits.{one_more};
 
-use crate::{AppendError, Hint, LogError, Refused, ResumeLog};
+use crate::{AppendError, Hint, Hints, LentHint, LogError, Refused, ResumeLog};
 use bt_disk::{DeviceFault, Disk, FaultDisk, Loss, MemoryDisk};
 use bt_hashreq::HashKey;
 use bt_sparse::Digests;
+use bt_tree::Hash32;
 use std::alloc::{AllocError, Global};
 use std::test::Fail;
 
@@ -52,6 +53,10 @@ impl<D: Disk + Drop> Fixture<D> {
         self.log.reload()
     }
 
+    fn hints(&self) -> &Hints {
+        self.log.hints()
+    }
+
     fn hint_count(&self) -> usize {
         self.log.hints().len()
     }
@@ -62,32 +67,51 @@ impl<D: Disk + Drop> Fixture<D> {
     }
 }
 
-/// A proof of four digests, and of none above them.
+/// The pieces root of a file of 49,152 bytes: 16,384 of the value 1, as many of 2, and as many of 3 (BEP 52, by
+/// another program's SHA-256).
+const ROOT: Hash32 = [
+    0x35, 0x75, 0x4e, 0xe0, 0x33, 0x60, 0xca, 0xca, 0xb5, 0xe9, 0xe2, 0x76, 0x47, 0xda, 0x3d, 0x2a,
+    0x4a, 0xb6, 0xf9, 0x76, 0x14, 0xed, 0x7d, 0x16, 0x92, 0xb9, 0xeb, 0x3c, 0x42, 0xa6, 0x5d, 0x69,
+];
+
+/// The leaves of its tree, of which the last covers no block.
+const LEAVES: [Hash32; 4] = [
+    [
+        0x11, 0x1c, 0xe3, 0xc2, 0xa3, 0x8d, 0x83, 0xa2, 0xe4, 0x70, 0x6b, 0xde, 0x4a, 0xbd, 0xdd,
+        0x50, 0x9d, 0x7f, 0x82, 0x48, 0x11, 0x6c, 0x68, 0x32, 0xb0, 0x67, 0x45, 0xbd, 0xc3, 0x49,
+        0xe0, 0x9f,
+    ],
+    [
+        0x74, 0x66, 0x64, 0xdb, 0xa9, 0x00, 0xc8, 0x1e, 0xf3, 0x11, 0xc8, 0x45, 0x6e, 0x15, 0xb0,
+        0x2a, 0x5e, 0xfe, 0xee, 0x37, 0x36, 0xa4, 0xf3, 0x82, 0x7c, 0xe1, 0xeb, 0x1e, 0x0c, 0x24,
+        0xd8, 0xda,
+    ],
+    [
+        0x46, 0x7c, 0xc9, 0xea, 0x2a, 0x7a, 0x0e, 0x20, 0xa1, 0x1a, 0x77, 0xba, 0x37, 0x17, 0x9a,
+        0x42, 0xca, 0x9d, 0xe2, 0x1d, 0x81, 0x55, 0xc1, 0x4c, 0xa5, 0x32, 0x5d, 0x56, 0xdb, 0xa1,
+        0xe2, 0xc4,
+    ],
+    [0; 32],
+];
+
+/// The proof of all leaves.
 fn proof(alloc: Global) -> Result<Hint, AllocError> {
     let key = HashKey {
-        root: [7; 32],
+        root: ROOT,
         base: 0,
-        index: 8,
+        index: 0,
         length: 4,
         layers: 1,
     };
-    let digests = [[1; 32], [2; 32], [3; 32], [0; 32]];
-    Ok(Hint::Proof(key, Digests::new(Vec::from_slice(alloc, &digests)?)))
+    Ok(Hint::Proof(key, Digests::new(Vec::from_slice(alloc, &LEAVES)?)))
 }
 
 /// The bytes of that proof, by hand.
 fn push_proof(bytes: &mut Vec<u8>) -> Result<(), AllocError> {
     bytes.extend_from_slice(b"P")?;
-    bytes.extend_from_slice(&[7; 32])?;
-    bytes.extend_from_slice(b"\0\0\0\0\0\0\0\x08\0\0\0\x04\0\0\0\x01")?;
-    push_pair(bytes, 1, 2)?;
-    push_pair(bytes, 3, 0)
-}
-
-/// Two digests, each of 32 equal bytes.
-fn push_pair(bytes: &mut Vec<u8>, first: u8, second: u8) -> Result<(), AllocError> {
-    bytes.extend_from_slice(&[first; 32])?;
-    bytes.extend_from_slice(&[second; 32])
+    bytes.extend_from_slice(&ROOT)?;
+    bytes.extend_from_slice(b"\0\0\0\0\0\0\0\0\0\0\0\x04\0\0\0\x01")?;
+    bytes.extend_from_slice(LEAVES.as_flattened())
 }
 
 /// The bytes of a log of that proof and marks of blocks 0 and 1, by hand.
@@ -123,12 +147,42 @@ fn hints_in(alloc: Global, bytes: &[u8]) -> Result<Result<usize, LogError>, Allo
     }
 }
 
+/// Whether the proof is lent.
+fn is_proof(hint: Option<LentHint<'_>>) -> bool {
+    match hint {
+        Some(LentHint::Proof(key, digests)) => key.root == ROOT
+            && (key.base, key.index, key.length, key.layers) == (0, 0, 4, 1)
+            && digests.as_flattened() == LEAVES.as_flattened(),
+        _ => false,
+    }
+}
+
+/// Whether a mark of file 0 is lent.
+fn is_mark(hint: Option<LentHint<'_>>, marked: u32) -> bool {
+    match hint {
+        Some(LentHint::Mark { file, block }) => file == 0 && block == marked,
+        _ => false,
+    }
+}
+
+/// Whether the hints are that proof and marks of blocks 0 and 1.
+fn has_all(hints: &Hints) -> bool {
+    let mut lent = hints.iter();
+    is_proof(lent.next())
+        && is_mark(lent.next(), 0)
+        && is_mark(lent.next(), 1)
+        && lent.next().is_none()
+        && hints.len() == 3
+        && !hints.is_empty()
+}
+
 #[test]
 fn a_log_is_written_and_read_back(rt: HostRuntime) -> Result<(), Fail> {
     let mut log = written(rt.alloc())?.ok_or("not written")?;
     assert_eq!(&rt; log.hint_count(), 0);
     assert!(&rt; log.reload().is_ok());
     assert_eq!(&rt; log.hint_count(), 3);
+    assert!(&rt; has_all(log.hints()));
     let disk = log.into_disk();
     assert!(&rt; disk.bytes() == log_bytes(rt.alloc())?.as_slice());
     Ok(())
@@ -145,6 +199,12 @@ fn high_proof(alloc: Global) -> Result<Hint, AllocError> {
     };
     let digests = [[1; 32], [2; 32], [3; 32], [4; 32]];
     Ok(Hint::Proof(key, Digests::new(Vec::from_slice(alloc, &digests)?)))
+}
+
+/// Two digests, each of 32 equal bytes.
+fn push_pair(bytes: &mut Vec<u8>, first: u8, second: u8) -> Result<(), AllocError> {
+    bytes.extend_from_slice(&[first; 32])?;
+    bytes.extend_from_slice(&[second; 32])
 }
 
 /// The bytes of that proof, by hand.
@@ -236,26 +296,39 @@ fn what_a_cut_left_is_written_over(rt: HostRuntime) -> Result<(), Fail> {
     Ok(())
 }
 
-/// Whether a log with one byte changed is that of another torrent, and stays as it is.
-fn is_other(alloc: Global, changed: usize) -> Result<bool, AllocError> {
+/// Whether a device with these bytes is no log of the torrent, and stays as it is.
+fn is_other(alloc: Global, bytes: &[u8], infohash: Hash32) -> Result<bool, AllocError> {
+    let disk = MemoryDisk::new(alloc, Vec::from_slice(alloc, bytes)?);
+    match ResumeLog::attach(alloc, disk, infohash) {
+        Ok(_) => Ok(false),
+        Err(refused) => Ok(
+            refused.cause == LogError::OtherTorrent && refused.disk.bytes() == bytes,
+        ),
+    }
+}
+
+/// The log with one byte changed.
+fn changed_log(alloc: Global, changed: usize) -> Result<Vec<u8>, AllocError> {
     let mut bytes = log_bytes(alloc)?;
     if let Some(byte) = bytes.get_mut(changed) {
         *byte ^= 1;
     }
-    let disk = MemoryDisk::new(alloc, Vec::from_slice(alloc, &bytes)?);
-    match ResumeLog::attach(alloc, disk, INFOHASH) {
-        Ok(_) => Ok(false),
-        Err(refused) => Ok(
-            refused.cause == LogError::OtherTorrent && refused.disk.bytes() == bytes.as_slice(),
-        ),
-    }
+    Ok(bytes)
 }
 
 #[test]
 fn a_changed_header_is_that_of_another_torrent(rt: HostRuntime) -> Result<(), Fail> {
     for changed in 0..41 {
-        assert_eq!(&rt; is_other(rt.alloc(), changed)?, changed < 40);
+        let bytes = changed_log(rt.alloc(), changed)?;
+        assert_eq!(&rt; is_other(rt.alloc(), &bytes, INFOHASH)?, changed < 40);
     }
+    Ok(())
+}
+
+#[test]
+fn the_log_of_another_torrent_stays(rt: HostRuntime) -> Result<(), Fail> {
+    let bytes = log_bytes(rt.alloc())?;
+    assert!(&rt; is_other(rt.alloc(), &bytes, [6; 32])?);
     Ok(())
 }
 
@@ -337,6 +410,54 @@ fn what_was_not_flushed_is_forgotten_after_a_fault(rt: HostRuntime) -> Result<()
     ];
     for (k, blocks) in rows {
         assert!(&rt; blocks_after_fault(rt.alloc(), k) == blocks, "call {k}");
+    }
+    Ok(())
+}
+
+/// Whether the log is not opened where the k-th call of its device fails once, and is opened then.
+fn opens_after_fault(alloc: Global, k: u64) -> Result<bool, AllocError> {
+    if k == 0 || k > 99 {
+        return Ok(false);
+    }
+    let disk = FaultDisk::new(MemoryDisk::new(alloc, log_bytes(alloc)?)).failing_once(k);
+    let Err(refused) = ResumeLog::attach(alloc, disk, INFOHASH) else {
+        return Ok(false);
+    };
+    let Refused { disk, cause } = refused;
+    match Fixture::attach(alloc, disk) {
+        Ok(log) => Ok(cause == LogError::Device && log.hint_count() == 3),
+        Err(_) => Ok(false),
+    }
+}
+
+/// Whether the log is not read again where the k-th call of its device fails once, which leaves its hints and
+/// what was appended, and is read then.
+fn reads_after_fault(alloc: Global, k: u64) -> Result<bool, AllocError> {
+    if k == 0 || k > 99 {
+        return Ok(false);
+    }
+    let disk = FaultDisk::new(MemoryDisk::new(alloc, log_bytes(alloc)?)).failing_once(k);
+    let Ok(mut log) = Fixture::attach(alloc, disk) else {
+        return Ok(false);
+    };
+    Ok(
+        log.mark(2)
+            && log.reload() == Err(LogError::Device)
+            && log.hint_count() == 3
+            && log.mark(3)
+            && log.reload().is_ok()
+            && log.hint_count() == 5,
+    )
+}
+
+#[test]
+fn a_fault_while_reading_leaves_the_log(rt: HostRuntime) -> Result<(), Fail> {
+    // A reading asks for the length, reads the header and then the hints.
+    for k in 1..4 {
+        assert!(&rt; opens_after_fault(rt.alloc(), k)?, "call {k}");
+    }
+    for k in 5..8 {
+        assert!(&rt; reads_after_fault(rt.alloc(), k)?, "call {k}");
     }
     Ok(())
 }

@@ -1,4 +1,4 @@
-use Rattle.bt_resume.proofs.Spellings.{same_hint}
+use Rattle.bt_resume.specs.OneSpelling.{same_hint}
 use Rattle.bt_resume.proofs.Sequences.{are_read_back, has_one_reading, are_read_first}
 use Rattle.bt_resume.proofs.law.hints_are_read_back.Goals as goal
 
