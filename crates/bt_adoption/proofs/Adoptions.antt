@@ -44,6 +44,7 @@ module _ {D H : Type 0} (old : Parts D H) (tied : IsTied old) where
   tied_last new rest in_line =
       tied_followed old new tied (ap (λ (p : Parts D H). p.torrent) rest.others) (ap (λ (p : Parts D H). map (λ q. q.key) p.peers.items) rest.others)
       (subst (λ (p : Parts D H). max_peers ≤ vec_capacity p.peers) (sym rest.others) tied.room) rest.peers rest.count in_line.fits in_line.follows
+      (ap (λ (p : Parts D H). p.known) rest.others) rest.leaves
 
 -- ---- the answers
 

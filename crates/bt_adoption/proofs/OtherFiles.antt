@@ -7,6 +7,7 @@ use Rattle.bt_machine.specs.Adopting.{is_other}
 use Rattle.bt_state.specs.Parts.{state_of, file_of, disks_of}
 use Rattle.bt_state.specs.declared.parts.Parts.{Parts}
 use Rattle.bt_state.proofs.DeviceCalls.{have_none, have_then}
+use Rattle.bt_state.proofs.Leaves.{leaves_alike, leaves_then}
 use Rattle.bt_adoption.specs.PartsSteps.{AreInLine, KeepsRest, blocks_in}
 use Rattle.bt_adoption.specs.SettlingSteps.{SettlesFiles}
 use Rattle.bt_adoption.proofs.Settlements.{before, same_meant, settles_none, settles_then}
@@ -15,7 +16,7 @@ use Rattle.bt_adoption.proofs.Settlements.{before, same_meant, settles_none, set
 
 module _ {D H : Type 0} where
   pub rest_none : (old : Parts D H) → KeepsRest old old
-  rest_none old = record { others = refl; count = refl; trees = refl; blocks = λ tree. refl; peers = refl }
+  rest_none old = record { others = refl; count = refl; trees = refl; blocks = λ tree. refl; leaves = leaves_alike (state_of old) (state_of old) refl refl; peers = refl }
 
   pub rest_then : {old mid new : Parts D H} → KeepsRest old mid → KeepsRest mid new → KeepsRest old new
   rest_then {old} {mid} {new} one two = record {
@@ -23,6 +24,7 @@ module _ {D H : Type 0} where
     count = two.count ∙ one.count;
     trees = two.trees ∙ one.trees;
     blocks = λ tree. two.blocks tree ∙ one.blocks tree;
+    leaves = leaves_then (state_of old) (state_of mid) (state_of new) one.leaves two.leaves;
     peers = two.peers ∙ one.peers;
   }
 

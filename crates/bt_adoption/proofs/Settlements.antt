@@ -18,6 +18,7 @@ use Rattle.bt_machine.specs.Adopting.{is_other}
 use Rattle.bt_state.specs.Parts.{state_of, file_of, disks_of}
 use Rattle.bt_state.specs.declared.slot.Slot.{Slot}
 use Rattle.bt_state.specs.declared.parts.Parts.{Parts}
+use Rattle.bt_state.proofs.Leaves.{still}
 use Rattle.bt_state.proofs.Lists.{get_mapped}
 use Rattle.bt_state.proofs.DeviceCalls.{have_none}
 use Rattle.bt_state.proofs.SlotChanges.{files_changed, have_changed}
@@ -73,7 +74,7 @@ pub kept_judged : {D : Type 0} {history : D → History} {honest : D → Type 0}
 kept_judged {D} {history} {honest} {faults} {dig} {k} {blocks} {store} {after} {reads} is_judged = record {
   file_length = is_judged.same_file;
   size = ap (λ (xs : List BlockState). length xs) is_judged.states ∙ length_judged dig k false reads store.states;
-  tree_length = refl;
+  still = still k;
 }
 
 -- ---- reads of no block

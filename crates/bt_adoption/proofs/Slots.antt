@@ -7,15 +7,16 @@ use Rattle.std.specs.Vec.{with_item}
 use Rattle.bt_disk.specs.Calls.{HasCalls}
 use Rattle.bt_disk.proofs.CallLists.{has_then}
 use Rattle.bt_store.specs.FileStore.{StoreView}
-use Rattle.bt_machine.proofs.Lists.{set_same, set_other, some_is, some_below}
+use Rattle.bt_machine.proofs.Lists.{set_cases, set_same, set_other, some_is, some_below}
 use Rattle.bt_machine.specs.State.{FileState}
 use Rattle.bt_machine.specs.Devices.{calls_at, reads_at}
 use Rattle.bt_machine.specs.Blocks.{states_of}
 use Rattle.bt_machine.specs.Adopting.{AdoptsGroups}
 use Rattle.bt_state.specs.Parts.{state_of, file_of}
-use Rattle.bt_state.specs.Ties.{FitsFile}
+use Rattle.bt_state.specs.Ties.{FitsFile, StillKnows}
 use Rattle.bt_state.specs.declared.slot.Slot.{Slot}
 use Rattle.bt_state.specs.declared.parts.Parts.{Parts}
+use Rattle.bt_state.proofs.Leaves.{still, leaves_by, one_grown}
 use Rattle.bt_state.proofs.Lists.{get_mapped, get_read}
 use Rattle.bt_state.proofs.SlotChanges.{file_here, files_changed, have_changed, fits_changed, fits_trees, set_again}
 use Rattle.bt_adoption.specs.GroupsSteps.{all_reads, file_with, AreTaken, TakesGroups, StopsTaking}
@@ -89,17 +90,17 @@ either_way (Err e) p q f g = g q
 pub record IsKept {D : Type 0} (k : Facts) (store : StoreView D) (grown : Facts) (after : StoreView D) : Type 0 where
   pub file_length : after.file_length ≡ store.file_length
   pub size : length after.states ≡ length store.states
-  pub tree_length : grown.file_length ≡ k.file_length
+  pub still : StillKnows k grown
 
 module _ {D : Type 0} {history : D → History} {honest : D → Type 0} {faults : D → ℕ} {dig : List ℕ → List ℕ} {k : Facts} {store : StoreView D} {grown : Facts} {after : StoreView D} where
   pub kept_taken : {groups : List (List BlockRead)} {total : Adopted} → TakesGroups history honest faults dig k store groups total grown after → IsKept k store grown after
-  kept_taken t = record { file_length = t.same_file; size = t.same_size; tree_length = t.same_tree }
+  kept_taken t = record { file_length = t.same_file; size = t.same_size; still = t.still }
 
   pub kept_stopped : StopsTaking history honest faults dig k store grown after → IsKept k store grown after
   kept_stopped s = record {
     file_length = ap (λ (v : StoreView D). v.file_length) s.others ∙ s.takes.same_file;
     size = ap (λ (v : StoreView D). length v.states) s.others ∙ s.takes.same_size;
-    tree_length = s.takes.same_tree;
+    still = s.takes.still;
   }
 
 module _ {D H : Type 0} {old : Parts D H} {file : ℕ} {slot : Slot D H} {store : StoreView D} {k : Facts} (at : StandsAt old file slot store k)
@@ -128,11 +129,23 @@ module _ {D H : Type 0} {old : Parts D H} {file : ℕ} {slot : Slot D H} {store 
       ∙ set_again (state_of old).files file (file_with slot.tree after.states) marked
       ∙ sym (files_with (state_of old) file was (replicate (length (states_of (state_of old) file)) Marked))
 
+  -- each file has the tree that it had
+  same_trees : (other : ℕ) (g : FileState) → slice_get (map file_of changed_slots) other ≡ Some g → (f : FileState) × (slice_get (state_of old).files other ≡ Some f) × (g.tree ≡ f.tree)
+  same_trees other g there =
+      elim (set_cases (state_of old).files file other (ap (λ (fs : List FileState). slice_get fs other) (sym files_are) ∙ there)) [
+        | inl own ↦ (
+            file_with slot.tree store.states,
+            ap (slice_get (state_of old).files) own.0 ∙ file_here old.slots.items file at.here at.has store,
+            ap (λ (f : FileState). f.tree) own.1,
+          )
+        | inr was ↦ (g, was, refl)
+      ]
+
   blocks_kept : (tree : ℕ) → option_map_or blocks_of (slice_get trees tree) 0 ≡ blocks_in (state_of old) tree
   unfolding trees
   blocks_kept tree = elim (cases_eq tree slot.tree) [
     | inl own ↦ ap (λ n. option_map_or blocks_of (slice_get (slice_set old.trees.items slot.tree grown) n) 0) own
-        ∙ ap (λ o. option_map_or blocks_of o 0) (set_same old.trees.items slot.tree {x = grown} at.there) ∙ ap block_count kept.tree_length
+        ∙ ap (λ o. option_map_or blocks_of o 0) (set_same old.trees.items slot.tree {x = grown} at.there) ∙ ap block_count kept.still.long
         ∙ ap (λ o. option_map_or blocks_of o 0) (sym at.there) ∙ ap (blocks_in (state_of old)) (sym own)
     | inr apart ↦ ap (λ o. option_map_or blocks_of o 0) (set_other old.trees.items slot.tree tree grown apart)
   ]
@@ -149,6 +162,8 @@ module _ {D H : Type 0} {old : Parts D H} {file : ℕ} {slot : Slot D H} {store 
       trees = refl;
       alike = alike (record old { slots = with_item old.slots file (record slot { store = Some after }) }) refl;
       blocks = λ tree. refl;
+      leaves = leaves_by (state_of old) (state_of (record old { slots = with_item old.slots file (record slot { store = Some after }) }))
+          same_trees (λ tree j there. (j, there, still j));
       fits = slots_fit;
     }
 
@@ -161,7 +176,10 @@ module _ {D H : Type 0} {old : Parts D H} {file : ℕ} {slot : Slot D H} {store 
       trees = length-set old.trees.items slot.tree grown;
       alike = alike (record old { slots = with_item old.slots file (record slot { store = Some after }); trees = with_item old.trees slot.tree grown }) refl;
       blocks = blocks_kept;
-      fits = fits_trees changed_slots slot.tree grown at.there kept.tree_length slots_fit;
+      leaves = leaves_by (state_of old)
+          (state_of (record old { slots = with_item old.slots file (record slot { store = Some after }); trees = with_item old.trees slot.tree grown }))
+          same_trees (one_grown old.trees.items slot.tree at.there kept.still);
+      fits = fits_trees changed_slots slot.tree grown at.there kept.still.long slots_fit;
     }
 
 -- ---- calls of a file's device
@@ -210,7 +228,7 @@ module _ {D H : Type 0} {old : Parts D H} {file : ℕ} {slot : Slot D H} {store 
         let calls : flat_map (λ c. c) (map (reads_at file k.file_length) s.groups) ++ reads_at file grown.file_length s.last
         ≡ calls_at file (map (call_of store.file_length) (all_reads s.groups) ++ map (call_of store.file_length) s.last) =
         ap (λ cs. cs ++ reads_at file grown.file_length s.last) (group_calls file k.file_length s.groups ∙ calls_are file (all_reads s.groups) at.same)
-        ∙ ap (λ cs. calls_at file (map (call_of store.file_length) (all_reads s.groups)) ++ cs) (calls_are file s.last (s.takes.same_tree ∙ at.same))
+        ∙ ap (λ cs. calls_at file (map (call_of store.file_length) (all_reads s.groups)) ++ cs) (calls_are file s.last (s.takes.still.long ∙ at.same))
         ∙ sym (map-append (λ call. (file, call)) (map (call_of store.file_length) (all_reads s.groups)) (map (call_of store.file_length) s.last)) in
         record {
           made = flat_map (λ c. c) (map (reads_at file k.file_length) s.groups) ++ reads_at file grown.file_length s.last;

@@ -20,6 +20,8 @@ use Rattle.bt_machine.specs.Request.{IsFile}
 use Rattle.bt_machine.specs.Shape.{HasNoLog}
 use Rattle.bt_machine.specs.ProofKeys.{HasAnswer}
 use Rattle.bt_machine.specs.Adopting.{IsProof, AdoptsGroup, AdoptsGroups, nothing_adopted, adopted_together, unread, read}
+use Rattle.bt_state.specs.Ties.{StillKnows}
+use Rattle.bt_state.proofs.Leaves.{still, still_then, still_joined}
 use Rattle.bt_adoption.proofs.Borders.{IsBorder, at_start, behind_group_of}
 use Rattle.bt_adoption.specs.GroupsSteps.{all_reads, file_with, AreTaken, TakesGroups, StopsTaking}
 
@@ -58,6 +60,12 @@ length_adopted : {dig : List ℕ → List ℕ} {k grown : Facts} {from : ℕ} {o
 length_adopted {dig} {k} {grown} {from} {old} (known count rs group order) = length_judged dig k true rs old
 length_adopted {dig} {k} {grown} {from} {old} (accepted anchor first count rs g group whole accepts) = length_marked first count old
 length_adopted _ = refl
+
+-- nor does a tree lose a leaf
+still_adopted : {dig : List ℕ → List ℕ} {k grown : Facts} {from : ℕ} {old new : List BlockState} {reads : List BlockRead} {adopted : Adopted}
+    → Adopts dig k from old reads adopted grown new → StillKnows k grown
+still_adopted (accepted anchor first count rs g group whole accepts) = still_joined accepts.joins
+still_adopted {k = k} _ = still k
 
 -- ---- one group more
 
@@ -148,10 +156,10 @@ module _ {D : Type 0} {history : D → History} {honest : D → Type 0} {faults 
         calls = rw list
             (has_then history honest faults old.disk before.disk new.disk (map call (all_reads groups)) (map call reads) takes.calls
             (subst (λ n. HasCalls history honest faults before.disk (map (call_of n) reads) new.disk) takes.same_file adopted.calls));
-        taken = taken_more k old.states groups total takes.taken takes.same_tree left adopted.adopts;
+        taken = taken_more k old.states groups total takes.taken takes.still.long left adopted.adopts;
         same_file = adopted.same_file ∙ takes.same_file;
         same_size = length_adopted adopted.adopts ∙ takes.same_size;
-        same_tree = (adopt_extends dig mid grown total.next before.states new.states reads one adopted.adopts).file_length ∙ takes.same_tree;
+        still = still_then takes.still (still_adopted adopted.adopts);
       }
 
 -- so far groups were taken in, and their sums are within the blocks that they have
@@ -169,7 +177,7 @@ module _ {D : Type 0} {history : D → History} {honest : D → Type 0} {faults 
   pub taking_begun : IsRooted dig k → AreTaking history honest faults dig k old (nothing_adopted 0) k old
   taking_begun rooted = record {
     groups = [];
-    takes = record { calls = has_none history honest faults old.disk; taken = taken_none dig k old.states; same_file = refl; same_size = refl; same_tree = refl };
+    takes = record { calls = has_none history honest faults old.disk; taken = taken_none dig k old.states; same_file = refl; same_size = refl; still = still k };
     rooted = rooted;
     border = at_start refl;
     marked = omega arith;
@@ -181,7 +189,7 @@ module _ {D : Type 0} {history : D → History} {honest : D → Type 0} {faults 
       → total.next < blocks_of k → IsAdopted history honest faults dig mid total.next before reads one grown new → one.next ≤ blocks_of k
       → AreTaking history honest faults dig k old (adopted_together total one) grown new
   taking_more {mid} {grown} {before} {new} {reads} {total} {one} a left adopted within =
-      let here : total.next < blocks_of mid = subst (λ n. total.next < block_count n) (sym a.takes.same_tree) left in
+      let here : total.next < blocks_of mid = subst (λ n. total.next < block_count n) (sym a.takes.still.long) left in
       let more = behind_group_of a.rooted here a.border adopted.adopts in
       record {
         groups = a.groups ++ reads ∷ [];

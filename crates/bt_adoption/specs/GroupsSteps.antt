@@ -13,6 +13,7 @@ use Rattle.bt_machine.specs.Blocks.{with_file, with_tree}
 use Rattle.bt_machine.specs.Request.{IsFile}
 use Rattle.bt_machine.specs.Shape.{HasNoLog}
 use Rattle.bt_machine.specs.Adopting.{AdoptsGroups, StopsAt}
+use Rattle.bt_state.specs.Ties.{StillKnows}
 
 -- the reads of all groups
 abbrev pub all_reads : List (List BlockRead) → List BlockRead
@@ -39,7 +40,7 @@ pub record TakesGroups {D : Type 0} (history : D → History) (honest : D → Ty
   pub taken : AreTaken dig k old.states groups total grown new.states
   pub same_file : new.file_length ≡ old.file_length
   pub same_size : length new.states ≡ length old.states
-  pub same_tree : grown.file_length ≡ k.file_length
+  pub still : StillKnows k grown
 
 -- Memory was refused: some groups were taken in; the next one was read or was not, and changed nothing.
 pub record StopsTaking {D : Type 0} (history : D → History) (honest : D → Type 0) (faults : D → ℕ)

@@ -5,7 +5,7 @@ use Rattle.bt_book.specs.Book.{peers_of}
 use Rattle.bt_sparse.specs.SparseTree.{blocks_of}
 use Rattle.bt_machine.specs.State.{EngineState}
 use Rattle.bt_state.specs.Parts.{state_of}
-use Rattle.bt_state.specs.Ties.{FitsFile}
+use Rattle.bt_state.specs.Ties.{FitsFile, LeavesStay}
 use Rattle.bt_state.specs.declared.slot.Slot.{Slot}
 use Rattle.bt_state.specs.declared.parts.Parts.{Parts}
 use Rattle.bt_adoption.specs.RecountSteps.{with_marked_file, Follows}
@@ -25,7 +25,7 @@ abbrev pub blocks_in : EngineState → ℕ → ℕ
 blocks_in s tree = option_map_or blocks_of (slice_get s.trees tree) 0
 
 -- Nothing changed but slots, trees, the book and the counts. There are as many slots and trees as before, the
--- trees are of as many blocks, and the book has the same peers.
+-- trees are of as many blocks, each leaf that was known is, and the book has the same peers.
 pub record KeepsRest {D H : Type 0} (old new : Parts D H) : Type 0 where
   pub others : new ≡ record old {
     slots = new.slots;
@@ -36,14 +36,16 @@ pub record KeepsRest {D H : Type 0} (old new : Parts D H) : Type 0 where
   pub count : length new.slots.items ≡ length old.slots.items
   pub trees : length new.trees.items ≡ length old.trees.items
   pub blocks : (tree : ℕ) → blocks_in (state_of new) tree ≡ blocks_in (state_of old) tree
+  pub leaves : LeavesStay (state_of old) (state_of new)
   pub peers : peers_of new.book ≡ peers_of old.book
 
 -- Nothing changed but slots and trees, of which there are as many as before, and the trees are of as many
--- blocks. Of the files only this one has changed, and has as many blocks as before.
+-- blocks. Each leaf that was known is. Of the files only this one has changed, and has as many blocks as before.
 pub record ChangesFile {D H : Type 0} (file : ℕ) (old new : Parts D H) : Type 0 where
   pub others : new ≡ record old { slots = new.slots; trees = new.trees }
   pub count : length new.slots.items ≡ length old.slots.items
   pub trees : length new.trees.items ≡ length old.trees.items
   pub alike : (with_marked_file (state_of new) file).files ≡ (with_marked_file (state_of old) file).files
   pub blocks : (tree : ℕ) → blocks_in (state_of new) tree ≡ blocks_in (state_of old) tree
+  pub leaves : LeavesStay (state_of old) (state_of new)
   pub fits : AreFit new

@@ -51,7 +51,7 @@ module _ {D H : Type 0} (old : Parts D H) (i : ℕ) {p : Peer} (b : BlockId) (bo
   pub tied_mid : book.wanted ≡ old.book.wanted → peers_of book ≡ peers_of old.book → IsTied (record old { peers = with_item old.peers i peer_then; book = book })
   tied_mid wanted peers =
       let set = tied_set old i peer_then tied here refl in
-      tied_again (record old { peers = with_item old.peers i peer_then }) mid set refl refl refl refl wanted (set.joined ∙ sym peers) set.in_order set.room
+      tied_again (record old { peers = with_item old.peers i peer_then }) mid set refl refl refl refl refl wanted (set.joined ∙ sym peers) set.in_order set.room
 
   pub shaped_mid : IsShaped old.torrent (state_of old) → IsShaped old.torrent (state_of (record old { peers = with_item old.peers i peer_then; book = book }))
   shaped_mid shaped = record { same = shaped.same; roots = shaped.roots; count = shaped.count; each = shaped.each }

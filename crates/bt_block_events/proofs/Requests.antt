@@ -23,7 +23,7 @@ use Rattle.bt_state.proofs.Lists.{get_mapped}
 use Rattle.bt_state.proofs.SlotChanges.{file_here}
 use Rattle.bt_state.proofs.Ties.{tied_set, state_set}
 use Rattle.bt_block_events.specs.Request.{TakesRequest, effect_of}
-use Rattle.bt_block_events.specs.RequestSteps.{CanRead, SendsFromSlot, StopsInSlot}
+use Rattle.bt_block_events.specs.RequestSteps.{CanRead, IsLookedAt, SendsFromSlot, StopsInSlot}
 use Rattle.bt_block_events.specs.ServingSteps.{Finds, damaged, fault}
 use Rattle.bt_block_events.specs.SpansSteps.{IsShortSpan}
 use Rattle.bt_block_events.specs.declared.request.Served.{Served}
@@ -94,16 +94,6 @@ pub choking_is : {D H : Type 0} (parts : Parts D H) (i : ℕ) {p : Peer} → sli
     → slice_get (state_of parts).peers i ≡ Some x → x.am_choking ≡ p.am_choking
 choking_is parts i here x at =
     ap (λ (x : PeerState). x.am_choking) (some_is (sym at ∙ get_mapped (peer_of parts.book) parts.peers.items i here))
-
--- a request that is looked at: we do not choke the peer, and the blocks of the range are marked
-pub record IsLookedAt {D H : Type 0} (old : Parts D H) (i : ℕ) (ask : Ask) (span : Span) : Type 0 where
-  pub peer : Peer
-  pub tied : IsTied old
-  pub shaped : IsShaped old.torrent (state_of old)
-  pub here : slice_get old.peers.items i ≡ Some peer
-  pub open_to : peer.am_choking ≡ false
-  pub place : IsPlace old.torrent ask.piece ask.begin ask.length span
-  pub are : AreMarked (state_of old) span
 
 -- what the machine makes of the peer it makes of whatever stands there
 takes_by : {D H : Type 0} {dig : List ℕ → List ℕ} {old : Parts D H} {i : ℕ} {ask : Ask} {span : Span} (look : IsLookedAt old i ask span) (outcome : Served)

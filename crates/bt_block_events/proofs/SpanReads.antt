@@ -173,7 +173,7 @@ module _ {D : Type 0} {history : D → History} {honest : D → Type 0} {faults 
       })
 
 -- the second read goes behind the first
-pub both_parts : (a more : ℕ) (xs ys : List ℕ) → length xs ≡ 32768 → a ≤ 16384 → more ≤ 16384
+pub both_parts : (a more : ℕ) (xs ys : List ℕ) → 32768 ≤ length xs → a ≤ 16384 → more ≤ 16384
     → length ys ≡ length (mid_of a (length xs - a) xs)
     → take (a + more) (put_mid a (length xs - a) xs ys) ≡ take a xs ++ take more ys
 both_parts a more xs ys room low few same =

@@ -12,10 +12,11 @@ use Rattle.bt_machine.specs.Request.{IsFile}
 use Rattle.bt_machine.specs.Shape.{IsShaped}
 use Rattle.bt_state.specs.BlockChange.{AreFollowed, OneChanged, HasChanged, asked_after}
 use Rattle.bt_state.specs.Parts.{state_of, file_of, disk_of, disks_of}
-use Rattle.bt_state.specs.Ties.{IsTied}
+use Rattle.bt_state.specs.Ties.{IsTied, LeavesStay}
 use Rattle.bt_state.specs.declared.slot.Slot.{Slot}
 use Rattle.bt_state.specs.declared.parts.Parts.{Parts}
 use Rattle.bt_state.proofs.BlockChanges.{EachFits, followed_tied, followed_alike, tied_followed, state_followed}
+use Rattle.bt_state.proofs.Leaves.{leaves_alike, leaves_with_file}
 use Rattle.bt_state.proofs.SlotChanges.{file_here, files_changed, have_changed, fits_changed, slot_block_changed}
 use Rattle.bt_block_events.specs.SlotSteps.{ChangesStore}
 
@@ -81,6 +82,7 @@ module _ {D H : Type 0} {old next : Parts D H} {file : ℕ} {before after : Stor
     tied_same =
         tied_followed old (record old { slots = next.slots }) c.tied refl refl c.tied.room refl count_then fits_then
         (followed_alike (state_of (record old { slots = next.slots })) (followed_tied old c.tied c.shaped) refl same_files)
+        refl (leaves_alike (state_of old) (state_of (record old { slots = next.slots })) refl same_files)
 
 -- one block has another state
 module _ {D H : Type 0} {old next : Parts D H} {b : BlockId} {was now : BlockState} (c : ChangesBlock old next b was now) where
@@ -106,6 +108,10 @@ module _ {D H : Type 0} {old next : Parts D H} {b : BlockId} {was now : BlockSta
     pub state_new : state_of new ≡ with_file (state_of old) b.file (record (file_before c.parts) { states = c.after.states })
     state_new = state_followed (record old { slots = next.slots }) new b was now others asked none ∙ state_then c.parts
 
+    leaves_new : LeavesStay (state_of old) (state_of new)
+    leaves_new = subst (λ (s : EngineState). LeavesStay (state_of old) s) (sym state_new)
+        (leaves_with_file (state_of old) b.file (file_before c.parts) (record (file_before c.parts) { states = c.after.states }) (is_file c.parts).here refl)
+
     pub have_new : {history : D → History} {honest : D → Type 0} {faults : D → ℕ} (calls : List Call)
         → HasCalls history honest faults c.before.disk calls c.after.disk
         → HaveCalls history honest faults (disks_of old) (calls_at b.file calls) (disks_of new)
@@ -125,3 +131,4 @@ module _ {D H : Type 0} {old next : Parts D H} {b : BlockId} {was now : BlockSta
         (ap (λ (parts : Parts D H). length parts.slots.items) others ∙ count_then c.parts) fits
         (followed (state_of old) (state_of new) refl (followed_tied old c.parts.tied c.parts.shaped)
         (changed_to (state_of new) torrent (ap (λ (parts : Parts D H). map file_of parts.slots.items) others)))
+        (ap (λ (parts : Parts D H). parts.known) others) leaves_new

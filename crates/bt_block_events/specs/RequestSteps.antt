@@ -1,14 +1,32 @@
 -- How a span is read from the store of its file.
-use Rattle.std.specs.Prelude.{ℕ, List}
+use Rattle.std.specs.Prelude.{◌≡◌, ℕ, false, List, Some, slice_get}
 use Rattle.bt_disk.specs.History.{History}
+use Rattle.bt_meta.specs.Place.{IsPlace}
 use Rattle.bt_meta.specs.declared.torrent.Span.{Span}
 use Rattle.bt_sparse.specs.SparseTree.{Facts}
 use Rattle.bt_store.specs.FileStore.{StoreView}
+use Rattle.bt_wire.specs.declared.message.Ask.{Ask}
+use Rattle.bt_machine.specs.Request.{AreMarked}
+use Rattle.bt_machine.specs.Shape.{IsShaped}
 use Rattle.bt_machine.specs.Spans.{spanned_blocks}
+use Rattle.bt_state.specs.Parts.{state_of}
+use Rattle.bt_state.specs.Ties.{IsTied}
+use Rattle.bt_state.specs.declared.peer.Peer.{Peer}
 use Rattle.bt_state.specs.declared.slot.Slot.{Slot}
+use Rattle.bt_state.specs.declared.parts.Parts.{Parts}
 use Rattle.bt_block_events.specs.SlotSteps.{HasStore, ChangesStore}
 use Rattle.bt_block_events.specs.declared.serving.ReadFault.{ReadFault}
 use Rattle.bt_block_events.specs.ServingSteps.{IsMarkedSpan, SendsSpan, StopAtFault}
+
+-- A request that is looked at: we do not choke the peer at i, and the blocks of the range are marked.
+pub record IsLookedAt {D H : Type 0} (old : Parts D H) (i : ℕ) (ask : Ask) (span : Span) : Type 0 where
+  pub peer : Peer
+  pub tied : IsTied old
+  pub shaped : IsShaped old.torrent (state_of old)
+  pub here : slice_get old.peers.items i ≡ Some peer
+  pub open_to : peer.am_choking ≡ false
+  pub place : IsPlace old.torrent ask.piece ask.begin ask.length span
+  pub are : AreMarked (state_of old) span
 
 -- the blocks of the span are marked in the store of its file
 pub record CanRead {D H : Type 0} (slots : List (Slot D H)) (trees : List Facts) (span : Span) : Type 0 where

@@ -1,5 +1,6 @@
 -- How the blocks that a range of a file lies in are read.
-use Rattle.std.specs.Prelude.{◌≡◌, ℕ, ◌==◌, if◌then◌else◌, List, [], ◌∷◌, ◌++◌, map, flat_map, Some, slice_get, slice_set, Contains}
+use Rattle.std.specs.Prelude.{◌≡◌, ◌≢◌, ℕ, ◌*◌, ◌≤◌, ◌==◌, if◌then◌else◌, List, [], ◌∷◌, ◌++◌, length, map, flat_map, Some, slice_get, slice_set, Contains, vec_capacity}
+use Rattle.bt_tree.specs.Limits.{full_block_length}
 use Rattle.bt_disk.specs.History.{History}
 use Rattle.bt_disk.specs.Calls.{HasCalls}
 use Rattle.bt_meta.specs.declared.torrent.Span.{Span}
@@ -8,8 +9,9 @@ use Rattle.bt_store.specs.FileStore.{StoreView}
 use Rattle.bt_store.specs.BlockReads.{BlockRead, given, failed, call_of, IsRight}
 use Rattle.bt_store.specs.declared.block_states.BlockState.{BlockState}
 use Rattle.bt_store.specs.declared.block_states.BlockState.TheVariants.{Missing, Marked}
-use Rattle.bt_machine.specs.Spans.{spanned_blocks, cut_from}
+use Rattle.bt_machine.specs.Spans.{first_block, last_block, spanned_blocks, cut_from}
 use Rattle.bt_machine.specs.Request.{ReadsRight}
+use Rattle.bt_block_events.specs.declared.serving.Room.{Room}
 use Rattle.bt_block_events.specs.declared.serving.ReadFault.{ReadFault}
 use Rattle.bt_block_events.specs.declared.serving.ReadFault.TheVariants.{Damaged, Device}
 
@@ -66,6 +68,13 @@ pub record StopAtFault {D : Type 0} (history : D → History) (honest : D → Ty
       old.disk (map (call_of k.file_length) (reads ++ read ∷ [])) new.disk
   pub finds : Finds dig k block read found old.states new.states
   pub same_file : new.file_length ≡ old.file_length
+
+-- it has as many blocks as the span lies in, and as many bytes as the span has find room
+pub record IsRoomFor (span : Span) (room : Room) : Type 0 where
+  pub one : full_block_length ≤ length room.blocks.items
+  pub two : first_block span ≢ last_block span → 2 * full_block_length ≤ length room.blocks.items
+  pub nothing : room.bytes.items ≡ []
+  pub bytes : span.length ≤ vec_capacity room.bytes
 
 -- the blocks of the span are marked
 pub record IsMarkedSpan (states : List BlockState) (span : Span) : Type 0 where

@@ -1,16 +1,16 @@
-ghost use Rattle.std.specs.Prelude.{◌≡◌, ◌≢◌, ◌*◌, ◌<◌, IfErr, IfOk, Some, length, map, vec_len};
+ghost use Rattle.std.specs.Prelude.{◌≡◌, ◌≢◌, ◌<◌, IfErr, IfOk, Some, length, map, vec_len};
 ghost use Rattle.std.specs.Bool.{OnFalse, OnTrue};
-ghost use Rattle.bt_tree.specs.Limits.{full_block_length};
 ghost use Rattle.bt_machine.specs.Blocks.{block_id, state_at};
 ghost use Rattle.bt_machine.specs.Request.{AreMarked};
 ghost use Rattle.bt_machine.specs.Shape.{IsShaped};
 ghost use Rattle.bt_state.specs.Parts.{state_of};
 ghost use Rattle.bt_state.specs.Ties.{IsTied};
 ghost use Rattle.bt_block_events.specs.Request.{TakesRequest};
-ghost use Rattle.bt_block_events.specs.RequestSteps.{CanRead, SendsFromSlot, StopsInSlot};
+ghost use Rattle.bt_block_events.specs.RequestSteps.{CanRead, IsLookedAt, SendsFromSlot, StopsInSlot};
+ghost use Rattle.bt_block_events.specs.ServingSteps.{IsRoomFor};
 ghost use Rattle.bt_block_events.specs.SpansSteps.{IsShortSpan};
 
-use crate::serving::{ReadFault, read_span};
+use crate::serving::{ReadFault, Room, read_span, room_for};
 use crate::spans::{first_block, last_block, place_of};
 use bt_book::BlockId;
 use bt_disk::Disk;
@@ -19,7 +19,7 @@ use bt_meta::Span;
 use bt_sparse::SparseTree;
 use bt_state::{Parts, Slot, follow_block};
 use bt_store::BlockState;
-use bt_tree::{BLOCK_LEN, NodeHash};
+use bt_tree::NodeHash;
 use bt_wire::Ask;
 use std::alloc::{AllocError, Global};
 
@@ -66,12 +66,34 @@ pub fn take_request<D: Disk + Drop, H: NodeHash>(
         return Ok(Served::Nothing);
     }
     // It is made before the first read, so that a refusal leaves all as it was.
-    let room = vec![in alloc; 0; 2 * BLOCK_LEN]?;
+    let room = room_for(alloc, span)?;
+    Ok(serve(parts, index, ask, span, room))
+}
+
+/// Reads the range that the peer at `index` asks for. What is found at a block that is not right stands then.
+fn serve<D: Disk + Drop, H: NodeHash>(
+    parts: &mut Parts<D, H>,
+    index: usize,
+    ask: Ask,
+    span: Span,
+    room: Room,
+) -> Served
+    requires looked { IsLookedAt parts.old index ask span }
+    requires inside { index < vec_len parts.old.peers }
+    requires there { index < length parts.old.peers.items }
+    requires short { IsShortSpan span }
+    requires room { IsRoomFor span room }
+    ensures takes { TakesRequest D.history D.honest D.faults H.digest parts.old index ask result parts.new }
+    ensures torrent { parts.new.torrent ≡ parts.old.torrent }
+    ensures peers { map (λ p. p.key) parts.new.peers.items ≡ map (λ p. p.key) parts.old.peers.items }
+    ensures len { vec_len parts.new.peers ≡ vec_len parts.old.peers }
+    ensures tied { IsTied parts.new }
+{
     match read_slot(&mut parts.slots, &parts.trees, span, room) {
         Ok(bytes) => {
             let peer = &mut parts.peers[index];
             peer.payload = peer.payload.saturating_add(span.length as u64);
-            Ok(Served::Sent(bytes))
+            Served::Sent(bytes)
         }
         Err(ReadFault::Damaged(block)) => {
             let block = BlockId {
@@ -79,9 +101,9 @@ pub fn take_request<D: Disk + Drop, H: NodeHash>(
                 block,
             };
             follow_block(parts, block, BlockState::Marked, BlockState::Missing);
-            Ok(Served::Found(Note::Damaged(block)))
+            Served::Found(Note::Damaged(block))
         }
-        Err(ReadFault::Device) => Ok(Served::Found(Note::Device(span.file))),
+        Err(ReadFault::Device) => Served::Found(Note::Device(span.file)),
     }
 }
 
@@ -117,12 +139,12 @@ fn read_slot<D: Disk + Drop, H: NodeHash>(
     slots: &mut [Slot<D, H>],
     trees: &[SparseTree<H>],
     span: Span,
-    room: Vec<u8>,
+    room: Room,
 ) -> Result<Vec<u8>, ReadFault>
     requires inside { span.file < length slots.old }
     requires short { IsShortSpan span }
     requires marked { CanRead slots.old trees.now span }
-    requires room { length room.items ≡ 2 * full_block_length }
+    requires room { IsRoomFor span room }
     ensures right { IfOk result (λ bytes. SendsFromSlot D.history D.honest D.faults H.digest slots.old
         trees.now span bytes.items slots.new) }
     ensures wrong { IfErr result (λ fault. StopsInSlot D.history D.honest D.faults H.digest slots.old

@@ -1,7 +1,7 @@
-ghost use Rattle.std.specs.Prelude.{◌≡◌, ◌*◌, ◌≤◌, IfErr, IfOk, Some, drop, length, slice_get, take};
+ghost use Rattle.std.specs.Prelude.{[], ◌≡◌, ◌≢◌, ◌*◌, ◌≤◌, IfErr, IfOk, Some, drop, length, slice_get, take, vec_capacity};
 ghost use Rattle.bt_tree.specs.Limits.{full_block_length};
 ghost use Rattle.bt_machine.specs.Spans.{first_block, last_block, spanned_blocks};
-ghost use Rattle.bt_block_events.specs.ServingSteps.{AreReadRight, IsMarkedSpan, IsReadRight, IsReadWrong, SendsSpan, StopAtFault, one_or_two};
+ghost use Rattle.bt_block_events.specs.ServingSteps.{AreReadRight, IsMarkedSpan, IsReadRight, IsReadWrong, IsRoomFor, SendsSpan, StopAtFault, one_or_two};
 ghost use Rattle.bt_block_events.specs.SpansSteps.{IsShortSpan};
 
 use crate::spans::{first_block, last_block};
@@ -10,6 +10,7 @@ use bt_meta::Span;
 use bt_sparse::SparseTree;
 use bt_store::{BlockState, FileStore, ReadError};
 use bt_tree::{BLOCK_LEN, NodeHash};
+use std::alloc::{AllocError, Global};
 
 /// Why a marked block was not read.
 #[derive(Clone, Copy, Debug, PartialEq, Eq)]
@@ -20,29 +21,61 @@ pub(crate) enum ReadFault {
     Device,
 }
 
+/// Room to read a span.
+#[derive(Debug, Drop)]
+pub(crate) struct Room {
+    /// For the one block or the two that it lies in.
+    pub blocks: Vec<u8>,
+    /// For its own bytes.
+    pub bytes: Vec<u8>,
+}
+
+/// Room to read a span, no more than it needs. Errors: out of memory.
+pub(crate) fn room_for(alloc: Global, span: Span) -> Result<Room, AllocError>
+    requires { IsShortSpan span }
+    ensures { IfOk result (IsRoomFor span) }
+{
+    let count = if first_block(span) == last_block(span) {
+        1
+    } else {
+        2
+    };
+    Ok(Room {
+        blocks: vec![in alloc; 0; count * BLOCK_LEN]?,
+        bytes: Vec::with_capacity(alloc, span.length as usize)?,
+    })
+}
+
 /// Reads the blocks that a span of the file lies in, and gives the bytes of the span. At the first block that
 /// is not right it stops.
 pub(crate) fn read_span<D: Disk + Drop, H: NodeHash>(
     store: &mut FileStore<D, H>,
     tree: &SparseTree<H>,
     span: Span,
-    mut room: Vec<u8>,
+    room: Room,
 ) -> Result<Vec<u8>, ReadFault>
     requires geometry { tree.now.file_length ≡ store.old.file_length }
     requires short { IsShortSpan span }
     requires marked { IsMarkedSpan store.old.states span }
-    requires room { length room.items ≡ 2 * full_block_length }
+    requires room { IsRoomFor span room }
     ensures right { IfOk result (λ bytes. SendsSpan D.history D.honest D.faults H.digest tree.now span
         bytes.items store.old store.new) }
     ensures wrong { IfErr result (λ fault. StopAtFault D.history D.honest D.faults H.digest tree.now
         (spanned_blocks span) fault store.old store.new) }
     ensures same_file { store.new.file_length ≡ store.old.file_length }
 {
+    let Room { mut blocks, bytes } = room;
     let (first, last) = (first_block(span), last_block(span));
-    match read_blocks(store, tree, first, last, room.as_mut_slice()) {
+    match read_blocks(store, tree, first, last, blocks.as_mut_slice()) {
         Ok(count) => {
             let offset = (span.start % BLOCK_LEN as u64) as usize;
-            Ok(cut(room, count, offset, span.length as usize))
+            Ok(cut(
+                blocks.as_slice(),
+                count,
+                offset,
+                span.length as usize,
+                bytes,
+            ))
         }
         Err(fault) => Err(fault),
     }
@@ -57,7 +90,8 @@ fn read_blocks<D: Disk + Drop, H: NodeHash>(
     out: &mut [u8],
 ) -> Result<usize, ReadFault>
     requires geometry { tree.now.file_length ≡ store.old.file_length }
-    requires room { length out.old ≡ 2 * full_block_length }
+    requires room { full_block_length ≤ length out.old }
+    requires two { first ≢ last → 2 * full_block_length ≤ length out.old }
     requires first { slice_get store.old.states first ≡ Some BlockState.Marked }
     requires last { slice_get store.old.states last ≡ Some BlockState.Marked }
     ensures right { IfOk result (λ count. AreReadRight D.history D.honest D.faults H.digest tree.now
@@ -97,14 +131,17 @@ fn read_block<D: Disk + Drop, H: NodeHash>(
     }
 }
 
-/// Of the first `count` bytes, so many from the one at `offset` on.
-fn cut(mut bytes: Vec<u8>, count: usize, offset: usize, length: usize) -> Vec<u8>
-    ensures { result.items ≡ take length (drop offset (take count bytes.items)) }
+/// Of the first `count` bytes, so many from the one at `offset` on, in an empty list that has room for them.
+fn cut(read: &[u8], count: usize, offset: usize, length: usize, bytes: Vec<u8>) -> Vec<u8>
+    requires nothing { bytes.items ≡ [] }
+    requires room { length ≤ vec_capacity bytes }
+    ensures { result.items ≡ take length (drop offset (take count read.now)) }
 {
-    bytes.truncate(count);
-    let front = offset.min(bytes.len());
-    bytes.rotate_left(front);
-    let left = bytes.len() - front;
-    bytes.truncate(length.min(left));
+    let all = &read[..count.min(read.len())];
+    let rest = &all[offset.min(all.len())..];
+    let mut bytes = bytes;
+    bytes
+        .extend_from_slice(&rest[..length.min(rest.len())])
+        .unwrap();
     bytes
 }

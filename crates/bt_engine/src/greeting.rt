@@ -10,13 +10,10 @@ use bt_book::PeerKey;
 use bt_disk::Disk;
 use bt_machine::{ConnectError, Frame, Output};
 use bt_meta::Torrent;
-use bt_state::Parts;
+use bt_state::{MAX_PEERS, Parts};
 use bt_tree::NodeHash;
 use bt_wire::{Bytes, Handshake, Message};
 use std::alloc::Global;
-
-/// How many peers are connected at most.
-const MAX_PEERS: usize = 64;
 
 /// The name by which this program calls itself.
 const PEER_NAME: [u8; 20] = *b"-BS0001-000000000000";

@@ -1,6 +1,6 @@
 -- The search for the least leaf that is needed of a peer: by what it has, by unknown leaves, and by marks.
 use Rattle.bt_machine.proofs.Base.{◌≡◌, ℕ, ◌+◌, ◌<◌, ◌⊎◌, inl, inr, Bool, true, false, List, length, get_or, Option, Some, None, refl, sym, ap, ◌∙◌, subst, arith, slice_get, option_map_or, cases_lt, block_count, BlockId, BlockState, Missing, Marked, Facts, blocks_of, held_at, value_at, HashKey}
-use Rattle.std.specs.Prelude.{◌/◌, ◌*◌, ◌-◌, ◌^◌, max, unwrap_or, IsSome, IsNone, IfSome, IfNone}
+use Rattle.std.specs.Prelude.{not, ◌&&◌, ◌/◌, ◌*◌, ◌-◌, ◌^◌, max, unwrap_or, IsSome, IsNone, IfSome, IfNone, slice_index_or}
 use Rattle.std.specs.Option.{option_and_then}
 use Rattle.std.proofs.lemmas.Bool.{true≢false}
 use Rattle.bt_store.specs.BlockStates.{is_marked}
@@ -11,19 +11,21 @@ use Rattle.bt_book.proofs.Firsts.{before_or_from, same_id}
 use Rattle.bt_hashreq.specs.Request.{IsPlan}
 use Rattle.bt_sparse.specs.Unknown.{HoldsLeaves, IsNextUnknown}
 use Rattle.bt_sparse.proofs.Anchors.{known_above}
-use Rattle.bt_machine.proofs.Lists.{get_some, some_below, some_is, some_not_none, and_then_some}
+use Rattle.bt_machine.proofs.Lists.{get_some, some_below, some_is, some_not_none, and_then_some, and_true}
 use Rattle.bt_machine.specs.State.{EngineState, PeerState, FileState}
 use Rattle.bt_machine.specs.Blocks.{state_at, tree_of, leaf_at, is_marked_in}
 use Rattle.bt_machine.specs.Shape.{IsShaped}
 use Rattle.bt_machine.specs.FollowUp.{NeedsLeaf, IsLeastNeed}
 use Rattle.bt_state.specs.Parts.{state_of, file_of}
-use Rattle.bt_state.specs.Ties.{IsTied}
+use Rattle.bt_state.specs.Ties.{IsTied, LiesAmong, KnowsLeaves}
 use Rattle.bt_state.specs.declared.slot.Slot.{Slot}
 use Rattle.bt_state.specs.declared.parts.Parts.{Parts}
 use Rattle.bt_state.proofs.Lists.{get_mapped, get_read, get_at}
-use Rattle.bt_follow_up.specs.HeldSteps.{is_held}
+use Rattle.bt_state.specs.PieceSets.{without}
+use Rattle.bt_state.proofs.OutsidePieces.{bit_without}
+use Rattle.bt_follow_up.specs.HeldSteps.{is_held, LiesIn}
 use Rattle.bt_follow_up.specs.HashRequestsSteps.{AsksForLeast, NeedsNoLeaf, IsUnknownFrom}
-use Rattle.bt_follow_up.proofs.PieceOrder.{held_lies}
+use Rattle.bt_follow_up.proofs.PieceOrder.{not_true, held_lies, lies_held}
 use Rattle.bt_follow_up.proofs.Blocks.{has_of_held, held_of_has}
 
 -- ---- marks
@@ -80,7 +82,7 @@ module _ (dig : List ℕ → List ℕ) (s : EngineState) (shaped : IsShaped s.to
   -- ---- leaves
 
   -- what is known of a block's leaf is what is held
-  leaf_is : (b : BlockId) {k : Facts} → tree_of s b.file ≡ Some k → b.block < blocks_of k → leaf_at dig s b ≡ held_at k 0 b.block
+  pub leaf_is : (b : BlockId) {k : Facts} → tree_of s b.file ≡ Some k → b.block < blocks_of k → leaf_at dig s b ≡ held_at k 0 b.block
   leaf_is b {k} tree inside =
       let same : b.block / 1 ≡ b.block = omega arith in
       ap (option_and_then (λ (j : Facts). value_at dig j 0 b.block)) tree
@@ -118,23 +120,44 @@ module _ (dig : List ℕ → List ℕ) (s : EngineState) (shaped : IsShaped s.to
     unplanned h (Some key) known = tt
     unplanned h None known = λ p same c n. some_not_none (known refl) (sym (leaf_is b tree (leaf_inside s shaped b h tree)) ∙ (least p same).needs.unknown)
 
-  -- ---- the search
+  -- ---- the search, among the pieces that are not known
 
-  module _ (p : PeerState) where
-    needs_held : (c : BlockId) → NeedsLeaf dig s p c → is_held s.torrent p.has c ≡ true
-    needs_held c n = elim n.not_marked [
+  module _ (known : List Bool) (knows : KnowsLeaves s known) (p : PeerState) where
+    has_it : (c : BlockId) → NeedsLeaf dig s p c → is_held s.torrent p.has c ≡ true
+    has_it c n = elim n.not_marked [
       | inl missing ↦ held_of_has s shaped p c missing n.has
       | inr waiting ↦ held_of_has s shaped p c waiting n.has
     ]
 
+    -- in a known piece no leaf is needed
+    not_known : (c : BlockId) {q : ℕ} → LiesIn s.torrent c q → NeedsLeaf dig s p c → slice_index_or known q false ≡ true → ⊥
+    not_known c l n is =
+        let among : LiesAmong s known c = has_of_held s shaped (record p { has = known }) c (lies_held s.torrent known c l is) in
+        let f = get_some s.files c.file (below s shaped c l.has) in
+        let t = file_tree s shaped c l.has f.0 f.1 in
+        let tree : tree_of s c.file ≡ Some t.0 = ap (option_and_then (λ (g : FileState). slice_get s.trees g.tree)) f.1 ∙ t.1 in
+        let inside = leaf_inside s shaped c l.has tree in
+        some_not_none (knows.each c t.0 l.has among tree) (sym (leaf_is c tree inside) ∙ n.unknown)
+
+    needs_held : (c : BlockId) → NeedsLeaf dig s p c → is_held s.torrent (without p.has known) c ≡ true
+    needs_held c n =
+        let h = held_lies s.torrent p.has c (has_it c n) in
+        let apart = not_true (slice_index_or known h.0 false) (λ is. not_known c h.1 n is) in
+        lies_held s.torrent (without p.has known) c h.1 (bit_without p.has known h.0 ∙ ap (λ b. b && not (slice_index_or known h.0 false)) h.2 ∙ ap not apart)
+
+    held_by_peer : (c : BlockId) → is_held s.torrent (without p.has known) c ≡ true → is_held s.torrent p.has c ≡ true
+    held_by_peer c e =
+        let h = held_lies s.torrent (without p.has known) c e in
+        lies_held s.torrent p.has c h.1 (and_true _ (sym (bit_without p.has known h.0) ∙ h.2)).0
+
     module _ (from : BlockId) (none : NoneBefore dig s p from) where
-      pub none_left : HasNoFirst (is_held s.torrent p.has) from → NeedsNoLeaf dig s p
+      pub none_left : HasNoFirst (is_held s.torrent (without p.has known)) from → NeedsNoLeaf dig s p
       none_left past c n = elim (before_or_from from c) [
         | inl before ↦ none c before n
         | inr behind ↦ true≢false (sym (needs_held c n) ∙ past c behind)
       ]
 
-      module _ (held : BlockId) (first : IsFirst (is_held s.torrent p.has) from held) where
+      module _ (held : BlockId) (first : IsFirst (is_held s.torrent (without p.has known)) from held) where
         none_before : NoneBefore dig s p held
         none_before c before n = elim (before_or_from from c) [
           | inl sooner ↦ none c sooner n
@@ -144,10 +167,10 @@ module _ (dig : List ℕ → List ℕ) (s : EngineState) (shaped : IsShaped s.to
         -- it is found
         pub least : (next : ℕ) → IsUnknownFrom dig s held next → next ≡ held.block → is_marked_in s held ≡ false → IsLeastNeed dig s p held
         least next unknown here unmarked =
-            let state = has_state s shaped held (held_lies s.torrent p.has held first.held).1.has in
+            let state = has_state s shaped held (held_lies s.torrent (without p.has known) held first.held).1.has in
             record {
               needs = record {
-                has = has_of_held s shaped p held first.held;
+                has = has_of_held s shaped p held (held_by_peer held first.held);
                 not_marked = not_marked (state_at s held) state.1 unmarked;
                 unknown = unknown.unknown here;
               };

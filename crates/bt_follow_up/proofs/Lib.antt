@@ -3,6 +3,7 @@ pub mod Blocks
 pub mod Interests
 pub mod OpenBlocks
 pub mod HashNeeds
+pub mod KnownPieces
 pub mod HashRequests
 pub mod Sendings
 pub mod FollowUps

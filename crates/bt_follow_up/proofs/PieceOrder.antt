@@ -150,6 +150,28 @@ module _ (torrent : Metainfo) (size : IsPieceLength torrent.piece_length) (lay :
     pub none_first : length torrent.files ≤ from.file + 1 → HasNoBlock torrent from
     none_first past c q l after = absurd (omega (arith, past, later_file c q l after, listed torrent c.file c.block l.has))
 
+  -- ---- the blocks of a piece and behind it
+
+  module _ (q : ℕ) (run : BlockRun) (r : ArePieceBlocks torrent q run) where
+    pub run_lies : LiesIn torrent (record { file = run.file; block = run.first }) q
+    run_lies =
+        let turns : ℕ = q - r.first_block.entry.first_piece in
+        let at : 16384 * run.first ≡ turns * torrent.piece_length + 0 = omega (arith, r.first) in
+        let turn : 16384 * run.first / torrent.piece_length ≡ turns =
+        ap (λ x. x / torrent.piece_length) at ∙ div-mul-add turns torrent.piece_length 0 positive in
+        record { has = r.first_block; is = omega (arith, turn, r.from) }
+
+    pub from_run : (c : BlockId) (p : ℕ) → LiesIn torrent c p → q ≤ p → IsFrom (record { file = run.file; block = run.first }) c
+    from_run c p l le = elim (before_or_from (record { file = run.file; block = run.first }) c) [
+      | inl sooner ↦ (
+          let most = rises c (record { file = run.file; block = run.first }) p q l run_lies (from_before sooner) in
+          let same : p ≡ q = omega (arith, most, le) in
+          let run_of = (lies_in_piece torrent q c.file c.block run _ size lay r (lies_range l)).0 same in
+          inr (sym run_of.same_file, run_of.from)
+          )
+      | inr from ↦ from
+    ]
+
   -- ---- the first block that is held
 
   module _ (pieces : List Bool) (from : BlockId) where
@@ -181,26 +203,11 @@ module _ (torrent : Metainfo) (size : IsPieceLength torrent.piece_length) (lay :
           begin = record { file = run.file; block = run.first }
 
           begin_lies : LiesIn torrent begin q
-          begin_lies =
-              let turns : ℕ = q - r.first_block.entry.first_piece in
-              let at : 16384 * run.first ≡ turns * torrent.piece_length + 0 = omega (arith, r.first) in
-              let turn : 16384 * run.first / torrent.piece_length ≡ turns =
-              ap (λ x. x / torrent.piece_length) at ∙ div-mul-add turns torrent.piece_length 0 positive in
-              record { has = r.first_block; is = omega (arith, turn, r.from) }
+          begin_lies = run_lies q run r
 
           -- of the blocks that are held from there on, none stands before the piece
           behind_begin : (c : BlockId) → IsFrom from c → is_held torrent pieces c ≡ true → IsFrom begin c
-          behind_begin c after e =
-              let h = held_behind c after e in
-              elim (before_or_from begin c) [
-                | inl sooner ↦ (
-                    let most = rises c begin h.0 q h.1 begin_lies (from_before sooner) in
-                    let same : h.0 ≡ q = omega (arith, most, h.2) in
-                    let run_of = (lies_in_piece torrent q c.file c.block run _ size lay r (lies_range h.1)).0 same in
-                    inr (sym run_of.same_file, run_of.from)
-                    )
-                | inr from ↦ from
-              ]
+          behind_begin c after e = let h = held_behind c after e in from_run q run r c h.0 h.1 h.2
 
           -- the piece begins there or behind
           pub begins : IsFrom from begin → IsFirst (is_held torrent pieces) from begin

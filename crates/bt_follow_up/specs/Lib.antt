@@ -1,5 +1,6 @@
 pub mod AfterEvent
 pub mod HeldSteps
+pub mod KnownPiecesSteps
 pub mod SendingSteps
 pub mod InterestSteps
 pub mod HashRequestsSteps

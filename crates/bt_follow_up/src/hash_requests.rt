@@ -10,7 +10,8 @@ ghost use Rattle.bt_state.specs.Parts.{state_of, disks_of};
 ghost use Rattle.bt_state.specs.Ties.{IsTied};
 ghost use Rattle.bt_follow_up.specs.HashRequestsSteps.{AreHashesRequested, AsksForLeast, NeedsNoLeaf, IsUnknownFrom};
 
-use crate::held::next_held;
+use crate::held::next_outside;
+use crate::known_pieces::note_known_pieces;
 use bt_book::BlockId;
 use bt_disk::Disk;
 use bt_hashreq::{HashKey, plan};
@@ -44,7 +45,8 @@ pub(crate) fn request_hashes<D: Disk + Drop, H: NodeHash>(
     let HashState::Idle = peer.hash else {
         return None;
     };
-    let key = next_key(parts, &peer.has)?;
+    note_known_pieces(parts, index);
+    let key = next_key(parts, &parts.peers[index].has)?;
     let peer = &mut parts.peers[index];
     peer.hash = HashState::Asked(key);
     Some(Message::HashRequest(key))
@@ -64,8 +66,8 @@ fn next_key<D: Disk + Drop, H: NodeHash>(parts: &Parts<D, H>, has: &PieceSet) ->
 }
 
 /// The first block in a piece of the set that is not marked and whose leaf is unknown. It leaps from a block
-/// that the peer has to the next unknown leaf, and from that to the next block that the peer has. A marked
-/// block has a known leaf, so that it is passed by these leaps.
+/// that the peer has, in a piece that may have an unknown leaf, to the next unknown leaf, and from that to the
+/// next such block. A marked block has a known leaf, so that it is passed by these leaps.
 fn least_need<D: Disk + Drop, H: NodeHash>(parts: &Parts<D, H>, has: &PieceSet) -> Option<BlockId>
     requires tied { IsTied parts.now }
     requires shaped { IsShaped parts.now.torrent (state_of parts.now) }
@@ -76,7 +78,7 @@ fn least_need<D: Disk + Drop, H: NodeHash>(parts: &Parts<D, H>, has: &PieceSet) 
         → NeedsNoLeaf H.digest (state_of parts.now) p) }
 {
     let mut from = BlockId { file: 0, block: 0 };
-    while let Some(held) = next_held(&parts.torrent, has, from) {
+    while let Some(held) = next_outside(&parts.torrent, has, &parts.known, from) {
         let unknown = next_unknown(parts, held);
         if unknown == held.block && !is_marked(parts, held) {
             return Some(held);
@@ -91,7 +93,7 @@ fn least_need<D: Disk + Drop, H: NodeHash>(parts: &Parts<D, H>, has: &PieceSet) 
 
 /// The first block of the file, from this one on, whose leaf is unknown; how many blocks the file has where
 /// each leaf from there on is known.
-fn next_unknown<D: Disk + Drop, H: NodeHash>(parts: &Parts<D, H>, block: BlockId) -> u32
+pub(crate) fn next_unknown<D: Disk + Drop, H: NodeHash>(parts: &Parts<D, H>, block: BlockId) -> u32
     requires tied { IsTied parts.now }
     requires shaped { IsShaped parts.now.torrent (state_of parts.now) }
     requires has { HasBlock parts.now.torrent block.file block.block }

@@ -1,7 +1,9 @@
 //! What a peer has, by leaps.
-ghost use Rattle.std.specs.Prelude.{IfSome, IfNone};
+ghost use Rattle.std.specs.Prelude.{ℕ, Bool, List, IfSome, IfNone};
 ghost use Rattle.bt_tree.specs.TreeShape.{IsPieceLength};
 ghost use Rattle.bt_meta.specs.Torrent.{IsLaidOut};
+ghost use Rattle.bt_book.specs.BitSet.{IsNext};
+ghost use Rattle.bt_state.specs.PieceSets.{without};
 ghost use Rattle.bt_follow_up.specs.HeldSteps.{IsFirstPiece, HasNoBlock, IsNextHeld};
 
 use bt_book::BlockId;
@@ -15,6 +17,30 @@ pub(crate) fn next_held(torrent: &Torrent, has: &PieceSet, from: BlockId) -> Opt
     keeps_laws(torrent);
     let first = first_piece(torrent, from)?;
     let piece = has.next(first)?;
+    first_in(torrent, piece, from)
+}
+
+/// The same in a piece of the set that is not in the other one.
+pub(crate) fn next_outside(
+    torrent: &Torrent,
+    has: &PieceSet,
+    other: &PieceSet,
+    from: BlockId,
+) -> Option<BlockId>
+    ensures { IsNextHeld torrent.now (without has.now other.now) from result }
+{
+    keeps_laws(torrent);
+    let first = first_piece(torrent, from)?;
+    let piece = has.next_outside(other, first)?;
+    first_in(torrent, piece, from)
+}
+
+/// The first block of the piece from one on, where the piece is the first of a set from that block's on.
+fn first_in(torrent: &Torrent, piece: u32, from: BlockId) -> Option<BlockId>
+    ensures { (pieces : List Bool) (first : ℕ) → IsFirstPiece torrent.now from first
+        → IsNext pieces first piece → IsNextHeld torrent.now pieces from result }
+{
+    keeps_laws(torrent);
     let run = torrent.blocks_of(piece)?;
     let block = if run.file == from.file {
         run.first.max(from.block)
@@ -28,7 +54,7 @@ pub(crate) fn next_held(torrent: &Torrent, has: &PieceSet, from: BlockId) -> Opt
 }
 
 /// The first piece that has a block at this one or behind it.
-fn first_piece(torrent: &Torrent, from: BlockId) -> Option<u32>
+pub(crate) fn first_piece(torrent: &Torrent, from: BlockId) -> Option<u32>
     ensures some { IfSome result (IsFirstPiece torrent.now from) }
     ensures none { IfNone result (HasNoBlock torrent.now from) }
 {

@@ -7,6 +7,7 @@ mod asking;
 mod hash_requests;
 mod held;
 mod interest;
+mod known_pieces;
 mod sending;
 
 pub use after_event::{MAX_FRAMES, follow_up};

@@ -1,5 +1,5 @@
 -- An engine begins where its parts were bare and the devices are handed out.
-use Rattle.bt_machine.proofs.Base.{[], ◌≡◌, ℕ, zero, suc, ◌+◌, ◌<◌, ◌≤◌, inl, inr, Bool, true, false, List, ◌∷◌, length, map, replicate, Option, Some, None, refl, sym, ap, ◌∙◌, subst, arith, slice_get, option_map, option_map_or, option_and_then, length-map, length-replicate, cases_lt, block_count, File, Facts, BlockId, Missing}
+use Rattle.bt_machine.proofs.Base.{[], ◌≡◌, ℕ, zero, suc, ◌+◌, ◌<◌, ◌≤◌, inl, inr, Bool, true, false, List, ◌∷◌, length, map, replicate, Option, Some, None, refl, sym, ap, ◌∙◌, subst, arith, slice_get, option_map, option_map_or, option_and_then, length-map, length-replicate, cases_lt, block_count, File, Facts, BlockId, Missing, total_pieces}
 use Rattle.std.specs.Prelude.{◌↔◌, slice_index_or, Result, Ok, Err, OnOk}
 use Rattle.std.specs.Vec.{with_items}
 use Rattle.std.proofs.lemmas.List.{get_or_past, with_items_is}
@@ -11,10 +11,10 @@ use Rattle.bt_book.specs.Blocks.{Blocks, IsInRange, member, of_file}
 use Rattle.bt_book.specs.Book.{PeerRequests}
 use Rattle.bt_meta.specs.Files.{file_of as entry_of}
 use Rattle.bt_meta.specs.declared.torrent.FileEntry.{FileEntry}
-use Rattle.bt_machine.proofs.Lists.{some_is, some_below, get_some, get_map}
+use Rattle.bt_machine.proofs.Lists.{some_is, some_below, get_some, get_map, and_then_some}
 use Rattle.bt_machine.proofs.Shape.{shape_at_first}
 use Rattle.bt_machine.specs.State.{EngineState, FileState}
-use Rattle.bt_machine.specs.Blocks.{state_at, is_marked_in}
+use Rattle.bt_machine.specs.Blocks.{state_at, piece_of, is_marked_in}
 use Rattle.bt_machine.specs.Start.{Starts, AreDevicesOf, IsNewFile}
 use Rattle.bt_state.proofs.Lists.{get_mapped}
 use Rattle.bt_state.specs.Parts.{state_of, disks_of, file_of, disk_of, peer_of}
@@ -26,6 +26,16 @@ use Rattle.bt_start.specs.BeginningSteps.{AreBareParts, HaveBegun}
 use Rattle.bt_start.specs.DeviceSteps.{devices_in, IsNewSlot, AreNewSlots}
 use Rattle.bt_start.specs.TreeSteps.{HasTreeAt}
 use Rattle.bt_start.proofs.Sizes.{sizes_unmarked}
+
+-- ---- a set of no piece
+
+no_member : (n q : ℕ) → slice_get (replicate n false) q ≡ Some true → ⊥
+no_member zero q e = absurd cc
+no_member (suc n) zero e = absurd cc
+no_member (suc n) (suc q) e = no_member n q e
+
+none_among : (n : ℕ) (o : Option ℕ) → option_and_then (λ q. slice_get (replicate n false) q) o ≡ Some true → ⊥
+none_among n o e = let q = and_then_some (λ q. slice_get (replicate n false) q) o e in no_member n q.0 q.2
 
 -- ---- a book that wants all blocks, where all blocks are missing
 
@@ -208,6 +218,12 @@ module _ {D H : Type 0} {dig : List ℕ → List ℕ} (bare next : Parts D H) (i
         let own = new i file.0 slot file.1 at in
         record { file = file.0; listed = file.1; empty = empty_without own; some = fits_tree own (slot_tree i at file.1) }
         );
+    known = record {
+      size = ap (λ (bs : List Bool). length bs) is.known ∙ length-replicate (total_pieces bare.torrent) false;
+      each = λ b k has among at.
+          absurd (none_among (total_pieces bare.torrent) (piece_of bare.torrent b)
+          (ap (λ (bs : List Bool). option_and_then (λ q. slice_get bs q) (piece_of bare.torrent b)) (sym is.known) ∙ among));
+    };
     unmarked = sizes_unmarked (state_of begun) (shape_at_first dig begins) is.lawful.piece is.lawful.laid_out
         (not_marked (state_of begun) bare.book.wanted bare.torrent.files is.wanted (length-map next.slots.items file_of ∙ as_many) missing) is.sizes;
   }

@@ -19,7 +19,7 @@ use crate::trees::bare_slots;
 use bt_disk::Disk;
 use bt_machine::{StartError, StartRefused};
 use bt_meta::Torrent;
-use bt_state::{MAX_PEERS, Parts};
+use bt_state::{MAX_PEERS, Parts, PieceSet};
 use bt_tree::NodeHash;
 use std::alloc::{AllocError, Global};
 
@@ -83,6 +83,7 @@ fn bare_parts<D: Disk + Drop, H: NodeHash>(
         trees,
         slots,
         unmarked: piece_sizes(alloc, &torrent)?,
+        known: PieceSet::new(alloc, torrent.pieces())?,
         peers: Vec::with_capacity(alloc, MAX_PEERS)?,
         book: new_book(alloc, &counts)?,
         last_key: 0,

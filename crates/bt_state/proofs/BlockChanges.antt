@@ -27,10 +27,11 @@ use Rattle.bt_machine.proofs.Pairs.{Pairs, to_pairs, from_pairs, contains_some, 
 use Rattle.bt_state.specs.BlockChange.{AreFollowed, OneChanged, HasChanged, asked_after}
 use Rattle.bt_state.specs.BlockChangeSteps.{mark_count}
 use Rattle.bt_state.specs.Parts.{state_of, peer_of}
-use Rattle.bt_state.specs.Ties.{AreUnmarked, unmarked_in, IsTied, FitsFile}
+use Rattle.bt_state.specs.Ties.{AreUnmarked, unmarked_in, IsTied, FitsFile, LeavesStay}
 use Rattle.bt_state.specs.declared.peer.Peer.{Peer}
 use Rattle.bt_state.specs.declared.slot.Slot.{Slot}
 use Rattle.bt_state.specs.declared.parts.Parts.{Parts}
+use Rattle.bt_state.proofs.Leaves.{knows_still}
 use Rattle.bt_state.proofs.Lists.{map_agree, get_mapped}
 use Rattle.bt_state.proofs.PeerLists.{AreInOrder}
 use Rattle.bt_state.proofs.Ties.{same_counts}
@@ -330,8 +331,9 @@ module _ {D H : Type 0} (old new : Parts D H) where
   -- the peers have the keys that they had, and the new state is followed
   pub tied_followed : IsTied old → new.torrent ≡ old.torrent → map (λ p. p.key) new.peers.items ≡ map (λ p. p.key) old.peers.items
       → max_peers ≤ vec_capacity new.peers → peers_of new.book ≡ peers_of old.book → length new.slots.items ≡ length old.slots.items
-      → EachFits new.torrent.files new.trees.items new.slots.items → AreFollowed (state_of new) new.book.wanted new.unmarked.items → IsTied new
-  tied_followed tied torrent keys room joined count each f = record {
+      → EachFits new.torrent.files new.trees.items new.slots.items → AreFollowed (state_of new) new.book.wanted new.unmarked.items
+      → new.known ≡ old.known → LeavesStay (state_of old) (state_of new) → IsTied new
+  tied_followed tied torrent keys room joined count each f known stay = record {
     joined = keys ∙ tied.joined ∙ sym joined;
     in_order = order_of_keys new.peers.items old.peers.items keys tied.in_order;
     room = room;
@@ -340,6 +342,7 @@ module _ {D H : Type 0} (old new : Parts D H) where
     count = count ∙ tied.count ∙ ap (λ (m : Metainfo). length m.files) (sym torrent);
     each = each;
     unmarked = f.unmarked;
+    known = rw known (knows_still torrent stay tied.known);
   }
 
   -- what the peers there are asked for is as it was

@@ -3,6 +3,9 @@ pub mod Lists
 pub mod Bits
 pub mod Wholes
 pub mod NextPieces
+pub mod OutsidePieces
+-- leaves that are known
+pub mod Leaves
 -- the book and the peers
 pub mod Books
 pub mod PeerLists

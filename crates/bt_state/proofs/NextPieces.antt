@@ -8,7 +8,7 @@ use Rattle.std.proofs.lemmas.List.{get_or-take}
 use Rattle.bt_machine.specs.WireEvents.{bits_in}
 use Rattle.bt_state.proofs.Bits.{bit_of, place_bit, set_length}
 
-none_past : (bits : List Bool) (q : ℕ) → length bits ≤ q → get_or bits q false ≡ false
+pub none_past : (bits : List Bool) (q : ℕ) → length bits ≤ q → get_or bits q false ≡ false
 none_past [] q past = refl
 none_past (t ∷ bits) zero past = absurd (omega (arith, past))
 none_past (t ∷ bits) (suc q) past = none_past bits q (omega (arith, past))
@@ -18,7 +18,7 @@ abbrev pub HasNoneTo : List Bool → (from piece : ℕ) → Type 0
 HasNoneTo set from piece = (q : ℕ) → from ≤ q → q < piece → get_or set q false ≡ false
 
 module _ (bytes : List ℕ) (pieces : ℕ) (size : length bytes ≡ div_ceil pieces 8) {set : List Bool} (is : take pieces (bits_in bytes) ≡ set) where
-  bit_is : (q : ℕ) → q < pieces → get_or set q false ≡ bit_of (get_or bytes (q / 8) 0) (q % 8)
+  pub bit_is : (q : ℕ) → q < pieces → get_or set q false ≡ bit_of (get_or bytes (q / 8) 0) (q % 8)
   bit_is q lt =
       ap (λ bits. get_or bits q false) (sym is) ∙ get_or-take pieces (bits_in bytes) q false lt
       ∙ sym (place_bit bytes q (omega (arith, size, div_ceil_times pieces 8)))

@@ -1,5 +1,5 @@
 -- What ties the parts of an engine together is kept where a peer changes, comes or goes.
-use Rattle.bt_machine.proofs.Base.{◌≡◌, ℕ, ◌<◌, ◌≤◌, true, not, ◌==◌, List, length, map, filter, get_or, Some, refl, sym, ap, ◌∙◌, arith, subst, slice_get, slice_set, PeerKey, BlockId, Metainfo, max_peers, length-map, eq-eqb}
+use Rattle.bt_machine.proofs.Base.{◌≡◌, ℕ, ◌<◌, ◌≤◌, Bool, true, not, ◌==◌, List, length, map, filter, get_or, Some, refl, sym, ap, ◌∙◌, arith, subst, slice_get, slice_set, PeerKey, BlockId, Metainfo, max_peers, length-map, eq-eqb}
 use Rattle.std.specs.Prelude.{count_by}
 use Rattle.std.specs.Vec.{with_item, vec_capacity}
 use Rattle.std.specs.List.{remove}
@@ -13,11 +13,12 @@ use Rattle.bt_machine.specs.Next.{IsPeer, HasNoPeer}
 use Rattle.bt_book.specs.Book.{PeerRequests, is_of}
 use Rattle.bt_book.proofs.Once.{filter_one}
 use Rattle.bt_state.specs.Parts.{state_of, peer_of, file_of, IsPeerAt, LacksPeer}
-use Rattle.bt_state.specs.Ties.{AreUnmarked, IsTied}
+use Rattle.bt_state.specs.Ties.{AreUnmarked, KnowsLeaves, IsTied}
 use Rattle.bt_state.specs.declared.peer.Peer.{Peer}
 use Rattle.bt_state.specs.declared.slot.Slot.{Slot}
 use Rattle.bt_state.specs.declared.parts.Parts.{Parts}
 use Rattle.bt_state.proofs.Books.{counted_keys, filtered_keys}
+use Rattle.bt_state.proofs.Leaves.{leaves_alike, knows_still}
 use Rattle.bt_state.proofs.Lists.{get_mapped, get_read, map_removed}
 use Rattle.bt_state.proofs.PeerLists.{peers_set, AreInOrder}
 
@@ -48,12 +49,27 @@ module _ {D H : Type 0} (parts : Parts D H) where
       count = tied.count;
       each = tied.each;
       unmarked = record { size = tied.unmarked.size; each = tied.unmarked.each };
+      known = record { size = tied.known.size; each = tied.known.each };
     }
 
     pub state_set : state_of (record parts { peers = with_item parts.peers i q })
         ≡ record (state_of parts) { peers = slice_set (state_of parts).peers i (peer_of parts.book q) }
     state_set = ap {A = List PeerState} (λ peers. record (state_of parts) { peers = peers })
         (peers_set parts.book parts.book parts.peers.items i tied.in_order here (λ k apart. refl) q)
+
+-- other pieces are known
+pub tied_known : {D H : Type 0} (parts : Parts D H) (pieces : List Bool) → IsTied parts → KnowsLeaves (state_of parts) pieces → IsTied (record parts { known = pieces })
+tied_known parts pieces tied knows = record {
+  joined = tied.joined;
+  in_order = tied.in_order;
+  room = tied.room;
+  wanted = tied.wanted;
+  ranged = tied.ranged;
+  count = tied.count;
+  each = tied.each;
+  unmarked = record { size = tied.unmarked.size; each = tied.unmarked.each };
+  known = record { size = knows.size; each = knows.each };
+}
 
 -- the peer that was found is the one that is read there
 pub found_at : {peers : List Peer} {key : PeerKey} {i : ℕ} (p : Peer) → IsPeerAt peers key i → p ≡ get_or peers i p
@@ -71,10 +87,10 @@ same_counts s t counts torrent files has =
 
 -- peers come and go, and what they are asked for changes, but which blocks are missing and wanted stays
 pub tied_again : {D H : Type 0} (old new : Parts D H) → IsTied old → new.torrent ≡ old.torrent → new.trees.items ≡ old.trees.items
-    → new.slots.items ≡ old.slots.items → new.unmarked.items ≡ old.unmarked.items → new.book.wanted ≡ old.book.wanted
+    → new.slots.items ≡ old.slots.items → new.unmarked.items ≡ old.unmarked.items → new.known ≡ old.known → new.book.wanted ≡ old.book.wanted
     → map (λ p. p.key) new.peers.items ≡ map (λ r. r.peer) new.book.peers → AreInOrder new.peers.items
     → max_peers ≤ vec_capacity new.peers → IsTied new
-tied_again {D} {H} old new tied torrent trees slots counts wanted joined in_order room = record {
+tied_again {D} {H} old new tied torrent trees slots counts known wanted joined in_order room = record {
   joined = joined;
   in_order = in_order;
   room = room;
@@ -83,6 +99,7 @@ tied_again {D} {H} old new tied torrent trees slots counts wanted joined in_orde
   count = ap (λ xs. length xs) slots ∙ tied.count ∙ ap (λ (t : Metainfo). length t.files) (sym torrent);
   each = λ i slot at. rw torrent (rw trees (tied.each i slot (ap (λ xs. slice_get xs i) (sym slots) ∙ at)));
   unmarked = rw counts (same_counts (state_of old) (state_of new) old.unmarked.items torrent (ap (λ (xs : List (Slot D H)). map file_of xs) slots) tied.unmarked);
+  known = rw known (knows_still torrent (leaves_alike (state_of old) (state_of new) trees (ap (λ (xs : List (Slot D H)). map file_of xs) slots)) tied.known);
 }
   where
     same : (b : BlockId) → state_at (state_of new) b ≡ state_at (state_of old) b

@@ -1,4 +1,5 @@
 pub mod Parts
+pub mod PieceSets
 pub mod Ties
 pub mod Connection
 pub mod BlockChange

@@ -1,18 +1,20 @@
 -- What ties the parts of an engine together, between its events.
-use Rattle.std.specs.Prelude.{◌≡◌, ℕ, ◌<◌, ◌≤◌, ◌↔◌, true, not, List, length, map, filter, count_by, Some, None, slice_get, vec_capacity}
+use Rattle.std.specs.Prelude.{◌≡◌, ℕ, ◌<◌, ◌≤◌, ◌↔◌, Bool, true, not, List, length, map, filter, count_by, Some, None, IsSome, slice_get, vec_capacity}
+use Rattle.std.specs.Option.{option_and_then}
 use Rattle.std.specs.List.{AllPairs}
 use Rattle.bt_tree.specs.Blocks.{block_count}
 use Rattle.bt_meta.specs.Files.{File}
 use Rattle.bt_meta.specs.Torrent.{total_pieces}
+use Rattle.bt_meta.specs.PieceBlocks.{HasBlock}
 use Rattle.bt_book.specs.Book.{max_peers}
 use Rattle.bt_book.specs.Blocks.{IsInRange, member}
 use Rattle.bt_book.specs.declared.names.BlockId.{BlockId}
-use Rattle.bt_sparse.specs.SparseTree.{Facts}
+use Rattle.bt_sparse.specs.SparseTree.{Facts, held_at}
 use Rattle.bt_store.specs.FileStore.{StoreView}
 use Rattle.bt_store.specs.declared.block_states.BlockState.{BlockState}
 use Rattle.bt_store.specs.declared.block_states.BlockState.TheVariants.{Missing}
 use Rattle.bt_machine.specs.State.{EngineState}
-use Rattle.bt_machine.specs.Blocks.{state_at, is_marked_in, is_in_piece, all_blocks}
+use Rattle.bt_machine.specs.Blocks.{state_at, tree_of, piece_of, is_marked_in, is_in_piece, all_blocks}
 use Rattle.bt_state.specs.Parts.{state_of}
 use Rattle.bt_state.specs.declared.slot.Slot.{Slot}
 use Rattle.bt_state.specs.declared.parts.Parts.{Parts}
@@ -49,8 +51,33 @@ pub record AreUnmarked (s : EngineState) (counts : List ℕ) : Type 0 where
   pub each : (piece : ℕ) → piece < total_pieces s.torrent
       → slice_get counts piece ≡ Some (unmarked_in s piece)
 
+-- ---- leaves that are known
+
+-- the block lies in a piece of the set
+abbrev pub LiesAmong : EngineState → List Bool → BlockId → Type 0
+LiesAmong s pieces b = option_and_then (λ piece. slice_get pieces piece) (piece_of s.torrent b) ≡ Some true
+
+-- of each block in a piece of the set the leaf is known
+pub record KnowsLeaves (s : EngineState) (pieces : List Bool) : Type 0 where
+  pub size : length pieces ≡ total_pieces s.torrent
+  pub each : (b : BlockId) (k : Facts) → HasBlock s.torrent b.file b.block → LiesAmong s pieces b
+      → tree_of s b.file ≡ Some k → IsSome (held_at k 0 b.block)
+
+-- the trees are of one length, and the second has each leaf that the first has
+pub record StillKnows (k j : Facts) : Type 0 where
+  pub long : j.file_length ≡ k.file_length
+  pub leaves : (i : ℕ) → IsSome (held_at k 0 i) → IsSome (held_at j 0 i)
+
+-- each file's tree still knows the leaves that it knew
+abbrev pub LeavesStay : EngineState → EngineState → Type 0
+LeavesStay s t = (file : ℕ) (j : Facts) → tree_of t file ≡ Some j
+    → (k : Facts) × (tree_of s file ≡ Some k) × StillKnows k j
+
+-- ---- all
+
 -- The peers are the book's, in its order, which is that of their keys, and there is room for all that may be.
--- A block is wanted exactly while it is missing. There is a slot for each file, and a count for each piece.
+-- A block is wanted exactly while it is missing. There is a slot for each file, and a count for each piece. The
+-- leaves of the blocks in the pieces of the set are known.
 pub record IsTied {D H : Type 0} (parts : Parts D H) : Type 0 where
   pub joined : map (λ p. p.key) parts.peers.items ≡ map (λ r. r.peer) parts.book.peers
   pub in_order : AllPairs (λ p q. p.key.0 < q.key.0) parts.peers.items
@@ -63,3 +90,4 @@ pub record IsTied {D H : Type 0} (parts : Parts D H) : Type 0 where
   pub each : (i : ℕ) (slot : Slot D H) → slice_get parts.slots.items i ≡ Some slot
       → FitsFile parts.torrent.files parts.trees.items i slot
   pub unmarked : AreUnmarked (state_of parts) parts.unmarked.items
+  pub known : KnowsLeaves (state_of parts) parts.known

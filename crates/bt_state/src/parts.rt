@@ -1,4 +1,5 @@
 use crate::peer::Peer;
+use crate::piece_set::PieceSet;
 use crate::slot::Slot;
 use bt_book::Book;
 use bt_disk::Disk;
@@ -16,6 +17,8 @@ pub struct Parts<D: Disk + Drop, H: NodeHash> {
     pub slots: Vec<Slot<D, H>>,
     /// For each piece how many of its blocks are not marked.
     pub unmarked: Vec<u32>,
+    /// Pieces of whose blocks each leaf is known, so that no hash is needed of them. There may be others.
+    pub known: PieceSet,
     /// In the order of their keys.
     pub peers: Vec<Peer>,
     /// It wants the missing blocks, and each peer has joined it.

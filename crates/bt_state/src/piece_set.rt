@@ -1,8 +1,9 @@
 ghost use Rattle.std.specs.List.{All};
-ghost use Rattle.std.specs.Prelude.{◌≡◌, ◌*◌, ◌<◌, ◌≤◌, true, false, length, replicate, slice_index_or, slice_set, take, IfOk, IfSome, IfNone};
-ghost use Rattle.std.specs.Int.{div_ceil};
+ghost use Rattle.std.specs.Prelude.{◌≡◌, ℕ, ◌+◌, ◌-◌, ◌*◌, ◌<◌, ◌≤◌, true, false, length, replicate, slice_index_or, slice_set, take, IfOk, IfSome, IfNone};
+ghost use Rattle.std.specs.Int.{div_ceil, bit_at};
 ghost use Rattle.bt_book.specs.BitSet.{IsNext, HasNoneFrom};
 ghost use Rattle.bt_machine.specs.WireEvents.{bits_in};
+ghost use Rattle.bt_state.specs.PieceSets.{without};
 
 use std::alloc::{AllocError, Global};
 use std::marker::Model;
@@ -67,6 +68,40 @@ impl PieceSet {
             }
         }
         None
+    }
+
+    /// The first piece of the set from one on that is not in the other. Eight are passed at once where none of
+    /// them is such a piece.
+    pub fn next_outside(&self, other: &PieceSet, from: u32) -> Option<u32>
+        ensures some { IfSome result (IsNext (without self.now other.now) from) }
+        ensures none { IfNone result (HasNoneFrom (without self.now other.now) from) }
+    {
+        let pieces = self.pieces() as usize;
+        let mut piece = from as usize;
+        while piece < pieces {
+            let eight = self.bytes[piece / 8];
+            if eight & other.eight(piece / 8) == eight {
+                piece = 8 * (piece / 8 + 1);
+            } else if bit(&self.bytes, piece) && !other.contains(piece as u32) {
+                return Some(piece as u32);
+            } else {
+                piece += 1;
+            }
+        }
+        None
+    }
+
+    /// A byte of which each bit that is set says that a piece is in the set. It is 0 where there are not eight
+    /// pieces.
+    fn eight(&self, place: usize) -> u8
+        ensures { (j : ℕ) → j < 8 → bit_at result (7 - j) ≡ 1
+            → slice_index_or self.now (8 * place + j) false ≡ true }
+    {
+        if place < self.pieces as usize / 8 {
+            self.bytes[place]
+        } else {
+            0
+        }
     }
 
     pub fn insert(&mut self, piece: u32)

@@ -10,7 +10,7 @@ use Rattle.bt_machine.specs.declared.error.FlushError.{FlushError}
 use Rattle.bt_machine.specs.Devices.{DeviceCalls, HaveCalls}
 use Rattle.bt_machine.specs.Flush.{StepFlush}
 use Rattle.bt_state.specs.Parts.{state_of, file_of, disks_of}
-use Rattle.bt_state.specs.Ties.{IsTied, FitsFile, AreUnmarked}
+use Rattle.bt_state.specs.Ties.{IsTied, FitsFile, AreUnmarked, KnowsLeaves}
 use Rattle.bt_state.specs.declared.slot.Slot.{Slot}
 use Rattle.bt_state.specs.declared.parts.Parts.{Parts}
 use Rattle.bt_state.proofs.Lists.{get_mapped}
@@ -97,4 +97,5 @@ module _ {D H : Type 0} where
       count = sym (length-map new.slots.items without_disk) ∙ ap (λ ks. length ks) kept ∙ length-map old.slots.items without_disk ∙ tied.count;
       each = fits_still tied;
       unmarked = subst (λ (s : EngineState). AreUnmarked s old.unmarked.items) (sym state_kept) tied.unmarked;
+      known = subst (λ (s : EngineState). KnowsLeaves s old.known) (sym state_kept) tied.known;
     }

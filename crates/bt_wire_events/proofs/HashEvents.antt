@@ -5,7 +5,7 @@ use Rattle.std.specs.Vec.{with_item, with_items, vec_len}
 use Rattle.bt_book.specs.Book.{asked_of, peers_of}
 use Rattle.bt_store.specs.FileStore.{StoreView}
 use Rattle.std.proofs.lemmas.Option.{get_or_from_slice_get}
-use Rattle.bt_machine.proofs.Lists.{some_is, some_below, map_some}
+use Rattle.bt_machine.proofs.Lists.{some_is, some_below, map_some, get_map}
 use Rattle.bt_machine.proofs.Shape.{map_set}
 use Rattle.bt_machine.specs.State.{EngineState, PeerState, FileState}
 use Rattle.bt_machine.specs.Blocks.{with_peer}
@@ -20,11 +20,12 @@ use Rattle.bt_machine.specs.HashMessages.{HandlesHashes}
 use Rattle.bt_machine.specs.Output.{no_effect}
 use Rattle.bt_state.specs.BlockChange.{AreFollowed}
 use Rattle.bt_state.specs.Parts.{state_of, disks_of, peer_of, file_of, disk_of}
-use Rattle.bt_state.specs.Ties.{IsTied}
+use Rattle.bt_state.specs.Ties.{IsTied, LeavesStay}
 use Rattle.bt_state.specs.declared.peer.Peer.{Peer}
 use Rattle.bt_state.specs.declared.slot.Slot.{Slot}
 use Rattle.bt_state.specs.declared.parts.Parts.{Parts}
 use Rattle.bt_state.proofs.BlockChanges.{EachFits, followed_alike, followed_tied, tied_followed, state_kept}
+use Rattle.bt_state.proofs.Leaves.{leaves_by, one_grown, still_joined}
 use Rattle.bt_state.proofs.SlotChanges.{fits_trees}
 use Rattle.bt_state.proofs.Lists.{get_mapped}
 use Rattle.bt_state.proofs.Ties.{state_set}
@@ -127,13 +128,24 @@ module _ {D H : Type 0} (history : D → History) (honest : D → Type 0) (fault
     pub keys_kept : map (λ p. p.key) new_parts.peers.items ≡ map (λ p. p.key) old.peers.items
     keys_kept = map_set (λ p. p.key) old.peers.items i q here same
 
+    -- the tree of the root has grown, and each file has the tree that it had
+    leaves_learnt : LeavesStay (state_of old) (state_of new_parts)
+    leaves_learnt = leaves_by (state_of old) (state_of new_parts)
+        (λ file f at.
+        let n = get_map file_of settled file (ap (λ (ss : List (Slot D H)). slice_get (map file_of ss) file) (sym slots) ∙ at) in
+        let o = at_file history honest faults dig l.new l.tree key.index (settled_count key) old.slots.items settled l.settles file n.1 in
+        (file_of o.0, get_mapped file_of old.slots.items file o.1, ap (λ (g : FileState). g.tree) (sym n.2 ∙ o.2.judged)))
+        (λ tree j at.
+        one_grown old.trees.items l.tree l.here.here (still_joined l.accepts.joins) tree j
+        (ap (λ (ts : List Facts). slice_get ts tree) (sym (trees ∙ l.grows)) ∙ at))
+
     pub tied_learnt : peers_of next.book ≡ peers_of old.book → AreFollowed (state_of learnt_parts) next.book.wanted next.unmarked.items → IsTied new_parts
     tied_learnt joined followed =
         tied_followed old new_parts tied refl keys_kept tied.room joined
         (ap (λ (ss : List (Slot D H)). length ss) slots ∙ l.settles.size)
         (subst (λ (ts : List Facts). EachFits old.torrent.files ts next.slots.items) (sym trees)
         (subst (λ (ss : List (Slot D H)). EachFits old.torrent.files grown ss) (sym slots) fits_settled))
-        (followed_alike (state_of new_parts) followed refl refl)
+        (followed_alike (state_of new_parts) followed refl refl) refl leaves_learnt
 
     state_learnt : ((known : PeerKey) → asked_of next.book known ≡ asked_of old.book known)
         → state_of new_parts ≡ with_peer (record (state_of old) { trees = grown; files = map file_of settled }) i (peer_of old.book q)

@@ -15,7 +15,7 @@ use Rattle.bt_machine.specs.declared.answer.Note.TheVariants.{Marked as NowMarke
 use Rattle.bt_machine.specs.Blocks.{block_id}
 use Rattle.bt_machine.specs.Settling.{read_note}
 use Rattle.bt_wire_events.specs.SettlingSteps.{SettlesBlocks, note_at, is_due}
-use Rattle.bt_wire_events.specs.NoteRooms.{note_room}
+use Rattle.bt_wire_events.specs.NoteRooms.{with_device, note_room}
 
 drop_nil : {X : Type 0} (i : ℕ) → drop {A = X} i [] ≡ []
 drop_nil zero = refl
@@ -69,9 +69,15 @@ module _ (dig : List ℕ → List ℕ) (k : Facts) (states : List BlockState) wh
       (due_here (is_waiting_at states from) (is_some (value_at dig k 0 from)) from (count_by is_waiting (drop (from + 1) states))
       (waiting_blocks dig k states (from + 1) count) (due_below (from + 1) count))
 
-  pub due_few : (from count : ℕ) → length (waiting_blocks dig k states from count) + 1 ≤ note_room count states
+  pub due_few : (from count : ℕ) → with_device (length (waiting_blocks dig k states from count)) ≤ note_room count states
   due_few from count =
       omega (arith, due_length from count, due_below from count, sum_by-take-drop (λ y. cond (is_waiting y) 1 0) states from)
+
+  -- where a read failed, there was one
+  pub some_due : (from count : ℕ) (reads : List BlockRead) → map block_of reads ≡ waiting_blocks dig k states from count → 0 < fault_count reads
+      → 1 ≤ length (waiting_blocks dig k states from count)
+  some_due from count [] is faulty = absurd (omega (arith, faulty))
+  some_due from count (read ∷ reads) is faulty = omega (arith, ap (λ xs. length xs) is)
 
   -- ---- each has a state
 

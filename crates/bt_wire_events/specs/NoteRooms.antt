@@ -12,9 +12,13 @@ use Rattle.bt_state.specs.declared.slot.Slot.{Slot}
 use Rattle.bt_wire_events.specs.declared.learning.Learnt.{Learnt}
 use Rattle.bt_wire_events.specs.declared.learning.Learnt.TheVariants.{Refused, Settled}
 
--- of a file: one for each block that waits, but no more than so many, and one for the device
+-- of so many blocks: one for each, and one for the device, where there is a block
+abbrev pub with_device : ℕ → ℕ
+with_device blocks = blocks + min blocks 1
+
+-- of a file: of the blocks that wait, but of no more than so many
 abbrev pub note_room : (count : ℕ) → List BlockState → ℕ
-note_room count states = min count (count_by is_waiting states) + 1
+note_room count states = with_device (min count (count_by is_waiting states))
 
 -- the same of a slot, if it is of this tree
 abbrev pub slot_room : {D H : Type 0} → (tree count : ℕ) → Slot D H → ℕ

@@ -95,14 +95,18 @@ pub(crate) fn room_for<D: Disk + Drop, H: NodeHash>(
     room
 }
 
-/// How many notes there are at most of a file.
+/// How many notes there are at most of a file: none where no block waits, else one more than blocks, for the
+/// device.
 fn slot_room<D: Disk + Drop, H: NodeHash>(slot: &Slot<D, H>, index: usize, count: u32) -> usize
     requires { count ≤ max_run_length }
     ensures value { result ≡ slot_room index count slot.now }
     ensures few { result ≤ max_run_length + 1 }
 {
     match &slot.store {
-        Some(store) if slot.tree as usize == index => count.min(store.waiting()) as usize + 1,
+        Some(store) if slot.tree as usize == index => {
+            let blocks = count.min(store.waiting()) as usize;
+            blocks + blocks.min(1)
+        }
         _ => 0,
     }
 }

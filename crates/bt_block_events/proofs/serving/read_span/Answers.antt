@@ -12,9 +12,9 @@ read_blocks-requires-clause-last g c = rw c.last_block-last.ensures (c.requires.
 pub returns-in-Ok-clause-right : goal.returns-in-Ok-clause-right
 returns-in-Ok-clause-right g c =
     let out = c.read_blocks.new.out in
-    let whole = take_at out (drop (length out) c.args.room.items) c.args.room.len (c.read_blocks.auto.out ∙ c.as_mut_slice.ensures.len) in
+    let whole = take_at out (drop (length out) c.args.room.blocks.items) c.args.room.blocks.len (c.read_blocks.auto.out ∙ c.as_mut_slice.ensures.len) in
     sends_span c.requires.short c.first_block-first.ensures c.last_block-last.ensures c.in-Ok.ensures.right
-    (c.cut.ensures ∙ ap (λ l. take c.args.span.length (drop (c.args.span.start % 16384) (take c.in-Ok.count l))) whole)
+    (c.cut.ensures ∙ ap (λ l. take c.args.span.length (drop (c.args.span.start % 16384) (take c.in-Ok.count l))) (c.as_slice.ensures.value ∙ whole))
 
-pub returns-in-Err-clause-wrong : goal.returns-in-Err-clause-wrong
-returns-in-Err-clause-wrong g c = stops_span c.requires.short c.first_block-first.ensures c.last_block-last.ensures c.in-Err.ensures.wrong
+pub returns-clause-wrong : goal.returns-clause-wrong
+returns-clause-wrong g c = stops_span c.requires.short c.first_block-first.ensures c.last_block-last.ensures c.in-Err.ensures.wrong

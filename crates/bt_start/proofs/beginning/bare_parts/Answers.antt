@@ -1,4 +1,4 @@
-use Rattle.std.proofs.Common.{ℕ, true, List, map, replicate, refl, ap, ◌∙◌}
+use Rattle.std.proofs.Common.{ℕ, false, true, List, map, replicate, refl, ap, ◌∙◌}
 use Rattle.bt_tree.specs.Blocks.{block_count}
 use Rattle.bt_meta.specs.Files.{File}
 use Rattle.bt_start.proofs.RootTrees.{all_short}
@@ -16,6 +16,7 @@ returns-clause-bare g c =
       trees = c.in_ok-trees.ensures.trees;
       slots = c.in_ok-trees.ensures.slots;
       sizes = c.in_ok-piece_sizes.ensures;
+      known = c.in_ok-new.ensures ∙ ap (λ n. replicate n false) c.pieces.ensures.counted;
       wanted = c.in_ok-new_book.ensures.wanted ∙ ap (λ (ns : List ℕ). map (λ n. replicate n true) ns) (c.deref.ensures.value ∙ c.in_ok-counts.ensures) ∙ counts_wanted files
           ∙ ap (λ (files : List File). map (λ file. replicate (block_count file.length) true) files) c.files.ensures.said;
       book = c.in_ok-new_book.ensures.peers;

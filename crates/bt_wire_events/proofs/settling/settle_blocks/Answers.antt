@@ -2,7 +2,7 @@ use Rattle.std.proofs.Common.{◌≡◌, ◌++◌, ◌∷◌, [], length, map, t
 use Rattle.std.proofs.Math.Seq.{take-length}
 use Rattle.bt_machine.specs.declared.answer.Note.TheVariants.{Device}
 use Rattle.bt_wire_events.specs.SettlingSteps.{note_at}
-use Rattle.bt_wire_events.proofs.Settlings.{due_few, with_fault, without_fault, blocks_settled}
+use Rattle.bt_wire_events.proofs.Settlings.{due_few, some_due, with_fault, without_fault, blocks_settled}
 use Rattle.bt_wire_events.proofs.settling.settle_blocks.Goals as goal
 
 pub unwrap-requires : goal.unwrap-requires
@@ -15,8 +15,11 @@ pub unwrap-requires-then-settled-gt0 : goal.unwrap-requires-then-settled-gt0
 unwrap-requires-then-settled-gt0 g c =
     let few = due_few g.H.NodeHash.digest c.args.tree.now c.args.store.now.states c.args.from c.args.count in
     let size = ap length (c.as_slice-block-items.ensures.value ∙ c.due_blocks-due.ensures) in
+    let r = rw c.unwrap-settled.ensures at c.settle.ensures.settled in
+    let some = some_due g.H.NodeHash.digest c.args.tree.now c.args.store.now.states c.args.from c.args.count r.0 r.1.device.in_order
+    (omega (arith, r.4, c.if-settled-gt0.true)) in
     c.push-then-settled-gt0.ensures.succeeds
-    (omega (arith, few, size, c.loop-block.auto.block-index-end, c.loop-block.invariant.few, c.loop-block.invariant.room, c.requires.room))
+    (omega (arith, few, size, some, c.loop-block.auto.block-index-end, c.loop-block.invariant.few, c.loop-block.invariant.room, c.requires.room))
 
 pub returns-then-settled-gt0-clause-settles : goal.returns-then-settled-gt0-clause-settles
 returns-then-settled-gt0-clause-settles g c =
@@ -36,7 +39,10 @@ pub returns-then-settled-gt0-clause-few : goal.returns-then-settled-gt0-clause-f
 returns-then-settled-gt0-clause-few g c =
     let few = due_few g.H.NodeHash.digest c.args.tree.now c.args.store.now.states c.args.from c.args.count in
     let size = ap length (c.as_slice-block-items.ensures.value ∙ c.due_blocks-due.ensures) in
-    omega (arith, few, size, c.loop-block.auto.block-index-end, c.loop-block.invariant.few, c.push-then-settled-gt0.ensures.upper_bound)
+    let r = rw c.unwrap-settled.ensures at c.settle.ensures.settled in
+    let some = some_due g.H.NodeHash.digest c.args.tree.now c.args.store.now.states c.args.from c.args.count r.0 r.1.device.in_order
+    (omega (arith, r.4, c.if-settled-gt0.true)) in
+    omega (arith, few, size, some, c.loop-block.auto.block-index-end, c.loop-block.invariant.few, c.push-then-settled-gt0.ensures.upper_bound)
 
 pub returns-else-settled-gt0-clause-settles : goal.returns-else-settled-gt0-clause-settles
 returns-else-settled-gt0-clause-settles g c =
