@@ -1,4 +1,5 @@
 -- The names of the library and of the crates below that proofs cite, in one place.
+pub use Rattle.bt_machine.proofs.Nodes.{leaf_is, leaf_past, node_parent, length-padding_digest, value_covers, value_padding, cases_node, value_inside, value_above, double_div, half_sibling}
 pub use Rattle.std.specs.Cmp.Lexicographic.{pointwise}
 pub use Rattle.std.specs.List.{range_with_len, AllPairs}
 pub use Rattle.std.specs.Option.{option_and_then, option_map_or}
@@ -6,6 +7,7 @@ pub use Rattle.std.specs.Prelude.{slice_get, Contains, slice_set, option_map, �
 pub use Rattle.std.specs.Simd.{first_chunks}
 pub use Rattle.std.proofs.Common.{◌≡◌, ℕ, List, sym, ap, ◌∙◌, [], Some, subst, refl, ◌∷◌, inl, inr, length, arith, false, true, ◌++◌, suc, zero, Ok, ◌⊎◌, ◌<◌, ◌+◌, map, ◌≢◌, Bool, None, ◌*◌, ◌≤◌, Result, Err, Option, ◌-◌, get_or, drop, take, ◌/◌, ◌^◌, not, ◌%◌, replicate, min, length-drop, pow-suc}
 pub use Rattle.std.proofs.Math.Nat.{div-add-mod, mul_assoc, add-mul, div-div-eq-div-mul, mul-mod_left, lt_of_mul-lt-mul_right, mul-le-mul_right}
+pub use Rattle.std.proofs.Math.Pow.{pow_mono}
 pub use Rattle.std.proofs.Math.Seq.{take-append-add}
 pub use Rattle.std.proofs.lemmas.Bool.{cases_lt, eq-eqb, eqb-true, lt-ltb, le-ltb}
 pub use Rattle.std.proofs.lemmas.Grind.{div_ceil_times, same_number_lists}
@@ -15,10 +17,9 @@ pub use Rattle.std.proofs.lemmas.List.FromFn.{length-range_with_len, get_or-rang
 pub use Rattle.std.proofs.lemmas.List.Kept.{AllPairs-filter}
 pub use Rattle.std.proofs.lemmas.List.Sums.{length-filter, count_by-le-length, sum_by_more_le}
 pub use Rattle.std.proofs.lemmas.Nat.{div-mul-add, pow-add, pow_pos}
+pub use Rattle.std.proofs.lemmas.Slice.Eq.{bytes_eq-Decides}
 pub use Rattle.bt_tree.proofs.ComparisonClash.{same_or_clash}
-pub use Rattle.bt_tree.proofs.ComparisonTwins.{same_bytes}
-pub use Rattle.bt_tree.proofs.TreeNodes.{leaf_is, leaf_past, node_parent}
-pub use Rattle.bt_tree.proofs.TreeShape.{real_limit, pow_le}
+pub use Rattle.bt_tree.proofs.TreeShape.{real_limit}
 pub use Rattle.bt_tree.specs.Blocks.{block_length, block_count, IsFileLength, block_at}
 pub use Rattle.bt_tree.specs.Limits.{full_block_length}
 pub use Rattle.bt_tree.specs.NodeHash.{IsDigest}
@@ -29,12 +30,11 @@ pub use Rattle.bt_meta.specs.Files.{File, piece_count}
 pub use Rattle.bt_meta.specs.Place.{IsPlace}
 pub use Rattle.bt_meta.specs.Torrent.{IsLaidOut, Metainfo, IsLawful, total_pieces, IsLawfulFile}
 pub use Rattle.bt_meta.specs.declared.torrent.Span.{Span}
-pub use Rattle.bt_sparse.proofs.Answers.{value_above}
-pub use Rattle.bt_sparse.proofs.Claims.{claimed_inside, double_div, half_sibling}
+pub use Rattle.bt_sparse.proofs.Claims.{claimed_inside}
 pub use Rattle.bt_sparse.proofs.Joins.{keeps_rooted}
 pub use Rattle.bt_sparse.proofs.LayerNodes.{layer_real, layer_past, layer_folds, filled_sound}
 pub use Rattle.bt_sparse.proofs.Paths.{held_is_checked}
-pub use Rattle.bt_sparse.proofs.Values.{value_covers, value_padding, cases_node, value_inside, root_sound}
+pub use Rattle.bt_sparse.proofs.Values.{root_sound}
 pub use Rattle.bt_sparse.specs.Acceptance.{Accepts}
 pub use Rattle.bt_sparse.specs.Answer.{IsRequest, answer_size, answer_layer, answer_index}
 pub use Rattle.bt_sparse.specs.Claim.{in_run, run_digest, sibling_of}

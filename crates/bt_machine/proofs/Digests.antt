@@ -1,12 +1,11 @@
 -- The digests of a tree have 32 bytes, and keep them as claims are accepted.
 use Rattle.std.proofs.lemmas.Nat.{div-add-mod', mod_below}
 use Rattle.std.proofs.lemmas.List.{get_or-replicate}
-use Rattle.bt_tree.proofs.TreeNodes.{length-padding_digest}
 use Rattle.bt_sparse.specs.SparseTree.{IsSound}
 use Rattle.bt_sparse.specs.Claim.{HasShape, Claims, in_run, on_path, uncle, run_height, run_node, run_digest, path_node, parent_digest, path_digest}
 use Rattle.bt_hashreq.specs.Claim.{IsClaimBy, digests_in}
 use Rattle.bt_store.specs.Adoption.{Adopts, accepted, claimed_digest}
-use Rattle.bt_machine.proofs.Base.{[], ◌≡◌, ℕ, zero, suc, ◌+◌, ◌-◌, ◌*◌, ◌/◌, ◌%◌, ◌^◌, ◌<◌, inl, inr, Bool, true, false, List, ◌∷◌, ◌++◌, map, take, drop, replicate, length, refl, sym, ap, ◌∙◌, arith, ◌==◌, if◌then◌else◌, cases_lt, get_or, get_or-take, get_or-drop, get_or_append_left, get_or-append_right, length-append, length-take, length-drop, length-replicate, IsDigest, padding_digest, row_node, Facts, keeps_rooted, Accepts, Claim, HashKey, BlockRead, given, failed, block_length, BlockState, Adopted}
+use Rattle.bt_machine.proofs.Base.{[], ◌≡◌, ℕ, zero, suc, ◌+◌, ◌-◌, ◌*◌, ◌/◌, ◌%◌, ◌^◌, ◌<◌, inl, inr, Bool, true, false, List, ◌∷◌, ◌++◌, map, take, drop, replicate, length, refl, sym, ap, ◌∙◌, arith, ◌==◌, if◌then◌else◌, cases_lt, get_or, get_or-take, get_or-drop, get_or_append_left, get_or-append_right, length-append, length-take, length-drop, length-replicate, IsDigest, length-padding_digest, padding_digest, row_node, Facts, keeps_rooted, Accepts, Claim, HashKey, BlockRead, given, failed, block_length, BlockState, Adopted}
 use Rattle.bt_machine.proofs.Machine.{Digest}
 use Rattle.bt_machine.proofs.Start.{row_length, chunk_length, chunk_count}
 

@@ -1,5 +1,5 @@
 -- The tree after a group answers the keys that ask for what the group taught.
-use Rattle.bt_machine.proofs.Base.{[], ◌≡◌, ℕ, zero, suc, ◌+◌, ◌-◌, ◌*◌, ◌/◌, ◌%◌, ◌^◌, ◌<◌, ◌≤◌, inl, inr, min, Bool, true, false, List, ◌∷◌, length, map, replicate, get_or, Option, Some, refl, sym, ap, ◌∙◌, arith, length-append, Contains, ◌&&◌, ◌==◌, if◌then◌else◌, div-add-mod, mul_assoc, add-mul, div-div-eq-div-mul, mul-mod_left, lt_of_mul-lt-mul_right, mul-le-mul_right, cases_lt, lt-ltb, le-ltb, eqb-true, div-mul-add, pow-add, pow_pos, length-map, length-replicate, length-range_with_len, padding_digest, height_of, IsInside, row_node, pow_le, Facts, blocks_of, height, value_at, in_run, run_digest, sibling_of, Claim, IsRequest, answer_size, answer_layer, answer_index, Accepts, value_covers, value_padding, cases_node, claimed_inside, double_div, half_sibling, max_run_height, planned_key, HashKey, height_of-pow, BlockRead, block_of, IsUnknownGroup, claimed_digest, claim_of_reads, none, known, accepted, not_accepted as refused, short, unread}
+use Rattle.bt_machine.proofs.Base.{[], ◌≡◌, ℕ, zero, suc, ◌+◌, ◌-◌, ◌*◌, ◌/◌, ◌%◌, ◌^◌, ◌<◌, ◌≤◌, inl, inr, min, Bool, true, false, List, ◌∷◌, length, map, replicate, get_or, Option, Some, refl, sym, ap, ◌∙◌, arith, length-append, Contains, ◌&&◌, ◌==◌, if◌then◌else◌, div-add-mod, mul_assoc, add-mul, div-div-eq-div-mul, mul-mod_left, lt_of_mul-lt-mul_right, mul-le-mul_right, cases_lt, lt-ltb, le-ltb, eqb-true, div-mul-add, pow-add, pow_pos, length-map, length-replicate, length-range_with_len, padding_digest, height_of, IsInside, row_node, pow_mono, Facts, blocks_of, height, value_at, in_run, run_digest, sibling_of, Claim, IsRequest, answer_size, answer_layer, answer_index, Accepts, value_covers, value_padding, cases_node, claimed_inside, double_div, half_sibling, max_run_height, planned_key, HashKey, height_of-pow, BlockRead, block_of, IsUnknownGroup, claimed_digest, claim_of_reads, none, known, accepted, not_accepted as refused, short, unread}
 use Rattle.bt_machine.proofs.Machine.{Digest, group_blocks, run_starts, HasAnswer, ProofKeysAreAnswered}
 use Rattle.bt_store.specs.Adoption.{AreWhole}
 use Rattle.bt_machine.proofs.Lists.{range_limits, contains_none, contains_map, contains_filter}
@@ -141,9 +141,9 @@ module _ (dig : Digest) (k grown : Facts) (from anchor first count : ℕ) (reads
 
       request : IsRequest (height grown) 0 (i / 2 ^ m * 2 ^ m) (2 ^ m) (anchor - 1)
       request = record {
-        some = pow_le 1 m least;
+        some = pow_mono least;
         power = ap (λ h. 2 ^ h) (sym top);
-        limit = pow_le m 9 most;
+        limit = pow_mono most;
         aligned = mul-mod_left (i / 2 ^ m) (2 ^ m);
         low = omega (arith, top, under, heights);
         in_width = rw heights (omega (arith, run_size dig k grown _ first count reads whole (few_blocks group), index, ends, start, add-mul (from / 2 ^ anchor) 1 (2 ^ anchor)));

@@ -1,9 +1,9 @@
 -- What a crash leaves once a flush answered Ok.
+use Rattle.std.proofs.lemmas.List.{ext_get_or}
 use Rattle.std.proofs.lemmas.Option.{slice_get_within, get_or_from_slice_get, slice_get-get_or}
 use Rattle.bt_disk.specs.State.{synced_state}
 use Rattle.bt_disk.specs.History.{moment_of, after_sync}
 use Rattle.bt_disk.specs.Calls.{IsAnswered}
-use Rattle.bt_disk.proofs.Images.{synced_image}
 use Rattle.bt_disk.proofs.Histories.{kept_from_now}
 use Rattle.bt_machine.proofs.Base.{[], ◌≡◌, ℕ, ◌+◌, ◌-◌, ◌*◌, ◌<◌, Bool, true, false, not, inl, inr, List, ◌∷◌, length, get_or, Some, Ok, refl, sym, ap, ◌∙◌, subst, arith, slice_get, Contains, ◌==◌, cases_lt, eqb-true, same_number_lists, block_length, IsImage, History, Call, sync_made, AreAnswered, Facts, IsRight, BlockState, Marked, option_map_or}
 use Rattle.bt_machine.proofs.Machine.{Digest, Flush, FileState, EngineState, DeviceCalls, calls_of, state_at, block_id, file_numbers, IsFile, StepFlush, syncs, fails, syncs_of, data_files, Flushed, stored_block}
@@ -45,6 +45,12 @@ block_stands n i bytes image size each =
     (λ j lt. index_at n image i j (omega arith) ∙ get_or_from_slice_get image (16384 * i + j) _ 0 (at j (omega arith)))
 
 -- ---- syncs
+
+-- where all is on the medium, a crash leaves what a read gives
+synced_image : (bytes image : List ℕ) → IsImage (synced_state bytes) image → image ≡ bytes
+synced_image bytes image left =
+    ext_get_or 0 image bytes (omega (arith, left.no_shorter, left.no_longer))
+    (λ i lt. left.kept i (omega (arith, left.no_longer)) (λ k d none. absurd (omega arith)))
 
 -- after syncs that succeeded, all is on the medium
 synced : (old new : History) (call : Call) (calls : _) → ((c : Call) → Contains (call ∷ calls) c → c ≡ sync_made)
