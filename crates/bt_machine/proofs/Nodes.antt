@@ -1,10 +1,12 @@
 -- Nodes of trees: what the definitions of the crates below say of one by its kind.
 use Rattle.std.proofs.Common.{[], ◌≡◌, ℕ, suc, zero, ◌+◌, ◌-◌, ◌*◌, ◌/◌, ◌%◌, ◌^◌, ◌<◌, ◌≤◌, ◌⊎◌, inl, inr, Bool, true, false, cond, ltb, leb, eqb, ◌&&◌, List, ◌++◌, length, Option, Some, None, refl, sym, ap, ◌∙◌, arith}
-use Rattle.std.proofs.Math.Nat.{pow-succ', mul-le-mul_right, div-div-eq-div-mul}
+use Rattle.std.proofs.Math.Nat.{pow-succ', mul-le-mul_right, div-div-eq-div-mul, lt-div-mul-add}
+use Rattle.std.proofs.Math.Pow.{pow-lt}
 use Rattle.std.proofs.lemmas.Bool.{cases_lt, lt-ltb, le-ltb, le-leb, ltb-true, leb-true}
 use Rattle.std.proofs.lemmas.Grind.{div_ceil_times}
-use Rattle.std.proofs.lemmas.Nat.{pow-add, pow_pos, mod_below}
+use Rattle.std.proofs.lemmas.Nat.{pow-add, pow_pos, mod_below, div_below}
 use Rattle.bt_tree.specs.Blocks.{block_count, block_at}
+use Rattle.bt_tree.specs.Law.{HeightsAreLeast}
 use Rattle.bt_tree.specs.NodeHash.{IsDigest}
 use Rattle.bt_tree.specs.Tree.{padding_digest, node_digest}
 use Rattle.bt_tree.specs.TreeShape.{height_of, real_width, IsInside, CoversBlock, IsPadding}
@@ -104,3 +106,24 @@ half_sibling i = by (i % 2) refl (mod_below i 2 (omega arith))
     by zero e lt = let same : (i + 1) / 2 ≡ i / 2 = omega (arith, e) in same
     by (suc zero) e lt = let same : (i - 1) / 2 ≡ i / 2 = omega (arith, e) in same
     by (suc (suc r)) e lt = absurd (omega arith)
+
+-- the height over a power of two is its exponent
+pub height_of-pow : HeightsAreLeast → (n m : ℕ) → n ≡ 2 ^ m → height_of n ≡ m
+height_of-pow heights n m power =
+    let h = heights n in
+    elim (cases_lt (height_of n) m) [
+      | inl lt ↦ absurd (omega (arith, power, h.enough, pow-lt lt))
+      | inr le ↦ omega (arith, le, h.least m (omega (arith, power)))
+    ]
+
+-- a node below the node that a row of leaves has above it lies in the layer
+pub below_node : (height anchor layer first i : ℕ) → anchor ≤ height → layer ≤ anchor → first + 2 ^ anchor ≤ 2 ^ height
+    → i / 2 ^ (anchor - layer) ≡ first / 2 ^ anchor → i < 2 ^ (height - layer)
+below_node height anchor layer first i high low wide under =
+    let all : height ≡ height - anchor + anchor = omega arith in
+    let power : 2 ^ height ≡ 2 ^ (height - anchor) * 2 ^ anchor = ap (λ n. 2 ^ n) all ∙ pow-add 2 (height - anchor) anchor in
+    let node = div_below first (2 ^ anchor) (2 ^ (height - anchor)) (pow_pos anchor) (omega (arith, wide, power, pow_pos anchor)) in
+    let part : height - layer ≡ height - anchor + (anchor - layer) = omega arith in
+    let room : 2 ^ (height - layer) ≡ 2 ^ (height - anchor) * 2 ^ (anchor - layer) = ap (λ n. 2 ^ n) part ∙ pow-add 2 (height - anchor) (anchor - layer) in
+    let next = mul-le-mul_right (2 ^ (anchor - layer)) (let lt : i / 2 ^ (anchor - layer) + 1 ≤ 2 ^ (height - anchor) = omega (arith, under, node) in lt) in
+    omega (arith, room, next, lt-div-mul-add {a = i} {b = 2 ^ (anchor - layer)} (pow_pos (anchor - layer)))
