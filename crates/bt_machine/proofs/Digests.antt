@@ -1,11 +1,12 @@
 -- The digests of a tree have 32 bytes, and keep them as claims are accepted.
 use Rattle.std.proofs.lemmas.Nat.{div-add-mod', mod_below}
 use Rattle.std.proofs.lemmas.List.{get_or-replicate}
+use Rattle.bt_tree.specs.Peaks.{row_node}
 use Rattle.bt_sparse.specs.SparseTree.{IsSound}
 use Rattle.bt_sparse.specs.Claim.{HasShape, Claims, in_run, on_path, uncle, run_height, run_node, run_digest, path_node, parent_digest, path_digest}
 use Rattle.bt_hashreq.specs.Claim.{IsClaimBy, digests_in}
 use Rattle.bt_store.specs.Adoption.{Adopts, accepted, claimed_digest}
-use Rattle.bt_machine.proofs.Base.{[], ◌≡◌, ℕ, zero, suc, ◌+◌, ◌-◌, ◌*◌, ◌/◌, ◌%◌, ◌^◌, ◌<◌, ◌≤◌, inl, inr, Bool, true, false, List, ◌∷◌, ◌++◌, map, take, drop, replicate, length, refl, sym, ap, ◌∙◌, arith, ◌==◌, if◌then◌else◌, cases_lt, get_or, get_or-take, get_or-drop, get_or_append_left, get_or-append_right, length-append, length-take, length-drop, length-replicate, first_chunks, IsDigest, length-padding_digest, padding_digest, row_node, Facts, KeepsRooted, Accepts, Claim, HashKey, BlockRead, given, failed, block_length, BlockState, Adopted}
+use Rattle.bt_machine.proofs.Base.{[], ◌≡◌, ℕ, zero, suc, ◌+◌, ◌-◌, ◌*◌, ◌/◌, ◌%◌, ◌^◌, ◌<◌, ◌≤◌, inl, inr, Bool, true, false, List, ◌∷◌, ◌++◌, map, take, drop, replicate, length, refl, sym, ap, ◌∙◌, arith, ◌==◌, if◌then◌else◌, cases_lt, get_or, get_or-take, get_or-drop, get_or_append_left, get_or-append_right, length-append, length-take, length-drop, length-replicate, first_chunks, IsDigest, length-padding_digest, padding_digest, Facts, KeepsRooted, Accepts, Claim, HashKey, BlockRead, given, failed, block_length, BlockState, Adopted}
 use Rattle.bt_machine.proofs.Machine.{Digest}
 
 pub chunk_length : (count i : ℕ) (bytes : List ℕ) → i < count → 32 * count ≤ length bytes → length (get_or (first_chunks 32 count bytes) i []) ≡ 32

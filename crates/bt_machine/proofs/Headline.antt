@@ -1,5 +1,5 @@
 -- A complete file on an honest device is the published one.
-use Rattle.bt_machine.proofs.Base.{[], ◌≡◌, ℕ, suc, ◌<◌, List, ◌∷◌, length, take, replicate, Option, Some, sym, ap, ◌∙◌, slice_get, History, block_count, file_root, RootsTellFiles, LayersAreSound, RootsAreSound, KeepsRooted, File, Metainfo, Facts, Missing, Marked}
+use Rattle.bt_machine.proofs.Base.{[], ◌≡◌, ℕ, suc, ◌<◌, List, ◌∷◌, length, take, replicate, Option, Some, sym, ap, ◌∙◌, slice_get, History, block_count, file_root, AdoptMarksByBytes, RootsTellFiles, LayersAreSound, RootsAreSound, KeepsRooted, File, Metainfo, Facts, Missing, Marked}
 use Rattle.bt_machine.proofs.Machine.{Digest, FileState, EngineState, Starts, Step, Run, HasFile, IsSound, IsPublished, CompleteFilesArePublished}
 use Rattle.bt_machine.proofs.Lists.{get_some, some_below}
 use Rattle.bt_machine.proofs.Rooted.{run_rooted}
@@ -53,11 +53,11 @@ module _ {D : Type 0} (history : D → History) (honest : D → Type 0) (faults 
         same = λ other other_size other_root. tell (take file.length bytes) other (cc) (cc);
       }
 
-  pub files_published : KeepsRooted dig → LayersAreSound dig → RootsAreSound dig → RootsTellFiles dig → CompleteFilesArePublished history honest faults dig
-  files_published keeps layers roots tell torrent first last events calls answers disks after number file d lawful starts run complete there honest_now =
+  pub files_published : AdoptMarksByBytes dig → KeepsRooted dig → LayersAreSound dig → RootsAreSound dig → RootsTellFiles dig → CompleteFilesArePublished history honest faults dig
+  files_published marks keeps layers roots tell torrent first last events calls answers disks after number file d lawful starts run complete there honest_now =
       let plain = without_devices history honest faults dig first last disks after events calls answers run in
       let rooted = run_rooted dig keeps first last events calls answers plain (start_rooted layers roots lawful starts) in
-      let sound = run_sound history honest faults dig first last events calls answers disks after run (start_sound disks starts) in
+      let sound = run_sound history honest faults dig marks first last events calls answers disks after run (start_sound disks starts) in
       let of = run_of torrent first last events calls answers plain (start_of starts) number file complete.state complete.tree complete.listed complete.some complete.here complete.has_tree in
       published tell of.0 of.1
       (complete_stands history honest faults dig last after number complete.state complete.tree d rooted sound (record { here = complete.here; has_tree = complete.has_tree }) (rw of.0 complete.some)

@@ -40,9 +40,12 @@ module _ (dig : Digest) (heights : HeightsAreLeast) (k grown : Facts) (anchor fi
       let blocks : blocks_of grown ≡ blocks_of k = cc in
       let shape = accepts.conditions.shape in
       let high : anchor ≤ height k = omega (arith, shape.in_height, height_is) in
+      let room : first + length group_claim.run ≤ 2 ^ (height k - 0) = shape.in_width in
+      let flat : height k - 0 ≡ height k = omega arith in
+      let wide : 2 ^ (height k - 0) ≡ 2 ^ height k = ap (λ n. 2 ^ n) flat in
       let inside : IsInside (blocks_of k) layer i = record {
         in_height = omega arith;
-        in_width = below_node (height k) anchor layer first i high low (omega (arith, shape.in_width, size)) under;
+        in_width = below_node (height k) anchor layer first i high low (omega (arith, room, wide, size)) under;
       } in
       elim (cases_node (blocks_of k) layer i inside) [
         | inl covers ↦ (d, value_covers dig grown layer i (rw blocks covers) ∙ accepts.joins.added layer i d claim covers)
@@ -135,8 +138,8 @@ module _ (dig : Digest) (heights : HeightsAreLeast) (k grown : Facts) (from anch
       top : height_of (2 ^ m) ≡ m
       top = height_of-pow heights (2 ^ m) m refl
 
-      heights : height grown ≡ height k
-      heights = cc
+      same_height : height grown ≡ height k
+      same_height = cc
 
       below : i < (from / 2 ^ anchor + 1) * 2 ^ anchor
       below = omega arith
@@ -150,9 +153,9 @@ module _ (dig : Digest) (heights : HeightsAreLeast) (k grown : Facts) (from anch
         power = ap (λ h. 2 ^ h) (sym top);
         limit = pow_mono most;
         aligned = mul-mod_left (i / 2 ^ m) (2 ^ m);
-        low = omega (arith, top, under, heights);
-        in_width = rw heights (omega (arith, run_size dig heights k grown _ first count reads whole (few_blocks group), index, ends, start, add-mul (from / 2 ^ anchor) 1 (2 ^ anchor)));
-        proof = omega (arith, heights);
+        low = omega (arith, top, under, same_height);
+        in_width = rw same_height (omega (arith, run_size dig heights k grown _ first count reads whole (few_blocks group), index, ends, start, add-mul (from / 2 ^ anchor) 1 (2 ^ anchor)));
+        proof = omega (arith, same_height);
       }
 
       over : first / 2 ^ anchor ≡ from / 2 ^ anchor

@@ -15,7 +15,7 @@ get_is (y ∷ xs) (suc i) e = let r = get_is xs i e in (omega arith, r.1)
 
 tree_sound : {dig : _} → LayersAreSound dig → RootsAreSound dig → {file : File} {torrent k : _} → IsFileLength file.length → length file.root ≡ 32
     → IsTreeFrom dig torrent file k → IsSound dig k
-tree_sound layers roots {file} lawful size (by_layer layer some piece h) = layers file.length _ file.root layer _ lawful h
+tree_sound layers roots {file} lawful size (by_layer layer some piece h) = layers file.length layer file.root file.layer _ lawful h
 tree_sound layers roots {file} lawful size (by_root none is) = rw is (roots file.length file.root lawful size)
 
 pub start_sparse : {dig : _} → LayersAreSound dig → RootsAreSound dig → {torrent : Metainfo} {s : _} → IsLawful torrent.piece_length torrent.files → Starts dig torrent s

@@ -4,7 +4,7 @@ use Rattle.std.proofs.lemmas.Option.{slice_get_within, get_or_from_slice_get, sl
 use Rattle.bt_disk.specs.State.{synced_state}
 use Rattle.bt_disk.specs.History.{moment_of, after_sync}
 use Rattle.bt_disk.specs.Calls.{IsAnswered}
-use Rattle.bt_machine.proofs.Base.{[], ◌≡◌, ℕ, ◌+◌, ◌-◌, ◌*◌, ◌<◌, Bool, true, false, not, inl, inr, List, ◌∷◌, length, get_or, Some, Ok, refl, sym, ap, ◌∙◌, subst, arith, slice_get, Contains, ◌==◌, cases_lt, eqb-true, same_number_lists, block_length, CallsKeepBytes, KeptFromNow, IsImage, History, Call, sync_made, AreAnswered, Facts, IsRight, BlockState, Marked, option_map_or}
+use Rattle.bt_machine.proofs.Base.{[], ◌≡◌, ℕ, ◌+◌, ◌-◌, ◌*◌, ◌<◌, Bool, true, false, not, inl, inr, List, ◌∷◌, length, get_or, Some, Ok, refl, sym, ap, ◌∙◌, subst, arith, slice_get, Contains, ◌==◌, cases_lt, eqb-true, same_number_lists, block_length, CallsKeepBytes, KeptFromNow, AdoptMarksByBytes, IsImage, History, Call, sync_made, AreAnswered, Facts, IsRight, BlockState, Marked, option_map_or}
 use Rattle.bt_machine.proofs.Machine.{Digest, Flush, FileState, EngineState, DeviceCalls, calls_of, state_at, block_id, file_numbers, IsFile, StepFlush, syncs, fails, syncs_of, data_files, Flushed, stored_block}
 use Rattle.bt_machine.specs.Blocks.{states_of}
 use Rattle.bt_machine.specs.Crash.{IsBlockKept}
@@ -131,7 +131,7 @@ goes_on file i {f} {k} keeps is marked =
       same_length = tree.length;
     }
 
-module _ {D : Type 0} (history : D → History) (honest : D → Type 0) (faults : D → ℕ) (dig : Digest) (calls_keep : CallsKeepBytes) (reads : (d : D) → honest d → IsImage (history d).now (history d).now.bytes) where
+module _ {D : Type 0} (history : D → History) (honest : D → Type 0) (faults : D → ℕ) (dig : Digest) (marks : AdoptMarksByBytes dig) (calls_keep : CallsKeepBytes) (reads : (d : D) → honest d → IsImage (history d).now (history d).now.bytes) where
   pub images_run : RunKeepsImages history honest faults dig
   images_run old new [] [] [] disks after file i t f k bytes e run sound is marked size there honest_now kept =
       kept e (ap (λ l. slice_get l file) (sym run.1) ∙ there)
@@ -144,7 +144,7 @@ module _ {D : Type 0} (history : D → History) (honest : D → Type 0) (faults 
       (let same : d ≡ mid.0 = cc in
       images_kept history honest faults dig calls_keep reads old run.0 x c a disks run.1 file i t f k bytes d run.2 run.3 is (λ gone. absurd cc) size at (rw same mid.2) kept) in
       images_run run.0 new xs calls answers run.1 after file i t then.state then.tree bytes e run.4
-      (step_sound history honest faults dig old run.0 x c a disks run.1 run.2 run.3 sound) then.is_file then.marked (size ∙ ap (λ n. block_length n i) (sym then.same_length)) there honest_now one
+      (step_sound history honest faults dig marks old run.0 x c a disks run.1 run.2 run.3 sound) then.is_file then.marked (size ∙ ap (λ n. block_length n i) (sym then.same_length)) there honest_now one
   images_run old new _ _ _ disks after file i t f k bytes e run sound is marked size there honest_now kept = absurd run
 
   pub flushed_survive : KeptFromNow → FlushedBlocksSurvive history honest faults dig
@@ -154,7 +154,7 @@ module _ {D : Type 0} (history : D → History) (honest : D → Type 0) (faults 
       let honest_then : honest d = rw same back.2 in
       let f_is = flushed step.2 (flush_ok step.1) in
       let is_then : IsFile mid file f k = rw f_is.same is in
-      let sound_then = step_sound history honest faults dig old mid Flush made _ disks flushed_disks step have sound in
+      let sound_then = step_sound history honest faults dig marks old mid Flush made _ disks flushed_disks step have sound in
       let right = sound_then file f k d is_then there_then honest_then i marked in
       let kept = flush_kept history honest faults dig kept_from_now old mid made disks flushed_disks file i f k d step have is_then marked there_then honest_then in
       let each : (x : D) → slice_get flushed_disks file ≡ Some (Some x) → IsBlockKept (history x) (moment_of (history d)) i (stored_block k.file_length (history d).now.bytes i) = λ x at.
@@ -166,5 +166,5 @@ module _ {D : Type 0} (history : D → History) (honest : D → Type 0) (faults 
   pub flushes_kept : KeptFromNow → RunsKeepFlushedBlocks history honest faults dig
   flushes_kept kept_from_now torrent first old mid new events later calls later_calls made answers later_answers disks before flushed_disks after file i f k d e starts run step have goes is marked there_then there honest_now =
       flushed_survive kept_from_now old mid new made later later_calls later_answers before flushed_disks after file i f k d e
-      (run_sound history honest faults dig first old events calls answers disks before run (start_sound history honest faults dig disks starts))
+      (run_sound history honest faults dig marks first old events calls answers disks before run (start_sound history honest faults dig disks starts))
       step have goes is marked there_then there honest_now

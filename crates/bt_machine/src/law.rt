@@ -61,30 +61,35 @@ pub fn complete_files_are_published<D: Disk, H: NodeHash>(_disk: &D, hash: H)
     layers_are_sound(hash);
     roots_are_sound(hash);
     keeps_rooted(hash);
+    adopt_marks_by_bytes(hash);
     roots_tell_files(hash);
 }
 
 /// After any list of events from the start of a torrent, whatever peers send and devices answer: a crash at
 /// any moment after a flush that answered Ok, also within an event, leaves each block right on an honest
 /// device that was marked at the flush.
-pub fn runs_keep_flushed_blocks<D: Disk, H: NodeHash>(_disk: &D, _hash: H)
+pub fn runs_keep_flushed_blocks<D: Disk, H: NodeHash>(_disk: &D, hash: H)
     ensures { RunsKeepFlushedBlocks D.history D.honest D.faults H.digest }
 {
     calls_keep_bytes();
+    adopt_marks_by_bytes(hash);
 }
 
 /// Where marked blocks are right on honest devices: what every image since a moment has of a marked block,
 /// every image goes on to have over a list of events, also those of a crash within one.
-pub fn run_keeps_images<D: Disk, H: NodeHash>(_disk: &D, _hash: H)
+pub fn run_keeps_images<D: Disk, H: NodeHash>(_disk: &D, hash: H)
     ensures { RunKeepsImages D.history D.honest D.faults H.digest }
 {
     calls_keep_bytes();
+    adopt_marks_by_bytes(hash);
 }
 
 /// Where marked blocks are right on honest devices, a marked block on one stays marked over a list of events.
-pub fn run_keeps_marks<D: Disk, H: NodeHash>(_disk: &D, _hash: H)
+pub fn run_keeps_marks<D: Disk, H: NodeHash>(_disk: &D, hash: H)
     ensures { RunKeepsMarks D.history D.honest D.faults H.digest }
-{}
+{
+    adopt_marks_by_bytes(hash);
+}
 
 /// Whatever devices do, a marked block ceases to be so in one way only: it was read in this event, and its
 /// device gave other bytes than those of its leaf.

@@ -3,4 +3,4 @@ use Rattle.bt_machine.proofs.law.complete_files_are_published.Goals as goal
 
 pub returns : goal.returns
 returns g c = files_published g.D.Disk.history g.D.Disk.honest g.D.Disk.faults g.H.NodeHash.digest
-    c.keeps_rooted.ensures c.layers_are_sound.ensures c.roots_are_sound.ensures c.roots_tell_files.ensures
+    c.adopt_marks_by_bytes.ensures c.keeps_rooted.ensures c.layers_are_sound.ensures c.roots_are_sound.ensures c.roots_tell_files.ensures
