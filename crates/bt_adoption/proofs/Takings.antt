@@ -5,6 +5,7 @@ use Rattle.std.specs.List.{AllZip}
 use Rattle.std.proofs.lemmas.List.{map-append}
 use Rattle.std.proofs.lemmas.Grind.{flat_map-append}
 use Rattle.std.proofs.Common.{set-set}
+use Rattle.bt_tree.proofs.TreeShape.{height_is}
 use Rattle.bt_disk.specs.Calls.{HasCalls}
 use Rattle.bt_disk.proofs.CallLists.{has_none, has_then}
 use Rattle.bt_store.specs.FileStore.{StoreView}
@@ -100,7 +101,7 @@ module _ {dig : List ℕ → List ℕ} where
       → IsFile s file (file_with tree old) k → from < blocks_of k → Adopts dig k from old reads adopted grown new
       → AdoptsGroup dig s file from (reads_at file k.file_length reads) adopted (with_tree (with_file s file (file_with tree new)) tree grown)
   group_in {k} {grown} {from} {old} {new} {reads} {adopted} {s} {file} {tree} no_log is left adopts =
-      let hints = listed dig grown _ (λ key c. proof_keys_answered dig k grown from old new reads adopted key adopts c) in
+      let hints = listed dig grown _ (λ key c. proof_keys_answered dig height_is k grown from old new reads adopted key adopts c) in
       record {
         state = file_with tree old;
         tree = k;

@@ -2,6 +2,8 @@
 use Rattle.std.proofs.Common.{[], ◌≡◌, List, ℕ, Option, ◌∷◌, Ok, refl, subst, sym}
 use Rattle.bt_disk.specs.History.{History}
 use Rattle.bt_tree.specs.NodeHash.{IsDigest}
+use Rattle.bt_sparse.proofs.Joins.{keeps_rooted}
+use Rattle.bt_store.proofs.AdoptionMarks.{adopt_marks}
 use Rattle.bt_meta.specs.Torrent.{Metainfo}
 use Rattle.bt_machine.specs.declared.event.Event.{Event}
 use Rattle.bt_machine.specs.declared.event.Answer.{Answer}
@@ -38,9 +40,9 @@ module _ {D H : Type 0} (history : D → History) (honest : D → Type 0) (fault
     tied = tied;
     shaped = subst (λ (t : Metainfo). IsShaped t (state_of new)) (sym same) (step_shape dig event s.calls answer kept.shaped s.step);
     orderly = order_kept dig (state_of old) (state_of new) event s.calls answer s.step kept.orderly;
-    sparse = run_sparse dig sizes (state_of old) (state_of new) (event ∷ []) (s.calls ∷ []) (answer ∷ []) (state_of new, s.step, refl) kept.sparse;
-    rooted = step_rooted dig (state_of old) (state_of new) event s.calls answer s.step kept.rooted;
-    sound = step_sound history honest faults dig (state_of old) (state_of new) event s.calls answer (disks_of old) (disks_of new) s.step s.made kept.sound;
+    sparse = run_sparse dig sizes (keeps_rooted dig) (state_of old) (state_of new) (event ∷ []) (s.calls ∷ []) (answer ∷ []) (state_of new, s.step, refl) kept.sparse;
+    rooted = step_rooted dig (keeps_rooted dig) (state_of old) (state_of new) event s.calls answer s.step kept.rooted;
+    sound = step_sound history honest faults dig (adopt_marks dig) (state_of old) (state_of new) event s.calls answer (disks_of old) (disks_of new) s.step s.made kept.sound;
   }
 
 -- an engine that was started begins as the machine does

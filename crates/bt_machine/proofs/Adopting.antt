@@ -1,8 +1,25 @@
 -- How what a file's device has already is taken in: what it marks, and what becomes of trees.
-use Rattle.bt_machine.proofs.Base.{[], ◌≡◌, ◌≢◌, ℕ, ◌⊎◌, inl, inr, Bool, true, false, not, ◌∷◌, Some, refl, sym, ap, ◌∙◌, subst, slice_get, option_map, Contains, flat_map, option_and_then, eq-eqb, Contains-append_left, Contains-append_right, Call, Facts, given, call_of, IsRight, Marked, Adopted, Extends, store_marks, adopt_extends, BlockId}
+use Rattle.bt_machine.proofs.Base.{[], ◌≡◌, ◌≢◌, ℕ, ◌⊎◌, inl, inr, Bool, true, false, not, List, ◌∷◌, Some, refl, sym, ap, ◌∙◌, subst, slice_get, option_map, Contains, flat_map, option_and_then, eq-eqb, Contains-append_left, Contains-append_right, Call, Facts, given, call_of, IsRight, Marked, Adopted, Adopts, accepted, AdoptMarksByBytes, value_at, held_at, blocks_of, value_inside, value_covers, value_padding, cases_node, BlockId}
 use Rattle.bt_machine.proofs.Machine.{Digest, Adopt, FileState, EngineState, reads_at, state_at, IsFile, judged_file, SettlesIn, AdoptsGroup, AdoptsGroups, is_other, AdoptsFile, StopsAdopting, StepAdopt, no_file, busy, empty, adopts, not_adopted as no_memory, IsFound, IsMarkedBy, read_back, found}
 use Rattle.bt_machine.proofs.Lists.{set_same, set_other, map_contains, and_then_some}
 use Rattle.bt_machine.proofs.Marks.{state_is, file_marked, settle_marks}
+
+-- a tree of the same length and root that has every value that the other has
+pub record Extends (dig : Digest) (k grown : Facts) : Type 0 where
+  pub file_length : grown.file_length ≡ k.file_length
+  pub root : grown.root ≡ k.root
+  pub values : (layer i : ℕ) (d : List ℕ) → value_at dig k layer i ≡ Some d → value_at dig grown layer i ≡ Some d
+
+-- so is one that has each digest that the other holds
+pub value_kept : (dig : Digest) (old new : Facts) → new.file_length ≡ old.file_length
+    → ((l i : ℕ) (d : List ℕ) → held_at old l i ≡ Some d → held_at new l i ≡ Some d) → (l i d : _) → value_at dig old l i ≡ Some d
+    → value_at dig new l i ≡ Some d
+value_kept dig old new size kept l i d e =
+    let blocks : blocks_of new ≡ blocks_of old = cc in
+    elim (cases_node (blocks_of old) l i (value_inside dig old l i d e)) [
+      | inl covers ↦ value_covers dig new l i (rw blocks covers) ∙ kept l i d (sym (value_covers dig old l i covers) ∙ e)
+      | inr past ↦ value_padding dig new l i (rw blocks past) ∙ sym (value_padding dig old l i past) ∙ e
+    ]
 
 module _ (dig : Digest) where
   -- the file has a tree that extends this one
@@ -21,12 +38,22 @@ module _ (dig : Digest) where
     file_length = cc;
     root = cc;
     values = λ layer i d v. f.values layer i d (e.values layer i d v);
-    rooted = λ r. f.rooted (e.rooted r);
   }
+
+  same_tree : {k : _} → Extends dig k k
+  same_tree = record { file_length = refl; root = refl; values = λ layer i d v. v }
+
+  adopt_extends : {k grown from old new reads adopted : _} → Adopts dig k from old reads adopted grown new → Extends dig k grown
+  adopt_extends {k} (accepted anchor first count rs g group whole accepts) = record {
+    file_length = accepts.joins.file_length;
+    root = accepts.joins.root;
+    values = value_kept dig k g accepts.joins.file_length accepts.joins.kept;
+  }
+  adopt_extends _ = same_tree
 
   -- a group's own tree
   pub group_extends : {s new file from calls adopted : _} (g : AdoptsGroup dig s file from calls adopted new) → Extends dig g.tree g.grown
-  group_extends {from} {adopted} g = adopt_extends dig g.tree g.grown from g.state.states g.states g.reads adopted g.adopts
+  group_extends g = adopt_extends g.adopts
 
   pub group_file : {s new file from calls adopted : _} (g : AdoptsGroup dig s file from calls adopted new)
       → IsFile new file (record g.state { states = g.states }) g.grown
@@ -49,9 +76,6 @@ module _ (dig : Digest) where
 
   file_in : {m new file f k : _} → new ≡ m → IsFile m file f k → IsFile new file f k
   file_in {file} {f} {k} e is = rw e is
-
-  same_tree : {k : _} → Extends dig k k
-  same_tree = record { file_length = refl; root = refl; values = λ layer i d v. v; rooted = λ r. r }
 
   groups_forward : (s : _) {new file : _} (from groups : _) (total : Adopted) → AdoptsGroups dig s file from groups total new
       → {f k : _} → IsFile s file f k → HasExtended new file k
@@ -76,7 +100,7 @@ module _ (dig : Digest) where
 
   -- ---- marks
 
-  module _ (b : BlockId) where
+  module _ (marks : AdoptMarksByBytes dig) (b : BlockId) where
     -- a block that was found in some calls is found in more of them, and in a later engine
     found_later : {file calls more mid new : _} → ((c : ℕ × Call) → Contains calls c → Contains more c)
         → ((f : FileState) (k : Facts) → IsFile mid b.file f k → HasExtended new b.file k) → IsFound dig (Adopt file) calls mid b
@@ -97,7 +121,7 @@ module _ (dig : Digest) where
     group_marks : {s new file from calls adopted : _} → AdoptsGroup dig s file from calls adopted new
         → state_at new b ≡ Some Marked → (state_at s b ≡ Some Marked) ⊎ IsFound dig (Adopt file) calls new b
     group_marks {s} {new} {file} {from} {calls} {adopted} g m = elim (file_marked s _ b (subst (λ x. state_at x b ≡ Some Marked) g.after m)) [
-      | inl now ↦ elim (store_marks dig g.tree g.grown from g.state.states g.states g.reads adopted g.adopts b.block now.1) [
+      | inl now ↦ elim (marks g.tree g.grown from g.state.states g.states g.reads adopted g.adopts b.block now.1) [
         | inl before ↦ inl (state_is s b (ap (slice_get s.files) now.0 ∙ g.is_file.here) before)
         | inr r ↦
             let is = group_file g in

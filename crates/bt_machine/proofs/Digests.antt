@@ -1,16 +1,30 @@
 -- The digests of a tree have 32 bytes, and keep them as claims are accepted.
 use Rattle.std.proofs.lemmas.Nat.{div-add-mod', mod_below}
 use Rattle.std.proofs.lemmas.List.{get_or-replicate}
-use Rattle.bt_tree.proofs.TreeNodes.{length-padding_digest}
+use Rattle.bt_tree.specs.Peaks.{row_node}
 use Rattle.bt_sparse.specs.SparseTree.{IsSound}
 use Rattle.bt_sparse.specs.Claim.{HasShape, Claims, in_run, on_path, uncle, run_height, run_node, run_digest, path_node, parent_digest, path_digest}
 use Rattle.bt_hashreq.specs.Claim.{IsClaimBy, digests_in}
 use Rattle.bt_store.specs.Adoption.{Adopts, accepted, claimed_digest}
-use Rattle.bt_machine.proofs.Base.{[], ◌≡◌, ℕ, zero, suc, ◌+◌, ◌-◌, ◌*◌, ◌/◌, ◌%◌, ◌^◌, ◌<◌, inl, inr, Bool, true, false, List, ◌∷◌, ◌++◌, map, take, drop, replicate, length, refl, sym, ap, ◌∙◌, arith, ◌==◌, if◌then◌else◌, cases_lt, get_or, get_or-take, get_or-drop, get_or_append_left, get_or-append_right, length-append, length-take, length-drop, length-replicate, IsDigest, padding_digest, row_node, Facts, keeps_rooted, Accepts, Claim, HashKey, BlockRead, given, failed, block_length, BlockState, Adopted}
+use Rattle.bt_machine.proofs.Base.{[], ◌≡◌, ℕ, zero, suc, ◌+◌, ◌-◌, ◌*◌, ◌/◌, ◌%◌, ◌^◌, ◌<◌, ◌≤◌, inl, inr, Bool, true, false, List, ◌∷◌, ◌++◌, map, take, drop, replicate, length, refl, sym, ap, ◌∙◌, arith, ◌==◌, if◌then◌else◌, cases_lt, get_or, get_or-take, get_or-drop, get_or_append_left, get_or-append_right, length-append, length-take, length-drop, length-replicate, first_chunks, IsDigest, length-padding_digest, padding_digest, Facts, KeepsRooted, Accepts, Claim, HashKey, BlockRead, given, failed, block_length, BlockState, Adopted}
 use Rattle.bt_machine.proofs.Machine.{Digest}
-use Rattle.bt_machine.proofs.Start.{row_length, chunk_length, chunk_count}
 
-module _ (dig : Digest) (is : IsDigest dig) where
+pub chunk_length : (count i : ℕ) (bytes : List ℕ) → i < count → 32 * count ≤ length bytes → length (get_or (first_chunks 32 count bytes) i []) ≡ 32
+chunk_length zero i bytes lt room = absurd (omega arith)
+chunk_length (suc count) zero bytes lt room = omega (arith, length-take 32 bytes)
+chunk_length (suc count) (suc i) bytes lt room = chunk_length count i _ (omega arith) (omega (arith, length-drop 32 bytes))
+
+pub chunk_count : (count : ℕ) (bytes : List ℕ) → length (first_chunks 32 count bytes) ≡ count
+chunk_count zero bytes = refl
+chunk_count (suc count) bytes = ap (λ n. suc n) (chunk_count count _)
+
+pub row_length : (dig : Digest) → IsDigest dig → (row : ℕ → List ℕ) (up i : ℕ) → ((j : ℕ) → up ≡ 0 → j ≡ i → length (row j) ≡ 32)
+    → length (row_node dig row up i) ≡ 32
+unfolding row_node
+row_length dig sizes row zero i first = first i refl refl
+row_length dig sizes row (suc up) i first = sizes _
+
+module _ (dig : Digest) (is : IsDigest dig) (keeps : KeepsRooted dig) where
   abbrev Each : List (List ℕ) → Type 0
   Each xs = (i : ℕ) → i < length xs → length (get_or xs i []) ≡ 32
 
@@ -62,7 +76,7 @@ module _ (dig : Digest) (is : IsDigest dig) where
   pub accepted_sound : (k new : Facts) (c : Claim) → Accepts dig k c new → Each c.run → Each c.uncles → IsSound dig k → IsSound dig new
   accepted_sound k new c a run uncles sound = record {
     lawful = rw a.joins.file_length sound.lawful;
-    rooted = keeps_rooted dig k new c a sound.rooted;
+    rooted = keeps k new c a sound.rooted;
     digests = λ layer i d held. elim (a.joins.only layer i d held) [
       | inl old ↦ sound.digests layer i d old
       | inr claimed ↦ claims_length c a.conditions.shape run uncles layer i d claimed.0

@@ -1,15 +1,13 @@
 -- Each frame that an event sends can be written.
 use Rattle.std.specs.Int.{w32, to_be_bytes}
 use Rattle.std.specs.List.{concat}
-use Rattle.bt_tree.proofs.TreeNodes.{length-padding_digest}
-use Rattle.bt_sparse.proofs.Acceptances.{lawful_height}
 use Rattle.bt_sparse.specs.NodeMap.{HasDigests}
 use Rattle.bt_sparse.specs.SparseTree.{IsSound}
 use Rattle.bt_hashreq.specs.Key.{key_spelling, IsKey}
 use Rattle.bt_wire.specs.Message.{Fits, IsMessage, ask_spelling}
 use Rattle.bt_wire.specs.Event.{IsEvent, IsSent}
 use Rattle.bt_meta.specs.Limits.{max_piece_count}
-use Rattle.bt_machine.proofs.Base.{[], ◌≡◌, ℕ, suc, ◌+◌, ◌-◌, ◌*◌, ◌%◌, ◌<◌, ◌≤◌, inl, inr, Bool, true, false, List, ◌∷◌, ◌++◌, map, flat_map, length, drop, Some, Result, Ok, Err, refl, sym, ap, ◌∙◌, subst, arith, get_or, slice_get, Contains, Contains-append_cases, length-append, length-take, mul-mod_left, div_ceil_times, IsDigest, Facts, value_at, blocks_of, value_covers, value_padding, cases_node, value_inside, total_pieces, IsPlace, Span, HashKey, Ask, PeerMessage, Have, Bitfield, Request, Piece, HashRequest, Hashes, HashReject, WireEvent, Hello, Message, Skipped, Put, StoreError, DeviceFault, Wrong, PutMarked, PutWaiting}
+use Rattle.bt_machine.proofs.Base.{[], ◌≡◌, ℕ, suc, ◌+◌, ◌-◌, ◌*◌, ◌%◌, ◌<◌, ◌≤◌, inl, inr, Bool, true, false, List, ◌∷◌, ◌++◌, map, flat_map, length, drop, Some, Result, Ok, Err, refl, sym, ap, ◌∙◌, subst, arith, get_or, slice_get, Contains, Contains-append_cases, length-append, length-take, mul-mod_left, div_ceil_times, IsDigest, HeightsAreLeast, length-padding_digest, Facts, value_at, blocks_of, value_covers, value_padding, cases_node, value_inside, total_pieces, IsPlace, Span, HashKey, Ask, PeerMessage, Have, Bitfield, Request, Piece, HashRequest, Hashes, HashReject, WireEvent, Hello, Message, Skipped, Put, StoreError, DeviceFault, Wrong, PutMarked, PutWaiting}
 use Rattle.bt_machine.proofs.Machine.{Digest, Connect, Feed, Next, Lost, Rechoke, Adopt, Flush, Connected, Stepped, Rechoked, EngineState, cut_from, Sent, Effect, sent_to, haves, Serves, FindsFault, damaged, fault, HandlesRequest, ignored, no_place, not_marked, served, stopped, HasPutEffect, HandlesPiece, stale, arrives, HandlesHashRequest, answered, rejected, HandlesHashes, unknown_root, no_claim, refused, accepts_hashes, HandlesHello, ours, other, HandlesHave, in_range, out_of_range, HandlesBitfield, right, wrong, HandlesMessage, Handles, FollowsUp, interest_sent, RequestsHashes, requests, rests, RequestsEach, StepNext, no_peer, waits, keeps_peer, closes, faulty, no_memory, new_peer, StepConnect, joins, full, spent, no_room, FollowsEach, StepRechoke, rechokes, not_rechoked, rechoked, choking_sent, is_served, Step, sent_by}
 use Rattle.bt_machine.specs.HashMessages.{IsAnswered}
 use Rattle.bt_machine.specs.Spans.{first_block, spanned_blocks}
@@ -78,7 +76,7 @@ hashes_fit key digests n root size few =
 
 -- ---- digests of a tree
 
-module _ (dig : Digest) (is : IsDigest dig) where
+module _ (dig : Digest) (is : IsDigest dig) (heights : HeightsAreLeast) where
   value_length : (k : Facts) (layer i : ℕ) (d : List ℕ) → HasDigests k.nodes → value_at dig k layer i ≡ Some d → length d ≡ 32
   value_length k layer i d digests value = elim (cases_node (blocks_of k) layer i (value_inside dig k layer i d value)) [
     | inl covers ↦ digests layer i d (sym (value_covers dig k layer i covers) ∙ value)
@@ -100,7 +98,7 @@ module _ (dig : Digest) (is : IsDigest dig) where
   answer_fits {s} {key} {digests} trees root a =
       let sound = trees a.tree a.facts a.here.here in
       let size = a.answer.size in
-      let short = lawful_height a.facts sound.lawful in
+      let short = (heights (blocks_of a.facts)).least 26 (omega (arith, sound.lawful.limit)) in
       let low = a.request.proof in
       let run = a.request.limit in
       hashes_fit key (concat digests) (length digests) root

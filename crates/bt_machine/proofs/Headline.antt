@@ -1,5 +1,5 @@
 -- A complete file on an honest device is the published one.
-use Rattle.bt_machine.proofs.Base.{[], ◌≡◌, ℕ, suc, ◌<◌, List, ◌∷◌, length, take, replicate, Option, Some, sym, ap, ◌∙◌, slice_get, History, block_count, file_root, IsDigest, same_or_clash, File, Metainfo, Facts, Missing, Marked}
+use Rattle.bt_machine.proofs.Base.{[], ◌≡◌, ℕ, suc, ◌<◌, List, ◌∷◌, length, take, replicate, Option, Some, sym, ap, ◌∙◌, slice_get, History, block_count, file_root, AdoptMarksByBytes, RootsTellFiles, LayersAreSound, RootsAreSound, KeepsRooted, File, Metainfo, Facts, Missing, Marked}
 use Rattle.bt_machine.proofs.Machine.{Digest, FileState, EngineState, Starts, Step, Run, HasFile, IsSound, IsPublished, CompleteFilesArePublished}
 use Rattle.bt_machine.proofs.Lists.{get_some, some_below}
 use Rattle.bt_machine.proofs.Rooted.{run_rooted}
@@ -42,23 +42,23 @@ module _ {D : Type 0} (history : D → History) (honest : D → Type 0) (faults 
   run_of torrent old new (e ∷ es) (c ∷ calls) (a ∷ answers) run of = run_of torrent run.0 new es calls answers run.2 (step_of torrent old run.0 e c a run.1 of)
   run_of torrent old new _ _ _ run of = absurd run
 
-  published : IsDigest dig → {file : File} {k : Facts} {bytes : _} → k.file_length ≡ file.length → k.root ≡ file.root → HasFile dig k bytes
+  published : RootsTellFiles dig → {file : File} {k : Facts} {bytes : _} → k.file_length ≡ file.length → k.root ≡ file.root → HasFile dig k bytes
       → IsPublished dig file bytes
-  published sizes {file} {bytes} size root has =
+  published tell {file} {bytes} size root has =
       let all : length (take file.length bytes) ≡ file.length = cc in
       let own : file_root dig (take file.length bytes) ≡ file.root = cc in
       record {
         all = all;
         root = own;
-        same = λ other other_size other_root. same_or_clash dig sizes (take file.length bytes) other (cc) (cc);
+        same = λ other other_size other_root. tell (take file.length bytes) other (cc) (cc);
       }
 
-  pub files_published : IsDigest dig → CompleteFilesArePublished history honest faults dig
-  files_published sizes torrent first last events calls answers disks after number file d lawful starts run complete there honest_now =
+  pub files_published : AdoptMarksByBytes dig → KeepsRooted dig → LayersAreSound dig → RootsAreSound dig → RootsTellFiles dig → CompleteFilesArePublished history honest faults dig
+  files_published marks keeps layers roots tell torrent first last events calls answers disks after number file d lawful starts run complete there honest_now =
       let plain = without_devices history honest faults dig first last disks after events calls answers run in
-      let rooted = run_rooted dig first last events calls answers plain (start_rooted sizes lawful starts) in
-      let sound = run_sound history honest faults dig first last events calls answers disks after run (start_sound disks starts) in
+      let rooted = run_rooted dig keeps first last events calls answers plain (start_rooted layers roots lawful starts) in
+      let sound = run_sound history honest faults dig marks first last events calls answers disks after run (start_sound disks starts) in
       let of = run_of torrent first last events calls answers plain (start_of starts) number file complete.state complete.tree complete.listed complete.some complete.here complete.has_tree in
-      published sizes of.0 of.1
+      published tell of.0 of.1
       (complete_stands history honest faults dig last after number complete.state complete.tree d rooted sound (record { here = complete.here; has_tree = complete.has_tree }) (rw of.0 complete.some)
       (λ i lt. complete.marked i (rw (← of.0) lt)) there honest_now)

@@ -1,3 +1,4 @@
+pub mod Nodes
 pub mod Base
 pub mod Machine
 pub mod Lists

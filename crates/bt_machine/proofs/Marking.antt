@@ -1,5 +1,5 @@
 -- A step marks a block by bytes of that step alone.
-use Rattle.bt_machine.proofs.Base.{[], ◌≡◌, ◌≢◌, ℕ, ◌+◌, ◌*◌, ◌<◌, ◌≤◌, ◌⊎◌, inl, inr, Bool, true, false, List, ◌∷◌, length, Some, refl, sym, ap, ◌∙◌, slice_get, slice_set, Contains, Result, Ok, Err, ◌==◌, if◌then◌else◌, option_and_then, range_with_len, eqb-true, full_block_length, Facts, Accepts, Claim, bytes_written, IsClaimBy, HashKey, IsRight, PutIsDue, states_after_put, Marked, StoreError, Put, Already, Wrong, PutMarked, PutWaiting, BlockId, PeerMessage as Sent, KeepAlive, Choke, Unchoke, Interested, NotInterested, Have, Bitfield, Request, Piece, Cancel, HashRequest, Hashes, HashReject, WireEvent, Hello, Message, Skipped}
+use Rattle.bt_machine.proofs.Base.{[], ◌≡◌, ◌≢◌, ℕ, ◌+◌, ◌*◌, ◌<◌, ◌≤◌, ◌⊎◌, inl, inr, Bool, true, false, List, ◌∷◌, length, Some, refl, sym, ap, ◌∙◌, slice_get, slice_set, Contains, Result, Ok, Err, ◌==◌, if◌then◌else◌, option_and_then, range_with_len, eqb-true, full_block_length, Facts, Accepts, Claim, bytes_written, IsClaimBy, HashKey, AdoptMarksByBytes, IsRight, PutIsDue, states_after_put, Marked, StoreError, Put, Already, Wrong, PutMarked, PutWaiting, BlockId, PeerMessage as Sent, KeepAlive, Choke, Unchoke, Interested, NotInterested, Have, Bitfield, Request, Piece, Cancel, HashRequest, Hashes, HashReject, WireEvent, Hello, Message, Skipped}
 use Rattle.bt_machine.proofs.Machine.{Digest, Event, Connect, Feed, Next, Lost, Rechoke, Adopt, Flush, PeerState, FileState, EngineState, DeviceCalls, state_at, tree_of, with_file, with_peer, with_tree, IsWholeBlock, FindsFault, damaged, fault, HandlesRequest, ignored, no_place, not_marked, served, stopped, Arrives, HandlesPiece, stale, arrives, IsTreeOf, settled_count, HandlesHashes, unknown_root, no_claim, refused, accepts_hashes, HandlesHave, in_range, out_of_range, HandlesBitfield, right, wrong, HandlesMessage, Handles, IsPeer, TakesEvent, StepNext, no_peer, waits, keeps_peer, closes, faulty, no_memory, StepConnect, joins, full, spent, no_room, StepFeed, feeds, not_fed, no_room as no_room_to_feed, StepLost, goes, not_fed as not_lost, FollowsEach, StepRechoke, rechokes, not_rechoked, StepFlush, syncs, fails, Answer, Step, Run, StepMarksByBytes, IsMarkedBy, brought, read_back, IsSoAt, IsMarkedIn}
 use Rattle.bt_machine.proofs.Lists.{contains_none, range_limits, set_cases, set_same}
 use Rattle.bt_machine.proofs.Marks.{state_is, file_marked, missing_marks, IsSettled, settle_marks}
@@ -30,7 +30,7 @@ data IsSeen (dig : Digest) (s : EngineState) (p : PeerState) (e : WireEvent) (ca
 abbrev Marks : (List ℕ → List ℕ) → EngineState → PeerState → WireEvent → DeviceCalls → EngineState → BlockId → Type 0
 Marks dig s p e calls mid b = (state_at s b ≡ Some Marked) ⊎ IsSeen dig s p e calls mid b
 
-module _ (dig : Digest) (b : BlockId) where
+module _ (dig : Digest) (marks : AdoptMarksByBytes dig) (b : BlockId) where
   -- the engine is one in which the same blocks are marked
   as_before : {m mid : _} → mid ≡ m → state_at mid b ≡ Some Marked → state_at m b ≡ Some Marked
   as_before e marked = rw (← e) marked
@@ -260,11 +260,11 @@ module _ (dig : Digest) (b : BlockId) where
   step_cases s new (Next key) calls a t m = next_marks t.2 m
   step_cases s new (Lost key) calls a t m = inl (lost_marks t.3 m)
   step_cases s new Rechoke calls a t m = inl (rechoke_marks t.3 m)
-  step_cases s new (Adopt file) calls a t m = adopt_marks dig b t.2 m
+  step_cases s new (Adopt file) calls a t m = adopt_marks dig marks b t.2 m
   step_cases s new Flush calls a t m = inl (flush_marks t.2 m)
 
-pub step_marks : {dig : Digest} → StepMarksByBytes dig
-step_marks {dig} s new e calls a t b m before = elim (step_cases dig b s new e calls a t m) [ inl old ↦ absurd (before old) | inr now ↦ now ]
+pub step_marks : {dig : Digest} → AdoptMarksByBytes dig → StepMarksByBytes dig
+step_marks {dig} marks s new e calls a t b m before = elim (step_cases dig marks b s new e calls a t m) [ inl old ↦ absurd (before old) | inr now ↦ now ]
 
 -- one event further on
 pub after_step : {dig P s mid last e es c calls a before answer after : _} → Step dig s e c a mid
@@ -307,11 +307,11 @@ at_first {s} mid {e} {es} {c} {calls} t rest by = record {
 }
 
 -- a block that is marked after a run was so before it, or became so within it
-run_cases : {dig s new : _} (es calls answers : _) → Run dig s es calls answers new → {b : _} → state_at new b ≡ Some Marked
+run_cases : {dig s new : _} → AdoptMarksByBytes dig → (es calls answers : _) → Run dig s es calls answers new → {b : _} → state_at new b ≡ Some Marked
     → (state_at s b ≡ Some Marked) ⊎ IsMarkedIn dig s es calls answers new b
-run_cases [] [] [] run {b} m = inl (rw (← run) m)
-run_cases {dig} {s} (e ∷ es) (c ∷ calls) (a ∷ answers) run {b} m = elim (run_cases es calls answers run.2 m) [
-  | inl mid ↦ elim (step_cases dig b s run.0 e c a run.1 mid) [
+run_cases marks [] [] [] run {b} m = inl (rw (← run) m)
+run_cases {dig} {s} marks (e ∷ es) (c ∷ calls) (a ∷ answers) run {b} m = elim (run_cases marks es calls answers run.2 m) [
+  | inl mid ↦ elim (step_cases dig marks b s run.0 e c a run.1 mid) [
     | inl old ↦ inl old
     | inr now ↦ inr (record {
       before = [];
@@ -329,8 +329,8 @@ run_cases {dig} {s} (e ∷ es) (c ∷ calls) (a ∷ answers) run {b} m = elim (r
     marked = after_step run.1 i.marked;
   })
 ]
-run_cases _ _ _ run m = absurd run
+run_cases _ _ _ _ run m = absurd run
 
-pub run_marks : {dig : _} (s new es calls answers : _) → Run dig s es calls answers new
+pub run_marks : {dig : _} → AdoptMarksByBytes dig → (s new es calls answers : _) → Run dig s es calls answers new
     → (b : _) → state_at new b ≡ Some Marked → state_at s b ≢ Some Marked → IsMarkedIn dig s es calls answers new b
-run_marks s new es calls answers run b m before = elim (run_cases es calls _ run m) [ inl old ↦ absurd (before old) | inr now ↦ now ]
+run_marks marks s new es calls answers run b m before = elim (run_cases marks es calls _ run m) [ inl old ↦ absurd (before old) | inr now ↦ now ]

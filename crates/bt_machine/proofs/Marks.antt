@@ -1,5 +1,5 @@
 -- How blocks become marked.
-use Rattle.bt_machine.proofs.Base.{[], ◌≡◌, ℕ, ◌⊎◌, inl, inr, Bool, true, false, List, ◌∷◌, length, Option, Some, None, refl, sym, ap, ◌∙◌, slice_get, slice_set, Contains, ◌&&◌, ◌==◌, is_some, nat_eq, if◌then◌else◌, option_map_or, range_with_len, pointwise, eqb-true, block_length, same_bytes, Facts, value_at, is_waiting, BlockRead, given, failed, block_of, call_of, is_leaf, is_right, IsRight, judged, waiting_blocks, is_waiting_at, BlockState, Missing, Waiting, Marked, BlockId, eq-eqb}
+use Rattle.bt_machine.proofs.Base.{[], ◌≡◌, ℕ, ◌⊎◌, inl, inr, Bool, true, false, List, ◌∷◌, length, Option, Some, None, refl, sym, ap, ◌∙◌, slice_get, slice_set, Contains, ◌&&◌, ◌==◌, is_some, if◌then◌else◌, option_map_or, range_with_len, nat_eq, pointwise, bytes_eq-Decides, eqb-true, block_length, Facts, value_at, is_waiting, BlockRead, given, failed, block_of, call_of, is_leaf, is_right, IsRight, judged, waiting_blocks, is_waiting_at, BlockState, Missing, Waiting, Marked, BlockId, eq-eqb}
 use Rattle.bt_machine.proofs.Machine.{Digest, FileState, EngineState, DeviceCalls, reads_at, state_at, tree_of, with_file, file_numbers, judged_file, due_blocks, SettlesIn}
 use Rattle.bt_machine.proofs.Lists.{set_cases, and_then_some, map_some, and_true, here, later, contains_none, contains_filter, map_contains, flat_map_contains, some_below, range_contains}
 
@@ -19,7 +19,7 @@ file_marked s {file} new b e =
 -- bytes by which a leaf is told are those of the digest
 leaf_then : (o : Option (List ℕ)) {d : _} → is_leaf o d ≡ true → o ≡ Some d
 leaf_then None e = absurd cc
-leaf_then (Some x) {d} e = ap (λ y. Some y) (same_bytes x d (pointwise nat_eq x d) refl e)
+leaf_then (Some x) {d} e = ap (λ y. Some y) ((bytes_eq-Decides x d).0 e)
 
 pub right_then : {dig k i bytes : _} → is_right dig k i bytes ≡ true → IsRight dig k i bytes
 right_then {dig} {k} {i} {bytes} e =

@@ -1,5 +1,5 @@
 -- The tree after a group answers the keys that ask for what the group taught.
-use Rattle.bt_machine.proofs.Base.{[], ◌≡◌, ℕ, zero, suc, ◌+◌, ◌-◌, ◌*◌, ◌/◌, ◌%◌, ◌^◌, ◌<◌, ◌≤◌, inl, inr, min, Bool, true, false, List, ◌∷◌, length, map, replicate, get_or, Option, Some, refl, sym, ap, ◌∙◌, arith, length-append, Contains, ◌&&◌, ◌==◌, if◌then◌else◌, div-add-mod, mul_assoc, add-mul, div-div-eq-div-mul, mul-mod_left, lt_of_mul-lt-mul_right, mul-le-mul_right, cases_lt, lt-ltb, le-ltb, eqb-true, div-mul-add, pow-add, pow_pos, length-map, length-replicate, length-range_with_len, padding_digest, height_of, IsInside, row_node, pow_le, Facts, blocks_of, height, value_at, in_run, run_digest, sibling_of, Claim, IsRequest, answer_size, answer_layer, answer_index, Accepts, value_covers, value_padding, cases_node, claimed_inside, double_div, half_sibling, max_run_height, planned_key, HashKey, height_of-pow, BlockRead, block_of, IsUnknownGroup, claimed_digest, claim_of_reads, none, known, accepted, not_accepted as refused, short, unread}
+use Rattle.bt_machine.proofs.Base.{[], ◌≡◌, ℕ, zero, suc, ◌+◌, ◌-◌, ◌*◌, ◌/◌, ◌%◌, ◌^◌, ◌<◌, ◌≤◌, inl, inr, min, Bool, true, false, List, ◌∷◌, length, map, replicate, get_or, Option, Some, refl, sym, ap, ◌∙◌, arith, length-append, Contains, ◌&&◌, ◌==◌, if◌then◌else◌, div-add-mod, mul_assoc, add-mul, div-div-eq-div-mul, mul-mod_left, lt_of_mul-lt-mul_right, mul-le-mul_right, cases_lt, lt-ltb, le-ltb, eqb-true, div-mul-add, pow-add, pow_pos, length-map, length-replicate, length-range_with_len, padding_digest, HeightsAreLeast, height_of, IsInside, row_node, pow_mono, Facts, blocks_of, height, value_at, in_run, run_digest, sibling_of, Claim, IsRequest, answer_size, answer_layer, answer_index, Accepts, value_covers, value_padding, cases_node, below_node, double_div, half_sibling, max_run_height, planned_key, HashKey, height_of-pow, BlockRead, block_of, IsUnknownGroup, claimed_digest, claim_of_reads, none, known, accepted, not_accepted as refused, short, unread}
 use Rattle.bt_machine.proofs.Machine.{Digest, group_blocks, run_starts, HasAnswer, ProofKeysAreAnswered}
 use Rattle.bt_store.specs.Adoption.{AreWhole}
 use Rattle.bt_machine.proofs.Lists.{range_limits, contains_none, contains_map, contains_filter}
@@ -12,7 +12,7 @@ far_div i a b = div-div-eq-div-mul i (2 ^ a) (2 ^ b) ∙ ap (λ p. i / p) (sym (
 
 -- ---- what was claimed of a group is known
 
-module _ (dig : Digest) (k grown : Facts) (anchor first count : ℕ) (reads : List BlockRead) where
+module _ (dig : Digest) (heights : HeightsAreLeast) (k grown : Facts) (anchor first count : ℕ) (reads : List BlockRead) where
   abbrev group_claim : Claim
   group_claim = claim_of_reads dig k.file_length anchor first reads
 
@@ -27,7 +27,8 @@ module _ (dig : Digest) (k grown : Facts) (anchor first count : ℕ) (reads : Li
   known_below : AreWhole k.file_length first count reads → count ≤ 2 ^ anchor → Accepts dig k group_claim grown
       → (layer i : ℕ) → layer ≤ anchor → i / 2 ^ (anchor - layer) ≡ first / 2 ^ anchor → (d : List ℕ) × (value_at dig grown layer i ≡ Some d)
   known_below whole few accepts layer i low under =
-      let height_is = height_of-pow (length group_claim.run) anchor (run_size whole few) in
+      let size = run_size whole few in
+      let height_is = height_of-pow heights (length group_claim.run) anchor size in
       let d = row_node dig (run_digest group_claim) layer i in
       let claim = in_run record {
         above = layer;
@@ -37,8 +38,15 @@ module _ (dig : Digest) (k grown : Facts) (anchor first count : ℕ) (reads : Li
         digest = refl;
       } in
       let blocks : blocks_of grown ≡ blocks_of k = cc in
-      let at = claimed_inside dig (height k) group_claim layer i d accepts.conditions.shape claim in
-      let inside : IsInside (blocks_of k) layer i = record { in_height = at.0; in_width = at.1 } in
+      let shape = accepts.conditions.shape in
+      let high : anchor ≤ height k = omega (arith, shape.in_height, height_is) in
+      let room : first + length group_claim.run ≤ 2 ^ (height k - 0) = shape.in_width in
+      let flat : height k - 0 ≡ height k = omega arith in
+      let wide : 2 ^ (height k - 0) ≡ 2 ^ height k = ap (λ n. 2 ^ n) flat in
+      let inside : IsInside (blocks_of k) layer i = record {
+        in_height = omega arith;
+        in_width = below_node (height k) anchor layer first i high low (omega (arith, room, wide, size)) under;
+      } in
       elim (cases_node (blocks_of k) layer i inside) [
         | inl covers ↦ (d, value_covers dig grown layer i (rw blocks covers) ∙ accepts.joins.added layer i d claim covers)
         | inr past ↦ (padding_digest dig layer, value_padding dig grown layer i (rw blocks past))
@@ -83,7 +91,7 @@ index_uncle index count t =
 
 -- ---- the key of a run below the group's node
 
-module _ (dig : Digest) (k grown : Facts) (from anchor first count : ℕ) (reads : List BlockRead) where
+module _ (dig : Digest) (heights : HeightsAreLeast) (k grown : Facts) (from anchor first count : ℕ) (reads : List BlockRead) where
   few_blocks : IsUnknownGroup k from anchor first count → count ≤ 2 ^ anchor
   few_blocks group = omega arith
 
@@ -128,10 +136,10 @@ module _ (dig : Digest) (k grown : Facts) (from anchor first count : ℕ) (reads
       index = omega (arith, div-add-mod i (2 ^ m), aligned)
 
       top : height_of (2 ^ m) ≡ m
-      top = height_of-pow (2 ^ m) m refl
+      top = height_of-pow heights (2 ^ m) m refl
 
-      heights : height grown ≡ height k
-      heights = cc
+      same_height : height grown ≡ height k
+      same_height = cc
 
       below : i < (from / 2 ^ anchor + 1) * 2 ^ anchor
       below = omega arith
@@ -141,13 +149,13 @@ module _ (dig : Digest) (k grown : Facts) (from anchor first count : ℕ) (reads
 
       request : IsRequest (height grown) 0 (i / 2 ^ m * 2 ^ m) (2 ^ m) (anchor - 1)
       request = record {
-        some = pow_le 1 m least;
+        some = pow_mono least;
         power = ap (λ h. 2 ^ h) (sym top);
-        limit = pow_le m 9 most;
+        limit = pow_mono most;
         aligned = mul-mod_left (i / 2 ^ m) (2 ^ m);
-        low = omega (arith, top, under, heights);
-        in_width = rw heights (omega (arith, run_size dig k grown _ first count reads whole (few_blocks group), index, ends, start, add-mul (from / 2 ^ anchor) 1 (2 ^ anchor)));
-        proof = omega (arith, heights);
+        low = omega (arith, top, under, same_height);
+        in_width = rw same_height (omega (arith, run_size dig heights k grown _ first count reads whole (few_blocks group), index, ends, start, add-mul (from / 2 ^ anchor) 1 (2 ^ anchor)));
+        proof = omega (arith, same_height);
       }
 
       over : first / 2 ^ anchor ≡ from / 2 ^ anchor
@@ -157,7 +165,7 @@ module _ (dig : Digest) (k grown : Facts) (from anchor first count : ℕ) (reads
       leaf_over j le lt = leaf_under j (omega (arith, start, low)) (omega (arith, ends)) ∙ sym over
 
       known_at : (layer j : ℕ) → layer ≤ anchor → j / 2 ^ (anchor - layer) ≡ first / 2 ^ anchor → (d : List ℕ) × (value_at dig grown layer j ≡ Some d)
-      known_at = known_below dig k grown _ first count reads whole (few_blocks group) accepts
+      known_at = known_below dig heights k grown _ first count reads whole (few_blocks group) accepts
 
       at_node : (t : ℕ) {layer j : ℕ} → answer_layer 0 (2 ^ m) t ≡ layer → answer_index (i / 2 ^ m * 2 ^ m) (2 ^ m) t ≡ j
           → (d : List ℕ) × (value_at dig grown layer j ≡ Some d)
@@ -197,10 +205,10 @@ module _ (dig : Digest) (k grown : Facts) (from anchor first count : ℕ) (reads
           → value_at dig grown (answer_layer 0 (2 ^ m) t) (answer_index (i / 2 ^ m * 2 ^ m) (2 ^ m) t) ≡ Some (get_or ds t []))
       answers = listed _ (λ t. value_at dig grown (answer_layer 0 (2 ^ m) t) (answer_index (i / 2 ^ m * 2 ^ m) (2 ^ m) t)) each
 
-pub proof_keys_answered : (dig : Digest) → ProofKeysAreAnswered dig
-proof_keys_answered dig k grown from old new reads adopted key (none end) c = absurd (contains_none c)
-proof_keys_answered dig k grown from old new reads adopted key (known count rs group order) c = absurd (contains_none c)
-proof_keys_answered dig k grown from old new reads adopted key (accepted anchor first count rs g group whole accepts) c = by _ c
+pub proof_keys_answered : (dig : Digest) → HeightsAreLeast → ProofKeysAreAnswered dig
+proof_keys_answered dig heights k grown from old new reads adopted key (none end) c = absurd (contains_none c)
+proof_keys_answered dig heights k grown from old new reads adopted key (known count rs group order) c = absurd (contains_none c)
+proof_keys_answered dig heights k grown from old new reads adopted key (accepted anchor first count rs g group whole accepts) c = by _ c
   where
     by : (b : Bool)
         → Contains (if b then map (λ i. planned_key g i anchor) (run_starts anchor (group_blocks from (record { next = first + count; anchor = anchor; marked = count; faults = 0 }))) else []) key
@@ -211,8 +219,8 @@ proof_keys_answered dig k grown from old new reads adopted key (accepted anchor 
         let run = contains_filter (λ i. i % 2 ^ min anchor max_run_height == 0) _ m.1 in
         let start = group.starts in
         let inside = range_limits _ _ run.0 in
-        rw (← m.2) (key_answer dig k g from _ first count rs m.0 group whole accepts refl (eqb-true (m.0 % 2 ^ min anchor max_run_height) 0 run.1)
+        rw (← m.2) (key_answer dig heights k g from _ first count rs m.0 group whole accepts refl (eqb-true (m.0 % 2 ^ min anchor max_run_height) 0 run.1)
         (omega arith) (omega arith))
-proof_keys_answered dig k grown from old new reads adopted key (refused anchor first count rs error group whole why other) c = absurd (none_taught _ _ c)
-proof_keys_answered dig k grown from old new reads adopted key (short anchor first count rs group order faults few) c = absurd (none_taught _ _ c)
-proof_keys_answered dig k grown from old new reads adopted key (unread anchor first count rs group order some) c = absurd (contains_none c)
+proof_keys_answered dig heights k grown from old new reads adopted key (refused anchor first count rs error group whole why other) c = absurd (none_taught _ _ c)
+proof_keys_answered dig heights k grown from old new reads adopted key (short anchor first count rs group order faults few) c = absurd (none_taught _ _ c)
+proof_keys_answered dig heights k grown from old new reads adopted key (unread anchor first count rs group order some) c = absurd (contains_none c)

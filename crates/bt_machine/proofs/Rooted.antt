@@ -1,9 +1,9 @@
 -- Trees stay rooted, and with digests of 32 bytes.
-use Rattle.bt_machine.proofs.Base.{[], ◌≡◌, ◌-◌, arith, inl, inr, ◌∷◌, sym, ◌<◌, ◌∙◌, blocks_of, height, IsRooted, IsChecked, keeps_rooted, held_is_checked, value_covers, CoversBlock, real_width, real_limit, IsRight, PeerMessage as Sent, Have, Bitfield, Request, Piece, Hashes, HashReject, Message, ℕ, List, Some, slice_get, Facts, HashKey, Claim, Accepts, BlockState, BlockRead, Adopted, adopt_extends, IsDigest}
+use Rattle.bt_machine.proofs.Base.{[], ◌≡◌, ◌-◌, arith, inl, inr, ◌∷◌, sym, ◌<◌, ◌∙◌, blocks_of, height, IsRooted, IsChecked, KeepsRooted, HeldIsChecked, value_covers, value_inside, CoversBlock, real_width, IsRight, PeerMessage as Sent, Have, Bitfield, Request, Piece, Hashes, HashReject, Message, ℕ, List, Some, slice_get, Facts, HashKey, Claim, Accepts, BlockState, BlockRead, Adopted, IsDigest}
 use Rattle.bt_machine.proofs.Machine.{Digest, Connect, Feed, Next, Lost, Rechoke, Adopt, Flush, with_tree, FindsFault, damaged, fault, HandlesRequest, ignored, no_place, not_marked, served, stopped, HandlesPiece, stale, arrives, HandlesHashes, unknown_root, no_claim, refused, accepts_hashes, HandlesHave, in_range, out_of_range, HandlesBitfield, right, wrong, HandlesMessage, Handles, StepNext, no_peer, waits, keeps_peer, closes, faulty, no_memory, StepConnect, joins, full, spent, no_room, StepFeed, feeds, not_fed, no_room as no_room_to_feed, StepLost, goes, not_fed as not_lost, FollowsEach, StepRechoke, rechokes, not_rechoked, AdoptsGroup, AdoptsGroups, StepAdopt, no_file, busy, empty, adopts, not_adopted, StepFlush, syncs, fails, Run, AreRooted, StepKeepsRooted, AreChecked, EngineState, Event, Answer, DeviceCalls, Step}
 use Rattle.bt_machine.proofs.Lists.{set_cases}
 use Rattle.bt_sparse.specs.SparseTree.{IsSound}
-use Rattle.bt_store.specs.Adoption.{Adopts}
+use Rattle.bt_store.specs.Adoption.{Adopts, accepted}
 use Rattle.bt_hashreq.specs.Claim.{IsClaimBy}
 use Rattle.bt_machine.specs.Frames.{AreSparseTrees}
 use Rattle.bt_machine.proofs.Digests.{key_sound, group_sound}
@@ -134,33 +134,31 @@ module _ (dig : Digest) (P : Facts → Type 0)
 
 -- ---- trees stay rooted
 
-key_rooted : (dig : Digest) (k new : Facts) (key : HashKey) (digests : List ℕ) (claim : Claim) → IsClaimBy key digests claim → Accepts dig k claim new
+key_rooted : (dig : Digest) → KeepsRooted dig → (k new : Facts) (key : HashKey) (digests : List ℕ) (claim : Claim) → IsClaimBy key digests claim → Accepts dig k claim new
     → IsRooted dig k → IsRooted dig new
-key_rooted dig k new key digests claim by a r = keeps_rooted dig k new claim a r
+key_rooted dig keeps k new key digests claim by a r = keeps k new claim a r
 
-group_rooted : (dig : Digest) (k grown : Facts) (from : ℕ) (old new : List BlockState) (reads : List BlockRead) (adopted : Adopted)
+group_rooted : (dig : Digest) → KeepsRooted dig → (k grown : Facts) (from : ℕ) (old new : List BlockState) (reads : List BlockRead) (adopted : Adopted)
     → Adopts dig k from old reads adopted grown new → IsRooted dig k → IsRooted dig grown
-group_rooted dig k grown from old new reads adopted a r = (adopt_extends dig k grown from old new reads adopted a).rooted r
+group_rooted dig keeps k grown from old new reads adopted (accepted anchor first count rs g group whole accepts) r = keeps k grown _ accepts r
+group_rooted dig keeps k grown from old new reads adopted _ r = r
 
-pub step_rooted : (dig : Digest) → StepKeepsRooted dig
-step_rooted dig s new event calls answer = step_trees dig (IsRooted dig) (key_rooted dig) (group_rooted dig) s new event calls answer
+pub step_rooted : (dig : Digest) → KeepsRooted dig → StepKeepsRooted dig
+step_rooted dig keeps s new event calls answer = step_trees dig (IsRooted dig) (key_rooted dig keeps) (group_rooted dig keeps) s new event calls answer
 
-pub run_rooted : (dig : Digest) (s new es calls answers : _) → Run dig s es calls answers new → AreRooted dig s → AreRooted dig new
-run_rooted dig = run_trees dig (IsRooted dig) (key_rooted dig) (group_rooted dig)
+pub run_rooted : (dig : Digest) → KeepsRooted dig → (s new es calls answers : _) → Run dig s es calls answers new → AreRooted dig s → AreRooted dig new
+run_rooted dig keeps = run_trees dig (IsRooted dig) (key_rooted dig keeps) (group_rooted dig keeps)
 
 -- ---- and what sparse trees are
 
-pub run_sparse : (dig : Digest) → IsDigest dig → (s new es calls answers : _) → Run dig s es calls answers new → AreSparseTrees dig s → AreSparseTrees dig new
-run_sparse dig is = run_trees dig (IsSound dig) (key_sound dig is) (group_sound dig is)
+pub run_sparse : (dig : Digest) → IsDigest dig → KeepsRooted dig → (s new es calls answers : _) → Run dig s es calls answers new → AreSparseTrees dig s → AreSparseTrees dig new
+run_sparse dig is keeps = run_trees dig (IsSound dig) (key_sound dig is keeps) (group_sound dig is keeps)
 
-pub rooted_checked : (dig : Digest) (s : _) → AreRooted dig s → AreChecked dig s
-rooted_checked dig s rooted t k at layer i d held =
-    let has_tree = rooted t k at in
-    held_is_checked dig k has_tree (height k - layer) layer i d (omega (arith, (has_tree.covers layer i d held).inside.in_height)) held
+pub rooted_checked : (dig : Digest) → HeldIsChecked dig → (s : _) → AreRooted dig s → AreChecked dig s
+rooted_checked dig is_checked s rooted t k at layer i d held = is_checked k (rooted t k at) layer i d held
 
-pub right_checked : {dig : _} (k i bytes : _) → IsRooted dig k → i < blocks_of k → IsRight dig k i bytes → IsChecked dig k 0 i (dig bytes)
-right_checked {dig} k i bytes rooted lt exact =
+pub right_checked : {dig : _} → HeldIsChecked dig → (k i bytes : _) → IsRooted dig k → i < blocks_of k → IsRight dig k i bytes → IsChecked dig k 0 i (dig bytes)
+right_checked {dig} is_checked k i bytes rooted lt exact =
     let real : real_width (blocks_of k) 0 ≡ blocks_of k = omega arith in
-    let wide = real_limit (blocks_of k) 0 (omega arith) in
-    let covers : CoversBlock (blocks_of k) 0 i = record { inside = record { in_height = omega arith; in_width = omega arith }; real = omega arith } in
-    held_is_checked dig k rooted (height k - 0) 0 i (dig bytes) (omega arith) (sym (value_covers dig k 0 i covers) ∙ exact.leaf)
+    let covers : CoversBlock (blocks_of k) 0 i = record { inside = value_inside dig k 0 i (dig bytes) exact.leaf; real = omega arith } in
+    is_checked k rooted 0 i (dig bytes) (sym (value_covers dig k 0 i covers) ∙ exact.leaf)

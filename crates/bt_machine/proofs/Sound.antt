@@ -1,5 +1,5 @@
 -- Marked blocks stay right on honest devices.
-use Rattle.bt_machine.proofs.Base.{[], ◌≡◌, ◌≢◌, ℕ, ◌*◌, ◌⊎◌, inl, inr, Bool, true, false, List, ◌∷◌, length, take, drop, Option, Some, refl, sym, ap, ◌∙◌, subst, slice_get, Contains, ◌==◌, eqb-true, eq-eqb, full_block_length, block_length, History, after_write, Call, bytes_given, bytes_written, write_fault, length_set, resize_fault, sync_made, AreAnswered, AfterWriteFault, Facts, value_at, given, call_of, IsRight, Missing, Marked}
+use Rattle.bt_machine.proofs.Base.{[], ◌≡◌, ◌≢◌, ℕ, ◌*◌, ◌⊎◌, inl, inr, Bool, true, false, List, ◌∷◌, length, take, drop, Option, Some, refl, sym, ap, ◌∙◌, subst, slice_get, Contains, ◌==◌, eqb-true, eq-eqb, full_block_length, block_length, History, after_write, Call, bytes_given, bytes_written, write_fault, length_set, resize_fault, sync_made, AreAnswered, AfterWriteFault, Facts, value_at, given, call_of, IsRight, Missing, Marked, AdoptMarksByBytes}
 use Rattle.bt_machine.proofs.Machine.{Digest, FileState, DeviceCalls, calls_of, block_id, state_at, tree_of, stored_block, AreRight, Step, brought, read_back, found, IsSound, StepKeepsSound, RunOn, CompleteFilesStand, KeepsBytes}
 use Rattle.bt_disk.specs.Calls.{IsAnswered}
 use Rattle.bt_machine.proofs.Lists.{here, later, contains_none, contains_cases, contains_filter, contains_map}
@@ -128,7 +128,7 @@ kept_block dig {files} {trees} file i {f} {k} {calls} old new at has_tree marked
           | inr failed ↦ torn _ i _ old new bytes apart long whole (let x = subst (λ c. IsAnswered old c new) failed answer in x)
         ]
 
-module _ {D : Type 0} (history : D → History) (honest : D → Type 0) (faults : D → ℕ) (dig : Digest) where
+module _ {D : Type 0} (history : D → History) (honest : D → Type 0) (faults : D → ℕ) (dig : Digest) (marks : AdoptMarksByBytes dig) where
   block_right : (old new event calls answer file : _) {i f k : _} (before after : History) → Step dig old event calls answer new
       → slice_get new.files file ≡ Some f → slice_get new.trees f.tree ≡ Some k → AreAnswered before (calls_of file calls) after
       → ((g : FileState) (l : Facts) → slice_get old.files file ≡ Some g → slice_get old.trees g.tree ≡ Some l → AreRight dig l before.now.bytes g.states)
@@ -139,7 +139,7 @@ module _ {D : Type 0} (history : D → History) (honest : D → Type 0) (faults 
       let b = block_id file i in
       let now : state_at new b ≡ Some Marked = cc in
       let tree : tree_of new file ≡ Some k = cc in
-      elim (step_cases dig b old new event calls _ step now) [
+      elim (step_cases dig marks b old new event calls _ step now) [
         | inl was ↦
             let marked_before : slice_get grown.old_file.states i ≡ Some Marked = cc in
             let r = sound grown.old_file grown.old_tree grown.here grown.has_tree i marked_before in
@@ -189,6 +189,7 @@ module _ {D : Type 0} (history : D → History) (honest : D → Type 0) (faults 
       run_sound run.0 new es calls answers run.1 after run.4 (step_sound old run.0 e c a disks run.1 run.2 run.3 sound)
   run_sound old new _ _ _ disks after run sound = absurd run
 
+module _ {D : Type 0} (history : D → History) (honest : D → Type 0) (faults : D → ℕ) (dig : Digest) where
   pub complete_stands : CompleteFilesStand history honest dig
   complete_stands s disks file f k d rooted sound is_file some marked there honest_now =
       complete_root k _ _ (rooted f.tree k is_file.has_tree) some marked (sound file f k d is_file there honest_now)

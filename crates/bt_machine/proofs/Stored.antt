@@ -109,13 +109,11 @@ node_is {dig} {k} bytes rooted whole right zero {i} inside =
     ]
 node_is {dig} {k} bytes rooted whole right (suc layer) {i} inside =
     let file = take k.file_length bytes in
-    let next : layer + 1 ≡ suc layer = omega arith in
     let low : layer < height k = inside.in_height in
     let room : 2 ^ (height k - layer) ≡ 2 ^ (height k - suc layer) * 2 = (let up : height k - layer ≡ suc (height k - suc layer) = omega arith in ap (λ e. 2 ^ e) up) ∙ pow-suc 2 (height k - suc layer) in
     let left : IsInside (blocks_of k) layer (2 * i) = record { in_height = omega arith; in_width = omega arith } in
     let right_one : IsInside (blocks_of k) layer (2 * i + 1) = record { in_height = omega arith; in_width = omega arith } in
-    ap (λ l. value_at dig k l i) (sym next)
-    ∙ value_above dig k layer i _ _ rooted low (node_is bytes rooted whole right layer left) (node_is bytes rooted whole right layer right_one)
+    value_above dig k layer i _ _ rooted low (node_is bytes rooted whole right layer left) (node_is bytes rooted whole right layer right_one)
     ∙ ap (λ x. Some x) (sym (node_parent dig file layer i))
 
 pub complete_root : {dig : _} (k bytes states : _) → IsRooted dig k → 0 < k.file_length

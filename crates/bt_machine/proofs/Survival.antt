@@ -1,11 +1,10 @@
 -- What a crash leaves once a flush answered Ok.
+use Rattle.std.proofs.lemmas.List.{ext_get_or}
 use Rattle.std.proofs.lemmas.Option.{slice_get_within, get_or_from_slice_get, slice_get-get_or}
 use Rattle.bt_disk.specs.State.{synced_state}
 use Rattle.bt_disk.specs.History.{moment_of, after_sync}
 use Rattle.bt_disk.specs.Calls.{IsAnswered}
-use Rattle.bt_disk.proofs.Images.{synced_image}
-use Rattle.bt_disk.proofs.Histories.{kept_from_now}
-use Rattle.bt_machine.proofs.Base.{[], ◌≡◌, ℕ, ◌+◌, ◌-◌, ◌*◌, ◌<◌, Bool, true, false, not, inl, inr, List, ◌∷◌, length, get_or, Some, Ok, refl, sym, ap, ◌∙◌, subst, arith, slice_get, Contains, ◌==◌, cases_lt, eqb-true, same_number_lists, block_length, IsImage, History, Call, sync_made, AreAnswered, Facts, IsRight, BlockState, Marked, option_map_or}
+use Rattle.bt_machine.proofs.Base.{[], ◌≡◌, ℕ, ◌+◌, ◌-◌, ◌*◌, ◌<◌, Bool, true, false, not, inl, inr, List, ◌∷◌, length, get_or, Some, Ok, refl, sym, ap, ◌∙◌, subst, arith, slice_get, Contains, ◌==◌, cases_lt, eqb-true, same_number_lists, block_length, CallsKeepBytes, KeptFromNow, AdoptMarksByBytes, IsImage, History, Call, sync_made, AreAnswered, Facts, IsRight, BlockState, Marked, option_map_or}
 use Rattle.bt_machine.proofs.Machine.{Digest, Flush, FileState, EngineState, DeviceCalls, calls_of, state_at, block_id, file_numbers, IsFile, StepFlush, syncs, fails, syncs_of, data_files, Flushed, stored_block}
 use Rattle.bt_machine.specs.Blocks.{states_of}
 use Rattle.bt_machine.specs.Crash.{IsBlockKept}
@@ -45,6 +44,12 @@ block_stands n i bytes image size each =
     (λ j lt. index_at n image i j (omega arith) ∙ get_or_from_slice_get image (16384 * i + j) _ 0 (at j (omega arith)))
 
 -- ---- syncs
+
+-- where all is on the medium, a crash leaves what a read gives
+synced_image : (bytes image : List ℕ) → IsImage (synced_state bytes) image → image ≡ bytes
+synced_image bytes image left =
+    ext_get_or 0 image bytes (omega (arith, left.no_shorter, left.no_longer))
+    (λ i lt. left.kept i (omega (arith, left.no_longer)) (λ k d none. absurd (omega arith)))
 
 -- after syncs that succeeded, all is on the medium
 synced : (old new : History) (call : Call) (calls : _) → ((c : Call) → Contains (call ∷ calls) c → c ≡ sync_made)
@@ -90,7 +95,7 @@ has_device s file i {f} at marked =
 only_syncs : (files file : _) {c : Call} → Contains (syncs_of files) (file, c) → c ≡ sync_made
 only_syncs files file among = let m = contains_map (λ file. (file, sync_made)) files among in ap (λ x. x.1) (sym m.2)
 
-module _ {D : Type 0} (history : D → History) (honest : D → Type 0) (faults : D → ℕ) (dig : Digest) where
+module _ {D : Type 0} (history : D → History) (honest : D → Type 0) (faults : D → ℕ) (dig : Digest) (kept_from_now : KeptFromNow) where
   pub flush_kept : FlushKeepsBlocks history honest faults dig
   flush_kept old new calls disks after file i f k e step have is marked there honest_now j byte at =
       let f_is = flushed step.2 (flush_ok step.1) in
@@ -126,7 +131,7 @@ goes_on file i {f} {k} keeps is marked =
       same_length = tree.length;
     }
 
-module _ {D : Type 0} (history : D → History) (honest : D → Type 0) (faults : D → ℕ) (dig : Digest) (reads : (d : D) → honest d → IsImage (history d).now (history d).now.bytes) where
+module _ {D : Type 0} (history : D → History) (honest : D → Type 0) (faults : D → ℕ) (dig : Digest) (marks : AdoptMarksByBytes dig) (calls_keep : CallsKeepBytes) (reads : (d : D) → honest d → IsImage (history d).now (history d).now.bytes) where
   pub images_run : RunKeepsImages history honest faults dig
   images_run old new [] [] [] disks after file i t f k bytes e run sound is marked size there honest_now kept =
       kept e (ap (λ l. slice_get l file) (sym run.1) ∙ there)
@@ -137,29 +142,29 @@ module _ {D : Type 0} (history : D → History) (honest : D → Type 0) (faults 
       let then = goes_on file i (step_keeps dig x c a run.2) is still in
       let one : (d : D) → slice_get run.1 file ≡ Some (Some d) → IsBlockKept (history d) t i bytes = λ d at.
       (let same : d ≡ mid.0 = cc in
-      images_kept history honest faults dig reads old run.0 x c a disks run.1 file i t f k bytes d run.2 run.3 is (λ gone. absurd cc) size at (rw same mid.2) kept) in
+      images_kept history honest faults dig calls_keep reads old run.0 x c a disks run.1 file i t f k bytes d run.2 run.3 is (λ gone. absurd cc) size at (rw same mid.2) kept) in
       images_run run.0 new xs calls answers run.1 after file i t then.state then.tree bytes e run.4
-      (step_sound history honest faults dig old run.0 x c a disks run.1 run.2 run.3 sound) then.is_file then.marked (size ∙ ap (λ n. block_length n i) (sym then.same_length)) there honest_now one
+      (step_sound history honest faults dig marks old run.0 x c a disks run.1 run.2 run.3 sound) then.is_file then.marked (size ∙ ap (λ n. block_length n i) (sym then.same_length)) there honest_now one
   images_run old new _ _ _ disks after file i t f k bytes e run sound is marked size there honest_now kept = absurd run
 
-  pub flushed_survive : FlushedBlocksSurvive history honest faults dig
-  flushed_survive old mid new made events calls answers disks flushed_disks after file i f k d e sound step have run is marked there_then there honest_now image left =
+  pub flushed_survive : KeptFromNow → FlushedBlocksSurvive history honest faults dig
+  flushed_survive kept_from_now old mid new made events calls answers disks flushed_disks after file i f k d e sound step have run is marked there_then there honest_now image left =
       let back = device_before history honest faults dig mid new events calls answers flushed_disks after file run there honest_now in
       let same : d ≡ back.0 = cc in
       let honest_then : honest d = rw same back.2 in
       let f_is = flushed step.2 (flush_ok step.1) in
       let is_then : IsFile mid file f k = rw f_is.same is in
-      let sound_then = step_sound history honest faults dig old mid Flush made _ disks flushed_disks step have sound in
+      let sound_then = step_sound history honest faults dig marks old mid Flush made _ disks flushed_disks step have sound in
       let right = sound_then file f k d is_then there_then honest_then i marked in
-      let kept = flush_kept history honest faults dig old mid made disks flushed_disks file i f k d step have is_then marked there_then honest_then in
+      let kept = flush_kept history honest faults dig kept_from_now old mid made disks flushed_disks file i f k d step have is_then marked there_then honest_then in
       let each : (x : D) → slice_get flushed_disks file ≡ Some (Some x) → IsBlockKept (history x) (moment_of (history d)) i (stored_block k.file_length (history d).now.bytes i) = λ x at.
       (let one : x ≡ d = cc in rw one kept) in
       let last = images_run mid new events calls answers flushed_disks after file i (moment_of (history d)) f k _ e run sound_then is_then marked right.whole there honest_now each in
       subst (IsRight dig k i)
       (sym (block_stands k.file_length i (stored_block k.file_length (history d).now.bytes i) image right.whole (λ j byte at. last j byte at image left))) right
 
-  pub flushes_kept : RunsKeepFlushedBlocks history honest faults dig
-  flushes_kept torrent first old mid new events later calls later_calls made answers later_answers disks before flushed_disks after file i f k d e starts run step have goes is marked there_then there honest_now =
-      flushed_survive old mid new made later later_calls later_answers before flushed_disks after file i f k d e
-      (run_sound history honest faults dig first old events calls answers disks before run (start_sound history honest faults dig disks starts))
+  pub flushes_kept : KeptFromNow → RunsKeepFlushedBlocks history honest faults dig
+  flushes_kept kept_from_now torrent first old mid new events later calls later_calls made answers later_answers disks before flushed_disks after file i f k d e starts run step have goes is marked there_then there honest_now =
+      flushed_survive kept_from_now old mid new made later later_calls later_answers before flushed_disks after file i f k d e
+      (run_sound history honest faults dig marks first old events calls answers disks before run (start_sound history honest faults dig disks starts))
       step have goes is marked there_then there honest_now

@@ -2,7 +2,7 @@
 use Rattle.bt_machine.proofs.Base.{[], ◌≡◌, ℕ, ◌*◌, ◌⊎◌, inl, inr, List, ◌∷◌, ◌++◌, length, Some, Result, Ok, Err, refl, sym, ap, ◌∙◌, slice_get, slice_set, flat_map, Contains-append_cases, full_block_length, block_length, Call, bytes_written, write_fault, sync_made, sync_fault, Facts, blocks_of, held_at, value_at, value_inside, value_covers, value_padding, cases_node, BlockRead, given, failed, call_of, PutIsDue, calls_of_put, states_after_put, Missing, StoreError, Range, DeviceFault, Put, Already, Wrong, PutMarked, PutWaiting, BlockId, PeerMessage as Sent, KeepAlive, Choke, Unchoke, Interested, NotInterested, Have, Bitfield, Request, Piece, Cancel, HashRequest, Hashes, HashReject, Hello, Message, Skipped}
 use Rattle.bt_machine.proofs.Machine.{Digest, Connect, Feed, Next, Lost, Rechoke, Adopt, Flush, FileState, EngineState, DeviceCalls, calls_at, reads_at, with_file, with_tree, SettlesIn, FindsFault, damaged, fault, HandlesRequest, ignored, no_place, not_marked, served, stopped, Arrives, HandlesPiece, stale, arrives, HandlesHashes, unknown_root, no_claim, refused, accepts_hashes, HandlesHave, in_range, out_of_range, HandlesBitfield, right, wrong, HandlesMessage, Handles, StepNext, no_peer, waits, keeps_peer, closes, faulty, no_memory, StepConnect, joins, full, spent, no_room, StepFeed, feeds, not_fed, no_room as no_room_to_feed, StepLost, goes, not_fed as not_lost, FollowsEach, StepRechoke, rechokes, not_rechoked, AdoptsGroup, AdoptsGroups, StepAdopt, no_file, busy, empty, adopts, not_adopted, StepFlush, syncs_of, syncs, fails, Step, KeepsBytes, AllKeepBytes, IsWriteOfMissing, StepWritesMissing}
 use Rattle.bt_machine.proofs.Lists.{set_cases, map_some, contains_none, contains_cases, contains_map, contains_flat_map}
-use Rattle.bt_machine.proofs.Adopting.{group_extends}
+use Rattle.bt_machine.proofs.Adopting.{value_kept, group_extends}
 
 -- where a file's tree comes from
 pub record GrownFrom (dig : Digest) (files : List FileState) (trees : List Facts) (file : ℕ) (new : Facts) : Type 0 where
@@ -26,16 +26,6 @@ pub data Touches (files : List FileState) (trees : List Facts) (calls : DeviceCa
 
 abbrev pub Tame : (List ℕ → List ℕ) → List FileState → List Facts → DeviceCalls → EngineState → Type 0
 Tame dig files trees calls mid = Grows dig files trees mid × Touches files trees calls
-
-value_kept : (dig : Digest) (old new : Facts) → new.file_length ≡ old.file_length
-    → ((l i : ℕ) (d : List ℕ) → held_at old l i ≡ Some d → held_at new l i ≡ Some d) → (l i d : _) → value_at dig old l i ≡ Some d
-    → value_at dig new l i ≡ Some d
-value_kept dig old new size kept l i d e =
-    let blocks : blocks_of new ≡ blocks_of old = cc in
-    elim (cases_node (blocks_of old) l i (value_inside dig old l i d e)) [
-      | inl covers ↦ value_covers dig new l i (rw blocks covers) ∙ kept l i d (sym (value_covers dig old l i covers) ∙ e)
-      | inr past ↦ value_padding dig new l i (rw blocks past) ∙ sym (value_padding dig old l i past) ∙ e
-    ]
 
 no_calls : AllKeepBytes []
 no_calls c among = absurd (contains_none among)

@@ -1,5 +1,5 @@
 -- How a block ceases to be marked.
-use Rattle.bt_machine.proofs.Base.{[], ◌≡◌, ◌≢◌, ℕ, zero, suc, ◌+◌, ◌⊎◌, inl, inr, Bool, true, false, List, ◌∷◌, ◌++◌, map, Option, Some, refl, sym, ap, ◌∙◌, subst, slice_get, slice_set, option_map, Contains, flat_map, ◌==◌, if◌then◌else◌, Result, Ok, option_and_then, eqb-true, eq-eqb, Contains-append_left, Contains-append_right, History, Call, AreAnswered, Facts, BlockRead, given, failed, block_of, call_of, is_right, judged, IsRight, Adopts, known, accepted, PutIsDue, states_after_put, Missing, Waiting, Marked, StoreError, Put, PutMarked, PutWaiting, Adopted, BlockId, PeerMessage as Sent, KeepAlive, Choke, Unchoke, Interested, NotInterested, Have, Bitfield, Request, Piece, Cancel, HashRequest, Hashes, HashReject, Hello, Message, Skipped}
+use Rattle.bt_machine.proofs.Base.{[], ◌≡◌, ◌≢◌, ℕ, zero, suc, ◌+◌, ◌⊎◌, inl, inr, Bool, true, false, List, ◌∷◌, ◌++◌, map, Option, Some, refl, sym, ap, ◌∙◌, subst, slice_get, slice_set, option_map, Contains, flat_map, ◌==◌, if◌then◌else◌, Result, Ok, option_and_then, eqb-true, eq-eqb, Contains-append_left, Contains-append_right, History, Call, AreAnswered, Facts, BlockRead, given, failed, block_of, call_of, is_right, judged, IsRight, Adopts, known, accepted, PutIsDue, states_after_put, Missing, Waiting, Marked, StoreError, Put, PutMarked, PutWaiting, Adopted, BlockId, PeerMessage as Sent, KeepAlive, Choke, Unchoke, Interested, NotInterested, Have, Bitfield, Request, Piece, Cancel, HashRequest, Hashes, HashReject, Hello, Message, Skipped, AdoptMarksByBytes}
 use Rattle.bt_machine.proofs.Machine.{Digest, Connect, Feed, Next, Lost, Rechoke, Adopt, Flush, FileState, EngineState, DeviceCalls, calls_of, state_at, tree_of, with_file, IsFile, FindsFault, damaged, fault, StopsAtFault, HandlesRequest, ignored, no_place, not_marked, served, stopped, HandlesPiece, stale, arrives, judged_file, SettlesIn, HandlesHashes, unknown_root, no_claim, refused, accepts_hashes, HandlesHave, in_range, out_of_range, HandlesBitfield, right, wrong, HandlesMessage, Handles, TakesEvent, StepNext, no_peer, waits, keeps_peer, closes, faulty, no_memory, StepConnect, joins, full, spent, no_room, StepFeed, feeds, not_fed, no_room as no_room_to_feed, StepLost, goes, not_fed as not_lost, FollowsEach, StepRechoke, rechokes, not_rechoked, AdoptsGroup, AdoptsGroups, StepAdopt, no_file, busy, empty, adopts, not_adopted, StepFlush, syncs, fails, Step, stored_block, RunOn, IsFoundWrong, StepUnmarksByBytes, StepKeepsMarks, RunKeepsMarks}
 use Rattle.bt_store.specs.Adoption.{marked_group}
 use Rattle.bt_machine.proofs.Lists.{same_some, set_get, set_other, set_same, and_then_some, contains_none, contains_cases, here, later, map_contains}
@@ -349,10 +349,11 @@ module _ {D : Type 0} (history : D → History) (honest : D → Type 0) (faults 
       (d.0, d.1, d.2.as_honest.1 mid.2)
   device_before old new _ _ _ disks after file run there honest_now = absurd run
 
+module _ {D : Type 0} (history : D → History) (honest : D → Type 0) (faults : D → ℕ) (dig : Digest) (marks : AdoptMarksByBytes dig) where
   pub run_marks_kept : RunKeepsMarks history honest faults dig
   run_marks_kept old new [] [] [] disks after b e run sound there honest_now before = cc
   run_marks_kept old new (x ∷ xs) (c ∷ calls) (a ∷ answers) disks after b e run sound there honest_now before =
-      let mid = device_before run.0 new xs calls answers run.1 after b.file run.4 there honest_now in
-      let kept = marks_kept old run.0 x c a disks run.1 b mid.0 run.2 run.3 sound mid.1 mid.2 before in
-      run_marks_kept run.0 new xs calls answers run.1 after b e run.4 (step_sound history honest faults dig old run.0 x c a disks run.1 run.2 run.3 sound) there honest_now kept
+      let mid = device_before history honest faults dig run.0 new xs calls answers run.1 after b.file run.4 there honest_now in
+      let kept = marks_kept history honest faults dig old run.0 x c a disks run.1 b mid.0 run.2 run.3 sound mid.1 mid.2 before in
+      run_marks_kept run.0 new xs calls answers run.1 after b e run.4 (step_sound history honest faults dig marks old run.0 x c a disks run.1 run.2 run.3 sound) there honest_now kept
   run_marks_kept old new _ _ _ disks after b e run sound there honest_now before = absurd run

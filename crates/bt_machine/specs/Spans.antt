@@ -24,7 +24,8 @@ cut_from span bytes =
     take span.length
     (drop (span.start - full_block_length * first_block span) (flat_map bytes (spanned_blocks span)))
 
--- so many bytes of a piece, from the byte `begin` on, are this block, and all of it
+-- So many bytes of a piece, from the byte `begin` on, are this block, and all of it: they are the range that
+-- `Torrent::range_of` gives of the block (by the law `block_ranges_are_places`).
 pub record IsWholeBlock (torrent : Metainfo) (piece begin count : ℕ) (b : BlockId) : Type 0 where
   pub span : Span
   pub place : IsPlace torrent piece begin count span

@@ -11,28 +11,39 @@ ghost use Rattle.bt_machine.specs.Changes.{NewMarkedBlocksAreOfChanges, NewWhole
 ghost use Rattle.bt_machine.specs.DeviceLaw.{NoCallsLead, CallsOfOneLead, CallsCompose};
 ghost use Rattle.bt_machine.specs.View.{NoEventsRun, OneMoreEventRuns, RunsCompose, RunsAreRuns};
 
-use bt_disk::Disk;
+use bt_disk::{Disk, calls_keep_bytes};
 use bt_meta::blocks_and_ranges_agree;
-use bt_tree::NodeHash;
+use bt_sparse::{held_is_checked, keeps_rooted, layers_are_sound, roots_are_sound};
+use bt_store::adopt_marks_by_bytes;
+use bt_tree::{NodeHash, heights_are_least, roots_tell_files};
 
 /// After any list of events from the start of a lawful torrent every tree is rooted, and every digest that
 /// one holds lies on a checked path to its root.
-pub fn runs_are_checked<H: NodeHash>(_hash: H)
+pub fn runs_are_checked<H: NodeHash>(hash: H)
     ensures { RunsAreChecked H.digest }
-{}
+{
+    layers_are_sound(hash);
+    roots_are_sound(hash);
+    keeps_rooted(hash);
+    held_is_checked(hash);
+}
 
 /// Where a tree is rooted, the digest of bytes that are right for a block lies on a checked path to the root.
-pub fn right_is_checked<H: NodeHash>(_hash: H)
+pub fn right_is_checked<H: NodeHash>(hash: H)
     ensures { RightIsChecked H.digest }
-{}
+{
+    held_is_checked(hash);
+}
 
 /// Each block that a list of events has marked became so at one of them, in one of three ways: it came from
 /// a peer that was asked for it and was written; it waited, and was read back as its leaf was told or
 /// another file of its tree was taken in; or its file was taken in and it was read. In each its digest is
 /// its leaf, and its bytes are of that event.
-pub fn run_marks_by_bytes<H: NodeHash>(_hash: H)
+pub fn run_marks_by_bytes<H: NodeHash>(hash: H)
     ensures { RunMarksByBytes H.digest }
-{}
+{
+    adopt_marks_by_bytes(hash);
+}
 
 /// What an answer of a list of events sends of data was asked for in that answer's own event, and is cut from
 /// blocks that were read in it with the digests of their leaves.
@@ -44,27 +55,41 @@ pub fn run_sends_read_bytes<H: NodeHash>(_hash: H)
 /// blocks of a file are marked and its device is honest, the file that stands there has the torrent's length
 /// and root. So it equals every file of that length and root, or at one place of their trees two different
 /// inputs have one digest.
-pub fn complete_files_are_published<D: Disk, H: NodeHash>(_disk: &D, _hash: H)
+pub fn complete_files_are_published<D: Disk, H: NodeHash>(_disk: &D, hash: H)
     ensures { CompleteFilesArePublished D.history D.honest D.faults H.digest }
-{}
+{
+    layers_are_sound(hash);
+    roots_are_sound(hash);
+    keeps_rooted(hash);
+    adopt_marks_by_bytes(hash);
+    roots_tell_files(hash);
+}
 
 /// After any list of events from the start of a torrent, whatever peers send and devices answer: a crash at
 /// any moment after a flush that answered Ok, also within an event, leaves each block right on an honest
 /// device that was marked at the flush.
-pub fn runs_keep_flushed_blocks<D: Disk, H: NodeHash>(_disk: &D, _hash: H)
+pub fn runs_keep_flushed_blocks<D: Disk, H: NodeHash>(_disk: &D, hash: H)
     ensures { RunsKeepFlushedBlocks D.history D.honest D.faults H.digest }
-{}
+{
+    calls_keep_bytes();
+    adopt_marks_by_bytes(hash);
+}
 
 /// Where marked blocks are right on honest devices: what every image since a moment has of a marked block,
 /// every image goes on to have over a list of events, also those of a crash within one.
-pub fn run_keeps_images<D: Disk, H: NodeHash>(_disk: &D, _hash: H)
+pub fn run_keeps_images<D: Disk, H: NodeHash>(_disk: &D, hash: H)
     ensures { RunKeepsImages D.history D.honest D.faults H.digest }
-{}
+{
+    calls_keep_bytes();
+    adopt_marks_by_bytes(hash);
+}
 
 /// Where marked blocks are right on honest devices, a marked block on one stays marked over a list of events.
-pub fn run_keeps_marks<D: Disk, H: NodeHash>(_disk: &D, _hash: H)
+pub fn run_keeps_marks<D: Disk, H: NodeHash>(_disk: &D, hash: H)
     ensures { RunKeepsMarks D.history D.honest D.faults H.digest }
-{}
+{
+    adopt_marks_by_bytes(hash);
+}
 
 /// Whatever devices do, a marked block ceases to be so in one way only: it was read in this event, and its
 /// device gave other bytes than those of its leaf.
@@ -95,7 +120,9 @@ pub fn runs_keep_shape<H: NodeHash>(_hash: H)
 /// that are left for a log, and they are of the right shape.
 pub fn proof_keys_are_answered<H: NodeHash>(_hash: H)
     ensures { ProofKeysAreAnswered H.digest }
-{}
+{
+    heights_are_least();
+}
 
 /// What has become marked, whole and complete between two engines is among the blocks in which they differ,
 /// their pieces and their files; so an event's haves and notes need no look at all blocks.
@@ -134,7 +161,12 @@ pub fn runs_compose<D: Disk, H: NodeHash>(_disk: &D, _hash: H)
 
 /// Each frame that an event sends fits and can be written: where an engine has the files and trees of a lawful
 /// torrent, each tree with digests of 32 bytes, and so after any list of events from the start of one.
-pub fn events_send_what_fits<H: NodeHash>(_hash: H)
+pub fn events_send_what_fits<H: NodeHash>(hash: H)
     ensures step { StepSendsWhatFits H.digest }
     ensures runs { RunsSendWhatFits H.digest }
-{}
+{
+    layers_are_sound(hash);
+    roots_are_sound(hash);
+    keeps_rooted(hash);
+    heights_are_least();
+}

@@ -2,7 +2,7 @@
 use Rattle.bt_machine_checks.proofs.Base.{[], ◌≡◌, ℕ, zero, suc, ◌+◌, ◌*◌, ◌/◌, ◌%◌, ◌^◌, ◌<◌, ◌≤◌, ◌⊎◌, inl, inr, Bool, true, false, List, ◌∷◌, length, map, Option, Some, None, Result, Ok, refl, sym, ap, ◌∙◌, subst, arith, slice_get, slice_set, Contains, ◌&&◌, is_some, if◌then◌else◌, option_and_then, range_with_len, eq-eqb, length-take-le, div-add-mod, mod-lt, Facts, blocks_of, value_at, Claims, in_run, on_path, uncle, HasShape, Claim, value_covers, value_padding, value_inside, cases_node, digests_in, HashKey, PutIsDue, states_after_put, BlockRead, given, failed, block_of, judged, is_waiting_at, BlockState, Missing, Waiting, Marked, StoreError, Put, PutMarked, PutWaiting, without_block, PeerKey, BlockId, Hello, Message, Skipped, PeerMessage, KeepAlive, Choke, Unchoke, Interested, NotInterested, Have, Bitfield, Request, Piece, Cancel, HashRequest, Hashes, HashReject}
 use Rattle.bt_machine_checks.proofs.Machine.{Digest, PeerState, FileState, EngineState, DeviceCalls, state_at, tree_of, leaf_at, with_file, with_peer, Effect, with_payload, FindsFault, damaged as found_damaged, fault, HandlesRequest, ignored, no_place, not_marked, served, stopped, HandlesPiece, stale, arrives, judged_file, due_blocks, HandlesHashes, AcceptsHashes, settled_count, unknown_root, no_claim, refused, accepts_hashes, HandlesHave, in_range, out_of_range, HandlesBitfield, right, wrong, HandlesMessage, Handles, StepNext, no_peer as none_such, waits, keeps_peer, closes, faulty, no_memory, NextSettlesWaitingBlocks}
 use Rattle.bt_machine.proofs.Lists.{and_then_some, map_some, same_some, set_cases, set_same, contains_none, here, later, contains_cases, filter_contains}
-use Rattle.bt_machine.proofs.Start.{chunk_count}
+use Rattle.bt_machine.proofs.Digests.{chunk_count}
 use Rattle.bt_machine.proofs.Marks.{state_is}
 use Rattle.bt_machine_checks.proofs.AnswerSends.{nat_cases, set_other}
 

@@ -1,4 +1,5 @@
 -- The names of the library and of the crates below that proofs cite, in one place.
+pub use Rattle.bt_machine.proofs.Nodes.{value_covers, value_padding, cases_node, value_inside}
 pub use Rattle.std.specs.Int.{w32, to_be_bytes}
 pub use Rattle.std.specs.List.{range_with_len, AllPairs, concat, list_all, AllZip, count_by}
 pub use Rattle.std.specs.Option.{option_and_then, option_map_or}
@@ -13,7 +14,6 @@ pub use Rattle.std.proofs.lemmas.List.Elements.{Contains-append_cases, Contains-
 pub use Rattle.std.proofs.lemmas.List.FromFn.{length-range_with_len}
 pub use Rattle.std.proofs.lemmas.List.Sums.{sum_by-cons}
 pub use Rattle.std.proofs.lemmas.Nat.{div-mul-add}
-pub use Rattle.bt_tree.proofs.TreeShape.{real_limit}
 pub use Rattle.bt_tree.specs.Blocks.{block_count}
 pub use Rattle.bt_tree.specs.NodeHash.{IsDigest}
 pub use Rattle.bt_tree.specs.TreeShape.{CoversBlock, real_width, IsPadding}
@@ -22,7 +22,6 @@ pub use Rattle.bt_meta.specs.Torrent.{IsLaidOut, Metainfo, IsLawful, total_piece
 pub use Rattle.bt_meta.specs.declared.torrent.Span.{Span}
 pub use Rattle.bt_sparse.proofs.NodeMaps.{digest_at_new, same_map, digest_at_cases, digest_at_empty, digest_at_other}
 pub use Rattle.bt_sparse.proofs.Single.{claims_one}
-pub use Rattle.bt_sparse.proofs.Values.{value_covers, value_padding, cases_node, value_inside}
 pub use Rattle.bt_sparse.specs.Acceptance.{Accepts, IsRefused, IsAcceptable, top_differs, shape, padding, no_anchor, clash, no_memory as refused_memory, DiffersBelow, IsHighestClash, IsJoined}
 pub use Rattle.bt_sparse.specs.Anchor.{IsAnchor}
 pub use Rattle.bt_sparse.specs.Answer.{IsAnswer, claim_of}

@@ -1,5 +1,5 @@
 -- What is left to an engine where a file is taken in.
-use Rattle.bt_machine_checks.proofs.Base.{[], ◌≡◌, ◌≢◌, ℕ, ◌+◌, ◌-◌, ◌/◌, ◌^◌, ◌<◌, ◌≤◌, inl, inr, min, Bool, true, false, cond, List, ◌∷◌, ◌++◌, length, map, None, refl, sym, ap, ◌∙◌, subst, arith, append_assoc, flat_map, IsSome, Err, AllZip, count_by, range_with_len, cases_lt, length-map, length-range_with_len, sum_by-cons, CoversBlock, real_width, block_count, real_limit, Facts, blocks_of, held_at, value_at, value_covers, given, failed, block_of, is_fault, right_count, fault_count, IsKnownGroup, IsUnknownGroup, claim_of_reads, marked_group, Adopts, none, known, accepted, not_accepted as refused, short, unread, BlockState, Adopted}
+use Rattle.bt_machine_checks.proofs.Base.{[], ◌≡◌, ◌≢◌, ℕ, ◌+◌, ◌-◌, ◌/◌, ◌^◌, ◌<◌, ◌≤◌, inl, inr, min, Bool, true, false, cond, List, ◌∷◌, ◌++◌, length, map, Option, Some, None, refl, sym, ap, ◌∙◌, subst, arith, append_assoc, flat_map, IsSome, Err, AllZip, count_by, range_with_len, cases_lt, length-map, length-range_with_len, sum_by-cons, CoversBlock, real_width, block_count, Facts, blocks_of, held_at, value_at, value_covers, value_inside, given, failed, block_of, is_fault, right_count, fault_count, IsKnownGroup, IsUnknownGroup, claim_of_reads, marked_group, Adopts, none, known, accepted, not_accepted as refused, short, unread, BlockState, Adopted}
 use Rattle.bt_machine_checks.proofs.Machine.{Digest, FileState, EngineState, Hint, reads_at, with_file, with_tree, IsFile, SettlesIn, with_pending, IsProof, AdoptsGroup, adopted_together, AdoptsGroups, is_other, AdoptsFile, StepAdopt, no_file, busy, empty, adopts, not_adopted as no_memory, AdoptedAnswer}
 use Rattle.bt_store.specs.Adoption.{is_whole, AreWhole}
 use Rattle.bt_machine.specs.declared.error.AdoptError.TheVariants.{OutOfMemory}
@@ -11,14 +11,18 @@ use Rattle.bt_machine_checks.proofs.DeterminedEvents.{split_one, reads_one, file
 
 -- ---- groups
 
+some_value : (o : Option (List ℕ)) → IsSome o → (d : List ℕ) × (o ≡ Some d)
+some_value (Some d) e = (d, refl)
+some_value None e = absurd cc
+
 known_or_unknown : {dig k from count anchor first other : _} → from < blocks_of k → IsKnownGroup dig k from count → IsUnknownGroup k from anchor first other → ⊥
 known_or_unknown {dig} {k} {from} left x y =
     let n = blocks_of k in
     let real : real_width (blocks_of k) 0 ≡ blocks_of k = omega arith in
-    let wide = real_limit (blocks_of k) 0 (omega arith) in
-    let covers : CoversBlock (blocks_of k) 0 from = record { inside = record { in_height = omega arith; in_width = omega arith }; real = omega arith } in
     let place : from / 2 ^ 0 ≡ from = omega arith in
     let first_block : from + 0 ≡ from = omega arith in
+    let value = some_value (value_at dig k 0 (from + 0)) (x.known 0 x.some) in
+    let covers : CoversBlock (blocks_of k) 0 from = record { inside = value_inside dig k 0 from value.0 (ap (value_at dig k 0) (sym first_block) ∙ value.1); real = omega arith } in
     let unheld : held_at k 0 from ≡ None = rw (← place) (y.nearest.nearest 0 y.above) in
     some_not_none (subst (λ i. IsSome (value_at dig k 0 i)) first_block (x.known 0 x.some)) (value_covers dig k 0 from covers ∙ unheld)
 

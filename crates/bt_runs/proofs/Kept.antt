@@ -1,8 +1,11 @@
 -- What is promised of lists of events follows from the machine's laws.
 use Rattle.std.specs.Prelude.{OnOk, OnErr}
 use Rattle.std.specs.declared.alloc.AllocError.{AllocError}
-use Rattle.bt_machine.proofs.Base.{[], ◌≡◌, ℕ, List, length, take, Result, Ok, Err, sym, ap, ◌∙◌, History, file_root, IsDigest, same_or_clash, File, Facts}
+use Rattle.bt_machine.proofs.Base.{[], ◌≡◌, ℕ, List, length, take, Result, Ok, Err, sym, ap, ◌∙◌, History, file_root, IsDigest, File, Facts}
+use Rattle.bt_tree.proofs.ComparisonClash.{same_or_clash}
 use Rattle.bt_disk.specs.State.{IsImage}
+use Rattle.bt_disk.proofs.Histories.{calls_keep_bytes}
+use Rattle.bt_store.proofs.AdoptionMarks.{adopt_marks}
 use Rattle.bt_machine.specs.Headline.{IsPublished}
 use Rattle.bt_machine.specs.Law.{AreRooted}
 use Rattle.bt_machine.specs.Shape.{IsShaped}
@@ -74,9 +77,9 @@ module _ {D : Type 0} (history : D → History) (honest : D → Type 0) (faults 
   pub marks_kept : (old new : EngineView D) → IsSound history honest dig old.state old.disks
       → (es : List Event) × (answers : List Answer) × RunsTo history honest faults dig old es answers new → KeepsMarks honest old new
   marks_kept old new sound ran b d there honest_now before =
-      run_marks_kept history honest faults dig old.state new.state ran.0 ran.2.calls ran.1 old.disks new.disks b d ran.2.run sound there honest_now before
+      run_marks_kept history honest faults dig (adopt_marks dig) old.state new.state ran.0 ran.2.calls ran.1 old.disks new.disks b d ran.2.run sound there honest_now before
 
   pub images_kept : ((d : D) → honest d → IsImage (history d).now (history d).now.bytes) → (old new : EngineView D) → IsSound history honest dig old.state old.disks
       → (es : List Event) × (answers : List Answer) × RunsTo history honest faults dig old es answers new → KeepsImages history honest old new
   images_kept reads old new sound ran file i moment f k bytes d is marked size there honest_now kept =
-      images_run history honest faults dig reads old.state new.state ran.0 ran.2.calls ran.1 old.disks new.disks file i moment f k bytes d ran.2.run sound is marked size there honest_now kept
+      images_run history honest faults dig (adopt_marks dig) calls_keep_bytes reads old.state new.state ran.0 ran.2.calls ran.1 old.disks new.disks file i moment f k bytes d ran.2.run sound is marked size there honest_now kept

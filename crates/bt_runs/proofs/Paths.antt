@@ -2,6 +2,11 @@
 use Rattle.std.specs.Prelude.{Contains, ◌/◌}
 use Rattle.std.specs.List.{range_with_len}
 use Rattle.bt_machine.proofs.Base.{[], ◌≡◌, ℕ, zero, suc, ◌+◌, ◌-◌, ◌<◌, ◌≤◌, ◌⊎◌, inl, inr, List, ◌∷◌, Some, refl, sym, ap, ◌∙◌, subst, arith, get_or, slice_get, block_count, File, Metainfo, Facts, IsRight, Marked, BlockId, PeerKey}
+use Rattle.bt_sparse.specs.SparseTree.{height}
+use Rattle.bt_sparse.specs.Law.{HeldIsChecked}
+use Rattle.bt_sparse.proofs.Joins.{keeps_rooted}
+use Rattle.bt_sparse.proofs.Paths.{held_is_checked}
+use Rattle.bt_store.proofs.AdoptionMarks.{adopt_marks}
 use Rattle.bt_meta.specs.Place.{IsPlace}
 use Rattle.bt_machine.specs.Law.{AreRooted, IsSoAt, IsServed, found}
 use Rattle.bt_machine.specs.Shape.{IsShaped}
@@ -33,6 +38,10 @@ get_is [] i e = refl
 get_is (y ∷ xs) zero e = some_is e
 get_is (y ∷ xs) (suc i) e = get_is xs i e
 
+is_checked : (dig : Digest) → HeldIsChecked dig
+is_checked dig k rooted layer i d held =
+    held_is_checked dig k rooted (height k - layer) layer i d (omega (arith, (rooted.covers layer i d held).inside.in_height)) held
+
 module _ (dig : Digest) (torrent : Metainfo) where
   -- right bytes of a block that the file has
   right_path : (s : EngineState) (file : File) (b : BlockId) (tree : Facts) (bytes : List ℕ) → IsShaped torrent s → AreRooted dig s
@@ -46,7 +55,7 @@ module _ (dig : Digest) (torrent : Metainfo) where
       record {
         tree = tree;
         has_tree = has;
-        path = right_checked tree b.block bytes (rooted g.0.tree tree g.2) (subst (λ n. b.block < block_count n) long below) right;
+        path = right_checked (is_checked dig) tree b.block bytes (rooted g.0.tree tree g.2) (subst (λ n. b.block < block_count n) long below) right;
       }
 
   run_shape : {new : EngineState} (s : EngineState) (es : List Event) (calls : List DeviceCalls) (answers : List Answer) → IsShaped torrent s
@@ -89,7 +98,7 @@ module _ (dig : Digest) (torrent : Metainfo) where
     is_so = record {
       served = i.is_so;
       paths = served_paths (run_shape first i.events_before i.calls_before before shaped i.run)
-          (run_rooted dig first i.old i.events_before i.calls_before before i.run rooted) i.is_so;
+          (run_rooted dig (keeps_rooted dig) first i.old i.events_before i.calls_before before i.run rooted) i.is_so;
     };
   }
 
@@ -117,9 +126,9 @@ module _ (dig : Digest) (torrent : Metainfo) (b : BlockId) where
   run_cases s [] [] [] shaped rooted run m = inl (rw (← run) m)
   run_cases s (e ∷ es) (c ∷ calls) (a ∷ answers) shaped rooted run m =
       let shape = step_shape dig e c a shaped run.1 in
-      let trees = step_rooted dig s run.0 e c a run.1 rooted in
+      let trees = step_rooted dig (keeps_rooted dig) s run.0 e c a run.1 rooted in
       elim (run_cases run.0 es calls answers shape trees run.2 m) [
-        | inl mid ↦ elim (step_cases dig b s run.0 e c a run.1 mid) [
+        | inl mid ↦ elim (step_cases dig (adopt_marks dig) b s run.0 e c a run.1 mid) [
           | inl old ↦ inl old
           | inr now ↦ inr (record {
             before = [];

@@ -15,6 +15,11 @@ abbrev pub LayersAreSound : (List ℕ → List ℕ) → Type 0
 LayersAreSound dig = (file_length layer : ℕ) (root bytes : List ℕ) (k : Facts) → IsFileLength file_length
     → HoldsLayer dig file_length root layer bytes k → IsSound dig k
 
+-- and so is a tree of which the root alone is known
+abbrev pub RootsAreSound : (List ℕ → List ℕ) → Type 0
+RootsAreSound dig = (file_length : ℕ) (root : List ℕ) → IsFileLength file_length → length root ≡ 32
+    → IsSound dig (root_facts file_length root)
+
 -- a tree that is rooted stays so when a claim is accepted
 abbrev pub KeepsRooted : (List ℕ → List ℕ) → Type 0
 KeepsRooted dig = (old new : Facts) (c : Claim) → Accepts dig old c new → IsRooted dig old → IsRooted dig new

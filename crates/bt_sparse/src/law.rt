@@ -1,10 +1,15 @@
-ghost use Rattle.bt_sparse.specs.Law.{LayersAreSound, KeepsRooted, HeldIsChecked, ClaimsOne, MadeClaimsAgree, AnswersAgree, AnswersAreTaken, AnswersReachRoots, LeavesAreFiles};
+ghost use Rattle.bt_sparse.specs.Law.{LayersAreSound, RootsAreSound, KeepsRooted, HeldIsChecked, ClaimsOne, MadeClaimsAgree, AnswersAgree, AnswersAreTaken, AnswersReachRoots, LeavesAreFiles};
 
 use bt_tree::NodeHash;
 
 /// The tree of a file's layer, as `with_layer` makes it, is rooted, and its digests have 32 bytes.
 pub fn layers_are_sound<H: NodeHash>(_hash: H)
     ensures { LayersAreSound H.digest }
+{}
+
+/// A tree of which the root alone is known is rooted, and its digest has 32 bytes.
+pub fn roots_are_sound<H: NodeHash>(_hash: H)
+    ensures { RootsAreSound H.digest }
 {}
 
 /// A tree that is rooted stays so when a claim is accepted.

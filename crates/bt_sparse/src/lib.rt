@@ -25,6 +25,6 @@ pub use answer::{AnswerError, MAX_RUN_LENGTH};
 pub use claim::{Claim, Digests, ProofError};
 pub use law::{
     answers_agree, answers_are_taken, answers_reach_roots, claims_one, held_is_checked,
-    keeps_rooted, layers_are_sound, leaves_are_files,
+    keeps_rooted, layers_are_sound, leaves_are_files, roots_are_sound,
 };
 pub use sparse_tree::SparseTree;

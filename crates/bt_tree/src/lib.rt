@@ -10,6 +10,7 @@
 #![tactic(auto)]
 
 mod comparison;
+mod law;
 mod layer_fold;
 mod layers;
 mod node_hash;
@@ -19,6 +20,7 @@ mod root_builder;
 mod tree_shape;
 
 pub use comparison::{Compared, compare_files};
+pub use law::{heights_are_least, roots_tell_files};
 pub use layers::{LayerError, check_layer};
 pub use node_hash::{Hash32, NodeHash, Plain, Weak};
 pub use padding::pad;

@@ -8,11 +8,13 @@ pub returns : goal.returns
 returns g c =
     let dig = g.H.NodeHash.digest in
     let is = g.met.H.NodeHash.has_32_bytes in
+    let heights = c.heights_are_least.ensures in
     record {
-      step = step_fits dig is;
+      step = step_fits dig is heights;
       runs = λ torrent first last new events calls answers event made answer lawful starts run step.
-          step_fits dig is torrent last new event made answer lawful
+          step_fits dig is heights torrent last new event made answer lawful
           (shape_kept dig torrent first last events calls answers starts run).0
-          (run_sparse dig is first last events calls answers run (start_sparse is lawful starts))
+          (run_sparse dig is c.keeps_rooted.ensures first last events calls answers run
+          (start_sparse c.layers_are_sound.ensures c.roots_are_sound.ensures lawful starts))
           step;
     }

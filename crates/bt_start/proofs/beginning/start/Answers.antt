@@ -1,5 +1,7 @@
 use Rattle.std.proofs.Common.{[], refl, sym, ap, ◌∙◌, subst}
 use Rattle.bt_tree.specs.NodeHash.{IsDigest, length-sha256}
+use Rattle.bt_sparse.proofs.LayerTrees.{layers_are_sound}
+use Rattle.bt_sparse.proofs.Values.{root_sound}
 use Rattle.bt_meta.specs.Torrent.{Metainfo, IsLawful}
 use Rattle.bt_machine.proofs.Headline.{start_sound}
 use Rattle.bt_machine.proofs.Orderly.{order_of_runs}
@@ -42,7 +44,7 @@ pub returns-in-Ok-give_devices-clause-rooted : goal.returns-in-Ok-give_devices-c
 returns-in-Ok-give_devices-clause-rooted g c =
     let sizes = subst IsDigest (sym c.requires.digest) length-sha256 in
     let lawful = subst (λ (torrent : Metainfo). IsLawful torrent.piece_length torrent.files) (sym c.give_devices.ensures.torrent) c.in-Ok.ensures.bare.lawful in
-    start_rooted sizes lawful c.in-Ok-give_devices.ensures.begun.starts
+    start_rooted (layers_are_sound sizes) (root_sound g.H.NodeHash.digest) lawful c.in-Ok-give_devices.ensures.begun.starts
 
 pub returns-in-Ok-give_devices-clause-sound : goal.returns-in-Ok-give_devices-clause-sound
 returns-in-Ok-give_devices-clause-sound g c = start_sound g.D.Disk.history g.D.Disk.honest g.D.Disk.faults g.H.NodeHash.digest _ c.in-Ok-give_devices.ensures.begun.starts
