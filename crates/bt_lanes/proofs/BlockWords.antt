@@ -1,6 +1,6 @@
 -- The words of a message block, and the bytes of a message.
-use Rattle.std.proofs.Common.{◌≡◌, ℕ, ◌<◌, ◌+◌, ◌*◌, List, [], take, drop, slice_index, slice_index_or, Bor, arith, refl, ap, ◌∙◌}
-use Rattle.std.proofs.lemmas.List.{get_or-take, get_or-drop}
+use Rattle.std.proofs.Common.{◌≡◌, ℕ, ◌<◌, ◌≤◌, ◌+◌, ◌*◌, List, [], length, length-drop, take, drop, slice_index, slice_index_or, Bor, arith, refl, ap, ◌∙◌}
+use Rattle.std.proofs.lemmas.List.{get_or-take, get_or-drop, length-take-le}
 use Rattle.std.proofs.Math.ListN.{get_or-map}
 use Rattle.sha2.specs.Sha256.{word_at}
 use Rattle.bt_lanes.specs.LaneSteps.{message_at}
@@ -22,3 +22,6 @@ word_at-block message at k lt =
     let b2 = byte_at message at (4 * k + 2) (at + 4 * k + 2) (omega arith) (omega arith) in
     let b3 = byte_at message at (4 * k + 3) (at + 4 * k + 3) (omega arith) (omega arith) in
     rw (b0, b1, b2, b3) refl
+
+pub block_size : (bytes block : List ℕ) (i : ℕ) → block ≡ take 64 (drop (i * 64) bytes) → i * 64 + 64 ≤ length bytes → length block ≡ 64
+block_size bytes block i is within = ap length is ∙ length-take-le 64 (drop (i * 64) bytes) (omega (arith, length-drop (i * 64) bytes))

@@ -14,7 +14,7 @@ pub(crate) type HashValues = [u32x8; 8];
 pub(crate) type MessageBlocks = [u32x8; 16];
 
 /// The round constants (FIPS 180-4, 4.2.2).
-const ROUND_CONSTANTS: [u32; 64] = [
+pub(crate) const ROUND_CONSTANTS: [u32; 64] = [
     0x428a_2f98,
     0x7137_4491,
     0xb5c0_fbcf,

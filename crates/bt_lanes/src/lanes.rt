@@ -5,10 +5,11 @@ ghost use Rattle.bt_tree.specs.Limits.{full_block_length};
 ghost use Rattle.bt_lanes.specs.LaneSteps.{message_at};
 
 use crate::digest::{digest_eight, slices};
+use crate::single::digest_single;
 use bt_tree::{BLOCK_LEN, Hash32, NodeHash, Plain};
 
 /// SHA-256 (FIPS 180-4), the digest of BitTorrent v2. Where a tree has eight inputs, they are digested at
-/// once.
+/// once; a block alone has its message schedules made eight at a time.
 #[derive(Clone, Copy, Debug)]
 pub struct Lanes;
 
@@ -45,7 +46,7 @@ impl NodeHash for Lanes {
     ghost digest = { sha256 };
 
     fn block(self, bytes: &[u8]) -> Hash32 {
-        Plain.block(bytes)
+        digest_single(bytes)
     }
 
     fn pair(self, left: &Hash32, right: &Hash32) -> Hash32 {

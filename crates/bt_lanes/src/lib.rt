@@ -10,6 +10,10 @@ mod lanes;
 mod many;
 mod message_blocks;
 mod padding;
+mod schedules;
+mod single;
+mod word_compression;
+mod word_functions;
 
 pub use lanes::Lanes;
 pub use many::digest_many;

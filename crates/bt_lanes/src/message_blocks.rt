@@ -76,7 +76,7 @@ fn words_at(messages: &[&[u8]; 8], at: usize) -> [u32x8; 8]
 
 /// The block at a byte of each message.
 #[inline(always)]
-fn message_blocks_at(messages: &[&[u8]; 8], at: usize) -> MessageBlocks
+pub(crate) fn message_blocks_at(messages: &[&[u8]; 8], at: usize) -> MessageBlocks
     requires bounded { at + 64 < 2 ^ 64 }
     requires within { (j : ℕ) → j < 8 → at + 64 ≤ length (message_at messages.now j) }
     ensures { (j : ℕ) → j < 8
