@@ -1,11 +1,11 @@
 -- What is promised of lists of events follows from the machine's laws.
+use Rattle.bt_tree.proofs.ComparisonClash.{same_or_clash}
+use Rattle.bt_disk.proofs.Histories.{calls_keep_bytes}
+use Rattle.bt_store.proofs.AdoptionMarks.{adopt_marks}
 use Rattle.std.specs.Prelude.{OnOk, OnErr}
 use Rattle.std.specs.declared.alloc.AllocError.{AllocError}
 use Rattle.bt_machine.proofs.Base.{[], ◌≡◌, ℕ, List, length, take, Result, Ok, Err, sym, ap, ◌∙◌, History, file_root, IsDigest, File, Facts}
-use Rattle.bt_tree.proofs.ComparisonClash.{same_or_clash}
 use Rattle.bt_disk.specs.State.{IsImage}
-use Rattle.bt_disk.proofs.Histories.{calls_keep_bytes}
-use Rattle.bt_store.proofs.AdoptionMarks.{adopt_marks}
 use Rattle.bt_machine.specs.Headline.{IsPublished}
 use Rattle.bt_machine.specs.Law.{AreRooted}
 use Rattle.bt_machine.specs.Shape.{IsShaped}
@@ -23,7 +23,9 @@ use Rattle.bt_machine.proofs.Survival.{images_run}
 use Rattle.bt_machine.proofs.Unmarks.{run_marks_kept}
 use Rattle.bt_machine.proofs.View.{none_run, without_devices}
 use Rattle.bt_engine.specs.Run.{RunsEvents}
-use Rattle.bt_runs.specs.Promises.{RunsByBytes, ArePublished, KeepsMarks, KeepsImages}
+use Rattle.bt_runs.specs.Promises.{RunsAsPromised, ArePublished, KeepsMarks, KeepsImages}
+use Rattle.bt_runs.specs.Flushes.{KeepsFlushed}
+use Rattle.bt_runs.proofs.Flushes.{flushes, none_lost_then}
 use Rattle.bt_runs.proofs.Paths.{sends_on_path, run_marks}
 
 published : (dig : Digest) → IsDigest dig → {file : File} {k : Facts} {bytes : List ℕ} → k.file_length ≡ file.length → k.root ≡ file.root → HasFile dig k bytes
@@ -38,11 +40,12 @@ published dig sizes {file} {k} {bytes} size root has =
     }
 
 module _ {D : Type 0} (history : D → History) (honest : D → Type 0) (faults : D → ℕ) (dig : Digest) where
-  pub by_bytes : (old new : EngineView D) (events : List Event) (before after : List Answer) → IsShaped old.state.torrent old.state → AreRooted dig old.state
+  pub as_promised : ((d : D) → honest d → IsImage (history d).now (history d).now.bytes) → (old new : EngineView D) (events : List Event) (before after : List Answer)
+      → IsShaped old.state.torrent old.state → AreRooted dig old.state → IsSound history honest dig old.state old.disks
       → (result : Result (Unit {0}) AllocError) → OnOk result (RunsEvents history honest faults dig old events before after new)
-      → OnOk result (RunsByBytes history honest faults dig old events before after new)
-  by_bytes old new events before after shaped rooted (Err error) ran = tt
-  by_bytes old new events before after shaped rooted (Ok done) ran =
+      → OnOk result (RunsAsPromised history honest faults dig old events before after new)
+  as_promised reads old new events before after shaped rooted sound (Err error) ran = tt
+  as_promised reads old new events before after shaped rooted sound (Ok done) ran =
       let run = ran.runs in
       let plain = without_devices history honest faults dig old.state new.state old.disks new.disks events run.calls ran.said run.run in
       record {
@@ -54,6 +57,7 @@ module _ {D : Type 0} (history : D → History) (honest : D → Type 0) (faults 
         sends = λ first answer rest is key piece begin bytes sent.
             sends_on_path dig old.state.torrent events run.calls first answer rest key piece begin bytes shaped rooted
             (run_sends dig old.state new.state events run.calls first answer rest (rw (← is) plain) key piece begin bytes sent);
+        flushes = flushes history honest faults dig reads old new events run.calls ran.said sound run.run;
       }
 
   -- the events happened, or none did
@@ -83,3 +87,8 @@ module _ {D : Type 0} (history : D → History) (honest : D → Type 0) (faults 
       → (es : List Event) × (answers : List Answer) × RunsTo history honest faults dig old es answers new → KeepsImages history honest old new
   images_kept reads old new sound ran file i moment f k bytes d is marked size there honest_now kept =
       images_run history honest faults dig (adopt_marks dig) calls_keep_bytes reads old.state new.state ran.0 ran.2.calls ran.1 old.disks new.disks file i moment f k bytes d ran.2.run sound is marked size there honest_now kept
+
+  pub flushed_kept : ((d : D) → honest d → IsImage (history d).now (history d).now.bytes) → (old new : EngineView D) → IsSound history honest dig old.state old.disks
+      → (es : List Event) × (answers : List Answer) × RunsTo history honest faults dig old es answers new → KeepsFlushed history honest faults dig old new
+  flushed_kept reads old new sound ran flushed events answers came none =
+      none_lost_then history honest faults dig reads old new ran.0 ran.2.calls ran.1 sound ran.2.run flushed events answers came none

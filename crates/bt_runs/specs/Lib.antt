@@ -1,1 +1,2 @@
+pub mod Flushes
 pub mod Promises

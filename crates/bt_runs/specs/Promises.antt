@@ -20,6 +20,7 @@ use Rattle.bt_machine.specs.Law.{IsMarkedBy, IsServed, IsSoAt, brought, read_bac
 use Rattle.bt_machine.specs.Request.{IsFile}
 use Rattle.bt_machine.specs.Spans.{spanned_blocks}
 use Rattle.bt_machine.specs.Sound.{RunOn}
+use Rattle.bt_runs.specs.Flushes.{FlushesLoseNoBlock}
 
 -- ---- marks
 
@@ -79,8 +80,8 @@ SendsReadBytes dig old events calls answers new =
 
 -- The events led from one engine to the other, as the machine's steps do, by calls that were made of the
 -- devices, and their answers stand behind those before. By the bytes of these calls and of the peers blocks
--- are marked and data is sent.
-pub record RunsByBytes {D : Type 0} (history : D → History) (honest : D → Type 0) (faults : D → ℕ)
+-- are marked and data is sent; and what is marked at a flush that answers Ok, no later stop loses.
+pub record RunsAsPromised {D : Type 0} (history : D → History) (honest : D → Type 0) (faults : D → ℕ)
     (dig : List ℕ → List ℕ) (old : EngineView D) (events : List Event) (before after : List Answer)
     (new : EngineView D) : Type 0 where
   pub answers : List Answer
@@ -89,6 +90,7 @@ pub record RunsByBytes {D : Type 0} (history : D → History) (honest : D → Ty
   pub run : RunOn history honest faults dig old.state old.disks events calls answers new.state new.disks
   pub marks : MarksByBytes dig old.state events calls answers new.state
   pub sends : SendsReadBytes dig old.state events calls answers new.state
+  pub flushes : FlushesLoseNoBlock history honest faults dig old events calls answers new
 
 -- ---- files and devices
 

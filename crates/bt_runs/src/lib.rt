@@ -3,4 +3,4 @@
 
 mod promises;
 
-pub use promises::run_as_promised;
+pub use promises::{flushed_blocks_stay, run_as_promised};

@@ -1,6 +1,7 @@
 //! What is promised of lists of events.
 ghost use Rattle.std.specs.Prelude.{◌≡◌, OnOk, OnErr};
-ghost use Rattle.bt_runs.specs.Promises.{RunsByBytes, ArePublished, KeepsMarks, KeepsImages};
+ghost use Rattle.bt_runs.specs.Flushes.{KeepsFlushed, FlushedBlocksStay};
+ghost use Rattle.bt_runs.specs.Promises.{RunsAsPromised, ArePublished, KeepsMarks, KeepsImages};
 
 use bt_disk::Disk;
 use bt_engine::{Engine, run_events};
@@ -16,17 +17,27 @@ pub fn run_as_promised<D: Disk + Drop, H: NodeHash>(
     events: &[Event],
     answers: &mut Vec<Answer>,
 ) -> Result<(), AllocError>
-    ensures run { OnOk result (RunsByBytes D.history D.honest D.faults H.digest engine.old events.now
+    ensures run { OnOk result (RunsAsPromised D.history D.honest D.faults H.digest engine.old events.now
         answers.old.items answers.new.items engine.new) }
     ensures kept { OnErr result (engine.new ≡ engine.old) }
     ensures unanswered { OnErr result (answers.new.items ≡ answers.old.items) }
     ensures published { ArePublished D.history D.honest H.digest engine.new }
     ensures marks { KeepsMarks D.honest engine.old engine.new }
     ensures images { KeepsImages D.history D.honest engine.old engine.new }
+    ensures flushed { KeepsFlushed D.history D.honest D.faults H.digest engine.old engine.new }
 {
     // These calls say what holds of an engine before the events and after them.
     engine.keeps_laws();
     let result = run_events(engine, events, answers);
     engine.keeps_laws();
     result
+}
+
+/// Once a flush answered Ok, a stop at any later moment loses no block that was marked then: this says so of
+/// an engine, where it stands right behind the flush. Its contract is of whatever events follow, and of stops
+/// between them and within them. It does nothing when it runs.
+pub fn flushed_blocks_stay<D: Disk + Drop, H: NodeHash>(engine: &Engine<D, H>)
+    ensures { FlushedBlocksStay D.history D.honest D.faults H.digest engine.now }
+{
+    engine.keeps_laws();
 }

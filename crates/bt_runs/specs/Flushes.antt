@@ -1,0 +1,86 @@
+-- What a flush that answered Ok keeps, wherever events stop after it.
+use Rattle.std.specs.Prelude.{◌≡◌, ℕ, List, ◌∷◌, ◌++◌, Some, Ok, slice_get}
+use Rattle.bt_disk.specs.History.{History, moment_of}
+use Rattle.bt_sparse.specs.SparseTree.{Facts}
+use Rattle.bt_store.specs.BlockReads.{IsRight}
+use Rattle.bt_store.specs.declared.block_states.BlockState.TheVariants.{Marked}
+use Rattle.bt_book.specs.declared.names.BlockId.{BlockId}
+use Rattle.bt_machine.specs.declared.event.Event.{Event}
+use Rattle.bt_machine.specs.declared.event.Event.TheVariants.{Flush}
+use Rattle.bt_machine.specs.declared.event.Answer.{Answer}
+use Rattle.bt_machine.specs.declared.event.Answer.TheVariants.{Flushed}
+use Rattle.bt_machine.specs.State.{EngineState, EngineView}
+use Rattle.bt_machine.specs.Devices.{DeviceCalls, HaveCalls}
+use Rattle.bt_machine.specs.Blocks.{state_at, tree_of}
+use Rattle.bt_machine.specs.Step.{Step}
+use Rattle.bt_machine.specs.Stored.{stored_block}
+use Rattle.bt_machine.specs.Crash.{IsBlockKept}
+use Rattle.bt_machine.specs.Sound.{RunOn}
+use Rattle.bt_machine.specs.View.{StepsTo, RunsTo}
+
+-- A block of a device since a flush: as `was` has it at the flush, it has the digest of its leaf; whatever a
+-- stop at any moment since has left, it stands there so; and it is marked still.
+pub record IsNotLost {D : Type 0} (history : D → History) (dig : List ℕ → List ℕ) (new : EngineState)
+    (b : BlockId) (tree : Facts) (was now : D) : Type 0 where
+  pub right : IsRight dig tree b.block (stored_block tree.file_length (history was).now.bytes b.block)
+  pub kept : IsBlockKept (history now) (moment_of (history was)) b.block
+      (stored_block tree.file_length (history was).now.bytes b.block)
+  pub marked : state_at new b ≡ Some Marked
+
+-- A stop at any moment from the first of these engines to the other, also within an event, loses no block
+-- that was marked at the first, on an honest device.
+abbrev pub LosesNoBlock : {D : Type 0} → (D → History) → (D → Type 0) → (List ℕ → List ℕ) → EngineView D
+    → EngineView D → Type 0
+LosesNoBlock {D} history honest dig flushed new = (b : BlockId) (tree : Facts) (was now : D)
+    → state_at flushed.state b ≡ Some Marked → tree_of flushed.state b.file ≡ Some tree
+    → slice_get flushed.disks b.file ≡ Some (Some was) → slice_get new.disks b.file ≡ Some (Some now)
+    → honest now → IsNotLost history dig new.state b tree was now
+
+-- ---- a flush among events
+
+-- A run came to a flush that answered Ok with these answers before it, and went on from it with those after.
+-- From it to the end of the run no block is lost that was marked at it.
+pub record IsFlushedAt {D : Type 0} (history : D → History) (honest : D → Type 0) (faults : D → ℕ)
+    (dig : List ℕ → List ℕ) (first : EngineView D) (events : List Event) (calls : List DeviceCalls)
+    (before after : List Answer) (last : EngineView D) : Type 0 where
+  pub events_before : List Event
+  pub calls_before : List DeviceCalls
+  pub old : EngineView D
+  pub syncs : DeviceCalls
+  pub flushed : EngineView D
+  pub events_after : List Event
+  pub calls_after : List DeviceCalls
+  pub events_are : events ≡ events_before ++ Flush ∷ events_after
+  pub calls_are : calls ≡ calls_before ++ syncs ∷ calls_after
+  pub run : RunOn history honest faults dig first.state first.disks events_before calls_before before
+      old.state old.disks
+  pub step : Step dig old.state Flush syncs (Flushed (Ok tt)) flushed.state
+  pub made : HaveCalls history honest faults old.disks syncs flushed.disks
+  pub goes_on : RunOn history honest faults dig flushed.state flushed.disks events_after calls_after after
+      last.state last.disks
+  pub none_lost : LosesNoBlock history honest dig flushed last
+
+-- Once a flush answered Ok, a stop at any later moment loses no block that was marked then.
+abbrev pub FlushesLoseNoBlock : {D : Type 0} → (D → History) → (D → Type 0) → (D → ℕ) → (List ℕ → List ℕ)
+    → EngineView D → List Event → List DeviceCalls → List Answer → EngineView D → Type 0
+FlushesLoseNoBlock history honest faults dig old events calls answers new = (before after : List Answer)
+    → answers ≡ before ++ Flushed (Ok tt) ∷ after
+    → IsFlushedAt history honest faults dig old events calls before after new
+
+-- ---- a flush before them
+
+-- Of a flush before these events: what is not lost until then, no stop within them or after them loses.
+abbrev pub KeepsFlushed : {D : Type 0} → (D → History) → (D → Type 0) → (D → ℕ) → (List ℕ → List ℕ)
+    → EngineView D → EngineView D → Type 0
+KeepsFlushed {D} history honest faults dig old new = (flushed : EngineView D) (events : List Event)
+    (answers : List Answer) → RunsTo history honest faults dig flushed events answers old
+    → LosesNoBlock history honest dig flushed old → LosesNoBlock history honest dig flushed new
+
+-- Where a flush that answered Ok led to this engine: whatever events follow, a stop at any moment from then
+-- on loses no block that is marked now.
+abbrev pub FlushedBlocksStay : {D : Type 0} → (D → History) → (D → Type 0) → (D → ℕ) → (List ℕ → List ℕ)
+    → EngineView D → Type 0
+FlushedBlocksStay {D} history honest faults dig flushed = (old new : EngineView D) (events : List Event)
+    (answers : List Answer) → StepsTo history honest faults dig old Flush (Flushed (Ok tt)) flushed
+    → RunsTo history honest faults dig flushed events answers new
+    → LosesNoBlock history honest dig flushed new
