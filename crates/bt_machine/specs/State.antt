@@ -3,6 +3,8 @@ use Rattle.std.specs.Prelude.{ℕ, Bool, List, Option}
 use Rattle.bt_meta.specs.Torrent.{Metainfo}
 use Rattle.bt_sparse.specs.SparseTree.{Facts}
 use Rattle.bt_hashreq.specs.declared.key.HashKey.{HashKey}
+pub use Rattle.bt_resume.specs.declared.hint.Hint.{Hint}
+use Rattle.bt_resume.specs.declared.hint.Hint.TheVariants.{Proof, Mark}
 use Rattle.bt_store.specs.declared.block_states.BlockState.{BlockState}
 use Rattle.bt_book.specs.declared.names.PeerKey.{PeerKey}
 use Rattle.bt_book.specs.declared.names.BlockId.{BlockId}
@@ -29,10 +31,13 @@ pub record FileState : Type 0 where
   pub tree : ℕ
   pub states : List BlockState
 
--- what a log keeps: an accepted proof by its key and digests, or a block that was marked
-pub data Hint : Type 0 where
-  proof_of : (key : HashKey) (digests : List (List ℕ)) → Hint
-  mark_of : (block : BlockId) → Hint
+-- what a log keeps, as `bt_resume` has it: an accepted proof by its key and digests, or a block that was
+-- marked
+abbrev pub proof_of : HashKey → List (List ℕ) → Hint
+proof_of key digests = Proof key digests
+
+abbrev pub mark_of : BlockId → Hint
+mark_of block = Mark block.file block.block
 
 -- There is one tree for each root. Files stand as in the torrent, peers in the order of their keys.
 -- `pending` has the hints that are to be written to the log, `hints` those that were last read from it;
