@@ -1,5 +1,5 @@
 -- Blocks that are read one after the other, each into its part of a buffer.
-use Rattle.std.proofs.Common.{◌≡◌, ℕ, zero, suc, ◌+◌, ◌-◌, ◌*◌, ◌<◌, ◌≤◌, ◌↔◌, List, [], ◌∷◌, ◌++◌, map, length, take, drop, get_or, Option, Some, None, Result, Ok, Err, IfOk, IfSome, refl, sym, ap, ◌∙◌, subst, arith, add-one}
+use Rattle.std.proofs.Common.{◌≡◌, ℕ, zero, suc, ◌+◌, ◌-◌, ◌*◌, ◌<◌, ◌≤◌, ◌↔◌, List, [], ◌∷◌, ◌++◌, map, length, take, drop, get_or, Option, None, Result, Ok, Err, IfOk, IfSome, refl, sym, ap, ◌∙◌, subst, arith, add-one}
 use Rattle.std.proofs.Math.ListN.{set}
 use Rattle.std.proofs.lemmas.List.{drop-take, take-take, get_or-set_other, get_or-set_same, map-append}
 use Rattle.std.proofs.lemmas.Slice.{take-put_mid_below, between-put_mid}
@@ -11,8 +11,7 @@ use Rattle.bt_disk.specs.History.{History}
 use Rattle.bt_disk.specs.Calls.{bytes_given, read_fault, HasCalls, IsAnswered, read_call}
 use Rattle.bt_disk.proofs.CallLists.{has_one, has_then, count_read}
 use Rattle.bt_store.specs.BlockReads.{given, failed, call_of}
-use Rattle.bt_store.specs.BatchesSteps.{read_of, batch_reads, found_of}
-use Rattle.bt_store.specs.declared.batches.BlockFound.TheVariants.{Whole}
+use Rattle.bt_store.specs.BatchesSteps.{read_of, batch_reads}
 
 -- a part before the one that is written stays
 part_kept : (a k : ℕ) (buffer out : List ℕ) (t : ℕ) → 16384 * t + 16384 ≤ a → a ≤ length buffer → block_at (put_mid a k buffer out) t ≡ block_at buffer t
@@ -85,12 +84,6 @@ run_next history honest faults n first j k a b c counts buffer out r made in_cou
     ∙ ap (λ xs. map (call_of n) xs ++ call_of n (read_of (first + j) (get_or after j None) (block_at pasted j)) ∷ []) kept
     ∙ ap (λ x. map (call_of n) (batch_reads first counts buffer j) ++ x ∷ []) same in
     subst (λ xs. HasCalls history honest faults a xs c) (sym all) both
-
--- a read that gave a full block found it whole
-pub full_finding : (dig : List ℕ → List ℕ) (n i : ℕ) (count : Option ℕ) (buffer : List ℕ) (j : ℕ) → count ≡ Some 16384 → block_length n i ≡ 16384
-    → Whole (dig (block_at buffer j)) ≡ found_of dig n i count (block_at buffer j)
-full_finding dig n i count buffer j full whole =
-    rw (full, whole) (ap (λ bytes. Whole (dig bytes)) (sym (take-take 16384 16384 (drop (16384 * j) buffer) (omega arith))))
 
 -- a part of the buffer, as code cuts it out
 pub part_is : (j : ℕ) (buffer : List ℕ) → take (j * 16384 + 16384 - j * 16384) (drop (j * 16384) buffer) ≡ block_at buffer j
