@@ -134,10 +134,10 @@ module _ {D H : Type 0} {old : Parts D H} {file : ℕ} {slot : Slot D H} {store 
   same_trees other g there =
       elim (set_cases (state_of old).files file other (ap (λ (fs : List FileState). slice_get fs other) (sym files_are) ∙ there)) [
         | inl own ↦ (
-            file_with slot.tree store.states,
-            ap (slice_get (state_of old).files) own.0 ∙ file_here old.slots.items file at.here at.has store,
-            ap (λ (f : FileState). f.tree) own.1,
-          )
+          file_with slot.tree store.states,
+          ap (slice_get (state_of old).files) own.0 ∙ file_here old.slots.items file at.here at.has store,
+          ap (λ (f : FileState). f.tree) own.1,
+        )
         | inr was ↦ (g, was, refl)
       ]
 
