@@ -1,5 +1,5 @@
 -- A request for a range of a piece, in the parts of an engine.
-use Rattle.bt_machine.proofs.Base.{[], ◌≡◌, ◌≢◌, ℕ, ◌+◌, ◌-◌, ◌^◌, min, Bool, true, false, List, ◌∷◌, ◌++◌, map, Some, refl, sym, ap, ◌∙◌, subst, slice_get, slice_set, option_and_then, Contains, Contains-append_right, IsPlace, Span, Facts, BlockRead, given, failed, call_of, IsRight, BlockState, Missing, Marked, History, Ask, Piece, PeerKey}
+use Rattle.bt_machine.proofs.Base.{[], ◌≡◌, ◌≢◌, ℕ, ◌+◌, ◌-◌, ◌^◌, min, Bool, true, false, List, ◌∷◌, ◌++◌, map, Some, refl, sym, ap, ◌∙◌, subst, slice_get, slice_set, option_and_then, Contains, Contains-append_right, Span, Facts, BlockRead, given, failed, call_of, IsRight, BlockState, Missing, Marked, History, Ask, Piece, PeerKey}
 use Rattle.std.specs.Global.{Vec}
 use Rattle.std.specs.Vec.{with_item}
 use Rattle.std.specs.Bool.{OnFalse}
@@ -13,7 +13,6 @@ use Rattle.bt_machine.specs.Blocks.{block_id, state_at, with_file, with_peer, Is
 use Rattle.bt_machine.specs.Devices.{DeviceCalls, calls_at, reads_at}
 use Rattle.bt_machine.specs.Output.{noting, sending}
 use Rattle.bt_machine.specs.Request.{AreMarked, HandlesRequest, FindsFault, served, stopped, damaged as machine_damaged, fault as machine_fault}
-use Rattle.bt_machine.specs.Shape.{IsShaped}
 use Rattle.bt_machine.specs.Spans.{first_block, last_block, spanned_blocks}
 use Rattle.bt_state.specs.Parts.{state_of, peer_of}
 use Rattle.bt_state.specs.Ties.{IsTied}

@@ -14,7 +14,7 @@ use bt_state::Parts;
 use bt_tree::NodeHash;
 
 /// Notes which pieces are known, of those that stand before the first unknown leaf that the peer at `index`
-/// can tell us. A piece is noted once, so that over all events this costs as much as there are pieces.
+/// can tell us. Each piece is noted once, and later events pass it.
 pub(crate) fn note_known_pieces<D: Disk + Drop, H: NodeHash>(parts: &mut Parts<D, H>, index: usize)
     requires tied { IsTied parts.old }
     requires shaped { IsShaped parts.old.torrent (state_of parts.old) }

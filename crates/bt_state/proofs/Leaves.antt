@@ -6,7 +6,7 @@ use Rattle.bt_sparse.specs.declared.claim.Claim.{Claim}
 use Rattle.bt_machine.proofs.Lists.{and_then_some, set_cases}
 use Rattle.bt_machine.specs.State.{EngineState, FileState}
 use Rattle.bt_machine.specs.Blocks.{tree_of, piece_of, with_file}
-use Rattle.bt_state.specs.Ties.{LiesAmong, KnowsLeaves, StillKnows, LeavesStay}
+use Rattle.bt_state.specs.Ties.{KnowsLeaves, StillKnows, LeavesStay}
 
 pub still : (k : Facts) → StillKnows k k
 still k = record { long = refl; leaves = λ i there. there }
