@@ -48,8 +48,9 @@ fn collected(alloc: Global, digests: &[[u8; 32]]) -> Result<Digests, ProofError>
     }
 }
 
-/// How many digests a key names; None for a key without a shape.
-fn digest_count(key: &HashKey) -> Option<u32>
+/// How many digests come with a key: those of the run, and those of the uncles. None for a key without a
+/// shape, of which `to_claim` makes no claim. Takes no memory.
+pub fn digest_count(key: &HashKey) -> Option<u32>
     ensures some { IsSome result ↔ HasShape key.now }
     ensures count { IfSome result (λ count. count ≡ answer_size key.now.length key.now.layers) }
     ensures within { IfSome result (λ count. key.now.length ≤ count) }

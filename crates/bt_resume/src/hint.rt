@@ -1,8 +1,7 @@
 ghost use Rattle.std.specs.Prelude.{◌↔◌, IsTrue};
 ghost use Rattle.bt_resume.specs.Hint.{CanBeRead};
 
-use crate::digest_count::digest_count;
-use bt_hashreq::HashKey;
+use bt_hashreq::{HashKey, digest_count};
 use bt_sparse::Digests;
 use bt_tree::Hash32;
 

@@ -3,7 +3,6 @@
 #![tactic(auto)]
 
 mod contents;
-mod digest_count;
 mod error;
 mod hint;
 mod hints;

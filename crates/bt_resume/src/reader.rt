@@ -7,10 +7,9 @@ ghost use Rattle.bt_resume.specs.declared.hint.Hint.{Hint};
 ghost use Rattle.bt_resume.specs.LentHint.{hint_of};
 ghost use Rattle.bt_resume.specs.Reader.{IsFirst, AreTaken};
 
-use crate::digest_count::digest_count;
 use crate::hint::LentHint;
 use crate::writer::{MARK, MARK_LEN, PROOF, PROOF_FRONT_LEN};
-use bt_hashreq::{HashKey, number_at, read_key};
+use bt_hashreq::{HashKey, digest_count, number_at, read_key};
 use bt_tree::Hash32;
 
 /// A hint that was read, and how many bytes spell it.
