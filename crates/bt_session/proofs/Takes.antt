@@ -1,5 +1,5 @@
 -- What a wire event, and the choice of peers to serve, do to a session.
-use Rattle.std.proofs.Common.{◌≡◌, ℕ, ◌≤◌, inl, inr, Bool, true, List, Option, Some, None, refl, sym, ◌∙◌, subst, arith}
+use Rattle.std.proofs.Common.{◌≡◌, ℕ, ◌≤◌, Bool, true, List, Option, Some, None, refl, sym, ◌∙◌, subst, arith}
 use Rattle.std.proofs.lemmas.Result.{MatchResult-weaker}
 use Rattle.std.proofs.KnownBytes.{Appends-nil, Consumes-nil}
 use Rattle.std.specs.Prelude.{Result, Ok, Err, MatchResult, MatchOption}
@@ -20,17 +20,9 @@ use Rattle.bt_session.specs.Frames.{frames_to, AllFit, AreWritten}
 use Rattle.bt_session.specs.Progress.{HasRun, Place, place, AllWritten}
 use Rattle.bt_session.specs.Ends.{IsBetweenTurns, HasEnded}
 use Rattle.bt_session.specs.Parts.{GoesOn, Awaits, EndsAfter}
-use Rattle.bt_session.specs.PeerSteps.{HasNoOther, StaysAlone, LeavesPeer}
+use Rattle.bt_session.specs.PeerSteps.{StaysAlone, LeavesPeer}
 use Rattle.bt_session.proofs.Progress.{went_on, written_all}
 use Rattle.bt_session.proofs.Parts.{sent, refused, ended_after, not_ended}
-
--- where the peer is after a wire event
-pub left_alone : (key : PeerKey) (old : EngineState) (out : Output) (new : EngineState) → LeavesPeer key old (Ok (Some out)) new → HasNoOther key new
-left_alone key old out new leaves = by out.close refl
-  where
-    by : (close : Option Why) → out.close ≡ close → HasNoOther key new
-    by None e = inr (leaves.0 e).0
-    by (Some why) e = inl (leaves.1 why e)
 
 -- the frames of an output can be written
 pub fits_too : (send out : List Sent) → send ≡ out → AllFit out → AllFit send

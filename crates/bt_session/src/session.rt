@@ -22,9 +22,10 @@ use bt_tree::NodeHash;
 use std::alloc::Global;
 use std::io::{Read, Write};
 
-/// Connects a peer to the engine, and lets it be served: at most `turns` times up to 16,384 bytes of the reader are fed,
-/// all wire events in them are taken, and the peers to serve are chosen anew. What the engine sends to the peer is written at once.
-/// At every end the peer is removed. With `until_complete` the session ends as soon as all files are complete.
+/// Connects a peer to the engine and serves it: at most `turns` times what one read of up to 16,384 bytes
+/// gave is fed, all wire events in it are taken, and the peers to serve are chosen anew. What the engine
+/// sends to the peer is written at once. At every end the peer is removed. With `until_complete` the session
+/// ends as soon as all files are complete.
 ///
 /// Errors: no peer is connected, for want of memory or of a key. Then nothing was read or written.
 pub fn run_session<D: Disk + Drop, H: NodeHash, R: Read, W: Write>(
@@ -71,7 +72,8 @@ fn converse<D: Disk + Drop, H: NodeHash, R: Read, W: Write>(
     requires alone { IsAlone partner.key engine.old.state }
     requires fit { AllFit greeting.now.send }
     ensures ends { (first : EngineView D)
-        → StepsTo D.history D.honest D.faults H.digest first Connect (Connected (Ok (partner.key, greeting.now))) engine.old
+        → StepsTo D.history D.honest D.faults H.digest first Connect
+        (Connected (Ok (partner.key, greeting.now))) engine.old
         → HasEnded D.history D.honest D.faults H.digest partner.key partner.until_complete turns
         (place first (R.remaining reader.old) (W.contents writer.old)) result
         (place engine.new (R.remaining reader.new) (W.contents writer.new)) }

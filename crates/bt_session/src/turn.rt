@@ -149,7 +149,8 @@ fn take_event<D: Disk + Drop, H: NodeHash, W: Write>(
     }
 }
 
-/// How the session ends behind an output of its peer, if it does: the peer was closed, or all files are complete.
+/// How the session ends behind an output of its peer, if it does: the peer was closed, or all files are
+/// complete.
 pub(crate) fn end_after<D: Disk + Drop, H: NodeHash>(
     engine: &Engine<D, H>,
     until_complete: bool,
