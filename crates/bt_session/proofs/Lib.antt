@@ -1,4 +1,10 @@
 pub mod FrameLists
 pub mod OnePeer
 pub mod Runs
+pub mod Progress
+pub mod Parts
+pub mod Consumed
+pub mod Receives
+pub mod Takes
+pub mod Whole
 pub mod OwnSteps

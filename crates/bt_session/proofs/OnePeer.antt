@@ -3,7 +3,7 @@ use Rattle.bt_machine.proofs.Base.{[], ◌≡◌, ℕ, zero, suc, ◌+◌, ◌<�
 use Rattle.bt_machine.proofs.Machine.{Digest, PeerState, EngineState, with_peer, FindsFault, damaged, fault, with_payload, HandlesRequest, ignored, no_place, not_marked, served, stopped, HandlesPiece, stale, arrives, HandlesHashes, unknown_root, no_claim, refused, accepts_hashes, HandlesHave, in_range, out_of_range, HandlesBitfield, right, wrong, HandlesMessage, Handles, RequestsHashes, requests, rests, FollowsUp, IsPeer, without_peer, TakesEvent, StepNext, no_peer, waits, keeps_peer, closes, faulty, no_memory, new_peer, StepConnect, joins, full, spent, no_room, StepFeed, feeds, not_fed, no_room as no_room_to_feed, StepLost, goes, not_fed as not_lost, rechoked, rechoked_peer, FollowsEach, StepRechoke, rechokes, not_rechoked}
 use Rattle.bt_machine.proofs.Lists.{set_id, set_same}
 use Rattle.std.specs.List.{sum_by, range_with_len}
-use Rattle.std.specs.Prelude.{Bool, false, IfOk, IfErr}
+use Rattle.std.specs.Prelude.{Bool, false, IfOk, IfErr, OnErr}
 use Rattle.std.specs.Int.{w32, to_be_bytes}
 use Rattle.bt_wire.specs.Cutter.{Stream, fed}
 use Rattle.bt_wire.specs.Event.{IsEvent}
@@ -19,6 +19,7 @@ use Rattle.bt_machine.specs.declared.error.EngineError.TheVariants.{OutOfMemory}
 use Rattle.bt_machine.specs.declared.error.ConnectError.{ConnectError}
 use Rattle.bt_machine.specs.Output.{Output}
 use Rattle.bt_machine.specs.Peers.{greeting}
+use Rattle.bt_machine.specs.State.{EngineView}
 use Rattle.bt_session.specs.PeerSteps.{IsAlone, HasNoOther, LeavesPeer, unread_count}
 
 -- ---- an event leaves its peer's key and bytes
@@ -280,3 +281,19 @@ pub feed_error : {s new : EngineState} {key bytes : _} (answer : Result (Unit {0
     → IfErr answer (λ error. error ≡ OutOfMemory)
 feed_error (Ok done) step a = tt
 feed_error (Err error) step a = feed_refused error step a
+
+pub refused_same : {D : Type 0} {old new : EngineView D} (answer : Result (PeerKey × Output) ConnectError) → StepConnect old.state answer new.state
+    → new.disks ≡ old.disks → OnErr answer (new ≡ old)
+refused_same (Ok joined) step disks = tt
+refused_same {D} {old} {new} (Err error) step disks = same_view (unjoined error step)
+  where
+    unjoined : (error : ConnectError) → StepConnect old.state (Err error) new.state → new.state ≡ old.state
+    unjoined error (joins k bytes x y z b e w) = absurd cc
+    unjoined error (full x e w) = w
+    unjoined error (spent x y e w) = w
+    unjoined error (no_room x y e w) = w
+
+    same_view : new.state ≡ old.state → new ≡ old
+    same_view e =
+        let with_state : EngineState → EngineView D = λ s. record { state = s; disks = new.disks } in
+        let with_disks : List (Option D) → EngineView D = λ d. record { state = old.state; disks = d } in ap with_state e ∙ ap with_disks disks

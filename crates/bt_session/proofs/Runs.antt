@@ -8,7 +8,7 @@ use Rattle.bt_session.specs.Session.{SessionsAreRuns, begins, goes_on}
 module _ {D : Type 0} (history : D → History) (honest : D → Type 0) (faults : D → ℕ) (dig : List ℕ → List ℕ) where
   -- a session is a run of its events
   pub session_runs : SessionsAreRuns history honest faults dig
-  session_runs key until first _ _ _ _ (begins answer now step) =
+  session_runs key until first _ _ _ _ (begins out answer now is step) =
       one_more_runs history honest faults dig first first now [] [] Connect answer (none_run history honest faults dig first) step
   session_runs key until first _ _ _ _ (goes_on events answers last answer event mid now session follows step) =
       one_more_runs history honest faults dig first mid now events answers event answer

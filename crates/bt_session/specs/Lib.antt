@@ -1,3 +1,6 @@
 pub mod Frames
 pub mod Session
+pub mod Progress
+pub mod Ends
+pub mod Parts
 pub mod PeerSteps

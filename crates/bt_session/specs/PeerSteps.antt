@@ -1,5 +1,5 @@
 -- An engine with one peer.
-use Rattle.std.specs.Prelude.{[], ◌≡◌, ℕ, ◌<◌, ◌⊎◌, ◌∷◌, length, Option, Some, None, Result, Ok, Err}
+use Rattle.std.specs.Prelude.{[], ◌≡◌, ℕ, ◌<◌, ◌⊎◌, ◌∷◌, length, Bool, true, false, Option, Some, None, Result, Ok, Err}
 use Rattle.std.specs.List.{sum_by}
 use Rattle.bt_book.specs.declared.names.PeerKey.{PeerKey}
 use Rattle.bt_machine.specs.declared.answer.Why.{Why}
@@ -21,6 +21,11 @@ HasNoOther key s = (s.peers ≡ []) ⊎ IsAlone key s
 -- how many bytes came of which no event was taken
 abbrev pub unread_count : EngineState → ℕ
 unread_count s = sum_by (λ p. length p.stream.unread) s.peers
+
+-- the peer stays; where an event was taken of it, with fewer bytes
+abbrev pub StaysAlone : PeerKey → EngineState → EngineState → (there_was : Bool) → Type 0
+StaysAlone key old new true = IsAlone key new × (unread_count new < unread_count old)
+StaysAlone key old new false = IsAlone key new
 
 -- what the next wire event leaves: the peer, with fewer bytes; or none where it is closed, or memory was
 -- refused

@@ -1,4 +1,4 @@
--- What happens in a session with a peer, and how it ends.
+-- What happens in a session with a peer: which event follows on which.
 use Rattle.std.specs.Prelude.{[], ◌≡◌, ℕ, ◌<◌, ◌≤◌, Bool, true, List, ◌∷◌, ◌++◌, length, Some, None, Ok}
 use Rattle.bt_disk.specs.History.{History}
 use Rattle.bt_book.specs.declared.names.PeerKey.{PeerKey}
@@ -6,6 +6,7 @@ use Rattle.bt_machine.specs.declared.event.Event.{Event}
 use Rattle.bt_machine.specs.declared.event.Event.TheVariants.{Connect, Feed, Next, Rechoke}
 use Rattle.bt_machine.specs.declared.event.Answer.{Answer}
 use Rattle.bt_machine.specs.declared.event.Answer.TheVariants.{Connected, Fed, Stepped, Rechoked}
+use Rattle.bt_machine.specs.Output.{Output}
 use Rattle.bt_machine.specs.Report.{all_complete}
 use Rattle.bt_machine.specs.State.{EngineState, EngineView}
 use Rattle.bt_machine.specs.View.{StepsTo, RunsTo}
@@ -41,7 +42,8 @@ Follows key until s _ event = ⊥
 pub data Session {D : Type 0} (history : D → History) (honest : D → Type 0) (faults : D → ℕ)
     (dig : List ℕ → List ℕ) (key : PeerKey) (until_complete : Bool) (first : EngineView D)
     : List Event → List Answer → (last : Answer) → EngineView D → Type 0 where
-  begins : (answer : Answer) (now : EngineView D) → StepsTo history honest faults dig first Connect answer now
+  begins : (out : Output) (answer : Answer) (now : EngineView D) → answer ≡ Connected (Ok (key, out))
+      → StepsTo history honest faults dig first Connect answer now
       → Session history honest faults dig key until_complete first (Connect ∷ []) (answer ∷ []) answer now
   goes_on : (events : List Event) (answers : List Answer) (last answer : Answer) (event : Event)
       (mid now : EngineView D)

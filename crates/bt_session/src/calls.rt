@@ -1,9 +1,11 @@
 //! The calls of an engine with one peer: each is an event of the machine, and leaves the peer or takes it.
-ghost use Rattle.std.specs.Prelude.{[], ◌≡◌, IfOk, IfErr};
+ghost use Rattle.std.specs.Prelude.{[], ◌≡◌, IfOk, IfErr, OnErr};
 ghost use Rattle.bt_machine.specs.declared.error.EngineError.TheVariants.{OutOfMemory};
 ghost use Rattle.bt_machine.specs.declared.event.Event.TheVariants.{Connect, Feed, Next, Lost, Rechoke};
 ghost use Rattle.bt_machine.specs.declared.event.Answer.TheVariants.{Connected, Fed, Stepped, Lost as LostAnswer, Rechoked};
+ghost use Rattle.bt_machine.specs.Law.{sent_by};
 ghost use Rattle.bt_machine.specs.View.{StepsTo};
+ghost use Rattle.bt_session.specs.Frames.{AllFit};
 ghost use Rattle.bt_session.specs.PeerSteps.{IsAlone, HasNoOther, LeavesPeer};
 
 use bt_book::PeerKey;
@@ -21,7 +23,10 @@ pub(crate) fn connect<D: Disk + Drop, H: NodeHash>(
     ensures step { StepsTo D.history D.honest D.faults H.digest engine.old Connect (Connected result)
         engine.new }
     ensures alone { IfOk result (λ joined. IsAlone joined.0 engine.new.state) }
+    ensures fit { AllFit (sent_by (Connected result)) }
+    ensures kept { OnErr result (engine.new ≡ engine.old) }
 {
+    engine.keeps_laws();
     engine.connect()
 }
 
@@ -49,7 +54,9 @@ pub(crate) fn next<D: Disk + Drop, H: NodeHash>(
     ensures step { StepsTo D.history D.honest D.faults H.digest engine.old (Next key) (Stepped result)
         engine.new }
     ensures leaves { LeavesPeer key engine.old.state result engine.new.state }
+    ensures fit { AllFit (sent_by (Stepped result)) }
 {
+    engine.keeps_laws();
     engine.next(key)
 }
 
@@ -62,7 +69,9 @@ pub(crate) fn rechoke<D: Disk + Drop, H: NodeHash>(
     ensures step { StepsTo D.history D.honest D.faults H.digest engine.old Rechoke (Rechoked result)
         engine.new }
     ensures alone { IsAlone key engine.new.state }
+    ensures fit { AllFit (sent_by (Rechoked result)) }
 {
+    engine.keeps_laws();
     engine.rechoke()
 }
 

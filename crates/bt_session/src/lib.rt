@@ -6,6 +6,10 @@ mod calls;
 mod end;
 mod frames;
 mod law;
+mod room;
+mod session;
+mod turn;
 
 pub use end::SessionEnd;
 pub use law::sessions_are_runs;
+pub use session::run_session;

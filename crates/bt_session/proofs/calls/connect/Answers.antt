@@ -1,4 +1,7 @@
-use Rattle.bt_session.proofs.OnePeer.{connect_alone}
+use Rattle.bt_machine.specs.declared.event.Event.TheVariants.{Connect}
+use Rattle.bt_machine.specs.declared.event.Answer.TheVariants.{Connected}
+use Rattle.bt_machine.proofs.Frames.{step_fits}
+use Rattle.bt_session.proofs.OnePeer.{connect_alone, refused_same}
 use Rattle.bt_session.proofs.OwnSteps.{own_connect}
 use Rattle.bt_session.proofs.calls.connect.Goals as goal
 
@@ -7,3 +10,13 @@ returns-clause-step g c = c.connect.ensures.step
 
 pub returns-clause-alone : goal.returns-clause-alone
 returns-clause-alone g c = connect_alone c.connect.result (own_connect g.H.NodeHash.digest c.connect.result c.connect.ensures.step.step) c.requires.empty
+
+pub returns-clause-fit : goal.returns-clause-fit
+returns-clause-fit g c =
+    let laws = c.keeps_laws.ensures in
+    step_fits g.H.NodeHash.digest g.met.H.NodeHash.has_32_bytes c.args.engine.now.state.torrent c.args.engine.now.state c.connect.new.self.state Connect
+    c.connect.ensures.step.calls (Connected c.connect.result) laws.lawful laws.shaped laws.sparse c.connect.ensures.step.step
+
+pub returns-clause-kept : goal.returns-clause-kept
+returns-clause-kept g c =
+    refused_same c.connect.result (own_connect g.H.NodeHash.digest c.connect.result c.connect.ensures.step.step) c.connect.ensures.devices

@@ -1,0 +1,61 @@
+-- What a part of a session does, wherever the session began.
+use Rattle.std.specs.Prelude.{ℕ, ◌≡◌, ◌≤◌, Bool, true, false, List, length, take, Option, Some, None, Result, MatchResult}
+use Rattle.std.specs.Io.KnownBytes.{Consumes, IsAtEnd}
+use Rattle.bt_disk.specs.History.{History}
+use Rattle.bt_book.specs.declared.names.PeerKey.{PeerKey}
+use Rattle.bt_machine.specs.declared.answer.Why.{Why}
+use Rattle.bt_machine.specs.declared.event.Event.{Event}
+use Rattle.bt_machine.specs.declared.event.Event.TheVariants.{Next, Rechoke}
+use Rattle.bt_machine.specs.declared.event.Answer.{Answer}
+use Rattle.bt_machine.specs.State.{EngineState}
+use Rattle.bt_session.specs.declared.end.SessionEnd.{SessionEnd}
+use Rattle.bt_session.specs.declared.end.SessionEnd.TheVariants.{Complete, Closed}
+use Rattle.bt_session.specs.Session.{Follows, IsDone}
+use Rattle.bt_session.specs.Progress.{Place, AllWritten, HasRun}
+use Rattle.bt_session.specs.Ends.{HasEnded}
+
+-- what may come next, by the engine's state and the last answer
+abbrev pub Outlook : Type 1
+Outlook = EngineState → Answer → Type 0
+
+-- this event is the next
+abbrev pub Awaits : PeerKey → (until_complete : Bool) → Event → Outlook
+Awaits key until event s last = Follows key until s last event
+
+-- A session has come here in so many turns, with all written that was sent, and goes on so.
+pub record GoesOn {D : Type 0} (history : D → History) (honest : D → Type 0) (faults : D → ℕ)
+    (dig : List ℕ → List ℕ) (key : PeerKey) (until_complete : Bool) (outlook : Outlook) (first : Place D)
+    (taken : ℕ) (now : Place D) : Type 0 where
+  pub last : Answer
+  pub ran : HasRun history honest faults dig key until_complete AllWritten first taken last now
+  pub next : outlook now.engine.state last
+
+-- A part of a session: it takes it from one place to another, where it goes on, or to its end.
+abbrev pub IsPart : {D A : Type 0} → (D → History) → (D → Type 0) → (D → ℕ) → (List ℕ → List ℕ)
+    → PeerKey → (until_complete : Bool) → Outlook → (took : ℕ → ℕ) → Place D → Result A SessionEnd
+    → (A → Outlook) → Place D → Type 0
+IsPart {D} history honest faults dig key until before took old result after new =
+    (given taken : ℕ) (first : Place D)
+    → GoesOn history honest faults dig key until before first taken old → took taken ≤ given
+    → MatchResult result
+    (λ done. GoesOn history honest faults dig key until (after done) first (took taken) new)
+    (λ end. HasEnded history honest faults dig key until given first end new)
+
+-- ---- its parts
+
+-- one read gave so many bytes, at the front of the buffer: none only where the reader has no more
+pub record IsGiven (old new : Option (List ℕ)) (count : ℕ) (buffer : List ℕ) : Type 0 where
+  pub within : count ≤ length buffer
+  pub taken : Consumes old new (take count buffer)
+  pub ended : count ≡ 0 → IsAtEnd new
+
+-- behind a wire event the next is taken; where there was none, the peers to serve are chosen
+abbrev pub event_after : PeerKey → (there_was : Bool) → Event
+event_after key true = Next key
+event_after key false = Rechoke
+
+-- behind an output the session ends where the peer was closed, or where it is done
+abbrev pub EndsAfter : (until_complete : Bool) → EngineState → Option Why → Option SessionEnd → Type 0
+EndsAfter until s (Some why) end = end ≡ Some (Closed why)
+EndsAfter until s None (Some end) = (end ≡ Complete) × IsDone until s
+EndsAfter until s None None = ¬ IsDone until s

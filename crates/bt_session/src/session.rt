@@ -1,0 +1,123 @@
+//! A whole session.
+ghost use Rattle.std.specs.Prelude.{[], ◌≡◌, ℕ, IfOk, IfErr, OnOk, OnErr};
+ghost use Rattle.bt_machine.specs.declared.event.Event.TheVariants.{Connect};
+ghost use Rattle.bt_machine.specs.declared.event.Answer.TheVariants.{Connected};
+ghost use Rattle.bt_machine.specs.State.{EngineView};
+ghost use Rattle.bt_machine.specs.View.{StepsTo};
+ghost use Rattle.bt_session.specs.Frames.{AllFit};
+ghost use Rattle.bt_session.specs.Progress.{Place, place};
+ghost use Rattle.bt_session.specs.Ends.{IsBetweenTurns, HasEnded, IsSession};
+ghost use Rattle.bt_session.specs.Parts.{GoesOn};
+ghost use Rattle.bt_session.specs.PeerSteps.{IsAlone, HasNoOther};
+
+use crate::calls::{connect, remove};
+use crate::end::SessionEnd;
+use crate::frames::write_frames;
+use crate::room::Room;
+use crate::turn::{Partner, end_after, turn};
+use bt_disk::Disk;
+use bt_engine::Engine;
+use bt_machine::{ConnectError, Output};
+use bt_tree::NodeHash;
+use std::alloc::Global;
+use std::io::{Read, Write};
+
+/// Connects a peer to the engine and serves it: at most `turns` times what one read of up to 16,384 bytes
+/// gave is fed, all wire events in it are taken, and the peers to serve are chosen anew. What the engine
+/// sends to the peer is written at once. At every end the peer is removed. With `until_complete` the session
+/// ends as soon as all files are complete.
+///
+/// Errors: no peer is connected, for want of memory or of a key. Then nothing was read or written.
+pub fn run_session<D: Disk + Drop, H: NodeHash, R: Read, W: Write>(
+    alloc: Global,
+    engine: &mut Engine<D, H>,
+    reader: &mut R,
+    writer: &mut W,
+    until_complete: bool,
+    turns: u64,
+) -> Result<SessionEnd, ConnectError>
+    requires no_peer { engine.old.state.peers ≡ [] }
+    ensures session { IfOk result (λ end. IsSession D.history D.honest D.faults H.digest until_complete turns
+        (place engine.old (R.remaining reader.old) (W.contents writer.old)) end
+        (place engine.new (R.remaining reader.new) (W.contents writer.new))) }
+    ensures gone { engine.new.state.peers ≡ [] }
+    ensures refused { IfErr result (λ error.
+        StepsTo D.history D.honest D.faults H.digest engine.old Connect (Connected (Err error)) engine.new) }
+    ensures kept { OnErr result (engine.new ≡ engine.old) }
+    ensures unread { OnErr result (reader.new ≡ reader.old) }
+    ensures unwritten { OnErr result (writer.new ≡ writer.old) }
+{
+    let (key, greeting) = connect(engine)?;
+    let partner = Partner {
+        key,
+        until_complete,
+    };
+    let mut room = Room::new(alloc);
+    let end = converse(engine, partner, &greeting, reader, writer, &mut room, turns);
+    // A peer that was closed is gone already.
+    let _ = remove(engine, key);
+    Ok(end)
+}
+
+/// Greets the peer, and takes turns with it to the session's end.
+fn converse<D: Disk + Drop, H: NodeHash, R: Read, W: Write>(
+    engine: &mut Engine<D, H>,
+    partner: Partner,
+    greeting: &Output,
+    reader: &mut R,
+    writer: &mut W,
+    room: &mut Room,
+    turns: u64,
+) -> SessionEnd
+    requires alone { IsAlone partner.key engine.old.state }
+    requires fit { AllFit greeting.now.send }
+    ensures ends { (first : EngineView D)
+        → StepsTo D.history D.honest D.faults H.digest first Connect
+        (Connected (Ok (partner.key, greeting.now))) engine.old
+        → HasEnded D.history D.honest D.faults H.digest partner.key partner.until_complete turns
+        (place first (R.remaining reader.old) (W.contents writer.old)) result
+        (place engine.new (R.remaining reader.new) (W.contents writer.new)) }
+    ensures no_other { HasNoOther partner.key engine.new.state }
+{
+    let alloc = room.alloc;
+    match write_frames(
+        alloc,
+        writer,
+        partner.key,
+        &greeting.send,
+        &mut room.outgoing,
+    ) {
+        Ok(()) => match end_after(engine, partner.until_complete, None) {
+            Some(end) => end,
+            None => take_turns(engine, partner, reader, writer, room, turns),
+        },
+        Err(end) => end,
+    }
+}
+
+/// Takes turns with the peer, so many at most, to the session's end.
+fn take_turns<D: Disk + Drop, H: NodeHash, R: Read, W: Write>(
+    engine: &mut Engine<D, H>,
+    partner: Partner,
+    reader: &mut R,
+    writer: &mut W,
+    room: &mut Room,
+    turns: u64,
+) -> SessionEnd
+    requires alone { IsAlone partner.key engine.old.state }
+    ensures ends { (first : Place D)
+        → GoesOn D.history D.honest D.faults H.digest partner.key partner.until_complete
+        (IsBetweenTurns partner.until_complete) first 0
+        (place engine.old (R.remaining reader.old) (W.contents writer.old))
+        → HasEnded D.history D.honest D.faults H.digest partner.key partner.until_complete turns first result
+        (place engine.new (R.remaining reader.new) (W.contents writer.new)) }
+    ensures no_other { HasNoOther partner.key engine.new.state }
+{
+    for _ in 0..turns {
+        match turn(engine, partner, reader, writer, room) {
+            Ok(()) => {}
+            Err(end) => return end,
+        }
+    }
+    SessionEnd::TurnsSpent
+}

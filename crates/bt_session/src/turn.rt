@@ -1,0 +1,191 @@
+//! The turns of a session: what a reader gives is fed, its wire events are taken, the peers to serve are
+//! chosen anew; and what these send is written.
+ghost use Rattle.std.specs.Prelude.{◌≡◌, ◌+◌, ◌<◌, ℕ, List, Option, length, IfOk, IfErr, OnErr, OnOk};
+ghost use Rattle.std.specs.Io.KnownBytes.{Keeps};
+ghost use Rattle.bt_machine.specs.declared.event.Event.TheVariants.{Next, Rechoke};
+ghost use Rattle.bt_session.specs.declared.end.SessionEnd.TheVariants.{ReadFault};
+ghost use Rattle.bt_session.specs.Progress.{place};
+ghost use Rattle.bt_session.specs.Ends.{IsBetweenTurns};
+ghost use Rattle.bt_session.specs.Parts.{Awaits, IsPart, IsGiven, event_after, EndsAfter};
+ghost use Rattle.bt_session.specs.PeerSteps.{IsAlone, HasNoOther, StaysAlone};
+
+use crate::calls::{feed, next, rechoke};
+use crate::end::SessionEnd;
+use crate::frames::write_frames;
+use crate::room::{READ_LEN, Room};
+use bt_book::PeerKey;
+use bt_disk::Disk;
+use bt_engine::Engine;
+use bt_machine::Why;
+use bt_tree::NodeHash;
+use std::io::{ErrorKind, Read, Write};
+
+/// The peer of a session, and whether it goes on until all files are complete only.
+#[derive(Clone, Copy)]
+pub(crate) struct Partner {
+    pub(crate) key: PeerKey,
+    pub(crate) until_complete: bool,
+}
+
+/// One turn. Errors: the session ended in it.
+pub(crate) fn turn<D: Disk + Drop, H: NodeHash, R: Read, W: Write>(
+    engine: &mut Engine<D, H>,
+    partner: Partner,
+    reader: &mut R,
+    writer: &mut W,
+    room: &mut Room,
+) -> Result<(), SessionEnd>
+    requires alone { IsAlone partner.key engine.old.state }
+    ensures part { IsPart D.history D.honest D.faults H.digest partner.key partner.until_complete
+        (IsBetweenTurns partner.until_complete) (λ turns. turns + 1)
+        (place engine.old (R.remaining reader.old) (W.contents writer.old)) result
+        (λ _. IsBetweenTurns partner.until_complete)
+        (place engine.new (R.remaining reader.new) (W.contents writer.new)) }
+    ensures alone { OnOk result (IsAlone partner.key engine.new.state) }
+    ensures no_other { HasNoOther partner.key engine.new.state }
+{
+    receive(engine, partner, reader, &mut room.incoming)?;
+    take_events(engine, partner, writer, room)?;
+    choose(engine, partner, writer, room)
+}
+
+/// Feeds what the reader gives next. Errors: Ended where it has no more bytes; ReadFault; Memory.
+fn receive<D: Disk + Drop, H: NodeHash, R: Read>(
+    engine: &mut Engine<D, H>,
+    partner: Partner,
+    reader: &mut R,
+    buffer: &mut [u8; READ_LEN],
+) -> Result<(), SessionEnd>
+    requires alone { IsAlone partner.key engine.old.state }
+    ensures part { (contents : Option (List ℕ))
+        → IsPart D.history D.honest D.faults H.digest partner.key partner.until_complete
+        (IsBetweenTurns partner.until_complete) (λ turns. turns + 1)
+        (place engine.old (R.remaining reader.old) contents) result
+        (λ _. Awaits partner.key partner.until_complete (Next partner.key))
+        (place engine.new (R.remaining reader.new) contents) }
+    ensures alone { IsAlone partner.key engine.new.state }
+{
+    let count = read_some(reader, buffer)?;
+    if count == 0 {
+        return Err(SessionEnd::Ended);
+    }
+    match feed(engine, partner.key, &buffer[..count]) {
+        Ok(()) => Ok(()),
+        Err(_) => Err(SessionEnd::Memory),
+    }
+}
+
+/// Reads once, and says how many bytes came: none where there are no more. A read that was interrupted is
+/// made again. Errors: ReadFault, and none of the reader's bytes is lost.
+fn read_some<R: Read>(reader: &mut R, buffer: &mut [u8]) -> Result<usize, SessionEnd>
+    requires some { 0 < length buffer.old }
+    ensures given { IfOk result (λ count. IsGiven (R.remaining reader.old) (R.remaining reader.new) count
+        buffer.new) }
+    ensures kept { OnErr result (Keeps (R.remaining reader.old) (R.remaining reader.new)) }
+    ensures fault { IfErr result (λ end. end ≡ ReadFault) }
+{
+    // A bound, so that it ends whatever the system gives.
+    for _ in 0..u64::MAX {
+        match reader.read(buffer) {
+            Ok(count) => return Ok(count),
+            Err(error) if error.kind() == ErrorKind::Interrupted => {}
+            Err(_) => return Err(SessionEnd::ReadFault),
+        }
+    }
+    Err(SessionEnd::ReadFault)
+}
+
+/// Takes the peer's wire events, until none has come whole. Errors: the session ended.
+fn take_events<D: Disk + Drop, H: NodeHash, W: Write>(
+    engine: &mut Engine<D, H>,
+    partner: Partner,
+    writer: &mut W,
+    room: &mut Room,
+) -> Result<(), SessionEnd>
+    requires alone { IsAlone partner.key engine.old.state }
+    ensures part { (remaining : Option (List ℕ))
+        → IsPart D.history D.honest D.faults H.digest partner.key partner.until_complete
+        (Awaits partner.key partner.until_complete (Next partner.key)) (λ turns. turns)
+        (place engine.old remaining (W.contents writer.old)) result
+        (λ _. Awaits partner.key partner.until_complete Rechoke)
+        (place engine.new remaining (W.contents writer.new)) }
+    ensures alone { OnOk result (IsAlone partner.key engine.new.state) }
+    ensures no_other { HasNoOther partner.key engine.new.state }
+{
+    while take_event(engine, partner, writer, room)? {}
+    Ok(())
+}
+
+/// Takes the peer's next wire event, and writes what is sent to the peer: false where none has come whole.
+/// Errors: the session ended.
+fn take_event<D: Disk + Drop, H: NodeHash, W: Write>(
+    engine: &mut Engine<D, H>,
+    partner: Partner,
+    writer: &mut W,
+    room: &mut Room,
+) -> Result<bool, SessionEnd>
+    requires alone { IsAlone partner.key engine.old.state }
+    ensures part { (remaining : Option (List ℕ))
+        → IsPart D.history D.honest D.faults H.digest partner.key partner.until_complete
+        (Awaits partner.key partner.until_complete (Next partner.key)) (λ turns. turns)
+        (place engine.old remaining (W.contents writer.old)) result
+        (λ more. Awaits partner.key partner.until_complete (event_after partner.key more))
+        (place engine.new remaining (W.contents writer.new)) }
+    ensures stays { IfOk result (StaysAlone partner.key engine.old.state engine.new.state) }
+    ensures no_other { HasNoOther partner.key engine.new.state }
+{
+    match next(engine, partner.key) {
+        Ok(Some(output)) => {
+            let alloc = room.alloc;
+            let buffer = &mut room.outgoing;
+            write_frames(alloc, writer, partner.key, &output.send, buffer)?;
+            match end_after(engine, partner.until_complete, output.close) {
+                Some(end) => Err(end),
+                None => Ok(true),
+            }
+        }
+        Ok(None) => Ok(false),
+        Err(_) => Err(SessionEnd::Memory),
+    }
+}
+
+/// How the session ends behind an output of its peer, if it does: the peer was closed, or all files are
+/// complete.
+pub(crate) fn end_after<D: Disk + Drop, H: NodeHash>(
+    engine: &Engine<D, H>,
+    until_complete: bool,
+    close: Option<Why>,
+) -> Option<SessionEnd>
+    ensures { EndsAfter until_complete engine.now.state close result }
+{
+    match close {
+        Some(why) => Some(SessionEnd::Closed(why)),
+        None if until_complete && engine.is_complete() => Some(SessionEnd::Complete),
+        None => None,
+    }
+}
+
+/// Chooses the peers to serve anew, and writes what is sent to the peer. Errors: WriteFault, Memory.
+fn choose<D: Disk + Drop, H: NodeHash, W: Write>(
+    engine: &mut Engine<D, H>,
+    partner: Partner,
+    writer: &mut W,
+    room: &mut Room,
+) -> Result<(), SessionEnd>
+    requires alone { IsAlone partner.key engine.old.state }
+    ensures part { (remaining : Option (List ℕ))
+        → IsPart D.history D.honest D.faults H.digest partner.key partner.until_complete
+        (Awaits partner.key partner.until_complete Rechoke) (λ turns. turns)
+        (place engine.old remaining (W.contents writer.old)) result
+        (λ _. IsBetweenTurns partner.until_complete)
+        (place engine.new remaining (W.contents writer.new)) }
+    ensures alone { IsAlone partner.key engine.new.state }
+{
+    match rechoke(engine, partner.key) {
+        Ok(output) => {
+            let alloc = room.alloc;
+            write_frames(alloc, writer, partner.key, &output.send, &mut room.outgoing)
+        }
+        Err(_) => Err(SessionEnd::Memory),
+    }
+}
