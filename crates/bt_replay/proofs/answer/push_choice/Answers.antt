@@ -1,0 +1,11 @@
+use Rattle.std.proofs.Common.{subst}
+use Rattle.bt_machine.specs.declared.event.Answer.TheVariants.{Rechoked}
+use Rattle.bt_machine.specs.Law.{sent_by}
+use Rattle.bt_replay.specs.Answer.{AllFit}
+use Rattle.bt_replay.proofs.answer.push_choice.Goals as goal
+
+pub push_output-requires : goal.push_output-requires
+push_output-requires c = subst (λ r. AllFit (sent_by (Rechoked r))) c.in-Ok.is c.requires
+
+pub returns-in-Err : goal.returns-in-Err
+returns-in-Err c = rw c.in-Err.is c.push_refusal.ensures

@@ -1,0 +1,10 @@
+-- scripts
+pub mod Field
+pub mod Line
+pub mod Event
+pub mod Run
+-- what is told
+pub mod Answer
+pub mod Fault
+-- what private steps cite
+pub mod EventSteps

@@ -1,0 +1,77 @@
+//! The lines behind a script's devices, one after the other.
+ghost use Rattle.std.specs.Prelude.{◌≡◌, ◌+◌, ◌^◌, ◌<◌, OnOk, IfErr, length};
+ghost use Rattle.std.specs.Io.KnownBytes.{Appends};
+ghost use Rattle.bt_replay.specs.Run.{EndsAtLine, EndsEarly, HasRun, HasRunOne, lines_in};
+
+use crate::event::told;
+use crate::fault::ReplayFault;
+use crate::field::cut;
+use crate::line::line_in;
+use bt_disk::Disk;
+use bt_engine::Engine;
+use bt_tree::NodeHash;
+use std::alloc::Global;
+use std::io::Write;
+
+/// Does what the lines ask for, one after the other, and writes what tells of each as it is done. The first of
+/// them has this number.
+pub fn run_lines<D: Disk + Drop, H: NodeHash, W: Write>(
+    alloc: Global,
+    engine: &mut Engine<D, H>,
+    hash: H,
+    handshake: &[u8],
+    lines: Option<&[u8]>,
+    number: u64,
+    writer: &mut W,
+) -> Result<(), ReplayFault>
+    requires { number + length (lines_in lines) < 2 ^ 64 }
+    ensures done { OnOk result (HasRun D.history D.honest D.faults H.digest handshake.now engine.old
+        (lines_in lines.entry) (W.contents writer.old) (W.contents writer.new) engine.new) }
+    ensures ended { IfErr result (EndsEarly D.history D.honest D.faults H.digest handshake.now engine.old
+        number (lines_in lines.entry) (W.contents writer.old) (W.contents writer.new)) }
+{
+    let mut rest = lines;
+    let mut number = number;
+    'lines: while let Some(text) = rest {
+        let (line, more) = cut(text, b'\n');
+        run_line(alloc, engine, hash, handshake, line, number, writer)?;
+        rest = more;
+        number += 1;
+    }
+    Ok(())
+}
+
+/// Does what one line asks for, and writes what tells of it.
+fn run_line<D: Disk + Drop, H: NodeHash, W: Write>(
+    alloc: Global,
+    engine: &mut Engine<D, H>,
+    hash: H,
+    handshake: &[u8],
+    line: &[u8],
+    number: u64,
+    writer: &mut W,
+) -> Result<(), ReplayFault>
+    ensures done { OnOk result (HasRunOne D.history D.honest D.faults H.digest handshake.now engine.old
+        line.now (W.contents writer.old) (W.contents writer.new) engine.new) }
+    ensures ended { IfErr result (EndsAtLine handshake.now number line.now
+        (W.contents writer.old) (W.contents writer.new)) }
+{
+    let Some(spelled) = line_in(alloc, line)? else {
+        return Err(ReplayFault::Line(number));
+    };
+    let Some(text) = told(alloc, engine, hash, handshake, &spelled)? else {
+        return Err(ReplayFault::Line(number));
+    };
+    write_text(writer, text.as_str())
+}
+
+/// Writes a text.
+fn write_text<W: Write>(writer: &mut W, text: &str) -> Result<(), ReplayFault>
+    ensures text { OnOk result (Appends (W.contents writer.old) (W.contents writer.new) text.now) }
+    ensures fault { IfErr result (λ fault. fault ≡ ReplayFault.Write) }
+{
+    match writer.write_all(text.as_bytes()) {
+        Ok(()) => Ok(()),
+        Err(_) => Err(ReplayFault::Write),
+    }
+}
