@@ -1,12 +1,96 @@
 //! What events answer, in words.
 
-use bt_book::BlockId;
-use bt_machine::{FileReport, Frame, Note, Output, Why};
+use bt_book::{BlockId, PeerKey};
+use bt_machine::{
+    AdoptError, Answer, ConnectError, EngineError, FileReport, FlushError, Frame, Note, Output, Why,
+};
+use bt_store::Adopted;
 use bt_wire::{fits, write_message};
 use std::alloc::{AllocError, Global};
 
+/// What an event answers.
+pub fn answer_lines(alloc: Global, answer: &Answer) -> Result<String, AllocError> {
+    match answer {
+        Answer::Connected(told) => connected_lines(alloc, told),
+        Answer::Fed(told) => peer_line(alloc, "fed", told),
+        Answer::Stepped(told) => stepped_lines(alloc, told),
+        Answer::Lost(told) => peer_line(alloc, "done", told),
+        Answer::Rechoked(told) => rechoked_lines(alloc, told),
+        Answer::Adopted(told) => adopted_line(alloc, told),
+        Answer::Flushed(told) => flushed_line(alloc, told),
+    }
+}
+
+fn connected_lines(
+    alloc: Global,
+    told: &Result<(PeerKey, Output), ConnectError>,
+) -> Result<String, AllocError> {
+    match told {
+        Ok((key, output)) => {
+            let lines = output_lines(alloc, output)?;
+            format!(in alloc; "peer {}\n{lines}", key.0)
+        }
+        Err(error) => format!(in alloc; "refused {error}\n"),
+    }
+}
+
+fn stepped_lines(
+    alloc: Global,
+    told: &Result<Option<Output>, EngineError>,
+) -> Result<String, AllocError> {
+    match told {
+        Ok(Some(output)) => {
+            let lines = output_lines(alloc, output)?;
+            format!(in alloc; "step\n{lines}")
+        }
+        Ok(None) => String::from_str(alloc, "none\n"),
+        Err(error) => format!(in alloc; "refused {error}\n"),
+    }
+}
+
+/// An event of a peer that answers nothing else.
+fn peer_line(
+    alloc: Global,
+    word: &str,
+    told: &Result<(), EngineError>,
+) -> Result<String, AllocError> {
+    match told {
+        Ok(()) => format!(in alloc; "{word}\n"),
+        Err(error) => format!(in alloc; "refused {error}\n"),
+    }
+}
+
+fn rechoked_lines(alloc: Global, told: &Result<Output, AllocError>) -> Result<String, AllocError> {
+    match told {
+        Ok(output) => {
+            let lines = output_lines(alloc, output)?;
+            format!(in alloc; "step\n{lines}")
+        }
+        Err(error) => format!(in alloc; "refused {error}\n"),
+    }
+}
+
+fn adopted_line(alloc: Global, told: &Result<Adopted, AdoptError>) -> Result<String, AllocError> {
+    match told {
+        Ok(adopted) => {
+            format!(in alloc;
+                "adopted {} of {}, {} faults\n",
+                adopted.marked, adopted.next, adopted.faults
+            )
+        }
+        Err(error) => format!(in alloc; "refused {error}\n"),
+    }
+}
+
+fn flushed_line(alloc: Global, told: &Result<(), FlushError>) -> Result<String, AllocError> {
+    match told {
+        Ok(()) => String::from_str(alloc, "done\n"),
+        Err(error) => format!(in alloc; "refused {error}\n"),
+    }
+}
+
 /// What an event sends and notes, a line each.
-pub fn output_lines(alloc: Global, output: &Output) -> Result<String, AllocError> {
+fn output_lines(alloc: Global, output: &Output) -> Result<String, AllocError> {
     let mut lines = String::new(alloc);
     for (key, frame) in output.send.iter() {
         let frame = frame_words(alloc, frame)?;

@@ -6,6 +6,7 @@ mod answers;
 mod bytes;
 mod device;
 mod event;
+mod run;
 mod stage;
 
 use stage::Stage;
@@ -18,5 +19,7 @@ fn main(rt: HostRuntime) -> anyhow::Result<()> {
         let answer = stage.answer(alloc, line.as_str())?;
         print!(rt; "{answer}")?;
     }
+    let answer = stage.finish(alloc)?;
+    print!(rt; "{answer}")?;
     Ok(())
 }

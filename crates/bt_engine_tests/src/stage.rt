@@ -2,15 +2,14 @@
 
 use crate::bytes::bytes_of;
 use crate::device::Device;
-use crate::event::event_lines;
-use bt_disk::{FaultDisk, MemoryDisk};
+use crate::event::{byte_events, event_of};
+use crate::run::Run;
 use bt_engine::Engine;
 use bt_lanes::Lanes;
+use bt_machine::Event;
 use bt_meta::{Torrent, read_torrent};
 use std::alloc::{AllocError, Global};
 use std::mem;
-
-pub type TestEngine = Engine<FaultDisk<MemoryDisk>, Lanes>;
 
 /// A torrent whose engine has not begun, and the devices of its files that have a byte.
 #[derive(Drop)]
@@ -24,20 +23,54 @@ pub struct Beginning {
 pub enum Stage {
     Empty,
     Beginning(Beginning),
-    Running(TestEngine),
+    Running(Run),
 }
 
 impl Stage {
-    /// What a line answers. One that begins with `#` is told as it is, and what is no line says so.
+    /// Takes a line, and says what is answered by then: events are run as one list when a line comes that is none. One that begins
+    /// with `#` is told as it is, and what is no line says so.
     pub fn answer(&mut self, alloc: Global, line: &str) -> Result<String, AllocError> {
-        if line.starts_with('#') || line.is_empty() {
-            return format!(in alloc; "{line}\n");
-        }
         let (name, rest) = line.split_once(' ').unwrap_or((line, ""));
+        if let Some(event) = event_of(alloc, name, rest)? {
+            return self.take_event(alloc, event);
+        }
+        let mut lines = self.finish(alloc)?;
+        lines.push_str(self.other_lines(alloc, line, name, rest)?.as_str())?;
+        Ok(lines)
+    }
+
+    /// Runs the events that have not run, and says what they answer.
+    pub fn finish(&mut self, alloc: Global) -> Result<String, AllocError> {
+        match self {
+            Stage::Running(run) => run.finish(alloc),
+            _ => Ok(String::new(alloc)),
+        }
+    }
+
+    fn take_event(&mut self, alloc: Global, event: Event) -> Result<String, AllocError> {
+        self.begin(alloc)?;
+        match self {
+            Stage::Running(run) => {
+                run.push(event)?;
+                Ok(String::new(alloc))
+            }
+            _ => String::from_str(alloc, "no engine\n"),
+        }
+    }
+
+    /// What a line answers that is no event.
+    fn other_lines(
+        &mut self,
+        alloc: Global,
+        line: &str,
+        name: &str,
+        rest: &str,
+    ) -> Result<String, AllocError> {
         match name {
             "torrent" => self.take_torrent(alloc, rest),
             "bytes" | "fault" | "flip" => self.set_device(alloc, name, rest),
-            _ => self.take_event(alloc, name, rest),
+            _ if line.starts_with('#') || line.is_empty() => format!(in alloc; "{line}\n"),
+            _ => self.tell(alloc, name, rest),
         }
     }
 
@@ -69,11 +102,17 @@ impl Stage {
         String::from_str(alloc, if set { "" } else { "no such setting\n" })
     }
 
-    fn take_event(&mut self, alloc: Global, name: &str, rest: &str) -> Result<String, AllocError> {
+    /// What is asked of an engine, and bytes that come one by one.
+    fn tell(&mut self, alloc: Global, name: &str, rest: &str) -> Result<String, AllocError> {
         self.begin(alloc)?;
-        match self {
-            Stage::Running(engine) => event_lines(alloc, engine, name, rest),
-            _ => String::from_str(alloc, "no engine\n"),
+        let Stage::Running(run) = self else {
+            return String::from_str(alloc, "no engine\n");
+        };
+        match name {
+            "report" => run.report_lines(alloc),
+            "peers" => run.peers_line(alloc),
+            "each" => each_lines(alloc, run, rest),
+            _ => format!(in alloc; "no line {name}\n"),
         }
     }
 
@@ -88,13 +127,23 @@ impl Stage {
     }
 }
 
+fn each_lines(alloc: Global, run: &mut Run, rest: &str) -> Result<String, AllocError> {
+    let Some(events) = byte_events(alloc, rest)? else {
+        return String::from_str(alloc, "no bytes\n");
+    };
+    for event in events {
+        run.push(event)?;
+    }
+    run.finish_bytes(alloc)
+}
+
 fn started(alloc: Global, torrent: Torrent, devices: Vec<Device>) -> Result<Stage, AllocError> {
     let mut disks = Vec::with_capacity(alloc, devices.len())?;
     for device in devices {
         disks.push(device.into_disk(alloc))?;
     }
     match Engine::start(alloc, torrent, Lanes, disks) {
-        Ok(engine) => Ok(Stage::Running(engine)),
+        Ok(engine) => Ok(Stage::Running(Run::new(alloc, engine))),
         Err(_) => Ok(Stage::Empty),
     }
 }

@@ -1,7 +1,7 @@
 -- What a flush that answered Ok has kept, no later stop loses.
 use Rattle.bt_disk.proofs.Histories.{kept_from_now, calls_keep_bytes}
 use Rattle.bt_store.proofs.AdoptionMarks.{adopt_marks}
-use Rattle.bt_machine.proofs.Base.{[], ◌≡◌, ℕ, List, ◌∷◌, ◌++◌, Option, Some, Ok, refl, sym, ap, ◌∙◌, subst, slice_get, History, Facts, block_length, BlockId}
+use Rattle.bt_machine.proofs.Base.{[], ◌≡◌, ℕ, List, ◌∷◌, ◌++◌, Option, Some, Ok, refl, sym, ap, ◌∙◌, subst, slice_get, History, Facts, block_length}
 use Rattle.bt_disk.specs.State.{IsImage}
 use Rattle.bt_disk.specs.History.{moment_of}
 use Rattle.bt_machine.specs.Crash.{IsBlockKept}
@@ -14,7 +14,7 @@ use Rattle.bt_machine.specs.declared.event.Answer.{Answer}
 use Rattle.bt_machine.specs.declared.event.Answer.TheVariants.{Flushed}
 use Rattle.bt_machine.proofs.Machine.{Digest, FileState, EngineState, DeviceCalls, Step, RunOn, IsFile, stored_block}
 use Rattle.bt_machine.proofs.Lists.{and_then_some, same_some}
-use Rattle.bt_machine.proofs.Shape.{SameFile, SameTree, step_keeps}
+use Rattle.bt_machine.proofs.Shape.{step_keeps}
 use Rattle.bt_machine.proofs.Sound.{step_sound}
 use Rattle.bt_machine.proofs.Survival.{flush_kept, images_run}
 use Rattle.bt_machine.proofs.Unmarks.{device_before, run_marks_kept}
