@@ -2,3 +2,5 @@ pub mod Parts
 pub mod Fields
 pub mod Telling
 pub mod LinesRun
+pub mod DeviceSettings
+pub mod ScriptLines

@@ -77,7 +77,7 @@ next_fits history honest faults dig handshake first now start number all text li
     grind (arith, few, at.counted, whole, len)
 
 -- where a line is the last, the lines end there
-kept_run : {D : Type 0} (history : D → History) (honest : D → Type 0) (faults : D → ℕ) (dig : List ℕ → List ℕ)
+pub kept_run : {D : Type 0} (history : D → History) (honest : D → Type 0) (faults : D → ℕ) (dig : List ℕ → List ℕ)
     (handshake : List ℕ) (first now : EngineView D) (lines : List (List ℕ)) (old new newer : Option (List ℕ))
     → HasRun history honest faults dig handshake first lines old new now → Keeps new newer
     → HasRun history honest faults dig handshake first lines old newer now

@@ -3,8 +3,11 @@ pub mod Field
 pub mod Line
 pub mod Event
 pub mod Run
+pub mod Devices
+pub mod Replay
 -- what is told
 pub mod Answer
 pub mod Fault
 -- what private steps cite
 pub mod EventSteps
+pub mod DevicesSteps

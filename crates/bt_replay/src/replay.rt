@@ -1,0 +1,128 @@
+//! A script, from its torrent to its last line.
+ghost use Rattle.std.specs.Prelude.{◌≡◌, ◌^◌, ◌<◌, ◌≤◌, IfOk, IfErr, filter_map, length};
+ghost use Rattle.bt_replay.specs.Event.{peer_handshake};
+ghost use Rattle.bt_replay.specs.Replay.{BeginsOn, NamesNone, NamesTorrent, Replays, torrent_bytes, without_last_feed};
+ghost use Rattle.bt_replay.specs.Run.{lines_in};
+
+use crate::devices::{Device, first_devices};
+use crate::fault::ReplayFault;
+use crate::field::cut;
+use crate::line::{Line, line_in};
+use crate::run::run_lines;
+use crate::settings::set_devices;
+use bt_engine::Engine;
+use bt_lanes::Lanes;
+use bt_meta::{MetaError, Torrent, read_torrent};
+use bt_wire::{Bytes, HANDSHAKE_LEN, Handshake, write_handshake};
+use std::alloc::{AllocError, Global};
+use std::io::Write;
+
+/// How many bytes of a script are read.
+pub const MAX_SCRIPT_LENGTH: usize = 1 << 24;
+
+/// Starts an engine on the devices that a script names, does what its lines ask for, one after the other, and
+/// writes what tells of each as it is done.
+pub fn run_script<W: Write>(alloc: Global, script: &[u8], writer: &mut W) -> Result<(), ReplayFault>
+    requires { length script.now ≤ 2 ^ 24 }
+    ensures { Replays script.now (W.contents writer.old) (W.contents writer.new) result }
+{
+    let (first, rest) = cut(without_last_feed(script), b'\n');
+    let torrent = torrent_in(alloc, first)?;
+    let handshake = peer_handshake(&torrent);
+    let (mut engine, rest, count) = begin(alloc, torrent, rest)?;
+    run_lines(
+        alloc,
+        &mut engine,
+        Lanes,
+        &handshake,
+        rest,
+        count + 2,
+        writer,
+    )?;
+    match writer.flush() {
+        Ok(()) => Ok(()),
+        Err(_) => Err(ReplayFault::Write),
+    }
+}
+
+/// A text without the line feed at its end, where there is one.
+fn without_last_feed(text: &[u8]) -> &[u8]
+    ensures { result.now ≡ without_last_feed text.now }
+{
+    if !text.is_empty() && text[text.len() - 1] == b'\n' {
+        &text[..text.len() - 1]
+    } else {
+        text
+    }
+}
+
+/// The torrent that the first line names.
+fn torrent_in(alloc: Global, text: &[u8]) -> Result<Torrent, ReplayFault>
+    ensures torrent { IfOk result (NamesTorrent text.now) }
+    ensures fault { IfErr result (NamesNone text.now) }
+{
+    let Some(line) = line_in(alloc, text)? else {
+        return Err(ReplayFault::Line(1));
+    };
+    let Some(bytes) = torrent_bytes(line) else {
+        return Err(ReplayFault::Line(1));
+    };
+    match read_torrent(alloc, bytes.as_slice()) {
+        Ok(torrent) => Ok(torrent),
+        Err(MetaError::OutOfMemory) => Err(ReplayFault::OutOfMemory),
+        Err(refusal) => Err(ReplayFault::Torrent(refusal)),
+    }
+}
+
+/// The bytes of the torrent that a line names, where it names one.
+fn torrent_bytes(line: Line) -> Option<Bytes>
+    ensures { result ≡ torrent_bytes line }
+{
+    match line {
+        Line::Torrent(bytes) => Some(bytes),
+        _ => None,
+    }
+}
+
+/// The handshake of a peer of the script.
+fn peer_handshake(torrent: &Torrent) -> [u8; HANDSHAKE_LEN]
+    ensures { result ≡ peer_handshake torrent.now }
+{
+    let whole = torrent.infohash();
+    let mut infohash = [0; 20];
+    infohash.copy_from_slice(&whole[..20]);
+    write_handshake(&Handshake {
+        infohash,
+        peer_id: [b'p'; 20],
+    })
+}
+
+/// Starts the engine on the devices that the lines set, and gives the lines behind these settings, and how many
+/// settings there are.
+fn begin<'a>(
+    alloc: Global,
+    torrent: Torrent,
+    lines: Option<&'a [u8]>,
+) -> Result<(Engine<Device, Lanes>, Option<&'a [u8]>, u64), ReplayFault>
+    requires { length (lines_in lines) < 2 ^ 64 }
+    ensures begun { IfOk result (λ b. BeginsOn torrent (lines_in lines.entry) b.0 (lines_in b.1) b.2) }
+    ensures fault { IfErr result (λ fault. fault ≡ ReplayFault.OutOfMemory) }
+{
+    let mut devices = first_devices(alloc, torrent.files())?;
+    let (rest, count) = set_devices(alloc, &mut devices, lines)?;
+    let disks = disks_of(alloc, devices)?;
+    match Engine::start(alloc, torrent, Lanes, disks) {
+        Ok(engine) => Ok((engine, rest, count)),
+        Err(_) => Err(ReplayFault::OutOfMemory),
+    }
+}
+
+/// The devices that are there, in their order.
+fn disks_of(alloc: Global, devices: Vec<Option<Device>>) -> Result<Vec<Device>, AllocError>
+    ensures { IfOk result (λ disks. disks.items ≡ filter_map (λ device. device) devices.items) }
+{
+    devices
+        .into_iter()
+        .filter_map(|device| device)
+        .collect(alloc)
+}
