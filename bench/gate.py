@@ -4,8 +4,8 @@
     python3 bench/gate.py [--kept] [CRATE..]
 
 With names of crates only these and those below them are tried. Everything is proved from nothing; with --kept, what earlier runs on
-this machine passed is not proved again, so that a table of what a change costs comes sooner. What the gate prints goes to standard
-error, the table to standard output, in processor minutes. `bench/gate.txt` has what each crate may take: a line each, with the minutes
+this machine passed is not proved again, so that a table of what a change costs comes sooner. A toolchain whose `rt ci` takes no words
+proves all anew each time. What the gate prints goes to standard error, the table to standard output, in processor minutes. `bench/gate.txt` has what each crate may take: a line each, with the minutes
 of its proof, of its tests and of its edits. A crate that takes more, or that the file does not name, ends the run with status 1; a
 gate that fails, with its own.
 
@@ -105,7 +105,11 @@ def limits():
 def main(words):
     names = [word for word in words if not word.startswith("--")]
     begun = time.monotonic()
-    status, taken, whole = measured(["rt", "ci", *([] if "--kept" in words else ["--anew"]), *names])
+    knows_words = "--anew" in subprocess.run(["rt", "help"], capture_output=True, text=True).stdout
+    if names and not knows_words:
+        sys.exit("this toolchain's `rt ci` takes no names: run it without")
+    anew = ["--anew"] if knows_words and "--kept" not in words else []
+    status, taken, whole = measured(["rt", "ci", *anew, *names])
     minutes = (time.monotonic() - begun) / 60
     may, over = limits(), False
     print(f"{'':16}" + "".join(f"{part:>9}{'at most':>9}" for part in PARTS))
