@@ -1,10 +1,8 @@
 use Rattle.std.proofs.Common.{subst, IfSome}
 use Rattle.bt_meta.specs.PieceBlocks.{IsBlockRange}
-use Rattle.bt_follow_up.proofs.Sendings.{whole_range}
 use Rattle.bt_follow_up.proofs.sending.request_of.Goals as goal
 
 pub returns : goal.returns
 returns c =
     let b = c.args.block in
-    whole_range c.args.torrent.now b c.unwrap-range.result c.keeps_laws.ensures.size
-    (subst (λ o. IfSome o (IsBlockRange c.args.torrent.now b.file b.block)) c.unwrap-range.ensures c.range_of.ensures.value)
+    subst (λ o. IfSome o (IsBlockRange c.args.torrent.now b.file b.block)) c.unwrap-range.ensures c.range_of.ensures.value
