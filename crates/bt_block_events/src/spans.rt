@@ -47,12 +47,12 @@ fn block_in(torrent: &Torrent, piece: u32, begin: u32, length: u32) -> Option<Bl
         file: span.file,
         block: first_block(span),
     };
-    let come = PieceRange {
+    let range = PieceRange {
         piece,
         begin,
         length,
     };
-    if torrent.range_of(block.file, block.block)? != come {
+    if torrent.range_of(block.file, block.block)? != range {
         return None;
     }
     Some(block)
