@@ -7,7 +7,7 @@ ghost use Rattle.bt_machine.specs.Spans.{IsRangeOf, first_block, last_block};
 ghost use Rattle.bt_block_events.specs.SpansSteps.{IsShortSpan};
 
 use bt_book::BlockId;
-use bt_meta::{PieceRange, Span, Torrent, block_ranges_are_places};
+use bt_meta::{Span, Torrent, block_ranges_are_places};
 use bt_tree::BLOCK_LEN;
 use bt_wire::Ask;
 
@@ -22,43 +22,41 @@ pub(crate) fn block_of(torrent: &Torrent, piece: u32, begin: u32, bytes: &[u8]) 
     let Ok(length) = u32::try_from(bytes.len()) else {
         return None;
     };
-    block_in(torrent, piece, begin, length)
-}
-
-/// The block of which so many bytes of a piece, from the byte `begin` on, are all.
-fn block_in(torrent: &Torrent, piece: u32, begin: u32, length: u32) -> Option<BlockId>
-    ensures some { IfSome result (IsRangeOf torrent.now piece begin length) }
-    ensures none { IfNone result ((b : BlockId) → ¬ IsRangeOf torrent.now piece begin length b) }
-    ensures one { (a b : BlockId) → IsRangeOf torrent.now piece begin length a
-        → IsRangeOf torrent.now piece begin length b → a ≡ b }
-{
-    block_ranges_are_places();
-    keeps_laws(torrent);
-    let span = place_of(
+    block_in(
         torrent,
         Ask {
             piece,
             begin,
             length,
         },
-    )?;
-    // It can be no other block than the first that its bytes lie in.
+    )
+}
+
+/// The block whose request would be this one.
+fn block_in(torrent: &Torrent, ask: Ask) -> Option<BlockId>
+    ensures some { IfSome result (IsRangeOf torrent.now ask.piece ask.begin ask.length) }
+    ensures none { IfNone result
+        ((b : BlockId) → ¬ IsRangeOf torrent.now ask.piece ask.begin ask.length b) }
+    ensures one { (a b : BlockId) → IsRangeOf torrent.now ask.piece ask.begin ask.length a
+        → IsRangeOf torrent.now ask.piece ask.begin ask.length b → a ≡ b }
+{
+    block_ranges_are_places();
+    keeps_laws(torrent);
+    let span = place_of(torrent, ask)?;
+    // It can be no other block than the first that the range lies in.
     let block = BlockId {
         file: span.file,
         block: first_block(span),
     };
-    let range = PieceRange {
-        piece,
-        begin,
-        length,
-    };
-    if torrent.range_of(block.file, block.block)? != range {
+    let range = torrent.range_of(block.file, block.block)?;
+    let is_all = range.piece == ask.piece && range.begin == ask.begin && range.length == ask.length;
+    if !is_all {
         return None;
     }
     Some(block)
 }
 
-/// Where the range lies that a peer asks for. No file is longer than 2^40 bytes.
+/// Where the range of a request lies. No file is longer than 2^40 bytes.
 pub(crate) fn place_of(torrent: &Torrent, ask: Ask) -> Option<Span>
     ensures some { IfSome result (IsPlace torrent.now ask.piece ask.begin ask.length) }
     ensures short { IfSome result IsShortSpan }

@@ -1,8 +1,8 @@
 -- Peers and what they are asked for, over steps.
-use Rattle.bt_machine.proofs.Base.{[], ◌≡◌, ◌≢◌, ℕ, ◌+◌, ◌<◌, inl, inr, false, ◌∷◌, ◌++◌, length, map, take, drop, Some, refl, sym, ap, ◌∙◌, subst, arith, length-append, slice_get, slice_set, Contains, length-set, length-map, length-replicate, Contains-append_cases, total_pieces, failed, PeerKey, max_peers}
+use Rattle.bt_machine.proofs.Base.{[], ◌≡◌, ◌≢◌, ℕ, ◌+◌, ◌<◌, inl, inr, false, ◌∷◌, ◌++◌, length, map, take, drop, Some, refl, sym, ap, ◌∙◌, subst, arith, length-append, slice_get, slice_set, Contains, length-set, length-map, length-replicate, Contains-append_cases, total_pieces, PeerKey, max_peers}
 use Rattle.bt_machine.proofs.Machine.{Digest, Connect, Feed, Next, Lost, Rechoke, Adopt, Flush, PeerState, EngineState, with_peer, Handles, RequestsHashes, requests, rests, FollowsUp, without_peer, with_pending, TakesEvent, StepNext, no_peer, waits, keeps_peer, closes, faulty, no_memory, new_peer, StepConnect, joins, full, spent, no_room, StepFeed, feeds, not_fed, no_room as no_room_to_feed, StepLost, goes, not_fed as not_lost, rechoked_peer, rechoked, FollowsEach, StepRechoke, rechokes, not_rechoked, AdoptsGroups, StepAdopt, no_file, busy, empty, adopts, not_adopted, StepFlush, syncs, fails, Run, IsOrderlyPeer, IsOrderly, AskedApart, StepKeepsOrder, RunsAreOrderly}
 use Rattle.bt_wire.specs.Cutter.{Stream}
-use Rattle.bt_machine.proofs.Lists.{set_same, contains_none, contains_cases, contains_map, here}
+use Rattle.bt_machine.proofs.Lists.{set_same, contains_none, contains_cases, contains_map}
 use Rattle.bt_machine.proofs.Pairs.{to_pairs, from_pairs, contains_some, contains_set, pairs_set, contains_without, pairs_without, length-without, pairs_append, pairs_map}
 use Rattle.bt_machine.proofs.PeerChanges.{KeyBefore, PeerChange, none_apart, peer_in, changed, replaced, event_change}
 
