@@ -7,7 +7,7 @@ ghost use Rattle.bt_machine.specs.Spans.{IsRangeOf, first_block, last_block};
 ghost use Rattle.bt_block_events.specs.SpansSteps.{IsShortSpan};
 
 use bt_book::BlockId;
-use bt_meta::{Span, Torrent, block_ranges_are_places};
+use bt_meta::{PieceRange, Span, Torrent, block_ranges_are_places};
 use bt_tree::BLOCK_LEN;
 use bt_wire::Ask;
 
@@ -49,8 +49,12 @@ fn block_in(torrent: &Torrent, ask: Ask) -> Option<BlockId>
         block: first_block(span),
     };
     let range = torrent.range_of(block.file, block.block)?;
-    let is_all = range.piece == ask.piece && range.begin == ask.begin && range.length == ask.length;
-    if !is_all {
+    let asked = PieceRange {
+        piece: ask.piece,
+        begin: ask.begin,
+        length: ask.length,
+    };
+    if range != asked {
         return None;
     }
     Some(block)
