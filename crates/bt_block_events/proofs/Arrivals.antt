@@ -1,7 +1,6 @@
 -- A block that comes from a peer, in the parts of an engine.
-use Rattle.bt_machine.proofs.Base.{◌≡◌, ℕ, ◌+◌, ◌-◌, ◌^◌, min, List, [], length, map, Some, refl, sym, ap, ◌∙◌, subst, arith, get_or, slice_get, slice_set, Contains, BlockId, Missing, PeerKey, without_block, states_after_put}
+use Rattle.bt_machine.proofs.Base.{◌≡◌, ℕ, ◌+◌, ◌-◌, ◌^◌, min, List, [], length, map, Some, refl, sym, ap, ◌∙◌, subst, arith, slice_get, slice_set, Contains, BlockId, Missing, PeerKey, without_block, states_after_put}
 use Rattle.std.specs.Vec.{with_item}
-use Rattle.std.proofs.lemmas.Option.{get_or_from_slice_get}
 use Rattle.bt_machine.proofs.Lists.{some_is, set_id}
 use Rattle.bt_machine.proofs.Shape.{map_set}
 use Rattle.bt_tree.specs.Blocks.{block_length}

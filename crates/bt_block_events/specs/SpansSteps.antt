@@ -1,9 +1,7 @@
 -- How long a span is at most.
-use Rattle.std.specs.Prelude.{◌≡◌, ℕ, ◌+◌, ◌*◌, ◌≤◌}
+use Rattle.std.specs.Prelude.{◌+◌, ◌≤◌}
 use Rattle.bt_tree.specs.Limits.{full_block_length, max_file_length}
-use Rattle.bt_tree.specs.Blocks.{block_length}
 use Rattle.bt_meta.specs.declared.torrent.Span.{Span}
-use Rattle.bt_book.specs.declared.names.BlockId.{BlockId}
 
 -- the span has at least one byte and at most a block's, and lies in a file of at most 2^40
 pub record IsShortSpan (span : Span) : Type 0 where
