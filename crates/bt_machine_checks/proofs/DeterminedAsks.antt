@@ -1,5 +1,5 @@
 -- Where two answers request the same blocks, what follows for peers is the same.
-use Rattle.bt_machine_checks.proofs.Base.{[], ◌≡◌, ◌≢◌, ℕ, zero, suc, ◌+◌, ◌-◌, ◌*◌, ◌/◌, inl, inr, Bool, true, false, List, ◌∷◌, ◌++◌, get_or, Some, refl, sym, ap, ◌∙◌, subst, arith, slice_get, slice_set, Contains, filter, range_with_len, add_left_cancel, div-mul-add, append_cancel_left, filter-append, Contains-append_cases, Metainfo, BlockId, Ask, Request}
+use Rattle.bt_machine_checks.proofs.Base.{[], ◌≡◌, ◌≢◌, ℕ, zero, suc, ◌+◌, inl, inr, Bool, true, false, List, ◌∷◌, ◌++◌, Some, refl, sym, ap, ◌∙◌, subst, arith, slice_get, slice_set, Contains, filter, range_with_len, append_cancel_left, filter-append, Contains-append_cases, Metainfo, BlockId, Ask, Request}
 use Rattle.bt_machine_checks.proofs.Machine.{Digest, PeerState, EngineState, IsRangeOf, Sent, sent_to, interest_sent, RequestsHashes, requests, rests, AsksBlocks, RequestsEach, FollowsUp, FollowsEach, Answer, sent_by, is_block_request, plain_answer, asked_nothing, without_asked, LacksOneAtMost}
 use Rattle.bt_machine.proofs.Lists.{heads, tails, here, later, contains_none, contains_cases, set_cases, range_limits}
 use Rattle.bt_machine.proofs.Pairs.{Pairs}
