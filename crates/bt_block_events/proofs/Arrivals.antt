@@ -1,7 +1,6 @@
 -- A block that comes from a peer, in the parts of an engine.
-use Rattle.bt_machine.proofs.Base.{◌≡◌, ℕ, ◌+◌, ◌-◌, ◌^◌, min, List, [], length, map, Some, refl, sym, ap, ◌∙◌, subst, arith, get_or, slice_get, slice_set, Contains, BlockId, Missing, PeerKey, without_block, states_after_put}
+use Rattle.bt_machine.proofs.Base.{◌≡◌, ℕ, ◌+◌, ◌-◌, ◌^◌, min, List, [], length, map, Some, refl, sym, ap, ◌∙◌, subst, arith, slice_get, slice_set, Contains, BlockId, Missing, PeerKey, without_block, states_after_put}
 use Rattle.std.specs.Vec.{with_item}
-use Rattle.std.proofs.lemmas.Option.{get_or_from_slice_get}
 use Rattle.bt_machine.proofs.Lists.{some_is, set_id}
 use Rattle.bt_machine.proofs.Shape.{map_set}
 use Rattle.bt_tree.specs.Blocks.{block_length}
@@ -12,7 +11,7 @@ use Rattle.bt_book.proofs.Listed.{counted_blocks, asked_le_pairs}
 use Rattle.bt_machine.specs.State.{EngineState, PeerState, FileState}
 use Rattle.bt_machine.specs.Blocks.{state_at, with_file, with_peer}
 use Rattle.bt_machine.specs.Devices.{DeviceCalls}
-use Rattle.bt_machine.specs.Spans.{IsWholeBlock}
+use Rattle.bt_machine.specs.Spans.{IsRangeOf}
 use Rattle.bt_machine.specs.Request.{with_payload}
 use Rattle.bt_machine.specs.Shape.{IsShaped}
 use Rattle.bt_machine.specs.Output.{Effect, noting}
@@ -28,15 +27,13 @@ use Rattle.bt_state.proofs.Ties.{tied_set, tied_again}
 use Rattle.bt_block_events.specs.PieceSteps.{IsBlockOf}
 
 -- what is a whole block of the torrent is all of a block of its file
-pub is_block_of : (torrent : Metainfo) (piece begin : ℕ) (bytes : List ℕ) (b : BlockId) → IsWholeBlock torrent piece begin (length bytes) b
+pub is_block_of : (torrent : Metainfo) (piece begin : ℕ) (bytes : List ℕ) (b : BlockId) → IsRangeOf torrent piece begin (length bytes) b
     → IsBlockOf torrent b bytes
 is_block_of torrent piece begin bytes b w file listed =
-    let same : w.place.file ≡ file =
-    sym (w.place.found file) ∙ ap (λ k. get_or torrent.files k file) w.file ∙ get_or_from_slice_get torrent.files b.file file file listed in
-    let long : w.place.file.length ≡ file.length = ap (λ (f : File). f.length) same in
+    let same = some_is (sym w.has.found ∙ listed) in
     record {
-      inside = omega (arith, long, w.place.in_file, w.place.some, w.start);
-      whole = w.whole ∙ ap (λ k. block_length k b.block) long;
+      inside = rw (← same) w.has.inside;
+      whole = w.length ∙ ap (λ (f : File). block_length f.length b.block) same;
     }
 
 -- the peer is asked for the block no more, and its bytes count
@@ -70,7 +67,7 @@ module _ {D H : Type 0} (old : Parts D H) (i : ℕ) {p : Peer} (b : BlockId) (bo
       ∙ ap (λ (bs : List BlockId). with_payload count (record (peer_of old.book p) { asked = bs })) asked
 
   pub arrives_so : (dig : List ℕ → List ℕ) (piece begin : ℕ) (bytes : List ℕ) (calls : DeviceCalls) (effect : Effect) (new : EngineState) (x : PeerState)
-      → slice_get (state_of old).peers i ≡ Some x → IsWholeBlock old.torrent piece begin (length bytes) b → IsPair old.book p.key b
+      → slice_get (state_of old).peers i ≡ Some x → IsRangeOf old.torrent piece begin (length bytes) b → IsPair old.book p.key b
       → asked_of book p.key ≡ without_block b (asked_of old.book p.key) → payload ≡ min (2 ^ 64 - 1) (p.payload + length bytes)
       → Puts dig (state_of mid) b bytes calls effect new → HandlesPiece dig (state_of old) i x piece begin bytes calls effect new
   arrives_so dig piece begin bytes calls effect new x at whole pair asked paid puts =
@@ -114,7 +111,7 @@ module _ {D H : Type 0} (old : Parts D H) (i : ℕ) {p : Peer} (book : BookState
   tied_still = rw kept (tied_set old i p tied here refl)
 
   pub stale_so : (dig : List ℕ → List ℕ) (piece begin : ℕ) (bytes : List ℕ) (b : BlockId) (x : PeerState) → slice_get (state_of old).peers i ≡ Some x
-      → ((c : BlockId) → IsWholeBlock old.torrent piece begin (length bytes) c → c ≡ b) → ¬ IsPair old.book p.key b
+      → ((c : BlockId) → IsRangeOf old.torrent piece begin (length bytes) c → c ≡ b) → ¬ IsPair old.book p.key b
       → HandlesPiece dig (state_of old) i x piece begin bytes [] (noting Stale) (state_of (record old { peers = with_item old.peers i p; book = book }))
   stale_so dig piece begin bytes b x at one none =
       let is : peer_of old.book p ≡ x = some_is (sym (get_mapped (peer_of old.book) old.peers.items i here) ∙ at) in

@@ -1,59 +1,74 @@
--- Which block a range of a piece is.
-use Rattle.std.proofs.Common.{◌≡◌, ℕ, ◌+◌, ◌≤◌, List, map, Option, Some, None, sym, ap, ◌∙◌, arith, get_or, refl, subst}
-use Rattle.std.specs.Prelude.{All, IfNone}
-use Rattle.std.proofs.Math.ListN.{get_or-map}
-use Rattle.std.proofs.lemmas.List.Elements.{All-get_or}
-use Rattle.bt_tree.specs.Limits.{max_file_length}
-use Rattle.bt_tree.specs.Blocks.{block_length}
-use Rattle.bt_meta.specs.Files.{File, file_of}
+-- Which block a request is of.
+use Rattle.std.proofs.Common.{◌≡◌, ℕ, ◌∙◌, ap, arith, refl, Bool, true, false, not, ◌&&◌, eqb}
+use Rattle.std.proofs.lemmas.Bool.{eq-eqb, eqb-true}
+use Rattle.bt_machine.proofs.Lists.{and_true}
+use Rattle.bt_tree.specs.TreeShape.{IsPieceLength}
+use Rattle.bt_meta.specs.Law.{RangeIsPlace}
+use Rattle.bt_meta.specs.PieceBlocks.{HasBlock, IsBlockRange}
 use Rattle.bt_meta.specs.Place.{IsPlace}
-use Rattle.bt_meta.specs.Torrent.{Metainfo, IsLaidOut, IsLawfulFile}
-use Rattle.bt_meta.specs.declared.torrent.FileEntry.{FileEntry}
+use Rattle.bt_meta.specs.Torrent.{Metainfo, IsLaidOut}
+use Rattle.bt_meta.specs.declared.piece_blocks.PieceRange.{PieceRange}
 use Rattle.bt_meta.specs.declared.torrent.Span.{Span}
 use Rattle.bt_book.specs.declared.names.BlockId.{BlockId}
-use Rattle.bt_machine.specs.Spans.{IsWholeBlock}
-use Rattle.bt_machine.proofs.Places.{same_place}
-use Rattle.bt_block_events.specs.SpansSteps.{IsAllOf}
+use Rattle.bt_wire.specs.declared.message.Ask.{Ask}
+use Rattle.bt_machine.specs.Spans.{IsRangeOf, first_block}
+use Rattle.bt_machine.proofs.Places.{RangesTell, one_range, ranges_tell}
 
-pub none_by : {X : Type 0} {P Q : Type 0} (o : Option X) → IfNone o P → (P → Q) → IfNone o Q
-none_by None h f = f h
-none_by (Some x) h f = tt
+-- a range and that of a request are compared field by field
+module _ (range : PieceRange) (ask : Ask) where
+  abbrev pub range_asked : PieceRange
+  range_asked = record { piece = ask.piece; begin = ask.begin; length = ask.length }
 
-module _ (torrent : Metainfo) (items : List FileEntry) (said : map file_of items ≡ torrent.files) (piece begin count : ℕ) (span : Span) (place : IsPlace torrent piece begin count span) (e : FileEntry) (is : e ≡ get_or items span.file e) where
-  -- the entry is that of the place's file
-  file_is : {t : Span} → (q : IsPlace torrent piece begin count t) → t ≡ span → q.file ≡ file_of e
-  file_is q same =
-      sym (q.found (file_of e)) ∙ ap (λ (t : Span). get_or torrent.files t.file (file_of e)) same ∙ ap (λ (files : List File). get_or files span.file (file_of e)) (sym said)
-      ∙ get_or-map file_of items span.file e ∙ ap file_of (sym is)
+  abbrev pub is_asked : Bool
+  is_asked = eqb range.piece ask.piece && (eqb range.begin ask.begin && eqb range.length ask.length)
 
-  length_is : {t : Span} → (q : IsPlace torrent piece begin count t) → t ≡ span → q.file.length ≡ e.length
-  length_is q same = ap (λ (f : File). f.length) (file_is q same)
+  pub is_same : false ≡ not is_asked → range ≡ range_asked
+  is_same e =
+      let first = and_true _ (holds is_asked e) in
+      let rest = and_true _ first.1 in
+      ap (λ n. record range { piece = n }) (eqb-true range.piece ask.piece first.0)
+      ∙ ap (λ n. record range_asked { begin = n; length = range.length }) (eqb-true range.begin ask.begin rest.0)
+      ∙ ap (λ n. record range_asked { length = n }) (eqb-true range.length ask.length rest.1)
+    where
+      holds : (x : Bool) → false ≡ not x → x ≡ true
+      holds true e = refl
+      holds false e = absurd cc
 
-  pub ends_inside : span.start + span.length ≤ e.length
-  ends_inside = omega (arith, length_is place refl, place.all, place.in_file)
+  pub is_other : true ≡ not is_asked → range ≡ range_asked → ⊥
+  is_other e same =
+      let piece = eq-eqb range.piece ask.piece (ap (λ r. r.piece) same) in
+      let begin = eq-eqb range.begin ask.begin (ap (λ r. r.begin) same) in
+      let count = eq-eqb range.length ask.length (ap (λ r. r.length) same) in
+      let no : true ≡ false =
+      e ∙ ap (λ x. not (x && (eqb range.begin ask.begin && eqb range.length ask.length))) piece
+      ∙ ap (λ x. not (x && eqb range.length ask.length)) begin ∙ ap not count in absurd cc
 
-  pub is_short : All (IsLawfulFile torrent.piece_length) (map file_of items) → e.length ≤ max_file_length
-  is_short lawful =
-      let same : get_or torrent.files span.file (file_of e) ≡ file_of e = place.found (file_of e) ∙ file_is place refl in
-      let law = All-get_or (IsLawfulFile torrent.piece_length) torrent.files span.file (file_of e) place.listed (subst (λ (files : List File). All (IsLawfulFile torrent.piece_length) files) said lawful) in
-      omega (arith, law.short, ap (λ (f : File). f.length) same)
+module _ (law : RangeIsPlace) (torrent : Metainfo) (size : IsPieceLength torrent.piece_length) (ask : Ask) where
+  abbrev pub IsOf : BlockId → Type 0
+  IsOf b = IsRangeOf torrent ask.piece ask.begin ask.length b
 
-  -- a block that the span is all of is the range's
-  pub whole_of : (b : BlockId) → IsAllOf e.length span b → IsWholeBlock torrent piece begin count b
-  whole_of b all = record {
-    span = span;
-    place = place;
-    file = all.file;
-    start = all.start;
-    whole = sym place.all ∙ all.whole ∙ ap (λ n. block_length n b.block) (sym (length_is place refl));
-  }
+  pub no_place : ((span : Span) → ¬ IsPlace torrent ask.piece ask.begin ask.length span) → (b : BlockId) → ¬ IsOf b
+  no_place none b w = none _ (law torrent b.file b.block _ size w)
 
-  -- and there is no other
-  pub all_of : IsLaidOut torrent.piece_length torrent.files → (b : BlockId) → IsWholeBlock torrent piece begin count b → IsAllOf e.length span b
-  all_of laid_out b w =
-      let same = same_place torrent laid_out piece begin count w.place place in
-      record {
-        file = ap (λ (t : Span). t.file) (sym same) ∙ w.file;
-        start = ap (λ (t : Span). t.start) (sym same) ∙ w.start;
-        whole = place.all ∙ w.whole ∙ ap (λ n. block_length n b.block) (length_is w.place same);
-      }
+  module _ (lay : IsLaidOut torrent.piece_length torrent.files) where
+    tell : RangesTell torrent
+    tell = ranges_tell law torrent size lay
+
+    pub one_block : (a b : BlockId) → IsOf a → IsOf b → a ≡ b
+    one_block a b v w = tell.block v w
+
+    -- it can be no other than the first that its place lies in
+    module _ (span : Span) (place : IsPlace torrent ask.piece ask.begin ask.length span) (first : ℕ) (is : first ≡ first_block span) where
+      of_first : (b : BlockId) → IsOf b → IsBlockRange torrent span.file first (record { piece = ask.piece; begin = ask.begin; length = ask.length })
+      of_first b w =
+          let same = tell.place place (law torrent b.file b.block _ size w) in
+          let file : span.file ≡ b.file = ap (λ (s : Span). s.file) same in
+          let block : first ≡ b.block = omega (arith, is, ap (λ (s : Span). s.start) same) in
+          rw (file, block) w
+
+      pub no_block : ¬ HasBlock torrent span.file first → (b : BlockId) → ¬ IsOf b
+      no_block none b w = none (of_first b w).has
+
+      pub is_range : (range : PieceRange) → IsBlockRange torrent span.file first range → (b : BlockId) → IsOf b
+          → range ≡ record { piece = ask.piece; begin = ask.begin; length = ask.length }
+      is_range range v b w = one_range v (of_first b w)

@@ -1,17 +1,9 @@
--- Spans that are whole blocks, and how long a span is at most.
-use Rattle.std.specs.Prelude.{◌≡◌, ℕ, ◌+◌, ◌*◌, ◌≤◌}
+-- How long a span is at most.
+use Rattle.std.specs.Prelude.{◌+◌, ◌≤◌}
 use Rattle.bt_tree.specs.Limits.{full_block_length, max_file_length}
-use Rattle.bt_tree.specs.Blocks.{block_length}
 use Rattle.bt_meta.specs.declared.torrent.Span.{Span}
-use Rattle.bt_book.specs.declared.names.BlockId.{BlockId}
 
--- the span is this block of its file, and all of it, where the file has n bytes
-pub record IsAllOf (n : ℕ) (span : Span) (b : BlockId) : Type 0 where
-  pub file : span.file ≡ b.file
-  pub start : span.start ≡ full_block_length * b.block
-  pub whole : span.length ≡ block_length n b.block
-
--- it has at least one byte and at most a block's, and lies in a file of at most 2^40
+-- the span has at least one byte and at most a block's, and lies in a file of at most 2^40
 pub record IsShortSpan (span : Span) : Type 0 where
   pub some : 1 ≤ span.length
   pub few : span.length ≤ full_block_length

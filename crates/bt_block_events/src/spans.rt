@@ -1,62 +1,66 @@
 ghost use Rattle.std.specs.Prelude.{◌≡◌, ◌+◌, ◌*◌, ◌≤◌, IfNone, IfSome, ℕ, length};
-ghost use Rattle.bt_tree.specs.Limits.{full_block_length, max_file_length};
+ghost use Rattle.bt_tree.specs.Limits.{full_block_length};
+ghost use Rattle.bt_tree.specs.TreeShape.{IsPieceLength};
+ghost use Rattle.bt_meta.specs.Torrent.{IsLaidOut};
 ghost use Rattle.bt_meta.specs.Place.{IsPlace};
-ghost use Rattle.bt_machine.specs.Spans.{IsWholeBlock, first_block, last_block};
-ghost use Rattle.bt_block_events.specs.SpansSteps.{IsAllOf, IsShortSpan};
+ghost use Rattle.bt_machine.specs.Spans.{IsRangeOf, first_block, last_block};
+ghost use Rattle.bt_block_events.specs.SpansSteps.{IsShortSpan};
 
 use bt_book::BlockId;
-use bt_meta::{Span, Torrent};
+use bt_meta::{PieceRange, Span, Torrent, block_ranges_are_places};
 use bt_tree::BLOCK_LEN;
 use bt_wire::Ask;
 
 /// The block of which these bytes of a piece, from the byte `begin` on, are all.
 pub(crate) fn block_of(torrent: &Torrent, piece: u32, begin: u32, bytes: &[u8]) -> Option<BlockId>
-    ensures some { IfSome result (IsWholeBlock torrent.now piece begin (length bytes.now)) }
+    ensures some { IfSome result (IsRangeOf torrent.now piece begin (length bytes.now)) }
     ensures none { IfNone result
-        ((b : BlockId) → ¬ IsWholeBlock torrent.now piece begin (length bytes.now) b) }
-    ensures one { (a b : BlockId) → IsWholeBlock torrent.now piece begin (length bytes.now) a
-        → IsWholeBlock torrent.now piece begin (length bytes.now) b → a ≡ b }
+        ((b : BlockId) → ¬ IsRangeOf torrent.now piece begin (length bytes.now) b) }
+    ensures one { (a b : BlockId) → IsRangeOf torrent.now piece begin (length bytes.now) a
+        → IsRangeOf torrent.now piece begin (length bytes.now) b → a ≡ b }
 {
     let Ok(length) = u32::try_from(bytes.len()) else {
         return None;
     };
-    block_in(torrent, piece, begin, length)
+    block_in(
+        torrent,
+        Ask {
+            piece,
+            begin,
+            length,
+        },
+    )
 }
 
-/// The block of which so many bytes of a piece, from the byte `begin` on, are all.
-fn block_in(torrent: &Torrent, piece: u32, begin: u32, length: u32) -> Option<BlockId>
-    ensures some { IfSome result (IsWholeBlock torrent.now piece begin length) }
-    ensures none { IfNone result ((b : BlockId) → ¬ IsWholeBlock torrent.now piece begin length b) }
-    ensures one { (a b : BlockId) → IsWholeBlock torrent.now piece begin length a
-        → IsWholeBlock torrent.now piece begin length b → a ≡ b }
+/// The block whose request would be this one.
+fn block_in(torrent: &Torrent, ask: Ask) -> Option<BlockId>
+    ensures some { IfSome result (IsRangeOf torrent.now ask.piece ask.begin ask.length) }
+    ensures none { IfNone result
+        ((b : BlockId) → ¬ IsRangeOf torrent.now ask.piece ask.begin ask.length b) }
+    ensures one { (a b : BlockId) → IsRangeOf torrent.now ask.piece ask.begin ask.length a
+        → IsRangeOf torrent.now ask.piece ask.begin ask.length b → a ≡ b }
 {
-    let Some(span) = torrent.place(piece, begin, length) else {
-        return None;
+    block_ranges_are_places();
+    keeps_laws(torrent);
+    let span = place_of(torrent, ask)?;
+    // It can be no other block than the first that the range lies in.
+    let block = BlockId {
+        file: span.file,
+        block: first_block(span),
     };
-    let files = torrent.files();
-    let file = &files[span.file as usize];
-    whole_block(span, file.length)
-}
-
-/// The block that a span of a file of so many bytes is, where it is one.
-fn whole_block(span: Span, file_length: u64) -> Option<BlockId>
-    requires inside { span.start + span.length ≤ file_length }
-    requires short { file_length ≤ max_file_length }
-    ensures some { IfSome result (IsAllOf file_length span) }
-    ensures none { IfNone result ((b : BlockId) → ¬ IsAllOf file_length span b) }
-{
-    let full = BLOCK_LEN as u64;
-    let is_whole = span.length as u64 == full.min(file_length - span.start);
-    if span.start % full != 0 || !is_whole {
+    let range = torrent.range_of(block.file, block.block)?;
+    let asked = PieceRange {
+        piece: ask.piece,
+        begin: ask.begin,
+        length: ask.length,
+    };
+    if range != asked {
         return None;
     }
-    Some(BlockId {
-        file: span.file,
-        block: (span.start / full) as u32,
-    })
+    Some(block)
 }
 
-/// Where the range lies that a peer asks for. No file is longer than 2^40 bytes.
+/// Where the range of a request lies. No file is longer than 2^40 bytes.
 pub(crate) fn place_of(torrent: &Torrent, ask: Ask) -> Option<Span>
     ensures some { IfSome result (IsPlace torrent.now ask.piece ask.begin ask.length) }
     ensures short { IfSome result IsShortSpan }
@@ -81,4 +85,13 @@ pub(crate) fn last_block(span: Span) -> u32
     ensures { result ≡ last_block span }
 {
     ((span.start + span.length as u64 - 1) / BLOCK_LEN as u64) as u32
+}
+
+/// What every torrent keeps to. It does nothing when it runs.
+fn keeps_laws(torrent: &Torrent)
+    ensures size { IsPieceLength torrent.now.piece_length }
+    ensures laid_out { IsLaidOut torrent.now.piece_length torrent.now.files }
+{
+    let _ = torrent.piece_length();
+    let _ = torrent.files();
 }

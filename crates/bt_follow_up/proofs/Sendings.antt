@@ -1,31 +1,13 @@
 -- Requests that are sent one by one, each of a whole block.
-use Rattle.bt_machine.proofs.Base.{◌≡◌, ℕ, ◌+◌, ◌*◌, ◌<◌, List, [], ◌∷◌, ◌++◌, length, take, get_or, refl, sym, ap, ◌∙◌, append-nil, Metainfo, BlockId, PeerKey, block_length, Ask, Request}
+use Rattle.bt_machine.proofs.Base.{◌≡◌, ℕ, ◌+◌, ◌<◌, List, [], ◌∷◌, ◌++◌, length, take, get_or, refl, sym, ap, ◌∙◌, append-nil, Metainfo, BlockId, PeerKey, Ask, Request}
 use Rattle.std.proofs.Common.{append_assoc}
 use Rattle.std.proofs.lemmas.List.{take_more}
-use Rattle.bt_tree.specs.TreeShape.{IsPieceLength}
-use Rattle.bt_meta.specs.PieceBlocks.{IsBlockRange}
-use Rattle.bt_meta.specs.declared.piece_blocks.PieceRange.{PieceRange}
-use Rattle.bt_meta.proofs.PieceBlocks.{found, is_place}
 use Rattle.bt_machine.specs.declared.answer.Frame.TheVariants.{Message as message_frame}
 use Rattle.bt_machine.specs.State.{EngineState, PeerState}
-use Rattle.bt_machine.specs.Spans.{IsWholeBlock}
+use Rattle.bt_machine.specs.Spans.{IsRangeOf}
 use Rattle.bt_machine.specs.Output.{Sent}
 use Rattle.bt_machine.specs.FollowUp.{RequestsBlock, RequestsEach}
 use Rattle.bt_follow_up.specs.SendingSteps.{AreRequestsSent}
-
--- the range of a block is the whole block
-pub whole_range : (torrent : Metainfo) (b : BlockId) (range : PieceRange) → IsPieceLength torrent.piece_length → IsBlockRange torrent b.file b.block range
-    → IsWholeBlock torrent range.piece range.begin range.length b
-whole_range torrent b range size r =
-    let place = is_place torrent b.file b.block range size r in
-    record {
-      span = record { file = b.file; start = 16384 * b.block; length = range.length };
-      place = place;
-      file = refl;
-      start = refl;
-      whole = r.length
-          ∙ ap (λ f. block_length f.length b.block) (sym (found torrent b.file b.block r.has r.has.entry) ∙ place.found r.has.entry);
-    }
 
 one_more : (s : EngineState) (p : PeerState) (blocks : List BlockId) (sent : List Sent) (b : BlockId) (one : Sent) → RequestsEach s p blocks sent
     → RequestsBlock s p b one → RequestsEach s p (blocks ++ b ∷ []) (sent ++ one ∷ [])
@@ -43,7 +25,7 @@ module _ (torrent : Metainfo) (key : PeerKey) (blocks : List BlockId) (before : 
   none_sent = record { sent = []; requests = λ s p same keyed. refl; behind = sym (append-nil before) }
 
   pub one_sent : (i : ℕ) (d : BlockId) (old new : List Sent) (ask : Ask) → i < length blocks → AreRequestsSent torrent key (take i blocks) before old
-      → new ≡ old ++ (key, message_frame (Request ask)) ∷ [] → IsWholeBlock torrent ask.piece ask.begin ask.length (get_or blocks i d)
+      → new ≡ old ++ (key, message_frame (Request ask)) ∷ [] → IsRangeOf torrent ask.piece ask.begin ask.length (get_or blocks i d)
       → AreRequestsSent torrent key (take (i + 1) blocks) before new
   one_sent i d old new ask below so_far pushed whole =
       let one : Sent = (key, message_frame (Request ask)) in

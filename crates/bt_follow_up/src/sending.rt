@@ -2,10 +2,9 @@
 ghost use Rattle.std.specs.Prelude.{◌≡◌, ◌+◌, ◌<◌, ◌≤◌, ◌++◌, length, vec_len, vec_capacity};
 ghost use Rattle.std.specs.List.{All};
 ghost use Rattle.bt_meta.specs.PieceBlocks.{HasBlock};
-ghost use Rattle.bt_machine.specs.Spans.{IsWholeBlock};
+ghost use Rattle.bt_machine.specs.Spans.{IsRangeOf};
 ghost use Rattle.bt_follow_up.specs.SendingSteps.{frames_of, AreRequestsSent};
 
-use crate::held::keeps_laws;
 use bt_book::{BlockId, PeerKey};
 use bt_machine::Frame;
 use bt_meta::Torrent;
@@ -46,9 +45,8 @@ pub(crate) fn send_requests(
 /// The request of the whole block.
 fn request_of(torrent: &Torrent, block: BlockId) -> Ask
     requires { HasBlock torrent.now block.file block.block }
-    ensures { IsWholeBlock torrent.now result.piece result.begin result.length block }
+    ensures { IsRangeOf torrent.now result.piece result.begin result.length block }
 {
-    keeps_laws(torrent);
     let range = torrent.range_of(block.file, block.block).unwrap();
     Ask {
         piece: range.piece,

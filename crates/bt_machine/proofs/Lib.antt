@@ -17,6 +17,7 @@ pub mod Sends
 pub mod ProofKeys
 -- peers and files
 pub mod Shape
+pub mod PeerChanges
 pub mod Orderly
 -- devices
 pub mod Stored

@@ -19,7 +19,7 @@ pub use Rattle.bt_machine.specs.Request.{ignored, no_place, served, HandlesReque
 pub use Rattle.bt_machine.specs.Settling.{judged_file, SettlesIn, due_blocks}
 pub use Rattle.bt_machine.specs.Shape.{IsShaped, HasShapeOf, RunsKeepShape}
 pub use Rattle.bt_machine.specs.Sound.{RunOn, IsSound, StepKeepsSound, CompleteFilesStand}
-pub use Rattle.bt_machine.specs.Spans.{IsWholeBlock, spanned_blocks, cut_from}
+pub use Rattle.bt_machine.specs.Spans.{IsRangeOf, spanned_blocks, cut_from}
 pub use Rattle.bt_machine.specs.Start.{Starts, by_root, IsTreeFrom, by_layer}
 pub use Rattle.bt_machine.specs.State.{EngineState, PeerState, FileState, mark_of}
 pub use Rattle.bt_machine.specs.declared.event.Answer.{Answer}

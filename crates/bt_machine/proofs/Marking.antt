@@ -1,6 +1,6 @@
 -- A step marks a block by bytes of that step alone.
 use Rattle.bt_machine.proofs.Base.{[], ◌≡◌, ◌≢◌, ℕ, ◌+◌, ◌*◌, ◌<◌, ◌≤◌, ◌⊎◌, inl, inr, Bool, true, false, List, ◌∷◌, length, Some, refl, sym, ap, ◌∙◌, slice_get, slice_set, Contains, Result, Ok, Err, ◌==◌, if◌then◌else◌, option_and_then, range_with_len, eqb-true, full_block_length, Facts, Accepts, Claim, bytes_written, IsClaimBy, HashKey, AdoptMarksByBytes, IsRight, PutIsDue, states_after_put, Marked, StoreError, Put, Already, Wrong, PutMarked, PutWaiting, BlockId, PeerMessage as Sent, KeepAlive, Choke, Unchoke, Interested, NotInterested, Have, Bitfield, Request, Piece, Cancel, HashRequest, Hashes, HashReject, WireEvent, Hello, Message, Skipped}
-use Rattle.bt_machine.proofs.Machine.{Digest, Event, Connect, Feed, Next, Lost, Rechoke, Adopt, Flush, PeerState, FileState, EngineState, DeviceCalls, state_at, tree_of, with_file, with_peer, with_tree, IsWholeBlock, FindsFault, damaged, fault, HandlesRequest, ignored, no_place, not_marked, served, stopped, Arrives, HandlesPiece, stale, arrives, IsTreeOf, settled_count, HandlesHashes, unknown_root, no_claim, refused, accepts_hashes, HandlesHave, in_range, out_of_range, HandlesBitfield, right, wrong, HandlesMessage, Handles, IsPeer, TakesEvent, StepNext, no_peer, waits, keeps_peer, closes, faulty, no_memory, StepConnect, joins, full, spent, no_room, StepFeed, feeds, not_fed, no_room as no_room_to_feed, StepLost, goes, not_fed as not_lost, FollowsEach, StepRechoke, rechokes, not_rechoked, StepFlush, syncs, fails, Answer, Step, Run, StepMarksByBytes, IsMarkedBy, brought, read_back, IsSoAt, IsMarkedIn}
+use Rattle.bt_machine.proofs.Machine.{Digest, Event, Connect, Feed, Next, Lost, Rechoke, Adopt, Flush, PeerState, FileState, EngineState, DeviceCalls, state_at, tree_of, with_file, with_peer, with_tree, IsRangeOf, FindsFault, damaged, fault, HandlesRequest, ignored, no_place, not_marked, served, stopped, Arrives, HandlesPiece, stale, arrives, IsTreeOf, settled_count, HandlesHashes, unknown_root, no_claim, refused, accepts_hashes, HandlesHave, in_range, out_of_range, HandlesBitfield, right, wrong, HandlesMessage, Handles, IsPeer, TakesEvent, StepNext, no_peer, waits, keeps_peer, closes, faulty, no_memory, StepConnect, joins, full, spent, no_room, StepFeed, feeds, not_fed, no_room as no_room_to_feed, StepLost, goes, not_fed as not_lost, FollowsEach, StepRechoke, rechokes, not_rechoked, StepFlush, syncs, fails, Answer, Step, Run, StepMarksByBytes, IsMarkedBy, brought, read_back, IsSoAt, IsMarkedIn}
 use Rattle.bt_machine.proofs.Lists.{contains_none, range_limits, set_cases, set_same}
 use Rattle.bt_machine.proofs.Marks.{state_is, file_marked, missing_marks, IsSettled, settle_marks}
 use Rattle.bt_machine.proofs.Adopting.{adopt_marks}
@@ -20,7 +20,7 @@ leaves_only key {i} c = by _ refl c
 
 -- what marked a block in the course of a wire event
 data IsSeen (dig : Digest) (s : EngineState) (p : PeerState) (e : WireEvent) (calls : DeviceCalls) (mid : EngineState) (b : BlockId) : Type 0 where
-  came : (piece begin : ℕ) (bytes : List ℕ) (tree : Facts) → e ≡ Message (Piece piece begin bytes) → IsWholeBlock s.torrent piece begin (length bytes) b → Contains p.asked b
+  came : (piece begin : ℕ) (bytes : List ℕ) (tree : Facts) → e ≡ Message (Piece piece begin bytes) → IsRangeOf s.torrent piece begin (length bytes) b → Contains p.asked b
       → tree_of mid b.file ≡ Some tree → calls ≡ (b.file, bytes_written (full_block_length * b.block) bytes) ∷ [] → IsRight dig tree b.block bytes → IsSeen dig s p e calls mid b
   waited : (key : HashKey) (digests : List ℕ) (tree : ℕ) (old new : Facts) (claim : Claim) → e ≡ Message (Hashes key digests) → IsTreeOf s key.root tree old
       → IsClaimBy key digests claim → Accepts dig old claim new

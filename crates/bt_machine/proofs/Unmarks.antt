@@ -4,7 +4,7 @@ use Rattle.bt_machine.proofs.Machine.{Digest, Connect, Feed, Next, Lost, Rechoke
 use Rattle.bt_store.specs.Adoption.{marked_group}
 use Rattle.bt_machine.proofs.Lists.{same_some, set_get, set_other, set_same, and_then_some, contains_none, contains_cases, here, later, map_contains}
 use Rattle.bt_machine.proofs.Marks.{state_is, meant_then, right_true}
-use Rattle.bt_machine.proofs.Orderly.{judged_other}
+use Rattle.bt_machine.proofs.PeerChanges.{judged_other}
 use Rattle.bt_machine.proofs.Adopting.{right_in, group_forward}
 use Rattle.bt_machine.proofs.Tame.{Touches, keeping, putting, step_tame}
 use Rattle.bt_machine.proofs.Sound.{no_write, no_fault, calls_keep, of_all, among_file, step_sound}

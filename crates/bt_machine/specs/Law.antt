@@ -26,7 +26,7 @@ use Rattle.bt_machine.specs.declared.event.Event.TheVariants.{Next, Adopt}
 use Rattle.bt_machine.specs.State.{PeerState, FileState, EngineState}
 use Rattle.bt_machine.specs.Devices.{DeviceCalls}
 use Rattle.bt_machine.specs.Blocks.{state_at, tree_of}
-use Rattle.bt_machine.specs.Spans.{IsWholeBlock, spanned_blocks, cut_from}
+use Rattle.bt_machine.specs.Spans.{IsRangeOf, spanned_blocks, cut_from}
 use Rattle.bt_machine.specs.Next.{IsPeer}
 use Rattle.bt_machine.specs.declared.event.Answer.{Answer}
 use Rattle.bt_machine.specs.declared.event.Answer.TheVariants.{Connected, Fed, Stepped, Lost as LostAnswer, Rechoked, Adopted as AdoptedAnswer, Flushed}
@@ -77,7 +77,7 @@ pub record IsBrought (dig : List ℕ → List ℕ) (old : EngineState) (event : 
   pub is_next : event ≡ Next key
   pub is_peer : IsPeer old key place peer
   pub takes : Takes peer.stream (Message (Piece piece begin bytes)) rest
-  pub whole : IsWholeBlock old.torrent piece begin (length bytes) b
+  pub whole : IsRangeOf old.torrent piece begin (length bytes) b
   pub asked : Contains peer.asked b
   pub has_tree : tree_of new b.file ≡ Some tree
   pub written : calls ≡ (b.file, bytes_written (full_block_length * b.block) bytes) ∷ []

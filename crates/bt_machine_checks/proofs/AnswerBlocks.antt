@@ -1,10 +1,11 @@
 -- What becomes of blocks that come and of requests.
 use Rattle.bt_machine_checks.proofs.Base.{[], ◌≡◌, ℕ, zero, suc, ◌⊎◌, inl, inr, Bool, true, false, List, ◌∷◌, length, map, Some, None, Result, Ok, Err, refl, ap, ◌∙◌, subst, slice_get, slice_set, Contains, ◌&&◌, option_map_or, list_all, Contains-append_left, Contains-append_right, IsLawful, IsPlace, Span, Facts, value_at, PutIsDue, states_after_put, BlockRead, given, failed, call_of, IsRight, is_marked, Missing, Waiting, Marked, StoreError, DeviceFault, Put, Wrong, PutMarked, PutWaiting, PeerKey, BlockId, Stream, Message, Ask, Request, Piece}
-use Rattle.bt_machine_checks.proofs.Machine.{Digest, Note, NowMarked, Damaged, Device, Complete, PeerState, FileState, EngineState, DeviceCalls, block_id, state_at, tree_of, with_file, with_peer, new_complete_files, IsWholeBlock, spanned_blocks, cut_from, Effect, noting, sending, AreMarked, IsFile, Serves, StopsAtFault, FindsFault, damaged as found_damaged, fault, HandlesRequest, ignored, no_place, not_marked, served, stopped, HasPutEffect, Arrives, HandlesPiece, stale, arrives, KeepsPeer, Closes, Answer, Stepped, NotedBy, output_of, MarksBlock, marked, not_written, NextMarksRightBlock, ServesRange, sent, not_read, NextServesMarkedRange, WaitingIsNotComplete}
+use Rattle.bt_machine_checks.proofs.Machine.{Digest, Note, NowMarked, Damaged, Device, Complete, PeerState, FileState, EngineState, DeviceCalls, block_id, state_at, tree_of, with_file, with_peer, new_complete_files, IsRangeOf, spanned_blocks, cut_from, Effect, noting, sending, AreMarked, IsFile, Serves, StopsAtFault, FindsFault, damaged as found_damaged, fault, HandlesRequest, ignored, no_place, not_marked, served, stopped, HasPutEffect, Arrives, HandlesPiece, stale, arrives, KeepsPeer, Closes, Answer, Stepped, NotedBy, output_of, MarksBlock, marked, not_written, NextMarksRightBlock, ServesRange, sent, not_read, NextServesMarkedRange, WaitingIsNotComplete}
 use Rattle.bt_machine_checks.specs.AnswerDue.{NextLacksMemory, damaged}
 use Rattle.bt_machine.proofs.Lists.{and_then_some, same_some, here, set_same, map_contains}
 use Rattle.bt_machine_checks.proofs.AnswerSends.{follows_of}
-use Rattle.bt_machine.proofs.Places.{same_place, same_block}
+use Rattle.bt_meta.specs.Law.{RangeIsPlace}
+use Rattle.bt_machine.proofs.Places.{RangesTell, same_place, ranges_tell}
 use Rattle.bt_machine_checks.proofs.AnswerDue.{Taken, no_room, goes, shuts, step_taken, sent_with}
 
 -- ---- blocks that wait
@@ -93,28 +94,28 @@ module _ (dig : Digest) (s new : EngineState) (key : PeerKey) (i : ℕ) (p : Pee
       not_written (cc)
       (noted (Device b.file) (one_note (e ∙ ap (λ c. noting (Device c.file)) same)))
 
-  piece_arrives : {effect mid : _} → IsWholeBlock s.torrent piece begin (length bytes) b → Contains p.asked b
+  piece_arrives : {effect mid : _} → IsRangeOf s.torrent piece begin (length bytes) b → Contains p.asked b
       → HandlesPiece dig t i q piece begin bytes calls effect mid → Arrives dig t i q piece begin bytes calls effect mid
   piece_arrives whole asked (stale none x y z) = absurd (none b whole asked)
   piece_arrives whole asked (arrives r) = r
 
-  block_taken : IsLawful s.torrent.piece_length s.torrent.files → IsWholeBlock s.torrent piece begin (length bytes) b → Contains p.asked b
+  block_taken : RangesTell s.torrent → IsRangeOf s.torrent piece begin (length bytes) b → Contains p.asked b
       → tree_of s b.file ≡ Some tree → IsRight dig tree b.block bytes → Taken dig s i p (Message (Piece piece begin bytes)) rest calls a new
       → NextLacksMemory a ⊎ MarksBlock b bytes calls a new
-  block_taken lawful whole asked has_tree exact (no_room e) = inl e
-  block_taken lawful whole asked has_tree exact (goes out g h is) =
+  block_taken tell whole asked has_tree exact (no_room e) = inl e
+  block_taken tell whole asked has_tree exact (goes out g h is) =
       let r = piece_arrives whole asked h in
-      let same = same_block s.torrent lawful.laid_out piece begin (length bytes) r.whole whole in
+      let same = tell.block r.whole whole in
       let files = (follows_of g.follows).files in
       inr (marks_by {effect = g.effect} (λ m. rw files m) (noted_with g is) r same (right_put has_tree exact r same))
-  block_taken lawful whole asked has_tree exact (shuts out g h is) =
+  block_taken tell whole asked has_tree exact (shuts out g h is) =
       let r = piece_arrives whole asked h in
-      let same = same_block s.torrent lawful.laid_out piece begin (length bytes) r.whole whole in
+      let same = tell.block r.whole whole in
       elim (right_put has_tree exact r same) [ is_marked_now x e ↦ not_closed e refl g.closed | is_not_written x e ↦ not_closed e refl g.closed ]
 
-pub next_marks_right : (dig : Digest) → NextMarksRightBlock dig
-next_marks_right dig s new key i p calls a piece begin bytes rest b tree lawful one takes whole asked has_tree exact step =
-    block_taken dig s new key i p calls a piece begin bytes rest b tree lawful whole asked has_tree exact (step_taken dig new calls one takes step)
+pub next_marks_right : (dig : Digest) → RangeIsPlace → NextMarksRightBlock dig
+next_marks_right dig law s new key i p calls a piece begin bytes rest b tree lawful one takes whole asked has_tree exact step =
+    block_taken dig s new key i p calls a piece begin bytes rest b tree (ranges_tell law s.torrent lawful.piece lawful.laid_out) whole asked has_tree exact (step_taken dig new calls one takes step)
 
 -- ---- requests
 

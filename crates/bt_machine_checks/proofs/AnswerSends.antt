@@ -1,6 +1,6 @@
 -- What each frame of an answer follows from.
 use Rattle.bt_machine_checks.proofs.Base.{[], ◌≡◌, ℕ, zero, suc, ◌⊎◌, inl, inr, ◌↔◌, Bool, true, false, List, ◌∷◌, ◌++◌, length, Some, Ok, refl, sym, ap, ◌∙◌, subst, arith, slice_get, slice_set, Contains, range_with_len, Contains-append_cases, PeerKey, BlockId, Ask, PeerMessage, Interested, NotInterested, Have, Bitfield, Request, Missing}
-use Rattle.bt_machine_checks.proofs.Machine.{Digest, Frame, hello_frame, message_frame, Connect, Next, Rechoke, PeerState, EngineState, DeviceCalls, IsWholeBlock, Sent, Output, sent_to, haves, FollowsUp, RequestsHashes, requests, rests, IsOpen, IsInteresting, RequestsBlock, RequestsEach, interest_sent, IsPeer, KeepsPeer, StepNext, no_peer, waits, keeps_peer, closes, faulty, no_memory, StepConnect, joins, full, spent, no_room, new_peer, our_handshake, greeting, FollowsEach, Rechokes, StepRechoke, rechokes, not_rechoked, choking_sent, chokes_sent, is_served, rechoked, Connected, Stepped, Rechoked, Step, sent_by, state_at}
+use Rattle.bt_machine_checks.proofs.Machine.{Digest, Frame, hello_frame, message_frame, Connect, Next, Rechoke, PeerState, EngineState, DeviceCalls, IsRangeOf, Sent, Output, sent_to, haves, FollowsUp, RequestsHashes, requests, rests, IsOpen, IsInteresting, RequestsBlock, RequestsEach, interest_sent, IsPeer, KeepsPeer, StepNext, no_peer, waits, keeps_peer, closes, faulty, no_memory, StepConnect, joins, full, spent, no_room, new_peer, our_handshake, greeting, FollowsEach, Rechokes, StepRechoke, rechokes, not_rechoked, choking_sent, chokes_sent, is_served, rechoked, Connected, Stepped, Rechoked, Step, sent_by, state_at}
 use Rattle.bt_machine.proofs.Lists.{contains_none, contains_cases, contains_flat_map, here, later, set_same, set_other as stays_there}
 use Rattle.bt_machine_checks.proofs.AnswerParts.{Part, greets, replies, interests, chokes, hashes, asks, part_of, AllOf, all_none, all_one, all_is, all_interest, all_hashes, all_asks, IsFollowing, in_interest, in_hash, in_block, following, event_leaves}
 
@@ -36,7 +36,7 @@ pub record Follows (s : EngineState) (i : ℕ) (sent : List Sent) (new : EngineS
   pub peers : new.peers ≡ slice_set s.peers i after
   pub files : new.files ≡ s.files
   pub torrent : new.torrent ≡ s.torrent
-  pub requested : (key : PeerKey) (ask : Ask) → Contains sent (frame_to key (Request ask)) → (b : BlockId) × Contains blocks b × IsWholeBlock s.torrent ask.piece ask.begin ask.length b × (after.key ≡ key)
+  pub requested : (key : PeerKey) (ask : Ask) → Contains sent (frame_to key (Request ask)) → (b : BlockId) × Contains blocks b × IsRangeOf s.torrent ask.piece ask.begin ask.length b × (after.key ≡ key)
   pub interested : (key : PeerKey) → Contains sent (frame_to key Interested) → (peer.am_interested ≡ false) × (after.am_interested ≡ true) × (peer.key ≡ key)
   pub uninterested : (key : PeerKey) → Contains sent (frame_to key NotInterested) → (peer.am_interested ≡ true) × (after.am_interested ≡ false) × (peer.key ≡ key)
   pub no_have : (key : PeerKey) (piece : ℕ) → Contains sent (frame_to key (Have piece)) → ⊥
@@ -135,13 +135,13 @@ module _ {dig : Digest} {s : EngineState} {i : ℕ} {sent : List Sent} {new : En
   of_block {x} c = all_asks s _ _ _ f.requests x c
 
   ask_sent : {key : _} (ask : Ask) → stands (frame_to key (Request ask))
-      → (b : BlockId) × Contains f.blocks b × IsWholeBlock s.torrent ask.piece ask.begin ask.length b × (f.planned.key ≡ key)
+      → (b : BlockId) × Contains f.blocks b × IsRangeOf s.torrent ask.piece ask.begin ask.length b × (f.planned.key ≡ key)
   ask_sent ask (in_interest c) = let e = of_interest c in absurd cc
   ask_sent ask (in_hash c) = let e = of_hash c in absurd cc
   ask_sent ask (in_block c) =
       let r = each_ask _ _ f.requests c in
       let same = ap (λ x. ask_in x.1) r.2.is in
-      (r.0, r.1, subst (λ a. IsWholeBlock s.torrent a.piece a.begin a.length r.0) (sym same) r.2.whole, ap (λ x. x.0) (sym r.2.is))
+      (r.0, r.1, subst (λ a. IsRangeOf s.torrent a.piece a.begin a.length r.0) (sym same) r.2.whole, ap (λ x. x.0) (sym r.2.is))
 
   interest_told : {key : _} → stands (frame_to key Interested) → (f.peer.am_interested ≡ false) × (f.interested.am_interested ≡ true) × (f.peer.key ≡ key)
   interest_told {key} (in_interest c) = told_interest f.peer _ _ (rw (← f.interest.told) c)

@@ -6,7 +6,7 @@ pub use Rattle.std.specs.Option.{option_and_then, option_map_or}
 pub use Rattle.std.specs.Prelude.{slice_get, Contains, slice_set, option_map, ◌==◌, if◌then◌else◌, ◌&&◌, flat_map, filter, ⊤, cond, is_some, All, IsSome}
 pub use Rattle.std.specs.Simd.{first_chunks}
 pub use Rattle.std.proofs.Common.{[], ◌≡◌, ℕ, List, sym, ap, ◌∙◌, Some, subst, refl, ◌∷◌, inl, inr, length, arith, false, true, ◌++◌, suc, zero, Ok, ◌⊎◌, ◌<◌, ◌+◌, map, ◌≢◌, Bool, None, ◌*◌, ◌≤◌, Result, Err, Option, ◌-◌, get_or, drop, take, ◌/◌, ◌^◌, not, ◌%◌, ◌↔◌, replicate, min, length-drop, append_assoc, rules, alloc_error}
-pub use Rattle.std.proofs.Math.Nat.{div-add-mod, mod-lt, add_left_cancel}
+pub use Rattle.std.proofs.Math.Nat.{div-add-mod, mod-lt}
 pub use Rattle.std.proofs.Math.Seq.{take-append-add}
 pub use Rattle.std.proofs.lemmas.Bool.{cases_lt, eq-eqb}
 pub use Rattle.std.proofs.lemmas.List.{length-append, append-nil, length-map, length-take, length-take-le, append_cancel_left, ext_get_or, drop-append-le, take_at, drop_at}
@@ -18,7 +18,7 @@ pub use Rattle.bt_tree.specs.Blocks.{block_count}
 pub use Rattle.bt_tree.specs.NodeHash.{IsDigest}
 pub use Rattle.bt_tree.specs.TreeShape.{CoversBlock, real_width, IsPadding}
 pub use Rattle.bt_meta.specs.Place.{IsPlace}
-pub use Rattle.bt_meta.specs.Torrent.{IsLaidOut, Metainfo, IsLawful, total_pieces}
+pub use Rattle.bt_meta.specs.Torrent.{Metainfo, IsLawful, total_pieces}
 pub use Rattle.bt_meta.specs.declared.torrent.Span.{Span}
 pub use Rattle.bt_sparse.proofs.NodeMaps.{digest_at_new, same_map, digest_at_cases, digest_at_empty, digest_at_other}
 pub use Rattle.bt_sparse.proofs.Single.{claims_one}

@@ -1,8 +1,10 @@
 -- What is left to an engine.
-use Rattle.bt_machine_checks.proofs.Base.{[], ◌≡◌, ◌≢◌, ℕ, suc, inl, inr, List, ◌∷◌, length, refl, sym, ap, ◌∙◌, arith, map, ⊤, cases_lt, block_count, Metainfo, IsLaidOut, blocks_of}
+use Rattle.bt_machine_checks.proofs.Base.{[], ◌≡◌, ◌≢◌, ℕ, suc, inl, inr, List, ◌∷◌, length, refl, sym, ap, ◌∙◌, arith, map, ⊤, cases_lt, block_count, Metainfo, blocks_of}
 use Rattle.bt_machine_checks.proofs.Machine.{Digest, Connect, Feed, Next, Lost, Rechoke, Adopt, Flush, EngineState, IsFile, Answer, Connected, Fed, Stepped, Rechoked, AdoptedAnswer, Step, Run, IsOrderly, IsShaped, sent_by, IsOutOfMemory, IsReached, StepIsDetermined, block_requests, StepIsForced, HaveMemory, RunsAreDetermined}
 use Rattle.bt_machine.proofs.Lists.{heads, tails, get_some, same_some, some_below}
+use Rattle.bt_meta.specs.Law.{RangeIsPlace}
 use Rattle.bt_machine.proofs.Orderly.{order_kept, order_of_runs}
+use Rattle.bt_machine.proofs.Places.{RangesTell, ranges_tell}
 use Rattle.bt_machine.proofs.Shape.{step_shape, shape_kept}
 use Rattle.bt_machine_checks.proofs.DeterminedAsks.{SameAsks, by_requests, by_none, by_one, AreOne}
 use Rattle.bt_machine_checks.proofs.DeterminedNext.{next_one}
@@ -25,8 +27,8 @@ sized {torrent} {s} shaped {file} f k is some =
       | inr short ↦ absurd (some (nil_of f.states (omega arith)))
     ]
 
-laid : {torrent s : _} → IsShaped torrent s → IsLaidOut torrent.piece_length torrent.files → IsLaidOut s.torrent.piece_length s.torrent.files
-laid shaped lay = rw shaped.same lay
+tells : {torrent s : _} → IsShaped torrent s → RangesTell torrent → RangesTell s.torrent
+tells shaped tell = rw shaped.same tell
 
 -- what holds between the answers of two runs, one by one
 abbrev pub EachPair : (Answer → Answer → Type 0) → List Answer → List Answer → Type 0
@@ -41,35 +43,35 @@ module _ (dig : Digest) where
   remembers : {a b : _} → a ≡ b → IsOutOfMemory b → ¬ IsOutOfMemory a → ⊥
   remembers e out memory = memory (rw e out)
 
-  pub step_one : {torrent : Metainfo} {s new other : _} (event calls : _) {answer another : _} → IsLaidOut torrent.piece_length torrent.files
+  pub step_one : {torrent : Metainfo} {s new other : _} (event calls : _) {answer another : _} → RangesTell torrent
       → IsShaped torrent s → IsOrderly s → Step dig s event calls answer new → Step dig s event calls another other → ¬ IsOutOfMemory answer
       → ¬ IsOutOfMemory another → AreOne answer new another other
-  step_one Connect calls lay shaped o x y memory room =
+  step_one Connect calls tell shaped o x y memory room =
       answers x.1 y.1 (connect_one x.3 y.3 (λ e. remembers (x.1 ∙ ap Connected e) tt memory) (λ e. remembers (y.1 ∙ ap Connected e) tt room))
-  step_one (Feed key bytes) calls lay shaped o x y memory room =
+  step_one (Feed key bytes) calls tell shaped o x y memory room =
       answers x.1 y.1 (feed_one o x.3 y.3 (λ e. remembers (x.1 ∙ ap Fed e) tt memory) (λ e. remembers (y.1 ∙ ap Fed e) tt room))
-  step_one (Next key) calls lay shaped o x y memory room =
-      answers x.1 y.1 (next_one dig key calls (laid shaped lay) shaped.roots o x.2 y.2
+  step_one (Next key) calls tell shaped o x y memory room =
+      answers x.1 y.1 (next_one dig key calls (tells shaped tell) shaped.roots o x.2 y.2
       (λ e. remembers (x.1 ∙ ap Stepped e) tt memory) (λ e. remembers (y.1 ∙ ap Stepped e) tt room))
-  step_one (Lost key) calls lay shaped o x y memory room = answers x.1 y.1 (lost_one o x.3 y.3)
-  step_one Rechoke calls lay shaped o x y memory room =
+  step_one (Lost key) calls tell shaped o x y memory room = answers x.1 y.1 (lost_one o x.3 y.3)
+  step_one Rechoke calls tell shaped o x y memory room =
       answers x.1 y.1
-      (rechoke_one (laid shaped lay) o x.3 y.3 (λ e. remembers (x.1 ∙ ap Rechoked e) tt memory) (λ e. remembers (y.1 ∙ ap Rechoked e) tt room))
-  step_one (Adopt file) calls lay shaped o x y memory room =
+      (rechoke_one (tells shaped tell) o x.3 y.3 (λ e. remembers (x.1 ∙ ap Rechoked e) tt memory) (λ e. remembers (y.1 ∙ ap Rechoked e) tt room))
+  step_one (Adopt file) calls tell shaped o x y memory room =
       answers x.1 y.1 (adopt_one dig (sized shaped) x.2 y.2
       (λ e. remembers (x.1 ∙ ap AdoptedAnswer e) tt memory) (λ e. remembers (y.1 ∙ ap AdoptedAnswer e) tt room))
-  step_one Flush calls lay shaped o x y memory room = answers x.1 y.1 (flush_one x.2 y.2)
+  step_one Flush calls tell shaped o x y memory room = answers x.1 y.1 (flush_one x.2 y.2)
 
   -- ---- lists of events
 
-  module _ (torrent : Metainfo) (lay : IsLaidOut torrent.piece_length torrent.files) (P : Answer → Answer → Type 0) (force : (m : EngineState) (a b : Answer) → IsShaped torrent m → P a b → SameAsks m (sent_by a) (sent_by b)) where
+  module _ (torrent : Metainfo) (tell : RangesTell torrent) (P : Answer → Answer → Type 0) (force : (m : EngineState) (a b : Answer) → IsShaped torrent m → P a b → SameAsks m (sent_by a) (sent_by b)) where
     -- where each two answers request the same, for this reason
     pub run_one : (s : _) {new other : _} (events calls answers others : _) → IsShaped torrent s → IsOrderly s → Run dig s events calls answers new
         → Run dig s events calls others other → HaveMemory answers → HaveMemory others → EachPair P answers others
         → (answers ≡ others) × (new ≡ other)
     run_one s [] [] [] [] shaped o x y memory room each = (refl, x ∙ sym y)
     run_one s {other} (e ∷ es) (c ∷ cs) (a ∷ answers) (b ∷ others) shaped o x y memory room each =
-        let one = step_one e c lay shaped o x.1 y.1 (memory 0 a (omega arith)) (room 0 b (omega arith)) in
+        let one = step_one e c tell shaped o x.1 y.1 (memory 0 a (omega arith)) (room 0 b (omega arith)) in
         let after = step_shape dig e c a shaped x.1 in
         let same = one.whole (force x.0 a b after each.0) in
         let more = run_one x.0 es cs answers others after (order_kept dig s x.0 e c a x.1 o) x.2 (rw same.1 y.2)
@@ -88,14 +90,17 @@ module _ (dig : Digest) where
   order_of : {s : _} → IsReached dig s → IsOrderly s
   order_of {s} r = order_of_runs dig r.torrent r.first s r.events r.calls r.answers r.starts r.run
 
-  pub step_determined : StepIsDetermined dig
-  step_determined s new other event calls answer another r x y memory room =
-      let one = step_one event calls r.lawful.laid_out (shape_of r) (order_of r) x y memory room in
+  tell_of : {s : _} → RangeIsPlace → (r : IsReached dig s) → RangesTell r.torrent
+  tell_of law r = ranges_tell law r.torrent r.lawful.piece r.lawful.laid_out
+
+  pub step_determined : RangeIsPlace → StepIsDetermined dig
+  step_determined law s new other event calls answer another r x y memory room =
+      let one = step_one event calls (tell_of law r) (shape_of r) (order_of r) x y memory room in
       (one.plain, one.rest)
 
-  pub step_forced : StepIsForced dig
-  step_forced s new other event calls answer another r x y memory room few =
-      (step_one event calls r.lawful.laid_out (shape_of r) (order_of r) x y memory room).whole (elim few [ inl none ↦ by_none none | inr one ↦ by_one one ])
+  pub step_forced : RangeIsPlace → StepIsForced dig
+  step_forced law s new other event calls answer another r x y memory room few =
+      (step_one event calls (tell_of law r) (shape_of r) (order_of r) x y memory room).whole (elim few [ inl none ↦ by_none none | inr one ↦ by_one one ])
 
   pairs_of : (answers others : _) → map block_requests answers ≡ map block_requests others
       → EachPair (λ a b. block_requests a ≡ block_requests b) answers others
@@ -104,7 +109,7 @@ module _ (dig : Digest) where
   pairs_of (a ∷ answers) (b ∷ others) e =
       (heads e, pairs_of answers others (tails e))
 
-  pub runs_determined : RunsAreDetermined dig
-  runs_determined s new other events calls answers others r x y memory room same =
-      run_one r.torrent r.lawful.laid_out (λ a b. block_requests a ≡ block_requests b) (λ m a b shaped e. by_requests e) s events calls answers others
+  pub runs_determined : RangeIsPlace → RunsAreDetermined dig
+  runs_determined law s new other events calls answers others r x y memory room same =
+      run_one r.torrent (tell_of law r) (λ a b. block_requests a ≡ block_requests b) (λ m a b shaped e. by_requests e) s events calls answers others
       (shape_of r) (order_of r) x y memory room (pairs_of answers others same)

@@ -1,10 +1,10 @@
 -- Where two answers request the same blocks, what follows for peers is the same.
-use Rattle.bt_machine_checks.proofs.Base.{[], ◌≡◌, ◌≢◌, ℕ, zero, suc, ◌+◌, ◌-◌, ◌*◌, ◌/◌, inl, inr, Bool, true, false, List, ◌∷◌, ◌++◌, get_or, Some, refl, sym, ap, ◌∙◌, subst, arith, slice_get, slice_set, Contains, filter, range_with_len, add_left_cancel, div-mul-add, append_cancel_left, filter-append, Contains-append_cases, Metainfo, IsLaidOut, BlockId, Ask, Request}
-use Rattle.bt_machine_checks.proofs.Machine.{Digest, PeerState, EngineState, IsWholeBlock, Sent, sent_to, interest_sent, RequestsHashes, requests, rests, AsksBlocks, RequestsEach, FollowsUp, FollowsEach, Answer, sent_by, is_block_request, plain_answer, asked_nothing, without_asked, LacksOneAtMost}
+use Rattle.bt_machine_checks.proofs.Base.{[], ◌≡◌, ◌≢◌, ℕ, zero, suc, ◌+◌, inl, inr, Bool, true, false, List, ◌∷◌, ◌++◌, Some, refl, sym, ap, ◌∙◌, subst, arith, slice_get, slice_set, Contains, filter, range_with_len, append_cancel_left, filter-append, Contains-append_cases, Metainfo, BlockId, Ask, Request}
+use Rattle.bt_machine_checks.proofs.Machine.{Digest, PeerState, EngineState, IsRangeOf, Sent, sent_to, interest_sent, RequestsHashes, requests, rests, AsksBlocks, RequestsEach, FollowsUp, FollowsEach, Answer, sent_by, is_block_request, plain_answer, asked_nothing, without_asked, LacksOneAtMost}
 use Rattle.bt_machine.proofs.Lists.{heads, tails, here, later, contains_none, contains_cases, set_cases, range_limits}
 use Rattle.bt_machine.proofs.Pairs.{Pairs}
 use Rattle.bt_machine_checks.proofs.AnswerSends.{Follows, same_plan, follows_of, missing_in}
-use Rattle.bt_machine.proofs.Places.{same_block}
+use Rattle.bt_machine.proofs.Places.{RangesTell, one_range}
 use Rattle.bt_machine_checks.proofs.DeterminedFollow.{AlikePeers, interest_one, hash_one}
 
 -- ---- why two answers request the same blocks
@@ -49,17 +49,9 @@ asks_behind {s} {m} xs e (by_one one) = by_one (lacks_there s m e one)
 
 -- ---- a block and its request
 
-pub range_one : {torrent : Metainfo} {a c : Ask} {b : BlockId} → IsWholeBlock torrent a.piece a.begin a.length b
-    → IsWholeBlock torrent c.piece c.begin c.length b → a ≡ c
-range_one {torrent} {a} {c} {b} x y =
-    let file = sym (x.place.found x.place.file) ∙ ap (λ i. get_or torrent.files i x.place.file) (cc) ∙ y.place.found x.place.file in
-    let start : (a.piece - x.place.file.first_piece) * torrent.piece_length + a.begin ≡ (c.piece - y.place.file.first_piece) * torrent.piece_length + c.begin = cc in
-    let turn = sym (div-mul-add (a.piece - x.place.file.first_piece) torrent.piece_length a.begin (omega arith)) ∙ ap (λ n. n / torrent.piece_length) start
-    ∙ div-mul-add (c.piece - y.place.file.first_piece) torrent.piece_length c.begin (omega arith) in
-    let piece : a.piece ≡ c.piece = omega (arith, ap (λ f. f.first_piece) file) in
-    let begin = add_left_cancel ((c.piece - y.place.file.first_piece) * torrent.piece_length) (cc) in
-    let count : a.length ≡ c.length = cc in
-    ap (λ n. record a { piece = n }) piece ∙ ap (λ n. record a { piece = c.piece; begin = n }) begin ∙ ap (λ n. record c { length = n }) count
+pub range_one : {torrent : Metainfo} {a c : Ask} {b : BlockId} → IsRangeOf torrent a.piece a.begin a.length b
+    → IsRangeOf torrent c.piece c.begin c.length b → a ≡ c
+range_one x y = ap (λ r. record { piece = r.piece; begin = r.begin; length = r.length }) (one_range x y)
 
 frames_one : (s p blocks : _) {f g : _} → RequestsEach s p blocks f → RequestsEach s p blocks g → f ≡ g
 frames_one s p [] x y = cc
@@ -70,16 +62,16 @@ frames_one s p (b ∷ blocks) x y =
 ask_sent : (p : _) {a c : _} → sent_to p (Request a) ≡ sent_to p (Request c) → a ≡ c
 ask_sent p e = let frames = ap (λ x. x.1) e in cc
 
-blocks_one : (s : EngineState) (p bs cs f : _) → IsLaidOut s.torrent.piece_length s.torrent.files
+blocks_one : (s : EngineState) (p bs cs f : _) → RangesTell s.torrent
     → RequestsEach s p bs f → RequestsEach s p cs f → bs ≡ cs
-blocks_one s p [] [] f lay x y = refl
-blocks_one s p [] (c ∷ cs) f lay x y = let no = sym x ∙ y.4 in absurd cc
-blocks_one s p (b ∷ bs) [] f lay x y = let no = sym y ∙ x.4 in absurd cc
-blocks_one s p (b ∷ bs) (c ∷ cs) f lay x y =
+blocks_one s p [] [] f tell x y = refl
+blocks_one s p [] (c ∷ cs) f tell x y = let no = sym x ∙ y.4 in absurd cc
+blocks_one s p (b ∷ bs) [] f tell x y = let no = sym y ∙ x.4 in absurd cc
+blocks_one s p (b ∷ bs) (c ∷ cs) f tell x y =
     let same = sym x.4 ∙ y.4 in
     let ask : x.2.ask ≡ y.2.ask = ask_sent p (cc) in
-    let block = same_block _ lay _ _ _ x.2.whole (rw ask y.2.whole) in
-    ap (λ z. z ∷ bs) block ∙ ap (λ zs. c ∷ zs) (blocks_one s p bs cs x.1 lay x.3 (rw (tails same) y.3))
+    let block = tell.block x.2.whole (rw ask y.2.whole) in
+    ap (λ z. z ∷ bs) block ∙ ap (λ zs. c ∷ zs) (blocks_one s p bs cs x.1 tell x.3 (rw (tails same) y.3))
 
 no_block : (s p bs : _) → RequestsEach s p bs [] → bs ≡ []
 no_block s p [] x = refl
@@ -150,7 +142,7 @@ module _ (dig : Digest) where
 
   -- ---- what follows for one peer
 
-  module _ {s : EngineState} {i : ℕ} {f g : List Sent} {a b : EngineState} (lay : IsLaidOut s.torrent.piece_length s.torrent.files) (x : FollowsUp dig s i f a) (y : FollowsUp dig s i g b) where
+  module _ {s : EngineState} {i : ℕ} {f g : List Sent} {a b : EngineState} (tell : RangesTell s.torrent) (x : FollowsUp dig s i f a) (y : FollowsUp dig s i g b) where
     peers : x.peer ≡ y.peer
     peers = cc
 
@@ -178,7 +170,7 @@ module _ (dig : Digest) where
     blocks : SameAsks s f g → (x.blocks ≡ y.blocks) × (x.block_frames ≡ y.block_frames)
     blocks (by_requests same) =
         let frames = sym (requests_of x) ∙ same ∙ requests_of y in
-        (blocks_one s x.planned x.blocks y.blocks x.block_frames lay x.requests (rw frames their_requests), frames)
+        (blocks_one s x.planned x.blocks y.blocks x.block_frames tell x.requests (rw frames their_requests), frames)
     blocks (by_none none) =
         let own = no_block s x.planned x.blocks (rw (← (sym (requests_of x) ∙ none)) x.requests) in
         let e = own ∙ sym (asks_none y.blocks (rw (← own) x.asks) theirs) in
@@ -239,15 +231,15 @@ module _ (dig : Digest) where
   each_files [] s sent new x = cc
   each_files (i ∷ is) s sent new x = each_files is x.0 x.2 new x.4 ∙ ap (λ z. z.files) x.3.after
 
-  pub each_same : (is : _) (s : EngineState) {f g a b : _} → IsLaidOut s.torrent.piece_length s.torrent.files → KeysApart s
+  pub each_same : (is : _) (s : EngineState) {f g a b : _} → RangesTell s.torrent → KeysApart s
       → Pairs (λ i j. i ≢ j) is → FollowsEach dig is s f a → FollowsEach dig is s g b → SameAsks a f g
       → (f ≡ g) × (a ≡ b)
-  each_same [] s lay apart once x y same = (x.0 ∙ sym y.0, x.1 ∙ sym y.1)
-  each_same (i ∷ is) s {f} {g} {a} {b} lay apart once x y same =
+  each_same [] s tell apart once x y same = (x.0 ∙ sym y.0, x.1 ∙ sym y.1)
+  each_same (i ∷ is) s {f} {g} {a} {b} tell apart once x y same =
       let parts = split same in
-      let first = follows_same lay x.3 y.3 parts.0 in
+      let first = follows_same tell x.3 y.3 parts.0 in
       let there : FollowsEach dig is x.0 y.2 b = rw first.1 y.4 in
-      let rest = each_same is x.0 (rw own.torrent lay) (apart_after own apart) once.1 x.4 there parts.1 in
+      let rest = each_same is x.0 (rw own.torrent tell) (apart_after own apart) once.1 x.4 there parts.1 in
       (x.5 ∙ ap (λ zs. zs ++ x.2) first.0 ∙ ap (λ zs. y.1 ++ zs) rest.0 ∙ sym y.5, rest.1)
     where
       own : Follows s i x.1 x.0

@@ -1,8 +1,8 @@
 -- What one wire event does by itself is one and no other, with the same answers of devices.
-use Rattle.bt_machine_checks.proofs.Base.{[], ◌≡◌, ◌≢◌, ℕ, suc, ◌*◌, ◌<◌, inl, inr, true, false, List, ◌∷◌, ◌++◌, length, map, Option, Some, None, refl, sym, ap, ◌∙◌, subst, arith, length-append, slice_get, option_map, Contains, flat_map, if◌then◌else◌, Result, Ok, Err, AllPairs, concat, length-map, Contains-append_right, Call, bytes_written, write_fault, IsLaidOut, Facts, Accepts, IsRefused, OutOfMemory, IsClaimBy, HashKey, BlockRead, given, failed, block_of, call_of, IsRight, IsWrong, PutIsDue, calls_of_put, states_after_put, StoreError, Range, DeviceFault, Put, Already, Wrong, PutMarked, PutWaiting, without_block, PeerMessage as Sent, KeepAlive, Choke, Unchoke, Interested, NotInterested, Have, Bitfield, Request, Piece, Cancel, HashRequest, Hashes, HashReject, Hello, Message, Skipped}
+use Rattle.bt_machine_checks.proofs.Base.{[], ◌≡◌, ◌≢◌, ℕ, suc, ◌*◌, ◌<◌, inl, inr, true, false, List, ◌∷◌, ◌++◌, length, map, Option, Some, None, refl, sym, ap, ◌∙◌, subst, arith, length-append, slice_get, option_map, Contains, flat_map, if◌then◌else◌, Result, Ok, Err, AllPairs, concat, length-map, Contains-append_right, Call, bytes_written, write_fault, Facts, Accepts, IsRefused, OutOfMemory, IsClaimBy, HashKey, BlockRead, given, failed, block_of, call_of, IsRight, IsWrong, PutIsDue, calls_of_put, states_after_put, StoreError, Range, DeviceFault, Put, Already, Wrong, PutMarked, PutWaiting, without_block, PeerMessage as Sent, KeepAlive, Choke, Unchoke, Interested, NotInterested, Have, Bitfield, Request, Piece, Cancel, HashRequest, Hashes, HashReject, Hello, Message, Skipped}
 use Rattle.bt_machine_checks.proofs.Machine.{Digest, Proof, FileState, EngineState, DeviceCalls, calls_at, reads_at, block_id, with_file, with_tree, with_peer, file_numbers, no_effect, closing, sending, spanned_blocks, cut_from, with_payload, IsFile, Serves, FindsFault, damaged, fault, StopsAtFault, HandlesRequest, ignored, no_place, not_marked, served, stopped, HasPutEffect, Puts, Arrives, HandlesPiece, stale, arrives, judged_file, settling_notes, due_blocks, SettlesIn, OnlyCloses, IsTreeOf, IsAnswered, HandlesHashRequest, answered, rejected, Resolves, resolved as ours, other_asked as other, new_proofs, settled_count, AcceptsHashes, HandlesHashes, unknown_root, no_claim, refused, accepts_hashes, HandlesHello, ours as our_torrent, other as other_torrent, HandlesHave, in_range, out_of_range, HandlesBitfield, right, wrong, HandlesMessage, Handles}
 use Rattle.bt_machine.proofs.Lists.{heads, tails, get_some, some_is, same_some, here, later, contains_none, contains_cases, some_below, range_contains, range_limits}
-use Rattle.bt_machine.proofs.Places.{same_place, same_block}
+use Rattle.bt_machine.proofs.Places.{RangesTell}
 use Rattle.bt_machine_checks.proofs.DeterminedParts.{tree_one, accepts_one, answer_one, accepts_refused, refused_one, no_claim_one, claim_or_not}
 
 -- ---- lists
@@ -228,7 +228,7 @@ module _ (dig : Digest) (s : EngineState) where
             ∙ ap (λ r. with_file s b.file (record y.file { states = states_after_put b.block r y.file.states })) result ∙ sym y.after,
       )
 
-  module _ (lay : IsLaidOut s.torrent.piece_length s.torrent.files) (roots : AllPairs (λ (j k : Facts). j.root ≢ k.root) s.trees) where
+  module _ (tell : RangesTell s.torrent) (roots : AllPairs (λ (j k : Facts). j.root ≢ k.root) s.trees) where
     choked : {b : _} → b ≡ true → b ≡ false → ⊥
     choked e f = absurd cc
 
@@ -246,25 +246,25 @@ module _ (dig : Digest) (s : EngineState) where
     request_one (not_marked xs xa xf xg xb xc xe) (ignored ya yb yc ye) = absurd (choked ya xa)
     request_one (not_marked xs xa xf xg xb xc xe) (no_place ya yf yb yc ye) = absurd (yf xs xf)
     request_one (not_marked xs xa xf xg xb xc xe) (not_marked ys ya yf yg yb yc ye) = (xc ∙ sym yc, xe ∙ sym ye)
-    request_one {ask} (not_marked xs xa xf xg xb xc xe) (served ys ya yf yg yx) = absurd (xg (rw (← (same_place _ lay _ _ _ yf xf)) yg))
-    request_one {ask} (not_marked xs xa xf xg xb xc xe) (stopped ys ya yf yg yx) = absurd (xg (rw (← (same_place _ lay _ _ _ yf xf)) yg))
+    request_one {ask} (not_marked xs xa xf xg xb xc xe) (served ys ya yf yg yx) = absurd (xg (rw (← (tell.place yf xf)) yg))
+    request_one {ask} (not_marked xs xa xf xg xb xc xe) (stopped ys ya yf yg yx) = absurd (xg (rw (← (tell.place yf xf)) yg))
     request_one (served xs xa xf xg xx) (ignored ya yb yc ye) = absurd (choked ya xa)
     request_one (served xs xa xf xg xx) (no_place ya yf yb yc ye) = absurd (yf xs xf)
-    request_one {ask} (served xs xa xf xg xx) (not_marked ys ya yf yg yb yc ye) = absurd (yg (rw (← (same_place _ lay _ _ _ xf yf)) xg))
-    request_one {i} {p} {ask} {calls} {f} {n} (served xs xa xf xg xx) (served ys ya yf yg yx) = serves_one xx (rw (← (same_place _ lay _ _ _ yf xf)) yx)
+    request_one {ask} (served xs xa xf xg xx) (not_marked ys ya yf yg yb yc ye) = absurd (yg (rw (← (tell.place xf yf)) xg))
+    request_one {i} {p} {ask} {calls} {f} {n} (served xs xa xf xg xx) (served ys ya yf yg yx) = serves_one xx (rw (← (tell.place yf xf)) yx)
     request_one {ask} {calls} {f} {n} (served xs xa xf xg xx) (stopped ys ya yf yg yx) =
-        absurd (serve_or_stop xx (subst (λ t. StopsAtFault dig s t calls f n) (same_place _ lay _ _ _ yf xf) yx))
+        absurd (serve_or_stop xx (subst (λ t. StopsAtFault dig s t calls f n) (tell.place yf xf) yx))
     request_one (stopped xs xa xf xg xx) (ignored ya yb yc ye) = absurd (choked ya xa)
     request_one (stopped xs xa xf xg xx) (no_place ya yf yb yc ye) = absurd (yf xs xf)
-    request_one {ask} (stopped xs xa xf xg xx) (not_marked ys ya yf yg yb yc ye) = absurd (yg (rw (← (same_place _ lay _ _ _ xf yf)) xg))
+    request_one {ask} (stopped xs xa xf xg xx) (not_marked ys ya yf yg yb yc ye) = absurd (yg (rw (← (tell.place xf yf)) xg))
     request_one {ask} {calls} {e} {m} (stopped xs xa xf xg xx) (served ys ya yf yg yx) =
-        absurd (serve_or_stop yx (subst (λ t. StopsAtFault dig s t calls e m) (same_place _ lay _ _ _ xf yf) xx))
-    request_one {ask} {calls} {f} {n} (stopped xs xa xf xg xx) (stopped ys ya yf yg yx) = stops_one xx (rw (← (same_place _ lay _ _ _ yf xf)) yx)
+        absurd (serve_or_stop yx (subst (λ t. StopsAtFault dig s t calls e m) (tell.place xf yf) xx))
+    request_one {ask} {calls} {f} {n} (stopped xs xa xf xg xx) (stopped ys ya yf yg yx) = stops_one xx (rw (← (tell.place yf xf)) yx)
 
     arrives_one : {i p piece begin bytes calls e f m n : _} → Arrives dig s i p piece begin bytes calls e m
         → Arrives dig s i p piece begin bytes calls f n → (e ≡ f) × (m ≡ n)
     arrives_one {i} {p} {piece} {begin} {bytes} {calls} {f} x y =
-        let block = same_block _ lay piece begin _ x.whole y.whole in
+        let block = tell.block x.whole y.whole in
         let puts = puts_one x.puts (rw block y.puts) in (
           puts.0,
           x.after ∙ ap (λ st. with_peer st i (with_payload (length bytes) (record p { asked = without_block x.block p.asked }))) puts.1

@@ -1,8 +1,9 @@
 -- What is left to an engine where the next wire event of a peer is taken.
-use Rattle.bt_machine_checks.proofs.Base.{[], ◌≡◌, ◌≢◌, ℕ, List, ◌++◌, map, Option, Some, None, refl, sym, ap, ◌∙◌, subst, Result, Ok, Err, slice_get, AllPairs, IsLaidOut, Facts, PeerKey, Takes}
+use Rattle.bt_machine_checks.proofs.Base.{[], ◌≡◌, ◌≢◌, ℕ, List, ◌++◌, map, Option, Some, None, refl, sym, ap, ◌∙◌, subst, Result, Ok, Err, slice_get, AllPairs, Facts, PeerKey, Takes}
 use Rattle.bt_machine_checks.proofs.Machine.{Digest, Wire, Complete, EngineError, PeerState, EngineState, DeviceCalls, with_peer, new_complete_files, Sent, Output, Effect, haves, Handles, FollowsUp, IsPeer, without_peer, with_pending, TakesEvent, KeepsPeer, Closes, ShowsFault, StepNext, no_peer, waits, keeps_peer, closes, faulty, no_memory, IsOrderly, Answer, Stepped, other_frames, plain_answer, without_asked}
 use Rattle.bt_machine.specs.declared.error.EngineError.TheVariants.{OutOfMemory}
 use Rattle.bt_machine.proofs.Lists.{set_same}
+use Rattle.bt_machine.proofs.Places.{RangesTell}
 use Rattle.bt_machine_checks.proofs.AnswerParts.{event_leaves}
 use Rattle.bt_machine_checks.proofs.DeterminedParts.{takes_one, takes_waits, takes_fails, waits_fails, fails_one, peer_one}
 use Rattle.bt_machine_checks.proofs.DeterminedEvents.{event_one}
@@ -15,13 +16,13 @@ out_is {a} {b} e f g =
     ∙ ap (λ n. record { send = b.send; close = b.close; notes = n }) g
 
 module _ (dig : Digest) where
-  module _ {s : EngineState} (key : PeerKey) (calls : DeviceCalls) (lay : IsLaidOut s.torrent.piece_length s.torrent.files) (roots : AllPairs (λ (j k : Facts). j.root ≢ k.root) s.trees) (o : IsOrderly s) where
+  module _ {s : EngineState} (key : PeerKey) (calls : DeviceCalls) (tell : RangesTell s.torrent) (roots : AllPairs (λ (j k : Facts). j.root ≢ k.root) s.trees) (o : IsOrderly s) where
     taken_one : {i p e f m n : _} → TakesEvent dig s i p calls e m → TakesEvent dig s i p calls f n → (e ≡ f) × (m ≡ n)
     taken_one {i} {p} {f} {n} x y =
         let same = takes_one x.takes y.takes in
         let handles : Handles dig (with_peer s i (record p { stream = x.rest })) i (record p { stream = x.rest }) x.event calls f n
         = rw same.1 (rw same.0 y.handles) in
-        event_one dig (with_peer s i (record p { stream = x.rest })) lay roots i (record p { stream = x.rest }) x.event calls x.handles handles
+        event_one dig (with_peer s i (record p { stream = x.rest })) tell roots i (record p { stream = x.rest }) x.event calls x.handles handles
 
     move_on : {i j p q out new : _} → (i ≡ j) × (p ≡ q) → KeepsPeer dig s i p calls out new → KeepsPeer dig s j q calls out new
     move_on {j} {p} {out} {new} same g = rw (← same.1) (rw (← same.0) g)
@@ -85,11 +86,11 @@ module _ (dig : Digest) where
       abbrev output : List Sent → Answer
       output sent = Stepped (Ok (Some (record { send = sent; close = None; notes = effect.notes ++ map (λ file. Complete file) (new_complete_files s mid) })))
 
-      laid : IsLaidOut state.torrent.piece_length state.torrent.files
-      laid =
+      tells : RangesTell state.torrent
+      tells =
           let peer = record p { stream = takes.rest } in
           let left = event_leaves dig (with_peer s i peer) i (set_same s.peers i there) takes.event calls takes.handles in
-          rw left.torrent lay
+          rw left.torrent tell
 
       rest : (other_frames x.sent ≡ other_frames y.sent) × (without_asked m ≡ without_asked n)
       rest = follows_one dig refl x.follows y.follows
@@ -100,7 +101,7 @@ module _ (dig : Digest) where
         rest = rest.1;
         whole = λ same. (
             let asks = asks_to (cc) (cc) same in
-            let both = follows_same dig laid x.follows y.follows (asks_behind first (cc) asks) in
+            let both = follows_same dig tells x.follows y.follows (asks_behind first (cc) asks) in
             (ap Stepped x.is ∙ ap (λ zs. output (first ++ zs)) both.0 ∙ sym (ap Stepped y.is), both.1)
             );
       }

@@ -1,9 +1,10 @@
 -- What is left to an engine where peers come and go, bytes come, peers are chosen, and devices are synced.
-use Rattle.bt_machine_checks.proofs.Base.{[], ◌≡◌, ◌≢◌, ℕ, zero, suc, ◌+◌, ◌*◌, ◌/◌, ◌%◌, ◌<◌, false, List, ◌∷◌, ◌++◌, length, get_or, None, Result, Ok, Err, alloc_error, refl, sym, ap, ◌∙◌, subst, arith, ◌==◌, All, Contains, range_with_len, Contains-append_right, sync_made, sync_fault, IsLaidOut, same_peer}
+use Rattle.bt_machine_checks.proofs.Base.{[], ◌≡◌, ◌≢◌, ℕ, zero, suc, ◌+◌, ◌*◌, ◌/◌, ◌%◌, ◌<◌, false, List, ◌∷◌, ◌++◌, length, get_or, None, Result, Ok, Err, alloc_error, refl, sym, ap, ◌∙◌, subst, arith, ◌==◌, All, Contains, range_with_len, Contains-append_right, sync_made, sync_fault, same_peer}
 use Rattle.bt_machine_checks.proofs.Machine.{Digest, no_room_to_connect, EngineState, Sent, Output, bits_of, bits_in, without_peer, IsOurBitfield, StepConnect, joins, full, spent, no_room as no_memory, StepFeed, feeds, not_fed, no_room as no_room_to_feed, StepLost, goes, not_fed as not_lost, chokes_sent, rechoked, StepRechoke, rechokes, not_rechoked, data_files, syncs_of, StepFlush, syncs, fails, IsOrderly, Answer, Connected, Fed, LostAnswer, Rechoked, Flushed, sent_by, other_frames}
 use Rattle.std.specs.declared.alloc.AllocError.{AllocError}
 use Rattle.bt_machine.specs.declared.error.EngineError.TheVariants.{OutOfMemory}
 use Rattle.bt_machine.proofs.Lists.{contains_map, here, get_map}
+use Rattle.bt_machine.proofs.Places.{RangesTell}
 use Rattle.bt_machine_checks.proofs.DeterminedParts.{peer_one}
 use Rattle.bt_machine_checks.proofs.DeterminedEvents.{split_one}
 use Rattle.bt_machine_checks.proofs.DeterminedFollow.{other_append, each_one}
@@ -100,11 +101,11 @@ apart_at_first {s} o i j p q x y e =
     (record { here = u.1; same_key = cc })
     (record { here = v.1; same_key = refl })).0
 
-pub rechoke_one : {dig : Digest} {s m n : EngineState} {a b : Result Output AllocError} → IsLaidOut s.torrent.piece_length s.torrent.files → IsOrderly s
+pub rechoke_one : {dig : Digest} {s m n : EngineState} {a b : Result Output AllocError} → RangesTell s.torrent → IsOrderly s
     → StepRechoke dig s a m → StepRechoke dig s b n → a ≢ Err alloc_error → b ≢ Err alloc_error → AreOne (Rechoked a) m (Rechoked b) n
-rechoke_one lay o (not_rechoked x y) q r t = absurd (r x)
-rechoke_one lay o q (not_rechoked x y) r t = absurd (t x)
-rechoke_one {dig} {s} {m} {n} {a} {b} lay o (rechokes out x e) (rechokes other y f) r t =
+rechoke_one tell o (not_rechoked x y) q r t = absurd (r x)
+rechoke_one tell o q (not_rechoked x y) r t = absurd (t x)
+rechoke_one {dig} {s} {m} {n} {a} {b} tell o (rechokes out x e) (rechokes other y f) r t =
     let each = each_one dig _ (rechoked s) (rechoked s) x.sent y.sent m n refl x.follows y.follows in
     let send = other_append (chokes_sent s) x.sent ∙ ap (λ zs. other_frames (chokes_sent s) ++ zs) each.0 ∙ sym (other_append (chokes_sent s) y.sent) in
     let own : Rechoked a ≡ sends s x.sent = cc in
@@ -114,7 +115,7 @@ rechoke_one {dig} {s} {m} {n} {a} {b} lay o (rechokes out x e) (rechokes other y
       rest = each.1;
       whole = λ same. (
           let behind = asks_to (ap sent_by own) (ap sent_by their) same in
-          let both = each_same dig (range_with_len 0 (length s.peers)) (rechoked s) lay (apart_at_first o) (range_apart 0 (length s.peers)) x.follows y.follows (asks_behind (chokes_sent s) refl behind) in
+          let both = each_same dig (range_with_len 0 (length s.peers)) (rechoked s) tell (apart_at_first o) (range_apart 0 (length s.peers)) x.follows y.follows (asks_behind (chokes_sent s) refl behind) in
           (own ∙ ap (sends s) both.0 ∙ sym their, both.1)
           );
     }

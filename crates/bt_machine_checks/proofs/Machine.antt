@@ -19,7 +19,7 @@ pub use Rattle.bt_machine.specs.Rechoke.{FollowsEach, StepRechoke, rechokes, no_
 pub use Rattle.bt_machine.specs.Request.{ignored, no_place, served, HandlesRequest, not_marked, stopped, FindsFault, damaged, fault, IsFile, with_payload, Serves, StopsAtFault, AreMarked}
 pub use Rattle.bt_machine.specs.Settling.{judged_file, SettlesIn, due_blocks, settling_notes, read_note, Settles}
 pub use Rattle.bt_machine.specs.Shape.{IsShaped}
-pub use Rattle.bt_machine.specs.Spans.{IsWholeBlock, spanned_blocks, cut_from}
+pub use Rattle.bt_machine.specs.Spans.{IsRangeOf, spanned_blocks, cut_from}
 pub use Rattle.bt_machine.specs.Start.{Starts, by_root}
 pub use Rattle.bt_machine.specs.declared.hash_state.HashState.TheVariants.{Idle, Asked, Refused}
 pub use Rattle.bt_machine.specs.State.{EngineState, PeerState, FileState, Hint, mark_of}

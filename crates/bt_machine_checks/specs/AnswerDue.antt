@@ -23,7 +23,7 @@ use Rattle.bt_machine.specs.declared.event.Event.TheVariants.{Next}
 use Rattle.bt_machine.specs.State.{PeerState, EngineState}
 use Rattle.bt_machine.specs.Devices.{DeviceCalls}
 use Rattle.bt_machine.specs.Blocks.{block_id, state_at, tree_of, leaf_at, is_complete}
-use Rattle.bt_machine.specs.Spans.{IsWholeBlock, spanned_blocks, cut_from}
+use Rattle.bt_machine.specs.Spans.{IsRangeOf, spanned_blocks, cut_from}
 use Rattle.bt_machine.specs.Request.{AreMarked}
 use Rattle.bt_machine.specs.HashMessages.{IsAnswered}
 use Rattle.bt_machine.specs.Next.{IsPeer}
@@ -73,7 +73,7 @@ NextMarksRightBlock dig = (old new : EngineState) (key : PeerKey) (place : ℕ) 
     (tree : Facts)
     → IsLawful old.torrent.piece_length old.torrent.files → IsOnlyPeer old key place p
     → Takes p.stream (Message (Piece piece begin bytes)) rest
-    → IsWholeBlock old.torrent piece begin (length bytes) b → Contains p.asked b
+    → IsRangeOf old.torrent piece begin (length bytes) b → Contains p.asked b
     → tree_of old b.file ≡ Some tree → IsRight dig tree b.block bytes
     → Step dig old (Next key) calls answer new
     → NextLacksMemory answer ⊎ MarksBlock b bytes calls answer new

@@ -31,7 +31,7 @@ use Rattle.bt_machine.specs.declared.event.Event.TheVariants.{Next}
 use Rattle.bt_machine.specs.State.{PeerState, EngineState}
 use Rattle.bt_machine.specs.Devices.{DeviceCalls}
 use Rattle.bt_machine.specs.Blocks.{tree_of, is_whole, is_complete}
-use Rattle.bt_machine.specs.Spans.{IsWholeBlock}
+use Rattle.bt_machine.specs.Spans.{IsRangeOf}
 use Rattle.bt_machine.specs.Output.{Output}
 use Rattle.bt_machine.specs.HashMessages.{IsTreeOf, IsUnknownRoot}
 use Rattle.bt_machine.specs.WireEvents.{short_infohash, bitfield_length}
@@ -95,7 +95,7 @@ pub data IsCause (dig : List ℕ → List ℕ) (s : EngineState) (p : PeerState)
       → IsCause dig s p BadRequest
   wrong_block : (piece begin : ℕ) (bytes : List ℕ) (rest : Stream) (b : BlockId) (tree : Facts)
       → Takes p.stream (Message (Piece piece begin bytes)) rest
-      → IsWholeBlock s.torrent piece begin (length bytes) b → Contains p.asked b
+      → IsRangeOf s.torrent piece begin (length bytes) b → Contains p.asked b
       → tree_of s b.file ≡ Some tree → IsWrong dig (value_at dig tree 0 b.block) bytes
       → IsCause dig s p WrongBlock
   unknown_root : (key : HashKey) (digests : List ℕ) (rest : Stream)

@@ -1,5 +1,6 @@
 ghost use Rattle.bt_machine_checks.specs.AnswerDue.{NextAnswersHashRequest, NextMarksRightBlock, NextServesMarkedRange, NextNotesMarkedBlocks, NextSettlesWaitingBlocks, WaitingIsNotComplete};
 
+use bt_meta::block_ranges_are_places;
 use bt_tree::NodeHash;
 
 /// Out of memory aside: a hash request is answered with the digests that it asks for, and rejected only where
@@ -12,7 +13,9 @@ pub fn next_answers_hash_request<H: NodeHash>(_hash: H)
 /// unless the device refuses to write it.
 pub fn next_marks_right_block<H: NodeHash>(_hash: H)
     ensures { NextMarksRightBlock H.digest }
-{}
+{
+    block_ranges_are_places();
+}
 
 /// Out of memory aside: a request of a peer that is not choked, for a range whose blocks are marked, is
 /// served, unless a block is found damaged or cannot be read.

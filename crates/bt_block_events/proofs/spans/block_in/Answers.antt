@@ -1,29 +1,36 @@
-use Rattle.std.proofs.lemmas.Option.{IfSome_then}
-use Rattle.bt_machine.proofs.Places.{same_block}
-use Rattle.bt_block_events.proofs.Placing.{none_by, ends_inside, is_short, whole_of, all_of}
+use Rattle.std.proofs.Common.{subst}
+use Rattle.bt_meta.specs.PieceBlocks.{IsBlockRange}
+use Rattle.bt_block_events.proofs.Placing.{is_same, is_other, no_place, no_block, one_block, is_range}
 use Rattle.bt_block_events.proofs.spans.block_in.Goals as goal
 
-pub returns-in_default-clause-none : goal.returns-in_default-clause-none
-returns-in_default-clause-none c = λ b w. (rw c.in_default.is at c.place.ensures.none) w.span w.place
+pub returns-in_err-span-clause-none : goal.returns-in_err-span-clause-none
+returns-in_err-span-clause-none c =
+    rw c.from_residual.ensures (no_place c.block_ranges_are_places.ensures.place _ c.keeps_laws.ensures.size c.args.ask c.in_err-span.ensures.none)
 
-pub whole_block-requires-clause-inside : goal.whole_block-requires-clause-inside
-whole_block-requires-clause-inside c =
-    ends_inside _ _ c.files-files.ensures.said _ _ _ c.in-Some.span c.in-Some.ensures.some _ c.index-files-span.is
+pub returns-in_err-span-clause-one : goal.returns-in_err-span-clause-one
+returns-in_err-span-clause-one c = one_block c.block_ranges_are_places.ensures.place _ c.keeps_laws.ensures.size c.args.ask c.keeps_laws.ensures.laid_out
 
-pub whole_block-requires-clause-short : goal.whole_block-requires-clause-short
-whole_block-requires-clause-short c =
-    is_short _ _ c.files-files.ensures.said _ _ _ c.in-Some.span c.in-Some.ensures.some _ c.index-files-span.is c.files-files.ensures.lawful
+pub returns-in_err-range-clause-none : goal.returns-in_err-range-clause-none
+returns-in_err-range-clause-none c =
+    rw c.from_residual-in_err-range.ensures (no_block c.block_ranges_are_places.ensures.place _ c.keeps_laws.ensures.size c.args.ask c.keeps_laws.ensures.laid_out
+    c.in_ok-span.span c.in_ok-span.ensures.some c.first_block.result c.first_block.ensures
+    (λ h. absurd (let e = c.in_err-range.ensures.variant.1 h in cc)))
 
-pub returns-clause-some : goal.returns-clause-some
-returns-clause-some c = IfSome_then c.whole_block.result c.whole_block.ensures.some
-    (whole_of _ _ c.files-files.ensures.said _ _ _ c.in-Some.span c.in-Some.ensures.some _ c.index-files-span.is)
+pub returns-in_err-range-clause-one : goal.returns-in_err-range-clause-one
+returns-in_err-range-clause-one c = one_block c.block_ranges_are_places.ensures.place _ c.keeps_laws.ensures.size c.args.ask c.keeps_laws.ensures.laid_out
 
-pub returns-clause-none : goal.returns-clause-none
-returns-clause-none c = none_by c.whole_block.result c.whole_block.ensures.none
-    (λ no b w. no b (all_of _ _ c.files-files.ensures.said _ _ _ c.in-Some.span c.in-Some.ensures.some _ c.index-files-span.is (rw c.files-files.ensures.said at c.files-files.ensures.laid_out) b w))
+pub returns-then-ne-clause-none : goal.returns-then-ne-clause-none
+returns-then-ne-clause-none c = λ b w.
+    is_other c.in_ok-range.range c.args.ask c.if-ne.ensures
+    (is_range c.block_ranges_are_places.ensures.place _ c.keeps_laws.ensures.size c.args.ask c.keeps_laws.ensures.laid_out
+    c.in_ok-span.span c.in_ok-span.ensures.some c.first_block.result c.first_block.ensures c.in_ok-range.range c.in_ok-range.ensures.value b w)
 
-pub returns-in_default-clause-one : goal.returns-in_default-clause-one
-returns-in_default-clause-one c = λ a b w v. absurd ((rw c.in_default.is at c.place.ensures.none) w.span w.place)
+pub returns-then-ne-clause-one : goal.returns-then-ne-clause-one
+returns-then-ne-clause-one c = one_block c.block_ranges_are_places.ensures.place _ c.keeps_laws.ensures.size c.args.ask c.keeps_laws.ensures.laid_out
 
 pub returns-clause-one : goal.returns-clause-one
-returns-clause-one c = λ a b w v. same_block _ (rw c.files-files.ensures.said at c.files-files.ensures.laid_out) _ _ _ w v
+returns-clause-one c = one_block c.block_ranges_are_places.ensures.place _ c.keeps_laws.ensures.size c.args.ask c.keeps_laws.ensures.laid_out
+
+pub returns-clause-some : goal.returns-clause-some
+returns-clause-some c =
+    subst (IsBlockRange c.args.torrent.now c.in_ok-span.span.file c.first_block.result) (is_same c.in_ok-range.range c.args.ask c.if-ne.ensures) c.in_ok-range.ensures.value
