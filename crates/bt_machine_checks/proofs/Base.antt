@@ -13,7 +13,6 @@ pub use Rattle.std.proofs.lemmas.List.{length-append, append-nil, length-map, le
 pub use Rattle.std.proofs.lemmas.List.Elements.{Contains-append_cases, Contains-append_left, Contains-append_right, filter-append}
 pub use Rattle.std.proofs.lemmas.List.FromFn.{length-range_with_len}
 pub use Rattle.std.proofs.lemmas.List.Sums.{sum_by-cons}
-pub use Rattle.std.proofs.lemmas.Nat.{div-mul-add}
 pub use Rattle.bt_tree.specs.Blocks.{block_count}
 pub use Rattle.bt_tree.specs.NodeHash.{IsDigest}
 pub use Rattle.bt_tree.specs.TreeShape.{CoversBlock, real_width, IsPadding}
