@@ -19,8 +19,8 @@ pub fn meet_peer<D: Disk + Drop, H: NodeHash, R: Read + Drop, W: Write + Drop>(
     turns: u64,
 ) -> PeerEnd
     requires no_peer { engine.old.state.peers ≡ [] }
-    ensures ended { EndsAs D.history D.honest D.faults H.digest R.remaining W.contents until_complete turns reached
-        engine.old result engine.new }
+    ensures ended { EndsAs D.history D.honest D.faults H.digest R.remaining W.contents until_complete
+        turns reached engine.old result engine.new }
     ensures gone { engine.new.state.peers ≡ [] }
 {
     let Some((mut reader, mut writer)) = reached else {

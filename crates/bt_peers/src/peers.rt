@@ -23,8 +23,8 @@ pub fn run_peers<D: Disk + Drop, H: NodeHash, L: Link>(
     requires same_length { length links.old ≡ length ends.old }
     requires undialled { All (λ link. L.dials link ≡ 0) links.old }
     requires no_peer { engine.old.state.peers ≡ [] }
-    ensures peers { InTurn (IsTried D.history D.honest D.faults H.digest L.dials L.failures L.gives L.R.remaining
-        L.W.contents turns) engine.old links.old ends.new links.new engine.new }
+    ensures peers { InTurn (IsTried D.history D.honest D.faults H.digest L.dials L.failures L.gives
+        L.R.remaining L.W.contents turns) engine.old links.old ends.new links.new engine.new }
     ensures gone { engine.new.state.peers ≡ [] }
 {
     ends.fill(PeerEnd::Untried);
@@ -45,8 +45,8 @@ fn try_peer<D: Disk + Drop, H: NodeHash, L: Link>(
 ) -> PeerEnd
     requires undialled { L.dials link.old ≡ 0 }
     requires no_peer { engine.old.state.peers ≡ [] }
-    ensures tried { IsTried D.history D.honest D.faults H.digest L.dials L.failures L.gives L.R.remaining
-        L.W.contents turns engine.old link.old result link.new engine.new }
+    ensures tried { IsTried D.history D.honest D.faults H.digest L.dials L.failures L.gives
+        L.R.remaining L.W.contents turns engine.old link.old result link.new engine.new }
     ensures gone { engine.new.state.peers ≡ [] }
 {
     let reached = link.dial();

@@ -1,6 +1,5 @@
-use Rattle.std.proofs.Common.{ap, sym, subst, arith, drop, ◌∙◌, ◌≡◌, get_or, set, length}
+use Rattle.std.proofs.Common.{◌≡◌, sym, ◌∙◌, arith}
 use Rattle.std.proofs.lemmas.List.{set-get_or}
-use Rattle.bt_peers.specs.Peers.{InTurn}
 use Rattle.bt_peers.proofs.Turns.{All-first, All-later, untried_later, went_on, all_tried, completed}
 use Rattle.bt_peers.proofs.peers.run_peers.Goals as goal
 
