@@ -1,0 +1,18 @@
+-- So far peers were tried in their turns, and the others were not.
+use Rattle.std.proofs.Common.{[], ◌≡◌, take, drop, replicate, length}
+use Rattle.std.specs.Prelude.{All}
+use Rattle.bt_peers.specs.declared.end.PeerEnd.TheVariants.{Untried}
+use Rattle.bt_peers.specs.Peers.{IsTried}
+use Rattle.bt_peers.proofs.Turns.{LeadsOn}
+use Rattle.bt_peers.proofs.peers.run_peers.Given as goal
+
+abbrev pub invariant-loop-i : goal.invariant-loop-i
+invariant-loop-i g l = record {
+  no_peer : l.engine.state.peers ≡ [];
+  undialled : All (λ link. g.L.Link.dials link ≡ 0) (drop l.i l.links);
+  untried : drop l.i l.ends ≡ replicate (length (drop l.i l.links)) Untried;
+  leads : LeadsOn
+      (IsTried g.D.Disk.history g.D.Disk.honest g.D.Disk.faults g.H.NodeHash.digest g.L.Link.dials g.L.Link.failures g.L.Link.gives g.L.R.Read.remaining
+      g.L.W.Write.contents l.turns)
+      l.initial.engine l.initial.links l.engine (drop l.i l.links) (take l.i l.ends) (take l.i l.links);
+}

@@ -1,0 +1,4 @@
+pub mod End
+pub mod Link
+pub mod Peer
+pub mod Peers

@@ -1,0 +1,15 @@
+//! Peers that are dialled one after the other, each for a session with an engine, until the engine is
+//! complete.
+#![tactic(auto)]
+
+mod end;
+mod link;
+mod peer;
+mod peers;
+#[cfg(test)]
+mod tests;
+
+pub use end::{PeerEnd, end_text};
+pub use link::Link;
+pub use peer::meet_peer;
+pub use peers::run_peers;

@@ -1,0 +1,14 @@
+-- A connection that is served.
+use Rattle.std.specs.Prelude.{ℕ, Bool, false, List, Option}
+use Rattle.bt_disk.specs.History.{History}
+use Rattle.bt_machine.specs.State.{EngineView}
+use Rattle.bt_peers.specs.declared.end.PeerEnd.{PeerEnd}
+use Rattle.bt_peers.specs.Peer.{EndsAs}
+
+-- It was ready for a session or was gone already, and ended as follows from that. The session goes on behind
+-- the last block too.
+pub record IsServed {D S : Type 0} (history : D → History) (honest : D → Type 0) (faults : D → ℕ)
+    (dig : List ℕ → List ℕ) (remaining contents : S → Option (List ℕ)) (turns : ℕ) (old : EngineView D)
+    (end : PeerEnd) (new : EngineView D) : Type 0 where
+  pub reached : Option (S × S)
+  pub ended : EndsAs history honest faults dig remaining contents false turns reached old end new

@@ -1,0 +1,10 @@
+//! Peers over TCP.
+#![tactic(auto)]
+
+mod link;
+mod listener;
+mod stream;
+
+pub use link::TcpLink;
+pub use listener::{SESSION_TURNS, listen, port_of, serve};
+pub use stream::{CONNECT_SECONDS, IDLE_SECONDS};
