@@ -1,5 +1,5 @@
-//! The program on files in a temporary folder, and the reading of files over readers that fail or give
-//! little.
+//! The program on files in a temporary folder and on scripts, and the reading of both over readers that fail or
+//! give little.
 
 mod check;
 mod devices;
