@@ -8,6 +8,7 @@ mod fault;
 mod limits;
 mod make;
 mod reader;
+mod replay;
 mod show;
 mod steps;
 mod tools;
