@@ -14,7 +14,7 @@ use Rattle.bt_commands.specs.CommandLine.{IsNumber, HasNumber, IsMakeTaskIn, IsS
 use Rattle.bt_commands.specs.declared.command_line.MakeTask.{MakeTask}
 use Rattle.bt_check.specs.declared.torrent_file.Source.{Source}
 use Rattle.bt_commands.specs.declared.command_line.Task.{Task}
-use Rattle.bt_commands.specs.declared.command_line.Task.TheVariants.{Make, Show, Check}
+use Rattle.bt_commands.specs.declared.command_line.Task.TheVariants.{Make, Show, Check, Replay}
 
 pub none_always : {A : Type 0} (r : Option A) (P : Type 0) → P → IfNone r P
 none_always None P p = p
@@ -70,21 +70,33 @@ make_check e = first_differs (codes "check") (codes "make") (omega arith) (sym e
 show_check : ¬ (codes "show" ≡ codes "check")
 show_check e = first_differs (codes "check") (codes "show") (omega arith) (sym e)
 
+check_replay : ¬ (codes "check" ≡ codes "replay")
+check_replay = first_differs (codes "check") (codes "replay") (omega arith)
+
+make_replay : ¬ (codes "make" ≡ codes "replay")
+make_replay = first_differs (codes "make") (codes "replay") (omega arith)
+
+show_replay : ¬ (codes "show" ≡ codes "replay")
+show_replay e = first_differs (codes "replay") (codes "show") (omega arith) (sym e)
+
 no_making : (rows : List Row) → ((request : MakeTask) → ¬ IsMakeTaskIn rows request) → (task : Task) → ¬ AsksFor (codes "make") rows task
 no_making rows none (Make request) a = none request a.1
 no_making rows none (Show torrent) a = make_show a.0
 no_making rows none (Check torrent dir) a = make_check a.0
+no_making rows none Replay a = make_replay a
 
 no_show : (rows : List Row) → ((source : Source) → ¬ IsSourceIn rows source) → (task : Task) → ¬ AsksFor (codes "show") rows task
 no_show rows none (Make request) a = make_show (sym a.0)
 no_show rows none (Show torrent) a = none torrent a.1
 no_show rows none (Check torrent dir) a = show_check a.0
+no_show rows none Replay a = show_replay a
 
 no_check : (rows : List Row) → ((source : Source) (dir : Bor (List ℕ)) → IsSourceIn rows source → ¬ (first_of (codes "DIR") rows ≡ Some dir.now))
     → (task : Task) → ¬ AsksFor (codes "check") rows task
 no_check rows none (Make request) a = make_check (sym a.0)
 no_check rows none (Show torrent) a = show_check (sym a.0)
 no_check rows none (Check torrent dir) a = none torrent dir a.1 a.2
+no_check rows none Replay a = check_replay a
 
 not_met : (o : Option (Text × List Row)) (name : Text) (rows : List Row) → o ≡ Some (name, rows) → ((task : Task) → ¬ AsksFor name rows task)
     → (task : Task) → ¬ IsTaskIn o task

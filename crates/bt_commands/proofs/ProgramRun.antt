@@ -11,7 +11,7 @@ use Rattle.bt_meta.specs.Torrent.{Metainfo}
 use Rattle.bt_check.specs.Report.{IsReportOn, check_outcome, report_text}
 use Rattle.bt_check.specs.TorrentFile.{HasText}
 use Rattle.bt_commands.specs.Make.{IsMakeFault, IsMakeTorrent}
-use Rattle.bt_commands.specs.Program.{IsCheckResult, IsMakeResult, IsTaskResult, IsTaskEnd, IsRun, IsStart, Writes, infohash_line, no_words, on_words, task_result, task_end}
+use Rattle.bt_commands.specs.Program.{IsCheckResult, IsDone, IsMakeResult, IsTaskEnd, IsRun, IsStart, Writes, infohash_line, no_words, on_words, task_result, task_end}
 use Rattle.bt_commands.specs.ProgramSteps.{status_after}
 use Rattle.hex.specs.Hex.{encode_lower}
 use Rattle.bt_check.specs.Fault.{device, make_fault, out_of_memory, status_of, words_fault}
@@ -67,10 +67,10 @@ pub check_done : (source : Source) (torrent : Metainfo) (summary : Summary) (old
 check_done source torrent summary old new outcome is loaded r =
     subst (λ o. IfOk o (Writes (IsCheckResult source) old new)) (sym is) (outcome_written source torrent summary old new summary.faulty loaded r refl)
 
-pub performed : (words : List Text) (task : Task) (old new : Option (List ℕ)) (r : Result ℕ Fault) → IsTaskOf words task
-    → IfOk r (Writes (IsTaskResult task) old new) → IfErr r (IsTaskEnd task old new) → IsRun words old new (status_after r)
-performed words task old new (Ok status) asked written ended = task_result task asked written
-performed words task old new (Err fault) asked written ended = task_end task fault asked ended refl
+pub performed : (words : List Text) (task : Task) (given left old new : Option (List ℕ)) (r : Result ℕ Fault) → IsTaskOf words task
+    → IfOk r (IsDone task given left old new) → IfErr r (IsTaskEnd task old new) → IsRun words given left old new (status_after r)
+performed words task given left old new (Ok status) asked written ended = task_result task asked written
+performed words task given left old new (Err fault) asked written ended = task_end task fault asked ended refl
 
 -- how the line is put together
 pub line_spelled : (text digits infohash : List ℕ) → text ≡ codes "infohash " ++ (digits ++ 10 ∷ []) → digits ≡ encode_lower infohash
@@ -90,12 +90,12 @@ pub told_by_device : {T : Type 0} (r : Result T Fault) (old new : Option (List �
 told_by_device (Ok x) old new failed = tt
 told_by_device (Err fault) old new failed = λ memory. let bad : device ≡ out_of_memory = sym failed ∙ memory in cc
 
-pub start_on_words : (old new ran : Option (List ℕ)) (status run_status exit : ℕ) (words : List Text) → new ≡ ran → status ≡ run_status → exit ≡ status
-    → IsRun words old ran run_status → IsStart old new exit
-start_on_words old new ran status run_status exit words same is exits run =
-    on_words words (subst (λ w. IsRun words old w exit) (sym same) (subst (IsRun words old ran) (sym (exits ∙ is)) run))
+pub start_on_words : (given left rest old new ran : Option (List ℕ)) (status run_status exit : ℕ) (words : List Text) → left ≡ rest → new ≡ ran
+    → status ≡ run_status → exit ≡ status → IsRun words given rest old ran run_status → IsStart given left old new exit
+start_on_words given left rest old new ran status run_status exit words unread same is exits run =
+    on_words words (rw (unread, same, exits, is) run)
 
-pub start_without_words : (old new : Option (List ℕ)) (status told exit : ℕ) (fault : Fault) → new ≡ old → status ≡ told → exit ≡ status
-    → told ≡ status_of fault → (fault ≡ words_fault) ⊎ (fault ≡ out_of_memory) → IsStart old new exit
-start_without_words old new status told exit fault same is exits code cause =
+pub start_without_words : (given left old new : Option (List ℕ)) (status told exit : ℕ) (fault : Fault) → new ≡ old → status ≡ told → exit ≡ status
+    → told ≡ status_of fault → (fault ≡ words_fault) ⊎ (fault ≡ out_of_memory) → IsStart given left old new exit
+start_without_words given left old new status told exit fault same is exits code cause =
     no_words fault cause (exits ∙ is ∙ code) (subst (Keeps old) (sym same) (Keeps-refl old))

@@ -11,7 +11,7 @@ use Rattle.clap.specs.declared.error.kind.ErrorKind.TheVariants.{OutOfMemory, Va
 use Rattle.bt_commands.specs.declared.command_line.MakeTask.{MakeTask}
 use Rattle.bt_check.specs.declared.torrent_file.Source.{Source}
 use Rattle.bt_commands.specs.declared.command_line.Task.{Task}
-use Rattle.bt_commands.specs.declared.command_line.Task.TheVariants.{Make, Show, Check}
+use Rattle.bt_commands.specs.declared.command_line.Task.TheVariants.{Make, Show, Check, Replay}
 
 -- ---- the subcommands and their words
 
@@ -44,6 +44,9 @@ check_app =
     with_rule (with_rule (with_rule (new_app (codes "check"))
     (required_rule (codes "TORRENT"))) (required_rule (codes "DIR"))) info_rule
 
+abbrev pub replay_app : App
+replay_app = new_app (codes "replay")
+
 abbrev pub with_version : App → App
 with_version = on_top (λ shape. record shape { has_version = true })
 
@@ -58,9 +61,12 @@ with_demands = on_top (λ shape. record shape {
 abbrev pub top_app : App
 top_app = with_demands (with_version (new_app (codes "btseed")))
 
+-- the program with the commands that work on torrents and their files
+abbrev pub file_app : App
+file_app = with_subcommand (with_subcommand (with_subcommand top_app make_app.top) show_app.top) check_app.top
+
 abbrev pub program_app : App
-program_app =
-    with_subcommand (with_subcommand (with_subcommand top_app make_app.top) show_app.top) check_app.top
+program_app = with_subcommand file_app replay_app.top
 
 -- ---- tasks
 
@@ -97,6 +103,7 @@ AsksFor name rows (Make request) = (name ≡ codes "make") × IsMakeTaskIn rows 
 AsksFor name rows (Show torrent) = (name ≡ codes "show") × IsSourceIn rows torrent
 AsksFor name rows (Check torrent dir) =
     (name ≡ codes "check") × IsSourceIn rows torrent × (first_of (codes "DIR") rows ≡ Some dir.now)
+AsksFor name rows Replay = name ≡ codes "replay"
 
 -- the subcommand that was met asks for the task
 abbrev pub IsTaskIn : Option (Text × List Row) → Task → Type 0

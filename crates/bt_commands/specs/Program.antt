@@ -1,4 +1,4 @@
--- What the program does with its words: the status that it exits with, and the text that it writes.
+-- What the program does with its words: the status that it exits with, the text that it writes, and what it reads.
 use Rattle.std.specs.Prelude.{◌≡◌, ℕ, ◌++◌, ◌⊎◌, false, List, Option, codes, if◌then◌else◌}
 use Rattle.std.specs.Io.KnownBytes.{Appends, Keeps}
 use Rattle.clap.specs.Words.{Text}
@@ -8,6 +8,7 @@ use Rattle.hex.specs.Hex.{encode_lower}
 use Rattle.bt_tree.specs.TreeShape.{IsPieceLength}
 use Rattle.bt_meta.specs.Torrent.{Metainfo}
 use Rattle.bt_meta.specs.declared.writer.MakeError.TheVariants.{PieceLength}
+use Rattle.bt_replay.specs.Command.{IsReplay}
 use Rattle.bt_commands.specs.CommandLine.{IsTaskOf, IsNoTaskOf}
 use Rattle.bt_check.specs.Display.{line_text}
 use Rattle.bt_check.specs.Fault.{make_fault, out_of_memory, status_of, words_fault}
@@ -18,7 +19,7 @@ use Rattle.bt_check.specs.TorrentFile.{HasText, IsLoadFault}
 use Rattle.bt_commands.specs.declared.command_line.MakeTask.{MakeTask}
 use Rattle.bt_check.specs.declared.torrent_file.Source.{Source}
 use Rattle.bt_commands.specs.declared.command_line.Task.{Task}
-use Rattle.bt_commands.specs.declared.command_line.Task.TheVariants.{Make, Show, Check}
+use Rattle.bt_commands.specs.declared.command_line.Task.TheVariants.{Make, Show, Check, Replay}
 use Rattle.bt_check.specs.declared.fault.Fault.{Fault}
 use Rattle.bt_commands.specs.declared.make.NewTorrent.{NewTorrent}
 use Rattle.bt_check.specs.declared.report.FileFinding.{FileFinding}
@@ -56,17 +57,19 @@ pub record IsCheckResult (source : Source) (status : ℕ) (text : List ℕ) : Ty
   pub lines : text ≡ report_text found
   pub answer : status ≡ (if is_complete_report found then 0 else 1)
 
--- a task was done, with this status and this text
-abbrev pub IsTaskResult : Task → ℕ → List ℕ → Type 0
-IsTaskResult (Make request) status text = IsMakeResult request status text
-IsTaskResult (Show torrent) status text = IsShowResult torrent status text
-IsTaskResult (Check torrent dir) status text = IsCheckResult torrent status text
-
 -- a text was written, and it and the status are as wanted
 pub record Writes (wanted : ℕ → List ℕ → Type 0) (old new : Option (List ℕ)) (status : ℕ) : Type 0 where
   pub text : List ℕ
   pub written : Appends old new text
   pub is : wanted status text
+
+-- a task was done, with this status: `given` and `left` are what the reader had before and after, `old` and
+-- `new` what the writer had. A replay tells its faults itself
+abbrev pub IsDone : Task → (given left old new : Option (List ℕ)) → ℕ → Type 0
+IsDone (Make request) given left old new status = Writes (IsMakeResult request) old new status
+IsDone (Show torrent) given left old new status = Writes (IsShowResult torrent) old new status
+IsDone (Check torrent dir) given left old new status = Writes (IsCheckResult torrent) old new status
+IsDone Replay given left old new status = IsReplay given left old new status
 
 -- ---- what is not done
 
@@ -80,6 +83,7 @@ abbrev pub IsTaskFault : Task → Fault → Type 0
 IsTaskFault (Make request) fault = IsMakeEnd request fault
 IsTaskFault (Show torrent) fault = IsLoadFault torrent.is_info fault
 IsTaskFault (Check torrent dir) fault = IsLoadFault torrent.is_info fault
+IsTaskFault Replay fault = ⊥
 
 -- a fault ended a task; where it is a refusal, nothing was written
 pub record IsTaskEnd (task : Task) (old new : Option (List ℕ)) (fault : Fault) : Type 0 where
@@ -97,16 +101,16 @@ IsExplanation kind old new status = (status ≡ 2) × Keeps old new
 -- ---- a run
 
 -- what the words ask for was done, or ended by a fault; or they ask for nothing
-pub data IsRun (words : List Text) (old new : Option (List ℕ)) (status : ℕ) : Type 0 where
+pub data IsRun (words : List Text) (given left old new : Option (List ℕ)) (status : ℕ) : Type 0 where
   task_result : (task : Task) → IsTaskOf words task
-      → Writes (IsTaskResult task) old new status → IsRun words old new status
+      → IsDone task given left old new status → IsRun words given left old new status
   task_end : (task : Task) (fault : Fault) → IsTaskOf words task
-      → IsTaskEnd task old new fault → status ≡ status_of fault → IsRun words old new status
+      → IsTaskEnd task old new fault → status ≡ status_of fault → IsRun words given left old new status
   no_task : (kind : ErrorKind) → IsNoTaskOf words kind
-      → IsExplanation kind old new status → IsRun words old new status
+      → IsExplanation kind old new status → IsRun words given left old new status
 
 -- a run on some words; or the words could not be had, and nothing was written
-pub data IsStart (old new : Option (List ℕ)) (status : ℕ) : Type 0 where
-  on_words : (words : List Text) → IsRun words old new status → IsStart old new status
+pub data IsStart (given left old new : Option (List ℕ)) (status : ℕ) : Type 0 where
+  on_words : (words : List Text) → IsRun words given left old new status → IsStart given left old new status
   no_words : (fault : Fault) → (fault ≡ words_fault) ⊎ (fault ≡ out_of_memory) → status ≡ status_of fault
-      → Keeps old new → IsStart old new status
+      → Keeps old new → IsStart given left old new status

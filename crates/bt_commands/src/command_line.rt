@@ -2,7 +2,7 @@
 ghost use Rattle.std.specs.Prelude.{◌≡◌, ℕ, map, false, codes, string_bytes, IfOk, IfErr, IfSome, IfNone};
 ghost use Rattle.clap.specs.Words.{app_of, found_of, kind_of, new_app, rows_of, rule_of, subcommand_rows_of, with_rule, with_subcommand};
 ghost use Rattle.clap.specs.declared.builder.command.Command.TheViews.{out-Command as fields_of};
-ghost use Rattle.bt_commands.specs.CommandLine.{with_version, with_demands, IsTaskOf, IsNoTaskOf, IsTaskIn, IsMakeTaskIn, IsSourceIn, IsFlagIn, IsNumber, make_app, show_app, check_app, top_app, program_app, required_rule, name_rule, piece_length_rule, info_rule};
+ghost use Rattle.bt_commands.specs.CommandLine.{with_version, with_demands, IsTaskOf, IsNoTaskOf, IsTaskIn, IsMakeTaskIn, IsSourceIn, IsFlagIn, IsNumber, make_app, show_app, check_app, replay_app, top_app, file_app, program_app, required_rule, name_rule, piece_length_rule, info_rule};
 
 use bt_check::Source;
 use clap::error::ErrorKind;
@@ -18,6 +18,8 @@ pub enum Task<'a> {
     Show { torrent: Source<'a> },
     /// Check the data files in a folder against a torrent.
     Check { torrent: Source<'a>, dir: &'a str },
+    /// Run the script of events that standard input has.
+    Replay,
 }
 
 /// The folder that a torrent is made of, the file that it is written to, and what it says beside the files.
@@ -29,7 +31,8 @@ pub struct MakeTask<'a> {
     pub piece_length: u32,
 }
 
-const ABOUT: &str = "Makes, shows and checks BitTorrent v2 torrents.";
+const ABOUT: &str =
+    "Makes, shows and checks BitTorrent v2 torrents, and replays scripts of events.";
 
 const VERSION: &str = "0.1.0";
 
@@ -49,6 +52,9 @@ const CHECK_ABOUT: &str =
     "Tells which files of a folder are those of the torrent, and changes nothing";
 
 const CHECK_DIR_HELP: &str = "The folder in which the torrent's files lie";
+
+const REPLAY_ABOUT: &str =
+    "Runs the script of events on standard input over files in memory, and prints what they answer";
 
 /// Reads the words that follow the program's name. Where they ask for help, or are refused, the error has the
 /// text.
@@ -78,6 +84,9 @@ fn task_of<'a>(matches: &ArgMatches<'a>) -> Option<Task<'a>>
     if let Some(show) = matches.subcommand_matches("show") {
         let torrent = source_of(show)?;
         return Some(Task::Show { torrent });
+    }
+    if matches.subcommand_matches("replay").is_some() {
+        return Some(Task::Replay);
     }
     let check = matches.subcommand_matches("check")?;
     let torrent = source_of(check)?;
@@ -128,6 +137,13 @@ fn decimal(text: &str) -> Option<u32>
 /// The commands and their words.
 fn commands<'a>(alloc: Global) -> Result<Command<'a>, AllocError>
     ensures { IfOk result (λ command. app_of command ≡ program_app) }
+{
+    with_command(file_commands(alloc)?, replay_command(alloc))
+}
+
+/// The program with the commands that work on torrents and their files.
+fn file_commands<'a>(alloc: Global) -> Result<Command<'a>, AllocError>
+    ensures { IfOk result (λ command. app_of command ≡ file_app) }
 {
     let command = with_command(top_command(alloc)?, make_command(alloc)?)?;
     let command = with_command(command, show_command(alloc)?)?;
@@ -200,6 +216,13 @@ fn check_command<'a>(alloc: Global) -> Result<Command<'a>, AllocError>
     let command = with_word(command, needed_word(alloc, "TORRENT", TORRENT_HELP))?;
     let command = with_word(command, needed_word(alloc, "DIR", CHECK_DIR_HELP))?;
     with_word(command, info_flag(alloc))
+}
+
+fn replay_command<'a>(alloc: Global) -> Command<'a>
+    ensures words { app_of result ≡ replay_app }
+    ensures local { (fields_of result).has_globals ≡ false }
+{
+    plain_command(alloc, "replay", REPLAY_ABOUT)
 }
 
 /// A command of this name, with no words.

@@ -1,35 +1,39 @@
-//! The program, over any runtime and writers.
-ghost use Rattle.std.specs.Prelude.{◌≡◌, ◌≤◌, ◌⊎◌, map, string_bytes, IfOk, IfErr, OnOk};
+//! The program, over any runtime, reader and writers.
+ghost use Rattle.std.specs.Prelude.{◌≡◌, ◌≢◌, ◌≤◌, ◌⊎◌, map, string_bytes, IfOk, IfErr, OnOk};
 ghost use Rattle.std.specs.Io.KnownBytes.{Keeps};
 ghost use Rattle.std.specs.Process.{exit_status};
 ghost use Rattle.clap.specs.Words.{kind_of};
 ghost use Rattle.bt_check.specs.Fault.{device, out_of_memory, status_of, words_fault};
-ghost use Rattle.bt_commands.specs.Program.{IsCheckResult, IsExplanation, IsMakeResult, IsRun, IsShowResult, IsStart, IsTaskEnd, IsTaskResult, Writes};
+ghost use Rattle.bt_commands.specs.CommandLine.{IsTaskOf};
+ghost use Rattle.bt_commands.specs.Program.{IsCheckResult, IsDone, IsExplanation, IsMakeResult, IsRun, IsShowResult, IsStart, IsTaskEnd, Writes};
 ghost use Rattle.bt_commands.specs.ProgramSteps.{status_after};
-ghost use Rattle.bt_commands.specs.declared.command_line.Task.TheVariants.{Make, Show, Check};
+ghost use Rattle.bt_commands.specs.declared.command_line.Task.TheVariants.{Make, Show, Check, Replay};
 
 use crate::atomic_file::{InfohashLine, publish};
 use crate::command_line::{MakeTask, Task, parse};
 use crate::make::make;
 use bt_check::{BUFFER_LEN, Fault, Source, check_torrent, load, show_torrent};
+use bt_replay::replay;
 use clap::Error;
 use clap::error::ErrorKind;
 use std::env::{self, Env};
-use std::io::{self, Write};
+use std::io::{self, Read, Write};
 use std::process::ExitCode;
 use std::rt::Files;
 
 /// Runs the program on the words of its environment, and gives the status that it exits with.
-pub fn start<R: Env + Files + AllocGlobal + Clone + Drop, O: Write, E: Write>(
+pub fn start<R: Env + Files + AllocGlobal + Clone + Drop, I: Read, O: Write, E: Write>(
     rt: &R,
+    reader: &mut I,
     writer: &mut O,
     faults: &mut E,
 ) -> ExitCode
-    ensures answer { IsStart (O.contents writer.old) (O.contents writer.new) (exit_status result) }
+    ensures answer { IsStart (I.remaining reader.old) (I.remaining reader.new)
+        (O.contents writer.old) (O.contents writer.new) (exit_status result) }
     ensures faultless { exit_status result ≤ 1 → Keeps (E.contents faults.old) (E.contents faults.new) }
 {
     let status = match words(rt) {
-        Ok(words) => run(rt, words.as_slice(), writer, faults),
+        Ok(words) => run(rt, words.as_slice(), reader, writer, faults),
         Err(fault) => report_fault(fault, faults),
     };
     ExitCode::from(status)
@@ -50,59 +54,74 @@ fn words(rt: &(impl Env + AllocGlobal)) -> Result<Vec<String>, Fault>
 /// complete or done, 1 where it is not, 2 where the words or the torrent are refused, 3 for a device that
 /// failed and 4 for out of memory.
 ///
-/// Results and help go to the writer, faults to `faults`.
-pub fn run<R: Files + AllocGlobal + Clone + Drop, O: Write, E: Write>(
+/// A script comes from the reader. Results and help go to the writer, faults to `faults`.
+pub fn run<R: Files + AllocGlobal + Clone + Drop, I: Read, O: Write, E: Write>(
     rt: &R,
     words: &[String],
+    reader: &mut I,
     writer: &mut O,
     faults: &mut E,
 ) -> u8
-    ensures answer { IsRun
-        (map string_bytes words.now) (O.contents writer.old) (O.contents writer.new) result }
+    ensures answer { IsRun (map string_bytes words.now) (I.remaining reader.old) (I.remaining reader.new)
+        (O.contents writer.old) (O.contents writer.new) result }
 
-    // where the words or the torrent are refused, nothing is written
-    ensures refused { result ≡ 2 → Keeps (O.contents writer.old) (O.contents writer.new) }
+    // where the words or the torrent are refused, nothing is written; a script's bad line comes behind the
+    // answers of those before it
+    ensures refused { ¬ IsTaskOf (map string_bytes words.now) Replay → result ≡ 2
+        → Keeps (O.contents writer.old) (O.contents writer.new) }
+
+    // nothing but a script is read
+    ensures unread { ¬ IsTaskOf (map string_bytes words.now) Replay
+        → Keeps (I.remaining reader.old) (I.remaining reader.new) }
 
     // where there is a result, no fault is told
     ensures faultless { result ≤ 1 → Keeps (E.contents faults.old) (E.contents faults.new) }
 {
-    match attempt(rt, words, writer, faults) {
+    match attempt(rt, words, reader, writer, faults) {
         Ok(status) => status,
         Err(fault) => report_fault(fault, faults),
     }
 }
 
 /// Reads the words, and does what they ask for.
-fn attempt<R: Files + AllocGlobal + Clone + Drop, O: Write, E: Write>(
+fn attempt<R: Files + AllocGlobal + Clone + Drop, I: Read, O: Write, E: Write>(
     rt: &R,
     words: &[String],
+    reader: &mut I,
     writer: &mut O,
     faults: &mut E,
 ) -> Result<u8, Fault>
-    ensures answer { IsRun
-        (map string_bytes words.now) (O.contents writer.old) (O.contents writer.new) (status_after result) }
+    ensures answer { IsRun (map string_bytes words.now) (I.remaining reader.old) (I.remaining reader.new)
+        (O.contents writer.old) (O.contents writer.new) (status_after result) }
+    ensures unread { ¬ IsTaskOf (map string_bytes words.now) Replay
+        → Keeps (I.remaining reader.old) (I.remaining reader.new) }
     ensures faultless { status_after result ≤ 1 → Keeps (E.contents faults.old) (E.contents faults.new) }
 {
     match parse(rt.alloc(), words) {
-        Ok(task) => perform(rt, task, writer),
+        Ok(task) => perform(rt, task, reader, writer, faults),
         Err(error) => explain(&error, writer, faults),
     }
 }
 
 /// Does a task, and returns its status.
-fn perform<R: Files + AllocGlobal + Clone + Drop, O: Write>(
+fn perform<R: Files + AllocGlobal + Clone + Drop, I: Read, O: Write, E: Write>(
     rt: &R,
     task: Task<'_>,
+    reader: &mut I,
     writer: &mut O,
+    faults: &mut E,
 ) -> Result<u8, Fault>
-    ensures done { IfOk result
-        (Writes (IsTaskResult task.entry) (O.contents writer.old) (O.contents writer.new)) }
+    ensures done { IfOk result (IsDone task.entry (I.remaining reader.old) (I.remaining reader.new)
+        (O.contents writer.old) (O.contents writer.new)) }
     ensures ended { IfErr result (IsTaskEnd task.entry (O.contents writer.old) (O.contents writer.new)) }
+    ensures unread { task.entry ≢ Replay → Keeps (I.remaining reader.old) (I.remaining reader.new) }
+    ensures faultless { status_after result ≤ 1 → Keeps (E.contents faults.old) (E.contents faults.new) }
 {
     match task {
         Task::Make(request) => perform_make(rt, request, writer),
         Task::Show { torrent } => perform_show(rt, torrent, writer),
         Task::Check { torrent, dir } => perform_check(rt, torrent, dir, writer),
+        Task::Replay => Ok(replay(rt.alloc(), reader, writer, faults)),
     }
 }
 

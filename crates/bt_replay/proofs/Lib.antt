@@ -4,3 +4,4 @@ pub mod Telling
 pub mod LinesRun
 pub mod DeviceSettings
 pub mod ScriptLines
+pub mod ReaderScript

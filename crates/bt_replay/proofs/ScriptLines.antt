@@ -4,7 +4,7 @@ use Rattle.std.specs.Prelude.{◌==◌, ◌&&◌, nat_lt, slice_index, if◌then
 use Rattle.std.proofs.lemmas.List.{length-take}
 use Rattle.std.proofs.lemmas.List.Sums.{count_by-le-length}
 use Rattle.std.proofs.lemmas.List.Splits.{length-slice_split}
-use Rattle.bt_replay.specs.Replay.{script_lines, without_last_feed}
+use Rattle.bt_replay.specs.Script.{script_lines, without_last_feed}
 
 shorter : (b : Bool) (n : ℕ) (text : List ℕ) → length (if b then take n text else text) ≤ length text
 shorter true n text = let len = length-take n text in omega (arith, len)

@@ -13,3 +13,6 @@ status_of OutOfMemory = 4
 
 abbrev pub out_of_memory : ReplayFault
 out_of_memory = OutOfMemory
+
+abbrev pub read_fault : ReplayFault
+read_fault = Read

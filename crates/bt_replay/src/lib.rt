@@ -3,19 +3,23 @@
 
 mod answer;
 mod arguments;
+mod command;
 mod devices;
 mod event;
 mod fault;
 mod field;
 mod line;
 mod output;
-mod replay;
+mod reader;
 mod run;
+mod script;
 mod settings;
 mod word;
 
 pub use answer::push_answer;
+pub use command::replay;
 pub use fault::ReplayFault;
 pub use line::{Line, line_in};
-pub use replay::{MAX_SCRIPT_LENGTH, run_script};
+pub use reader::MAX_SCRIPT_LENGTH;
 pub use run::run_lines;
+pub use script::run_script;

@@ -1,5 +1,5 @@
-//! The program on files in a temporary folder, and the reading of files over readers that fail or give
-//! little.
+//! The program on files in a temporary folder and on scripts, and the reading of both over readers that fail or
+//! give little.
 
 mod check;
 mod devices;
@@ -8,6 +8,7 @@ mod fault;
 mod limits;
 mod make;
 mod reader;
+mod replay;
 mod show;
 mod steps;
 mod tools;

@@ -2,7 +2,9 @@
 
 use super::limits::{TOO_LONG, put_sparse};
 use super::steps::{Step, expect_bytes, expect_entries, play_in, set_up};
-use super::tools::{confirm, expect, folder, front, path_in, put, remove_folder, three_blocks};
+use super::tools::{
+    abc_torrent, confirm, expect, folder, front, path_in, put, remove_folder, three_blocks,
+};
 use bt_check::{Fault, found_path};
 use bt_commands::{InfohashLine, files_in, open_file, publish, start};
 use bt_meta::MakeError;
@@ -642,8 +644,16 @@ fn a_name_that_is_no_text_is_refused(rt: HostRuntime) -> Result<(), Fail> {
     remove_folder(&rt, top.as_str())
 }
 
-/// Starts the program on these words, its own name the first, and expects this status and fault, and no output.
-fn expect_start(rt: &HostRuntime, words: &[&[u8]], status: u8, faults: &[u8]) -> Result<(), Fail> {
+/// What a start comes to: its status, output and fault.
+#[derive(Clone, Copy)]
+struct Ending<'a> {
+    status: u8,
+    output: &'a [u8],
+    faults: &'a [u8],
+}
+
+/// Starts the program on these words, its own name the first, and expects this.
+fn expect_start(rt: &HostRuntime, words: &[&[u8]], wanted: &Ending<'_>) -> Result<(), Fail> {
     let device = Device {
         host: rt,
         failing: Failing::Nothing,
@@ -652,23 +662,67 @@ fn expect_start(rt: &HostRuntime, words: &[&[u8]], status: u8, faults: &[u8]) ->
     };
     let mut output = Vec::new(rt.alloc());
     let mut told = Vec::new(rt.alloc());
-    let ended = start(&device, &mut output, &mut told);
-    confirm(ended == ExitCode::from(status), "another status")?;
-    confirm(output.is_empty(), "an output")?;
-    confirm(told.as_slice() == faults, "another fault")?;
+    let mut script = SCRIPT;
+    let ended = start(&device, &mut script, &mut output, &mut told);
+    confirm(ended == ExitCode::from(wanted.status), "another status")?;
+    confirm(output.as_slice() == wanted.output, "another output")?;
+    confirm(told.as_slice() == wanted.faults, "another fault")?;
     Ok(())
 }
 
+/// What standard input has.
+const SCRIPT: &[u8] = b"flush\n";
+
 const UNSPELLED: &[u8] = b"btseed: a word of the command line is not UTF-8\n";
 
-/// An empty word is a word, so here the path of a torrent, of which there is none.
+/// Words, and what they come to. An empty word is a word, so here the path of a torrent, of which there is none.
+const STARTS: &[(&[&[u8]], Ending<'_>)] = &[
+    (
+        &[b"btseed", b"check", b"", b"d"],
+        Ending {
+            status: 3,
+            output: b"",
+            faults: b"btseed: device fault\n",
+        },
+    ),
+    (
+        &[b"btseed", b"check", b"\xff", b"d"],
+        Ending {
+            status: 2,
+            output: b"",
+            faults: UNSPELLED,
+        },
+    ),
+    (
+        &[b"btseed", b"replay"],
+        Ending {
+            status: 2,
+            output: b"",
+            faults: b"btseed: line 1\n",
+        },
+    ),
+];
+
 #[test]
 fn the_words_of_the_environment_are_taken(rt: HostRuntime) -> Result<(), Fail> {
-    expect_start(
-        &rt,
-        &[b"btseed", b"check", b"", b"d"],
-        3,
-        DEVICE_FAULT.as_bytes(),
-    )?;
-    expect_start(&rt, &[b"btseed", b"check", b"\xff", b"d"], 2, UNSPELLED)
+    for (words, wanted) in STARTS {
+        expect_start(&rt, words, wanted)?;
+    }
+    Ok(())
+}
+
+/// The torrent has the file `a.txt`, which is not there.
+#[test]
+fn a_status_comes_with_its_output(rt: HostRuntime) -> Result<(), Fail> {
+    let torrent = abc_torrent(rt.alloc())?;
+    let top = set_up(&rt, "start", &[Step::File("t", &torrent)])?;
+    let path = path_in(&rt, top.as_str(), "t")?;
+    let words: &[&[u8]] = &[b"btseed", b"check", path.as_bytes(), top.as_bytes()];
+    let wanted = Ending {
+        status: 1,
+        output: b"0 of 1 a.txt\nnot complete\n",
+        faults: b"",
+    };
+    expect_start(&rt, words, &wanted)?;
+    remove_folder(&rt, top.as_str())
 }

@@ -4,7 +4,7 @@ use bt_commands::run;
 use bt_tree::Hash32;
 use hex::FromHex;
 use std::alloc::{AllocError, Global};
-use std::io::Write;
+use std::io::{Write, empty};
 use std::rt::Files;
 use std::test::Fail;
 use std::{env, fs, process};
@@ -65,7 +65,7 @@ fn words_of(alloc: Global, top: &str, line: &str) -> Result<Vec<String>, AllocEr
     Ok(words)
 }
 
-/// Runs the program on the words of a line, with these writers, and gives its status.
+/// Runs the program on the words of a line, with nothing to read and these writers, and gives its status.
 pub fn status_of<R: Files + AllocGlobal + Clone + Drop, O: Write, E: Write>(
     rt: &R,
     top: &str,
@@ -74,7 +74,7 @@ pub fn status_of<R: Files + AllocGlobal + Clone + Drop, O: Write, E: Write>(
     faults: &mut E,
 ) -> Result<u8, AllocError> {
     let words = words_of(rt.alloc(), top, line)?;
-    Ok(run(rt, words.as_slice(), output, faults))
+    Ok(run(rt, words.as_slice(), &mut empty(), output, faults))
 }
 
 /// What the program answered to the words of a line: its status, and what it wrote. The error of a test whose

@@ -4,5 +4,5 @@ use Rattle.bt_commands.proofs.program.run.Goals as goal
 
 pub returns-in-Err-clause-answer : goal.returns-in-Err-clause-answer
 returns-in-Err-clause-answer g c =
-    subst (IsRun (map string_bytes c.args.words.now) (g.O.Write.contents c.args.writer.now) (g.O.Write.contents c.attempt.new.writer))
+    subst (IsRun (map string_bytes c.args.words.now) _ _ (g.O.Write.contents c.args.writer.now) (g.O.Write.contents c.attempt.new.writer))
     (sym c.report_fault.ensures) c.in-Err.ensures.answer

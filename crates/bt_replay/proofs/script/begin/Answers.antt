@@ -3,7 +3,7 @@ use Rattle.sha2.specs.Sha256.{sha256}
 use Rattle.bt_machine.specs.Start.{AnswersStart}
 use Rattle.bt_replay.specs.Devices.{SetsFront, first_device}
 use Rattle.bt_replay.specs.Run.{lines_in}
-use Rattle.bt_replay.proofs.replay.begin.Goals as goal
+use Rattle.bt_replay.proofs.script.begin.Goals as goal
 
 pub returns-in-Ok-clause-begun : goal.returns-in-Ok-clause-begun
 returns-in-Ok-clause-begun c = record {

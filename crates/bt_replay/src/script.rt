@@ -1,7 +1,7 @@
 //! A script, from its torrent to its last line.
 ghost use Rattle.std.specs.Prelude.{◌≡◌, ◌^◌, ◌<◌, ◌≤◌, IfOk, IfErr, filter_map, length};
 ghost use Rattle.bt_replay.specs.Event.{peer_handshake};
-ghost use Rattle.bt_replay.specs.Replay.{BeginsOn, NamesNone, NamesTorrent, Replays, torrent_bytes, without_last_feed};
+ghost use Rattle.bt_replay.specs.Script.{BeginsOn, NamesNone, NamesTorrent, Replays, torrent_bytes, without_last_feed};
 ghost use Rattle.bt_replay.specs.Run.{lines_in};
 
 use crate::devices::{Device, first_devices};
@@ -16,9 +16,6 @@ use bt_meta::{MetaError, Torrent, read_torrent};
 use bt_wire::{Bytes, HANDSHAKE_LEN, Handshake, write_handshake};
 use std::alloc::{AllocError, Global};
 use std::io::Write;
-
-/// How many bytes of a script are read.
-pub const MAX_SCRIPT_LENGTH: usize = 1 << 24;
 
 /// Starts an engine on the devices that a script names, does what its lines ask for, one after the other, and
 /// writes what tells of each as it is done.

@@ -3,12 +3,12 @@ use Rattle.std.proofs.KnownBytes.{Keeps-refl}
 use Rattle.std.proofs.lemmas.Result.{err_from_is_err_and}
 use Rattle.sha2.specs.Sha256.{sha256}
 use Rattle.bt_replay.specs.Field.{parts_of}
-use Rattle.bt_replay.specs.Replay.{device_history, device_honest, device_faults, unbegun, early, whole}
+use Rattle.bt_replay.specs.Script.{device_history, device_honest, device_faults, unbegun, early, whole}
 use Rattle.bt_replay.specs.Run.{EndsEarly, HasRun, lines_in}
 use Rattle.bt_replay.proofs.DeviceSettings.{front_count}
 use Rattle.bt_replay.proofs.LinesRun.{kept_run}
 use Rattle.bt_replay.proofs.ScriptLines.{few_lines}
-use Rattle.bt_replay.proofs.replay.run_script.Goals as goal
+use Rattle.bt_replay.proofs.script.run_script.Goals as goal
 
 pub returns-in_err-torrent : goal.returns-in_err-torrent
 returns-in_err-torrent g c =

@@ -1,7 +1,7 @@
 use Rattle.std.proofs.Common.{Some, refl, sym, ap, ◌∙◌}
-use Rattle.bt_replay.specs.Replay.{other_line, refused}
+use Rattle.bt_replay.specs.Script.{other_line, refused}
 use Rattle.bt_replay.proofs.Telling.{some_holds}
-use Rattle.bt_replay.proofs.replay.torrent_in.Goals as goal
+use Rattle.bt_replay.proofs.script.torrent_in.Goals as goal
 
 pub returns-in_default-torrent_bytes-clause-fault : goal.returns-in_default-torrent_bytes-clause-fault
 returns-in_default-torrent_bytes-clause-fault c =

@@ -1,0 +1,4 @@
+use Rattle.bt_commands.proofs.program.perform.Goals as goal
+
+pub returns-in-Replay-clause-done : goal.returns-in-Replay-clause-done
+returns-in-Replay-clause-done g c = rw c.in-Replay.is c.replay.ensures.answer

@@ -1,0 +1,45 @@
+//! The command `replay`, over a reader and writers.
+ghost use Rattle.std.specs.Prelude.{◌≡◌};
+ghost use Rattle.std.specs.Io.KnownBytes.{Keeps};
+ghost use Rattle.bt_replay.specs.Command.{IsReplay, status_after};
+
+use crate::fault::ReplayFault;
+use crate::reader::read_script;
+use crate::script::run_script;
+use std::alloc::Global;
+use std::io::{Read, Write};
+
+/// Reads a script and runs it, writes what tells of its lines, and gives the status that the program exits with.
+/// Where it ends before the script does, it says why, on `faults`; where that can't be said, there is the status
+/// alone.
+pub fn replay<R: Read, W: Write, E: Write>(
+    alloc: Global,
+    reader: &mut R,
+    writer: &mut W,
+    faults: &mut E,
+) -> u8
+    ensures answer { IsReplay (R.remaining reader.old) (R.remaining reader.new)
+        (W.contents writer.old) (W.contents writer.new) result }
+    ensures faultless { result ≡ 0 → Keeps (E.contents faults.old) (E.contents faults.new) }
+{
+    match read_and_run(alloc, reader, writer) {
+        Ok(()) => 0,
+        Err(fault) => {
+            let _ = writeln!(faults, "btseed: {fault}");
+            fault.status()
+        }
+    }
+}
+
+/// Reads a script and runs it.
+fn read_and_run<R: Read, W: Write>(
+    alloc: Global,
+    reader: &mut R,
+    writer: &mut W,
+) -> Result<(), ReplayFault>
+    ensures { IsReplay (R.remaining reader.old) (R.remaining reader.new)
+        (W.contents writer.old) (W.contents writer.new) (status_after result) }
+{
+    let script = read_script(alloc, reader)?;
+    run_script(alloc, &script, writer)
+}
