@@ -1,0 +1,4 @@
+pub mod DataFiles
+pub mod Adoption
+pub mod Store
+pub mod Report
