@@ -4,10 +4,14 @@
 
 mod adoption;
 mod data_files;
+mod ending;
+mod loading;
 mod report;
 mod store;
 
 pub use adoption::adopt_files;
 pub use data_files::open_devices;
+pub use ending::conclude;
+pub use loading::load_store;
 pub use report::write_report;
 pub use store::{begin, finish, open_store};
