@@ -10,5 +10,6 @@ mod make;
 mod reader;
 mod show;
 mod steps;
+mod stores;
 mod tools;
 mod words;
