@@ -16,7 +16,7 @@ use std::path::PathBuf;
 use std::rt::Files;
 
 /// How many data files are held open at a time.
-const OPEN_FILES: usize = 16;
+pub const OPEN_FILES: usize = 16;
 
 /// What a check found of one file: how many blocks it has, how many of them are marked as right, whether its
 /// data file is longer than the torrent says, and whether a call of its device failed.

@@ -140,6 +140,13 @@ impl<D: Disk + Drop, H: NodeHash> Engine<D, H> {
         bt_upkeep::flush(&mut self.parts)
     }
 
+    /// The torrent that it was started with.
+    pub fn torrent(&self) -> &Torrent
+        ensures { result.now ≡ self.now.state.torrent }
+    {
+        &self.parts.torrent
+    }
+
     /// How far a file is, in constant time; None where there is no such file.
     pub fn report(&self, file: u32) -> Option<FileReport>
         ensures { result ≡ file_report self.now.state file }

@@ -11,5 +11,6 @@ mod reader;
 mod replay;
 mod show;
 mod steps;
+mod stores;
 mod tools;
 mod words;

@@ -1,0 +1,9 @@
+-- The files so far are taken in.
+use Rattle.std.proofs.Common.{◌≡◌, length}
+use Rattle.bt_transfer.proofs.Adoptions.{IsTaking}
+use Rattle.bt_transfer.proofs.adoption.adopt_files.Given as goal
+
+abbrev pub invariant-loop-file : goal.invariant-loop-file
+invariant-loop-file g l =
+    IsTaking g.D.Disk.history g.D.Disk.honest g.D.Disk.faults g.H.NodeHash.digest l.initial.engine l.file l.engine
+    × (l.count ≡ length l.initial.engine.state.files)

@@ -1,0 +1,73 @@
+//! The store of a torrent's files: an engine over them, from its opening to its flush.
+ghost use Rattle.std.specs.Prelude.{◌≡◌, ◌⊎◌, Ok, Err, length, IfOk, IfErr, OnOk};
+ghost use Rattle.sha2.specs.Sha256.{sha256};
+ghost use Rattle.bt_machine.specs.declared.error.FlushError.TheVariants.{Device};
+ghost use Rattle.bt_machine.specs.declared.event.Event.TheVariants.{Flush};
+ghost use Rattle.bt_machine.specs.declared.event.Answer.TheVariants.{Flushed};
+ghost use Rattle.bt_machine.specs.Start.{device_count};
+ghost use Rattle.bt_machine.specs.View.{StepsTo};
+ghost use Rattle.bt_check.specs.Fault.{device, out_of_memory};
+ghost use Rattle.bt_transfer.specs.DataFiles.{new_devices};
+ghost use Rattle.bt_transfer.specs.Store.{HasBegun, pooled_faults, pooled_history, pooled_honest};
+
+use crate::adoption::adopt_files;
+use crate::data_files::open_devices;
+use bt_check::Fault;
+use bt_disk::{Disk, PooledDisk};
+use bt_engine::{Engine, FlushError, StartError};
+use bt_lanes::Lanes;
+use bt_meta::Torrent;
+use bt_tree::NodeHash;
+use std::alloc::Global;
+use std::rt::Files;
+
+/// Opens the store of a torrent's files in a folder: missing folders and files are made, the files are opened
+/// in the order of the torrent, and then what they have is taken in. The first fault ends it.
+pub fn open_store<R: Files + AllocGlobal + Clone + Drop>(
+    rt: &R,
+    torrent: Torrent,
+    dir: &str,
+) -> Result<Engine<PooledDisk<R>, Lanes>, Fault>
+    ensures opened { IfOk result (HasBegun pooled_history pooled_honest pooled_faults sha256
+        torrent (new_devices dir.now torrent.files)) }
+    ensures fault { IfErr result (λ fault. (fault ≡ device) ⊎ (fault ≡ out_of_memory)) }
+{
+    let disks = open_devices(rt, dir, torrent.files())?;
+    begin(rt.alloc(), torrent, disks)
+}
+
+/// Starts an engine of a torrent over the devices of its files that have a byte, and takes in what they have.
+pub fn begin<D: Disk + Drop>(
+    alloc: Global,
+    torrent: Torrent,
+    disks: Vec<D>,
+) -> Result<Engine<D, Lanes>, Fault>
+    requires { length disks.items ≡ device_count torrent.files }
+    ensures begun { IfOk result (HasBegun D.history D.honest D.faults sha256 torrent disks.items) }
+    ensures fault { IfErr result (λ fault. (fault ≡ device) ⊎ (fault ≡ out_of_memory)) }
+{
+    match Engine::start(alloc, torrent, Lanes, disks) {
+        Ok(mut engine) => {
+            adopt_files(&mut engine)?;
+            Ok(engine)
+        }
+        Err(refused) => match refused.cause {
+            StartError::OutOfMemory => Err(Fault::OutOfMemory),
+            StartError::DiskCount => unreachable!(),
+        },
+    }
+}
+
+/// Has all that was written put on the devices. Errors: a device failed.
+pub fn finish<D: Disk + Drop, H: NodeHash>(engine: &mut Engine<D, H>) -> Result<(), Fault>
+    ensures flushed { OnOk result
+        (StepsTo D.history D.honest D.faults H.digest engine.old Flush (Flushed (Ok tt)) engine.new) }
+    ensures failed { IfErr result (λ _.
+        StepsTo D.history D.honest D.faults H.digest engine.old Flush (Flushed (Err Device)) engine.new) }
+    ensures fault { IfErr result (λ fault. fault ≡ device) }
+{
+    match engine.flush() {
+        Ok(()) => Ok(()),
+        Err(FlushError::Device) => Err(Fault::Device),
+    }
+}
