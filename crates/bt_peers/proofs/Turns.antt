@@ -1,5 +1,5 @@
 -- Peers that are tried one after the other: what was done so far leads from any rest of the list to the whole.
-use Rattle.std.proofs.Common.{[], ◌≡◌, ℕ, ◌+◌, ◌-◌, ◌≤◌, ◌<◌, true, false, List, ◌∷◌, ◌++◌, length, take, drop, set, get_or, replicate, refl, sym, ◌∙◌, ap, subst, arith, add-zero}
+use Rattle.std.proofs.Common.{[], ◌≡◌, ℕ, ◌+◌, ◌-◌, ◌≤◌, ◌<◌, true, false, List, ◌∷◌, ◌++◌, length, take, drop, set, get_or, replicate, sym, ◌∙◌, ap, subst, arith, add-zero}
 use Rattle.std.specs.Prelude.{All}
 use Rattle.std.proofs.lemmas.List.{append-nil, append_assoc, take-append-drop, drop_all, drop_more, drop-drop, drop-replicate, drop-set-lt, get_or-drop, length-drop, length-set, take_more_set, take_all}
 use Rattle.std.proofs.lemmas.List.Elements.{All-drop}

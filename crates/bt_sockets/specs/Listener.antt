@@ -1,5 +1,5 @@
 -- A connection that is served.
-use Rattle.std.specs.Prelude.{ℕ, Bool, false, List, Option}
+use Rattle.std.specs.Prelude.{ℕ, false, List, Option}
 use Rattle.bt_disk.specs.History.{History}
 use Rattle.bt_machine.specs.State.{EngineView}
 use Rattle.bt_peers.specs.declared.end.PeerEnd.{PeerEnd}
