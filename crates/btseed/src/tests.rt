@@ -11,6 +11,5 @@ mod reader;
 mod replay;
 mod show;
 mod steps;
-mod stores;
 mod tools;
 mod words;

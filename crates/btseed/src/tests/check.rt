@@ -7,13 +7,6 @@ use std::test::Fail;
 
 const CHECK: &str = "check @/t @/files";
 
-/// Makes the torrent of the three blocks, each of which is a piece.
-pub const MAKE_THREE: Step<'static> = Step::Run(
-    "make @/files @/t --name f --piece-length 16384",
-    0,
-    "infohash 37c15b2c37dd8058793b38aa95fd7a52339cdecad68f4d4a1c08bb2820d131f2\n",
-);
-
 #[test]
 fn a_file_is_checked(rt: HostRuntime) -> Result<(), Fail> {
     let torrent = abc_torrent(rt.alloc())?;
@@ -97,10 +90,12 @@ fn a_device_fault_is_told(rt: HostRuntime) -> Result<(), Fail> {
 #[test]
 fn pieces_are_checked(rt: HostRuntime) -> Result<(), Fail> {
     let file = three_blocks(rt.alloc())?;
+    let make = "make @/files @/t --name f --piece-length 16384";
+    let infohash = "infohash 37c15b2c37dd8058793b38aa95fd7a52339cdecad68f4d4a1c08bb2820d131f2\n";
     let steps = [
         Step::Folder("files"),
         Step::File("files/f", front(&file, 49152)),
-        MAKE_THREE,
+        Step::Run(make, 0, infohash),
         Step::Run(CHECK, 0, "complete f\ncomplete\n"),
         Step::Has("files/f", front(&file, 49152)),
         Step::Entries("files", 1),

@@ -1,6 +1,5 @@
 //! Tests as rows: files that are put down, and runs of the program with what they must answer.
 
-use super::stores::{expect_no_store, expect_store};
 use super::tools::{bytes_of, confirm, expect, folder, path_in, put, put_folder, remove_folder};
 use std::fs;
 use std::os::unix::fs::symlink;
@@ -20,10 +19,6 @@ pub enum Step<'a> {
     Run(&'a str, u8, &'a str),
     /// Runs the program on a line, and expects this status and fault, and no output.
     Fault(&'a str, u8, &'a str),
-    /// Opens the store of the torrent `t` in a folder, and expects this report.
-    Store(&'a str, &'a str),
-    /// Expects that no store of the torrent `t` is opened in a folder, for a device.
-    NoStore(&'a str),
     /// Makes a pipe, which nobody writes.
     Pipe(&'a str),
     /// Makes a symbolic link with this text.
@@ -66,8 +61,6 @@ fn step_in(rt: &HostRuntime, top: &str, step: &Step<'_>) -> Result<(), Fail> {
         Step::Run(line, status, output) => expect(rt, top, line, *status, output, ""),
         Step::Fault(line, status, faults) => expect(rt, top, line, *status, "", faults),
         Step::Change(name, index) => change(rt, top, name, *index),
-        Step::Store(dir, report) => expect_store(rt, top, dir, report),
-        Step::NoStore(dir) => expect_no_store(rt, top, dir),
         Step::Pipe(name) => put_pipe(rt, top, name),
         Step::Link(text, name) => put_link(rt, top, text, name),
         Step::LinkHas(name, text) => expect_link(rt, top, name, text),
