@@ -6,6 +6,7 @@ mod adoption;
 mod data_files;
 mod ending;
 mod loading;
+mod peer;
 mod report;
 mod store;
 
@@ -13,5 +14,6 @@ pub use adoption::adopt_files;
 pub use data_files::open_devices;
 pub use ending::conclude;
 pub use loading::load_store;
+pub use peer::{Peer, Service, Serving};
 pub use report::write_report;
 pub use store::{begin, finish, open_store};

@@ -1,0 +1,28 @@
+//! The other side of a transfer: peers to fetch from, and connections to serve.
+
+/// Where a peer is reached.
+#[derive(Clone, Copy, Debug, PartialEq, Eq)]
+pub struct Peer<'a> {
+    /// A name or an address, of one byte or more.
+    pub host: &'a str,
+    pub port: u16,
+}
+
+/// How many connections are served, one after the other.
+#[derive(Clone, Copy, Debug, PartialEq, Eq)]
+pub enum Serving {
+    /// So many.
+    Count(u32),
+    /// All that come, until the program is ended.
+    Forever,
+}
+
+/// Where connections are waited for, and how many are served.
+#[derive(Clone, Copy, Debug, PartialEq, Eq)]
+pub struct Service<'a> {
+    /// The address of this machine at which it listens.
+    pub address: &'a str,
+    /// With 0 the system chooses one.
+    pub port: u16,
+    pub serving: Serving,
+}
