@@ -105,7 +105,8 @@ def limits():
 def main(words):
     names = [word for word in words if not word.startswith("--")]
     begun = time.monotonic()
-    knows_words = "--anew" in subprocess.run(["rt", "help"], capture_output=True, text=True).stdout
+    told = subprocess.run(["rt", "help"], capture_output=True, text=True)
+    knows_words = "--anew" in told.stdout + told.stderr
     if names and not knows_words:
         sys.exit("this toolchain's `rt ci` takes no names: run it without")
     anew = ["--anew"] if knows_words and "--kept" not in words else []
