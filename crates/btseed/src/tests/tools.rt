@@ -135,26 +135,6 @@ pub fn expect<R: Files + AllocGlobal + Clone + Drop>(
     Ok(())
 }
 
-/// Runs the program on the words of a line, and expects help, with this text in it.
-pub fn expect_help(rt: &HostRuntime, line: &str, part: &str) -> Result<(), Fail> {
-    let found = answer_to(rt, "", line)?;
-    let is_wanted = found.status == 0
-        && found.faults.is_empty()
-        && found.output.as_str().contains(part);
-    confirmed(found, is_wanted)?;
-    Ok(())
-}
-
-/// Runs the program on the words of a line, and expects that they are refused, with a reason.
-pub fn expect_refused(rt: &HostRuntime, line: &str) -> Result<(), Fail> {
-    let found = answer_to(rt, "", line)?;
-    let faults = found.faults.as_str();
-    let is_told = faults.contains("error: ") || faults.contains("Usage: btseed");
-    let is_wanted = found.status == 2 && found.output.is_empty() && is_told;
-    confirmed(found, is_wanted)?;
-    Ok(())
-}
-
 pub fn digest(hex: &str) -> Result<Hash32, Fail> {
     Ok(<[u8; 32] as FromHex>::from_hex(hex)?)
 }

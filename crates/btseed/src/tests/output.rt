@@ -1,65 +1,9 @@
-//! The command line, and an output that fails.
+//! An output that fails.
 
 use super::steps::{Step, set_up};
-use super::tools::{abc_torrent, confirm, expect_help, expect_refused, remove_folder, status_of};
+use super::tools::{abc_torrent, confirm, remove_folder, status_of};
 use std::io::{self, ErrorKind, Write};
 use std::test::Fail;
-
-const REFUSED_LINES: &[&str] = &[
-    "",
-    "chek",
-    "check",
-    "check t",
-    "check t d e",
-    "check t d --inf",
-    "show",
-    "show t u",
-    "replay t",
-    "replay --info",
-    "make",
-    "make d",
-    "make d o",
-    "make d o --name",
-    "make d o e --name n",
-    "make d o --name n --name m",
-    "make d o --name n --info",
-    "make d o --name n --piece-length",
-    "make d o --name n --piece-length=x",
-    "make d o --name n --piece-length=+16384",
-    "make d o --name n --piece-length=-16384",
-    "make d o --name n --piece-length=4294967296",
-    "make d o --name n --piece-length=",
-];
-
-#[test]
-fn refused_words_are_told_why(rt: HostRuntime) -> Result<(), Fail> {
-    for line in REFUSED_LINES {
-        expect_refused(&rt, line)?;
-    }
-    Ok(())
-}
-
-/// Lines that ask for help, and a part of it.
-const HELP_LINES: &[(&str, &str)] = &[
-    ("--help", "BitTorrent v2"),
-    ("help", "check"),
-    ("help", "make"),
-    ("help", "show"),
-    ("help", "replay"),
-    ("replay --help", "standard input"),
-    ("check --help", "TORRENT"),
-    ("show --help", "--info"),
-    ("make --help", "--piece-length"),
-    ("--version", "btseed 0."),
-];
-
-#[test]
-fn help_is_told(rt: HostRuntime) -> Result<(), Fail> {
-    for (line, part) in HELP_LINES {
-        expect_help(&rt, line, part)?;
-    }
-    Ok(())
-}
 
 /// A writer that fails: it takes nothing, or what it took is lost when it is flushed.
 #[derive(Clone, Copy)]
