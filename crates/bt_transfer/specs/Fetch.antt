@@ -38,4 +38,5 @@ pub record IsFetch (is_info : Bool) (dir : List ℕ) (peers : List Peer) (before
   pub rest : List Dials
   pub last : EngineView PooledView
   pub fetched : HasFetched (TriesOverTcp pooled_history pooled_honest pooled_faults sha256)
-      pooled_history pooled_honest pooled_faults sha256 peers store (links_of peers) before after status rest last
+      pooled_history pooled_honest pooled_faults sha256 peers store (links_of peers)
+      before after status rest last

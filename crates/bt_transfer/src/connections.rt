@@ -37,8 +37,8 @@ pub(crate) fn serve_count<D: Disk + Drop, H: NodeHash, N: Net, W: Write>(
     Ok(())
 }
 
-/// Serves one connection after the other, whatever came of those before; writes how it ended with each, and then
-/// has all put on the devices.
+/// Serves one connection after the other, whatever came of those before; writes how it ended with each, and
+/// then has all put on the devices.
 pub(crate) fn serve_forever<D: Disk + Drop, H: NodeHash, N: Net, W: Write>(
     alloc: Global,
     net: &N,
@@ -58,8 +58,8 @@ pub(crate) fn serve_forever<D: Disk + Drop, H: NodeHash, N: Net, W: Write>(
     Ok(())
 }
 
-/// Serves a connection, which has this number, and writes how it ended. Errors: none could be taken; the writer
-/// failed; out of memory.
+/// Serves a connection, which has this number, and writes how it ended. Errors: none could be taken; the
+/// writer failed; out of memory.
 fn serve_next<D: Disk + Drop, H: NodeHash, N: Net, W: Write>(
     alloc: Global,
     net: &N,

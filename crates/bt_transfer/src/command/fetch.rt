@@ -22,9 +22,9 @@ use std::net::Net;
 use std::rt::Files;
 use std::time::Duration;
 
-/// Opens the store of a torrent's files in a folder, as `load_store` does; takes peers in turn until all files
-/// are complete; writes how it ended with each that was tried; has all put on the devices; and reports. The
-/// answer is the status of the program: 0 where all files are complete, else 1.
+/// Opens the store of a torrent's files in a folder, as `load_store` does; takes peers in turn until all
+/// files are complete; writes how it ended with each that was tried; has all put on the devices; and reports.
+/// The answer is the status of the program: 0 where all files are complete, else 1.
 ///
 /// Errors: the torrent is refused, and then nothing is written; a device or the writer failed; out of memory.
 pub fn fetch<R: Files + AllocGlobal + Clone + Drop, N: Net, W: Write>(
@@ -70,8 +70,8 @@ fn links_to<'a, N: Net>(
     Ok(links)
 }
 
-/// Takes peers in turn, each by its link, until the engine is complete; writes how it ended with each that was
-/// tried; and then has all put on the devices, and reports. A peer's session has so many turns at most.
+/// Takes peers in turn, each by its link, until the engine is complete; writes how it ended with each that
+/// was tried; and then has all put on the devices, and reports. A peer's session has so many turns at most.
 fn fetch_over<D: Disk + Drop, H: NodeHash, L: Link, W: Write>(
     alloc: Global,
     engine: &mut Engine<D, H>,

@@ -19,13 +19,13 @@ use std::io::Write;
 use std::net::{Net, OpenListener};
 use std::rt::Files;
 
-/// Opens the store of a torrent's files in a folder, as `load_store` does; listens, and writes at which port; and
-/// serves connections, one after the other, whatever came of those before, each with a line that tells how it
-/// ended. All is put on the devices behind the last, or behind each where no count is given. The answer is the
-/// status of the program, 0.
+/// Opens the store of a torrent's files in a folder, as `load_store` does; listens, and writes at which port;
+/// and serves connections, one after the other, whatever came of those before, each with a line that tells how
+/// it ended. All is put on the devices behind the last, or behind each where no count is given. The answer is
+/// the status of the program, 0.
 ///
-/// Errors: the torrent is refused, or the port can't be had, and then nothing is written; a device, the writer or
-/// the socket failed; out of memory.
+/// Errors: the torrent is refused, or the port can't be had, and then nothing is written; a device, the writer
+/// or the socket failed; out of memory.
 pub fn seed<R: Files + AllocGlobal + Clone + Drop, N: Net, W: Write>(
     rt: &R,
     net: &N,
