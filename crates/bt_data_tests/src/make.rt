@@ -1,7 +1,7 @@
 //! Torrents that are made.
 
 use crate::bytes::push_shown;
-use crate::stage::Place;
+use crate::stage::Objects;
 use crate::torrent::take;
 use crate::words::Words;
 use bt_meta::{Made, Torrent, make, read_torrent};
@@ -9,29 +9,15 @@ use bt_tree::Hash32;
 use std::alloc::{AllocError, Global};
 use std::fmt::Write;
 
-/// The files that the next torrent is made of.
-#[derive(Drop)]
-pub struct Sources {
-    files: Vec<Made>,
-}
-
-impl Sources {
-    pub fn new(alloc: Global) -> Self {
-        Sources {
-            files: Vec::new(alloc),
-        }
-    }
-}
-
 pub fn make_row(
     alloc: Global,
-    place: &mut Place,
+    objects: &mut Objects,
     words: &mut Words,
     out: &mut String,
 ) -> Result<(), AllocError> {
     match words.word() {
-        "files" => files_row(alloc, &mut place.sources.files, words, out),
-        "torrent" => made_row(alloc, place, words, out),
+        "files" => files_row(alloc, &mut objects.files, words, out),
+        "torrent" => made_row(alloc, objects, words, out),
         _ => {
             words.are_wrong();
             Ok(())
@@ -80,26 +66,44 @@ fn file_of(
 /// The elements of a path, which are separated by `/`.
 fn elements(alloc: Global, path: &str) -> Result<Vec<String>, AllocError> {
     let mut elements = Vec::new(alloc);
-    for element in path.split('/') {
-        elements.push(String::from_str(alloc, element)?)?;
+    let mut rest = path;
+    for _ in 0..path.len() {
+        match rest.split_once('/') {
+            Some((element, more)) => {
+                push_element(alloc, &mut elements, element)?;
+                rest = more;
+            }
+            None => break,
+        }
     }
+    push_element(alloc, &mut elements, rest)?;
     Ok(elements)
 }
 
-/// The text of the torrent of these files, with this name and piece length, and the torrent that is read from it; or the refusal. No file is left then.
+fn push_element(
+    alloc: Global,
+    elements: &mut Vec<String>,
+    element: &str,
+) -> Result<(), AllocError> {
+    elements.push(String::from_str(alloc, element)?)?;
+    Ok(())
+}
+
+/// The text of the torrent of these files, with this name and piece length, and the torrent that is read from
+/// it; or the refusal. No file is left then.
 fn made_row(
     alloc: Global,
-    place: &mut Place,
+    objects: &mut Objects,
     words: &mut Words,
     out: &mut String,
 ) -> Result<(), AllocError> {
     let name = words.bytes(alloc)?;
     let piece_length = words.number();
-    match make(alloc, &name, piece_length, &place.sources.files) {
-        Ok(text) => read_back(alloc, &mut place.torrent, &text, out)?,
+    match make(alloc, &name, piece_length, &objects.files) {
+        Ok(text) => read_back(alloc, &mut objects.torrent, &text, out)?,
         Err(error) => write!(out, "{error}")?,
     }
-    place.sources.files.clear();
+    objects.files.clear();
     Ok(())
 }
 

@@ -102,12 +102,9 @@ fn push_digits(bytes: &mut Vec<u8>, digits: &[u8]) -> Result<bool, AllocError> {
     Ok(rest.is_empty())
 }
 
+/// The number that a digit is; 0 where it is none.
 fn nibble(digit: u8) -> u8 {
-    match digit {
-        b'0'..=b'9' => digit - b'0',
-        b'a'..=b'f' => digit - b'a' + 10,
-        _ => 255,
-    }
+    (digit as char).to_digit(16).unwrap_or(0) as u8
 }
 
 fn push_named(names: &Names, bytes: &mut Vec<u8>, name: &str) -> Result<bool, AllocError> {

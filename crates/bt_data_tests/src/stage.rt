@@ -3,13 +3,13 @@
 use crate::bencode::bencode_row;
 use crate::builder::builder_row;
 use crate::digest::digest_row;
-use crate::make::{Sources, make_row};
+use crate::make::make_row;
 use crate::names::Names;
 use crate::parts::push_word;
 use crate::torrent::{laws_row, texts_row, torrent_row};
 use crate::tree::tree_row;
 use crate::words::Words;
-use bt_meta::Torrent;
+use bt_meta::{Made, Torrent};
 use bt_tree::{Plain, RootBuilder};
 use std::alloc::{AllocError, Global};
 use std::fmt::Write;
@@ -18,14 +18,16 @@ use std::fmt::Write;
 #[derive(Drop)]
 pub struct Stage {
     names: Names,
-    place: Place,
+    objects: Objects,
 }
 
-/// What is no name.
+/// What calls have made, for later calls.
 #[derive(Drop)]
-pub struct Place {
+pub struct Objects {
     pub builder: Option<RootBuilder<Plain>>,
-    pub sources: Sources,
+    /// The files that the next torrent is made of.
+    pub files: Vec<Made>,
+    /// The torrent that was read last.
     pub torrent: Option<Torrent>,
 }
 
@@ -33,9 +35,9 @@ impl Stage {
     pub fn new(alloc: Global) -> Self {
         Stage {
             names: Names::new(alloc),
-            place: Place {
+            objects: Objects {
                 builder: None,
-                sources: Sources::new(alloc),
+                files: Vec::new(alloc),
                 torrent: None,
             },
         }
@@ -49,7 +51,7 @@ impl Stage {
         } else if let Some(rest) = row.strip_prefix("let ") {
             let_row(alloc, &mut self.names, rest, &mut out)?;
         } else {
-            call_row(alloc, &self.names, &mut self.place, row, &mut out)?;
+            call_row(alloc, &self.names, &mut self.objects, row, &mut out)?;
         }
         Ok(out)
     }
@@ -74,12 +76,12 @@ fn let_row(
 fn call_row(
     alloc: Global,
     names: &Names,
-    place: &mut Place,
+    objects: &mut Objects,
     row: &str,
     out: &mut String,
 ) -> Result<(), AllocError> {
     let mut words = Words::new(names, row);
-    named_row(alloc, place, &mut words, out)?;
+    named_row(alloc, objects, &mut words, out)?;
     if !words.are_read() {
         out.clear();
         return write!(out, "not understood: {row}");
@@ -89,17 +91,17 @@ fn call_row(
 
 fn named_row(
     alloc: Global,
-    place: &mut Place,
+    objects: &mut Objects,
     words: &mut Words,
     out: &mut String,
 ) -> Result<(), AllocError> {
     match words.word() {
         "bencode" => bencode_row(alloc, words, out),
         "tree" => tree_row(alloc, words, out),
-        "builder" => builder_row(alloc, &mut place.builder, words, out),
+        "builder" => builder_row(alloc, &mut objects.builder, words, out),
         "digest" => digest_row(alloc, words, out),
-        "torrent" => torrent_row(alloc, &mut place.torrent, words, out),
-        "make" => make_row(alloc, place, words, out),
+        "torrent" => torrent_row(alloc, &mut objects.torrent, words, out),
+        "make" => make_row(alloc, objects, words, out),
         "texts" => texts_row(out),
         "laws" => laws_row(out),
         _ => {

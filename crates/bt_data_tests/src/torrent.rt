@@ -4,8 +4,8 @@ use crate::bytes::{push_hex, push_shown, push_text};
 use crate::words::Words;
 use bt_bencode::{BencodeError, first_fault_is_one, spellings_are_prefix_free};
 use bt_meta::{
-    FileEntry, MakeError, MetaError, Torrent, block_ranges_are_places, blocks_and_ranges_agree,
-    layers_are_of_trees, read_info, read_torrent,
+    FileEntry, FilePath, MakeError, MetaError, Torrent, block_ranges_are_places,
+    blocks_and_ranges_agree, layers_are_of_trees, read_info, read_torrent,
 };
 use bt_tree::LayerError;
 use std::alloc::{AllocError, Global};
@@ -66,14 +66,19 @@ fn push_torrent(out: &mut String, torrent: &Torrent) -> Result<(), AllocError> {
 /// Its path, its length, its root, its first piece and its layer.
 fn push_file(out: &mut String, file: &FileEntry) -> Result<(), AllocError> {
     out.push_str("; ")?;
-    for element in file.path.elements().iter() {
-        out.push('/')?;
-        out.push_str(element)?;
-    }
+    push_path(out, &file.path)?;
     write!(out, " {} bytes of ", file.length)?;
     push_hex(out, &file.root)?;
     write!(out, " from piece {}, layer ", file.first_piece)?;
     push_shown(out, &file.layer)
+}
+
+fn push_path(out: &mut String, path: &FilePath) -> Result<(), AllocError> {
+    for element in path.elements().as_slice() {
+        out.push('/')?;
+        out.push_str(element)?;
+    }
+    Ok(())
 }
 
 /// How many proper prefixes a text has, and how many of them are refused for their end, and there.
