@@ -36,7 +36,13 @@ fn answer(rt: &HostRuntime, words: &[String]) -> ExitCode {
 
 /// What the `main` of `btseed` does.
 fn program(rt: &HostRuntime) -> ExitCode {
-    start(rt, &mut rt.stdin(), &mut rt.stdout(), &mut rt.stderr())
+    start(
+        rt,
+        rt,
+        &mut rt.stdin(),
+        &mut rt.stdout(),
+        &mut rt.stderr(),
+    )
 }
 
 /// The status of what only rows ask for.

@@ -446,7 +446,7 @@ fn expect_check(
     faults: &str,
 ) -> Result<(), Fail> {
     let device = Device::new(rt, failing);
-    expect(&device, top, "check @/t @/files", status, output, faults)
+    expect(&device, rt, top, "check @/t @/files", status, output, faults)
 }
 
 #[test]
@@ -502,7 +502,7 @@ fn expect_unmade(rt: &HostRuntime, top: &str, names: &[u8], out: &str) -> Result
         names,
     };
     let line = format!(in rt.alloc(); "make @/files @/{out} --name n")?;
-    expect(&device, top, line.as_str(), 3, "", DEVICE_FAULT)
+    expect(&device, rt, top, line.as_str(), 3, "", DEVICE_FAULT)
 }
 
 /// Two files of one number lie on two devices: `OUT` is none of the folder's. A folder took the place of the

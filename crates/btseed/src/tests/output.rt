@@ -43,8 +43,8 @@ fn expect_device_fault(
 ) -> Result<(), Fail> {
     let mut output = failing;
     let mut faults = Vec::new(rt.alloc());
-    let told = status_of(rt, top, line, &mut output, &mut faults)?;
-    let untold = status_of(rt, top, line, &mut output, &mut Failing::Writes)?;
+    let told = status_of(rt, rt, top, line, &mut output, &mut faults)?;
+    let untold = status_of(rt, rt, top, line, &mut output, &mut Failing::Writes)?;
     confirm(told == 3 && untold == 3, "another status")?;
     confirm(
         faults.as_slice() == b"btseed: device fault\n".as_slice(),

@@ -51,7 +51,7 @@ fn status_on<I: Read, O: Write, E: Write>(
     faults: &mut E,
 ) -> Result<u8, AllocError> {
     let words = [String::from_str(rt.alloc(), "replay")?];
-    Ok(run(rt, &words, reader, writer, faults))
+    Ok(run(rt, rt, &words, reader, writer, faults))
 }
 
 /// What a replay comes to: its status, output and fault.

@@ -41,7 +41,7 @@ fn step_in(rt: &HostRuntime, top: &str, step: &Step<'_>) -> Result<(), Fail> {
     match step {
         Step::Folder(name) => put_folder(rt, top, name),
         Step::File(name, bytes) => put(rt, top, name, bytes),
-        Step::Run(line, status, output) => expect(rt, top, line, *status, output, ""),
+        Step::Run(line, status, output) => expect(rt, rt, top, line, *status, output, ""),
         Step::Link(text, name) => put_link(rt, top, text, name),
         Step::Has(name, bytes) => expect_bytes(rt, top, name, bytes),
         Step::Entries(name, count) => expect_entries(rt, top, name, *count),
