@@ -36,13 +36,7 @@ fn answer(rt: &HostRuntime, words: &[String]) -> ExitCode {
 
 /// What the `main` of `btseed` does.
 fn program(rt: &HostRuntime) -> ExitCode {
-    start(
-        rt,
-        rt,
-        &mut rt.stdin(),
-        &mut rt.stdout(),
-        &mut rt.stderr(),
-    )
+    start(rt, rt, &mut rt.stdin(), &mut rt.stdout(), &mut rt.stderr())
 }
 
 /// The status of what only rows ask for.
