@@ -1,0 +1,4 @@
+pub mod ShortBlocks
+pub mod Messages
+pub mod Passages
+pub mod Sendable
