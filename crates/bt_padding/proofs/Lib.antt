@@ -2,3 +2,4 @@ pub mod ShortBlocks
 pub mod Messages
 pub mod Passages
 pub mod Sendable
+pub mod Halves
