@@ -3,3 +3,4 @@ pub mod Messages
 pub mod Passages
 pub mod Sendable
 pub mod Halves
+pub mod Streams

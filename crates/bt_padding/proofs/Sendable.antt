@@ -24,7 +24,7 @@ piece_few p b bytes fits = omega (arith, fits.limit)
 filled_length : (bytes : List ℕ) → length (filled bytes) ≡ length bytes + (16384 - length bytes)
 filled_length bytes = length-append bytes (replicate (16384 - length bytes) 0) ∙ ap (λ n. length bytes + n) (length-replicate (16384 - length bytes) 0)
 
-sendable_in : (torrent : Metainfo) (old new : Memory) (m given : Message) → CanBeSent m → ComesIn torrent old m given new → CanBeSent given
+pub sendable_in : (torrent : Metainfo) (old new : Memory) (m given : Message) → CanBeSent m → ComesIn torrent old m given new → CanBeSent given
 sendable_in torrent old new m given can (request ask asks given-is new-is) =
     let was : CanBeSent (Request (padded ask)) = subst (λ (x : Message). CanBeSent x) asks.1 can in
     let numbers = was.is_message in
@@ -39,7 +39,7 @@ sendable_in torrent old new m given can (piece ask bytes brings given-is new-is)
     (piece_fits ask.piece ask.begin (take ask.length bytes) numbers.0 numbers.1 (omega (arith, full, length-take ask.length bytes)))
 sendable_in torrent old new m given can (other _ _ given-is new-is) = subst (λ (x : Message). CanBeSent x) (sym given-is) can
 
-sendable_out : (torrent : Metainfo) (old new : Memory) (m given : Message) → CanBeSent m → GoesOut torrent old m given new → CanBeSent given
+pub sendable_out : (torrent : Metainfo) (old new : Memory) (m given : Message) → CanBeSent m → GoesOut torrent old m given new → CanBeSent given
 sendable_out torrent old new m given can (piece ask bytes rest answers taken given-is new-is) =
     let was : CanBeSent (Piece ask.piece ask.begin bytes) = subst (λ (x : Message). CanBeSent x) answers.message can in
     let numbers = was.is_message in

@@ -5,3 +5,4 @@ pub mod Law
 pub mod Half
 pub mod Translation
 pub mod TranslationSteps
+pub mod TranslationLaw

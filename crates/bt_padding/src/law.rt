@@ -1,4 +1,5 @@
 ghost use Rattle.bt_padding.specs.Law.{RemembersShortBlocks, ZerosLieBehindTheEnd, PadsWhatWasAsked, PlainPassesThrough, GivenOnCanBeSent};
+ghost use Rattle.bt_padding.specs.TranslationLaw.{GivesStreams};
 
 /// What is remembered of a peer are requests for short blocks.
 pub fn remembers_short_blocks()
@@ -24,4 +25,9 @@ pub fn plain_passes_through()
 /// What is given on in place of a message can be sent where the message could be.
 pub fn given_on_can_be_sent()
     ensures { GivenOnCanBeSent }
+{}
+
+/// Where whole events came, as many whole events are given on, and nothing else.
+pub fn gives_streams()
+    ensures { GivesStreams }
 {}

@@ -10,8 +10,8 @@ mod translation;
 
 pub use half::Half;
 pub use law::{
-    given_on_can_be_sent, pads_what_was_asked, plain_passes_through, remembers_short_blocks,
-    zeros_lie_behind_the_end,
+    given_on_can_be_sent, gives_streams, pads_what_was_asked, plain_passes_through,
+    remembers_short_blocks, zeros_lie_behind_the_end,
 };
 pub use padding::Padding;
 pub use short_block::{is_short_block, short_length};
