@@ -26,7 +26,8 @@ Passes torrent old (goes m given) new = GoesOut torrent old m given new
 -- one after the other
 abbrev pub Pass : Metainfo → Memory → List Passage → Memory → Type 0
 Pass torrent old [] new = new ≡ old
-Pass torrent old (p ∷ passages) new = (mid : Memory) × Passes torrent old p mid × Pass torrent mid passages new
+Pass torrent old (p ∷ passages) new =
+    (mid : Memory) × Passes torrent old p mid × Pass torrent mid passages new
 
 -- ---- what is remembered
 
@@ -41,14 +42,16 @@ RemembersShortBlocks = (torrent : Metainfo) (passages : List Passage) (now : Mem
 -- ---- what a peer is served
 
 -- The engine's piece ends where its file ends, and has zeros behind.
-pub record IsFilledAtEnd (torrent : Metainfo) (piece begin : ℕ) (bytes : List ℕ) (given : Message) : Type 0 where
+pub record IsFilledAtEnd (torrent : Metainfo) (piece begin : ℕ) (bytes : List ℕ) (given : Message)
+    : Type 0 where
   pub short : IsShortBlock torrent (ask_of piece begin (length bytes))
   pub end : full_block_length * short.block + length bytes ≡ short.whole.has.entry.length
   pub filled : given ≡ Piece piece begin (filled bytes)
 
 -- A piece goes out as the engine cut it, or with zeros where its file has ended.
 abbrev pub ZerosLieBehindTheEnd : Type 0
-ZerosLieBehindTheEnd = (torrent : Metainfo) (old new : Memory) (piece begin : ℕ) (bytes : List ℕ) (given : Message)
+ZerosLieBehindTheEnd = (torrent : Metainfo) (old new : Memory) (piece begin : ℕ) (bytes : List ℕ)
+    (given : Message)
     → AreShortBlocks torrent old.asked → GoesOut torrent old (Piece piece begin bytes) given new
     → (given ≡ Piece piece begin bytes) ⊎ IsFilledAtEnd torrent piece begin bytes given
 

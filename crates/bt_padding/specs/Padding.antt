@@ -61,7 +61,8 @@ pub data ComesIn (torrent : Metainfo) (old : Memory) (m given : Message) (new : 
   request : (ask : Ask) → AsksPadded torrent m ask → given ≡ Request ask
       → new ≡ record old { asked = with_asked old.asked ask } → ComesIn torrent old m given new
   piece : (ask : Ask) (bytes : List ℕ) → BringsPadded torrent m ask bytes
-      → given ≡ Piece ask.piece ask.begin (take ask.length bytes) → new ≡ old → ComesIn torrent old m given new
+      → given ≡ Piece ask.piece ask.begin (take ask.length bytes) → new ≡ old
+      → ComesIn torrent old m given new
   other : ((ask : Ask) → ¬ AsksPadded torrent m ask)
       → ((ask : Ask) (bytes : List ℕ) → ¬ BringsPadded torrent m ask bytes)
       → given ≡ m → new ≡ old → ComesIn torrent old m given new

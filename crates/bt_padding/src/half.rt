@@ -28,7 +28,10 @@ impl Model for Half {
 
     ghost Value = { HalfState };
 
-    ghost view = { λ h. record { stream = h.cutter; last = take h.last (drop (h.start - h.last) h.bytes.items) } };
+    ghost view = { λ h. record {
+      stream = h.cutter;
+      last = take h.last (drop (h.start - h.last) h.bytes.items);
+    } };
 
     ghost invariant = { λ h. (h.last ≤ h.start) × (h.start ≤ length h.bytes.items)
         × (drop h.start h.bytes.items ≡ h.cutter.unread) × (h.failed ≡ h.cutter.failed) };
@@ -66,8 +69,8 @@ impl Half {
         Ok(())
     }
 
-    /// Takes the first event from the unread bytes; None where no event is whole and no fault shows. The errors
-    /// are those of the cutter.
+    /// Takes the first event from the unread bytes; None where no event is whole and no fault shows. The
+    /// errors are those of the cutter.
     pub fn next(&mut self) -> Result<Option<WireEvent>, WireError>
         ensures answer { IfOk result (λ found. IsTold self.old found self.new) }
         ensures refused { IfErr result (λ error. IsRefusal self.old.stream error self.new.stream) }
@@ -121,7 +124,8 @@ fn event_len(event: &WireEvent, unread: &[u8]) -> usize
     }
 }
 
-/// Leaves out the first `start` bytes where they are no fewer than the others. Returns where the others begin.
+/// Leaves out the first `start` bytes where they are no fewer than the others. Returns where the others
+/// begin.
 fn drop_taken(bytes: &mut Vec<u8>, start: usize) -> usize
     requires { start ≤ length bytes.old.items }
     ensures same { drop result bytes.new.items ≡ drop start bytes.old.items }

@@ -11,13 +11,14 @@ pub fn zeros_lie_behind_the_end()
     ensures { ZerosLieBehindTheEnd }
 {}
 
-/// From each place of a piece on, pieces are filled no more often than the peer has asked for a whole block there.
+/// From each place of a piece on, pieces are filled no more often than the peer has asked for a whole block
+/// there.
 pub fn pads_what_was_asked()
     ensures { PadsWhatWasAsked }
 {}
 
-/// What comes of a peer without padding passes as it is, and so does all that goes to a peer that has asked for no
-/// padding and is asked for none.
+/// What comes of a peer without padding passes as it is, and so does all that goes to a peer that has asked
+/// for no padding and is asked for none.
 pub fn plain_passes_through()
     ensures { PlainPassesThrough }
 {}

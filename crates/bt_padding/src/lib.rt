@@ -1,5 +1,5 @@
-//! Short last blocks between an engine and clients that count each block as 16,384 bytes: what these send is given
-//! on to the engine without the padding, and what it sends to them gets it.
+//! Short last blocks between an engine and clients that count each block as 16,384 bytes: what these send is
+//! given on to the engine without the padding, and what it sends to them gets it.
 #![tactic(auto)]
 
 mod half;

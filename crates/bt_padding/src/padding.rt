@@ -32,7 +32,8 @@ impl Model for Padding {
 
     ghost view = { λ p. record { asked = p.asked.items; pads = p.pads } };
 
-    ghost invariant = { λ p. (length p.asked.items ≤ max_remembered) × (max_remembered ≤ vec_capacity p.asked) };
+    ghost invariant = { λ p.
+        (length p.asked.items ≤ max_remembered) × (max_remembered ≤ vec_capacity p.asked) };
 }
 
 impl Padding {

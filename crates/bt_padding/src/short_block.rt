@@ -9,8 +9,8 @@ use bt_meta::Torrent;
 use bt_tree::BLOCK_LEN;
 use bt_wire::Ask;
 
-/// How many bytes a file has of its last block, where that begins at this byte of the piece and has fewer than
-/// 16,384; None for any other place.
+/// How many bytes a file has of its last block, where that begins at this byte of the piece and has fewer
+/// than 16,384; None for any other place.
 pub fn short_length(torrent: &Torrent, piece: u32, begin: u32) -> Option<u32>
     ensures some { IfSome result (λ n. IsShortBlock torrent.now (ask_of piece begin n)) }
     ensures only { (n : ℕ) → IsShortBlock torrent.now (ask_of piece begin n) → result ≡ Some n }

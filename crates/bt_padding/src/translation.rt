@@ -112,7 +112,8 @@ fn message_for(
     message: Message,
 ) -> Result<Message, AllocError>
     requires { CanBeSent message }
-    ensures given { IfOk result (λ given. GivesMessage torrent.now side padding.old message given padding.new) }
+    ensures given { IfOk result (λ given.
+        GivesMessage torrent.now side padding.old message given padding.new) }
     ensures can_be_sent { IfOk result (λ given. CanBeSent given) }
 {
     given_on_can_be_sent();
