@@ -5,5 +5,6 @@ pub mod FolderFiles
 pub mod MakeFault
 pub mod AtomicFilePath
 -- the program
+pub mod PeerWords
 pub mod CommandLineTask
 pub mod ProgramRun

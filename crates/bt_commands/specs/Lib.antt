@@ -3,9 +3,12 @@ pub mod Folder
 pub mod Limits
 pub mod Make
 -- the program
+pub mod Subcommands
+pub mod Values
 pub mod CommandLine
 pub mod Program
 -- what private steps cite
+pub mod CommandLineSteps
 pub mod FolderSteps
 pub mod MakeSteps
 pub mod AtomicFileSteps

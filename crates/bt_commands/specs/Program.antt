@@ -9,6 +9,8 @@ use Rattle.bt_tree.specs.TreeShape.{IsPieceLength}
 use Rattle.bt_meta.specs.Torrent.{Metainfo}
 use Rattle.bt_meta.specs.declared.writer.MakeError.TheVariants.{PieceLength}
 use Rattle.bt_replay.specs.Command.{IsReplay}
+use Rattle.bt_transfer.specs.Fetch.{IsFetch}
+use Rattle.bt_transfer.specs.Seed.{IsSeed}
 use Rattle.bt_commands.specs.CommandLine.{IsTaskOf, IsNoTaskOf}
 use Rattle.bt_check.specs.Display.{line_text}
 use Rattle.bt_check.specs.Fault.{make_fault, out_of_memory, status_of, words_fault}
@@ -16,10 +18,12 @@ use Rattle.bt_commands.specs.Make.{IsMakeFault, IsMakeTorrent}
 use Rattle.bt_check.specs.Report.{IsReportOn, is_complete_report, is_faulty_report, report_text}
 use Rattle.bt_check.specs.Show.{show_text}
 use Rattle.bt_check.specs.TorrentFile.{HasText, IsLoadFault}
+use Rattle.bt_commands.specs.declared.command_line.FetchTask.{FetchTask}
 use Rattle.bt_commands.specs.declared.command_line.MakeTask.{MakeTask}
+use Rattle.bt_commands.specs.declared.command_line.SeedTask.{SeedTask}
 use Rattle.bt_check.specs.declared.torrent_file.Source.{Source}
 use Rattle.bt_commands.specs.declared.command_line.Task.{Task}
-use Rattle.bt_commands.specs.declared.command_line.Task.TheVariants.{Make, Show, Check, Replay}
+use Rattle.bt_commands.specs.declared.command_line.Task.TheVariants.{Make, Show, Check, Seed, Fetch, Replay}
 use Rattle.bt_check.specs.declared.fault.Fault.{Fault}
 use Rattle.bt_commands.specs.declared.make.NewTorrent.{NewTorrent}
 use Rattle.bt_check.specs.declared.report.FileFinding.{FileFinding}
@@ -57,6 +61,16 @@ pub record IsCheckResult (source : Source) (status : ℕ) (text : List ℕ) : Ty
   pub lines : text ≡ report_text found
   pub answer : status ≡ (if is_complete_report found then 0 else 1)
 
+-- the torrent's files were served, as said
+abbrev pub IsSeedResult : SeedTask → (old new : Option (List ℕ)) → ℕ → Type 0
+IsSeedResult task old new status =
+    IsSeed task.torrent.is_info task.dir.now task.service.serving old new status
+
+-- the torrent's files were fetched from the peers, as far as these had them
+abbrev pub IsFetchResult : FetchTask → (old new : Option (List ℕ)) → ℕ → Type 0
+IsFetchResult task old new status =
+    IsFetch task.torrent.is_info task.dir.now task.peers.items old new status
+
 -- a text was written, and it and the status are as wanted
 pub record Writes (wanted : ℕ → List ℕ → Type 0) (old new : Option (List ℕ)) (status : ℕ) : Type 0 where
   pub text : List ℕ
@@ -69,6 +83,8 @@ abbrev pub IsDone : Task → (given left old new : Option (List ℕ)) → ℕ �
 IsDone (Make request) given left old new status = Writes (IsMakeResult request) old new status
 IsDone (Show torrent) given left old new status = Writes (IsShowResult torrent) old new status
 IsDone (Check torrent dir) given left old new status = Writes (IsCheckResult torrent) old new status
+IsDone (Seed task) given left old new status = IsSeedResult task old new status
+IsDone (Fetch task) given left old new status = IsFetchResult task old new status
 IsDone Replay given left old new status = IsReplay given left old new status
 
 -- ---- what is not done
@@ -78,11 +94,13 @@ pub record IsMakeEnd (request : MakeTask) (fault : Fault) : Type 0 where
   pub cause : IsMakeFault request.name.now request.piece_length fault
   pub unlawful : ¬ IsPieceLength request.piece_length → fault ≡ make_fault PieceLength
 
--- a fault that can end a task: `show` and `check` end as the reading of a torrent can
+-- a fault that can end a task: the commands on a torrent end as the reading of one can
 abbrev pub IsTaskFault : Task → Fault → Type 0
 IsTaskFault (Make request) fault = IsMakeEnd request fault
 IsTaskFault (Show torrent) fault = IsLoadFault torrent.is_info fault
 IsTaskFault (Check torrent dir) fault = IsLoadFault torrent.is_info fault
+IsTaskFault (Seed task) fault = IsLoadFault task.torrent.is_info fault
+IsTaskFault (Fetch task) fault = IsLoadFault task.torrent.is_info fault
 IsTaskFault Replay fault = ⊥
 
 -- a fault ended a task; where it is a refusal, nothing was written

@@ -1,16 +1,23 @@
 //! What the words of the command line ask for.
-ghost use Rattle.std.specs.Prelude.{◌≡◌, ℕ, map, false, codes, string_bytes, IfOk, IfErr, IfSome, IfNone};
-ghost use Rattle.clap.specs.Words.{app_of, found_of, kind_of, new_app, rows_of, rule_of, subcommand_rows_of, with_rule, with_subcommand};
-ghost use Rattle.clap.specs.declared.builder.command.Command.TheViews.{out-Command as fields_of};
-ghost use Rattle.bt_commands.specs.CommandLine.{with_version, with_demands, IsTaskOf, IsNoTaskOf, IsTaskIn, IsMakeTaskIn, IsSourceIn, IsFlagIn, IsNumber, make_app, show_app, check_app, replay_app, top_app, file_app, program_app, required_rule, name_rule, piece_length_rule, info_rule};
+ghost use Rattle.std.specs.Prelude.{◌≡◌, ℕ, Some, List, map, codes, string_bytes, IfOk, IfErr};
+ghost use Rattle.std.specs.Bool.{Decides};
+ghost use Rattle.std.specs.List.{AllZip};
+ghost use Rattle.clap.specs.Words.{all_of, first_of, found_of, kind_of, rows_of, subcommand_rows_of};
+ghost use Rattle.bt_commands.specs.CommandLine.{AsksFor, IsTaskOf, IsNoTaskOf, IsTaskIn, IsMakeTaskIn, IsSeedTaskIn, IsServiceIn, IsServingIn, IsFetchTaskIn, IsSourceIn, IsFlagIn, IsGiven};
+ghost use Rattle.bt_commands.specs.CommandLineSteps.{IsRefusalFor, TellsOf};
+ghost use Rattle.bt_commands.specs.Values.{IsPeerWord};
+ghost use Rattle.bt_commands.specs.declared.command_line.Refusal.TheVariants.{OutOfMemory};
 
+use crate::subcommands::commands;
+use crate::values::{is_address, number_in, peer_in, port_in};
 use bt_check::Source;
+use bt_transfer::{Peer, Service, Serving};
 use clap::error::ErrorKind;
-use clap::{Arg, ArgAction, ArgMatches, Command, Error};
-use std::alloc::{AllocError, Global};
+use clap::{ArgMatches, Command, Error};
+use std::alloc::{AllocError, AllocFailed, Global};
 
 /// What the program is asked to do.
-#[derive(Clone, Copy, Debug, PartialEq, Eq)]
+#[derive(Debug, Drop)]
 pub enum Task<'a> {
     /// Write the torrent of a folder.
     Make(MakeTask<'a>),
@@ -18,6 +25,10 @@ pub enum Task<'a> {
     Show { torrent: Source<'a> },
     /// Check the data files in a folder against a torrent.
     Check { torrent: Source<'a>, dir: &'a str },
+    /// Serve the data files in a folder to peers.
+    Seed(SeedTask<'a>),
+    /// Fetch the data files of a torrent from peers.
+    Fetch(FetchTask<'a>),
     /// Run the script of events that standard input has.
     Replay,
 }
@@ -31,30 +42,64 @@ pub struct MakeTask<'a> {
     pub piece_length: u32,
 }
 
-const ABOUT: &str =
-    "Makes, shows and checks BitTorrent v2 torrents, and replays scripts of events.";
+/// The torrent whose files are served, the folder in which they lie, and where peers connect.
+#[derive(Clone, Copy, Debug, PartialEq, Eq)]
+pub struct SeedTask<'a> {
+    pub torrent: Source<'a>,
+    pub dir: &'a str,
+    pub service: Service<'a>,
+}
 
-const VERSION: &str = "0.1.0";
+/// The torrent whose files are fetched, the folder that they are put in, and the peers, to be tried in turn: one
+/// at least.
+#[derive(Debug, Drop)]
+pub struct FetchTask<'a> {
+    pub torrent: Source<'a>,
+    pub dir: &'a str,
+    pub peers: Vec<Peer<'a>>,
+}
 
-const TORRENT_HELP: &str = "The torrent file";
+/// Why words that are well formed ask for no task.
+#[derive(Clone, Copy, Debug, PartialEq, Eq)]
+enum Refusal {
+    OutOfMemory,
+    /// A value is missing, or what stands in its place is none: the text says what is wanted.
+    Value(&'static str),
+}
 
-const MAKE_ABOUT: &str = "Writes the torrent of a folder, and prints its infohash";
+impl From<AllocError> for Refusal {
+    ghost from_gives = { λ _ refusal. refusal ≡ OutOfMemory };
 
-const MAKE_DIR_HELP: &str = "The folder whose files the torrent is made of";
+    fn from(_error: AllocError) -> Self {
+        Refusal::OutOfMemory
+    }
+}
 
-const OUT_HELP: &str = "The file that the torrent is written to";
+impl<T: Drop> From<AllocFailed<T>> for Refusal {
+    ghost from_gives = { λ _ refusal. refusal ≡ OutOfMemory };
 
-const NAME_HELP: &str = "The name that the torrent gives its files as a whole";
+    fn from(_error: AllocFailed<T>) -> Self {
+        Refusal::OutOfMemory
+    }
+}
 
-const SHOW_ABOUT: &str = "Prints what a torrent says";
+const COMMAND_WANTED: &str = "a command is wanted";
 
-const CHECK_ABOUT: &str =
-    "Tells which files of a folder are those of the torrent, and changes nothing";
+const WORD_WANTED: &str = "a word is missing";
 
-const CHECK_DIR_HELP: &str = "The folder in which the torrent's files lie";
+const PIECE_LENGTH_WANTED: &str =
+    "--piece-length takes decimal digits: a power of two from 16384 to 268435456";
 
-const REPLAY_ABOUT: &str =
-    "Runs the script of events on standard input over files in memory, and prints what they answer";
+const SERVING_WANTED: &str = "one of --serve N and --forever is wanted, and not both";
+
+const COUNT_WANTED: &str = "--serve takes decimal digits: a number from 0 to 4294967295";
+
+const ADDRESS_WANTED: &str = "--listen takes an IPv4 or IPv6 address";
+
+const PORT_WANTED: &str = "--port takes decimal digits: a number from 0 to 65535";
+
+const PEER_WANTED: &str =
+    "a peer is HOST:PORT, with a port in decimal digits: a number from 0 to 65535";
 
 /// Reads the words that follow the program's name. Where they ask for help, or are refused, the error has the
 /// text.
@@ -64,56 +109,219 @@ pub fn parse<'a>(alloc: Global, words: &'a [String]) -> Result<Task<'a>, Error>
 {
     let mut command = commands(alloc)?;
     let matches = command.try_get_matches_from_mut(words)?;
-    if let Some(task) = task_of(&matches) {
-        return Ok(task);
+    match task_of(alloc, &matches) {
+        Ok(task) => Ok(task),
+        Err(refusal) => Err(error_of(&mut command, refusal)),
     }
-    Err(command.error(
-        ErrorKind::ValueValidation,
-        "--piece-length takes decimal digits: a power of two from 16384 to 268435456",
-    )?)
 }
 
-/// The task that the words ask for; none where a number is refused.
-fn task_of<'a>(matches: &ArgMatches<'a>) -> Option<Task<'a>>
-    ensures some { IfSome result (IsTaskIn (subcommand_rows_of matches.now)) }
-    ensures none { IfNone result ((task : Task) → ¬ IsTaskIn (subcommand_rows_of matches.now) task) }
+/// The error that tells of a refusal.
+fn error_of(command: &mut Command<'_>, refusal: Refusal) -> Error
+    ensures { TellsOf refusal (kind_of result) }
 {
-    if let Some(make) = matches.subcommand_matches("make") {
-        return Some(Task::Make(make_task_of(make)?));
+    match refusal {
+        Refusal::OutOfMemory => Error::from(AllocError),
+        Refusal::Value(wanted) => match command.error(ErrorKind::ValueValidation, wanted) {
+            Ok(error) => error,
+            Err(memory) => Error::from(memory),
+        },
     }
-    if let Some(show) = matches.subcommand_matches("show") {
-        let torrent = source_of(show)?;
-        return Some(Task::Show { torrent });
-    }
-    if matches.subcommand_matches("replay").is_some() {
-        return Some(Task::Replay);
-    }
-    let check = matches.subcommand_matches("check")?;
-    let torrent = source_of(check)?;
-    let dir = check.get_str("DIR")?;
-    Some(Task::Check { torrent, dir })
 }
 
-fn make_task_of<'a>(matches: &ArgMatches<'a>) -> Option<MakeTask<'a>>
-    ensures some { IfSome result (IsMakeTaskIn (rows_of (found_of matches.now))) }
-    ensures none { IfNone result
-        ((request : MakeTask) → ¬ IsMakeTaskIn (rows_of (found_of matches.now)) request) }
+/// The task that the words ask for.
+fn task_of<'a>(alloc: Global, matches: &ArgMatches<'a>) -> Result<Task<'a>, Refusal>
+    ensures task { IfOk result (IsTaskIn (subcommand_rows_of matches.now)) }
+    ensures refused { IfErr result
+        (IsRefusalFor ((task : Task) → ¬ IsTaskIn (subcommand_rows_of matches.now) task)) }
 {
-    Some(MakeTask {
-        dir: matches.get_str("DIR")?,
-        out: matches.get_str("OUT")?,
-        name: matches.get_str("name")?,
-        piece_length: decimal(matches.get_str("piece-length")?)?,
-    })
+    match matches.subcommand() {
+        Some((name, found)) => task_named(alloc, name, found),
+        None => Err(Refusal::Value(COMMAND_WANTED)),
+    }
 }
 
-fn source_of<'a>(matches: &ArgMatches<'a>) -> Option<Source<'a>>
-    ensures some { IfSome result (IsSourceIn (rows_of (found_of matches.now))) }
-    ensures none { IfNone result ((source : Source) → ¬ IsSourceIn (rows_of (found_of matches.now)) source) }
+/// The task of a subcommand.
+fn task_named<'a>(
+    alloc: Global,
+    name: &str,
+    matches: &ArgMatches<'a>,
+) -> Result<Task<'a>, Refusal>
+    ensures task { IfOk result (AsksFor name.now (rows_of (found_of matches.now))) }
+    ensures refused { IfErr result
+        (IsRefusalFor ((task : Task) → ¬ AsksFor name.now (rows_of (found_of matches.now)) task)) }
+{
+    match name {
+        "make" => make_task(matches),
+        "show" => show_task(matches),
+        "check" => check_task(matches),
+        "seed" => seed_task(matches),
+        "fetch" => fetch_task(alloc, matches),
+        "replay" => Ok(Task::Replay),
+        _ => Err(Refusal::Value(COMMAND_WANTED)),
+    }
+}
+
+fn make_task<'a>(matches: &ArgMatches<'a>) -> Result<Task<'a>, Refusal>
+    ensures task { IfOk result (AsksFor (codes "make") (rows_of (found_of matches.now))) }
+    ensures refused { IfErr result (IsRefusalFor
+        ((task : Task) → ¬ AsksFor (codes "make") (rows_of (found_of matches.now)) task)) }
+{
+    let request = make_task_of(matches)?;
+    Ok(Task::Make(request))
+}
+
+fn show_task<'a>(matches: &ArgMatches<'a>) -> Result<Task<'a>, Refusal>
+    ensures task { IfOk result (AsksFor (codes "show") (rows_of (found_of matches.now))) }
+    ensures refused { IfErr result (IsRefusalFor
+        ((task : Task) → ¬ AsksFor (codes "show") (rows_of (found_of matches.now)) task)) }
+{
+    let torrent = source_of(matches)?;
+    Ok(Task::Show { torrent })
+}
+
+fn check_task<'a>(matches: &ArgMatches<'a>) -> Result<Task<'a>, Refusal>
+    ensures task { IfOk result (AsksFor (codes "check") (rows_of (found_of matches.now))) }
+    ensures refused { IfErr result (IsRefusalFor
+        ((task : Task) → ¬ AsksFor (codes "check") (rows_of (found_of matches.now)) task)) }
+{
+    let torrent = source_of(matches)?;
+    let dir = word_of(matches, "DIR")?;
+    Ok(Task::Check { torrent, dir })
+}
+
+fn seed_task<'a>(matches: &ArgMatches<'a>) -> Result<Task<'a>, Refusal>
+    ensures task { IfOk result (AsksFor (codes "seed") (rows_of (found_of matches.now))) }
+    ensures refused { IfErr result (IsRefusalFor
+        ((task : Task) → ¬ AsksFor (codes "seed") (rows_of (found_of matches.now)) task)) }
+{
+    let torrent = source_of(matches)?;
+    let dir = word_of(matches, "DIR")?;
+    let service = service_of(matches)?;
+    Ok(Task::Seed(SeedTask {
+        torrent,
+        dir,
+        service,
+    }))
+}
+
+fn fetch_task<'a>(alloc: Global, matches: &ArgMatches<'a>) -> Result<Task<'a>, Refusal>
+    ensures task { IfOk result (AsksFor (codes "fetch") (rows_of (found_of matches.now))) }
+    ensures refused { IfErr result (IsRefusalFor
+        ((task : Task) → ¬ AsksFor (codes "fetch") (rows_of (found_of matches.now)) task)) }
+{
+    let torrent = source_of(matches)?;
+    let dir = word_of(matches, "DIR")?;
+    let words = words_of(matches, "PEER")?;
+    let peers = peers_of(alloc, words)?;
+    Ok(Task::Fetch(FetchTask {
+        torrent,
+        dir,
+        peers,
+    }))
+}
+
+fn make_task_of<'a>(matches: &ArgMatches<'a>) -> Result<MakeTask<'a>, Refusal>
+    ensures task { IfOk result (IsMakeTaskIn (rows_of (found_of matches.now))) }
+    ensures refused { IfErr result (IsRefusalFor
+        ((request : MakeTask) → ¬ IsMakeTaskIn (rows_of (found_of matches.now)) request)) }
+{
+    let dir = word_of(matches, "DIR")?;
+    let out = word_of(matches, "OUT")?;
+    let name = word_of(matches, "name")?;
+    let text = word_of(matches, "piece-length")?;
+    match number_in(text) {
+        Some(piece_length) => Ok(MakeTask {
+            dir,
+            out,
+            name,
+            piece_length,
+        }),
+        None => Err(Refusal::Value(PIECE_LENGTH_WANTED)),
+    }
+}
+
+/// Where a seed listens, and how many connections it serves.
+fn service_of<'a>(matches: &ArgMatches<'a>) -> Result<Service<'a>, Refusal>
+    ensures service { IfOk result (IsServiceIn (rows_of (found_of matches.now))) }
+    ensures refused { IfErr result (IsRefusalFor
+        ((service : Service) → ¬ IsServiceIn (rows_of (found_of matches.now)) service)) }
+{
+    let serving = serving_of(matches)?;
+    let address = word_of(matches, "listen")?;
+    if !is_address(address) {
+        return Err(Refusal::Value(ADDRESS_WANTED));
+    }
+    let digits = word_of(matches, "port")?;
+    match port_in(digits) {
+        Some(port) => Ok(Service {
+            address,
+            port,
+            serving,
+        }),
+        None => Err(Refusal::Value(PORT_WANTED)),
+    }
+}
+
+/// How many connections are served: one of the two words that say it must be there, and not both.
+fn serving_of(matches: &ArgMatches<'_>) -> Result<Serving, Refusal>
+    ensures serving { IfOk result (IsServingIn (rows_of (found_of matches.now))) }
+    ensures refused { IfErr result (IsRefusalFor
+        ((serving : Serving) → ¬ IsServingIn (rows_of (found_of matches.now)) serving)) }
+{
+    let is_forever = is_given(matches, "forever");
+    match matches.get_str("serve") {
+        Some(digits) => {
+            if is_forever {
+                return Err(Refusal::Value(SERVING_WANTED));
+            }
+            match number_in(digits) {
+                Some(count) => Ok(Serving::Count(count)),
+                None => Err(Refusal::Value(COUNT_WANTED)),
+            }
+        }
+        None => {
+            if is_forever {
+                return Ok(Serving::Forever);
+            }
+            Err(Refusal::Value(SERVING_WANTED))
+        }
+    }
+}
+
+/// Whether a flag is among the words.
+fn is_given(matches: &ArgMatches<'_>, id: &str) -> bool
+    ensures { Decides result (IsGiven id.now (rows_of (found_of matches.now))) }
+{
+    match matches.get_str(id) {
+        Some(text) => text == "true",
+        None => false,
+    }
+}
+
+/// The peers that words name, in turn.
+fn peers_of<'a>(alloc: Global, words: &[&'a str]) -> Result<Vec<Peer<'a>>, Refusal>
+    ensures peers { IfOk result (λ peers. AllZip IsPeerWord (map (λ word. word.now) words.now) peers.items) }
+    ensures refused { IfErr result (IsRefusalFor
+        ((peers : List Peer) → ¬ AllZip IsPeerWord (map (λ word. word.now) words.now) peers)) }
+{
+    let mut peers = Vec::new(alloc);
+    for word in words {
+        let Some(peer) = peer_in(word) else {
+            return Err(Refusal::Value(PEER_WANTED));
+        };
+        peers.push(peer)?;
+    }
+    Ok(peers)
+}
+
+fn source_of<'a>(matches: &ArgMatches<'a>) -> Result<Source<'a>, Refusal>
+    ensures source { IfOk result (IsSourceIn (rows_of (found_of matches.now))) }
+    ensures refused { IfErr result (IsRefusalFor
+        ((source : Source) → ¬ IsSourceIn (rows_of (found_of matches.now)) source)) }
 {
     let is_info = has_info(matches);
-    let path = matches.get_str("TORRENT")?;
-    Some(Source { path, is_info })
+    let path = word_of(matches, "TORRENT")?;
+    Ok(Source { path, is_info })
 }
 
 /// Whether the flag `--info` is among the words.
@@ -123,158 +331,27 @@ fn has_info(matches: &ArgMatches<'_>) -> bool
     matches.get_flag("info")
 }
 
-/// The number that decimal digits write, if it fits. Leading zeros are allowed, a sign is not.
-fn decimal(text: &str) -> Option<u32>
-    ensures some { IfSome result (IsNumber text.now) }
-    ensures none { IfNone result ((n : ℕ) → ¬ IsNumber text.now n) }
+/// The word of this id.
+fn word_of<'a>(matches: &ArgMatches<'a>, id: &str) -> Result<&'a str, Refusal>
+    ensures word { IfOk result (λ word. first_of id.now (rows_of (found_of matches.now)) ≡ Some word.now) }
+    ensures refused { IfErr result (IsRefusalFor
+        ((text : List ℕ) → ¬ (first_of id.now (rows_of (found_of matches.now)) ≡ Some text))) }
 {
-    if text.starts_with('+') {
-        return None;
+    match matches.get_str(id) {
+        Some(word) => Ok(word),
+        None => Err(Refusal::Value(WORD_WANTED)),
     }
-    text.parse::<u32>().ok()
 }
 
-/// The commands and their words.
-fn commands<'a>(alloc: Global) -> Result<Command<'a>, AllocError>
-    ensures { IfOk result (λ command. app_of command ≡ program_app) }
+/// All words of this id.
+fn words_of<'b, 'a>(matches: &'b ArgMatches<'a>, id: &str) -> Result<&'b [&'a str], Refusal>
+    ensures words { IfOk result (λ words. all_of id.now (rows_of (found_of matches.now))
+        ≡ Some (map (λ word. word.now) words.now)) }
+    ensures refused { IfErr result (IsRefusalFor
+        ((texts : List (List ℕ)) → ¬ (all_of id.now (rows_of (found_of matches.now)) ≡ Some texts))) }
 {
-    with_command(file_commands(alloc)?, replay_command(alloc))
-}
-
-/// The program with the commands that work on torrents and their files.
-fn file_commands<'a>(alloc: Global) -> Result<Command<'a>, AllocError>
-    ensures { IfOk result (λ command. app_of command ≡ file_app) }
-{
-    let command = with_command(top_command(alloc)?, make_command(alloc)?)?;
-    let command = with_command(command, show_command(alloc)?)?;
-    with_command(command, check_command(alloc)?)
-}
-
-/// A command with a subcommand more.
-fn with_command<'a>(
-    command: Command<'a>,
-    subcommand: Command<'a>,
-) -> Result<Command<'a>, AllocError>
-    requires { (fields_of subcommand).has_globals ≡ false }
-    ensures { IfOk result
-        (λ made. app_of made ≡ with_subcommand (app_of command.entry) (app_of subcommand.entry).top) }
-{
-    command.subcommand(subcommand)
-}
-
-/// The program, of which each command is a subcommand.
-fn top_command<'a>(alloc: Global) -> Result<Command<'a>, AllocError>
-    ensures { IfOk result (λ command. app_of command ≡ top_app) }
-{
-    let command = Command::new(alloc, "btseed").bin_name("btseed")?;
-    Ok(with_demands(with_version(command, ABOUT, VERSION)))
-}
-
-/// A command that tells what it is for, and its version.
-fn with_version<'a>(command: Command<'a>, about: &'a str, version: &'a str) -> Command<'a>
-    ensures { app_of result ≡ with_version (app_of command.entry) }
-{
-    command.about(about).version(version)
-}
-
-/// A command whose words begin behind the program's name: a subcommand must be there, and with no word at all
-/// there is help.
-fn with_demands<'a>(command: Command<'a>) -> Command<'a>
-    ensures { app_of result ≡ with_demands (app_of command.entry) }
-{
-    command
-        .no_binary_name(true)
-        .subcommand_required(true)
-        .arg_required_else_help(true)
-}
-
-fn make_command<'a>(alloc: Global) -> Result<Command<'a>, AllocError>
-    ensures words { IfOk result (λ command. app_of command ≡ make_app) }
-    ensures local { IfOk result (λ command. (fields_of command).has_globals ≡ false) }
-{
-    let command = plain_command(alloc, "make", MAKE_ABOUT);
-    let command = with_word(command, needed_word(alloc, "DIR", MAKE_DIR_HELP))?;
-    let command = with_word(command, needed_word(alloc, "OUT", OUT_HELP))?;
-    let command = with_word(command, name_word(alloc))?;
-    with_word(command, piece_length_word(alloc))
-}
-
-fn show_command<'a>(alloc: Global) -> Result<Command<'a>, AllocError>
-    ensures words { IfOk result (λ command. app_of command ≡ show_app) }
-    ensures local { IfOk result (λ command. (fields_of command).has_globals ≡ false) }
-{
-    let command = plain_command(alloc, "show", SHOW_ABOUT);
-    let command = with_word(command, needed_word(alloc, "TORRENT", TORRENT_HELP))?;
-    with_word(command, info_flag(alloc))
-}
-
-fn check_command<'a>(alloc: Global) -> Result<Command<'a>, AllocError>
-    ensures words { IfOk result (λ command. app_of command ≡ check_app) }
-    ensures local { IfOk result (λ command. (fields_of command).has_globals ≡ false) }
-{
-    let command = plain_command(alloc, "check", CHECK_ABOUT);
-    let command = with_word(command, needed_word(alloc, "TORRENT", TORRENT_HELP))?;
-    let command = with_word(command, needed_word(alloc, "DIR", CHECK_DIR_HELP))?;
-    with_word(command, info_flag(alloc))
-}
-
-fn replay_command<'a>(alloc: Global) -> Command<'a>
-    ensures words { app_of result ≡ replay_app }
-    ensures local { (fields_of result).has_globals ≡ false }
-{
-    plain_command(alloc, "replay", REPLAY_ABOUT)
-}
-
-/// A command of this name, with no words.
-fn plain_command<'a>(alloc: Global, name: &'a str, about: &'a str) -> Command<'a>
-    ensures words { app_of result ≡ new_app name.now }
-    ensures local { (fields_of result).has_globals ≡ false }
-{
-    Command::new(alloc, name).about(about)
-}
-
-/// A command with a word more.
-fn with_word<'a>(command: Command<'a>, word: Arg<'a>) -> Result<Command<'a>, AllocError>
-    requires { word.global ≡ false }
-    ensures words { IfOk result
-        (λ made. app_of made ≡ with_rule (app_of command.entry) (rule_of word.entry)) }
-    ensures local { IfOk result
-        (λ made. (fields_of made).has_globals ≡ (fields_of command.entry).has_globals) }
-{
-    command.arg(word)
-}
-
-/// A word that must be there, by its place.
-fn needed_word<'a>(alloc: Global, id: &'a str, help: &'a str) -> Arg<'a>
-    ensures rule { rule_of result ≡ required_rule id.now }
-    ensures local { result.global ≡ false }
-{
-    Arg::new(alloc, id).required(true).help(help)
-}
-
-fn name_word<'a>(alloc: Global) -> Arg<'a>
-    ensures rule { rule_of result ≡ name_rule }
-    ensures local { result.global ≡ false }
-{
-    needed_word(alloc, "name", NAME_HELP).long("name")
-}
-
-fn piece_length_word<'a>(alloc: Global) -> Arg<'a>
-    ensures rule { rule_of result ≡ piece_length_rule }
-    ensures local { result.global ≡ false }
-{
-    Arg::new(alloc, "piece-length")
-        .long("piece-length")
-        .default_value("262144")
-        .help("How many bytes a piece has: a power of two from 16384 to 268435456")
-}
-
-fn info_flag<'a>(alloc: Global) -> Arg<'a>
-    ensures rule { rule_of result ≡ info_rule }
-    ensures local { result.global ≡ false }
-{
-    Arg::new(alloc, "info")
-        .long("info")
-        .action(ArgAction::SetTrue)
-        .help("The torrent file holds the info dictionary alone")
+    match matches.get_strs(id) {
+        Some(words) => Ok(words),
+        None => Err(Refusal::Value(WORD_WANTED)),
+    }
 }

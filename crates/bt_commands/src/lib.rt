@@ -7,9 +7,11 @@ mod folder;
 mod limits;
 mod make;
 mod program;
+mod subcommands;
+mod values;
 
 pub use atomic_file::{InfohashLine, publish};
-pub use command_line::{MakeTask, Task};
+pub use command_line::{FetchTask, MakeTask, SeedTask, Task};
 pub use folder::files_in;
 pub use make::{FolderFile, NewTorrent, open_file};
 pub use program::{run, start};

@@ -5,25 +5,34 @@ ghost use Rattle.std.specs.Process.{exit_status};
 ghost use Rattle.clap.specs.Words.{kind_of};
 ghost use Rattle.bt_check.specs.Fault.{device, out_of_memory, status_of, words_fault};
 ghost use Rattle.bt_commands.specs.CommandLine.{IsTaskOf};
-ghost use Rattle.bt_commands.specs.Program.{IsCheckResult, IsDone, IsExplanation, IsMakeResult, IsRun, IsShowResult, IsStart, IsTaskEnd, Writes};
+ghost use Rattle.bt_commands.specs.Program.{IsCheckResult, IsDone, IsExplanation, IsFetchResult, IsMakeResult, IsRun, IsSeedResult, IsShowResult, IsStart, IsTaskEnd, Writes};
 ghost use Rattle.bt_commands.specs.ProgramSteps.{status_after};
-ghost use Rattle.bt_commands.specs.declared.command_line.Task.TheVariants.{Make, Show, Check, Replay};
+ghost use Rattle.bt_commands.specs.declared.command_line.Task.TheVariants.{Make, Show, Check, Seed, Fetch, Replay};
 
 use crate::atomic_file::{InfohashLine, publish};
-use crate::command_line::{MakeTask, Task, parse};
+use crate::command_line::{FetchTask, MakeTask, SeedTask, Task, parse};
 use crate::make::make;
 use bt_check::{BUFFER_LEN, Fault, Source, check_torrent, load, show_torrent};
 use bt_replay::replay;
+use bt_transfer::{fetch, seed};
 use clap::Error;
 use clap::error::ErrorKind;
 use std::env::{self, Env};
 use std::io::{self, Read, Write};
+use std::net::Net;
 use std::process::ExitCode;
 use std::rt::Files;
 
 /// Runs the program on the words of its environment, and gives the status that it exits with.
-pub fn start<R: Env + Files + AllocGlobal + Clone + Drop, I: Read, O: Write, E: Write>(
+pub fn start<
+    R: Env + Files + AllocGlobal + Clone + Drop,
+    N: Net,
+    I: Read,
+    O: Write,
+    E: Write,
+>(
     rt: &R,
+    net: &N,
     reader: &mut I,
     writer: &mut O,
     faults: &mut E,
@@ -33,7 +42,7 @@ pub fn start<R: Env + Files + AllocGlobal + Clone + Drop, I: Read, O: Write, E: 
     ensures faultless { exit_status result ≤ 1 → Keeps (E.contents faults.old) (E.contents faults.new) }
 {
     let status = match words(rt) {
-        Ok(words) => run(rt, words.as_slice(), reader, writer, faults),
+        Ok(words) => run(rt, net, words.as_slice(), reader, writer, faults),
         Err(fault) => report_fault(fault, faults),
     };
     ExitCode::from(status)
@@ -55,8 +64,15 @@ fn words(rt: &(impl Env + AllocGlobal)) -> Result<Vec<String>, Fault>
 /// failed and 4 for out of memory.
 ///
 /// A script comes from the reader. Results and help go to the writer, faults to `faults`.
-pub fn run<R: Files + AllocGlobal + Clone + Drop, I: Read, O: Write, E: Write>(
+pub fn run<
+    R: Files + AllocGlobal + Clone + Drop,
+    N: Net,
+    I: Read,
+    O: Write,
+    E: Write,
+>(
     rt: &R,
+    net: &N,
     words: &[String],
     reader: &mut I,
     writer: &mut O,
@@ -77,15 +93,22 @@ pub fn run<R: Files + AllocGlobal + Clone + Drop, I: Read, O: Write, E: Write>(
     // where there is a result, no fault is told
     ensures faultless { result ≤ 1 → Keeps (E.contents faults.old) (E.contents faults.new) }
 {
-    match attempt(rt, words, reader, writer, faults) {
+    match attempt(rt, net, words, reader, writer, faults) {
         Ok(status) => status,
         Err(fault) => report_fault(fault, faults),
     }
 }
 
 /// Reads the words, and does what they ask for.
-fn attempt<R: Files + AllocGlobal + Clone + Drop, I: Read, O: Write, E: Write>(
+fn attempt<
+    R: Files + AllocGlobal + Clone + Drop,
+    N: Net,
+    I: Read,
+    O: Write,
+    E: Write,
+>(
     rt: &R,
+    net: &N,
     words: &[String],
     reader: &mut I,
     writer: &mut O,
@@ -98,14 +121,21 @@ fn attempt<R: Files + AllocGlobal + Clone + Drop, I: Read, O: Write, E: Write>(
     ensures faultless { status_after result ≤ 1 → Keeps (E.contents faults.old) (E.contents faults.new) }
 {
     match parse(rt.alloc(), words) {
-        Ok(task) => perform(rt, task, reader, writer, faults),
+        Ok(task) => perform(rt, net, task, reader, writer, faults),
         Err(error) => explain(&error, writer, faults),
     }
 }
 
 /// Does a task, and returns its status.
-fn perform<R: Files + AllocGlobal + Clone + Drop, I: Read, O: Write, E: Write>(
+fn perform<
+    R: Files + AllocGlobal + Clone + Drop,
+    N: Net,
+    I: Read,
+    O: Write,
+    E: Write,
+>(
     rt: &R,
+    net: &N,
     task: Task<'_>,
     reader: &mut I,
     writer: &mut O,
@@ -121,6 +151,8 @@ fn perform<R: Files + AllocGlobal + Clone + Drop, I: Read, O: Write, E: Write>(
         Task::Make(request) => perform_make(rt, request, writer),
         Task::Show { torrent } => perform_show(rt, torrent, writer),
         Task::Check { torrent, dir } => perform_check(rt, torrent, dir, writer),
+        Task::Seed(task) => perform_seed(rt, net, task, writer),
+        Task::Fetch(task) => perform_fetch(rt, net, task, writer),
         Task::Replay => Ok(replay(rt.alloc(), reader, writer, faults)),
     }
 }
@@ -172,6 +204,34 @@ fn perform_check<R: Files + AllocGlobal + Clone + Drop, O: Write>(
     let torrent = load(rt, source, &mut buffer)?;
     let summary = check_torrent(rt, &torrent, dir, writer)?;
     summary.outcome()
+}
+
+fn perform_seed<R: Files + AllocGlobal + Clone + Drop, N: Net, O: Write>(
+    rt: &R,
+    net: &N,
+    task: SeedTask<'_>,
+    writer: &mut O,
+) -> Result<u8, Fault>
+    ensures done { IfOk result
+        (IsSeedResult task.entry (O.contents writer.old) (O.contents writer.new)) }
+    ensures ended { IfErr result
+        (IsTaskEnd (Seed task.entry) (O.contents writer.old) (O.contents writer.new)) }
+{
+    seed(rt, net, task.torrent, task.dir, task.service, writer)
+}
+
+fn perform_fetch<R: Files + AllocGlobal + Clone + Drop, N: Net, O: Write>(
+    rt: &R,
+    net: &N,
+    task: FetchTask<'_>,
+    writer: &mut O,
+) -> Result<u8, Fault>
+    ensures done { IfOk result
+        (IsFetchResult task.entry (O.contents writer.old) (O.contents writer.new)) }
+    ensures ended { IfErr result
+        (IsTaskEnd (Fetch task.entry) (O.contents writer.old) (O.contents writer.new)) }
+{
+    fetch(rt, net, task.torrent, task.dir, &task.peers, writer)
 }
 
 /// Prints help, or why the words are refused.

@@ -6,6 +6,7 @@ use crate::stream::{both_ways, connected};
 use bt_peers::Link;
 use std::marker::Model;
 use std::net::Net;
+use std::time::Duration;
 
 /// A peer at a port of a host, which is a name or an address.
 #[derive(Drop)]
@@ -13,6 +14,7 @@ pub struct TcpLink<'a, R: Net> {
     net: &'a R,
     host: &'a str,
     port: u16,
+    idle: Duration,
     dials: u64,
     failures: u64,
 }
@@ -29,14 +31,16 @@ impl<'a, R: Net> Model for TcpLink<'a, R> {
 }
 
 impl<'a, R: Net> TcpLink<'a, R> {
-    /// A link that was not dialled yet.
-    pub fn new(net: &'a R, host: &'a str, port: u16) -> Self
+    /// A link that was not dialled yet. A peer that is idle for so long is given up; no time at all is refused
+    /// at each dial.
+    pub fn new(net: &'a R, host: &'a str, port: u16, idle: Duration) -> Self
         ensures { result ≡ undialled }
     {
         TcpLink {
             net,
             host,
             port,
+            idle,
             dials: 0,
             failures: 0,
         }
@@ -57,9 +61,10 @@ impl<'a, R: Net> Link for TcpLink<'a, R> {
 
     fn dial(&mut self) -> Option<(R::Stream, R::Stream)> {
         self.dials += 1;
-        let reached = connected(self.net, self.host, self.port)
-            .and_then(both_ways)
-            .ok();
+        let reached = match connected(self.net, self.host, self.port) {
+            Ok(stream) => both_ways(stream, self.idle).ok(),
+            Err(_) => None,
+        };
         if reached.is_none() {
             self.failures += 1;
         }

@@ -11,6 +11,7 @@ use bt_peers::{PeerEnd, meet_peer};
 use bt_tree::NodeHash;
 use std::alloc::Global;
 use std::net::{Net, OpenListener, TcpListener};
+use std::time::Duration;
 
 /// A session takes so many turns at most.
 pub const SESSION_TURNS: u64 = 0x1_0000_0000;
@@ -35,12 +36,14 @@ pub fn port_of<L: OpenListener>(listener: &L) -> Result<u16, Fault>
     }
 }
 
-/// Waits for a connection and serves it: Unreachable where it was gone already. Errors: none could be taken.
+/// Waits for a connection and serves it, as long as its peer is not idle for so long: Unreachable where it was
+/// gone already. Errors: none could be taken.
 pub fn serve<D: Disk + Drop, H: NodeHash, R: Net>(
     _net: &R,
     alloc: Global,
     engine: &mut Engine<D, H>,
     listener: &R::Listener,
+    idle: Duration,
 ) -> Result<PeerEnd, Fault>
     requires no_peer { engine.old.state.peers ≡ [] }
     ensures served { IfOk result (λ end. IsServed D.history D.honest D.faults H.digest R.Stream.remaining
@@ -51,7 +54,7 @@ pub fn serve<D: Disk + Drop, H: NodeHash, R: Net>(
 {
     match listener.accept() {
         Ok((stream, _)) => {
-            let reached = both_ways(stream).ok();
+            let reached = both_ways(stream, idle).ok();
             Ok(meet_peer(alloc, engine, reached, false, SESSION_TURNS))
         }
         Err(_) => Err(Fault::Device),

@@ -8,7 +8,7 @@ use std::time::Duration;
 /// How many seconds each address of a host has to answer.
 pub const CONNECT_SECONDS: u64 = 20;
 
-/// How many seconds a peer may send nothing, or take nothing, before it is given up.
+/// How many seconds a peer may send nothing, or take nothing, before a program gives it up.
 pub const IDLE_SECONDS: u64 = 120;
 
 /// Connects to the first address of a host that answers. Errors: none does.
@@ -23,13 +23,12 @@ pub(crate) fn connected<R: Net>(net: &R, host: &str, port: u16) -> io::Result<R:
 }
 
 /// Makes a connection ready for a session: what is read from it, and what is written to it, which are one
-/// socket. Each write leaves at once, and a read or a write fails where the peer was idle for too long.
+/// socket. Each write leaves at once, and a read or a write fails where the peer was idle for so long.
 /// Errors: the system refuses this.
-pub(crate) fn both_ways<S: OpenStream + Drop>(stream: S) -> io::Result<(S, S)> {
-    let idle = Some(Duration::from_secs(IDLE_SECONDS));
+pub(crate) fn both_ways<S: OpenStream + Drop>(stream: S, idle: Duration) -> io::Result<(S, S)> {
     stream.set_nodelay(true)?;
-    stream.set_read_timeout(idle)?;
-    stream.set_write_timeout(idle)?;
+    stream.set_read_timeout(Some(idle))?;
+    stream.set_write_timeout(Some(idle))?;
     let writer = stream.try_clone()?;
     Ok((stream, writer))
 }

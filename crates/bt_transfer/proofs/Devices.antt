@@ -14,7 +14,7 @@ use Rattle.bt_machine.specs.Start.{device_count}
 use Rattle.bt_check.specs.Paths.{path_below}
 use Rattle.bt_transfer.specs.DataFiles.{device_paths, files_with_bytes, new_device, new_devices}
 
-enumerate_from-append : {X : Type 0} (n : ℕ) (xs ys : List X)
+pub enumerate_from-append : {X : Type 0} (n : ℕ) (xs ys : List X)
     → enumerate_from n (xs ++ ys) ≡ enumerate_from n xs ++ enumerate_from (n + length xs) ys
 enumerate_from-append n [] ys = ap (λ k. enumerate_from k ys) (sym (add-zero n))
 enumerate_from-append n (x ∷ xs) ys =

@@ -1,3 +1,6 @@
 pub mod Devices
 pub mod Adoptions
 pub mod ReportLines
+pub mod PeerLines
+pub mod OverTcp
+pub mod ConnectionLines

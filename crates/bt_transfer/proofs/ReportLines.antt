@@ -18,7 +18,7 @@ use Rattle.bt_check.specs.declared.data_file.Finding.{Finding}
 use Rattle.bt_transfer.specs.Report.{finding_of, state_line, state_lines}
 
 -- one pair more of two lists
-take_zip_more : {A B : Type 0} (xs : List A) (ys : List B) (i : ℕ) (x : A) (y : B) → slice_get xs i ≡ Some x → slice_get ys i ≡ Some y
+pub take_zip_more : {A B : Type 0} (xs : List A) (ys : List B) (i : ℕ) (x : A) (y : B) → slice_get xs i ≡ Some x → slice_get ys i ≡ Some y
     → take (i + 1) (zip xs ys) ≡ take i (zip xs ys) ++ (x, y) ∷ []
 take_zip_more xs ys i x y here there =
     let below : i < length xs = slice_get_within xs i x here in

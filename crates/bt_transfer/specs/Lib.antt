@@ -4,3 +4,8 @@ pub mod Store
 pub mod Report
 pub mod Ending
 pub mod Loading
+pub mod PeerLines
+pub mod OverTcp
+pub mod Fetch
+pub mod Connections
+pub mod Seed

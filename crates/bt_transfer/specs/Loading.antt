@@ -12,4 +12,5 @@ use Rattle.bt_transfer.specs.Store.{HasBegun, pooled_faults, pooled_history, poo
 pub record IsLoaded (is_info : Bool) (dir : List ℕ) (engine : EngineView PooledView) : Type 0 where
   pub torrent : Metainfo
   pub read : HasText is_info torrent
-  pub opened : HasBegun pooled_history pooled_honest pooled_faults sha256 torrent (new_devices dir torrent.files) engine
+  pub opened : HasBegun pooled_history pooled_honest pooled_faults sha256 torrent
+      (new_devices dir torrent.files) engine

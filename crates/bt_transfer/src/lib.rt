@@ -3,14 +3,19 @@
 #![tactic(auto)]
 
 mod adoption;
+mod command;
+mod connections;
 mod data_files;
 mod ending;
 mod loading;
 mod peer;
+mod peer_lines;
 mod report;
 mod store;
 
 pub use adoption::adopt_files;
+pub use command::fetch::fetch;
+pub use command::seed::seed;
 pub use data_files::open_devices;
 pub use ending::conclude;
 pub use loading::load_store;

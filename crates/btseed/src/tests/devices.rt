@@ -1,20 +1,14 @@
 //! Devices that fail: a runtime that stands in for the file system.
 
-use super::limits::{TOO_LONG, put_sparse};
 use super::steps::{Step, expect_bytes, expect_entries, play_in, set_up};
-use super::tools::{
-    abc_torrent, confirm, expect, folder, front, path_in, put, remove_folder, three_blocks,
-};
+use super::tools::{confirm, expect, folder, front, path_in, remove_folder, three_blocks};
 use bt_check::{Fault, found_path};
-use bt_commands::{InfohashLine, files_in, open_file, publish, start};
+use bt_commands::{InfohashLine, files_in, open_file, publish};
 use bt_meta::MakeError;
 use std::alloc::{AllocError, Allocator, Global};
-use std::env::{Env, FillError};
-use std::fs::{self, File, Metadata, OpenFile, OpenOptions, Permissions};
+use std::fs::{File, Metadata, OpenFile, OpenOptions, Permissions};
 use std::io::{self, ErrorKind, Read, Seek, SeekFrom, Write};
-use std::os::unix::fs::PermissionsExt;
 use std::path::PathBuf;
-use std::process::ExitCode;
 use std::rt::Files;
 use std::test::Fail;
 
@@ -45,7 +39,7 @@ impl Failing {
     }
 }
 
-/// The words of a command line, the host's file system, of which some calls fail, in which every folder lists these names, and in which a
+/// The host's file system, of which some calls fail, in which every folder lists these names, and in which a
 /// path that ends in `pipe` is a device, which neither a read nor a write is to reach. Of looks and opens those
 /// of a path that ends in `last` fail, and of reads the third of each file. A file that has bytes takes no mode
 /// any more, and one that has none is not synced. What lies at `proc` and at `sys` is a folder to a look that follows
@@ -56,7 +50,6 @@ struct Device<'a> {
     host: &'a HostRuntime,
     failing: Failing,
     names: &'a [u8],
-    words: &'a [&'a [u8]],
 }
 
 impl<'a> Device<'a> {
@@ -65,7 +58,6 @@ impl<'a> Device<'a> {
             host,
             failing,
             names: b"",
-            words: &[],
         }
     }
 }
@@ -104,25 +96,6 @@ impl Alloc for Device<'_> {
 
     fn alloc(&self) -> Global {
         self.host.alloc()
-    }
-}
-
-impl Env for Device<'_> {
-    fn arg(&self, i: usize, buf: &mut [u8]) -> Result<usize, FillError> {
-        let word = self.words.get(i).ok_or(FillError::NotPresent)?;
-        if word.len() > buf.len() {
-            return Err(FillError::TooLong);
-        }
-        buf[..word.len()].copy_from_slice(word);
-        Ok(word.len())
-    }
-
-    fn var(&self, _name: &str, _buf: &mut [u8]) -> Result<usize, FillError> {
-        Err(FillError::NotPresent)
-    }
-
-    fn var_at(&self, _i: usize, _buf: &mut [u8]) -> Result<usize, FillError> {
-        Err(FillError::NotPresent)
     }
 }
 
@@ -364,42 +337,6 @@ fn a_part_file_that_is_there_stays(rt: HostRuntime) -> Result<(), Fail> {
     remove_folder(&rt, top.as_str())
 }
 
-/// Puts down so many part files, of which each number below is one.
-fn put_parts(rt: &HostRuntime, top: &str, count: u32) -> Result<(), Fail> {
-    for number in 0..count {
-        let name = format!(in rt.alloc(); ".btseed-{number}.part")?;
-        put(rt, top, name.as_str(), b"")?;
-    }
-    Ok(())
-}
-
-#[test]
-fn a_file_is_written_beside_300_part_files(rt: HostRuntime) -> Result<(), Fail> {
-    let top = set_up(&rt, "many-parts", &[Step::File("kept", b"old")])?;
-    put_parts(&rt, top.as_str(), 300)?;
-    expect_replaced(&rt, top.as_str(), Failing::Nothing, true, b"new")?;
-    expect_entries(&rt, top.as_str(), "", 301)?;
-    remove_folder(&rt, top.as_str())
-}
-
-/// Gives the file `kept` a mode, and expects that what replaces it has the same.
-fn expect_mode_kept(rt: &HostRuntime, top: &str, mode: u32) -> Result<(), Fail> {
-    let path = path_in(rt, top, "kept")?;
-    fs::set_permissions(rt, path.as_str(), Permissions::from_mode(mode))?;
-    replace(rt, path.as_str())?;
-    let found = fs::metadata(rt, path.as_str())?.permissions().mode();
-    confirm(found & 0o777 == mode, "another mode")?;
-    Ok(())
-}
-
-#[test]
-fn a_file_that_is_replaced_keeps_its_mode(rt: HostRuntime) -> Result<(), Fail> {
-    let top = set_up(&rt, "mode", &[Step::File("kept", b"old")])?;
-    expect_mode_kept(&rt, top.as_str(), 0o600)?;
-    expect_mode_kept(&rt, top.as_str(), 0o751)?;
-    remove_folder(&rt, top.as_str())
-}
-
 /// The path of a name below a folder.
 fn data_file(rt: &HostRuntime, top: &str, name: &str) -> Result<PathBuf, AllocError> {
     found_path(rt.alloc(), top, &[String::from_str(rt.alloc(), name)?])
@@ -509,7 +446,7 @@ fn expect_check(
     faults: &str,
 ) -> Result<(), Fail> {
     let device = Device::new(rt, failing);
-    expect(&device, top, "check @/t @/files", status, output, faults)
+    expect(&device, rt, top, "check @/t @/files", status, output, faults)
 }
 
 #[test]
@@ -536,7 +473,6 @@ fn walk_fault(rt: &HostRuntime, dir: &str, failing: Failing, names: &[u8]) -> Op
         host: rt,
         failing,
         names,
-        words: &[],
     };
     files_in(&device, dir).err()
 }
@@ -564,10 +500,9 @@ fn expect_unmade(rt: &HostRuntime, top: &str, names: &[u8], out: &str) -> Result
         host: rt,
         failing: Failing::Nothing,
         names,
-        words: &[],
     };
     let line = format!(in rt.alloc(); "make @/files @/{out} --name n")?;
-    expect(&device, top, line.as_str(), 3, "", DEVICE_FAULT)
+    expect(&device, rt, top, line.as_str(), 3, "", DEVICE_FAULT)
 }
 
 /// Two files of one number lie on two devices: `OUT` is none of the folder's. A folder took the place of the
@@ -577,30 +512,6 @@ fn a_file_of_another_device_is_another(rt: HostRuntime) -> Result<(), Fail> {
     let steps = [Step::Folder("files"), Step::File("files/sys", b"")];
     let top = set_up(&rt, "other-device", &steps)?;
     expect_unmade(&rt, top.as_str(), b"sys\0", "proc")?;
-    remove_folder(&rt, top.as_str())
-}
-
-/// The lengths of all files are looked at before the first is opened.
-#[test]
-fn a_file_too_long_is_told_before_one_that_is_not_opened(rt: HostRuntime) -> Result<(), Fail> {
-    let steps = [Step::Folder("files"), Step::File("files/last", b"abc")];
-    let top = set_up(&rt, "unopened-too-long", &steps)?;
-    put_sparse(&rt, top.as_str(), "files/long", TOO_LONG)?;
-    let device = Device {
-        host: &rt,
-        failing: Failing::Opens,
-        names: b"last\0long\0",
-        words: &[],
-    };
-    let line = "make @/files @/t --name n";
-    expect(
-        &device,
-        top.as_str(),
-        line,
-        2,
-        "",
-        "btseed: N3 FileLength\n",
-    )?;
     remove_folder(&rt, top.as_str())
 }
 
@@ -641,88 +552,5 @@ fn a_name_that_is_no_text_is_refused(rt: HostRuntime) -> Result<(), Fail> {
     let top = folder(&rt, "names")?;
     let long = long_name(rt.alloc())?;
     expect_refused_names(&rt, top.as_str(), long.as_bytes())?;
-    remove_folder(&rt, top.as_str())
-}
-
-/// What a start comes to: its status, output and fault.
-#[derive(Clone, Copy)]
-struct Ending<'a> {
-    status: u8,
-    output: &'a [u8],
-    faults: &'a [u8],
-}
-
-/// Starts the program on these words, its own name the first, and expects this.
-fn expect_start(rt: &HostRuntime, words: &[&[u8]], wanted: &Ending<'_>) -> Result<(), Fail> {
-    let device = Device {
-        host: rt,
-        failing: Failing::Nothing,
-        names: b"",
-        words,
-    };
-    let mut output = Vec::new(rt.alloc());
-    let mut told = Vec::new(rt.alloc());
-    let mut script = SCRIPT;
-    let ended = start(&device, &mut script, &mut output, &mut told);
-    confirm(ended == ExitCode::from(wanted.status), "another status")?;
-    confirm(output.as_slice() == wanted.output, "another output")?;
-    confirm(told.as_slice() == wanted.faults, "another fault")?;
-    Ok(())
-}
-
-/// What standard input has.
-const SCRIPT: &[u8] = b"flush\n";
-
-const UNSPELLED: &[u8] = b"btseed: a word of the command line is not UTF-8\n";
-
-/// Words, and what they come to. An empty word is a word, so here the path of a torrent, of which there is none.
-const STARTS: &[(&[&[u8]], Ending<'_>)] = &[
-    (
-        &[b"btseed", b"check", b"", b"d"],
-        Ending {
-            status: 3,
-            output: b"",
-            faults: b"btseed: device fault\n",
-        },
-    ),
-    (
-        &[b"btseed", b"check", b"\xff", b"d"],
-        Ending {
-            status: 2,
-            output: b"",
-            faults: UNSPELLED,
-        },
-    ),
-    (
-        &[b"btseed", b"replay"],
-        Ending {
-            status: 2,
-            output: b"",
-            faults: b"btseed: line 1\n",
-        },
-    ),
-];
-
-#[test]
-fn the_words_of_the_environment_are_taken(rt: HostRuntime) -> Result<(), Fail> {
-    for (words, wanted) in STARTS {
-        expect_start(&rt, words, wanted)?;
-    }
-    Ok(())
-}
-
-/// The torrent has the file `a.txt`, which is not there.
-#[test]
-fn a_status_comes_with_its_output(rt: HostRuntime) -> Result<(), Fail> {
-    let torrent = abc_torrent(rt.alloc())?;
-    let top = set_up(&rt, "start", &[Step::File("t", &torrent)])?;
-    let path = path_in(&rt, top.as_str(), "t")?;
-    let words: &[&[u8]] = &[b"btseed", b"check", path.as_bytes(), top.as_bytes()];
-    let wanted = Ending {
-        status: 1,
-        output: b"0 of 1 a.txt\nnot complete\n",
-        faults: b"",
-    };
-    expect_start(&rt, words, &wanted)?;
     remove_folder(&rt, top.as_str())
 }

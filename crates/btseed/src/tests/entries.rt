@@ -1,12 +1,10 @@
 //! What a check finds of devices, some of which fail.
 
-use super::check::many_blocks;
 use super::tools::{THREE_INFO, THREE_ROOT, confirm, digest, front, three_blocks};
-use bt_check::{BUFFER_LEN, Digests, FileHash, Finding, PieceSize, check_entry, digest_reader};
+use bt_check::{FileHash, Finding, PieceSize, check_entry};
 use bt_disk::{Disk, FaultDisk, MemoryDisk};
 use bt_meta::{Made, Torrent, make, read_info, read_torrent};
-use bt_sparse::SparseTree;
-use bt_tree::{Geometry, Hash32, NodeHash, pad};
+use bt_tree::NodeHash;
 use std::alloc::{AllocError, Global};
 use std::test::Fail;
 
@@ -158,39 +156,5 @@ fn each_call_of_a_check_may_fail(rt: HostRuntime) -> Result<(), Fail> {
     confirm(found == found_in_turn(3, 2), "another finding of pieces")?;
     let found = found_of_faults(alloc, &torrent_of_the_whole(alloc)?)?;
     confirm(found == found_in_turn(3, 0), "another finding of the whole")?;
-    Ok(())
-}
-
-/// The digests of the file of 65 blocks, in pieces of four blocks each.
-fn digests_of_pieces(alloc: Global) -> Result<Digests, Fail> {
-    let file = many_blocks(alloc)?;
-    let mut reader = file.as_slice();
-    let mut buffer = [0; BUFFER_LEN];
-    let size = PieceSize::new(65536).ok_or("no piece length")?;
-    let digests = digest_reader(alloc, &mut reader, 1048577, size, &mut buffer)?;
-    Ok(digests)
-}
-
-/// The tree of the file of 65 blocks, of which the digests of its pieces are known.
-fn tree_of_pieces(alloc: Global) -> Result<SparseTree<FileHash>, Fail> {
-    let digests = digests_of_pieces(alloc)?;
-    confirm(digests.layer.len() == 544, "another layer")?;
-    let geometry = Geometry::new(1048577).ok_or("no geometry")?;
-    let tree = SparseTree::with_layer(alloc, FileHash, geometry, digests.root, 2, &digests.layer)?;
-    Ok(tree)
-}
-
-/// The digest of the last piece of the file of 65 blocks, of which one block has a byte.
-fn last_piece() -> Hash32 {
-    let last = FileHash.pair(&FileHash.block(&[64]), &[0; 32]);
-    FileHash.pair(&last, &pad(FileHash, 1))
-}
-
-#[test]
-fn a_layer_tells_its_pieces_and_the_padding(rt: HostRuntime) -> Result<(), Fail> {
-    let tree = tree_of_pieces(rt.alloc())?;
-    assert!(rt; tree.known(2, 16) == Some(last_piece()));
-    assert!(rt; tree.known(2, 17) == Some(pad(FileHash, 2)));
-    assert!(rt; tree.known(1, 0).is_none());
     Ok(())
 }

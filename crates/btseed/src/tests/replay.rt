@@ -1,14 +1,15 @@
-//! The command `replay`, and readers and writers of it that fail.
+//! The command `replay` over readers and writers that fail or give little.
 
-use super::tools::{abc_torrent, confirm};
+use super::tools::confirm;
 use bt_commands::run;
-use bt_replay::MAX_SCRIPT_LENGTH;
-use std::alloc::{AllocError, Global};
+use std::alloc::AllocError;
 use std::io::{self, ErrorKind, Read, Write};
 use std::test::Fail;
 
-/// A fetch of the file `a.txt`, from a peer that has it.
-const FETCH: &str = "connect
+/// A fetch of the file `a.txt` of the bytes `abc`, from a peer that has it.
+const FETCH: &str =
+    "torrent 64343a696e666f64393a66696c65207472656564353a612e74787464303a64363a6c656e67746869336531313a70696563657320726f6f7433323aba7816bf8f01cfea414140de5dae2223b00361a396177a9cb410ff61f20015ad65656531323a6d6574612076657273696f6e693265343a6e616d65353a612e74787431323a7069656365206c656e677468693136333834656531323a7069656365206c6179657273646565
+connect
 hello 1
 next 1
 feed 1 000000020580
@@ -42,13 +43,6 @@ none
 file 0 1 of 1 complete
 ";
 
-/// A script whose torrent is that of `a.txt`, with these lines behind it.
-fn script_of(alloc: Global, lines: &str) -> Result<String, Fail> {
-    let torrent = abc_torrent(alloc)?;
-    let digits = hex::encode(alloc, &torrent)?;
-    Ok(format!(in alloc; "torrent {digits}\n{lines}")?)
-}
-
 /// Replays what a reader gives, and gives the status.
 fn status_on<I: Read, O: Write, E: Write>(
     rt: &HostRuntime,
@@ -57,7 +51,7 @@ fn status_on<I: Read, O: Write, E: Write>(
     faults: &mut E,
 ) -> Result<u8, AllocError> {
     let words = [String::from_str(rt.alloc(), "replay")?];
-    Ok(run(rt, &words, reader, writer, faults))
+    Ok(run(rt, rt, &words, reader, writer, faults))
 }
 
 /// What a replay comes to: its status, output and fault.
@@ -86,73 +80,11 @@ fn expect_ending<I: Read>(
     Ok(())
 }
 
-/// Replays the torrent of `a.txt` and these lines, and expects this.
-fn expect_lines(rt: &HostRuntime, lines: &str, wanted: &Ending<'_>) -> Result<(), Fail> {
-    let script = script_of(rt.alloc(), lines)?;
-    let mut reader = script.as_bytes();
-    expect_ending(rt, &mut reader, wanted)
-}
-
 const FETCHED: Ending<'_> = Ending {
     status: 0,
     output: FETCH_LINES,
     faults: "",
 };
-
-#[test]
-fn a_fetch_is_replayed(rt: HostRuntime) -> Result<(), Fail> {
-    expect_lines(&rt, FETCH, &FETCHED)
-}
-
-/// Scripts whose first line is refused, and why.
-const UNBEGUN: &[(&str, &str)] = &[
-    ("", "btseed: line 1\n"),
-    ("\n", "btseed: line 1\n"),
-    ("connect\n", "btseed: line 1\n"),
-    ("torrent 6\n", "btseed: line 1\n"),
-    ("torrent 6465\nconnect\n", "btseed: M2 NoInfo\n"),
-    ("torrent 64\n", "btseed: M1 Bencode B1 Truncated 1\n"),
-];
-
-#[test]
-fn a_first_line_is_refused(rt: HostRuntime) -> Result<(), Fail> {
-    for (script, faults) in UNBEGUN {
-        let mut reader = script.as_bytes();
-        let wanted = Ending {
-            status: 2,
-            output: "",
-            faults: *faults,
-        };
-        expect_ending(&rt, &mut reader, &wanted)?;
-    }
-    Ok(())
-}
-
-/// Lines of which one is bad, what those before it answer, and its number.
-const BAD: &[(&str, &str, &str)] = &[
-    (
-        "report\nrepor\nreport\n",
-        "file 0 0 of 1\n",
-        "btseed: line 3\n",
-    ),
-    ("flush\n\n", "done\n", "btseed: line 3\n"),
-    ("fault 0 1\nfault 1 1\n", "", "btseed: line 3\n"),
-    ("flush\nflip 0 1 0\n", "done\n", "btseed: line 3\n"),
-    ("adopt 4294967296", "", "btseed: line 2\n"),
-];
-
-#[test]
-fn a_bad_line_comes_behind_the_answers_before_it(rt: HostRuntime) -> Result<(), Fail> {
-    for (lines, output, faults) in BAD {
-        let wanted = Ending {
-            status: 2,
-            output: *output,
-            faults: *faults,
-        };
-        expect_lines(&rt, lines, &wanted)?;
-    }
-    Ok(())
-}
 
 /// A reader that gives at most seven bytes at a time, and is interrupted before each read. Where it has no more,
 /// it is at its end, or fails.
@@ -198,36 +130,8 @@ const UNREAD: Ending<'_> = Ending {
 
 #[test]
 fn a_script_comes_in_parts_or_not_whole(rt: HostRuntime) -> Result<(), Fail> {
-    let script = script_of(rt.alloc(), FETCH)?;
-    expect_ending(&rt, &mut Slow::new(script.as_str(), false), &FETCHED)?;
-    expect_ending(&rt, &mut Slow::new(script.as_str(), true), &UNREAD)
-}
-
-/// A reader of bytes without an end, which counts those that it gave.
-#[derive(Drop)]
-struct Endless {
-    count: u64,
-}
-
-impl Read for Endless {
-    fn read(&mut self, buf: &mut [u8]) -> io::Result<usize> {
-        buf.fill(b'\n');
-        self.count = self.count.saturating_add(buf.len() as u64);
-        Ok(buf.len())
-    }
-}
-
-#[test]
-fn a_script_is_read_as_far_as_its_limit(rt: HostRuntime) -> Result<(), Fail> {
-    let mut reader = Endless { count: 0 };
-    let wanted = Ending {
-        status: 2,
-        output: "",
-        faults: "btseed: line 1\n",
-    };
-    expect_ending(&rt, &mut reader, &wanted)?;
-    confirm(reader.count == MAX_SCRIPT_LENGTH as u64, "another count")?;
-    Ok(())
+    expect_ending(&rt, &mut Slow::new(FETCH, false), &FETCHED)?;
+    expect_ending(&rt, &mut Slow::new(FETCH, true), &UNREAD)
 }
 
 /// A writer that fails: at each write, or where it is flushed.
@@ -264,7 +168,6 @@ fn expect_unwritten(rt: &HostRuntime, script: &str, takes_bytes: bool) -> Result
 
 #[test]
 fn an_output_that_fails_ends_a_replay(rt: HostRuntime) -> Result<(), Fail> {
-    let script = script_of(rt.alloc(), FETCH)?;
-    expect_unwritten(&rt, script.as_str(), false)?;
-    expect_unwritten(&rt, script.as_str(), true)
+    expect_unwritten(&rt, FETCH, false)?;
+    expect_unwritten(&rt, FETCH, true)
 }

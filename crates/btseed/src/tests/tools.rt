@@ -68,13 +68,15 @@ fn words_of(alloc: Global, top: &str, line: &str) -> Result<Vec<String>, AllocEr
 /// Runs the program on the words of a line, with nothing to read and these writers, and gives its status.
 pub fn status_of<R: Files + AllocGlobal + Clone + Drop, O: Write, E: Write>(
     rt: &R,
+    net: &HostRuntime,
     top: &str,
     line: &str,
     output: &mut O,
     faults: &mut E,
 ) -> Result<u8, AllocError> {
     let words = words_of(rt.alloc(), top, line)?;
-    Ok(run(rt, words.as_slice(), &mut empty(), output, faults))
+    let words = words.as_slice();
+    Ok(run(rt, net, words, &mut empty(), output, faults))
 }
 
 /// What the program answered to the words of a line: its status, and what it wrote. The error of a test whose
@@ -90,12 +92,13 @@ pub struct Answer {
 /// Runs the program on the words of a line.
 fn answer_to<R: Files + AllocGlobal + Clone + Drop>(
     rt: &R,
+    net: &HostRuntime,
     top: &str,
     line: &str,
 ) -> Result<Answer, Fail> {
     let mut output = Vec::new(rt.alloc());
     let mut faults = Vec::new(rt.alloc());
-    let status = status_of(rt, top, line, &mut output, &mut faults)?;
+    let status = status_of(rt, net, top, line, &mut output, &mut faults)?;
     Ok(Answer {
         line: String::from_str(rt.alloc(), line)?,
         status,
@@ -121,36 +124,17 @@ pub fn confirm(holds: bool, otherwise: &'static str) -> Result<(), &'static str>
 /// Runs the program on the words of a line, and expects this status, output and fault.
 pub fn expect<R: Files + AllocGlobal + Clone + Drop>(
     rt: &R,
+    net: &HostRuntime,
     top: &str,
     line: &str,
     status: u8,
     output: &str,
     faults: &str,
 ) -> Result<(), Fail> {
-    let found = answer_to(rt, top, line)?;
+    let found = answer_to(rt, net, top, line)?;
     let is_wanted = found.status == status
         && found.output.as_str() == output
         && found.faults.as_str() == faults;
-    confirmed(found, is_wanted)?;
-    Ok(())
-}
-
-/// Runs the program on the words of a line, and expects help, with this text in it.
-pub fn expect_help(rt: &HostRuntime, line: &str, part: &str) -> Result<(), Fail> {
-    let found = answer_to(rt, "", line)?;
-    let is_wanted = found.status == 0
-        && found.faults.is_empty()
-        && found.output.as_str().contains(part);
-    confirmed(found, is_wanted)?;
-    Ok(())
-}
-
-/// Runs the program on the words of a line, and expects that they are refused, with a reason.
-pub fn expect_refused(rt: &HostRuntime, line: &str) -> Result<(), Fail> {
-    let found = answer_to(rt, "", line)?;
-    let faults = found.faults.as_str();
-    let is_told = faults.contains("error: ") || faults.contains("Usage: btseed");
-    let is_wanted = found.status == 2 && found.output.is_empty() && is_told;
     confirmed(found, is_wanted)?;
     Ok(())
 }

@@ -1,17 +1,15 @@
-use Rattle.std.proofs.Common.{codes}
-use Rattle.clap.specs.Words.{found_of, rows_of}
-use Rattle.bt_commands.specs.CommandLine.{IsSourceIn}
+use Rattle.std.proofs.Common.{◌≡◌, ℕ, List, Some, codes}
+use Rattle.clap.specs.Words.{first_of, found_of, rows_of}
 use Rattle.bt_check.specs.declared.torrent_file.Source.{Source}
-use Rattle.bt_commands.proofs.CommandLineTask.{none_always, row_some, row_none}
+use Rattle.bt_commands.specs.CommandLine.{IsSourceIn}
+use Rattle.bt_commands.proofs.CommandLineTask.{passed_on}
 use Rattle.bt_commands.proofs.command_line.source_of.Goals as goal
 
-pub returns-in_err-path-clause-none : goal.returns-in_err-path-clause-none
-returns-in_err-path-clause-none c =
-    let absent = row_none (found_of c.args.matches.now) (codes "TORRENT") c.get_str.result c.get_str.ensures c.in_err-path.was in
-    none_always _ ((source : Source) → ¬ IsSourceIn (rows_of (found_of c.args.matches.now)) source) (λ source s. absent source.path.now s.path)
+pub returns-in_err-path-clause-refused : goal.returns-in_err-path-clause-refused
+returns-in_err-path-clause-refused c =
+    let rows = rows_of (found_of c.args.matches.now) in
+    passed_on c.from_residual.result c.in_err-path.field-0.0 ((text : List ℕ) → ¬ (first_of (codes "TORRENT") rows ≡ Some text))
+    ((source : Source) → ¬ IsSourceIn rows source) c.in_err-path.ensures.refused (λ none source is. none source.path.now is.path) c.from_residual.ensures.1
 
-pub returns-clause-some : goal.returns-clause-some
-returns-clause-some c = record {
-  path = row_some (found_of c.args.matches.now) (codes "TORRENT") c.get_str.result c.in_ok-path.path c.get_str.ensures c.in_ok-path.was;
-  info = c.has_info-is_info.ensures;
-}
+pub returns-clause-source : goal.returns-clause-source
+returns-clause-source c = record { path = c.in_ok-path.ensures.word; info = c.has_info-is_info.ensures }

@@ -1,0 +1,103 @@
+-- The commands of the program, and the words of each, as the kit's `clap` reads them.
+use Rattle.std.specs.Prelude.{true, [], ◌∷◌, Some, codes}
+use Rattle.clap.specs.Words.{App, Rule, Text, new_app, new_rule, with_rule, with_subcommand}
+use Rattle.clap.specs.Simple.{on_top}
+use Rattle.clap.specs.declared.builder.action.ArgAction.TheVariants.{Append, SetTrue}
+
+-- ---- words
+
+-- a word that must be there
+abbrev pub required_rule : Text → Rule
+required_rule id = record (new_rule id) { required = true }
+
+-- an option with a value, of which help says what it is
+abbrev pub option_rule : Text → Rule
+option_rule id = record (new_rule id) { long = Some id; value_names = 1 }
+
+-- an option without a value
+abbrev pub flag_rule : Text → Rule
+flag_rule id = record (new_rule id) { long = Some id; action = Some SetTrue }
+
+abbrev pub info_rule : Rule
+info_rule = flag_rule (codes "info")
+
+abbrev pub name_rule : Rule
+name_rule = record (required_rule (codes "name")) { long = Some (codes "name") }
+
+abbrev pub piece_length_rule : Rule
+piece_length_rule = record (new_rule (codes "piece-length")) {
+  long = Some (codes "piece-length");
+  defaults = codes "262144" ∷ [];
+}
+
+abbrev pub serve_rule : Rule
+serve_rule = option_rule (codes "serve")
+
+abbrev pub forever_rule : Rule
+forever_rule = flag_rule (codes "forever")
+
+abbrev pub listen_rule : Rule
+listen_rule = record (option_rule (codes "listen")) { defaults = codes "127.0.0.1" ∷ [] }
+
+abbrev pub port_rule : Rule
+port_rule = record (option_rule (codes "port")) { defaults = codes "0" ∷ [] }
+
+-- one peer at least
+abbrev pub peers_rule : Rule
+peers_rule = record (required_rule (codes "PEER")) { action = Some Append }
+
+-- ---- commands
+
+abbrev pub make_app : App
+make_app =
+    with_rule (with_rule (with_rule (with_rule (new_app (codes "make"))
+    (required_rule (codes "DIR"))) (required_rule (codes "OUT"))) name_rule) piece_length_rule
+
+abbrev pub show_app : App
+show_app = with_rule (with_rule (new_app (codes "show")) (required_rule (codes "TORRENT"))) info_rule
+
+-- a command on a torrent and the folder of its files
+abbrev pub data_app : Text → App
+data_app name =
+    with_rule (with_rule (new_app name) (required_rule (codes "TORRENT"))) (required_rule (codes "DIR"))
+
+abbrev pub check_app : App
+check_app = with_rule (data_app (codes "check")) info_rule
+
+abbrev pub seed_app : App
+seed_app =
+    with_rule (with_rule (with_rule (with_rule (with_rule (data_app (codes "seed"))
+    serve_rule) forever_rule) listen_rule) port_rule) info_rule
+
+abbrev pub fetch_app : App
+fetch_app = with_rule (with_rule (data_app (codes "fetch")) peers_rule) info_rule
+
+abbrev pub replay_app : App
+replay_app = new_app (codes "replay")
+
+-- ---- the program
+
+abbrev pub with_version : App → App
+with_version = on_top (λ shape. record shape { has_version = true })
+
+-- the program's name is none of the words, a subcommand must be there, and with no word at all there is help
+abbrev pub with_demands : App → App
+with_demands = on_top (λ shape. record shape {
+  no_binary_name = true;
+  subcommand_required = true;
+  arg_required_else_help = true;
+})
+
+abbrev pub top_app : App
+top_app = with_demands (with_version (new_app (codes "btseed")))
+
+-- the program with the commands that work on torrents and their files
+abbrev pub file_app : App
+file_app = with_subcommand (with_subcommand (with_subcommand top_app make_app.top) show_app.top) check_app.top
+
+-- and on peers
+abbrev pub transfer_app : App
+transfer_app = with_subcommand (with_subcommand file_app seed_app.top) fetch_app.top
+
+abbrev pub program_app : App
+program_app = with_subcommand transfer_app replay_app.top

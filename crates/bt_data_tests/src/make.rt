@@ -1,0 +1,119 @@
+//! Torrents that are made.
+
+use crate::bytes::push_shown;
+use crate::stage::Objects;
+use crate::torrent::take;
+use crate::words::Words;
+use bt_meta::{Made, Torrent, make, read_torrent};
+use bt_tree::Hash32;
+use std::alloc::{AllocError, Global};
+use std::fmt::Write;
+
+pub fn make_row(
+    alloc: Global,
+    objects: &mut Objects,
+    words: &mut Words,
+    out: &mut String,
+) -> Result<(), AllocError> {
+    match words.word() {
+        "files" => files_row(alloc, &mut objects.files, words, out),
+        "torrent" => made_row(alloc, objects, words, out),
+        _ => {
+            words.are_wrong();
+            Ok(())
+        }
+    }
+}
+
+/// Adds so many files of this path, length, root and layer.
+fn files_row(
+    alloc: Global,
+    files: &mut Vec<Made>,
+    words: &mut Words,
+    out: &mut String,
+) -> Result<(), AllocError> {
+    let count = words.number();
+    let path = words.bytes(alloc)?;
+    let length = words.long();
+    let root = words.digest(alloc)?;
+    let layer = words.bytes(alloc)?;
+    let Ok(path) = str::from_utf8(&path) else {
+        return out.push_str("no path");
+    };
+    for _ in 0..count {
+        files.push(file_of(alloc, path, length, root, &layer)?)?;
+    }
+    write!(out, "{} files", files.len())
+}
+
+fn file_of(
+    alloc: Global,
+    path: &str,
+    length: u64,
+    root: Hash32,
+    layer: &[u8],
+) -> Result<Made, AllocError> {
+    let path = elements(alloc, path)?;
+    let layer = Vec::from_slice(alloc, layer)?;
+    Ok(Made {
+        path,
+        length,
+        root,
+        layer,
+    })
+}
+
+/// The elements of a path, which are separated by `/`.
+fn elements(alloc: Global, path: &str) -> Result<Vec<String>, AllocError> {
+    let mut elements = Vec::new(alloc);
+    let mut rest = path;
+    for _ in 0..path.len() {
+        match rest.split_once('/') {
+            Some((element, more)) => {
+                push_element(alloc, &mut elements, element)?;
+                rest = more;
+            }
+            None => break,
+        }
+    }
+    push_element(alloc, &mut elements, rest)?;
+    Ok(elements)
+}
+
+fn push_element(
+    alloc: Global,
+    elements: &mut Vec<String>,
+    element: &str,
+) -> Result<(), AllocError> {
+    elements.push(String::from_str(alloc, element)?)?;
+    Ok(())
+}
+
+/// The text of the torrent of these files, with this name and piece length, and the torrent that is read from
+/// it; or the refusal. No file is left then.
+fn made_row(
+    alloc: Global,
+    objects: &mut Objects,
+    words: &mut Words,
+    out: &mut String,
+) -> Result<(), AllocError> {
+    let name = words.bytes(alloc)?;
+    let piece_length = words.number();
+    match make(alloc, &name, piece_length, &objects.files) {
+        Ok(text) => read_back(alloc, &mut objects.torrent, &text, out)?,
+        Err(error) => write!(out, "{error}")?,
+    }
+    objects.files.clear();
+    Ok(())
+}
+
+fn read_back(
+    alloc: Global,
+    torrent: &mut Option<Torrent>,
+    text: &[u8],
+    out: &mut String,
+) -> Result<(), AllocError> {
+    push_shown(out, text)?;
+    out.push_str(" is ")?;
+    take(torrent, read_torrent(alloc, text), out)
+}

@@ -1,0 +1,112 @@
+//! What the rows so far have made, and the first word of a row.
+
+use crate::bencode::bencode_row;
+use crate::builder::builder_row;
+use crate::digest::digest_row;
+use crate::make::make_row;
+use crate::names::Names;
+use crate::parts::push_word;
+use crate::torrent::{laws_row, texts_row, torrent_row};
+use crate::tree::tree_row;
+use crate::words::Words;
+use bt_meta::{Made, Torrent};
+use bt_tree::{Plain, RootBuilder};
+use std::alloc::{AllocError, Global};
+use std::fmt::Write;
+
+/// What the rows work on.
+#[derive(Drop)]
+pub struct Stage {
+    names: Names,
+    objects: Objects,
+}
+
+/// What calls have made, for later calls.
+#[derive(Drop)]
+pub struct Objects {
+    pub builder: Option<RootBuilder<Plain>>,
+    /// The files that the next torrent is made of.
+    pub files: Vec<Made>,
+    /// The torrent that was read last.
+    pub torrent: Option<Torrent>,
+}
+
+impl Stage {
+    pub fn new(alloc: Global) -> Self {
+        Stage {
+            names: Names::new(alloc),
+            objects: Objects {
+                builder: None,
+                files: Vec::new(alloc),
+                torrent: None,
+            },
+        }
+    }
+
+    /// What a row answers. One that begins with `#` is told as it is, and what is no row says so.
+    pub fn answer(&mut self, alloc: Global, row: &str) -> Result<String, AllocError> {
+        let mut out = String::new(alloc);
+        if row.is_empty() || row.starts_with('#') {
+            out.push_str(row)?;
+        } else if let Some(rest) = row.strip_prefix("let ") {
+            let_row(alloc, &mut self.names, rest, &mut out)?;
+        } else {
+            call_row(alloc, &self.names, &mut self.objects, row, &mut out)?;
+        }
+        Ok(out)
+    }
+}
+
+/// Gives bytes a name.
+fn let_row(
+    alloc: Global,
+    names: &mut Names,
+    row: &str,
+    out: &mut String,
+) -> Result<(), AllocError> {
+    let (name, word) = row.split_once(' ').unwrap_or((row, ""));
+    let mut bytes = Vec::new(alloc);
+    if !push_word(alloc, names, &mut bytes, word)? {
+        return write!(out, "not understood: let {row}");
+    }
+    write!(out, "{} bytes", bytes.len())?;
+    names.add(alloc, name, bytes)
+}
+
+fn call_row(
+    alloc: Global,
+    names: &Names,
+    objects: &mut Objects,
+    row: &str,
+    out: &mut String,
+) -> Result<(), AllocError> {
+    let mut words = Words::new(names, row);
+    named_row(alloc, objects, &mut words, out)?;
+    if !words.are_read() {
+        out.clear();
+        return write!(out, "not understood: {row}");
+    }
+    Ok(())
+}
+
+fn named_row(
+    alloc: Global,
+    objects: &mut Objects,
+    words: &mut Words,
+    out: &mut String,
+) -> Result<(), AllocError> {
+    match words.word() {
+        "bencode" => bencode_row(alloc, words, out),
+        "tree" => tree_row(alloc, words, out),
+        "builder" => builder_row(alloc, &mut objects.builder, words, out),
+        "digest" => digest_row(alloc, words, out),
+        "torrent" => torrent_row(alloc, &mut objects.torrent, words, out),
+        "make" => make_row(alloc, objects, words, out),
+        "texts" => texts_row(out),
+        "laws" => laws_row(out),
+        _ => {
+            words.are_wrong();
+            Ok(())
+        }
+    }
+}

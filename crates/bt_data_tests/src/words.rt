@@ -1,0 +1,90 @@
+//! The words of a row.
+
+use crate::names::Names;
+use crate::parts::push_word;
+use bt_tree::Hash32;
+use std::alloc::{AllocError, Global};
+
+/// The words of a row that are not read yet.
+#[derive(Drop)]
+pub struct Words<'a> {
+    rest: &'a str,
+    names: &'a Names,
+    /// Whether a word was not what stands there.
+    wrong: bool,
+}
+
+impl<'a> Words<'a> {
+    pub fn new(names: &'a Names, row: &'a str) -> Self {
+        Words {
+            rest: row,
+            names,
+            wrong: false,
+        }
+    }
+
+    pub fn is_at_end(&self) -> bool {
+        self.rest.is_empty()
+    }
+
+    /// Whether each word was read, and none is left.
+    pub fn are_read(&self) -> bool {
+        self.rest.is_empty() && !self.wrong
+    }
+
+    /// The next word; an empty one at the end.
+    pub fn word(&mut self) -> &'a str {
+        let (word, rest) = self.rest.split_once(' ').unwrap_or((self.rest, ""));
+        self.rest = rest;
+        word
+    }
+
+    /// Notes that the word read last is not what stands there.
+    pub fn are_wrong(&mut self) {
+        self.wrong = true;
+    }
+
+    /// The number that the next word is; 0 where it is none.
+    pub fn number(&mut self) -> u32 {
+        match self.word().parse::<u32>() {
+            Ok(number) => number,
+            Err(_) => {
+                self.wrong = true;
+                0
+            }
+        }
+    }
+
+    /// The same of a longer number.
+    pub fn long(&mut self) -> u64 {
+        match self.word().parse::<u64>() {
+            Ok(number) => number,
+            Err(_) => {
+                self.wrong = true;
+                0
+            }
+        }
+    }
+
+    /// The bytes that the next word spells.
+    pub fn bytes(&mut self, alloc: Global) -> Result<Vec<u8>, AllocError> {
+        let word = self.word();
+        let mut bytes = Vec::new(alloc);
+        if !push_word(alloc, self.names, &mut bytes, word)? {
+            self.wrong = true;
+        }
+        Ok(bytes)
+    }
+
+    /// The digest that the next word spells; zeros where it is none.
+    pub fn digest(&mut self, alloc: Global) -> Result<Hash32, AllocError> {
+        let bytes = self.bytes(alloc)?;
+        let mut digest = [0; 32];
+        if bytes.len() == 32 {
+            digest.copy_from_slice(&bytes);
+        } else {
+            self.wrong = true;
+        }
+        Ok(digest)
+    }
+}

@@ -1,0 +1,39 @@
+//! Calls devices of bytes, and stores of blocks on them, as the rows of `stdin` say, and prints what each call
+//! answers: `stdout` has what they are to answer. README.md tells the rows.
+#![tactic(auto)]
+
+mod bytes;
+mod calls;
+mod device;
+mod files;
+mod fixture;
+mod many;
+mod shop;
+mod stage;
+mod store;
+mod system;
+mod words;
+
+use files::{clear_folder, new_folder};
+use stage::Stage;
+use system::Counts;
+
+fn main(rt: HostRuntime) -> anyhow::Result<()> {
+    let top = new_folder(&rt)?;
+    let counts = Counts::new();
+    print_answers(&rt, &counts, top.as_str())?;
+    clear_folder(&rt, top.as_str());
+    Ok(())
+}
+
+/// Answers the rows, whose files lie in a folder.
+fn print_answers(rt: &HostRuntime, counts: &Counts, top: &str) -> anyhow::Result<()> {
+    let alloc = rt.alloc();
+    let mut stage = Stage::new(rt, counts, top);
+    for line in rt.lines(alloc) {
+        let line = line?;
+        let answer = stage.answer(alloc, line.as_str())?;
+        println!(rt; "{answer}")?;
+    }
+    Ok(())
+}

@@ -1,0 +1,6 @@
+pub mod ShortBlocks
+pub mod Messages
+pub mod Passages
+pub mod Sendable
+pub mod Halves
+pub mod Streams

@@ -1,0 +1,50 @@
+-- What a message that is a request or a piece says of its parts.
+use Rattle.std.proofs.Common.{◌≡◌, ◌+◌, ℕ, suc, List, [], ◌∷◌, ◌++◌, take, drop, refl, sym, ◌∙◌, ap, arith, subst, Contains, remove, add-one}
+use Rattle.std.proofs.lemmas.List.Elements.{Contains-append_right}
+use Rattle.bt_wire.specs.declared.message.Ask.{Ask}
+use Rattle.bt_wire.specs.declared.message.Message.{Message}
+use Rattle.bt_wire.specs.declared.message.Message.TheVariants.{Request, Piece}
+use Rattle.bt_meta.specs.Torrent.{Metainfo}
+use Rattle.bt_padding.specs.Blocks.{ask_of, padded, IsShortBlock}
+use Rattle.bt_padding.specs.Padding.{IsTaken}
+use Rattle.bt_padding.specs.PaddingSteps.{IsFirstAt}
+
+abbrev pub ask_in : Message → Ask
+ask_in (Request ask) = ask
+ask_in _ = ask_of 0 0 0
+
+abbrev pub place_in : Message → Ask
+place_in (Piece piece begin bytes) = ask_of piece begin 0
+place_in _ = ask_of 0 0 0
+
+abbrev pub bytes_in : Message → List ℕ
+bytes_in (Piece piece begin bytes) = bytes
+bytes_in _ = []
+
+-- a padded request for a short block begins where it does
+pub asked_short : (torrent : Metainfo) (ask short : Ask) → Request ask ≡ Request (padded short) → IsShortBlock torrent short
+    → IsShortBlock torrent (ask_of ask.piece ask.begin short.length)
+asked_short torrent ask short same is =
+    subst (λ (a : Ask). IsShortBlock torrent (ask_of a.piece a.begin short.length)) (sym (ap ask_in same)) is
+
+-- so does a piece
+pub brought_short : (torrent : Metainfo) (piece begin : ℕ) (bytes others : List ℕ) (short : Ask)
+    → Piece piece begin bytes ≡ Piece short.piece short.begin others → IsShortBlock torrent short
+    → IsShortBlock torrent (ask_of piece begin short.length)
+brought_short torrent piece begin bytes others short same is =
+    subst (λ (a : Ask). IsShortBlock torrent (ask_of a.piece a.begin short.length)) (sym (ap place_in same)) is
+
+-- the request that stands first is there, and is taken out
+pub is_there : (asked : List Ask) (ask : Ask) (i : ℕ) → IsFirstAt asked ask i → Contains asked ask
+is_there asked ask i at =
+    let here : Contains (ask ∷ drop (i + 1) asked) ask = (0, omega arith, refl) in
+    subst (λ (xs : List Ask). Contains xs ask) (sym at.split) (Contains-append_right (take i asked) (ask ∷ drop (i + 1) asked) ask here)
+
+pub is_taken : (asked : List Ask) (ask : Ask) (i : ℕ) → IsFirstAt asked ask i → IsTaken asked ask (remove asked i)
+is_taken asked ask i at = record {
+  before = take i asked;
+  after = drop (suc i) asked;
+  was = at.split ∙ ap (λ n. take i asked ++ ask ∷ drop n asked) (add-one i);
+  first = at.first;
+  now = refl;
+}

@@ -1,0 +1,34 @@
+ghost use Rattle.bt_padding.specs.Law.{RemembersShortBlocks, ZerosLieBehindTheEnd, PadsWhatWasAsked, PlainPassesThrough, GivenOnCanBeSent};
+ghost use Rattle.bt_padding.specs.TranslationLaw.{GivesStreams};
+
+/// What is remembered of a peer are requests for short blocks.
+pub fn remembers_short_blocks()
+    ensures { RemembersShortBlocks }
+{}
+
+/// A piece goes out as the engine cut it, or with zeros where its file has ended.
+pub fn zeros_lie_behind_the_end()
+    ensures { ZerosLieBehindTheEnd }
+{}
+
+/// From each place of a piece on, pieces are filled no more often than the peer has asked for a whole block
+/// there.
+pub fn pads_what_was_asked()
+    ensures { PadsWhatWasAsked }
+{}
+
+/// What comes of a peer without padding passes as it is, and so does all that goes to a peer that has asked
+/// for no padding and is asked for none.
+pub fn plain_passes_through()
+    ensures { PlainPassesThrough }
+{}
+
+/// What is given on in place of a message can be sent where the message could be.
+pub fn given_on_can_be_sent()
+    ensures { GivenOnCanBeSent }
+{}
+
+/// Where whole events came, as many whole events are given on, and nothing else.
+pub fn gives_streams()
+    ensures { GivesStreams }
+{}

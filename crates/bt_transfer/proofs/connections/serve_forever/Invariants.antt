@@ -1,0 +1,10 @@
+-- So many connections were served, with a line for each, and no peer is connected.
+use Rattle.std.proofs.Common.{[], ◌≡◌}
+use Rattle.bt_transfer.specs.Connections.{HasServed, MeetsAndSyncs}
+use Rattle.bt_transfer.proofs.connections.serve_forever.Given as goal
+
+abbrev pub invariant-loop-number : goal.invariant-loop-number
+invariant-loop-number g l =
+    HasServed (MeetsAndSyncs g.D.Disk.history g.D.Disk.honest g.D.Disk.faults g.H.NodeHash.digest) l.number l.initial.engine
+    (g.W.Write.contents l.initial.writer) (g.W.Write.contents l.writer) l.engine
+    × (l.engine.state.peers ≡ [])

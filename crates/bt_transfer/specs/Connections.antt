@@ -1,0 +1,45 @@
+-- Connections that are served one after the other.
+use Rattle.std.specs.Prelude.{[], ◌≡◌, ℕ, ◌∷◌, ◌++◌, List, Ok, Option, codes, length}
+use Rattle.std.specs.Fmt.{decimal}
+use Rattle.std.specs.Io.KnownBytes.{Appends}
+use Rattle.std.specs.List.{enumerate_from, flat_map}
+use Rattle.bt_check.specs.Display.{line_text}
+use Rattle.bt_disk.specs.History.{History}
+use Rattle.bt_machine.specs.declared.event.Event.TheVariants.{Flush}
+use Rattle.bt_machine.specs.declared.event.Answer.TheVariants.{Flushed}
+use Rattle.bt_machine.specs.State.{EngineView}
+use Rattle.bt_machine.specs.View.{StepsTo}
+use Rattle.bt_peers.specs.End.{end_text}
+use Rattle.bt_peers.specs.declared.end.PeerEnd.{PeerEnd}
+use Rattle.bt_transfer.specs.OverTcp.{Meeting, MeetsOverTcp}
+
+-- One after the other is served.
+pub data InSeries {D : Type 0} (Meet : Meeting D) : EngineView D → List PeerEnd → EngineView D → Type 0 where
+  none_yet : (engine : EngineView D) → InSeries Meet engine [] engine
+  one_more : (old mid new : EngineView D) (ends : List PeerEnd) (end : PeerEnd)
+      → InSeries Meet old ends mid → Meet mid end new → InSeries Meet old (ends ++ end ∷ []) new
+
+-- ---- lines
+
+-- the number of a connection, and how it ended
+abbrev pub served_line : ℕ → PeerEnd → List ℕ
+served_line number end = line_text (codes "served " ++ decimal number ++ codes " " ++ end_text end)
+
+-- a line for each; the first has the number 1
+abbrev pub served_lines : List PeerEnd → List ℕ
+served_lines ends = flat_map (λ p. served_line p.0 p.1) (enumerate_from 1 ends)
+
+-- so many were served, and a line tells of each
+pub record HasServed {D : Type 0} (Meet : Meeting D) (count : ℕ) (old : EngineView D)
+    (before after : Option (List ℕ)) (new : EngineView D) : Type 0 where
+  pub ends : List PeerEnd
+  pub counted : length ends ≡ count
+  pub in_series : InSeries Meet old ends new
+  pub lines : Appends before after (served_lines ends)
+
+-- a connection is served over TCP, and then all devices are synced
+pub record MeetsAndSyncs {D : Type 0} (history : D → History) (honest : D → Type 0) (faults : D → ℕ)
+    (dig : List ℕ → List ℕ) (old : EngineView D) (end : PeerEnd) (new : EngineView D) : Type 0 where
+  pub mid : EngineView D
+  pub met : MeetsOverTcp history honest faults dig old end mid
+  pub synced : StepsTo history honest faults dig mid Flush (Flushed (Ok tt)) new

@@ -1,0 +1,42 @@
+-- What a fetch comes to.
+use Rattle.std.specs.Prelude.{ℕ, Bool, List, Option, map}
+use Rattle.std.specs.Io.KnownBytes.{Appends}
+use Rattle.sha2.specs.Sha256.{sha256}
+use Rattle.bt_disk.specs.History.{History}
+use Rattle.bt_disk.specs.Pool.{PooledView}
+use Rattle.bt_machine.specs.State.{EngineView}
+use Rattle.bt_peers.specs.Peers.{InTurn, Trial}
+use Rattle.bt_peers.specs.declared.end.PeerEnd.{PeerEnd}
+use Rattle.bt_sockets.specs.Link.{Dials, undialled}
+use Rattle.bt_transfer.specs.Ending.{IsConcluded}
+use Rattle.bt_transfer.specs.Loading.{IsLoaded}
+use Rattle.bt_transfer.specs.OverTcp.{TriesOverTcp}
+use Rattle.bt_transfer.specs.PeerLines.{peer_lines}
+use Rattle.bt_transfer.specs.Store.{pooled_faults, pooled_history, pooled_honest}
+use Rattle.bt_transfer.specs.declared.peer.Peer.{Peer}
+
+-- The peers were tried in turn, a line tells of each that was, and then it is concluded.
+pub record HasFetched {D L : Type 0} (Try : Trial D L) (history : D → History) (honest : D → Type 0)
+    (faults : D → ℕ) (dig : List ℕ → List ℕ) (peers : List Peer) (old : EngineView D) (links : List L)
+    (before after : Option (List ℕ)) (status : ℕ) (rest : List L) (new : EngineView D) : Type 0 where
+  pub ends : List PeerEnd
+  pub met : EngineView D
+  pub told : Option (List ℕ)
+  pub in_turn : InTurn Try old links ends rest met
+  pub lines : Appends before told (peer_lines peers ends)
+  pub end : IsConcluded history honest faults dig met told after status new
+
+-- a link to each peer, which was not dialled
+abbrev pub links_of : List Peer → List Dials
+links_of peers = map (λ peer. undialled) peers
+
+-- The store of a torrent of some text was opened in a folder, and the rest was fetched from the peers.
+pub record IsFetch (is_info : Bool) (dir : List ℕ) (peers : List Peer) (before after : Option (List ℕ))
+    (status : ℕ) : Type 0 where
+  pub store : EngineView PooledView
+  pub loaded : IsLoaded is_info dir store
+  pub rest : List Dials
+  pub last : EngineView PooledView
+  pub fetched : HasFetched (TriesOverTcp pooled_history pooled_honest pooled_faults sha256)
+      pooled_history pooled_honest pooled_faults sha256 peers store (links_of peers)
+      before after status rest last

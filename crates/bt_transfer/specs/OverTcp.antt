@@ -1,0 +1,29 @@
+-- Peers over TCP. What a socket gives is some bytes, and it takes some: it is known by these alone.
+use Rattle.std.specs.Prelude.{⊤, ℕ, ◌^◌, List}
+use Rattle.bt_disk.specs.History.{History}
+use Rattle.bt_machine.specs.State.{EngineView}
+use Rattle.bt_peers.specs.Peers.{IsTried, Trial}
+use Rattle.bt_peers.specs.declared.end.PeerEnd.{PeerEnd}
+use Rattle.bt_sockets.specs.Link.{Dials}
+use Rattle.bt_sockets.specs.Listener.{IsServed}
+
+-- a session takes so many turns at most
+abbrev pub session_turns : ℕ
+session_turns = 2 ^ 32
+
+-- a peer is tried, over a link of which the dials are counted
+abbrev pub TriesOverTcp : {D : Type 0} → (D → History) → (D → Type 0) → (D → ℕ) → (List ℕ → List ℕ)
+    → Trial D Dials
+TriesOverTcp history honest faults dig =
+    IsTried history honest faults dig (λ link. link.all) (λ link. link.failed) (λ link given taken. ⊤)
+    (λ bytes. bytes) (λ bytes. bytes) session_turns
+
+-- what is said of one connection: of the engine before, the peer's end and the engine afterwards
+abbrev pub Meeting : (D : Type 0) → Type 1
+Meeting D = EngineView D → PeerEnd → EngineView D → Type 0
+
+-- a connection is served
+abbrev pub MeetsOverTcp : {D : Type 0} → (D → History) → (D → Type 0) → (D → ℕ) → (List ℕ → List ℕ)
+    → Meeting D
+MeetsOverTcp history honest faults dig old end new =
+    IsServed history honest faults dig (λ bytes. bytes) (λ bytes. bytes) session_turns old end new

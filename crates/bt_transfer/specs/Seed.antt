@@ -1,0 +1,50 @@
+-- What a seed comes to.
+use Rattle.std.specs.Prelude.{◌≡◌, ℕ, ◌-◌, ◌^◌, ◌++◌, Bool, List, Ok, Option, codes}
+use Rattle.std.specs.Fmt.{decimal}
+use Rattle.std.specs.Io.KnownBytes.{Appends}
+use Rattle.sha2.specs.Sha256.{sha256}
+use Rattle.bt_check.specs.Display.{line_text}
+use Rattle.bt_disk.specs.History.{History}
+use Rattle.bt_disk.specs.Pool.{PooledView}
+use Rattle.bt_machine.specs.declared.event.Event.TheVariants.{Flush}
+use Rattle.bt_machine.specs.declared.event.Answer.TheVariants.{Flushed}
+use Rattle.bt_machine.specs.State.{EngineView}
+use Rattle.bt_machine.specs.View.{StepsTo}
+use Rattle.bt_transfer.specs.Connections.{HasServed, MeetsAndSyncs}
+use Rattle.bt_transfer.specs.Loading.{IsLoaded}
+use Rattle.bt_transfer.specs.OverTcp.{MeetsOverTcp}
+use Rattle.bt_transfer.specs.Store.{pooled_faults, pooled_history, pooled_honest}
+use Rattle.bt_transfer.specs.declared.peer.Serving.{Serving}
+use Rattle.bt_transfer.specs.declared.peer.Serving.TheVariants.{Count, Forever}
+
+-- so many connections were served, and then all devices were synced
+pub record HasServedCount {D : Type 0} (history : D → History) (honest : D → Type 0) (faults : D → ℕ)
+    (dig : List ℕ → List ℕ) (count : ℕ) (old : EngineView D) (before after : Option (List ℕ))
+    (new : EngineView D) : Type 0 where
+  pub mid : EngineView D
+  pub served : HasServed (MeetsOverTcp history honest faults dig) count old before after mid
+  pub synced : StepsTo history honest faults dig mid Flush (Flushed (Ok tt)) new
+
+-- Where no count is given, all are served that can be numbered, and behind each all devices are synced.
+abbrev pub HasServedAll : {D : Type 0} → (D → History) → (D → Type 0) → (D → ℕ) → (List ℕ → List ℕ)
+    → Serving → EngineView D → (before after : Option (List ℕ)) → EngineView D → Type 0
+HasServedAll history honest faults dig (Count count) old before after new =
+    HasServedCount history honest faults dig count old before after new
+HasServedAll history honest faults dig Forever old before after new =
+    HasServed (MeetsAndSyncs history honest faults dig) (2 ^ 64 - 1) old before after new
+
+-- the port at which connections are waited for
+abbrev pub listening_line : ℕ → List ℕ
+listening_line port = line_text (codes "listening " ++ decimal port)
+
+-- The store of a torrent of some text was opened in a folder, the port is told, and connections were served.
+pub record IsSeed (is_info : Bool) (dir : List ℕ) (serving : Serving) (before after : Option (List ℕ))
+    (status : ℕ) : Type 0 where
+  pub store : EngineView PooledView
+  pub loaded : IsLoaded is_info dir store
+  pub port : ℕ
+  pub told : Option (List ℕ)
+  pub listening : Appends before told (listening_line port)
+  pub last : EngineView PooledView
+  pub served : HasServedAll pooled_history pooled_honest pooled_faults sha256 serving store told after last
+  pub done : status ≡ 0

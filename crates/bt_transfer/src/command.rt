@@ -1,0 +1,4 @@
+//! The commands, each as a function of its own.
+
+pub(crate) mod fetch;
+pub(crate) mod seed;

@@ -1,0 +1,95 @@
+//! The command `fetch`: peers are tried in turn, and what came of it is told.
+ghost use Rattle.std.specs.Prelude.{[], ◌≡◌, ◌⊎◌, All, length, IfErr, IfOk};
+ghost use Rattle.std.specs.Io.KnownBytes.{Keeps};
+ghost use Rattle.bt_check.specs.Fault.{device, out_of_memory, status_of};
+ghost use Rattle.bt_check.specs.TorrentFile.{IsLoadFault};
+ghost use Rattle.bt_peers.specs.Peers.{IsTried};
+ghost use Rattle.bt_transfer.specs.Fetch.{HasFetched, IsFetch, links_of};
+
+use crate::ending::conclude;
+use crate::loading::load_store;
+use crate::peer::Peer;
+use crate::peer_lines::write_peers;
+use bt_check::{Fault, Source};
+use bt_disk::Disk;
+use bt_engine::Engine;
+use bt_peers::{Link, PeerEnd, run_peers};
+use bt_sockets::{IDLE_SECONDS, SESSION_TURNS, TcpLink};
+use bt_tree::NodeHash;
+use std::alloc::{AllocError, Global};
+use std::io::Write;
+use std::net::Net;
+use std::rt::Files;
+use std::time::Duration;
+
+/// Opens the store of a torrent's files in a folder, as `load_store` does; takes peers in turn until all
+/// files are complete; writes how it ended with each that was tried; has all put on the devices; and reports.
+/// The answer is the status of the program: 0 where all files are complete, else 1.
+///
+/// Errors: the torrent is refused, and then nothing is written; a device or the writer failed; out of memory.
+pub fn fetch<R: Files + AllocGlobal + Clone + Drop, N: Net, W: Write>(
+    rt: &R,
+    net: &N,
+    source: Source<'_>,
+    dir: &str,
+    peers: &[Peer<'_>],
+    writer: &mut W,
+) -> Result<u8, Fault>
+    ensures done { IfOk result (λ status. IsFetch source.entry.is_info dir.now peers.now
+        (W.contents writer.old) (W.contents writer.new) status) }
+    ensures fault { IfErr result (IsLoadFault source.entry.is_info) }
+    ensures refused { IfErr result
+        (λ fault. status_of fault ≡ 2 → Keeps (W.contents writer.old) (W.contents writer.new)) }
+{
+    let mut engine = load_store(rt, source, dir)?;
+    let mut links = links_to(rt.alloc(), net, peers)?;
+    let status = fetch_over(
+        rt.alloc(),
+        &mut engine,
+        peers,
+        &mut links,
+        SESSION_TURNS,
+        writer,
+    )?;
+    Ok(status)
+}
+
+/// A link to each peer.
+fn links_to<'a, N: Net>(
+    alloc: Global,
+    net: &'a N,
+    peers: &'a [Peer<'a>],
+) -> Result<Vec<TcpLink<'a, N>>, AllocError>
+    ensures { IfOk result (λ links. links.items ≡ links_of peers.now) }
+{
+    let idle = Duration::from_secs(IDLE_SECONDS);
+    let mut links = Vec::new(alloc);
+    for peer in peers {
+        links.push(TcpLink::new(net, peer.host, peer.port, idle))?;
+    }
+    Ok(links)
+}
+
+/// Takes peers in turn, each by its link, until the engine is complete; writes how it ended with each that
+/// was tried; and then has all put on the devices, and reports. A peer's session has so many turns at most.
+fn fetch_over<D: Disk + Drop, H: NodeHash, L: Link, W: Write>(
+    alloc: Global,
+    engine: &mut Engine<D, H>,
+    peers: &[Peer<'_>],
+    links: &mut [L],
+    turns: u64,
+    writer: &mut W,
+) -> Result<u8, Fault>
+    requires same_length { length links.old ≡ length peers.now }
+    requires undialled { All (λ link. L.dials link ≡ 0) links.old }
+    requires no_peer { engine.old.state.peers ≡ [] }
+    ensures fetched { IfOk result (λ status. HasFetched (IsTried D.history D.honest D.faults H.digest L.dials
+        L.failures L.gives L.R.remaining L.W.contents turns) D.history D.honest D.faults H.digest peers.now
+        engine.old links.old (W.contents writer.old) (W.contents writer.new) status links.new engine.new) }
+    ensures fault { IfErr result (λ fault. (fault ≡ device) ⊎ (fault ≡ out_of_memory)) }
+{
+    let mut ends = vec![in alloc; PeerEnd::Untried; peers.len()]?;
+    run_peers(alloc, engine, links, &mut ends, turns);
+    write_peers(alloc, peers, &ends, writer)?;
+    conclude(alloc, engine, writer)
+}

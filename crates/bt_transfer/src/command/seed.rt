@@ -1,0 +1,103 @@
+//! The command `seed`: connections are waited for and served, and what came of each is told.
+ghost use Rattle.std.specs.Prelude.{[], ℕ, ◌≡◌, ◌⊎◌, ◌++◌, IfErr, IfOk, OnOk, string_bytes};
+ghost use Rattle.std.specs.Io.KnownBytes.{Appends, Keeps};
+ghost use Rattle.bt_check.specs.Fault.{device, out_of_memory, status_of};
+ghost use Rattle.bt_check.specs.TorrentFile.{IsLoadFault};
+ghost use Rattle.bt_transfer.specs.Seed.{HasServedAll, IsSeed, listening_line};
+
+use crate::connections::{serve_count, serve_forever};
+use crate::loading::load_store;
+use crate::peer::{Service, Serving};
+use crate::store::finish;
+use bt_check::{Fault, Source, print};
+use bt_disk::Disk;
+use bt_engine::Engine;
+use bt_sockets::{listen, port_of};
+use bt_tree::NodeHash;
+use std::alloc::{AllocError, Global};
+use std::io::Write;
+use std::net::{Net, OpenListener};
+use std::rt::Files;
+
+/// Opens the store of a torrent's files in a folder, as `load_store` does; listens, and writes at which port;
+/// and serves connections, one after the other, whatever came of those before, each with a line that tells how
+/// it ended. All is put on the devices behind the last, or behind each where no count is given. The answer is
+/// the status of the program, 0.
+///
+/// Errors: the torrent is refused, or the port can't be had, and then nothing is written; a device, the writer
+/// or the socket failed; out of memory.
+pub fn seed<R: Files + AllocGlobal + Clone + Drop, N: Net, W: Write>(
+    rt: &R,
+    net: &N,
+    source: Source<'_>,
+    dir: &str,
+    service: Service<'_>,
+    writer: &mut W,
+) -> Result<u8, Fault>
+    ensures done { IfOk result (λ status. IsSeed source.entry.is_info dir.now service.entry.serving
+        (W.contents writer.old) (W.contents writer.new) status) }
+    ensures fault { IfErr result (IsLoadFault source.entry.is_info) }
+    ensures refused { IfErr result
+        (λ fault. status_of fault ≡ 2 → Keeps (W.contents writer.old) (W.contents writer.new)) }
+{
+    let mut engine = load_store(rt, source, dir)?;
+    let listener = listen(net, service.address, service.port)?;
+    announce(rt.alloc(), &listener, writer)?;
+    serve_all(
+        rt.alloc(),
+        net,
+        &mut engine,
+        &listener,
+        service.serving,
+        writer,
+    )?;
+    Ok(0)
+}
+
+/// Writes at which port connections are waited for, and gives it.
+fn announce<L: OpenListener, W: Write>(
+    alloc: Global,
+    listener: &L,
+    writer: &mut W,
+) -> Result<u16, Fault>
+    ensures told { IfOk result
+        (λ port. Appends (W.contents writer.old) (W.contents writer.new) (listening_line port)) }
+    ensures fault { IfErr result (λ fault. (fault ≡ device) ⊎ (fault ≡ out_of_memory)) }
+{
+    let port = port_of(listener)?;
+    let mut line = String::new(alloc);
+    push_line(&mut line, port)?;
+    print(writer, line.as_str())?;
+    Ok(port)
+}
+
+/// Adds the line of a port.
+fn push_line(line: &mut String, port: u16) -> Result<(), AllocError>
+    ensures { OnOk result (string_bytes line.new ≡ string_bytes line.old ++ listening_line port) }
+{
+    use std::fmt::Write;
+    writeln!(line, "listening {port}")
+}
+
+/// Serves as many connections as is said, and has all put on the devices.
+fn serve_all<D: Disk + Drop, H: NodeHash, N: Net, W: Write>(
+    alloc: Global,
+    net: &N,
+    engine: &mut Engine<D, H>,
+    listener: &N::Listener,
+    serving: Serving,
+    writer: &mut W,
+) -> Result<(), Fault>
+    requires no_peer { engine.old.state.peers ≡ [] }
+    ensures served { OnOk result (HasServedAll D.history D.honest D.faults H.digest serving
+        engine.old (W.contents writer.old) (W.contents writer.new) engine.new) }
+    ensures fault { IfErr result (λ fault. (fault ≡ device) ⊎ (fault ≡ out_of_memory)) }
+{
+    match serving {
+        Serving::Count(count) => {
+            serve_count(alloc, net, engine, listener, count, writer)?;
+            finish(engine)
+        }
+        Serving::Forever => serve_forever(alloc, net, engine, listener, writer),
+    }
+}

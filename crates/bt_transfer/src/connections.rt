@@ -1,0 +1,94 @@
+//! Connections that are served one after the other, each with its line.
+ghost use Rattle.std.specs.Prelude.{[], ◌≡◌, ◌⊎◌, ◌++◌, ◌-◌, ◌^◌, IfErr, IfOk, OnOk, string_bytes};
+ghost use Rattle.std.specs.Io.KnownBytes.{Appends};
+ghost use Rattle.bt_check.specs.Fault.{device, out_of_memory};
+ghost use Rattle.bt_transfer.specs.Connections.{HasServed, MeetsAndSyncs, served_line};
+ghost use Rattle.bt_transfer.specs.OverTcp.{MeetsOverTcp};
+
+use crate::store::finish;
+use bt_check::{Fault, print};
+use bt_disk::Disk;
+use bt_engine::Engine;
+use bt_peers::{PeerEnd, end_text};
+use bt_sockets::{IDLE_SECONDS, serve};
+use bt_tree::NodeHash;
+use std::alloc::{AllocError, Global};
+use std::io::Write;
+use std::net::Net;
+use std::time::Duration;
+
+/// Serves so many connections, one after the other, and writes how it ended with each.
+pub(crate) fn serve_count<D: Disk + Drop, H: NodeHash, N: Net, W: Write>(
+    alloc: Global,
+    net: &N,
+    engine: &mut Engine<D, H>,
+    listener: &N::Listener,
+    count: u32,
+    writer: &mut W,
+) -> Result<(), Fault>
+    requires no_peer { engine.old.state.peers ≡ [] }
+    ensures served { OnOk result (HasServed (MeetsOverTcp D.history D.honest D.faults H.digest) count
+        engine.old (W.contents writer.old) (W.contents writer.new) engine.new) }
+    ensures fault { IfErr result (λ fault. (fault ≡ device) ⊎ (fault ≡ out_of_memory)) }
+{
+    for number in 0..count {
+        serve_next(alloc, net, engine, listener, u64::from(number) + 1, writer)?;
+    }
+    Ok(())
+}
+
+/// Serves one connection after the other, whatever came of those before; writes how it ended with each, and
+/// then has all put on the devices.
+pub(crate) fn serve_forever<D: Disk + Drop, H: NodeHash, N: Net, W: Write>(
+    alloc: Global,
+    net: &N,
+    engine: &mut Engine<D, H>,
+    listener: &N::Listener,
+    writer: &mut W,
+) -> Result<(), Fault>
+    requires no_peer { engine.old.state.peers ≡ [] }
+    ensures served { OnOk result (HasServed (MeetsAndSyncs D.history D.honest D.faults H.digest) (2 ^ 64 - 1)
+        engine.old (W.contents writer.old) (W.contents writer.new) engine.new) }
+    ensures fault { IfErr result (λ fault. (fault ≡ device) ⊎ (fault ≡ out_of_memory)) }
+{
+    for number in 0..u64::MAX {
+        serve_next(alloc, net, engine, listener, number + 1, writer)?;
+        finish(engine)?;
+    }
+    Ok(())
+}
+
+/// Serves a connection, which has this number, and writes how it ended. Errors: none could be taken; the
+/// writer failed; out of memory.
+fn serve_next<D: Disk + Drop, H: NodeHash, N: Net, W: Write>(
+    alloc: Global,
+    net: &N,
+    engine: &mut Engine<D, H>,
+    listener: &N::Listener,
+    number: u64,
+    writer: &mut W,
+) -> Result<PeerEnd, Fault>
+    requires no_peer { engine.old.state.peers ≡ [] }
+    ensures served { IfOk result
+        (λ end. MeetsOverTcp D.history D.honest D.faults H.digest engine.old end engine.new) }
+    ensures told { IfOk result
+        (λ end. Appends (W.contents writer.old) (W.contents writer.new) (served_line number end)) }
+    ensures gone { engine.new.state.peers ≡ [] }
+    ensures fault { IfErr result (λ fault. (fault ≡ device) ⊎ (fault ≡ out_of_memory)) }
+{
+    let idle = Duration::from_secs(IDLE_SECONDS);
+    let end = serve(net, alloc, engine, listener, idle)?;
+    let mut line = String::new(alloc);
+    push_line(&mut line, number, end)?;
+    print(writer, line.as_str())?;
+    Ok(end)
+}
+
+/// Adds the line of a connection.
+fn push_line(line: &mut String, number: u64, end: PeerEnd) -> Result<(), AllocError>
+    ensures { OnOk result (string_bytes line.new ≡ string_bytes line.old ++ served_line number end) }
+{
+    use std::fmt::Write;
+    let end = end_text(end);
+    writeln!(line, "served {number} {end}")
+}

@@ -1,0 +1,67 @@
+//! The lines that tell how it ended with each peer.
+ghost use Rattle.std.specs.Prelude.{◌≡◌, ◌⊎◌, ◌++◌, length, true, IfErr, OnOk, string_bytes};
+ghost use Rattle.std.specs.Io.KnownBytes.{Appends};
+ghost use Rattle.bt_check.specs.Fault.{device, out_of_memory};
+ghost use Rattle.bt_transfer.specs.PeerLines.{is_tried, peer_line, peer_lines, peer_text};
+
+use crate::peer::Peer;
+use bt_check::{Fault, print};
+use bt_peers::{PeerEnd, end_text};
+use std::alloc::{AllocError, Global};
+use std::io::Write;
+
+/// Writes a line for each peer that was tried, in order: where it is reached, and how it ended with it.
+pub(crate) fn write_peers<W: Write>(
+    alloc: Global,
+    peers: &[Peer<'_>],
+    ends: &[PeerEnd],
+    writer: &mut W,
+) -> Result<(), Fault>
+    requires { length ends.now ≡ length peers.now }
+    ensures text { OnOk result
+        (Appends (W.contents writer.old) (W.contents writer.new) (peer_lines peers.now ends.now)) }
+    ensures fault { IfErr result (λ fault. (fault ≡ device) ⊎ (fault ≡ out_of_memory)) }
+{
+    for (index, peer) in peers.iter().enumerate() {
+        let end = ends[index];
+        write_peer(alloc, peer, end, writer)?;
+    }
+    Ok(())
+}
+
+/// Writes the line of a peer, if it was tried.
+fn write_peer<W: Write>(
+    alloc: Global,
+    peer: &Peer<'_>,
+    end: PeerEnd,
+    writer: &mut W,
+) -> Result<(), Fault>
+    ensures text { OnOk result
+        (Appends (W.contents writer.old) (W.contents writer.new) (peer_text peer.now end)) }
+    ensures fault { IfErr result (λ fault. (fault ≡ device) ⊎ (fault ≡ out_of_memory)) }
+{
+    let mut line = String::new(alloc);
+    if is_tried(end) {
+        push_line(&mut line, peer, end)?;
+    }
+    print(writer, line.as_str())
+}
+
+fn is_tried(end: PeerEnd) -> bool
+    ensures { result ≡ is_tried end }
+{
+    match end {
+        PeerEnd::Untried => false,
+        PeerEnd::Unreachable | PeerEnd::Refused(_) | PeerEnd::Session(_) => true,
+    }
+}
+
+/// Adds the line of a peer.
+fn push_line(line: &mut String, peer: &Peer<'_>, end: PeerEnd) -> Result<(), AllocError>
+    ensures { OnOk result (string_bytes line.new ≡ string_bytes line.old ++ peer_line peer.now end) }
+{
+    use std::fmt::Write;
+    let Peer { host, port } = *peer;
+    let end = end_text(end);
+    writeln!(line, "peer {host}:{port} {end}")
+}
