@@ -70,8 +70,7 @@ number_none bits rows id text given none n has =
 -- a flag is given just where its text says so
 pub given_is : (rows : List Row) (id text : List ℕ) (b : Bool) → first_of id rows ≡ Some text → b ≡ bytes_eq text (codes "true") → Decides b (IsGiven id rows)
 given_is rows id text b given says =
-    let decides = bytes_decides text (codes "true") in
-    (
+    let decides = bytes_decides text (codes "true") in (
       λ yes. given ∙ ap Some (decides.0 (sym says ∙ yes)),
       λ is. says ∙ decides.1 (let both : Some text ≡ Some (codes "true") = sym given ∙ is in cc),
     )

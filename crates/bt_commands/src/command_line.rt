@@ -141,11 +141,7 @@ fn task_of<'a>(alloc: Global, matches: &ArgMatches<'a>) -> Result<Task<'a>, Refu
 }
 
 /// The task of a subcommand.
-fn task_named<'a>(
-    alloc: Global,
-    name: &str,
-    matches: &ArgMatches<'a>,
-) -> Result<Task<'a>, Refusal>
+fn task_named<'a>(alloc: Global, name: &str, matches: &ArgMatches<'a>) -> Result<Task<'a>, Refusal>
     ensures task { IfOk result (AsksFor name.now (rows_of (found_of matches.now))) }
     ensures refused { IfErr result
         (IsRefusalFor ((task : Task) → ¬ AsksFor name.now (rows_of (found_of matches.now)) task)) }

@@ -24,13 +24,7 @@ use std::process::ExitCode;
 use std::rt::Files;
 
 /// Runs the program on the words of its environment, and gives the status that it exits with.
-pub fn start<
-    R: Env + Files + AllocGlobal + Clone + Drop,
-    N: Net,
-    I: Read,
-    O: Write,
-    E: Write,
->(
+pub fn start<R: Env + Files + AllocGlobal + Clone + Drop, N: Net, I: Read, O: Write, E: Write>(
     rt: &R,
     net: &N,
     reader: &mut I,
@@ -64,13 +58,7 @@ fn words(rt: &(impl Env + AllocGlobal)) -> Result<Vec<String>, Fault>
 /// failed and 4 for out of memory.
 ///
 /// A script comes from the reader. Results and help go to the writer, faults to `faults`.
-pub fn run<
-    R: Files + AllocGlobal + Clone + Drop,
-    N: Net,
-    I: Read,
-    O: Write,
-    E: Write,
->(
+pub fn run<R: Files + AllocGlobal + Clone + Drop, N: Net, I: Read, O: Write, E: Write>(
     rt: &R,
     net: &N,
     words: &[String],
@@ -100,13 +88,7 @@ pub fn run<
 }
 
 /// Reads the words, and does what they ask for.
-fn attempt<
-    R: Files + AllocGlobal + Clone + Drop,
-    N: Net,
-    I: Read,
-    O: Write,
-    E: Write,
->(
+fn attempt<R: Files + AllocGlobal + Clone + Drop, N: Net, I: Read, O: Write, E: Write>(
     rt: &R,
     net: &N,
     words: &[String],
@@ -127,13 +109,7 @@ fn attempt<
 }
 
 /// Does a task, and returns its status.
-fn perform<
-    R: Files + AllocGlobal + Clone + Drop,
-    N: Net,
-    I: Read,
-    O: Write,
-    E: Write,
->(
+fn perform<R: Files + AllocGlobal + Clone + Drop, N: Net, I: Read, O: Write, E: Write>(
     rt: &R,
     net: &N,
     task: Task<'_>,

@@ -7,7 +7,8 @@ ghost use Rattle.bt_commands.specs.Subcommands.{with_version, with_demands, make
 use clap::{Arg, ArgAction, Command};
 use std::alloc::{AllocError, Global};
 
-const ABOUT: &str = "Makes, shows, checks, seeds and fetches BitTorrent v2 torrents, and replays scripts of events.";
+const ABOUT: &str =
+    "Makes, shows, checks, seeds and fetches BitTorrent v2 torrents, and replays scripts of events.";
 
 const VERSION: &str = "0.1.0";
 
@@ -33,8 +34,7 @@ const CHECK_ABOUT: &str =
 
 const DIR_HELP: &str = "The folder in which the torrent's files lie";
 
-const SEED_ABOUT: &str =
-    "Serves the files of a folder to peers that connect, one after the other";
+const SEED_ABOUT: &str = "Serves the files of a folder to peers that connect, one after the other";
 
 const SERVE_HELP: &str = "How many connections are served";
 

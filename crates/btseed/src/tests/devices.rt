@@ -446,7 +446,15 @@ fn expect_check(
     faults: &str,
 ) -> Result<(), Fail> {
     let device = Device::new(rt, failing);
-    expect(&device, rt, top, "check @/t @/files", status, output, faults)
+    expect(
+        &device,
+        rt,
+        top,
+        "check @/t @/files",
+        status,
+        output,
+        faults,
+    )
 }
 
 #[test]

@@ -19,8 +19,7 @@ returns-then-is_forever-2-clause-serving c = (
 
 pub returns-in-Some-number_in-clause-serving : goal.returns-in-Some-number_in-clause-serving
 returns-in-Some-number_in-clause-serving c =
-    let found = found_of c.args.matches.now in
-    (
+    let found = found_of c.args.matches.now in (
       record {
         text = c.in-Some.digits.now;
         given = word_some found (codes "serve") c.get_str.result c.in-Some.digits c.get_str.ensures c.in-Some.is;
