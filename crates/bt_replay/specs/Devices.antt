@@ -27,7 +27,8 @@ set_file _ = None
 -- the device, as it is set, of which no call was made yet: a second call to fail replaces the first, as does a
 -- second flip
 abbrev pub with_setting : Line → Device → Device
-with_setting (Fault file call) device = record device { failing_once = setting_after device.calls call device.failing_once }
+with_setting (Fault file call) device =
+    record device { failing_once = setting_after device.calls call device.failing_once }
 with_setting (Flip file call at) device = record device { flipping = Some (call, at) }
 with_setting _ device = device
 

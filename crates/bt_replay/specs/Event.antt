@@ -15,7 +15,8 @@ use Rattle.bt_replay.specs.declared.line.Line.TheVariants.{Connect, Hello, Feed,
 
 -- the handshake that a peer of a script sends: the torrent's, with the peer's id of twenty `p`
 abbrev pub peer_handshake : Metainfo → List ℕ
-peer_handshake torrent = handshake_spelling (record { infohash = take 20 torrent.infohash; peer_id = replicate 20 112 })
+peer_handshake torrent =
+    handshake_spelling (record { infohash = take 20 torrent.infohash; peer_id = replicate 20 112 })
 
 -- the event that a line asks for; `hello` feeds the handshake
 abbrev pub event_of : (handshake : List ℕ) → Line → Option Event

@@ -79,10 +79,12 @@ word_text report = codes "report"
 abbrev pub Makes : Word → List (List ℕ) → Line → Type 0
 Makes torrent fields line = (bytes : List ℕ) × IsBytes fields bytes × (line ≡ Torrent bytes)
 Makes fault fields line = (file call : ℕ) × IsFileAndCall fields file call × (line ≡ Fault file call)
-Makes flip fields line = (file call at : ℕ) × IsFileCallAndPlace fields file call at × (line ≡ Flip file call at)
+Makes flip fields line =
+    (file call at : ℕ) × IsFileCallAndPlace fields file call at × (line ≡ Flip file call at)
 Makes connect fields line = (fields ≡ []) × (line ≡ Connect)
 Makes hello fields line = (key : PeerKey) × IsPeer fields key × (line ≡ Hello key)
-Makes feed fields line = (key : PeerKey) × (bytes : List ℕ) × IsPeerAndBytes fields key bytes × (line ≡ Feed key bytes)
+Makes feed fields line =
+    (key : PeerKey) × (bytes : List ℕ) × IsPeerAndBytes fields key bytes × (line ≡ Feed key bytes)
 Makes next fields line = (key : PeerKey) × IsPeer fields key × (line ≡ Next key)
 Makes lost fields line = (key : PeerKey) × IsPeer fields key × (line ≡ Lost key)
 Makes rechoke fields line = (fields ≡ []) × (line ≡ Rechoke)

@@ -26,7 +26,8 @@ use Rattle.bt_replay.specs.declared.line.Line.TheVariants.{Torrent}
 -- a text without the line feed at its end, where there is one
 abbrev pub without_last_feed : List ℕ → List ℕ
 without_last_feed text =
-    if nat_lt 0 (length text) && slice_index text (length text - 1) == 10 then take (length text - 1) text else text
+    if nat_lt 0 (length text) && slice_index text (length text - 1) == 10 then take (length text - 1) text
+    else text
 
 -- the lines of a script: each is ended by a line feed, which the last one may lack
 abbrev pub script_lines : List ℕ → List (List ℕ)
@@ -52,8 +53,8 @@ pub data NamesNone (text : List ℕ) (fault : ReplayFault) : Type 0 where
   other_line : (line : Line) → Spells text line → torrent_bytes line ≡ None → fault ≡ bad_line_at 1
       → NamesNone text fault
   refused : (line : Line) (bytes : List ℕ) (refusal : MetaError) → Spells text line
-      → torrent_bytes line ≡ Some bytes → IsRefused first_fault bytes refusal → fault ≡ refused_torrent refusal
-      → NamesNone text fault
+      → torrent_bytes line ≡ Some bytes → IsRefused first_fault bytes refusal
+      → fault ≡ refused_torrent refusal → NamesNone text fault
   no_memory : fault ≡ OutOfMemory → NamesNone text fault
 
 -- ---- the engine
@@ -82,15 +83,16 @@ pub data Replays (script : List ℕ) (old new : Option (List ℕ)) (outcome : Re
   whole : (first : List ℕ) (lines rest : List (List ℕ)) (torrent : Metainfo) (engine now : EngineView Device)
       (count : ℕ) → script_lines script ≡ first ∷ lines → NamesTorrent first torrent
       → BeginsOn torrent lines engine rest count
-      → HasRun device_history device_honest device_faults sha256 (peer_handshake torrent) engine rest old new now
+      → HasRun device_history device_honest device_faults sha256 (peer_handshake torrent) engine
+      rest old new now
       → outcome ≡ Ok tt → Replays script old new outcome
   early : (first : List ℕ) (lines rest : List (List ℕ)) (torrent : Metainfo) (engine : EngineView Device)
       (count : ℕ) (fault : ReplayFault) → script_lines script ≡ first ∷ lines → NamesTorrent first torrent
       → BeginsOn torrent lines engine rest count
-      → EndsEarly device_history device_honest device_faults sha256 (peer_handshake torrent) engine (count + 2)
-      rest old new fault
+      → EndsEarly device_history device_honest device_faults sha256 (peer_handshake torrent) engine
+      (count + 2) rest old new fault
       → outcome ≡ Err fault → Replays script old new outcome
-  unbegun : (first : List ℕ) (lines : List (List ℕ)) (fault : ReplayFault) → script_lines script ≡ first ∷ lines
-      → NamesNone first fault → Keeps old new → outcome ≡ Err fault → Replays script old new outcome
+  unbegun : (first : List ℕ) (lines : List (List ℕ)) (fault : ReplayFault)
+      → script_lines script ≡ first ∷ lines → NamesNone first fault → Keeps old new → outcome ≡ Err fault → Replays script old new outcome
   without_memory : Keeps old new → outcome ≡ Err OutOfMemory → Replays script old new outcome
   unwritten : outcome ≡ Err Write → Replays script old new outcome

@@ -33,7 +33,8 @@ fn push_joined(
     joined: &Result<(PeerKey, Output), ConnectError>,
 ) -> Result<(), AllocError>
     requires { AllFit (sent_by (Connected joined.now)) }
-    ensures { OnOk result (string_bytes text.new ≡ string_bytes text.old ++ answer_text (Connected joined.now)) }
+    ensures { OnOk result
+        (string_bytes text.new ≡ string_bytes text.old ++ answer_text (Connected joined.now)) }
 {
     match joined {
         Ok((key, output)) => {
@@ -78,7 +79,8 @@ fn push_choice(
     choice: &Result<Output, AllocError>,
 ) -> Result<(), AllocError>
     requires { AllFit (sent_by (Rechoked choice.now)) }
-    ensures { OnOk result (string_bytes text.new ≡ string_bytes text.old ++ answer_text (Rechoked choice.now)) }
+    ensures { OnOk result
+        (string_bytes text.new ≡ string_bytes text.old ++ answer_text (Rechoked choice.now)) }
 {
     match choice {
         Ok(output) => {
@@ -95,7 +97,8 @@ fn push_done(
     word: &str,
     done: &Result<(), EngineError>,
 ) -> Result<(), AllocError>
-    ensures ok { OnOk done.now (OnOk result (string_bytes text.new ≡ string_bytes text.old ++ line_text word.now)) }
+    ensures ok { OnOk done.now
+        (OnOk result (string_bytes text.new ≡ string_bytes text.old ++ line_text word.now)) }
     ensures err { IfErr done.now (λ error. OnOk result
         (string_bytes text.new ≡ string_bytes text.old ++ refused_text (event_refusal error))) }
 {
@@ -116,7 +119,8 @@ fn push_adopted(text: &mut String, adopted: &Result<Adopted, AdoptError>) -> Res
 }
 
 fn push_flushed(text: &mut String, flushed: &Result<(), FlushError>) -> Result<(), AllocError>
-    ensures { OnOk result (string_bytes text.new ≡ string_bytes text.old ++ answer_text (Flushed flushed.now)) }
+    ensures { OnOk result
+        (string_bytes text.new ≡ string_bytes text.old ++ answer_text (Flushed flushed.now)) }
 {
     match flushed {
         Ok(()) => text.push_str("done\n"),

@@ -85,6 +85,7 @@ pub record IsSession {D : Type 0} (history : D → History) (honest : D → Type
     (last : Place D) : Type 0 where
   pub key : PeerKey
   pub engine : EngineView D
-  pub ended : HasEnded history honest faults dig key until_complete given first end (record last { engine = engine })
+  pub ended : HasEnded history honest faults dig key until_complete given first end
+      (record last { engine = engine })
   pub removed : Result (Unit {0}) EngineError
   pub removal : StepsTo history honest faults dig engine (Lost key) (LostAnswer removed) last.engine

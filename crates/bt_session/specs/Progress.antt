@@ -57,7 +57,8 @@ pub record HasRun {D : Type 0} (history : D → History) (honest : D → Type 0)
     (turns : ℕ) (last : Answer) (now : Place D) : Type 0 where
   pub events : List Event
   pub answers : List Answer
-  pub session : Session history honest faults dig key until_complete first.engine events answers last now.engine
+  pub session : Session history honest faults dig key until_complete first.engine events answers last
+      now.engine
   pub count : count_by is_turn events ≡ turns
   pub read : Consumes first.remaining now.remaining (flat_map fed_by events)
   pub written : how_much first.contents now.contents (frames_in key answers)
