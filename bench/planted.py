@@ -5,7 +5,7 @@
 
 The last commit is copied to a temporary folder. There the edits of `planted/CRATE` take the place of those of
 `crates/CRATE/must-fail`, and `rt must-fail` tries them: of all crates that have any, or of those that are named. An edit takes 20
-to 60 seconds of a processor, all of them more than an hour, and a crate that no check on this machine has proved its proof besides.
+to 60 seconds of a processor, all of them some two hours, and a crate that no check on this machine has proved its proof besides.
 Printed are those that were refused, each with the first goal that was left, those that were not, those that were not tried, and
 those that are no edits any more, since the text that they change does not stand there. The status is 0 where all were refused, else 1.
 """
