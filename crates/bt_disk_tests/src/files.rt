@@ -1,0 +1,153 @@
+//! Files of the system that rows make, and what the system itself says of them.
+
+use crate::bytes::tell_bytes;
+use crate::shop::Shop;
+use crate::words::{RowError, Words, tell, tell_whether};
+use bt_disk::FileDisk;
+use std::alloc::{AllocError, Global};
+use std::fs::{self, Permissions};
+use std::io::{self, PipeReader, PipeWriter};
+use std::os::fd::{AsRawFd, RawFd};
+use std::os::unix;
+use std::os::unix::fs::PermissionsExt;
+use std::{env, process};
+
+/// A folder of this run's own, empty.
+pub fn new_folder(rt: &HostRuntime) -> anyhow::Result<String> {
+    let top = env::temp_dir(rt)?;
+    let Some(top) = top.to_str() else {
+        anyhow::bail!("a folder whose name is no text");
+    };
+    let id = process::id(rt.process());
+    let path = format!(in rt.alloc(); "{top}/bt_disk_tests-{id}")?;
+    clear_folder(rt, path.as_str());
+    fs::create_dir(rt, path.as_str())?;
+    Ok(path)
+}
+
+/// Removes a folder, if it is there.
+pub fn clear_folder(rt: &HostRuntime, path: &str) {
+    let _ = fs::remove_dir_all(rt, path);
+}
+
+/// The path that a word names: of a file of the folder, or as it stands where it begins with a slash.
+pub fn path_of(alloc: Global, top: &str, word: &str) -> Result<String, AllocError> {
+    if word.starts_with('/') {
+        String::from_str(alloc, word)
+    } else {
+        format!(in alloc; "{top}/{word}")
+    }
+}
+
+/// What the system is asked for, by its name.
+pub fn disk_row(shop: &Shop, words: &mut Words, out: &mut String) -> Result<(), RowError> {
+    match words.word() {
+        "file" => write_row(shop, words, out),
+        "bytes" => found_row(shop, words, out),
+        "remove" => remove_row(shop, words, out),
+        "folder" => folder_row(shop, words, out),
+        "link" => link_row(shop, words, out),
+        "close" => close_row(shop, words, out),
+        "alike" => alike_row(shop, words, out),
+        "pipe" => pipe_row(shop, out),
+        _ => Err(RowError::Unread),
+    }
+}
+
+/// Whether the system did it.
+fn tell_asked(out: &mut String, asked: io::Result<()>) -> Result<(), RowError> {
+    tell_whether(out, asked.is_ok(), "done", "refused")
+}
+
+/// A file with these bytes.
+fn write_row(shop: &Shop, words: &mut Words, out: &mut String) -> Result<(), RowError> {
+    let path = shop.path(words)?;
+    let bytes = words.bytes(shop.alloc())?;
+    tell_asked(out, fs::write(shop.host, path.as_str(), &bytes))
+}
+
+fn found_row(shop: &Shop, words: &mut Words, out: &mut String) -> Result<(), RowError> {
+    let path = shop.path(words)?;
+    tell_found(shop, path.as_str(), out)
+}
+
+/// The bytes that the system reads.
+fn tell_found(shop: &Shop, path: &str, out: &mut String) -> Result<(), RowError> {
+    match fs::read(shop.host, path) {
+        Ok(bytes) => tell_bytes(shop.alloc(), out, &bytes),
+        Err(_) => tell(out, "refused"),
+    }
+}
+
+fn remove_row(shop: &Shop, words: &mut Words, out: &mut String) -> Result<(), RowError> {
+    let path = shop.path(words)?;
+    tell_asked(out, fs::remove_file(shop.host, path.as_str()))
+}
+
+fn folder_row(shop: &Shop, words: &mut Words, out: &mut String) -> Result<(), RowError> {
+    let path = shop.path(words)?;
+    tell_asked(out, fs::create_dir(shop.host, path.as_str()))
+}
+
+/// A symbolic link that leads to a path.
+fn link_row(shop: &Shop, words: &mut Words, out: &mut String) -> Result<(), RowError> {
+    let link = shop.path(words)?;
+    let path = shop.path(words)?;
+    tell_asked(
+        out,
+        unix::fs::symlink(shop.host, path.as_str(), link.as_str()),
+    )
+}
+
+/// Takes all rights from a file.
+fn close_row(shop: &Shop, words: &mut Words, out: &mut String) -> Result<(), RowError> {
+    let path = shop.path(words)?;
+    tell_asked(
+        out,
+        fs::set_permissions(shop.host, path.as_str(), Permissions::from_mode(0)),
+    )
+}
+
+/// Whether a device reads a file just where the system does.
+fn alike_row(shop: &Shop, words: &mut Words, out: &mut String) -> Result<(), RowError> {
+    let path = shop.path(words)?;
+    let is_read = can_read(shop.host, path.as_str());
+    let is_alike = is_read == fs::read(shop.host, path.as_str()).is_ok();
+    tell_whether(out, is_alike, "alike", "other than the system")
+}
+
+/// Whether a file is opened to be read.
+fn can_read(rt: &HostRuntime, path: &str) -> bool {
+    FileDisk::reading(rt, path).is_ok()
+}
+
+/// Whether a file is opened to be written.
+fn can_write(rt: &HostRuntime, path: &str) -> bool {
+    FileDisk::writing(rt, path).is_ok()
+}
+
+/// A pipe that has no bytes and a writer, so that opening or reading it may wait: whether each of its open ends
+/// is refused by its path.
+fn pipe_row(shop: &Shop, out: &mut String) -> Result<(), RowError> {
+    match io::pipe(shop.host) {
+        Ok((reader, writer)) => tell_ends(shop, &reader, &writer, out),
+        Err(_) => tell(out, "no pipe"),
+    }
+}
+
+fn tell_ends(
+    shop: &Shop,
+    reader: &PipeReader,
+    writer: &PipeWriter,
+    out: &mut String,
+) -> Result<(), RowError> {
+    tell_end(shop, reader.as_raw_fd(), out)?;
+    tell(out, ", ")?;
+    tell_end(shop, writer.as_raw_fd(), out)
+}
+
+fn tell_end(shop: &Shop, end: RawFd, out: &mut String) -> Result<(), RowError> {
+    let path = format!(in shop.alloc(); "/proc/self/fd/{end}")?;
+    let is_opened = can_read(shop.host, path.as_str()) || can_write(shop.host, path.as_str());
+    tell_whether(out, is_opened, "opened", "fault")
+}

@@ -1,0 +1,47 @@
+//! Calls devices of bytes, and stores of blocks on them, as the rows of `stdin` say, and prints what each call
+//! answers: `stdout` has what they are to answer. README.md tells the rows.
+#![tactic(auto)]
+
+mod bytes;
+mod calls;
+mod device;
+mod files;
+mod fixture;
+mod many;
+mod shop;
+mod stage;
+mod store;
+mod system;
+mod words;
+
+use files::{clear_folder, new_folder};
+use stage::Stage;
+use system::Counts;
+
+fn main(rt: HostRuntime) -> anyhow::Result<()> {
+    let top = new_folder(&rt)?;
+    let counts = Counts::new();
+    let printed = print_answers(&rt, &counts, top.as_str());
+    clear_folder(&rt, top.as_str());
+    printed
+}
+
+/// Answers the rows, whose files lie in a folder.
+fn print_answers(rt: &HostRuntime, counts: &Counts, top: &str) -> anyhow::Result<()> {
+    let mut stage = Stage::new(rt, counts, top);
+    print_lines(rt, &mut stage)
+}
+
+fn print_lines(rt: &HostRuntime, stage: &mut Stage<'_>) -> anyhow::Result<()> {
+    for line in rt.lines(rt.alloc()) {
+        let line = line?;
+        print_line(rt, stage, line.as_str())?;
+    }
+    Ok(())
+}
+
+fn print_line(rt: &HostRuntime, stage: &mut Stage<'_>, row: &str) -> anyhow::Result<()> {
+    let answer = stage.answer(rt.alloc(), row)?;
+    println!(rt; "{answer}")?;
+    Ok(())
+}

@@ -1,0 +1,121 @@
+//! What the rows so far have made, and the first word of a row.
+
+use crate::device::{Device, device_row, put};
+use crate::shop::{Shop, shop_row};
+use crate::store::{Store, store_row};
+use crate::system::Counts;
+use crate::words::{RowError, Words};
+use std::alloc::{AllocError, Global};
+
+/// What the rows work on: three devices, and a store, which takes the first of them.
+#[derive(Drop)]
+pub struct Stage<'a> {
+    first: Device<'a>,
+    second: Device<'a>,
+    third: Device<'a>,
+    store: Store,
+    shop: Shop<'a>,
+}
+
+impl<'a> Stage<'a> {
+    pub fn new(rt: &'a HostRuntime, counts: &'a Counts, top: &'a str) -> Self {
+        Stage {
+            first: Device::Empty,
+            second: Device::Empty,
+            third: Device::Empty,
+            store: Store::Empty,
+            shop: Shop::new(rt, counts, top),
+        }
+    }
+
+    /// What a row answers. One that begins with `#` is told as it is.
+    pub fn answer(&mut self, alloc: Global, row: &str) -> Result<String, AllocError> {
+        if row.is_empty() || row.starts_with('#') {
+            return String::from_str(alloc, row);
+        }
+        match row.strip_prefix("times ") {
+            Some(rest) => self.times(alloc, rest),
+            None => self.once(alloc, row),
+        }
+    }
+
+    /// What a row answers that is made so many times.
+    fn times(&mut self, alloc: Global, words: &str) -> Result<String, AllocError> {
+        let (count, row) = words.split_once(' ').unwrap_or((words, ""));
+        let answer = self.once(alloc, row)?;
+        let count = count.parse::<u32>().unwrap_or(0);
+        if self.stays(alloc, row, count, answer.as_str())? {
+            Ok(answer)
+        } else {
+            String::from_str(alloc, "another answer later")
+        }
+    }
+
+    /// Whether a row that was made once has the same answer each other time.
+    fn stays(
+        &mut self,
+        alloc: Global,
+        row: &str,
+        count: u32,
+        answer: &str,
+    ) -> Result<bool, AllocError> {
+        for _ in 1..count {
+            if !self.is_again(alloc, row, answer)? {
+                return Ok(false);
+            }
+        }
+        Ok(true)
+    }
+
+    fn is_again(&mut self, alloc: Global, row: &str, answer: &str) -> Result<bool, AllocError> {
+        let again = self.once(alloc, row)?;
+        Ok(again.as_str() == answer)
+    }
+
+    /// What a row answers; what is no row says so.
+    fn once(&mut self, alloc: Global, row: &str) -> Result<String, AllocError> {
+        let mut out = String::new(alloc);
+        let mut words = Words::new(row);
+        match self.row(&mut words, &mut out) {
+            Ok(()) if words.is_at_end() => Ok(out),
+            Ok(()) | Err(RowError::Unread) => format!(in alloc; "not understood: {row}"),
+            Err(RowError::Memory(error)) => Err(error),
+        }
+    }
+
+    fn row(&mut self, words: &mut Words, out: &mut String) -> Result<(), RowError> {
+        match words.word() {
+            "store" => self.store_row(words, out),
+            "system" => self.system_row(words, out),
+            name => self.device_row(name, words, out),
+        }
+    }
+
+    /// A row of a device, or of where devices come from.
+    fn device_row(
+        &mut self,
+        name: &str,
+        words: &mut Words,
+        out: &mut String,
+    ) -> Result<(), RowError> {
+        match name {
+            "a" => device_row(&mut self.first, &mut self.shop, words, out),
+            "b" => device_row(&mut self.second, &mut self.shop, words, out),
+            "c" => device_row(&mut self.third, &mut self.shop, words, out),
+            _ => shop_row(&mut self.shop, name, words, out),
+        }
+    }
+
+    fn store_row(&mut self, words: &mut Words, out: &mut String) -> Result<(), RowError> {
+        let alloc = self.shop.alloc();
+        store_row(alloc, &mut self.store, &mut self.first, words, out)
+    }
+
+    /// Another system. All devices that were there are gone.
+    fn system_row(&mut self, words: &mut Words, out: &mut String) -> Result<(), RowError> {
+        put(&mut self.first, Device::Empty);
+        put(&mut self.second, Device::Empty);
+        put(&mut self.third, Device::Empty);
+        self.shop.system_row(words, out)
+    }
+}
