@@ -4,3 +4,4 @@ pub mod Passages
 pub mod Sendable
 pub mod Halves
 pub mod Streams
+pub mod Readers

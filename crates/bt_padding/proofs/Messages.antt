@@ -1,5 +1,5 @@
 -- What a message that is a request or a piece says of its parts.
-use Rattle.std.proofs.Common.{◌≡◌, ◌+◌, ℕ, suc, List, [], ◌∷◌, ◌++◌, take, drop, refl, sym, ◌∙◌, ap, arith, subst, Contains, remove, add-one}
+use Rattle.std.proofs.Common.{◌≡◌, ◌+◌, ℕ, suc, List, [], ◌∷◌, ◌++◌, take, drop, length, refl, sym, ◌∙◌, ap, arith, subst, Contains, remove, add-one}
 use Rattle.std.proofs.lemmas.List.Elements.{Contains-append_right}
 use Rattle.bt_wire.specs.declared.message.Ask.{Ask}
 use Rattle.bt_wire.specs.declared.message.Message.{Message}
@@ -33,6 +33,15 @@ pub brought_short : (torrent : Metainfo) (piece begin : ℕ) (bytes others : Lis
     → IsShortBlock torrent (ask_of piece begin short.length)
 brought_short torrent piece begin bytes others short same is =
     subst (λ (a : Ask). IsShortBlock torrent (ask_of a.piece a.begin short.length)) (sym (ap place_in same)) is
+
+-- an answer has the place and the length of its request
+pub answer_short : (torrent : Metainfo) (piece begin : ℕ) (bytes others : List ℕ) (ask : Ask)
+    → Piece piece begin bytes ≡ Piece ask.piece ask.begin others → length others ≡ ask.length → IsShortBlock torrent ask
+    → IsShortBlock torrent (ask_of piece begin (length bytes))
+answer_short torrent piece begin bytes others ask same whole is =
+    let place : ask_of piece begin (length bytes) ≡ ask
+    = ap (λ (m : Message). ask_of (place_in m).piece (place_in m).begin (length (bytes_in m))) same ∙ ap (λ n. ask_of ask.piece ask.begin n) whole in
+    subst (λ (a : Ask). IsShortBlock torrent a) (sym place) is
 
 -- the request that stands first is there, and is taken out
 pub is_there : (asked : List Ask) (ask : Ask) (i : ℕ) → IsFirstAt asked ask i → Contains asked ask

@@ -8,9 +8,9 @@ use Rattle.bt_wire.specs.declared.message.Ask.{Ask}
 use Rattle.bt_wire.specs.declared.message.Message.{Message}
 use Rattle.bt_wire.specs.declared.message.Message.TheVariants.{Piece}
 use Rattle.bt_meta.specs.Torrent.{Metainfo}
-use Rattle.bt_padding.specs.Blocks.{ask_of, IsShortBlock}
+use Rattle.bt_padding.specs.Blocks.{IsShortBlock}
 use Rattle.bt_padding.specs.Padding.{Memory, new_memory, with_asked, filled, IsTaken, AsksPadded, BringsPadded, ComesIn, GoesOut, request, piece, other}
-use Rattle.bt_padding.proofs.Messages.{place_in, bytes_in}
+use Rattle.bt_padding.proofs.Messages.{place_in, bytes_in, answer_short}
 use Rattle.bt_padding.specs.Law.{Passage, greets, comes, goes, Passes, Pass, AreShortBlocks, RemembersShortBlocks, IsFilledAtEnd, ZerosLieBehindTheEnd, is_at, is_padded_request, is_piece_at, data_length, asks_at, pads_at, PadsWhatWasAsked, IsPlain, IsSame, PlainPassesThrough}
 
 -- ---- only requests for short blocks are remembered
@@ -70,14 +70,11 @@ remembers torrent passages now pass = steps torrent passages new_memory now (λ 
 
 -- ---- a piece that is filled ends where its file ends
 
-zeros_at_end : (torrent : Metainfo) (old new : Memory) (p b : ℕ) (bytes : List ℕ) (given : Message) → AreShortBlocks torrent old.asked
+zeros_at_end : (torrent : Metainfo) (old new : Memory) (p b : ℕ) (bytes : List ℕ) (given : Message)
     → GoesOut torrent old (Piece p b bytes) given new → (given ≡ Piece p b bytes) ⊎ IsFilledAtEnd torrent p b bytes given
-zeros_at_end torrent old new p b bytes given all (piece ask run rest answers taken given-is new-is) =
+zeros_at_end torrent old new p b bytes given (piece ask run rest answers taken given-is new-is) =
     let same = answers.message in
-    let is = all ask answers.remembered in
-    let place : ask_of p b (length bytes) ≡ ask
-    = ap (λ (m : Message). ask_of (place_in m).piece (place_in m).begin (length (bytes_in m))) same ∙ ap (λ n. ask_of ask.piece ask.begin n) answers.whole in
-    let short : IsShortBlock torrent (ask_of p b (length bytes)) = subst (λ (a : Ask). IsShortBlock torrent a) (sym place) is in
+    let short = answer_short torrent p b bytes run ask same answers.whole answers.short in
     let whole = short.whole.length in
     let count = short.short in
     let inside = short.whole.has.inside in
@@ -86,11 +83,11 @@ zeros_at_end torrent old new p b bytes given all (piece ask run rest answers tak
       end = omega (arith, whole, count, inside);
       filled = given-is ∙ sym (ap (λ (m : Message). Piece (place_in m).piece (place_in m).begin (filled (bytes_in m))) same);
     })
-zeros_at_end torrent old new p b bytes given all (request ask asks given-is new-is) = let same = asks.message in absurd (grind (arith, same))
-zeros_at_end torrent old new p b bytes given all (other _ _ given-is new-is) = inl given-is
+zeros_at_end torrent old new p b bytes given (request ask asks given-is new-is) = let same = asks.message in absurd (grind (arith, same))
+zeros_at_end torrent old new p b bytes given (other _ _ given-is new-is) = inl given-is
 
 pub zeros_behind : ZerosLieBehindTheEnd
-zeros_behind torrent old new p b bytes given all out = zeros_at_end torrent old new p b bytes given all out
+zeros_behind torrent old new p b bytes given out = zeros_at_end torrent old new p b bytes given out
 
 -- ---- pieces are filled as often as the peer asked for it, at most
 

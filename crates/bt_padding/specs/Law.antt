@@ -48,11 +48,11 @@ pub record IsFilledAtEnd (torrent : Metainfo) (piece begin : ℕ) (bytes : List 
   pub end : full_block_length * short.block + length bytes ≡ short.whole.has.entry.length
   pub filled : given ≡ Piece piece begin (filled bytes)
 
--- A piece goes out as the engine cut it, or with zeros where its file has ended.
+-- Whatever is remembered, a piece goes out as the engine cut it, or with zeros where its file has ended.
 abbrev pub ZerosLieBehindTheEnd : Type 0
 ZerosLieBehindTheEnd = (torrent : Metainfo) (old new : Memory) (piece begin : ℕ) (bytes : List ℕ)
     (given : Message)
-    → AreShortBlocks torrent old.asked → GoesOut torrent old (Piece piece begin bytes) given new
+    → GoesOut torrent old (Piece piece begin bytes) given new
     → (given ≡ Piece piece begin bytes) ⊎ IsFilledAtEnd torrent piece begin bytes given
 
 abbrev pub is_at : ℕ → ℕ → Ask → Bool

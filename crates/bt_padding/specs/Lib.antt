@@ -6,3 +6,7 @@ pub mod Half
 pub mod Translation
 pub mod TranslationSteps
 pub mod TranslationLaw
+pub mod Shared
+pub mod Reader
+pub mod ReaderSteps
+pub mod Writer

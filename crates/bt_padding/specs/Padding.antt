@@ -69,9 +69,11 @@ pub data ComesIn (torrent : Metainfo) (old : Memory) (m given : Message) (new : 
 
 -- ---- what goes out
 
--- the answer to a remembered request
-pub record Answers (old : Memory) (m : Message) (ask : Ask) (bytes : List ℕ) : Type 0 where
+-- the answer to a remembered request for a short block
+pub record Answers (torrent : Metainfo) (old : Memory) (m : Message) (ask : Ask) (bytes : List ℕ)
+    : Type 0 where
   pub remembered : Contains old.asked ask
+  pub short : IsShortBlock torrent ask
   pub whole : length bytes ≡ ask.length
   pub message : m ≡ Piece ask.piece ask.begin bytes
 
@@ -89,11 +91,11 @@ filled bytes = bytes ++ replicate (full_block_length - length bytes) 0
 -- request is forgotten; a request for a short block, of a peer that pads, as one for the padded block; and any
 -- other message as it is.
 pub data GoesOut (torrent : Metainfo) (old : Memory) (m given : Message) (new : Memory) : Type 0 where
-  piece : (ask : Ask) (bytes : List ℕ) (rest : List Ask) → Answers old m ask bytes
+  piece : (ask : Ask) (bytes : List ℕ) (rest : List Ask) → Answers torrent old m ask bytes
       → IsTaken old.asked ask rest → given ≡ Piece ask.piece ask.begin (filled bytes)
       → new ≡ record old { asked = rest } → GoesOut torrent old m given new
   request : (ask : Ask) → AsksPeer torrent old m ask → given ≡ Request (padded ask) → new ≡ old
       → GoesOut torrent old m given new
-  other : ((ask : Ask) (bytes : List ℕ) → ¬ Answers old m ask bytes)
+  other : ((ask : Ask) (bytes : List ℕ) → ¬ Answers torrent old m ask bytes)
       → ((ask : Ask) → ¬ AsksPeer torrent old m ask)
       → given ≡ m → new ≡ old → GoesOut torrent old m given new

@@ -5,8 +5,11 @@
 mod half;
 mod law;
 mod padding;
+mod reader;
+mod shared;
 mod short_block;
 mod translation;
+mod writer;
 
 pub use half::Half;
 pub use law::{
@@ -14,5 +17,7 @@ pub use law::{
     remembers_short_blocks, zeros_lie_behind_the_end,
 };
 pub use padding::Padding;
+pub use reader::PaddedReader;
 pub use short_block::{is_short_block, short_length};
 pub use translation::{Side, translate};
+pub use writer::PaddedWriter;

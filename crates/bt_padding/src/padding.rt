@@ -1,7 +1,7 @@
 //! The messages between an engine and one peer, where the peer may count each block as 16,384 bytes.
-ghost use Rattle.std.specs.Prelude.{◌≡◌, ℕ, IfOk, OnErr, IfSome, IfNone, Contains};
+ghost use Rattle.std.specs.Prelude.{◌≡◌, ◌↔◌, ℕ, IfOk, OnErr, IfSome, IfNone, IsTrue, Contains};
 ghost use Rattle.bt_wire.specs.declared.message.Message.TheVariants.{Request, Piece};
-ghost use Rattle.bt_padding.specs.Blocks.{ask_of};
+ghost use Rattle.bt_padding.specs.Blocks.{ask_of, IsShortBlock};
 ghost use Rattle.bt_padding.specs.Padding.{Memory, new_memory, with_asked, filled, Greets, ComesIn, GoesOut};
 ghost use Rattle.bt_padding.specs.PaddingSteps.{IsFirstAt};
 
@@ -48,6 +48,14 @@ impl Padding {
         })
     }
 
+    /// Forgets everything, as for a connection that begins. It takes no memory.
+    pub fn forget(&mut self)
+        ensures { self.new ≡ new_memory }
+    {
+        self.asked.clear();
+        self.pads = false;
+    }
+
     /// Takes from the peer's handshake whether it is to be asked for padded blocks.
     pub fn greet(&mut self, handshake: &Handshake)
         ensures { Greets self.old handshake.now self.new }
@@ -89,7 +97,7 @@ impl Padding {
             } => Ok(Message::Piece {
                 piece,
                 begin,
-                bytes: self.outgoing_piece(piece, begin, bytes)?,
+                bytes: self.outgoing_piece(torrent, piece, begin, bytes)?,
             }),
             other => Ok(other),
         }
@@ -127,15 +135,25 @@ impl Padding {
     }
 
     /// A piece of the engine as the peer gets it. Errors: out of memory, and nothing changes.
-    fn outgoing_piece(&mut self, piece: u32, begin: u32, bytes: Bytes) -> Result<Bytes, AllocError>
-        ensures given { (torrent : _) → IfOk result (λ given.
-            GoesOut torrent self.old (Piece piece begin bytes) (Piece piece begin given) self.new) }
+    fn outgoing_piece(
+        &mut self,
+        torrent: &Torrent,
+        piece: u32,
+        begin: u32,
+        bytes: Bytes,
+    ) -> Result<Bytes, AllocError>
+        ensures given { IfOk result (λ given.
+            GoesOut torrent.now self.old (Piece piece begin bytes) (Piece piece begin given) self.new) }
         ensures kept { OnErr result (self.new ≡ self.old) }
     {
         let len = bytes.as_slice().len();
         let Some(index) = first_index(self.asked.as_slice(), piece, begin, len) else {
             return Ok(bytes);
         };
+        // No other is remembered, but the contract does not lean on that.
+        if !is_short_run(torrent, piece, begin, len) {
+            return Ok(bytes);
+        }
         let filled = fill(bytes)?;
         self.asked.remove(index);
         Ok(filled)
@@ -168,6 +186,17 @@ fn incoming_piece(torrent: &Torrent, piece: u32, begin: u32, bytes: Bytes) -> By
             Bytes::new(items)
         }
         None => bytes,
+    }
+}
+
+/// Whether so many bytes from there on are all that a file has of its last block, which is shorter than
+/// 16,384 bytes.
+fn is_short_run(torrent: &Torrent, piece: u32, begin: u32, len: usize) -> bool
+    ensures { IsTrue result ↔ IsShortBlock torrent.now (ask_of piece begin len) }
+{
+    match short_length(torrent, piece, begin) {
+        Some(length) => length as usize == len,
+        None => false,
     }
 }
 

@@ -8,4 +8,4 @@ pub returns-in_ok-outgoing_piece-in-Piece-clause-given :
     goal.returns-in_ok-outgoing_piece-in-Piece-clause-given
 returns-in_ok-outgoing_piece-in-Piece-clause-given c =
     subst (λ (m : Message). GoesOut c.args.torrent.now c.args.self.now m (Piece c.in-Piece.piece c.in-Piece.begin c.in_ok-outgoing_piece-in-Piece.field-0) c.outgoing_piece.new.self)
-    (sym c.in-Piece.is) (c.in_ok-outgoing_piece-in-Piece.ensures.given c.args.torrent.now)
+    (sym c.in-Piece.is) c.in_ok-outgoing_piece-in-Piece.ensures.given

@@ -1,0 +1,55 @@
+//! The words of a row.
+
+use crate::bytes::bytes_of;
+use std::alloc::{AllocError, Global};
+use std::io;
+
+/// Why a row has no answer.
+#[derive(Drop)]
+pub enum RowError {
+    /// It is no row, or a word of it is not what stands there.
+    Unread,
+    /// A read or a write failed.
+    Failed,
+    Memory(AllocError),
+}
+
+impl From<AllocError> for RowError {
+    fn from(error: AllocError) -> Self {
+        RowError::Memory(error)
+    }
+}
+
+impl From<io::Error> for RowError {
+    fn from(_error: io::Error) -> Self {
+        RowError::Failed
+    }
+}
+
+/// The words of a row that are not read yet.
+#[derive(Clone, Copy)]
+pub struct Words<'a> {
+    rest: &'a str,
+}
+
+impl<'a> Words<'a> {
+    pub fn new(row: &'a str) -> Self {
+        Words { rest: row }
+    }
+
+    pub fn is_at_end(&self) -> bool {
+        self.rest.is_empty()
+    }
+
+    /// The next word; an empty one at the end.
+    pub fn word(&mut self) -> &'a str {
+        let (word, rest) = self.rest.split_once(' ').unwrap_or((self.rest, ""));
+        self.rest = rest;
+        word
+    }
+
+    /// The bytes that the next word spells.
+    pub fn bytes(&mut self, alloc: Global) -> Result<Vec<u8>, RowError> {
+        bytes_of(alloc, self.word())
+    }
+}
