@@ -1,8 +1,8 @@
 use Rattle.std.proofs.Common.{◌≡◌, ◌∷◌, [], ◌+◌, suc, take, Some, sym, ap, subst, ◌∙◌, add-one}
 use Rattle.std.specs.Prelude.{All}
 use Rattle.std.proofs.lemmas.List.Elements.{All-cons, All-head, All-nil, All-tail}
-use Rattle.core.specs.Array.Iter.{array_into_iter_items, array_steps}
-use Rattle.core.specs.Iterator.Adapters.{take_count, take_source, take_steps}
+use Rattle.std.specs.Array.Iter.{array_into_iter_items, array_steps}
+use Rattle.std.specs.Iterator.Adapters.{take_count, take_source, take_steps}
 use Rattle.std.specs.declared.net.socket_addr.SocketAddr.{SocketAddr}
 use Rattle.std.specs.Net.ToAddrs.{HostAddrs, IsHostAndPort, host_addrs}
 use Rattle.bt_sockets.proofs.stream.connected.Goals as goal
@@ -25,10 +25,14 @@ module _ (P : SocketAddr → Type 0) (before after : HostAddrs) (address : Socke
 
 pub loop-address-init : goal.loop-address-init
 loop-address-init g c = λ ip spelled.
-    let one = c.in_ok-to_socket_addrs.ensures.gives ip spelled in
+    let one = c.in_ok-address-items.ensures.gives ip spelled in
     let P = IsHostAndPort c.args.host.now c.args.port in
     subst (All P) (sym (ap host_addrs c.into_iter-address-iterator.ensures.into_iter_gives ∙ one.1)) (All-cons P one.0 [] one.2 (All-nil P))
 
 pub loop-address-preserved : goal.loop-address-preserved
 loop-address-preserved g c = λ ip spelled.
     later (IsHostAndPort c.args.host.now c.args.port) _ _ c.in-Some.address c.in-Some.ensures.steps (c.loop-address.invariant ip spelled)
+
+pub returns-in-Ok : goal.returns-in-Ok
+returns-in-Ok g c = λ ip spelled.
+    now (IsHostAndPort c.args.host.now c.args.port) _ _ c.in-Some.address c.in-Some.ensures.steps (c.loop-address.invariant ip spelled)
