@@ -2,6 +2,7 @@
 pub mod ReaderFill
 pub mod ReaderNode
 pub mod PiecesNode
+pub mod PieceRuns
 -- `check`
 pub mod RightBlocks
 pub mod KnownTree

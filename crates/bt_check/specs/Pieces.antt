@@ -1,12 +1,14 @@
 -- The pieces of a file, as nodes of its tree (BEP 52, "piece layers"). A piece has 2 ^ layer blocks, the last
 -- one of a file perhaps fewer.
-use Rattle.std.specs.Prelude.{◌≡◌, ℕ, ◌+◌, ◌-◌, ◌*◌, ◌^◌, min, Bool, ◌&&◌, List, Option, length, take, nat_eq, nat_le}
+use Rattle.std.specs.Prelude.{◌≡◌, ℕ, ◌+◌, ◌-◌, ◌*◌, ◌^◌, ◌<◌, ◌≤◌, min, Bool, ◌&&◌, List, [], Option, length, take, slice_index_or, nat_eq, nat_le}
 use Rattle.std.specs.Cmp.Lexicographic.{pointwise}
 use Rattle.sha2.specs.Sha256.{sha256}
-use Rattle.bt_tree.specs.Blocks.{HasRun}
+use Rattle.bt_tree.specs.Blocks.{HasRun, block_count}
 use Rattle.bt_tree.specs.Tree.{node_digest}
+use Rattle.bt_tree.specs.TreeShape.{real_width}
 use Rattle.bt_tree.specs.Limits.{full_block_length}
 use Rattle.bt_check.specs.Reader.{Gives}
+use Rattle.bt_check.specs.declared.pieces.PieceRun.{PieceRun}
 
 -- the byte at which a piece begins
 abbrev pub piece_start : ℕ → ℕ → ℕ
@@ -31,3 +33,17 @@ pub record GivesPiece (old new : Option (List ℕ)) (file_length layer index siz
   pub whole : length bytes ≡ size
   pub value : (file : List ℕ) → length file ≡ file_length → HasRun file (piece_start layer index) bytes
       → digest ≡ node_digest sha256 file layer index
+
+-- the reader gave the next pieces of a file of this length, from one on, and the digests are theirs
+pub record GivesPieces (old new : Option (List ℕ)) (file_length layer index : ℕ) (run : PieceRun)
+    : Type 0 where
+  pub bytes : List ℕ
+  pub given : Gives old new run.bytes bytes
+  pub whole : length bytes ≡ run.bytes
+  pub some : 0 < run.bytes
+  pub few : run.count ≤ 8
+  pub real : index + run.count ≤ real_width (block_count file_length) layer
+  pub size : piece_start layer index + run.bytes ≡ min (piece_start layer (index + run.count)) file_length
+  pub value : (file : List ℕ) → length file ≡ file_length → HasRun file (piece_start layer index) bytes
+      → (j : ℕ) → j < run.count
+      → slice_index_or run.digests j [] ≡ node_digest sha256 file layer (index + j)

@@ -11,7 +11,7 @@ ghost use Rattle.bt_check.specs.Digests.{AreDigestsOf, GivesAll, IsDigestFault};
 
 use crate::fault::Fault;
 use crate::file_hash::FileHash;
-use crate::pieces::{PieceSize, read_piece};
+use crate::pieces::{PieceSize, read_pieces};
 use crate::reader::{BUFFER_LEN, has_more, read_node};
 use bt_meta::MakeError;
 use bt_tree::{Geometry, Hash32, NodeHash, RootBuilder, pad};
@@ -104,16 +104,16 @@ fn read_layer<R: Read>(
         (R.remaining reader.old) (R.remaining reader.new) geometry size.layer layer.items) }
     ensures fault { IfErr result (λ fault. (fault ≡ device) ⊎ (fault ≡ out_of_memory)) }
 {
-    let count = geometry.real(size.layer);
     let mut layer = Vec::new(alloc);
+    let mut index = 0;
     let mut rest = geometry.length();
-    for index in 0..count {
-        let length = rest.min(size.bytes as u64);
-        let Some(digest) = read_piece(reader, geometry, size.layer, index, length, buffer)? else {
+    while rest > 0 {
+        let Some(pieces) = read_pieces(reader, geometry, size, index, rest, buffer)? else {
             return Err(Fault::Device);
         };
-        layer.extend_from_slice(&digest)?;
-        rest -= length;
+        layer.extend_from_slice(pieces.digests[..pieces.count as usize].as_flattened())?;
+        index += pieces.count;
+        rest -= pieces.bytes;
     }
     Ok(layer)
 }
