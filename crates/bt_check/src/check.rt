@@ -11,11 +11,13 @@ ghost use Rattle.bt_check.specs.declared.report.FileFinding.{FileFinding};
 use crate::data_file::{DataFile, open_data_files};
 use crate::entry_check::check_data_file;
 use crate::fault::Fault;
+use crate::hint::hint_at_folder;
 use crate::output::print;
 use crate::pieces::PieceSize;
 use crate::report::{FileFinding, Summary, last_words, write_line};
 use bt_disk::Disk;
 use bt_meta::{MetaError, Torrent};
+use bt_progress::{FileCall, Watch};
 use std::alloc::Global;
 use std::io::Write;
 use std::rt::Files;
@@ -24,9 +26,11 @@ use std::rt::Files;
 /// done, in the order of the torrent, and the last line.
 ///
 /// All files are opened first, and one that can't be opened ends it before anything is written. A read that
-/// fails later does not: the summary tells it. After a fault the writer has a part of the text, or all.
-pub fn check_torrent<R: Files + AllocGlobal + Clone + Drop, W: Write>(
+/// fails later does not: the summary tells it. After a fault the writer has a part of the text, or all. The
+/// reads are watched, and where no file is there, a hint tells it.
+pub fn check_torrent<R: Files + AllocGlobal + Clone + Drop, P: Watch, W: Write>(
     rt: &R,
+    watch: &P,
     torrent: &Torrent,
     dir: &str,
     writer: &mut W,
@@ -36,10 +40,19 @@ pub fn check_torrent<R: Files + AllocGlobal + Clone + Drop, W: Write>(
     ensures fault { IfErr result (λ fault. (fault ≡ device) ⊎ (fault ≡ out_of_memory)) }
 {
     let size = PieceSize::new(torrent.piece_length()).ok_or(MetaError::PieceLength)?;
-    let files = open_data_files(rt, dir, torrent.files())?;
+    watch.begin(FileCall::Read);
+    let files = open_data_files(rt, watch, dir, torrent.files())?;
+    if are_absent(&files) {
+        hint_at_folder(rt, watch, torrent, dir);
+    }
     let summary = check_files(rt.alloc(), files, size, writer)?;
     print(writer, last_words(summary.complete))?;
     Ok(summary)
+}
+
+/// Whether there is no data file at all.
+fn are_absent<D>(files: &[DataFile<'_, D>]) -> bool {
+    files.iter().all(|file| file.disk.is_none())
 }
 
 /// Checks some data files, in turn, and writes the line of each. A file's device goes with it.

@@ -5,11 +5,14 @@ ghost use Rattle.std.specs.Path.{path_buf_bytes};
 ghost use Rattle.bt_meta.specs.Files.{file_of};
 ghost use Rattle.bt_check.specs.DataFile.{file_at, AreOfOnePool, IsAbsence, IsAtPath, IsNextOf};
 ghost use Rattle.bt_check.specs.Fault.{device, out_of_memory};
+ghost use Rattle.bt_check.specs.Paths.{path_below};
 
+use crate::call_fault::fault_name;
 use crate::fault::Fault;
 use crate::paths::data_path;
 use bt_disk::{HandlePool, PooledDisk, is_absence};
 use bt_meta::FileEntry;
+use bt_progress::{FileCall, Watch, Watched};
 use std::fs;
 use std::io::ErrorKind;
 use std::path::PathBuf;
@@ -47,12 +50,14 @@ pub struct DataFile<'a, D> {
     pub disk: Option<D>,
 }
 
-/// Opens the data files of some entries, in turn, to read them. They share a few handles.
-pub fn open_data_files<'a, R: Files + AllocGlobal + Clone + Drop>(
+/// Opens the data files of some entries, in turn, to read them. They share a few handles, and tell of their
+/// calls; the bytes of those that are there are to be read.
+pub fn open_data_files<'a, R: Files + AllocGlobal + Clone + Drop, P: Watch>(
     rt: &R,
+    watch: &'a P,
     dir: &str,
     entries: &'a [FileEntry],
-) -> Result<Vec<DataFile<'a, PooledDisk<R>>>, Fault>
+) -> Result<Vec<DataFile<'a, Watched<'a, PooledDisk<R>, P>>>, Fault>
     ensures each { IfOk result (λ files. map file_at files.items ≡ map file_of entries.now) }
     ensures paths { IfOk result (λ files. All (IsAtPath dir.now) files.items) }
     ensures one_pool { IfOk result (λ files. AreOfOnePool files.items) }
@@ -61,11 +66,54 @@ pub fn open_data_files<'a, R: Files + AllocGlobal + Clone + Drop>(
     let mut pool = HandlePool::new(rt.alloc(), rt.clone()?, OPEN_FILES)?;
     let mut files = Vec::new(rt.alloc());
     for file in entries {
-        let path = data_path(rt.alloc(), dir, &file.path)?;
-        let disk = open_data_file(rt, &mut pool, path)?;
+        let disk = open_watched(rt, watch, &mut pool, dir, file)?;
         files.push(DataFile { file, disk })?;
     }
     Ok(files)
+}
+
+/// Opens the data file of an entry to read it, as `open_data_file` does, and tells of it.
+fn open_watched<'a, R: Files + AllocGlobal + Drop, P: Watch>(
+    rt: &R,
+    watch: &'a P,
+    pool: &mut HandlePool<R>,
+    dir: &str,
+    file: &FileEntry,
+) -> Result<Option<Watched<'a, PooledDisk<R>, P>>, Fault>
+    ensures path { IfOk result (λ found. IfSome found
+        (λ disk. disk.path ≡ path_below dir.now (file_of file.now).path)) }
+    ensures next { IfOk result (IsNextOf pool.old.made pool.new.made) }
+    ensures fault { IfErr result (λ fault. (fault ≡ device) ⊎ (fault ≡ out_of_memory)) }
+{
+    let path = data_path(rt.alloc(), dir, &file.path)?;
+    let name = fault_name(rt.alloc(), watch, path.as_path().as_str())?;
+    let found = open_data_file(rt, pool, path);
+    watched(watch, name, file.length, found)
+}
+
+/// The device of a file of so many bytes, which are to be read, as one that tells of its calls by this name. A fault
+/// in opening it is told of too.
+fn watched<'a, D: Drop, P: Watch>(
+    watch: &'a P,
+    name: Option<String>,
+    length: u64,
+    found: Result<Option<D>, Fault>,
+) -> Result<Option<Watched<'a, D, P>>, Fault>
+    ensures { result ≡ found }
+{
+    match found {
+        Ok(Some(disk)) => {
+            watch.expect(length);
+            Ok(Some(Watched::new(disk, watch, name)))
+        }
+        Ok(None) => Ok(None),
+        Err(fault) => {
+            if let Some(name) = name {
+                watch.tell_fault(FileCall::Open, name.as_str());
+            }
+            Err(fault)
+        }
+    }
 }
 
 /// Opens a data file to read it; none where no file can be at the path, which is not kept then: a torrent may

@@ -4,6 +4,7 @@
 //! All of it is over readers, devices and writers, but for the opening of files.
 #![tactic(auto)]
 
+mod call_fault;
 mod check;
 mod data_file;
 mod digests;
@@ -11,6 +12,7 @@ mod display;
 mod entry_check;
 mod fault;
 mod file_hash;
+mod hint;
 mod output;
 mod paths;
 mod pieces;
@@ -19,6 +21,7 @@ mod report;
 mod show;
 mod torrent_file;
 
+pub use call_fault::{fault_name, is_device_fault, told};
 pub use check::check_torrent;
 pub use data_file::{Finding, OPEN_FILES};
 pub use digests::{Digests, digest_reader};
@@ -32,4 +35,4 @@ pub use pieces::PieceSize;
 pub use reader::BUFFER_LEN;
 pub use report::{FileFinding, Summary, last_words, write_line};
 pub use show::show_torrent;
-pub use torrent_file::{Source, load, read_text};
+pub use torrent_file::{Source, load, load_watched, read_text};

@@ -5,9 +5,11 @@ ghost use Rattle.bt_check.specs.TorrentFile.{HasText, IsLoadFault, IsSourceFault
 ghost use Rattle.bt_check.specs.Reader.{Gives};
 ghost use Rattle.bt_check.specs.Fault.{device, out_of_memory};
 
+use crate::call_fault::{fault_name, told};
 use crate::fault::Fault;
 use crate::reader::{BUFFER_LEN, fill};
 use bt_meta::{MAX_TEXT_LENGTH, Torrent, read_info, read_torrent};
+use bt_progress::{FileCall, Unwatched, Watch, Watched};
 use std::alloc::Global;
 use std::fs;
 use std::io::Read;
@@ -30,8 +32,25 @@ pub fn load<R: Files + AllocGlobal>(
     ensures torrent { IfOk result (HasText source.entry.is_info) }
     ensures fault { IfErr result (IsLoadFault source.entry.is_info) }
 {
-    let mut file = fs::open(rt, source.path).map_err(|_| Fault::Device)?;
-    read_source(rt.alloc(), &mut file, source.is_info, buffer)
+    load_watched(rt, &Unwatched, source, buffer)
+}
+
+/// The same, which tells of the calls on the file.
+pub fn load_watched<R: Files + AllocGlobal, P: Watch>(
+    rt: &R,
+    watch: &P,
+    source: Source<'_>,
+    buffer: &mut [u8; BUFFER_LEN],
+) -> Result<Torrent, Fault>
+    ensures torrent { IfOk result (HasText source.entry.is_info) }
+    ensures fault { IfErr result (IsLoadFault source.entry.is_info) }
+{
+    let alloc = rt.alloc();
+    let opened = fs::open(rt, source.path).map_err(|_| Fault::Device);
+    let file = told(alloc, watch, FileCall::Open, source.path, opened)?;
+    let name = fault_name(alloc, watch, source.path)?;
+    let mut reader = Watched::new(file, watch, name);
+    read_source(alloc, &mut reader, source.is_info, buffer)
 }
 
 /// Reads a torrent, or the info dictionary of one alone, from what a reader has.

@@ -126,7 +126,7 @@ differ a b unequal same = let equal : bytes_eq a b ≡ true = (bytes_decides a b
 pub no_make : (rows : List Row) → ((request : MakeTask) → ¬ IsMakeTaskIn rows request) → (task : Task) → ¬ AsksFor (codes "make") rows task
 no_make rows none (Make request) a = none request a.1
 no_make rows none (Show torrent) a = differ (codes "make") (codes "show") refl a.0
-no_make rows none (Check torrent dir) a = differ (codes "make") (codes "check") refl a.0
+no_make rows none (Check torrent dir verbose) a = differ (codes "make") (codes "check") refl a.0
 no_make rows none (Seed task) a = differ (codes "make") (codes "seed") refl a.0
 no_make rows none (Fetch task) a = differ (codes "make") (codes "fetch") refl a.0
 no_make rows none Replay a = differ (codes "make") (codes "replay") refl a
@@ -134,7 +134,7 @@ no_make rows none Replay a = differ (codes "make") (codes "replay") refl a
 pub no_show : (rows : List Row) → ((source : Source) → ¬ IsSourceIn rows source) → (task : Task) → ¬ AsksFor (codes "show") rows task
 no_show rows none (Make request) a = differ (codes "show") (codes "make") refl a.0
 no_show rows none (Show torrent) a = none torrent a.1
-no_show rows none (Check torrent dir) a = differ (codes "show") (codes "check") refl a.0
+no_show rows none (Check torrent dir verbose) a = differ (codes "show") (codes "check") refl a.0
 no_show rows none (Seed task) a = differ (codes "show") (codes "seed") refl a.0
 no_show rows none (Fetch task) a = differ (codes "show") (codes "fetch") refl a.0
 no_show rows none Replay a = differ (codes "show") (codes "replay") refl a
@@ -142,7 +142,7 @@ no_show rows none Replay a = differ (codes "show") (codes "replay") refl a
 pub no_check : (rows : List Row) → ((source : Source) (dir : Bor (List ℕ)) → IsSourceIn rows source → ¬ (first_of (codes "DIR") rows ≡ Some dir.now)) → (task : Task) → ¬ AsksFor (codes "check") rows task
 no_check rows none (Make request) a = differ (codes "check") (codes "make") refl a.0
 no_check rows none (Show torrent) a = differ (codes "check") (codes "show") refl a.0
-no_check rows none (Check torrent dir) a = none torrent dir a.1 a.2
+no_check rows none (Check torrent dir verbose) a = none torrent dir a.1 a.2
 no_check rows none (Seed task) a = differ (codes "check") (codes "seed") refl a.0
 no_check rows none (Fetch task) a = differ (codes "check") (codes "fetch") refl a.0
 no_check rows none Replay a = differ (codes "check") (codes "replay") refl a
@@ -150,7 +150,7 @@ no_check rows none Replay a = differ (codes "check") (codes "replay") refl a
 pub no_seed : (rows : List Row) → ((task : SeedTask) → ¬ IsSeedTaskIn rows task) → (task : Task) → ¬ AsksFor (codes "seed") rows task
 no_seed rows none (Make request) a = differ (codes "seed") (codes "make") refl a.0
 no_seed rows none (Show torrent) a = differ (codes "seed") (codes "show") refl a.0
-no_seed rows none (Check torrent dir) a = differ (codes "seed") (codes "check") refl a.0
+no_seed rows none (Check torrent dir verbose) a = differ (codes "seed") (codes "check") refl a.0
 no_seed rows none (Seed task) a = none task a.1
 no_seed rows none (Fetch task) a = differ (codes "seed") (codes "fetch") refl a.0
 no_seed rows none Replay a = differ (codes "seed") (codes "replay") refl a
@@ -158,7 +158,7 @@ no_seed rows none Replay a = differ (codes "seed") (codes "replay") refl a
 pub no_fetch : (rows : List Row) → ((task : FetchTask) → ¬ IsFetchTaskIn rows task) → (task : Task) → ¬ AsksFor (codes "fetch") rows task
 no_fetch rows none (Make request) a = differ (codes "fetch") (codes "make") refl a.0
 no_fetch rows none (Show torrent) a = differ (codes "fetch") (codes "show") refl a.0
-no_fetch rows none (Check torrent dir) a = differ (codes "fetch") (codes "check") refl a.0
+no_fetch rows none (Check torrent dir verbose) a = differ (codes "fetch") (codes "check") refl a.0
 no_fetch rows none (Seed task) a = differ (codes "fetch") (codes "seed") refl a.0
 no_fetch rows none (Fetch task) a = none task a.1
 no_fetch rows none Replay a = differ (codes "fetch") (codes "replay") refl a
@@ -175,7 +175,7 @@ pub no_command : (name : Text) (rows : List Row) → ¬ (name ≡ codes "make") 
     → ¬ (name ≡ codes "fetch") → ¬ (name ≡ codes "replay") → (task : Task) → ¬ AsksFor name rows task
 no_command name rows make show check seed fetch replay (Make request) a = make a.0
 no_command name rows make show check seed fetch replay (Show torrent) a = show a.0
-no_command name rows make show check seed fetch replay (Check torrent dir) a = check a.0
+no_command name rows make show check seed fetch replay (Check torrent dir verbose) a = check a.0
 no_command name rows make show check seed fetch replay (Seed task) a = seed a.0
 no_command name rows make show check seed fetch replay (Fetch task) a = fetch a.0
 no_command name rows make show check seed fetch replay Replay a = replay a

@@ -42,6 +42,7 @@ pub record IsMakeTaskIn (rows : List Row) (request : MakeTask) : Type 0 where
   pub out : first_of (codes "OUT") rows ≡ Some request.out.now
   pub name : first_of (codes "name") rows ≡ Some request.name.now
   pub piece_length : HasNumber 32 rows (codes "piece-length") request.piece_length
+  pub verbose : IsFlagIn (codes "verbose") request.verbose rows
 
 pub record IsSourceIn (rows : List Row) (source : Source) : Type 0 where
   pub path : first_of (codes "TORRENT") rows ≡ Some source.path.now
@@ -75,8 +76,9 @@ pub record IsFetchTaskIn (rows : List Row) (task : FetchTask) : Type 0 where
 abbrev pub AsksFor : Text → List Row → Task → Type 0
 AsksFor name rows (Make request) = (name ≡ codes "make") × IsMakeTaskIn rows request
 AsksFor name rows (Show torrent) = (name ≡ codes "show") × IsSourceIn rows torrent
-AsksFor name rows (Check torrent dir) =
+AsksFor name rows (Check torrent dir verbose) =
     (name ≡ codes "check") × IsSourceIn rows torrent × (first_of (codes "DIR") rows ≡ Some dir.now)
+    × IsFlagIn (codes "verbose") verbose rows
 AsksFor name rows (Seed task) = (name ≡ codes "seed") × IsSeedTaskIn rows task
 AsksFor name rows (Fetch task) = (name ≡ codes "fetch") × IsFetchTaskIn rows task
 AsksFor name rows Replay = name ≡ codes "replay"

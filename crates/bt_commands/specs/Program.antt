@@ -82,7 +82,7 @@ pub record Writes (wanted : ℕ → List ℕ → Type 0) (old new : Option (List
 abbrev pub IsDone : Task → (given left old new : Option (List ℕ)) → ℕ → Type 0
 IsDone (Make request) given left old new status = Writes (IsMakeResult request) old new status
 IsDone (Show torrent) given left old new status = Writes (IsShowResult torrent) old new status
-IsDone (Check torrent dir) given left old new status = Writes (IsCheckResult torrent) old new status
+IsDone (Check torrent dir verbose) given left old new status = Writes (IsCheckResult torrent) old new status
 IsDone (Seed task) given left old new status = IsSeedResult task old new status
 IsDone (Fetch task) given left old new status = IsFetchResult task old new status
 IsDone Replay given left old new status = IsReplay given left old new status
@@ -98,7 +98,7 @@ pub record IsMakeEnd (request : MakeTask) (fault : Fault) : Type 0 where
 abbrev pub IsTaskFault : Task → Fault → Type 0
 IsTaskFault (Make request) fault = IsMakeEnd request fault
 IsTaskFault (Show torrent) fault = IsLoadFault torrent.is_info fault
-IsTaskFault (Check torrent dir) fault = IsLoadFault torrent.is_info fault
+IsTaskFault (Check torrent dir verbose) fault = IsLoadFault torrent.is_info fault
 IsTaskFault (Seed task) fault = IsLoadFault task.torrent.is_info fault
 IsTaskFault (Fetch task) fault = IsLoadFault task.torrent.is_info fault
 IsTaskFault Replay fault = ⊥

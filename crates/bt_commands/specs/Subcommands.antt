@@ -21,6 +21,9 @@ flag_rule id = record (new_rule id) { long = Some id; action = Some SetTrue }
 abbrev pub info_rule : Rule
 info_rule = flag_rule (codes "info")
 
+abbrev pub verbose_rule : Rule
+verbose_rule = flag_rule (codes "verbose")
+
 abbrev pub name_rule : Rule
 name_rule = record (required_rule (codes "name")) { long = Some (codes "name") }
 
@@ -50,8 +53,8 @@ peers_rule = record (required_rule (codes "PEER")) { action = Some Append }
 
 abbrev pub make_app : App
 make_app =
-    with_rule (with_rule (with_rule (with_rule (new_app (codes "make"))
-    (required_rule (codes "DIR"))) (required_rule (codes "OUT"))) name_rule) piece_length_rule
+    with_rule (with_rule (with_rule (with_rule (with_rule (new_app (codes "make"))
+    (required_rule (codes "DIR"))) (required_rule (codes "OUT"))) name_rule) piece_length_rule) verbose_rule
 
 abbrev pub show_app : App
 show_app = with_rule (with_rule (new_app (codes "show")) (required_rule (codes "TORRENT"))) info_rule
@@ -62,7 +65,7 @@ data_app name =
     with_rule (with_rule (new_app name) (required_rule (codes "TORRENT"))) (required_rule (codes "DIR"))
 
 abbrev pub check_app : App
-check_app = with_rule (data_app (codes "check")) info_rule
+check_app = with_rule (with_rule (data_app (codes "check")) info_rule) verbose_rule
 
 abbrev pub seed_app : App
 seed_app =

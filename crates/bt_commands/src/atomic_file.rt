@@ -6,7 +6,8 @@ ghost use Rattle.bt_commands.specs.AtomicFileSteps.{IsLinkTarget, IsSibling, is_
 ghost use Rattle.bt_check.specs.Fault.{device, out_of_memory};
 ghost use Rattle.bt_commands.specs.Program.{infohash_line};
 
-use bt_check::{Fault, print, system_fault};
+use bt_check::{Fault, print, system_fault, told};
+use bt_progress::{FileCall, Watch};
 use bt_tree::Hash32;
 use std::alloc::{AllocError, Global};
 use std::fs::{self, File, OpenFile, Permissions};
@@ -36,9 +37,10 @@ impl InfohashLine {
 }
 
 /// Writes the text of a torrent to its file, and then the line that tells of it. No file is replaced but here,
-/// with the line at hand: out of memory in forming it leaves the old file.
-pub fn publish<R: Files + AllocGlobal, O: Write>(
+/// with the line at hand: out of memory in forming it leaves the old file. A call that fails is told of.
+pub fn publish<R: Files + AllocGlobal, P: Watch, O: Write>(
     rt: &R,
+    watch: &P,
     path: &str,
     text: &[u8],
     line: &InfohashLine,
@@ -52,7 +54,7 @@ pub fn publish<R: Files + AllocGlobal, O: Write>(
         (λ fault. fault ≡ out_of_memory → Keeps (O.contents writer.old) (O.contents writer.new)) }
     ensures fault { IfErr result (λ fault. (fault ≡ device) ⊎ (fault ≡ out_of_memory)) }
 {
-    replace_file(rt, path, text)?;
+    replace_file(rt, watch, path, text)?;
     print(writer, line.text.as_str())
 }
 
@@ -61,19 +63,48 @@ pub fn publish<R: Files + AllocGlobal, O: Write>(
 ///
 /// Where the path is a symbolic link, that is the file that it names, and the link stays. Where there is
 /// something that is no regular file, that is a device fault, and nothing is changed.
-fn replace_file<R: Files + AllocGlobal>(rt: &R, path: &str, bytes: &[u8]) -> Result<(), Fault>
+fn replace_file<R: Files + AllocGlobal, P: Watch>(
+    rt: &R,
+    watch: &P,
+    path: &str,
+    bytes: &[u8],
+) -> Result<(), Fault>
     ensures { IfErr result (λ fault. (fault ≡ device) ⊎ (fault ≡ out_of_memory)) }
 {
-    let Target { path, permissions } = target_of(rt, path)?;
-    let (part, mut file) = create_part(rt, path.as_str())?;
-    let outcome = match write_part(&mut file, permissions, bytes) {
-        Ok(()) => fs::rename(rt, part.as_str(), path.as_str()).map_err(|_| Fault::Device),
+    let alloc = rt.alloc();
+    let target = told(alloc, watch, FileCall::Look, path, target_of(rt, path));
+    let Target { path, permissions } = target?;
+    let target = path.as_str();
+    let part = told(
+        alloc,
+        watch,
+        FileCall::Create,
+        target,
+        create_part(rt, target),
+    );
+    let (part, mut file) = part?;
+    let written = write_part(&mut file, permissions, bytes);
+    let outcome = match told(alloc, watch, FileCall::Write, target, written) {
+        Ok(()) => renamed(rt, watch, part.as_str(), target),
         Err(fault) => Err(fault),
     };
     if outcome.is_err() {
         let _ = fs::remove_file(rt, part.as_str());
     }
     outcome
+}
+
+/// Gives a file another's name, and takes its place. A fault is told of.
+fn renamed<R: Files + AllocGlobal, P: Watch>(
+    rt: &R,
+    watch: &P,
+    part: &str,
+    path: &str,
+) -> Result<(), Fault>
+    ensures { IfErr result (λ fault. fault ≡ device) }
+{
+    let outcome = fs::rename(rt, part, path).map_err(|_| Fault::Device);
+    told(rt.alloc(), watch, FileCall::Rename, path, outcome)
 }
 
 /// The path of a file that is replaced, at which is a regular file with these permissions, or nothing.

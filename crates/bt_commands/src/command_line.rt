@@ -22,9 +22,16 @@ pub enum Task<'a> {
     /// Write the torrent of a folder.
     Make(MakeTask<'a>),
     /// Print what a torrent says.
-    Show { torrent: Source<'a> },
+    Show {
+        torrent: Source<'a>,
+    },
     /// Check the data files in a folder against a torrent.
-    Check { torrent: Source<'a>, dir: &'a str },
+    Check {
+        torrent: Source<'a>,
+        dir: &'a str,
+        /// Whether a call that fails is told of.
+        verbose: bool,
+    },
     /// Serve the data files in a folder to peers.
     Seed(SeedTask<'a>),
     /// Fetch the data files of a torrent from peers.
@@ -40,6 +47,8 @@ pub struct MakeTask<'a> {
     pub out: &'a str,
     pub name: &'a str,
     pub piece_length: u32,
+    /// Whether a call that fails is told of.
+    pub verbose: bool,
 }
 
 /// The torrent whose files are served, the folder in which they lie, and where peers connect.
@@ -182,7 +191,12 @@ fn check_task<'a>(matches: &ArgMatches<'a>) -> Result<Task<'a>, Refusal>
 {
     let torrent = source_of(matches)?;
     let dir = word_of(matches, "DIR")?;
-    Ok(Task::Check { torrent, dir })
+    let verbose = has_flag(matches, "verbose");
+    Ok(Task::Check {
+        torrent,
+        dir,
+        verbose,
+    })
 }
 
 fn seed_task<'a>(matches: &ArgMatches<'a>) -> Result<Task<'a>, Refusal>
@@ -225,12 +239,14 @@ fn make_task_of<'a>(matches: &ArgMatches<'a>) -> Result<MakeTask<'a>, Refusal>
     let out = word_of(matches, "OUT")?;
     let name = word_of(matches, "name")?;
     let text = word_of(matches, "piece-length")?;
+    let verbose = has_flag(matches, "verbose");
     match number_in(text) {
         Some(piece_length) => Ok(MakeTask {
             dir,
             out,
             name,
             piece_length,
+            verbose,
         }),
         None => Err(Refusal::Value(PIECE_LENGTH_WANTED)),
     }
@@ -315,16 +331,16 @@ fn source_of<'a>(matches: &ArgMatches<'a>) -> Result<Source<'a>, Refusal>
     ensures refused { IfErr result (IsRefusalFor
         ((source : Source) → ¬ IsSourceIn (rows_of (found_of matches.now)) source)) }
 {
-    let is_info = has_info(matches);
+    let is_info = has_flag(matches, "info");
     let path = word_of(matches, "TORRENT")?;
     Ok(Source { path, is_info })
 }
 
-/// Whether the flag `--info` is among the words.
-fn has_info(matches: &ArgMatches<'_>) -> bool
-    ensures { IsFlagIn (codes "info") result (rows_of (found_of matches.now)) }
+/// Whether the flag of this id is among the words.
+fn has_flag(matches: &ArgMatches<'_>, id: &str) -> bool
+    ensures { IsFlagIn id.now result (rows_of (found_of matches.now)) }
 {
-    matches.get_flag("info")
+    matches.get_flag(id)
 }
 
 /// The word of this id.

@@ -11,12 +11,14 @@ ghost use Rattle.bt_commands.specs.FolderSteps.{PutsEntries};
 ghost use Rattle.bt_commands.specs.declared.folder.EntryKind.TheVariants.{File, Folder};
 
 use crate::atomic_file::is_part_name;
-use bt_check::{Fault, found_path, system_fault};
+use bt_check::{Fault, found_path, system_fault, told};
 use bt_meta::MakeError;
+use bt_progress::{FileCall, Watch};
 use std::alloc::{AllocError, Global};
 use std::collections::BTreeMap;
 use std::fs::{self, DirEntry, FileType};
 use std::io::ErrorKind;
+use std::path::Path;
 use std::rt::Files;
 
 /// What a torrent takes of a folder.
@@ -38,9 +40,10 @@ struct FolderEntry {
 /// A symbolic link is left out, and so is anything else that is neither a file nor a folder, and a part file
 /// that a run left which was ended while it wrote.
 ///
-/// A name that is not UTF-8 is refused; a folder that can't be listed is a device fault.
-pub fn files_in<R: Files + AllocGlobal + Clone + Drop>(
+/// A name that is not UTF-8 is refused; a folder that can't be listed is a device fault, which is told of.
+pub fn files_in<R: Files + AllocGlobal + Clone + Drop, P: Watch>(
     rt: &R,
+    watch: &P,
     dir: &str,
 ) -> Result<Vec<Vec<String>>, Fault>
     ensures named { IfOk result
@@ -52,7 +55,7 @@ pub fn files_in<R: Files + AllocGlobal + Clone + Drop>(
     let alloc = rt.alloc();
     let mut files = Vec::new(alloc);
     let mut waiting = Vec::new(alloc);
-    push_entries(rt, dir, &[], &mut waiting)?;
+    push_entries(rt, watch, dir, &[], &mut waiting)?;
     // A bound, so that it ends whatever the system gives.
     for _ in 0..u64::MAX {
         let Some(FolderEntry { path, kind }) = waiting.pop() else {
@@ -60,15 +63,16 @@ pub fn files_in<R: Files + AllocGlobal + Clone + Drop>(
         };
         match kind {
             EntryKind::File => files.push(path)?,
-            EntryKind::Folder => push_entries(rt, dir, &path, &mut waiting)?,
+            EntryKind::Folder => push_entries(rt, watch, dir, &path, &mut waiting)?,
         }
     }
     Err(Fault::Device)
 }
 
 /// Puts the entries of a folder onto those that wait, the first one last.
-fn push_entries<R: Files + AllocGlobal + Clone + Drop>(
+fn push_entries<R: Files + AllocGlobal + Clone + Drop, P: Watch>(
     rt: &R,
+    watch: &P,
     dir: &str,
     folder: &[String],
     waiting: &mut Vec<FolderEntry>,
@@ -77,7 +81,7 @@ fn push_entries<R: Files + AllocGlobal + Clone + Drop>(
         (PutsEntries (map string_bytes folder.now) waiting.old.items waiting.new.items) }
     ensures fault { IfErr result IsListingFault }
 {
-    let mut names = names_in(rt, dir, folder)?;
+    let mut names = names_below(rt, watch, dir, folder)?;
     while let Some((name, kind)) = names.pop_last() {
         let path = path_with(rt.alloc(), folder, name)?;
         waiting.push(FolderEntry { path, kind })?;
@@ -85,18 +89,37 @@ fn push_entries<R: Files + AllocGlobal + Clone + Drop>(
     Ok(())
 }
 
-/// The names of the files and the folders in a folder.
-fn names_in<R: Files + AllocGlobal + Clone + Drop>(
+/// The names of the files and the folders in one that lies below another. A fault of the device is told of.
+fn names_below<R: Files + AllocGlobal + Clone + Drop, P: Watch>(
     rt: &R,
+    watch: &P,
     dir: &str,
     folder: &[String],
 ) -> Result<BTreeMap<String, EntryKind>, Fault>
     ensures ordered { IfOk result (IsOrdered string_cmp) }
     ensures fault { IfErr result IsListingFault }
 {
+    let path = found_path(rt.alloc(), dir, folder)?;
+    let outcome = names_in(rt, path.as_path());
+    told(
+        rt.alloc(),
+        watch,
+        FileCall::List,
+        path.as_path().as_str(),
+        outcome,
+    )
+}
+
+/// The names of the files and the folders in a folder.
+fn names_in<R: Files + AllocGlobal + Clone + Drop>(
+    rt: &R,
+    folder: Path<'_>,
+) -> Result<BTreeMap<String, EntryKind>, Fault>
+    ensures ordered { IfOk result (IsOrdered string_cmp) }
+    ensures fault { IfErr result IsListingFault }
+{
     let alloc = rt.alloc();
     let mut names = BTreeMap::new(alloc);
-    let folder = found_path(alloc, dir, folder)?;
     for entry in fs::read_dir(rt, folder).map_err(|e| system_fault(e.kind()))? {
         let entry = entry.map_err(|e| listing_fault(e.kind()))?;
         let name = entry.file_name();

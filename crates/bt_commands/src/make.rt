@@ -13,8 +13,12 @@ ghost use Rattle.bt_commands.specs.MakeSteps.{file_of_made, path_of};
 use crate::command_line::MakeTask;
 use crate::folder::files_in;
 use crate::limits::Counts;
-use bt_check::{BUFFER_LEN, Digests, Fault, PieceSize, digest_reader, found_path};
+use bt_check::{
+    BUFFER_LEN, Digests, Fault, PieceSize, digest_reader, fault_name, found_path, is_device_fault,
+    told,
+};
 use bt_meta::{Made, MakeError, read_torrent};
+use bt_progress::{FileCall, Watch, Watched};
 use bt_tree::Hash32;
 use std::fs::{self, Metadata};
 use std::os::unix::fs::MetadataExt;
@@ -30,9 +34,10 @@ pub struct NewTorrent {
 
 /// Makes the torrent of a folder. The first fault ends it, and is looked for in the piece length, then in the
 /// folder, then in the file that the torrent is written to, which is to be none of the folder's, and then in
-/// these.
-pub fn make<R: Files + AllocGlobal + Clone + Drop>(
+/// these. The reads are watched, and a fault of the device is told of.
+pub fn make<R: Files + AllocGlobal + Clone + Drop, P: Watch>(
     rt: &R,
+    watch: &P,
     request: MakeTask<'_>,
 ) -> Result<NewTorrent, Fault>
     ensures torrent { IfOk result (IsMakeTorrent request.entry.name.now request.entry.piece_length) }
@@ -43,17 +48,18 @@ pub fn make<R: Files + AllocGlobal + Clone + Drop>(
     let Some(size) = PieceSize::new(request.piece_length) else {
         return Err(Fault::Make(MakeError::PieceLength));
     };
-    let paths = files_in(rt, request.dir)?;
-    if is_among(rt, request.out, request.dir, &paths)? {
+    let paths = files_in(rt, watch, request.dir)?;
+    if is_among(rt, watch, request.out, request.dir, &paths)? {
         return Err(Fault::OutAmongFiles);
     }
-    torrent_of(rt, request.dir, request.name, size, paths)
+    torrent_of(rt, watch, request.dir, request.name, size, paths)
 }
 
 /// Whether the file at a path, if there is one, is one of these of a folder: also by another name of it, or by
 /// a link. What else is wrong with it shows when it is written.
-fn is_among<R: Files + AllocGlobal>(
+fn is_among<R: Files + AllocGlobal, P: Watch>(
     rt: &R,
+    watch: &P,
     out: &str,
     dir: &str,
     paths: &[Vec<String>],
@@ -65,12 +71,24 @@ fn is_among<R: Files + AllocGlobal>(
     };
     for path in paths {
         let path = found_path(rt.alloc(), dir, path)?;
-        let file = fs::metadata(rt, path).map_err(|_| Fault::Device)?;
+        let file = looked_at(rt, watch, path.as_path())?;
         if is_same_file(&out, &file) {
             return Ok(true);
         }
     }
     Ok(false)
+}
+
+/// What a look at a path meets. A fault is told of.
+fn looked_at<R: Files + AllocGlobal, P: Watch>(
+    rt: &R,
+    watch: &P,
+    path: Path<'_>,
+) -> Result<Metadata, Fault>
+    ensures { IfErr result (λ fault. fault ≡ device) }
+{
+    let outcome = fs::metadata(rt, path).map_err(|_| Fault::Device);
+    told(rt.alloc(), watch, FileCall::Look, path.as_str(), outcome)
 }
 
 /// Whether two looks met the same file: one inode of one device.
@@ -79,8 +97,9 @@ fn is_same_file(one: &Metadata, other: &Metadata) -> bool {
 }
 
 /// Makes the torrent of the files of a folder that have these paths.
-fn torrent_of<R: Files + AllocGlobal>(
+fn torrent_of<R: Files + AllocGlobal, P: Watch>(
     rt: &R,
+    watch: &P,
     dir: &str,
     name: &str,
     size: PieceSize,
@@ -90,8 +109,9 @@ fn torrent_of<R: Files + AllocGlobal>(
     ensures fault { IfErr result (IsFilesFault (map elements_of paths.items) name.now size.bytes) }
 {
     let alloc = rt.alloc();
-    let files = measured_files(rt, dir, paths, size)?;
-    let files = read_files(rt, dir, files, size)?;
+    watch.begin(FileCall::Read);
+    let files = measured_files(rt, watch, dir, paths, size)?;
+    let files = read_files(rt, watch, dir, files, size)?;
     let text = bt_meta::make(alloc, name.as_bytes(), size.bytes, &files)?;
     // read back for the infohash alone: what was made is lawful, so it is refused for memory at most
     let infohash = read_torrent(alloc, &text)?.infohash();
@@ -107,8 +127,9 @@ pub struct FolderFile {
 
 /// The files of a folder that have these paths, with their lengths. Where one is too long for a torrent, or
 /// they are too many, that is told before any is read.
-fn measured_files<R: Files + AllocGlobal>(
+fn measured_files<R: Files + AllocGlobal, P: Watch>(
     rt: &R,
+    watch: &P,
     dir: &str,
     paths: Vec<Vec<String>>,
     size: PieceSize,
@@ -123,16 +144,17 @@ fn measured_files<R: Files + AllocGlobal>(
     let mut counts = Counts::new();
     let mut files = Vec::new(rt.alloc());
     for path in paths {
-        let file = measured_file(rt, dir, path)?;
+        let file = measured_file(rt, watch, dir, path)?;
         counts = counts.with(file.path.len(), file.length, size)?;
         files.push(file)?;
     }
     Ok(files)
 }
 
-/// The file of a folder that has this path, with its length.
-fn measured_file<R: Files + AllocGlobal>(
+/// The file of a folder that has this path, with its length: so many bytes are to be read.
+fn measured_file<R: Files + AllocGlobal, P: Watch>(
     rt: &R,
+    watch: &P,
     dir: &str,
     path: Vec<String>,
 ) -> Result<FolderFile, Fault>
@@ -140,23 +162,15 @@ fn measured_file<R: Files + AllocGlobal>(
     ensures fault { IfErr result (λ fault. (fault ≡ device) ⊎ (fault ≡ out_of_memory)) }
 {
     let data = found_path(rt.alloc(), dir, &path)?;
-    let length = length_at(rt, data.as_path())?;
+    let length = looked_at(rt, watch, data.as_path())?.len();
+    watch.expect(length);
     Ok(FolderFile { path, length })
 }
 
-/// How many bytes the file at a path has.
-fn length_at<R: Files>(rt: &R, path: Path<'_>) -> Result<u64, Fault>
-    ensures { IfErr result (λ fault. fault ≡ device) }
-{
-    match fs::metadata(rt, path) {
-        Ok(metadata) => Ok(metadata.len()),
-        Err(_) => Err(Fault::Device),
-    }
-}
-
 /// What a torrent says of each of these files of the folder.
-fn read_files<R: Files + AllocGlobal>(
+fn read_files<R: Files + AllocGlobal, P: Watch>(
     rt: &R,
+    watch: &P,
     dir: &str,
     files: Vec<FolderFile>,
     size: PieceSize,
@@ -169,14 +183,15 @@ fn read_files<R: Files + AllocGlobal>(
     let mut buffer = [0; BUFFER_LEN];
     let mut made = Vec::new(rt.alloc());
     for file in files {
-        made.push(read_file(rt, dir, file, size, &mut buffer)?)?;
+        made.push(read_file(rt, watch, dir, file, size, &mut buffer)?)?;
     }
     Ok(made)
 }
 
 /// What a torrent says of a file of the folder.
-fn read_file<R: Files + AllocGlobal>(
+fn read_file<R: Files + AllocGlobal, P: Watch>(
     rt: &R,
+    watch: &P,
     dir: &str,
     file: FolderFile,
     size: PieceSize,
@@ -190,14 +205,32 @@ fn read_file<R: Files + AllocGlobal>(
     let alloc = rt.alloc();
     let FolderFile { path, length } = file;
     let data = found_path(alloc, dir, &path)?;
-    let mut reader = open_file(rt, data.as_path())?;
-    let Digests { root, layer } = digest_reader(alloc, &mut reader, length, size, buffer)?;
+    let mut reader = open_watched(rt, watch, data.as_path())?;
+    let outcome = digest_reader(alloc, &mut reader, length, size, buffer);
+    // No call failed, where the file has another length than it had.
+    let failed = is_device_fault(&outcome);
+    reader.tell(FileCall::Read, failed);
+    let Digests { root, layer } = outcome?;
     Ok(Made {
         path,
         length,
         root,
         layer,
     })
+}
+
+/// Opens a file of the folder to read it, and tells of its calls.
+fn open_watched<'a, R: Files + AllocGlobal, P: Watch>(
+    rt: &R,
+    watch: &'a P,
+    path: Path<'_>,
+) -> Result<Watched<'a, R::File, P>, Fault>
+    ensures { IfErr result (λ fault. (fault ≡ device) ⊎ (fault ≡ out_of_memory)) }
+{
+    let name = fault_name(rt.alloc(), watch, path.as_str())?;
+    let outcome = open_file(rt, path);
+    let file = told(rt.alloc(), watch, FileCall::Open, path.as_str(), outcome)?;
+    Ok(Watched::new(file, watch, name))
 }
 
 /// Opens a file of the folder to read it. What is no regular file any more is a device fault, and is not

@@ -12,7 +12,8 @@ ghost use Rattle.bt_commands.specs.declared.command_line.Task.TheVariants.{Make,
 use crate::atomic_file::{InfohashLine, publish};
 use crate::command_line::{FetchTask, MakeTask, SeedTask, Task, parse};
 use crate::make::make;
-use bt_check::{BUFFER_LEN, Fault, Source, check_torrent, load, show_torrent};
+use bt_check::{BUFFER_LEN, Fault, Source, check_torrent, load, load_watched, show_torrent};
+use bt_progress::Watch;
 use bt_replay::replay;
 use bt_transfer::{fetch, seed};
 use clap::Error;
@@ -23,20 +24,22 @@ use std::net::Net;
 use std::process::ExitCode;
 use std::rt::Files;
 
-/// Runs the program on the words of its environment, and gives the status that it exits with.
-pub fn start<R: Env + Files + AllocGlobal + Clone + Drop, N: Net, I: Read, O: Write, E: Write>(
-    rt: &R,
-    net: &N,
-    reader: &mut I,
-    writer: &mut O,
-    faults: &mut E,
-) -> ExitCode
+/// Runs the program on the words of its environment, and gives the status that it exits with. How far its work
+/// is, and which call failed, is told to `watch`, of which no clause speaks.
+pub fn start<
+    R: Env + Files + AllocGlobal + Clone + Drop,
+    N: Net,
+    P: Watch,
+    I: Read,
+    O: Write,
+    E: Write,
+>(rt: &R, net: &N, watch: &P, reader: &mut I, writer: &mut O, faults: &mut E) -> ExitCode
     ensures answer { IsStart (I.remaining reader.old) (I.remaining reader.new)
         (O.contents writer.old) (O.contents writer.new) (exit_status result) }
     ensures faultless { exit_status result ≤ 1 → Keeps (E.contents faults.old) (E.contents faults.new) }
 {
     let status = match words(rt) {
-        Ok(words) => run(rt, net, words.as_slice(), reader, writer, faults),
+        Ok(words) => run(rt, net, watch, words.as_slice(), reader, writer, faults),
         Err(fault) => report_fault(fault, faults),
     };
     ExitCode::from(status)
@@ -58,9 +61,10 @@ fn words(rt: &(impl Env + AllocGlobal)) -> Result<Vec<String>, Fault>
 /// failed and 4 for out of memory.
 ///
 /// A script comes from the reader. Results and help go to the writer, faults to `faults`.
-pub fn run<R: Files + AllocGlobal + Clone + Drop, N: Net, I: Read, O: Write, E: Write>(
+pub fn run<R: Files + AllocGlobal + Clone + Drop, N: Net, P: Watch, I: Read, O: Write, E: Write>(
     rt: &R,
     net: &N,
+    watch: &P,
     words: &[String],
     reader: &mut I,
     writer: &mut O,
@@ -81,16 +85,23 @@ pub fn run<R: Files + AllocGlobal + Clone + Drop, N: Net, I: Read, O: Write, E: 
     // where there is a result, no fault is told
     ensures faultless { result ≤ 1 → Keeps (E.contents faults.old) (E.contents faults.new) }
 {
-    match attempt(rt, net, words, reader, writer, faults) {
-        Ok(status) => status,
-        Err(fault) => report_fault(fault, faults),
+    match attempt(rt, net, watch, words, reader, writer, faults) {
+        Ok(status) => {
+            watch.clear();
+            status
+        }
+        Err(fault) => {
+            watch.clear();
+            report_fault(fault, faults)
+        }
     }
 }
 
 /// Reads the words, and does what they ask for.
-fn attempt<R: Files + AllocGlobal + Clone + Drop, N: Net, I: Read, O: Write, E: Write>(
+fn attempt<R: Files + AllocGlobal + Clone + Drop, N: Net, P: Watch, I: Read, O: Write, E: Write>(
     rt: &R,
     net: &N,
+    watch: &P,
     words: &[String],
     reader: &mut I,
     writer: &mut O,
@@ -103,15 +114,16 @@ fn attempt<R: Files + AllocGlobal + Clone + Drop, N: Net, I: Read, O: Write, E: 
     ensures faultless { status_after result ≤ 1 → Keeps (E.contents faults.old) (E.contents faults.new) }
 {
     match parse(rt.alloc(), words) {
-        Ok(task) => perform(rt, net, task, reader, writer, faults),
+        Ok(task) => perform(rt, net, watch, task, reader, writer, faults),
         Err(error) => explain(&error, writer, faults),
     }
 }
 
 /// Does a task, and returns its status.
-fn perform<R: Files + AllocGlobal + Clone + Drop, N: Net, I: Read, O: Write, E: Write>(
+fn perform<R: Files + AllocGlobal + Clone + Drop, N: Net, P: Watch, I: Read, O: Write, E: Write>(
     rt: &R,
     net: &N,
+    watch: &P,
     task: Task<'_>,
     reader: &mut I,
     writer: &mut O,
@@ -124,17 +136,22 @@ fn perform<R: Files + AllocGlobal + Clone + Drop, N: Net, I: Read, O: Write, E: 
     ensures faultless { status_after result ≤ 1 → Keeps (E.contents faults.old) (E.contents faults.new) }
 {
     match task {
-        Task::Make(request) => perform_make(rt, request, writer),
+        Task::Make(request) => perform_make(rt, watch, request, writer),
         Task::Show { torrent } => perform_show(rt, torrent, writer),
-        Task::Check { torrent, dir } => perform_check(rt, torrent, dir, writer),
+        Task::Check {
+            torrent,
+            dir,
+            verbose,
+        } => perform_check(rt, watch, torrent, dir, verbose, writer),
         Task::Seed(task) => perform_seed(rt, net, task, writer),
         Task::Fetch(task) => perform_fetch(rt, net, task, writer),
         Task::Replay => Ok(replay(rt.alloc(), reader, writer, faults)),
     }
 }
 
-fn perform_make<R: Files + AllocGlobal + Clone + Drop, O: Write>(
+fn perform_make<R: Files + AllocGlobal + Clone + Drop, P: Watch, O: Write>(
     rt: &R,
+    watch: &P,
     request: MakeTask<'_>,
     writer: &mut O,
 ) -> Result<u8, Fault>
@@ -143,9 +160,10 @@ fn perform_make<R: Files + AllocGlobal + Clone + Drop, O: Write>(
     ensures ended { IfErr result
         (IsTaskEnd (Make request.entry) (O.contents writer.old) (O.contents writer.new)) }
 {
-    let torrent = make(rt, request)?;
+    watch.set_verbose(request.verbose);
+    let torrent = make(rt, watch, request)?;
     let line = InfohashLine::new(rt.alloc(), torrent.infohash)?;
-    publish(rt, request.out, &torrent.text, &line, writer)?;
+    publish(rt, watch, request.out, &torrent.text, &line, writer)?;
     Ok(0)
 }
 
@@ -165,20 +183,23 @@ fn perform_show<R: Files + AllocGlobal, O: Write>(
     Ok(0)
 }
 
-fn perform_check<R: Files + AllocGlobal + Clone + Drop, O: Write>(
+fn perform_check<R: Files + AllocGlobal + Clone + Drop, P: Watch, O: Write>(
     rt: &R,
+    watch: &P,
     source: Source<'_>,
     dir: &str,
+    verbose: bool,
     writer: &mut O,
 ) -> Result<u8, Fault>
     ensures done { IfOk result
         (Writes (IsCheckResult source.entry) (O.contents writer.old) (O.contents writer.new)) }
     ensures ended { IfErr result
-        (IsTaskEnd (Check source.entry dir.entry) (O.contents writer.old) (O.contents writer.new)) }
+        (IsTaskEnd (Check source.entry dir.entry verbose) (O.contents writer.old) (O.contents writer.new)) }
 {
+    watch.set_verbose(verbose);
     let mut buffer = [0; BUFFER_LEN];
-    let torrent = load(rt, source, &mut buffer)?;
-    let summary = check_torrent(rt, &torrent, dir, writer)?;
+    let torrent = load_watched(rt, watch, source, &mut buffer)?;
+    let summary = check_torrent(rt, watch, &torrent, dir, writer)?;
     summary.outcome()
 }
 

@@ -2,7 +2,7 @@
 ghost use Rattle.std.specs.Prelude.{◌≡◌, false, codes, IfOk};
 ghost use Rattle.clap.specs.Words.{app_of, new_app, rule_of, with_rule, with_subcommand};
 ghost use Rattle.clap.specs.declared.builder.command.Command.TheViews.{out-Command as fields_of};
-ghost use Rattle.bt_commands.specs.Subcommands.{with_version, with_demands, make_app, show_app, check_app, seed_app, fetch_app, replay_app, top_app, file_app, transfer_app, program_app, data_app, required_rule, option_rule, flag_rule, name_rule, piece_length_rule, serve_rule, forever_rule, listen_rule, port_rule, peers_rule};
+ghost use Rattle.bt_commands.specs.Subcommands.{with_version, with_demands, make_app, show_app, check_app, seed_app, fetch_app, replay_app, top_app, file_app, transfer_app, program_app, data_app, required_rule, option_rule, flag_rule, name_rule, piece_length_rule, verbose_rule, serve_rule, forever_rule, listen_rule, port_rule, peers_rule};
 
 use clap::{Arg, ArgAction, Command};
 use std::alloc::{AllocError, Global};
@@ -15,6 +15,9 @@ const VERSION: &str = "0.1.0";
 const TORRENT_HELP: &str = "The torrent file";
 
 const INFO_HELP: &str = "The torrent file holds the info dictionary alone";
+
+const VERBOSE_HELP: &str =
+    "On a device fault, tell first of which file it is, and which call on it failed";
 
 const MAKE_ABOUT: &str = "Writes the torrent of a folder, and prints its infohash";
 
@@ -126,6 +129,17 @@ fn make_command<'a>(alloc: Global) -> Result<Command<'a>, AllocError>
     let command = plain_command(alloc, "make", MAKE_ABOUT);
     let command = with_word(command, needed_word(alloc, "DIR", MAKE_DIR_HELP))?;
     let command = with_word(command, needed_word(alloc, "OUT", OUT_HELP))?;
+    let command = with_sayings(alloc, command)?;
+    with_word(command, verbose_flag(alloc))
+}
+
+/// A command with the words for what a torrent says beside its files.
+fn with_sayings<'a>(alloc: Global, command: Command<'a>) -> Result<Command<'a>, AllocError>
+    ensures words { IfOk result
+        (λ made. app_of made ≡ with_rule (with_rule (app_of command.entry) name_rule) piece_length_rule) }
+    ensures local { IfOk result
+        (λ made. (fields_of made).has_globals ≡ (fields_of command.entry).has_globals) }
+{
     let command = with_word(command, name_word(alloc))?;
     with_word(command, piece_length_word(alloc))
 }
@@ -144,7 +158,8 @@ fn check_command<'a>(alloc: Global) -> Result<Command<'a>, AllocError>
     ensures local { IfOk result (λ command. (fields_of command).has_globals ≡ false) }
 {
     let command = data_command(alloc, "check", CHECK_ABOUT, DIR_HELP)?;
-    with_word(command, flag(alloc, "info", INFO_HELP))
+    let command = with_word(command, flag(alloc, "info", INFO_HELP))?;
+    with_word(command, verbose_flag(alloc))
 }
 
 fn seed_command<'a>(alloc: Global) -> Result<Command<'a>, AllocError>
@@ -244,6 +259,13 @@ fn flag<'a>(alloc: Global, id: &'a str, help: &'a str) -> Arg<'a>
         .long(id)
         .action(ArgAction::SetTrue)
         .help(help)
+}
+
+fn verbose_flag<'a>(alloc: Global) -> Arg<'a>
+    ensures rule { rule_of result ≡ verbose_rule }
+    ensures local { result.global ≡ false }
+{
+    flag(alloc, "verbose", VERBOSE_HELP)
 }
 
 fn name_word<'a>(alloc: Global) -> Arg<'a>

@@ -7,6 +7,8 @@ mod peer;
 mod rows;
 
 use bt_commands::start;
+use bt_progress::{Console, Watched};
+use std::io::IsTerminal;
 use std::process::ExitCode;
 use std::{env, io};
 
@@ -36,7 +38,18 @@ fn answer(rt: &HostRuntime, words: &[String]) -> ExitCode {
 
 /// What the `main` of `btseed` does.
 fn program(rt: &HostRuntime) -> ExitCode {
-    start(rt, rt, &mut rt.stdin(), &mut rt.stdout(), &mut rt.stderr())
+    let errors = rt.stderr();
+    let console = Console::new(rt.alloc(), rt, errors, errors.is_terminal());
+    let name = String::from_str(rt.alloc(), "standard output").ok();
+    let mut output = Watched::new(rt.stdout(), &console, name);
+    start(
+        rt,
+        rt,
+        &console,
+        &mut rt.stdin(),
+        &mut output,
+        &mut rt.stderr(),
+    )
 }
 
 /// The status of what only rows ask for.

@@ -3,14 +3,21 @@
 #![tactic(auto)]
 
 use bt_commands::start;
+use bt_progress::{Console, Watched};
+use std::io::IsTerminal;
 use std::process::ExitCode;
 
 fn main(rt: HostRuntime) -> ExitCode {
+    let errors = rt.stderr();
+    let console = Console::new(rt.alloc(), &rt, errors, errors.is_terminal());
+    let name = String::from_str(rt.alloc(), "standard output").ok();
+    let mut output = Watched::new(rt.stdout(), &console, name);
     start(
         &rt,
         &rt,
+        &console,
         &mut rt.stdin(),
-        &mut rt.stdout(),
+        &mut output,
         &mut rt.stderr(),
     )
 }

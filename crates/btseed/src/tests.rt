@@ -4,6 +4,7 @@ mod devices;
 mod entries;
 mod fault;
 mod output;
+mod progress;
 mod reader;
 mod replay;
 mod steps;

@@ -5,6 +5,7 @@ use super::tools::{confirm, expect, folder, front, path_in, remove_folder, three
 use bt_check::{Fault, found_path};
 use bt_commands::{InfohashLine, files_in, open_file, publish};
 use bt_meta::MakeError;
+use bt_progress::Unwatched;
 use std::alloc::{AllocError, Allocator, Global};
 use std::fs::{File, Metadata, OpenFile, OpenOptions, Permissions};
 use std::io::{self, ErrorKind, Read, Seek, SeekFrom, Write};
@@ -261,7 +262,7 @@ impl OpenFile for DeviceFile {
 fn replace<R: Files + AllocGlobal>(rt: &R, path: &str) -> Result<(), Fault> {
     let line = InfohashLine::new(rt.alloc(), [0; 32])?;
     let mut output = Vec::new(rt.alloc());
-    publish(rt, path, b"new", &line, &mut output)
+    publish(rt, &Unwatched, path, b"new", &line, &mut output)
 }
 
 /// Writes over the file `kept`, and expects this answer, these bytes in it after, and nothing beside it.
@@ -482,7 +483,7 @@ fn walk_fault(rt: &HostRuntime, dir: &str, failing: Failing, names: &[u8]) -> Op
         failing,
         names,
     };
-    files_in(&device, dir).err()
+    files_in(&device, &Unwatched, dir).err()
 }
 
 /// The same of names of files that are not there.

@@ -2,6 +2,7 @@
 
 use super::tools::confirm;
 use bt_commands::run;
+use bt_progress::Unwatched;
 use std::alloc::AllocError;
 use std::io::{self, ErrorKind, Read, Write};
 use std::test::Fail;
@@ -51,7 +52,7 @@ fn status_on<I: Read, O: Write, E: Write>(
     faults: &mut E,
 ) -> Result<u8, AllocError> {
     let words = [String::from_str(rt.alloc(), "replay")?];
-    Ok(run(rt, rt, &words, reader, writer, faults))
+    Ok(run(rt, rt, &Unwatched, &words, reader, writer, faults))
 }
 
 /// What a replay comes to: its status, output and fault.

@@ -1,6 +1,7 @@
 //! What the tests share: folders of their own, the files in them, and runs of the program.
 
 use bt_commands::run;
+use bt_progress::Unwatched;
 use bt_tree::Hash32;
 use hex::FromHex;
 use std::alloc::{AllocError, Global};
@@ -76,7 +77,15 @@ pub fn status_of<R: Files + AllocGlobal + Clone + Drop, O: Write, E: Write>(
 ) -> Result<u8, AllocError> {
     let words = words_of(rt.alloc(), top, line)?;
     let words = words.as_slice();
-    Ok(run(rt, net, words, &mut empty(), output, faults))
+    Ok(run(
+        rt,
+        net,
+        &Unwatched,
+        words,
+        &mut empty(),
+        output,
+        faults,
+    ))
 }
 
 /// What the program answered to the words of a line: its status, and what it wrote. The error of a test whose

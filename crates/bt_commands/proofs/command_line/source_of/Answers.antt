@@ -12,4 +12,4 @@ returns-in_err-path-clause-refused c =
     ((source : Source) → ¬ IsSourceIn rows source) c.in_err-path.ensures.refused (λ none source is. none source.path.now is.path) c.from_residual.ensures.1
 
 pub returns-clause-source : goal.returns-clause-source
-returns-clause-source c = record { path = c.in_ok-path.ensures.word; info = c.has_info-is_info.ensures }
+returns-clause-source c = record { path = c.in_ok-path.ensures.word; info = c.has_flag-is_info.ensures }

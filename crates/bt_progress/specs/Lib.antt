@@ -1,0 +1,4 @@
+pub mod FileCall
+pub mod Meter
+pub mod Line
+pub mod Due

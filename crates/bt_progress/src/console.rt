@@ -1,0 +1,100 @@
+//! What a program tells beside its results, on standard error.
+
+use crate::file_call::{FileCall, fault_line};
+use crate::screen::Screen;
+use crate::watch::Watch;
+use std::alloc::Global;
+use std::cell::{Cell, RefCell};
+use std::io::Write;
+use std::time::{Clock, Instant};
+
+/// Tells of work on a writer, by a clock: on a terminal how far it is, in one line that is written at most four
+/// times a second and taken away at the end; and calls that failed, where that is wanted.
+///
+/// What lies in a cell no clause knows, so none says what is written. Where it can't be written, it is not.
+#[derive(Drop)]
+pub struct Console<'a, C, W> {
+    alloc: Global,
+    clock: &'a C,
+    is_terminal: bool,
+    is_verbose: Cell<bool>,
+    screen: RefCell<Screen<W>>,
+}
+
+impl<'a, C: Clock, W: Write> Console<'a, C, W> {
+    /// One that has not told anything, on a writer that is a terminal or not.
+    pub fn new(alloc: Global, clock: &'a C, writer: W, is_terminal: bool) -> Self {
+        Console {
+            alloc,
+            clock,
+            is_terminal,
+            is_verbose: Cell::new(false),
+            screen: RefCell::new(Screen::new(writer)),
+        }
+    }
+
+    /// Writes a text in the place of the line of progress.
+    fn say(&self, text: &str) {
+        if let Ok(mut screen) = self.screen.try_borrow_mut() {
+            screen.say(text);
+        }
+    }
+}
+
+impl<'a, C: Clock, W: Write> Watch for Console<'a, C, W> {
+    fn is_verbose(&self) -> bool {
+        self.is_verbose.get()
+    }
+
+    fn set_verbose(&self, verbose: bool) {
+        self.is_verbose.set(verbose);
+    }
+
+    fn tell_fault(&self, call: FileCall, name: &str) {
+        if let Ok(line) = fault_line(self.alloc, call, name) {
+            self.say(line.as_str());
+        }
+    }
+
+    fn is_terminal(&self) -> bool {
+        self.is_terminal
+    }
+
+    fn hint(&self, text: &str) {
+        if self.is_terminal {
+            if let Ok(line) = format!(in self.alloc; "btseed: {text}\n") {
+                self.say(line.as_str());
+            }
+        }
+    }
+
+    fn begin(&self, call: FileCall) {
+        if let Ok(mut screen) = self.screen.try_borrow_mut() {
+            screen.begin(call);
+        }
+    }
+
+    fn expect(&self, bytes: u64) {
+        if let Ok(mut screen) = self.screen.try_borrow_mut() {
+            screen.expect(bytes);
+        }
+    }
+
+    fn advance(&self, call: FileCall, bytes: u64) {
+        if !self.is_terminal {
+            return;
+        }
+        let Ok(now) = Instant::now(self.clock) else {
+            return;
+        };
+        if let Ok(mut screen) = self.screen.try_borrow_mut() {
+            screen.advance(self.alloc, call, bytes, now);
+        }
+    }
+
+    fn clear(&self) {
+        if let Ok(mut screen) = self.screen.try_borrow_mut() {
+            screen.clear();
+        }
+    }
+}

@@ -1,0 +1,117 @@
+//! The line of progress, on a writer.
+ghost use Rattle.std.specs.Prelude.{◌≡◌, ◌≤◌, ◌↔◌, ◌^◌, ◌-◌, min, IsTrue};
+ghost use Rattle.bt_progress.specs.Due.{millis_between};
+
+use crate::file_call::FileCall;
+use crate::line::progress_line;
+use crate::meter::Meter;
+use std::alloc::Global;
+use std::io::Write;
+use std::time::Instant;
+
+/// How many milliseconds pass at least from one writing of the line to the next.
+const PAUSE: u128 = 250;
+
+/// Goes to the line's front, and clears it.
+const CLEARED: &str = "\r\x1b[K";
+
+/// When work began, and when its line was last written.
+#[derive(Clone, Copy)]
+struct Times {
+    began: Instant,
+    shown: Instant,
+}
+
+/// The line of progress on a writer, and the work that it tells of.
+#[derive(Drop)]
+pub(crate) struct Screen<W> {
+    writer: W,
+    /// The calls whose bytes count: none before work begins.
+    call: Option<FileCall>,
+    meter: Meter,
+    times: Option<Times>,
+    is_shown: bool,
+}
+
+impl<W: Write> Screen<W> {
+    /// One that nothing is written on, of no work.
+    pub(crate) fn new(writer: W) -> Self {
+        Screen {
+            writer,
+            call: None,
+            meter: Meter::new(),
+            times: None,
+            is_shown: false,
+        }
+    }
+
+    pub(crate) fn begin(&mut self, call: FileCall) {
+        self.call = Some(call);
+        self.meter = Meter::new();
+        self.times = None;
+    }
+
+    pub(crate) fn expect(&mut self, bytes: u64) {
+        self.meter = self.meter.expect(bytes);
+    }
+
+    /// Counts bytes, and writes the line where it is due.
+    pub(crate) fn advance(&mut self, alloc: Global, call: FileCall, bytes: u64, now: Instant) {
+        if self.call != Some(call) {
+            return;
+        }
+        self.meter = self.meter.advance(bytes);
+        let Some(times) = self.times else {
+            self.times = Some(Times {
+                began: now,
+                shown: now,
+            });
+            return;
+        };
+        if is_due(times.shown, now) {
+            self.times = Some(Times {
+                began: times.began,
+                shown: now,
+            });
+            self.show(alloc, millis_between(times.began, now));
+        }
+    }
+
+    fn show(&mut self, alloc: Global, millis: u64) {
+        if let Ok(line) = progress_line(alloc, self.meter, millis) {
+            let _ = write!(self.writer, "{CLEARED}{line}");
+            self.is_shown = true;
+        }
+    }
+
+    /// Takes the line away.
+    pub(crate) fn clear(&mut self) {
+        if self.is_shown {
+            let _ = self.writer.write_all(CLEARED.as_bytes());
+            self.is_shown = false;
+        }
+    }
+
+    /// Writes a text in the line's place.
+    pub(crate) fn say(&mut self, text: &str) {
+        self.clear();
+        let _ = self.writer.write_all(text.as_bytes());
+    }
+}
+
+/// Whether the line is to be written anew, that was written last at `last`: at most four times a second.
+pub fn is_due(last: Instant, now: Instant) -> bool
+    ensures { IsTrue result ↔ (250 ≤ millis_between last now) }
+{
+    now.duration_since(last).as_millis() >= PAUSE
+}
+
+/// How many whole milliseconds have passed, in 64 bits.
+fn millis_between(earlier: Instant, later: Instant) -> u64
+    ensures { result ≡ min (2 ^ 64 - 1) (millis_between earlier later) }
+{
+    later
+        .duration_since(earlier)
+        .as_millis()
+        .min(u64::MAX as u128) as u64
+}

@@ -1,0 +1,61 @@
+//! Where work tells of itself, beside its results.
+
+use crate::file_call::FileCall;
+
+/// Where work that may take long, or meet a fault, tells of itself beside its results. No clause says what is
+/// told.
+pub trait Watch {
+    /// Whether each call that failed is told, by the name of its file. Else no names are kept for it.
+    fn is_verbose(&self) -> bool;
+
+    fn set_verbose(&self, verbose: bool);
+
+    /// Tells that a call failed, of what has this name, which has no control characters.
+    fn tell_fault(&self, call: FileCall, name: &str);
+
+    /// Whether somebody may look on at a terminal.
+    fn is_terminal(&self) -> bool;
+
+    /// Gives a hint in a line of its own, where somebody may look on. It has no control characters.
+    fn hint(&self, text: &str);
+
+    /// Work begins whose bytes are those that go through such calls.
+    fn begin(&self, call: FileCall);
+
+    /// So many bytes more are to be done.
+    fn expect(&self, bytes: u64);
+
+    /// So many bytes went through a call.
+    fn advance(&self, call: FileCall, bytes: u64);
+
+    /// Takes the line of progress away, before a line of results is written.
+    fn clear(&self);
+}
+
+/// Nobody is told anything.
+#[derive(Clone, Copy, Debug)]
+pub struct Unwatched;
+
+impl Watch for Unwatched {
+    fn is_verbose(&self) -> bool {
+        false
+    }
+
+    fn set_verbose(&self, _verbose: bool) {}
+
+    fn tell_fault(&self, _call: FileCall, _name: &str) {}
+
+    fn is_terminal(&self) -> bool {
+        false
+    }
+
+    fn hint(&self, _text: &str) {}
+
+    fn begin(&self, _call: FileCall) {}
+
+    fn expect(&self, _bytes: u64) {}
+
+    fn advance(&self, _call: FileCall, _bytes: u64) {}
+
+    fn clear(&self) {}
+}
