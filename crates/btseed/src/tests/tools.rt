@@ -77,15 +77,7 @@ pub fn status_of<R: Files + AllocGlobal + Clone + Drop, O: Write, E: Write>(
 ) -> Result<u8, AllocError> {
     let words = words_of(rt.alloc(), top, line)?;
     let words = words.as_slice();
-    Ok(run(
-        rt,
-        net,
-        &Unwatched,
-        words,
-        &mut empty(),
-        output,
-        faults,
-    ))
+    Ok(run(rt, net, &Unwatched, words, &mut empty(), output, faults))
 }
 
 /// What the program answered to the words of a line: its status, and what it wrote. The error of a test whose
