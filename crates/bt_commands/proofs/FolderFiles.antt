@@ -1,6 +1,6 @@
 -- Lemmas on the files of a folder, as they are found and as they are read.
-use Rattle.std.proofs.Common.{Vec, String, Global, ◌≤◌, ◌≡◌, ◌++◌, ◌+◌, ℕ, refl, ◌⊎◌, inl, inr, List, [], ◌∷◌, map, length, sym, ◌∙◌, ap, arith}
-use Rattle.std.proofs.lemmas.List.{append_assoc, append-nil, length_push, map-append}
+use Rattle.std.proofs.Common.{Vec, String, Global, ◌≤◌, ◌≡◌, ◌++◌, ◌+◌, ℕ, refl, ◌⊎◌, inl, inr, List, [], ◌∷◌, map, length, sym, ◌∙◌, ap, arith, subst, string_bytes}
+use Rattle.std.proofs.lemmas.List.{append_assoc, append-nil, length-map, length_push, map-append}
 use Rattle.std.proofs.lemmas.List.Elements.{All-nil, All-head, All-tail, All-push, All-same}
 use Rattle.std.proofs.lemmas.List.Sums.{sum_by-append}
 use Rattle.std.specs.Prelude.{Option, None, Some}
@@ -16,9 +16,13 @@ use Rattle.bt_meta.proofs.TreeWalk.{with_earlier-append}
 use Rattle.bt_check.specs.Digests.{IsDigestFault}
 use Rattle.bt_check.specs.Fault.{device, make_fault, out_of_memory}
 use Rattle.bt_commands.specs.Limits.{count_refusal}
-use Rattle.bt_commands.specs.Make.{HasContent, IsMeasuringFault, elements_of, first_count_refusal, paths_of, refusal_behind, total_piece_count}
-use Rattle.bt_commands.specs.MakeSteps.{file_of_made, path_of}
+use Rattle.bt_commands.specs.Folder.{file_paths, path_behind, path_of_file}
+use Rattle.bt_commands.specs.Make.{HasContent, IsMeasuringFault, Paths, elements_of, first_count_refusal, paths_of, refusal_behind, total_piece_count}
+use Rattle.bt_commands.specs.MakeSteps.{elements_in, file_of_made}
 use Rattle.bt_check.specs.declared.fault.Fault.{Fault}
+use Rattle.bt_commands.proofs.FolderWalk.{Path, file_paths_first, file_paths_none}
+use Rattle.bt_commands.specs.declared.folder.EntryKind.TheVariants.{File, Folder}
+use Rattle.bt_commands.specs.declared.folder.FolderEntry.{FolderEntry}
 use Rattle.bt_commands.specs.declared.make.FolderFile.{FolderFile}
 
 -- ---- files as they are found
@@ -30,19 +34,42 @@ split_more f all left rest old new x each first more =
     each ∙ ap (λ l. map f old ++ l) first ∙ sym (append_assoc (map f old) (f x ∷ []) rest)
     ∙ ap (λ l. l ++ rest) (sym (ap (map f) more ∙ map-append f old (x ∷ [])))
 
--- what comes next is known by another name
-pub next_is : {A : Type 0} (left rest : List A) (next same : A) → left ≡ next ∷ rest → same ≡ next → left ≡ same ∷ rest
-next_is left rest next same first is = first ∙ ap (λ x. x ∷ rest) (sym is)
+-- before the first entry
+pub files_begun : (path : List (String Global)) (left all : List FolderEntry) → path ≡ [] → left ≡ all
+    → file_paths (map string_bytes path) left ≡ file_paths [] all
+files_begun path left all none same = ap (λ p. file_paths (map string_bytes p) left) none ∙ ap (file_paths []) same
+
+-- a file with a path has as many elements
+pub as_many : (file : FolderFile) (path : List (String Global)) → elements_in file ≡ map string_bytes path → length path ≡ length file.path.items
+as_many file path same = sym (length-map path string_bytes) ∙ ap length (sym same) ∙ length-map file.path.items string_bytes
+
+-- the next entry is a file, or a folder
+paths_from : (before path : Path) (left rest : List FolderEntry) (entry : FolderEntry) → left ≡ entry ∷ rest → path ≡ path_behind before entry
+    → file_paths before left ≡ path_of_file entry.kind path ++ file_paths path rest
+paths_from before path left rest entry first is = ap (file_paths before) first ∙ file_paths_first before path entry rest is
+
+pub file_next : (before path : Path) (left rest : List FolderEntry) (entry : FolderEntry) (elements : Path) → left ≡ entry ∷ rest
+    → path ≡ path_behind before entry → entry.kind ≡ File → elements ≡ path → file_paths before left ≡ elements ∷ file_paths path rest
+file_next before path left rest entry elements first is file same =
+    paths_from before path left rest entry first is ∙ ap (λ k. path_of_file k path ++ file_paths path rest) file
+    ∙ ap (λ p. p ∷ file_paths path rest) (sym same)
+
+pub folder_next : (before path : Path) (left rest : List FolderEntry) (entry : FolderEntry) → left ≡ entry ∷ rest → path ≡ path_behind before entry
+    → entry.kind ≡ Folder → file_paths before left ≡ file_paths path rest
+folder_next before path left rest entry first is folder =
+    paths_from before path left rest entry first is ∙ ap (λ k. path_of_file k path ++ file_paths path rest) folder
 
 -- when none is left
 pub split_all : {A B : Type 0} (f : A → B) (all left : List B) (files : List A) → all ≡ map f files ++ left → length left ≡ 0 → map f files ≡ all
 split_all f all [] files each none = sym (each ∙ append-nil (map f files))
 split_all f all (x ∷ left) files each none = absurd (omega (arith, none))
 
-split_elements : (files : List FolderFile) (rest : List (Vec (String Global) Global))
-    → map elements_of (map path_of files ++ rest) ≡ map (λ file. elements_of file.path) files ++ map elements_of rest
-split_elements [] rest = refl
-split_elements (file ∷ files) rest = ap (λ l. elements_of file.path ∷ l) (split_elements files rest)
+-- when no entry is left
+pub all_files : (all : Paths) (files : List FolderFile) (path : Path) (left : List FolderEntry) → all ≡ map elements_in files ++ file_paths path left
+    → length left ≡ 0 → map elements_in files ≡ all
+all_files all files path [] each none =
+    sym (each ∙ ap (λ l. map elements_in files ++ l) (file_paths_none path) ∙ append-nil (map elements_in files))
+all_files all files path (entry ∷ left) each none = absurd (omega (arith, none))
 
 -- what is refused behind files of which none is
 refusal_at_last : (size : ℕ) (old : List FolderFile) (file : FolderFile) → first_count_refusal size old ≡ None
@@ -52,14 +79,14 @@ refusal_at_last size old file none =
     ∙ first_of-append (with_earlier (refusal_behind size) [] old) (with_earlier (refusal_behind size) old (file ∷ [])) none
 
 -- the files so far are the first of those wanted, and are not refused, not too long and counted
-pub record AreMeasured (size files_count pieces_count : ℕ) (all left : List (Vec (String Global) Global)) (files : List FolderFile) : Type 0 where
-  pub each : all ≡ map path_of files ++ left
+pub record AreMeasured (size files_count pieces_count : ℕ) (all left : Paths) (files : List FolderFile) : Type 0 where
+  pub each : all ≡ map elements_in files ++ left
   pub faultless : first_count_refusal size files ≡ None
   pub short : All (λ file. file.length ≤ max_file_length) files
   pub count : length files ≡ files_count
   pub pieces : total_piece_count size files ≡ pieces_count
 
-pub measured_none : (size files_count pieces_count : ℕ) (all left : List (Vec (String Global) Global)) (files : List FolderFile) → files ≡ [] → files_count ≡ 0
+pub measured_none : (size files_count pieces_count : ℕ) (all left : Paths) (files : List FolderFile) → files ≡ [] → files_count ≡ 0
     → pieces_count ≡ 0 → left ≡ all → AreMeasured size files_count pieces_count all left files
 measured_none size files_count pieces_count all left files empty no_file no_piece same = rw empty (record {
   each = sym same;
@@ -69,8 +96,13 @@ measured_none size files_count pieces_count all left files empty no_file no_piec
   pieces = sym no_piece;
 })
 
-module _ {size count pieces : ℕ} {all left : List (Vec (String Global) Global)} {old : List FolderFile} (h : AreMeasured size count pieces all left old)
-    (rest : List (Vec (String Global) Global)) (file : FolderFile) (elements : ℕ) (first : left ≡ file.path ∷ rest)
+-- a folder is passed over
+pub measured_same : (size count pieces : ℕ) (all left rest : Paths) (files : List FolderFile) → left ≡ rest → AreMeasured size count pieces all left files
+    → AreMeasured size count pieces all rest files
+measured_same size count pieces all left rest files same h = subst (λ l. AreMeasured size count pieces all l files) same h
+
+module _ {size count pieces : ℕ} {all left : Paths} {old : List FolderFile} (h : AreMeasured size count pieces all left old)
+    (rest : Paths) (file : FolderFile) (elements : ℕ) (first : left ≡ elements_in file ∷ rest)
     (sized : elements ≡ length file.path.items) where
   told_behind : (told : Option MakeError) → told ≡ count_refusal count pieces size elements file.length
       → first_count_refusal size (old ++ file ∷ []) ≡ first_of (told ∷ [])
@@ -90,7 +122,7 @@ module _ {size count pieces : ℕ} {all left : List (Vec (String Global) Global)
       let sum_is : sum_by pieces_of (old ++ file ∷ []) ≡ sum_by pieces_of old + sum_by pieces_of (file ∷ []) = sum_by-append pieces_of old (file ∷ []) in
       let last : sum_by pieces_of (file ∷ []) ≡ piece_count size file.length = omega arith in
       record {
-        each = split_more path_of all left rest old new file h.each first more;
+        each = split_more elements_in all left rest old new file h.each first more;
         faultless = ap (first_count_refusal size) more ∙ told_behind None passes;
         short = All-same S new (old ++ file ∷ []) more (All-push S old file h.short short);
         count = ap length more ∙ length_push old file ∙ ap (λ n. n + 1) h.count ∙ sym one_more;
@@ -99,12 +131,11 @@ module _ {size count pieces : ℕ} {all left : List (Vec (String Global) Global)
       }
 
   pub measured_refused : (cause : MakeError) → Some cause ≡ count_refusal count pieces size elements file.length
-      → IsMeasuringFault (map elements_of all) size (make_fault cause)
+      → IsMeasuringFault all size (make_fault cause)
   measured_refused cause refused = inr (inr (record {
     files = old ++ file ∷ [];
-    rest = map elements_of rest;
-    each = ap (map elements_of) (split_more path_of all left rest old (old ++ file ∷ []) file h.each first refl)
-        ∙ split_elements (old ++ file ∷ []) rest;
+    rest = rest;
+    each = split_more elements_in all left rest old (old ++ file ∷ []) file h.each first refl;
     cause = cause;
     refusal = told_behind (Some cause) refused;
     is = refl;
@@ -152,11 +183,11 @@ read_fault size fault short (inl failed) = inl failed
 read_fault size fault short (inr (inl memory)) = inr memory
 read_fault size fault short (inr (inr long)) = let beyond = long.1 in absurd (omega (arith, short, beyond))
 
-made_paths : (files : List Made) → paths_of files ≡ map elements_of (map path_of (map file_of_made files))
+made_paths : (files : List Made) → paths_of files ≡ map elements_in (map file_of_made files)
 made_paths [] = refl
 made_paths (file ∷ files) = ap (λ l. elements_of file.path ∷ l) (made_paths files)
 
 -- what was made has the paths that were given
-pub paths_kept : (paths : List (Vec (String Global) Global)) (found : List FolderFile) (files : List Made) → map path_of found ≡ paths
-    → map file_of_made files ≡ found → paths_of files ≡ map elements_of paths
-paths_kept paths found files each same = made_paths files ∙ ap (λ l. map elements_of (map path_of l)) same ∙ ap (map elements_of) each
+pub paths_kept : (paths : Paths) (found : List FolderFile) (files : List Made) → map elements_in found ≡ paths
+    → map file_of_made files ≡ found → paths_of files ≡ paths
+paths_kept paths found files each same = made_paths files ∙ ap (map elements_in) same ∙ each

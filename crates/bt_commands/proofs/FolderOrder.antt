@@ -1,23 +1,26 @@
 -- Lemmas on the order of a walk: the paths of the files that were found, and behind them those of the entries that
 -- wait, the next one first, ascend.
-use Rattle.std.proofs.Common.{Vec, String, Global, ◌≡◌, ◌++◌, ℕ, refl, subst, List, [], ◌∷◌, map, string_bytes, sym, ◌∙◌, ap}
-use Rattle.std.proofs.lemmas.List.{append_assoc, append-nil, map-append, reverse-append, reverse-reverse}
+use Rattle.std.proofs.Common.{String, Global, ◌≡◌, ◌++◌, ◌≤◌, ℕ, refl, subst, List, [], ◌∷◌, map, length, take, string_bytes, sym, ◌∙◌, ap, arith, take_all, take_at, length-take-le}
+use Rattle.std.proofs.lemmas.List.{append_assoc, append-nil, length-take, map-append, reverse-append, reverse-reverse, take-take}
+use Rattle.std.proofs.lemmas.List.Elements.{All-nil, All-head, All-tail, All-push, All-same}
 use Rattle.std.proofs.lemmas.Cmp.{nat_list_cmp_total}
 use Rattle.std.specs.Prelude.{reverse, Option, Some, option_to_list, ⊤}
-use Rattle.std.specs.List.{AllByRecursion}
+use Rattle.std.specs.List.{All, AllByRecursion}
 use Rattle.std.specs.List.Sorted.{IsStrictlySortedBy}
 use Rattle.std.specs.Cmp.Lexicographic.{slice_cmp}
 use Rattle.std.specs.Ordering.{nat_cmp, ordering_then, ordering_reverse}
 use Rattle.std.specs.declared.cmp.Ordering.{Ordering}
 use Rattle.std.specs.declared.cmp.Ordering.TheVariants.{Less, Equal, Greater}
 use Rattle.std.specs.String.{string_cmp}
-use Rattle.bt_commands.specs.Folder.{Ascend}
+use Rattle.bt_commands.specs.Folder.{Ascend, file_paths, path_behind, path_of_file}
 use Rattle.bt_commands.specs.FolderSteps.{PutsEntries}
+use Rattle.bt_commands.specs.declared.folder.EntryKind.TheVariants.{File, Folder}
 use Rattle.bt_commands.specs.declared.folder.FolderEntry.{FolderEntry}
-use Rattle.bt_commands.proofs.FolderWalk.{path_in, inside_of}
+use Rattle.bt_commands.proofs.FolderWalk.{Path, file_paths_more, file_paths_none, last_path, last_path_more, last_path_none, name_of}
 
-abbrev pub Path : Type 0
-Path = List (List ℕ)
+-- the path of a name in a folder
+abbrev pub inside_of : Path → String Global → Path
+inside_of folder name = folder ++ string_bytes name ∷ []
 
 -- ---- one path before another
 
@@ -145,12 +148,65 @@ ascend (p ∷ ps) o = (all_less p ps o.0, ascend ps o.1)
 
 -- ---- the walk
 
-abbrev pub file_path : Vec (String Global) Global → Path
-file_path path = map string_bytes path.items
+-- Entries that wait, the next one first, fit the path of the last entry: each lies in a folder of the path that the one
+-- before it leaves.
+abbrev pub IsStack : Path → List FolderEntry → Type 0
+IsStack path [] = ⊤
+IsStack path (entry ∷ entries) = (entry.depth ≤ length path) × IsStack (take entry.depth path) entries
 
--- the files that were found, and behind them the entries that wait, the last one first
-abbrev pub IsWalk : List (Vec (String Global) Global) → List FolderEntry → Type 0
-IsWalk files waiting = AreInOrder (map file_path files ++ reverse (map path_in waiting))
+abbrev pub stack_paths : Path → List FolderEntry → List Path
+stack_paths path [] = []
+stack_paths path (entry ∷ entries) = path_behind path entry ∷ stack_paths (take entry.depth path) entries
+
+-- they fit a longer path too
+take_within : (path : Path) (d n : ℕ) → n ≤ length (take d path) → take n (take d path) ≡ take n path
+take_within path d n within = take-take n d path (omega (arith, within, length-take d path))
+
+stack_deeper : (path : Path) (d : ℕ) (entries : List FolderEntry) → IsStack (take d path) entries → IsStack path entries
+stack_deeper path d [] stack = tt
+stack_deeper path d (entry ∷ entries) stack = (
+  omega (arith, stack.0, length-take d path),
+  subst (λ p. IsStack p entries) (take_within path d entry.depth stack.0) stack.1,
+)
+
+paths_deeper : (path : Path) (d : ℕ) (entries : List FolderEntry) → IsStack (take d path) entries
+    → stack_paths path entries ≡ stack_paths (take d path) entries
+paths_deeper path d [] stack = refl
+paths_deeper path d (entry ∷ entries) stack =
+    ap (λ p. (p ++ string_bytes entry.name ∷ []) ∷ stack_paths p entries) (sym (take_within path d entry.depth stack.0))
+
+-- the path of an entry, cut back to its folder's
+folder_left : (path : Path) (entry : FolderEntry) → entry.depth ≤ length path → take entry.depth (path_behind path entry) ≡ take entry.depth path
+folder_left path entry within =
+    take_at (take entry.depth path) (string_bytes entry.name ∷ []) entry.depth (length-take-le entry.depth path within)
+
+-- the entries of a folder, before those that waited
+stack_put : (folder : Path) (entries rest : List FolderEntry) → All (λ entry. entry.depth ≡ length folder) entries → IsStack folder rest
+    → IsStack folder (entries ++ rest)
+stack_put folder [] rest deep stack = stack
+stack_put folder (entry ∷ entries) rest deep stack =
+    let D : FolderEntry → Type 0 = λ entry. entry.depth ≡ length folder in
+    let here = All-head D entry entries deep in
+    let whole : take entry.depth folder ≡ folder = take_all entry.depth folder (omega (arith, here)) in (
+      omega (arith, here),
+      subst (λ p. IsStack p (entries ++ rest)) (sym whole) (stack_put folder entries rest (All-tail D entry entries deep) stack),
+    )
+
+paths_put : (folder : Path) (entries rest : List FolderEntry) → All (λ entry. entry.depth ≡ length folder) entries
+    → stack_paths folder (entries ++ rest) ≡ map (inside_of folder) (map name_of entries) ++ stack_paths folder rest
+paths_put folder [] rest deep = refl
+paths_put folder (entry ∷ entries) rest deep =
+    let D : FolderEntry → Type 0 = λ entry. entry.depth ≡ length folder in
+    let here = All-head D entry entries deep in
+    let whole : take entry.depth folder ≡ folder = take_all entry.depth folder (omega (arith, here)) in
+    ap (λ p. (p ++ string_bytes entry.name ∷ []) ∷ stack_paths p (entries ++ rest)) whole
+    ∙ ap (λ l. inside_of folder entry.name ∷ l) (paths_put folder entries rest (All-tail D entry entries deep))
+
+-- The entries that were found and those that wait, the last one first, with the path of the last one that was found.
+pub record IsWalk (found waiting : List FolderEntry) (path : Path) : Type 0 where
+  pub last : path ≡ last_path [] found
+  pub stack : IsStack path (reverse waiting)
+  pub order : AreInOrder (file_paths [] found ++ stack_paths path (reverse waiting))
 
 map_reverse : {A B : Type 0} (f : A → B) (xs : List A) → map f (reverse xs) ≡ reverse (map f xs)
 map_reverse f [] = refl
@@ -159,45 +215,95 @@ map_reverse f (x ∷ xs) =
     ∙ sym (reverse-append (f x ∷ []) (map f xs))
 
 -- the entries that were put, in the order in which they are taken
-put_reversed : (folder : Path) (old new : List FolderEntry) (put : PutsEntries folder old new)
-    → reverse (map path_in new) ≡ map (inside_of folder) put.names ++ reverse (map path_in old)
-put_reversed folder old new put =
-    ap (λ l. reverse (map path_in l)) put.behind ∙ ap reverse (map-append path_in old put.entries)
-    ∙ reverse-append (map path_in old) (map path_in put.entries)
-    ∙ ap (λ l. reverse l ++ reverse (map path_in old)) put.inside
-    ∙ ap (λ l. l ++ reverse (map path_in old)) (ap reverse (map_reverse (inside_of folder) put.names) ∙ reverse-reverse (map (inside_of folder) put.names))
+put_names : (depth : ℕ) (old new : List FolderEntry) (put : PutsEntries depth old new) → map name_of (reverse put.entries) ≡ put.names
+put_names depth old new put = map_reverse name_of put.entries ∙ ap reverse put.named ∙ reverse-reverse put.names
 
-popped_reversed : (old left : List FolderEntry) (r : Option FolderEntry) (entry : FolderEntry) → old ≡ left ++ option_to_list r → r ≡ Some entry
-    → reverse (map path_in old) ≡ path_in entry ∷ reverse (map path_in left)
-popped_reversed old left r entry items some =
-    ap (λ l. reverse (map path_in l)) (items ∙ ap (λ r. left ++ option_to_list r) some) ∙ ap reverse (map-append path_in left (entry ∷ []))
-    ∙ reverse-append (map path_in left) (path_in entry ∷ [])
+put_reversed : (depth : ℕ) (old new : List FolderEntry) (put : PutsEntries depth old new) → reverse new ≡ reverse put.entries ++ reverse old
+put_reversed depth old new put = ap reverse put.behind ∙ reverse-append old put.entries
 
-pub ordered_begun : (files : List (Vec (String Global) Global)) (folder : Path) (old new : List FolderEntry) → files ≡ [] → old ≡ []
-    → PutsEntries folder old new → IsWalk files new
-ordered_begun files folder old new none empty put =
-    let rest : reverse (map path_in old) ≡ [] = ap (λ l. reverse (map path_in l)) empty in
-    let whole = put_reversed folder old new put ∙ ap (λ l. map (inside_of folder) put.names ++ l) rest in
-    subst AreInOrder (sym (ap (λ l. map file_path l ++ reverse (map path_in new)) none ∙ whole))
-    (entries_first folder put.names [] put.ascending tt tt)
+all_reversed : {A : Type 0} (P : A → Type 0) (xs : List A) → All P xs → All P (reverse xs)
+all_reversed P [] all = All-nil P
+all_reversed P (x ∷ xs) all =
+    All-same P (reverse (x ∷ xs)) (reverse xs ++ x ∷ []) (reverse-append (x ∷ []) xs)
+    (All-push P (reverse xs) x (all_reversed P xs (All-tail P x xs all)) (All-head P x xs all))
 
-pub ordered_file : (files more : List (Vec (String Global) Global)) (old left : List FolderEntry) (r : Option FolderEntry) (entry : FolderEntry)
-    → old ≡ left ++ option_to_list r → r ≡ Some entry → more ≡ files ++ entry.path ∷ [] → IsWalk files old → IsWalk more left
-ordered_file files more old left r entry items some pushed walk =
-    let before : AreInOrder (map file_path files ++ (path_in entry ∷ reverse (map path_in left))) =
-    subst (λ l. AreInOrder (map file_path files ++ l)) (popped_reversed old left r entry items some) walk in
-    let same = ap (λ l. map file_path l ++ reverse (map path_in left)) pushed
-    ∙ ap (λ l. l ++ reverse (map path_in left)) (map-append file_path files (entry.path ∷ []))
-    ∙ append_assoc (map file_path files) (path_in entry ∷ []) (reverse (map path_in left)) in
-    subst AreInOrder (sym same) before
+pub ordered_begun : (found : List FolderEntry) (path : Path) (depth : ℕ) (old new : List FolderEntry) → found ≡ [] → path ≡ [] → depth ≡ 0 → old ≡ []
+    → PutsEntries depth old new → IsWalk found new path
+ordered_begun found path depth old new none top flat empty put =
+    let D : FolderEntry → Type 0 = λ entry. entry.depth ≡ 0 in
+    let deep : All D (reverse put.entries) = all_reversed D put.entries (subst (λ n. All (λ entry. entry.depth ≡ n) put.entries) flat put.inside) in
+    let bare : reverse new ≡ reverse put.entries = put_reversed depth old new put ∙ ap (λ l. reverse put.entries ++ reverse l) empty ∙ append-nil (reverse put.entries) in
+    let same : reverse put.entries ++ [] ≡ reverse new = append-nil (reverse put.entries) ∙ sym bare in
+    let paths : stack_paths [] (reverse put.entries ++ []) ≡ map (inside_of []) put.names ++ [] =
+    paths_put [] (reverse put.entries) [] deep ∙ ap (λ l. map (inside_of []) l ++ []) (put_names depth old new put) in
+    rw (none, top) (record {
+      last = sym (last_path_none []);
+      stack = subst (IsStack []) same (stack_put [] (reverse put.entries) [] deep tt);
+      order = subst (λ l. AreInOrder (l ++ stack_paths [] (reverse new))) (sym (file_paths_none []))
+          (subst (λ l. AreInOrder (stack_paths [] l)) same
+          (subst AreInOrder (sym paths) (entries_first [] put.names [] put.ascending tt tt)));
+    })
 
-pub ordered_folder : (files : List (Vec (String Global) Global)) (folder : Path) (old left new : List FolderEntry) (r : Option FolderEntry) (entry : FolderEntry)
-    → old ≡ left ++ option_to_list r → r ≡ Some entry → folder ≡ path_in entry → PutsEntries folder left new → IsWalk files old → IsWalk files new
-ordered_folder files folder old left new r entry items some is put walk =
-    let before : AreInOrder (map file_path files ++ (folder ∷ reverse (map path_in left))) =
-    subst (λ l. AreInOrder (map file_path files ++ l)) (popped_reversed old left r entry items some ∙ ap (λ f. f ∷ reverse (map path_in left)) (sym is)) walk in
-    subst (λ l. AreInOrder (map file_path files ++ l)) (sym (put_reversed folder left new put))
-    (entries_between (map file_path files) folder put.names (reverse (map path_in left)) put.ascending before)
+-- the next entry, and what waits behind it
+pub record IsNext (found more left : List FolderEntry) (path next : Path) (entry : FolderEntry) : Type 0 where
+  pub last : next ≡ last_path [] more
+  pub stack : IsStack next (reverse left)
+  pub order : AreInOrder (file_paths [] found ++ (next ∷ stack_paths next (reverse left)))
+  pub paths : file_paths [] more ≡ file_paths [] found ++ path_of_file entry.kind next
 
-pub ordered_files : (files : List (Vec (String Global) Global)) (waiting : List FolderEntry) → IsWalk files waiting → Ascend (map file_path files)
-ordered_files files waiting walk = ascend (map file_path files) (front_in_order (map file_path files) (reverse (map path_in waiting)) walk)
+pub ordered_next : (found more old left : List FolderEntry) (path next : Path) (r : Option FolderEntry) (entry : FolderEntry)
+    → old ≡ left ++ option_to_list r → r ≡ Some entry → next ≡ path_behind path entry → more ≡ found ++ entry ∷ [] → IsWalk found old path
+    → IsNext found more left path next entry
+ordered_next found more old left path next r entry items some is pushed walk =
+    let top : reverse old ≡ entry ∷ reverse left =
+    ap reverse (items ∙ ap (λ r. left ++ option_to_list r) some) ∙ reverse-append left (entry ∷ []) in
+    let stack : IsStack path (entry ∷ reverse left) = subst (IsStack path) top walk.stack in
+    let order : AreInOrder (file_paths [] found ++ (path_behind path entry ∷ stack_paths (take entry.depth path) (reverse left))) =
+    subst (λ l. AreInOrder (file_paths [] found ++ stack_paths path l)) top walk.order in
+    let own : Path = path_behind path entry in
+    let cut : take entry.depth own ≡ take entry.depth path = folder_left path entry stack.0 in
+    let below : IsStack (take entry.depth own) (reverse left) = subst (λ p. IsStack p (reverse left)) (sym cut) stack.1 in
+    let same : stack_paths own (reverse left) ≡ stack_paths (take entry.depth path) (reverse left) =
+    paths_deeper own entry.depth (reverse left) below ∙ ap (λ p. stack_paths p (reverse left)) cut in
+    let behind : path_behind path entry ≡ path_behind (last_path [] found) entry = ap (λ p. path_behind p entry) walk.last in
+    rw is (record {
+      last = behind ∙ sym (ap (last_path []) pushed ∙ last_path_more [] found entry);
+      stack = stack_deeper own entry.depth (reverse left) below;
+      order = subst (λ l. AreInOrder (file_paths [] found ++ (own ∷ l))) (sym same) order;
+      paths = ap (file_paths []) pushed ∙ file_paths_more [] found entry
+          ∙ ap (λ p. file_paths [] found ++ path_of_file entry.kind p) (sym behind);
+    })
+
+pub ordered_file : (found more left : List FolderEntry) (path next : Path) (entry : FolderEntry) → entry.kind ≡ File
+    → IsNext found more left path next entry → IsWalk more left next
+ordered_file found more left path next entry file at = record {
+  last = at.last;
+  stack = at.stack;
+  order = subst AreInOrder
+      (sym (append_assoc (file_paths [] found) (next ∷ []) (stack_paths next (reverse left)))
+      ∙ ap (λ l. l ++ stack_paths next (reverse left)) (sym (at.paths ∙ ap (λ k. file_paths [] found ++ path_of_file k next) file)))
+      at.order;
+}
+
+pub ordered_folder : (found more left new : List FolderEntry) (path next : Path) (depth : ℕ) (entry : FolderEntry) → entry.kind ≡ Folder → depth ≡ length next
+    → PutsEntries depth left new → IsNext found more left path next entry → IsWalk more new next
+ordered_folder found more left new path next depth entry folder deep put at =
+    let D : FolderEntry → Type 0 = λ entry. entry.depth ≡ length next in
+    let inside : All D (reverse put.entries) = all_reversed D put.entries (subst (λ n. All (λ entry. entry.depth ≡ n) put.entries) deep put.inside) in
+    let same : reverse put.entries ++ reverse left ≡ reverse new = sym (put_reversed depth left new put) in
+    let paths : stack_paths next (reverse new) ≡ map (inside_of next) put.names ++ stack_paths next (reverse left) =
+    ap (stack_paths next) (sym same) ∙ paths_put next (reverse put.entries) (reverse left) inside
+    ∙ ap (λ l. map (inside_of next) l ++ stack_paths next (reverse left)) (put_names depth left new put) in
+    let files : file_paths [] more ≡ file_paths [] found =
+    at.paths ∙ ap (λ k. file_paths [] found ++ path_of_file k next) folder ∙ append-nil (file_paths [] found) in
+    record {
+      last = at.last;
+      stack = subst (IsStack next) same (stack_put next (reverse put.entries) (reverse left) inside at.stack);
+      order = subst (λ l. AreInOrder (l ++ stack_paths next (reverse new))) (sym files)
+          (subst (λ l. AreInOrder (file_paths [] found ++ l)) (sym paths)
+          (entries_between (file_paths [] found) next put.names (stack_paths next (reverse left)) put.ascending at.order));
+    }
+
+pub ordered_files : (found waiting : List FolderEntry) (path : Path) → IsWalk found waiting path → Ascend (file_paths [] found)
+ordered_files found waiting path walk =
+    ascend (file_paths [] found) (front_in_order (file_paths [] found) (stack_paths path (reverse waiting)) walk.order)

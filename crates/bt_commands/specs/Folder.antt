@@ -1,5 +1,5 @@
 -- What a walk over a folder gives. No contract speaks of what a folder holds.
-use Rattle.std.specs.Prelude.{◌≡◌, ◌≢◌, ◌⊎◌, ℕ, List, []}
+use Rattle.std.specs.Prelude.{◌≡◌, ◌≢◌, ◌⊎◌, ◌++◌, ℕ, List, [], ◌∷◌, take, string_bytes}
 use Rattle.std.specs.Cmp.Lexicographic.{slice_cmp}
 use Rattle.std.specs.List.Sorted.{IsStrictlySortedBy}
 use Rattle.std.specs.Ordering.{nat_cmp}
@@ -8,6 +8,24 @@ use Rattle.std.specs.declared.io.ErrorKind.TheVariants.{InvalidFilename}
 use Rattle.bt_meta.specs.declared.writer.MakeError.TheVariants.{BadPath}
 use Rattle.bt_check.specs.Fault.{device, out_of_memory, make_fault, system_fault}
 use Rattle.bt_check.specs.declared.fault.Fault.{Fault}
+use Rattle.bt_commands.specs.declared.folder.EntryKind.{EntryKind}
+use Rattle.bt_commands.specs.declared.folder.EntryKind.TheVariants.{File, Folder}
+use Rattle.bt_commands.specs.declared.folder.FolderEntry.{FolderEntry}
+
+-- the path of an entry, behind an entry with this path: the two folders' common elements, and its name
+abbrev pub path_behind : List (List ℕ) → FolderEntry → List (List ℕ)
+path_behind before entry = take entry.depth before ++ string_bytes entry.name ∷ []
+
+-- the path of a file; a folder is none
+abbrev pub path_of_file : EntryKind → List (List ℕ) → List (List (List ℕ))
+path_of_file File path = path ∷ []
+path_of_file Folder path = []
+
+-- the paths of the files among entries, behind an entry with this path
+unfoldable pub file_paths : List (List ℕ) → List FolderEntry → List (List (List ℕ))
+file_paths before [] = []
+file_paths before (entry ∷ entries) =
+    path_of_file entry.kind (path_behind before entry) ++ file_paths (path_behind before entry) entries
 
 -- a path that names something
 abbrev pub HasElement : List (List ℕ) → Type 0

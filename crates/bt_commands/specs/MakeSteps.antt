@@ -1,11 +1,11 @@
 -- The files of a folder: steps of `make` that only private functions cite.
-use Rattle.std.specs.Prelude.{String, Vec}
-use Rattle.std.specs.Global.{Global}
+use Rattle.std.specs.Prelude.{ℕ, List}
 use Rattle.bt_meta.specs.declared.writer.Made.{Made}
+use Rattle.bt_commands.specs.Make.{elements_of}
 use Rattle.bt_commands.specs.declared.make.FolderFile.{FolderFile}
 
-abbrev pub path_of : FolderFile → Vec (String Global) Global
-path_of file = file.path
+abbrev pub elements_in : FolderFile → List (List ℕ)
+elements_in file = elements_of file.path
 
 -- the file that was read, as it was found
 abbrev pub file_of_made : Made → FolderFile

@@ -1,12 +1,12 @@
 //! The files of a folder and its subfolders.
-ghost use Rattle.std.specs.Prelude.{◌≡◌, ◌++◌, ◌⊎◌, [], ◌∷◌, Some, None, true, false, map, string_bytes, IfOk, OnOk, IfErr, if◌then◌else◌};
+ghost use Rattle.std.specs.Prelude.{◌≡◌, ◌⊎◌, [], Some, None, true, false, length, map, string_bytes, IfOk, OnOk, IfErr, if◌then◌else◌};
 ghost use Rattle.std.specs.List.{All};
 ghost use Rattle.std.specs.Fs.{IsDir, IsFile};
 ghost use Rattle.std.specs.String.{string_cmp};
 ghost use Rattle.std.specs.BTreeMap.{IsOrdered};
 ghost use Rattle.bt_check.specs.Fault.{device};
 ghost use Rattle.bt_commands.specs.AtomicFileSteps.{is_part_name};
-ghost use Rattle.bt_commands.specs.Folder.{Ascend, HasElement, IsListingFault, listing_fault};
+ghost use Rattle.bt_commands.specs.Folder.{Ascend, HasElement, IsListingFault, file_paths, listing_fault, path_behind};
 ghost use Rattle.bt_commands.specs.FolderSteps.{PutsEntries};
 ghost use Rattle.bt_commands.specs.declared.folder.EntryKind.TheVariants.{File, Folder};
 
@@ -23,20 +23,22 @@ use std::rt::Files;
 
 /// What a torrent takes of a folder.
 #[derive(Clone, Copy, PartialEq, Eq)]
-enum EntryKind {
+pub enum EntryKind {
     File,
     Folder,
 }
 
-/// A file or a folder, by its path below the folder that is walked.
+/// A file or a folder that a walk comes to. Its path is its name behind the first `depth` elements of the
+/// path of the entry before it. So none is kept: where folders lie deep, paths are much longer than names.
 #[derive(Drop)]
-struct FolderEntry {
-    path: Vec<String>,
-    kind: EntryKind,
+pub struct FolderEntry {
+    pub name: String,
+    pub depth: usize,
+    pub kind: EntryKind,
 }
 
-/// The paths of the files in a folder and its subfolders, folder by folder in the order of the names' bytes, and
-/// so in that of their paths.
+/// The files in a folder and its subfolders, and the subfolders, each before what lies in it. They are folder
+/// by folder in the order of the names' bytes, so the files are in that of their paths.
 /// A symbolic link is left out, and so is anything else that is neither a file nor a folder, and a part file
 /// that a run left which was ended while it wrote.
 ///
@@ -45,28 +47,39 @@ pub fn files_in<R: Files + AllocGlobal + Clone + Drop, P: Watch>(
     rt: &R,
     watch: &P,
     dir: &str,
-) -> Result<Vec<Vec<String>>, Fault>
-    ensures named { IfOk result
-        (λ files. All (λ path. HasElement (map string_bytes path.items)) files.items) }
-    ensures ascending { IfOk result
-        (λ files. Ascend (map (λ path. map string_bytes path.items) files.items)) }
+) -> Result<Vec<FolderEntry>, Fault>
+    ensures named { IfOk result (λ entries. All HasElement (file_paths [] entries.items)) }
+    ensures ascending { IfOk result (λ entries. Ascend (file_paths [] entries.items)) }
     ensures fault { IfErr result IsListingFault }
 {
     let alloc = rt.alloc();
-    let mut files = Vec::new(alloc);
+    let mut entries = Vec::new(alloc);
     let mut waiting = Vec::new(alloc);
-    push_entries(rt, watch, dir, &[], &mut waiting)?;
+    let mut path = Vec::new(alloc);
+    push_entries(rt, watch, dir, &path, &mut waiting)?;
     // A bound, so that it ends whatever the system gives.
     for _ in 0..u64::MAX {
-        let Some(FolderEntry { path, kind }) = waiting.pop() else {
-            return Ok(files);
+        let Some(entry) = waiting.pop() else {
+            return Ok(entries);
         };
-        match kind {
-            EntryKind::File => files.push(path)?,
+        follow(&mut path, &entry)?;
+        match entry.kind {
+            EntryKind::File => {}
             EntryKind::Folder => push_entries(rt, watch, dir, &path, &mut waiting)?,
         }
+        entries.push(entry)?;
     }
     Err(Fault::Device)
+}
+
+/// Goes on to an entry from the one before it, which had this path.
+pub fn follow(path: &mut Vec<String>, entry: &FolderEntry) -> Result<(), AllocError>
+    ensures { OnOk result (map string_bytes path.new.items
+        ≡ path_behind (map string_bytes path.old.items) entry.now) }
+{
+    path.truncate(entry.depth);
+    path.push(entry.name.clone()?)?;
+    Ok(())
 }
 
 /// Puts the entries of a folder onto those that wait, the first one last.
@@ -77,14 +90,13 @@ fn push_entries<R: Files + AllocGlobal + Clone + Drop, P: Watch>(
     folder: &[String],
     waiting: &mut Vec<FolderEntry>,
 ) -> Result<(), Fault>
-    ensures put { OnOk result
-        (PutsEntries (map string_bytes folder.now) waiting.old.items waiting.new.items) }
+    ensures put { OnOk result (PutsEntries (length folder.now) waiting.old.items waiting.new.items) }
     ensures fault { IfErr result IsListingFault }
 {
     let mut names = names_below(rt, watch, dir, folder)?;
+    let depth = folder.len();
     while let Some((name, kind)) = names.pop_last() {
-        let path = path_with(rt.alloc(), folder, name)?;
-        waiting.push(FolderEntry { path, kind })?;
+        waiting.push(FolderEntry { name, depth, kind })?;
     }
     Ok(())
 }
@@ -171,17 +183,4 @@ fn listing_fault(kind: ErrorKind) -> Fault
         ErrorKind::InvalidFilename => Fault::Make(MakeError::BadPath),
         _ => system_fault(kind),
     }
-}
-
-/// The path of an entry of a folder.
-fn path_with(alloc: Global, folder: &[String], name: String) -> Result<Vec<String>, AllocError>
-    ensures { IfOk result
-        (λ path. map string_bytes path.items ≡ map string_bytes folder.now ++ string_bytes name ∷ []) }
-{
-    let mut path = Vec::new(alloc);
-    for element in folder {
-        path.push(element.clone()?)?;
-    }
-    path.push(name)?;
-    Ok(path)
 }

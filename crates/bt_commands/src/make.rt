@@ -1,5 +1,5 @@
 //! The command `make`.
-ghost use Rattle.std.specs.Prelude.{◌≡◌, ◌≤◌, ◌⊎◌, None, length, map, IfOk, IfErr, IsErrAnd};
+ghost use Rattle.std.specs.Prelude.{◌≡◌, ◌≤◌, ◌⊎◌, [], None, length, map, string_bytes, IfOk, IfErr, IsErrAnd};
 ghost use Rattle.std.specs.List.{All};
 ghost use Rattle.bt_tree.specs.TreeShape.{IsPieceLength};
 ghost use Rattle.bt_meta.specs.declared.writer.MakeError.TheVariants.{PieceLength};
@@ -7,11 +7,12 @@ ghost use Rattle.bt_meta.specs.Limits.{max_file_count, max_piece_count};
 ghost use Rattle.bt_tree.specs.Limits.{max_file_length};
 ghost use Rattle.bt_check.specs.Digests.{IsDigestFault};
 ghost use Rattle.bt_check.specs.Fault.{device, make_fault, out_of_memory};
-ghost use Rattle.bt_commands.specs.Make.{HasContent, IsFilesFault, IsMakeFault, IsMakeTorrent, IsMeasuringFault, IsTorrentOf, elements_of, first_count_refusal, total_piece_count};
-ghost use Rattle.bt_commands.specs.MakeSteps.{file_of_made, path_of};
+ghost use Rattle.bt_commands.specs.Folder.{file_paths};
+ghost use Rattle.bt_commands.specs.Make.{HasContent, IsFilesFault, IsMakeFault, IsMakeTorrent, IsMeasuringFault, IsTorrentOf, first_count_refusal, total_piece_count};
+ghost use Rattle.bt_commands.specs.MakeSteps.{elements_in, file_of_made};
 
 use crate::command_line::MakeTask;
-use crate::folder::files_in;
+use crate::folder::{EntryKind, FolderEntry, files_in, follow};
 use crate::limits::Counts;
 use bt_check::{
     BUFFER_LEN, Digests, Fault, PieceSize, digest_reader, fault_name, found_path, is_device_fault,
@@ -20,6 +21,7 @@ use bt_check::{
 use bt_meta::{Made, MakeError, read_torrent};
 use bt_progress::{FileCall, Watch, Watched};
 use bt_tree::Hash32;
+use std::alloc::{AllocError, Global};
 use std::fs::{self, Metadata};
 use std::os::unix::fs::MetadataExt;
 use std::path::Path;
@@ -48,11 +50,11 @@ pub fn make<R: Files + AllocGlobal + Clone + Drop, P: Watch>(
     let Some(size) = PieceSize::new(request.piece_length) else {
         return Err(Fault::Make(MakeError::PieceLength));
     };
-    let paths = files_in(rt, watch, request.dir)?;
-    if is_among(rt, watch, request.out, request.dir, &paths)? {
+    let entries = files_in(rt, watch, request.dir)?;
+    if is_among(rt, watch, request.out, request.dir, &entries)? {
         return Err(Fault::OutAmongFiles);
     }
-    torrent_of(rt, watch, request.dir, request.name, size, paths)
+    torrent_of(rt, watch, request.dir, request.name, size, entries)
 }
 
 /// Whether the file at a path, if there is one, is one of these of a folder: also by another name of it, or by
@@ -62,21 +64,37 @@ fn is_among<R: Files + AllocGlobal, P: Watch>(
     watch: &P,
     out: &str,
     dir: &str,
-    paths: &[Vec<String>],
+    entries: &[FolderEntry],
 ) -> Result<bool, Fault>
     ensures { IfErr result (λ fault. (fault ≡ device) ⊎ (fault ≡ out_of_memory)) }
 {
     let Ok(out) = fs::metadata(rt, out) else {
         return Ok(false);
     };
-    for path in paths {
-        let path = found_path(rt.alloc(), dir, path)?;
-        let file = looked_at(rt, watch, path.as_path())?;
-        if is_same_file(&out, &file) {
-            return Ok(true);
+    let mut path = Vec::new(rt.alloc());
+    for entry in entries {
+        follow(&mut path, entry)?;
+        if entry.kind == EntryKind::File {
+            let file = file_at(rt, watch, dir, &path)?;
+            if is_same_file(&out, &file) {
+                return Ok(true);
+            }
         }
     }
     Ok(false)
+}
+
+/// What a look at the file of a folder that has this path meets. A fault is told of.
+fn file_at<R: Files + AllocGlobal, P: Watch>(
+    rt: &R,
+    watch: &P,
+    dir: &str,
+    path: &[String],
+) -> Result<Metadata, Fault>
+    ensures { IfErr result (λ fault. (fault ≡ device) ⊎ (fault ≡ out_of_memory)) }
+{
+    let path = found_path(rt.alloc(), dir, path)?;
+    looked_at(rt, watch, path.as_path())
 }
 
 /// What a look at a path meets. A fault is told of.
@@ -96,21 +114,21 @@ fn is_same_file(one: &Metadata, other: &Metadata) -> bool {
     one.dev() == other.dev() && one.ino() == other.ino()
 }
 
-/// Makes the torrent of the files of a folder that have these paths.
+/// Makes the torrent of the files among these entries of a folder.
 fn torrent_of<R: Files + AllocGlobal, P: Watch>(
     rt: &R,
     watch: &P,
     dir: &str,
     name: &str,
     size: PieceSize,
-    paths: Vec<Vec<String>>,
+    entries: Vec<FolderEntry>,
 ) -> Result<NewTorrent, Fault>
-    ensures torrent { IfOk result (IsTorrentOf (map elements_of paths.items) name.now size.bytes) }
-    ensures fault { IfErr result (IsFilesFault (map elements_of paths.items) name.now size.bytes) }
+    ensures torrent { IfOk result (IsTorrentOf (file_paths [] entries.items) name.now size.bytes) }
+    ensures fault { IfErr result (IsFilesFault (file_paths [] entries.items) name.now size.bytes) }
 {
     let alloc = rt.alloc();
     watch.begin(FileCall::Read);
-    let files = measured_files(rt, watch, dir, paths, size)?;
+    let files = measured_files(rt, watch, dir, entries, size)?;
     let files = read_files(rt, watch, dir, files, size)?;
     let text = bt_meta::make(alloc, name.as_bytes(), size.bytes, &files)?;
     // read back for the infohash alone: what was made is lawful, so it is refused for memory at most
@@ -125,46 +143,50 @@ pub struct FolderFile {
     pub length: u64,
 }
 
-/// The files of a folder that have these paths, with their lengths. Where one is too long for a torrent, or
-/// they are too many, that is told before any is read.
+/// The files among these entries of a folder, with their lengths. Where one is too long for a torrent, or they
+/// are too many, that is told before any is read, and before its path is kept.
 fn measured_files<R: Files + AllocGlobal, P: Watch>(
     rt: &R,
     watch: &P,
     dir: &str,
-    paths: Vec<Vec<String>>,
+    entries: Vec<FolderEntry>,
     size: PieceSize,
 ) -> Result<Vec<FolderFile>, Fault>
-    ensures each { IfOk result (λ files. map path_of files.items ≡ paths.items) }
+    ensures each { IfOk result (λ files. map elements_in files.items ≡ file_paths [] entries.items) }
     ensures faultless { IfOk result (λ files. first_count_refusal size.bytes files.items ≡ None) }
     ensures short { IfOk result (λ files. All (λ file. file.length ≤ max_file_length) files.items) }
     ensures count { IfOk result (λ files. length files.items ≤ max_file_count) }
     ensures pieces { IfOk result (λ files. total_piece_count size.bytes files.items ≤ max_piece_count) }
-    ensures fault { IfErr result (IsMeasuringFault (map elements_of paths.items) size.bytes) }
+    ensures fault { IfErr result (IsMeasuringFault (file_paths [] entries.items) size.bytes) }
 {
     let mut counts = Counts::new();
     let mut files = Vec::new(rt.alloc());
-    for path in paths {
-        let file = measured_file(rt, watch, dir, path)?;
-        counts = counts.with(file.path.len(), file.length, size)?;
-        files.push(file)?;
+    let mut path = Vec::new(rt.alloc());
+    for entry in entries {
+        follow(&mut path, &entry)?;
+        match entry.kind {
+            EntryKind::Folder => {}
+            EntryKind::File => {
+                let length = file_at(rt, watch, dir, &path)?.len();
+                watch.expect(length);
+                counts = counts.with(path.len(), length, size)?;
+                files.push(file_with(rt.alloc(), &path, length)?)?;
+            }
+        }
     }
     Ok(files)
 }
 
-/// The file of a folder that has this path, with its length: so many bytes are to be read.
-fn measured_file<R: Files + AllocGlobal, P: Watch>(
-    rt: &R,
-    watch: &P,
-    dir: &str,
-    path: Vec<String>,
-) -> Result<FolderFile, Fault>
-    ensures path { IfOk result (λ file. path_of file ≡ path) }
-    ensures fault { IfErr result (λ fault. (fault ≡ device) ⊎ (fault ≡ out_of_memory)) }
+/// A file of the folder that has this path.
+fn file_with(alloc: Global, path: &[String], length: u64) -> Result<FolderFile, AllocError>
+    ensures path { IfOk result (λ file. elements_in file ≡ map string_bytes path.now) }
+    ensures length { IfOk result (λ file. file.length ≡ length) }
 {
-    let data = found_path(rt.alloc(), dir, &path)?;
-    let length = looked_at(rt, watch, data.as_path())?.len();
-    watch.expect(length);
-    Ok(FolderFile { path, length })
+    let mut copy = Vec::with_capacity(alloc, path.len())?;
+    for element in path {
+        copy.push(element.clone()?)?;
+    }
+    Ok(FolderFile { path: copy, length })
 }
 
 /// What a torrent says of each of these files of the folder.

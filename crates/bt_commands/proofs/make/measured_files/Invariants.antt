@@ -1,8 +1,11 @@
--- The files so far are those of the first paths, and lawful.
+-- The files so far are those of the first entries, and lawful.
+use Rattle.std.proofs.Common.{[], map, string_bytes}
 use Rattle.std.specs.Vec.Iter.{into_iter_items}
+use Rattle.bt_commands.specs.Folder.{file_paths}
 use Rattle.bt_commands.proofs.FolderFiles.{AreMeasured}
 use Rattle.bt_commands.proofs.make.measured_files.Given as goal
 
-abbrev pub invariant-loop-path : goal.invariant-loop-path
-invariant-loop-path g l =
-    AreMeasured l.size.bytes l.counts.files l.counts.pieces l.fn.paths.items (into_iter_items l.path-iterator) l.files.items
+abbrev pub invariant-loop-entry : goal.invariant-loop-entry
+invariant-loop-entry g l =
+    AreMeasured l.size.bytes l.counts.files l.counts.pieces (file_paths [] l.fn.entries.items)
+    (file_paths (map string_bytes l.path.items) (into_iter_items l.entry-iterator)) l.files.items
