@@ -1,10 +1,18 @@
--- What is counted of a link over TCP.
-use Rattle.std.specs.Prelude.{ℕ}
+-- A link over TCP.
+use Rattle.std.specs.Prelude.{◌≡◌, ℕ, List}
 
--- how often it was dialled, and how often that failed
+-- the peer that it leads to, by the bytes of its host and a port; how often it was dialled, and how often
+-- that failed
 pub record Dials : Type 0 where
+  pub host : List ℕ
+  pub port : ℕ
   pub all : ℕ
   pub failed : ℕ
 
-abbrev pub undialled : Dials
-undialled = record { all = 0; failed = 0 }
+-- a link to a port of a host, which was not dialled
+abbrev pub undialled : List ℕ → ℕ → Dials
+undialled host port = record { host = host; port = port; all = 0; failed = 0 }
+
+-- both lead to the same peer
+abbrev pub LeadToSamePeer : Dials → Dials → Type 0
+LeadToSamePeer one other = (one.host ≡ other.host) × (one.port ≡ other.port)

@@ -1,11 +1,14 @@
 //! A peer that is reached over TCP.
-ghost use Rattle.std.specs.Prelude.{◌≡◌, ⊤};
-ghost use Rattle.bt_sockets.specs.Link.{undialled};
+ghost use Rattle.std.specs.Prelude.{◌≡◌, ⊤, ◌+◌, ◌-◌, ◌<◌, ◌^◌, IfOk, IfSome};
+ghost use Rattle.bt_peers.specs.Link.{failure_count};
+ghost use Rattle.bt_sockets.specs.Link.{LeadToSamePeer, undialled};
+ghost use Rattle.bt_sockets.specs.StreamSteps.{IsAddressOf};
 
 use crate::stream::{both_ways, connected};
 use bt_peers::Link;
+use std::io;
 use std::marker::Model;
-use std::net::Net;
+use std::net::{Net, SocketAddr};
 use std::time::Duration;
 
 /// A peer at a port of a host, which is a name or an address.
@@ -19,13 +22,26 @@ pub struct TcpLink<'a, R: Net> {
     failures: u64,
 }
 
+/// A connection to a peer: what is read from it, what is written to it, and the address that was dialled.
+#[derive(Drop)]
+struct Connection<S> {
+    reader: S,
+    writer: S,
+    address: SocketAddr,
+}
+
 impl<'a, R: Net> Model for TcpLink<'a, R> {
     ghost use Rattle.std.specs.Prelude.{◌≤◌};
     ghost use Rattle.bt_sockets.specs.Link.{Dials};
 
     ghost Value = { Dials };
 
-    ghost view = { λ a. record { all = a.dials; failed = a.failures } };
+    ghost view = { λ a. record {
+      host = a.host.now;
+      port = a.port;
+      all = a.dials;
+      failed = a.failures;
+    } };
 
     ghost invariant = { λ a. a.failures ≤ a.dials };
 }
@@ -34,7 +50,7 @@ impl<'a, R: Net> TcpLink<'a, R> {
     /// A link that was not dialled yet. A peer that is idle for so long is given up; no time at all is refused
     /// at each dial.
     pub fn new(net: &'a R, host: &'a str, port: u16, idle: Duration) -> Self
-        ensures { result ≡ undialled }
+        ensures { result ≡ undialled host.now port }
     {
         TcpLink {
             net,
@@ -44,6 +60,36 @@ impl<'a, R: Net> TcpLink<'a, R> {
             dials: 0,
             failures: 0,
         }
+    }
+
+    /// Connects to the peer. Errors: it is not reached.
+    fn connect(&self) -> io::Result<Connection<R::Stream>>
+        ensures { IfOk result (λ connection. IsAddressOf self.now.host self.now.port connection.address) }
+    {
+        let (stream, address) = connected(self.net, self.host, self.port)?;
+        let (reader, writer) = both_ways(stream, self.idle)?;
+        Ok(Connection {
+            reader,
+            writer,
+            address,
+        })
+    }
+
+    /// Dials the peer, and counts that: None where it is not reached.
+    fn reach(&mut self) -> Option<Connection<R::Stream>>
+        requires few { self.old.all < 2 ^ 64 - 1 }
+        ensures counted { self.new.all ≡ self.old.all + 1 }
+        ensures failed { self.new.failed ≡ self.old.failed + failure_count result }
+        ensures same_peer { LeadToSamePeer self.new self.old }
+        ensures address { IfSome result
+            (λ connection. IsAddressOf self.old.host self.old.port connection.address) }
+    {
+        let reached = self.connect().ok();
+        self.dials += 1;
+        if reached.is_none() {
+            self.failures += 1;
+        }
+        reached
     }
 }
 
@@ -60,14 +106,7 @@ impl<'a, R: Net> Link for TcpLink<'a, R> {
     ghost gives = { λ link reader writer. ⊤ };
 
     fn dial(&mut self) -> Option<(R::Stream, R::Stream)> {
-        self.dials += 1;
-        let reached = match connected(self.net, self.host, self.port) {
-            Ok(stream) => both_ways(stream, self.idle).ok(),
-            Err(_) => None,
-        };
-        if reached.is_none() {
-            self.failures += 1;
-        }
-        reached
+        let Connection { reader, writer, .. } = self.reach()?;
+        Some((reader, writer))
     }
 }

@@ -104,4 +104,5 @@ fetched_over_tcp history honest faults dig remaining contents peers old links be
 -- none of these links was dialled
 pub links_undialled : (peers : List Peer) (links : List Dials) → links ≡ links_of peers → All (λ (link : Dials). link.all ≡ 0) links
 links_undialled peers links are =
-    subst (All (λ (link : Dials). link.all ≡ 0)) (sym are) (All-map (λ (link : Dials). link.all ≡ 0) (λ (peer : Peer). undialled) peers (λ k d within. refl))
+    subst (All (λ (link : Dials). link.all ≡ 0)) (sym are)
+    (All-map (λ (link : Dials). link.all ≡ 0) (λ (peer : Peer). undialled peer.host.now peer.port) peers (λ k d within. refl))

@@ -26,9 +26,9 @@ pub record HasFetched {D L : Type 0} (Try : Trial D L) (history : D → History)
   pub lines : Appends before told (peer_lines peers ends)
   pub end : IsConcluded history honest faults dig met told after status new
 
--- a link to each peer, which was not dialled
+-- a link to each peer's host and port, in their order, none of which was dialled
 abbrev pub links_of : List Peer → List Dials
-links_of peers = map (λ peer. undialled) peers
+links_of peers = map (λ peer. undialled peer.host.now peer.port) peers
 
 -- The store of a torrent of some text was opened in a folder, and the rest was fetched from the peers.
 pub record IsFetch (is_info : Bool) (dir : List ℕ) (peers : List Peer) (before after : Option (List ℕ))

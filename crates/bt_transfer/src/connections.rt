@@ -52,10 +52,33 @@ pub(crate) fn serve_forever<D: Disk + Drop, H: NodeHash, N: Net, W: Write>(
     ensures fault { IfErr result (λ fault. (fault ≡ device) ⊎ (fault ≡ out_of_memory)) }
 {
     for number in 0..u64::MAX {
-        serve_next(alloc, net, engine, listener, number + 1, writer)?;
-        finish(engine)?;
+        serve_and_sync(alloc, net, engine, listener, number + 1, writer)?;
     }
     Ok(())
+}
+
+/// Serves a connection, as `serve_next` does, and then has all put on the devices. Errors: also where a device
+/// failed.
+#[tactic(auto, using(crate::proofs::ConnectionLines::flush_keeps_peers))]
+fn serve_and_sync<D: Disk + Drop, H: NodeHash, N: Net, W: Write>(
+    alloc: Global,
+    net: &N,
+    engine: &mut Engine<D, H>,
+    listener: &N::Listener,
+    number: u64,
+    writer: &mut W,
+) -> Result<PeerEnd, Fault>
+    requires no_peer { engine.old.state.peers ≡ [] }
+    ensures served { IfOk result
+        (λ end. MeetsAndSyncs D.history D.honest D.faults H.digest engine.old end engine.new) }
+    ensures told { IfOk result
+        (λ end. Appends (W.contents writer.old) (W.contents writer.new) (served_line number end)) }
+    ensures gone { OnOk result (engine.new.state.peers ≡ []) }
+    ensures fault { IfErr result (λ fault. (fault ≡ device) ⊎ (fault ≡ out_of_memory)) }
+{
+    let end = serve_next(alloc, net, engine, listener, number, writer)?;
+    finish(engine)?;
+    Ok(end)
 }
 
 /// Serves a connection, which has this number, and writes how it ended. Errors: none could be taken; the

@@ -54,7 +54,7 @@ pub fn fetch<R: Files + AllocGlobal + Clone + Drop, N: Net, W: Write>(
     Ok(status)
 }
 
-/// A link to each peer.
+/// A link to each peer, in their order.
 fn links_to<'a, N: Net>(
     alloc: Global,
     net: &'a N,

@@ -16,7 +16,7 @@ use bt_sockets::{listen, port_of};
 use bt_tree::NodeHash;
 use std::alloc::{AllocError, Global};
 use std::io::Write;
-use std::net::{Net, OpenListener};
+use std::net::Net;
 use std::rt::Files;
 
 /// Opens the store of a torrent's files in a folder, as `load_store` does; listens, and writes at which port;
@@ -42,7 +42,8 @@ pub fn seed<R: Files + AllocGlobal + Clone + Drop, N: Net, W: Write>(
 {
     let mut engine = load_store(rt, source, dir)?;
     let listener = listen(net, service.address, service.port)?;
-    announce(rt.alloc(), &listener, writer)?;
+    let port = port_of(&listener)?;
+    announce(rt.alloc(), port, writer)?;
     serve_all(
         rt.alloc(),
         net,
@@ -54,21 +55,15 @@ pub fn seed<R: Files + AllocGlobal + Clone + Drop, N: Net, W: Write>(
     Ok(0)
 }
 
-/// Writes at which port connections are waited for, and gives it.
-fn announce<L: OpenListener, W: Write>(
-    alloc: Global,
-    listener: &L,
-    writer: &mut W,
-) -> Result<u16, Fault>
-    ensures told { IfOk result
-        (λ port. Appends (W.contents writer.old) (W.contents writer.new) (listening_line port)) }
+/// Writes at which port connections are waited for.
+fn announce<W: Write>(alloc: Global, port: u16, writer: &mut W) -> Result<(), Fault>
+    ensures told { OnOk result
+        (Appends (W.contents writer.old) (W.contents writer.new) (listening_line port)) }
     ensures fault { IfErr result (λ fault. (fault ≡ device) ⊎ (fault ≡ out_of_memory)) }
 {
-    let port = port_of(listener)?;
     let mut line = String::new(alloc);
     push_line(&mut line, port)?;
-    print(writer, line.as_str())?;
-    Ok(port)
+    print(writer, line.as_str())
 }
 
 /// Adds the line of a port.

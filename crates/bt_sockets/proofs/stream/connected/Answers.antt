@@ -1,0 +1,38 @@
+use Rattle.std.proofs.Common.{◌≡◌, ◌∷◌, [], suc, take, Some, sym, ap, subst, ◌∙◌, add-one}
+use Rattle.std.specs.Prelude.{All}
+use Rattle.std.proofs.lemmas.List.Elements.{All-cons, All-head, All-nil, All-tail}
+use Rattle.std.specs.Array.Iter.{array_into_iter_items, array_steps}
+use Rattle.std.specs.Iterator.Adapters.{take_count, take_source, take_steps}
+use Rattle.std.specs.declared.net.socket_addr.SocketAddr.{SocketAddr}
+use Rattle.std.specs.Net.ToAddrs.{HostAddrs, IsHostAndPort, host_addrs}
+use Rattle.bt_sockets.proofs.stream.connected.Goals as goal
+
+-- the address that comes is the first of those that were left
+first_left : (before after : HostAddrs) (address : SocketAddr) → take_steps array_steps before (Some address) after
+    → host_addrs before ≡ address ∷ host_addrs after
+first_left before after address step =
+    ap (λ n. take n (array_into_iter_items (take_source before))) (sym step.1 ∙ add-one (take_count after))
+    ∙ ap (take (suc (take_count after))) step.0
+
+-- what holds of all that were left holds of it, and of those behind it
+module _ (P : SocketAddr → Type 0) (before after : HostAddrs) (address : SocketAddr) (step : take_steps array_steps before (Some address) after)
+    (all : All P (host_addrs before)) where
+  now : P address
+  now = All-head P address (host_addrs after) (subst (All P) (first_left before after address step) all)
+
+  later : All P (host_addrs after)
+  later = All-tail P address (host_addrs after) (subst (All P) (first_left before after address step) all)
+
+pub loop-address-init : goal.loop-address-init
+loop-address-init g c = λ ip spelled.
+    let one = c.in_ok-address-items.ensures.gives ip spelled in
+    let P = IsHostAndPort c.args.host.now c.args.port in
+    subst (All P) (sym (ap host_addrs c.into_iter-address-iterator.ensures.into_iter_gives ∙ one.1)) (All-cons P one.0 [] one.2 (All-nil P))
+
+pub loop-address-preserved : goal.loop-address-preserved
+loop-address-preserved g c = λ ip spelled.
+    later (IsHostAndPort c.args.host.now c.args.port) _ _ c.in-Some.address c.in-Some.ensures.steps (c.loop-address.invariant ip spelled)
+
+pub returns-in-Ok : goal.returns-in-Ok
+returns-in-Ok g c = λ ip spelled.
+    now (IsHostAndPort c.args.host.now c.args.port) _ _ c.in-Some.address c.in-Some.ensures.steps (c.loop-address.invariant ip spelled)
