@@ -7,8 +7,8 @@ use Rattle.bt_peers.specs.Peer.{EndsAs}
 
 -- It was ready for a session or was gone already, and ended as follows from that. The session goes on behind
 -- the last block too.
-pub record IsServed {D S : Type 0} (history : D → History) (honest : D → Type 0) (faults : D → ℕ)
-    (dig : List ℕ → List ℕ) (remaining contents : S → Option (List ℕ)) (turns : ℕ) (old : EngineView D)
-    (end : PeerEnd) (new : EngineView D) : Type 0 where
-  pub reached : Option (S × S)
+pub record IsServed {D R W : Type 0} (history : D → History) (honest : D → Type 0) (faults : D → ℕ)
+    (dig : List ℕ → List ℕ) (remaining : R → Option (List ℕ)) (contents : W → Option (List ℕ)) (turns : ℕ)
+    (old : EngineView D) (end : PeerEnd) (new : EngineView D) : Type 0 where
+  pub reached : Option (R × W)
   pub ended : EndsAs history honest faults dig remaining contents false turns reached old end new

@@ -5,7 +5,11 @@ ghost use Rattle.bt_sockets.specs.Link.{LeadToSamePeer, undialled};
 ghost use Rattle.bt_sockets.specs.StreamSteps.{IsAddressOf};
 
 use crate::stream::{both_ways, connected};
+use bt_meta::Torrent;
+use bt_padding::{PaddedReader, PaddedWriter, Padding};
 use bt_peers::Link;
+use std::alloc::Global;
+use std::cell::RefCell;
 use std::io;
 use std::marker::Model;
 use std::net::{Net, SocketAddr};
@@ -14,19 +18,22 @@ use std::time::Duration;
 /// A peer at a port of a host, which is a name or an address.
 #[derive(Drop)]
 pub struct TcpLink<'a, R: Net> {
+    alloc: Global,
     net: &'a R,
     host: &'a str,
     port: u16,
     idle: Duration,
+    torrent: &'a Torrent,
+    padding: &'a RefCell<Padding>,
     dials: u64,
     failures: u64,
 }
 
 /// A connection to a peer: what is read from it, what is written to it, and the address that was dialled.
 #[derive(Drop)]
-struct Connection<S> {
-    reader: S,
-    writer: S,
+struct Connection<'a, S> {
+    reader: PaddedReader<'a, S>,
+    writer: PaddedWriter<'a, S>,
     address: SocketAddr,
 }
 
@@ -48,26 +55,43 @@ impl<'a, R: Net> Model for TcpLink<'a, R> {
 
 impl<'a, R: Net> TcpLink<'a, R> {
     /// A link that was not dialled yet. A peer that is idle for so long is given up; no time at all is refused
-    /// at each dial.
-    pub fn new(net: &'a R, host: &'a str, port: u16, idle: Duration) -> Self
+    /// at each dial. Links that are dialled in turn may share what is remembered of their peers.
+    pub fn new(
+        alloc: Global,
+        net: &'a R,
+        host: &'a str,
+        port: u16,
+        idle: Duration,
+        torrent: &'a Torrent,
+        padding: &'a RefCell<Padding>,
+    ) -> Self
         ensures { result ≡ undialled host.now port }
     {
         TcpLink {
+            alloc,
             net,
             host,
             port,
             idle,
+            torrent,
+            padding,
             dials: 0,
             failures: 0,
         }
     }
 
     /// Connects to the peer. Errors: it is not reached.
-    fn connect(&self) -> io::Result<Connection<R::Stream>>
+    fn connect(&self) -> io::Result<Connection<'a, R::Stream>>
         ensures { IfOk result (λ connection. IsAddressOf self.now.host self.now.port connection.address) }
     {
         let (stream, address) = connected(self.net, self.host, self.port)?;
-        let (reader, writer) = both_ways(stream, self.idle)?;
+        let (reader, writer) = both_ways(
+            self.alloc,
+            stream,
+            self.idle,
+            self.torrent,
+            self.padding,
+        )?;
         Ok(Connection {
             reader,
             writer,
@@ -76,7 +100,7 @@ impl<'a, R: Net> TcpLink<'a, R> {
     }
 
     /// Dials the peer, and counts that: None where it is not reached.
-    fn reach(&mut self) -> Option<Connection<R::Stream>>
+    fn reach(&mut self) -> Option<Connection<'a, R::Stream>>
         requires few { self.old.all < 2 ^ 64 - 1 }
         ensures counted { self.new.all ≡ self.old.all + 1 }
         ensures failed { self.new.failed ≡ self.old.failed + failure_count result }
@@ -95,9 +119,9 @@ impl<'a, R: Net> TcpLink<'a, R> {
 
 // Nothing is said of what a socket gives.
 impl<'a, R: Net> Link for TcpLink<'a, R> {
-    type R = R::Stream;
+    type R = PaddedReader<'a, R::Stream>;
 
-    type W = R::Stream;
+    type W = PaddedWriter<'a, R::Stream>;
 
     ghost dials = { λ link. link.all };
 
@@ -105,7 +129,7 @@ impl<'a, R: Net> Link for TcpLink<'a, R> {
 
     ghost gives = { λ link reader writer. ⊤ };
 
-    fn dial(&mut self) -> Option<(R::Stream, R::Stream)> {
+    fn dial(&mut self) -> Option<(PaddedReader<'a, R::Stream>, PaddedWriter<'a, R::Stream>)> {
         let Connection { reader, writer, .. } = self.reach()?;
         Some((reader, writer))
     }

@@ -7,9 +7,13 @@ use crate::stream::both_ways;
 use bt_check::Fault;
 use bt_disk::Disk;
 use bt_engine::Engine;
+use bt_meta::Torrent;
+use bt_padding::{PaddedReader, PaddedWriter, Padding};
 use bt_peers::{PeerEnd, meet_peer};
 use bt_tree::NodeHash;
 use std::alloc::Global;
+use std::cell::RefCell;
+use std::io::{Read, Write};
 use std::net::{Net, OpenListener, TcpListener};
 use std::time::Duration;
 
@@ -44,17 +48,20 @@ pub fn serve<D: Disk + Drop, H: NodeHash, R: Net>(
     engine: &mut Engine<D, H>,
     listener: &R::Listener,
     idle: Duration,
+    torrent: &Torrent,
+    padding: &RefCell<Padding>,
 ) -> Result<PeerEnd, Fault>
     requires no_peer { engine.old.state.peers ≡ [] }
-    ensures served { IfOk result (λ end. IsServed D.history D.honest D.faults H.digest R.Stream.remaining
-        R.Stream.contents SESSION_TURNS engine.old end engine.new) }
+    ensures served { IfOk result (λ end. IsServed D.history D.honest D.faults H.digest
+        ⟦<PaddedReader<'static, R::Stream> as Read>⟧.remaining
+        ⟦<PaddedWriter<'static, R::Stream> as Write>⟧.contents SESSION_TURNS engine.old end engine.new) }
     ensures gone { engine.new.state.peers ≡ [] }
     ensures refused { IfErr result (λ fault. fault ≡ device) }
     ensures kept { OnErr result (engine.new ≡ engine.old) }
 {
     match listener.accept() {
         Ok((stream, _)) => {
-            let reached = both_ways(stream, idle).ok();
+            let reached = both_ways(alloc, stream, idle, torrent, padding).ok();
             Ok(meet_peer(alloc, engine, reached, false, SESSION_TURNS))
         }
         Err(_) => Err(Fault::Device),

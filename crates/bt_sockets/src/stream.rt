@@ -2,6 +2,10 @@
 ghost use Rattle.std.specs.Prelude.{IfOk};
 ghost use Rattle.bt_sockets.specs.StreamSteps.{IsAddressOf};
 
+use bt_meta::Torrent;
+use bt_padding::{PaddedReader, PaddedWriter, Padding};
+use std::alloc::Global;
+use std::cell::RefCell;
 use std::io;
 use std::io::ErrorKind;
 use std::net::{Net, OpenStream, SocketAddr, TcpStream, ToSocketAddrs};
@@ -31,12 +35,29 @@ pub(crate) fn connected<R: Net>(
 }
 
 /// Makes a connection ready for a session: what is read from it, and what is written to it, which are one
-/// socket. Each write leaves at once, and a read or a write fails where the peer was idle for so long.
-/// Errors: the system refuses this.
-pub(crate) fn both_ways<S: OpenStream + Drop>(stream: S, idle: Duration) -> io::Result<(S, S)> {
+/// socket. Each write leaves at once, and a read or a write fails where the peer was idle for so long. What was
+/// remembered of the peer of another connection is forgotten. Errors: the system refuses this.
+pub(crate) fn both_ways<'a, S: OpenStream + Drop>(
+    alloc: Global,
+    stream: S,
+    idle: Duration,
+    torrent: &'a Torrent,
+    padding: &'a RefCell<Padding>,
+) -> io::Result<(PaddedReader<'a, S>, PaddedWriter<'a, S>)> {
+    forget(padding)?;
     stream.set_nodelay(true)?;
     stream.set_read_timeout(Some(idle))?;
     stream.set_write_timeout(Some(idle))?;
-    let writer = stream.try_clone()?;
-    Ok((stream, writer))
+    let clone = stream.try_clone()?;
+    let reader = PaddedReader::new(alloc, stream, torrent, padding);
+    let writer = PaddedWriter::new(alloc, clone, torrent, padding);
+    Ok((reader, writer))
+}
+
+/// Forgets the peer. Errors: what is remembered of it is in use, which no call of this crate brings about.
+fn forget(padding: &RefCell<Padding>) -> io::Result<()> {
+    let mut guard = padding.try_borrow_mut()?;
+    let memory = &mut *guard;
+    memory.forget();
+    Ok(())
 }

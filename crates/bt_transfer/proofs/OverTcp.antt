@@ -36,7 +36,7 @@ module _ {D : Type 0} (history : D → History) (honest : D → Type 0) (faults 
   ends_by_bytes remaining contents until turns (Some ways) old (Session end) new e = e
 
   -- a connection that is served
-  pub served_by_bytes : {S : Type 0} (remaining contents : S → Option (List ℕ)) (old : EngineView D) (end : PeerEnd) (new : EngineView D)
+  pub served_by_bytes : {R W : Type 0} (remaining : R → Option (List ℕ)) (contents : W → Option (List ℕ)) (old : EngineView D) (end : PeerEnd) (new : EngineView D)
       → IsServed history honest faults dig remaining contents session_turns old end new
       → MeetsOverTcp history honest faults dig old end new
   served_by_bytes remaining contents old end new served = record {

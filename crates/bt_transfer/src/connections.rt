@@ -9,10 +9,13 @@ use crate::store::finish;
 use bt_check::{Fault, print};
 use bt_disk::Disk;
 use bt_engine::Engine;
+use bt_meta::Torrent;
+use bt_padding::Padding;
 use bt_peers::{PeerEnd, end_text};
 use bt_sockets::{IDLE_SECONDS, serve};
 use bt_tree::NodeHash;
 use std::alloc::{AllocError, Global};
+use std::cell::RefCell;
 use std::io::Write;
 use std::net::Net;
 use std::time::Duration;
@@ -24,6 +27,8 @@ pub(crate) fn serve_count<D: Disk + Drop, H: NodeHash, N: Net, W: Write>(
     engine: &mut Engine<D, H>,
     listener: &N::Listener,
     count: u32,
+    torrent: &Torrent,
+    padding: &RefCell<Padding>,
     writer: &mut W,
 ) -> Result<(), Fault>
     requires no_peer { engine.old.state.peers ≡ [] }
@@ -32,7 +37,8 @@ pub(crate) fn serve_count<D: Disk + Drop, H: NodeHash, N: Net, W: Write>(
     ensures fault { IfErr result (λ fault. (fault ≡ device) ⊎ (fault ≡ out_of_memory)) }
 {
     for number in 0..count {
-        serve_next(alloc, net, engine, listener, u64::from(number) + 1, writer)?;
+        let next = u64::from(number) + 1;
+        serve_next(alloc, net, engine, listener, next, torrent, padding, writer)?;
     }
     Ok(())
 }
@@ -44,6 +50,8 @@ pub(crate) fn serve_forever<D: Disk + Drop, H: NodeHash, N: Net, W: Write>(
     net: &N,
     engine: &mut Engine<D, H>,
     listener: &N::Listener,
+    torrent: &Torrent,
+    padding: &RefCell<Padding>,
     writer: &mut W,
 ) -> Result<(), Fault>
     requires no_peer { engine.old.state.peers ≡ [] }
@@ -52,7 +60,8 @@ pub(crate) fn serve_forever<D: Disk + Drop, H: NodeHash, N: Net, W: Write>(
     ensures fault { IfErr result (λ fault. (fault ≡ device) ⊎ (fault ≡ out_of_memory)) }
 {
     for number in 0..u64::MAX {
-        serve_and_sync(alloc, net, engine, listener, number + 1, writer)?;
+        let next = number + 1;
+        serve_and_sync(alloc, net, engine, listener, next, torrent, padding, writer)?;
     }
     Ok(())
 }
@@ -66,6 +75,8 @@ fn serve_and_sync<D: Disk + Drop, H: NodeHash, N: Net, W: Write>(
     engine: &mut Engine<D, H>,
     listener: &N::Listener,
     number: u64,
+    torrent: &Torrent,
+    padding: &RefCell<Padding>,
     writer: &mut W,
 ) -> Result<PeerEnd, Fault>
     requires no_peer { engine.old.state.peers ≡ [] }
@@ -76,7 +87,9 @@ fn serve_and_sync<D: Disk + Drop, H: NodeHash, N: Net, W: Write>(
     ensures gone { OnOk result (engine.new.state.peers ≡ []) }
     ensures fault { IfErr result (λ fault. (fault ≡ device) ⊎ (fault ≡ out_of_memory)) }
 {
-    let end = serve_next(alloc, net, engine, listener, number, writer)?;
+    let end = serve_next(
+        alloc, net, engine, listener, number, torrent, padding, writer,
+    )?;
     finish(engine)?;
     Ok(end)
 }
@@ -89,6 +102,8 @@ fn serve_next<D: Disk + Drop, H: NodeHash, N: Net, W: Write>(
     engine: &mut Engine<D, H>,
     listener: &N::Listener,
     number: u64,
+    torrent: &Torrent,
+    padding: &RefCell<Padding>,
     writer: &mut W,
 ) -> Result<PeerEnd, Fault>
     requires no_peer { engine.old.state.peers ≡ [] }
@@ -100,7 +115,7 @@ fn serve_next<D: Disk + Drop, H: NodeHash, N: Net, W: Write>(
     ensures fault { IfErr result (λ fault. (fault ≡ device) ⊎ (fault ≡ out_of_memory)) }
 {
     let idle = Duration::from_secs(IDLE_SECONDS);
-    let end = serve(net, alloc, engine, listener, idle)?;
+    let end = serve(net, alloc, engine, listener, idle, torrent, padding)?;
     let mut line = String::new(alloc);
     push_line(&mut line, number, end)?;
     print(writer, line.as_str())?;

@@ -13,10 +13,13 @@ use crate::peer_lines::write_peers;
 use bt_check::{Fault, Source};
 use bt_disk::Disk;
 use bt_engine::Engine;
+use bt_meta::Torrent;
+use bt_padding::Padding;
 use bt_peers::{Link, PeerEnd, run_peers};
 use bt_sockets::{IDLE_SECONDS, SESSION_TURNS, TcpLink};
 use bt_tree::NodeHash;
 use std::alloc::{AllocError, Global};
+use std::cell::RefCell;
 use std::io::Write;
 use std::net::Net;
 use std::rt::Files;
@@ -41,8 +44,9 @@ pub fn fetch<R: Files + AllocGlobal + Clone + Drop, N: Net, W: Write>(
     ensures refused { IfErr result
         (λ fault. status_of fault ≡ 2 → Keeps (W.contents writer.old) (W.contents writer.new)) }
 {
-    let mut engine = load_store(rt, source, dir)?;
-    let mut links = links_to(rt.alloc(), net, peers)?;
+    let (mut engine, torrent) = load_store(rt, source, dir)?;
+    let padding = RefCell::new(Padding::new(rt.alloc())?);
+    let mut links = links_to(rt.alloc(), net, peers, &torrent, &padding)?;
     let status = fetch_over(
         rt.alloc(),
         &mut engine,
@@ -54,18 +58,21 @@ pub fn fetch<R: Files + AllocGlobal + Clone + Drop, N: Net, W: Write>(
     Ok(status)
 }
 
-/// A link to each peer, in their order.
+/// A link to each peer, in their order, which share what is remembered of their peers.
 fn links_to<'a, N: Net>(
     alloc: Global,
     net: &'a N,
     peers: &'a [Peer<'a>],
+    torrent: &'a Torrent,
+    padding: &'a RefCell<Padding>,
 ) -> Result<Vec<TcpLink<'a, N>>, AllocError>
     ensures { IfOk result (λ links. links.items ≡ links_of peers.now) }
 {
     let idle = Duration::from_secs(IDLE_SECONDS);
     let mut links = Vec::new(alloc);
     for peer in peers {
-        links.push(TcpLink::new(net, peer.host, peer.port, idle))?;
+        let Peer { host, port } = *peer;
+        links.push(TcpLink::new(alloc, net, host, port, idle, torrent, padding))?;
     }
     Ok(links)
 }

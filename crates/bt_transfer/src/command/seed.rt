@@ -12,9 +12,12 @@ use crate::store::finish;
 use bt_check::{Fault, Source, print};
 use bt_disk::Disk;
 use bt_engine::Engine;
+use bt_meta::Torrent;
+use bt_padding::Padding;
 use bt_sockets::{listen, port_of};
 use bt_tree::NodeHash;
 use std::alloc::{AllocError, Global};
+use std::cell::RefCell;
 use std::io::Write;
 use std::net::Net;
 use std::rt::Files;
@@ -40,7 +43,8 @@ pub fn seed<R: Files + AllocGlobal + Clone + Drop, N: Net, W: Write>(
     ensures refused { IfErr result
         (λ fault. status_of fault ≡ 2 → Keeps (W.contents writer.old) (W.contents writer.new)) }
 {
-    let mut engine = load_store(rt, source, dir)?;
+    let (mut engine, torrent) = load_store(rt, source, dir)?;
+    let padding = RefCell::new(Padding::new(rt.alloc())?);
     let listener = listen(net, service.address, service.port)?;
     let port = port_of(&listener)?;
     announce(rt.alloc(), port, writer)?;
@@ -50,6 +54,8 @@ pub fn seed<R: Files + AllocGlobal + Clone + Drop, N: Net, W: Write>(
         &mut engine,
         &listener,
         service.serving,
+        &torrent,
+        &padding,
         writer,
     )?;
     Ok(0)
@@ -81,6 +87,8 @@ fn serve_all<D: Disk + Drop, H: NodeHash, N: Net, W: Write>(
     engine: &mut Engine<D, H>,
     listener: &N::Listener,
     serving: Serving,
+    torrent: &Torrent,
+    padding: &RefCell<Padding>,
     writer: &mut W,
 ) -> Result<(), Fault>
     requires no_peer { engine.old.state.peers ≡ [] }
@@ -90,9 +98,11 @@ fn serve_all<D: Disk + Drop, H: NodeHash, N: Net, W: Write>(
 {
     match serving {
         Serving::Count(count) => {
-            serve_count(alloc, net, engine, listener, count, writer)?;
+            serve_count(
+                alloc, net, engine, listener, count, torrent, padding, writer,
+            )?;
             finish(engine)
         }
-        Serving::Forever => serve_forever(alloc, net, engine, listener, writer),
+        Serving::Forever => serve_forever(alloc, net, engine, listener, torrent, padding, writer),
     }
 }
