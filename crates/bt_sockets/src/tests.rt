@@ -70,7 +70,11 @@ fn nobody_is_reached_at_a_closed_port(rt: HostRuntime) -> Result<(), Fail> {
     let port = port_of(&listener)?;
     drop(listener);
     let between = Between::new(rt.alloc())?;
-    assert!(rt; link(&rt, rt.alloc(), &between, port, patience()).dial().is_none());
+    assert!(rt;
+        link(&rt, rt.alloc(), &between, port, patience())
+            .dial()
+            .is_none()
+    );
     Ok(())
 }
 
