@@ -4,7 +4,6 @@ mod devices;
 mod entries;
 mod fault;
 mod output;
-mod progress;
 mod reader;
 mod replay;
 mod steps;
