@@ -40,7 +40,8 @@ pub record KeepsRest {D H : Type 0} (old new : Parts D H) : Type 0 where
   pub peers : peers_of new.book ≡ peers_of old.book
 
 -- Nothing changed but slots and trees, of which there are as many as before, and the trees are of as many
--- blocks. Each leaf that was known is. Of the files only this one has changed, and has as many blocks as before.
+-- blocks. Each leaf that was known is. Of the files only this one has changed, and has as many blocks as
+-- before.
 pub record ChangesFile {D H : Type 0} (file : ℕ) (old new : Parts D H) : Type 0 where
   pub others : new ≡ record old { slots = new.slots; trees = new.trees }
   pub count : length new.slots.items ≡ length old.slots.items

@@ -53,7 +53,7 @@ impl Book {
         })
     }
 
-    /// Takes in a peer, which is asked for nothing yet. False where it is there, or 64 others are; nothing
+    /// Adds a peer, which is asked for nothing yet. False where it is there, or 64 others are; nothing
     /// changes then.
     pub fn join(&mut self, peer: PeerKey) -> bool
         ensures when { IsTrue result ↔ ((¬ IsJoined self.old peer) × (length self.old.peers < max_peers)) }

@@ -38,7 +38,7 @@ pub fn choose(standings: &[Standing], turn: u64) -> ArrayVec<PeerKey, 4>
     chosen
 }
 
-/// The interested peer before which so many come.
+/// The interested peer before which `rank` others come.
 fn ranked(standings: &[Standing], rank: usize) -> Option<PeerKey>
     ensures some { IfSome result (IsKeyOf standings.now (has_rank standings.now rank)) }
     ensures none { IfNone result (HasNone standings.now (has_rank standings.now rank)) }

@@ -63,4 +63,5 @@ OneCallLeads {D} history honest faults = (old : D) (call : Call) (new : D)
 -- calls and then others are these calls one after the other
 abbrev pub CallsCompose : {D : Type 0} → (D → History) → (D → Type 0) → (D → ℕ) → Type 0
 CallsCompose {D} history honest faults = (a b c : D) (xs ys : List Call)
-    → HasCalls history honest faults a xs b → HasCalls history honest faults b ys c → HasCalls history honest faults a (xs ++ ys) c
+    → HasCalls history honest faults a xs b → HasCalls history honest faults b ys c
+    → HasCalls history honest faults a (xs ++ ys) c

@@ -66,8 +66,8 @@ fn next_key<D: Disk + Drop, H: NodeHash>(parts: &Parts<D, H>, has: &PieceSet) ->
 }
 
 /// The first block in a piece of the set that is not marked and whose leaf is unknown. It leaps from a block
-/// that the peer has, in a piece that may have an unknown leaf, to the next unknown leaf, and from that to the
-/// next such block. A marked block has a known leaf, so that it is passed by these leaps.
+/// that the peer has, in a piece that may have an unknown leaf, to the next unknown leaf, and from that to
+/// the next such block. A marked block has a known leaf, so that it is passed by these leaps.
 fn least_need<D: Disk + Drop, H: NodeHash>(parts: &Parts<D, H>, has: &PieceSet) -> Option<BlockId>
     requires tied { IsTied parts.now }
     requires shaped { IsShaped parts.now.torrent (state_of parts.now) }

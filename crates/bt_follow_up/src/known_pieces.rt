@@ -1,4 +1,5 @@
-//! Pieces of whose blocks each leaf is known, so that the search for a leaf that is needed passes them at once.
+//! Pieces of whose blocks each leaf is known, so that the search for a leaf that is needed passes them at
+//! once.
 ghost use Rattle.std.specs.Prelude.{◌≡◌, ◌<◌, ◌≤◌, length, vec_len};
 ghost use Rattle.bt_meta.specs.Torrent.{total_pieces};
 ghost use Rattle.bt_machine.specs.Shape.{IsShaped};

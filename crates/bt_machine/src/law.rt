@@ -159,8 +159,8 @@ pub fn runs_compose<D: Disk, H: NodeHash>(_disk: &D, _hash: H)
     ensures are_runs { RunsAreRuns D.history D.honest D.faults H.digest }
 {}
 
-/// Each frame that an event sends fits and can be written: where an engine has the files and trees of a lawful
-/// torrent, each tree with digests of 32 bytes, and so after any list of events from the start of one.
+/// Each frame that an event sends fits and can be written: where an engine has the files and trees of a
+/// lawful torrent, each tree with digests of 32 bytes, and so after any list of events from the start of one.
 pub fn events_send_what_fits<H: NodeHash>(hash: H)
     ensures step { StepSendsWhatFits H.digest }
     ensures runs { RunsSendWhatFits H.digest }

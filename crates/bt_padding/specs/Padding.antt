@@ -1,5 +1,5 @@
--- Messages between an engine and a peer that counts each block as 16,384 bytes, the short last block of a file
--- too, filled up with zeros.
+-- Messages between an engine and a peer that counts each block as 16,384 bytes, the short last block of a
+-- file too, filled up with zeros.
 use Rattle.std.specs.Prelude.{◌≡◌, ◌⊎◌, ◌↔◌, ℕ, ◌-◌, Bool, true, false, List, ◌∷◌, ◌++◌, [], length, take, drop, replicate, Contains, codes}
 use Rattle.bt_tree.specs.Limits.{full_block_length}
 use Rattle.bt_wire.specs.declared.handshake.Handshake.{Handshake}
@@ -55,8 +55,9 @@ pub record BringsPadded (torrent : Metainfo) (m : Message) (ask : Ask) (bytes : 
   pub full : length bytes ≡ full_block_length
   pub message : m ≡ Piece ask.piece ask.begin bytes
 
--- What an engine gets of a message of its peer: a request for a padded block as one for what the file has, and
--- it is remembered; a padded block without its padding, whatever that is; and any other message as it came.
+-- What an engine gets of a message of its peer: a request for a padded block as one for what the file has,
+-- and it is remembered; a padded block without its padding, whatever that is; and any other message as it
+-- came.
 pub data ComesIn (torrent : Metainfo) (old : Memory) (m given : Message) (new : Memory) : Type 0 where
   request : (ask : Ask) → AsksPadded torrent m ask → given ≡ Request ask
       → new ≡ record old { asked = with_asked old.asked ask } → ComesIn torrent old m given new
@@ -88,8 +89,8 @@ abbrev pub filled : List ℕ → List ℕ
 filled bytes = bytes ++ replicate (full_block_length - length bytes) 0
 
 -- What a peer gets of an engine's message: the answer to a remembered request filled up with zeros, and the
--- request is forgotten; a request for a short block, of a peer that pads, as one for the padded block; and any
--- other message as it is.
+-- request is forgotten; a request for a short block, of a peer that pads, as one for the padded block; and
+-- any other message as it is.
 pub data GoesOut (torrent : Metainfo) (old : Memory) (m given : Message) (new : Memory) : Type 0 where
   piece : (ask : Ask) (bytes : List ℕ) (rest : List Ask) → Answers torrent old m ask bytes
       → IsTaken old.asked ask rest → given ≡ Piece ask.piece ask.begin (filled bytes)

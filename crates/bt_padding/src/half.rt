@@ -124,8 +124,7 @@ fn event_len(event: &WireEvent, unread: &[u8]) -> usize
     }
 }
 
-/// Leaves out the first `start` bytes where they are no fewer than the others. Returns where the others
-/// begin.
+/// Drops the first `start` bytes where they are at least half. Returns where the others begin.
 fn drop_taken(bytes: &mut Vec<u8>, start: usize) -> usize
     requires { start ≤ length bytes.old.items }
     ensures same { drop result bytes.new.items ≡ drop start bytes.old.items }

@@ -21,9 +21,9 @@ pub enum Side {
     Engine,
 }
 
-/// Takes bytes of a side, and puts behind `out` what is given on of them: each message as soon as it is whole.
-/// From a fault of the stream on all bytes go on as they are. `half` holds what the side has sent of a message
-/// that is not whole.
+/// Takes bytes of a side, and puts behind `out` what is given on of them: each message as soon as it is
+/// whole. From a fault of the stream on all bytes go on as they are. `half` holds what the side has sent of a
+/// message that is not whole.
 ///
 /// Errors: out of memory, and the connection is to be closed.
 pub fn translate(

@@ -16,8 +16,8 @@ use std::io;
 use std::io::{ErrorKind, Write};
 use std::marker::Model;
 
-/// A writer of what an engine sends, which writes what its peer is to get of it. What it remembers of the peer
-/// it shares with the reader of the same connection.
+/// A writer of what an engine sends, which writes what its peer is to get of it. What it remembers of the
+/// peer it shares with the reader of the same connection.
 ///
 /// What is written is translated at once, each message as soon as it is whole, and what is given on of it is
 /// written to the writer behind.

@@ -24,8 +24,8 @@ set_file (Fault file call) = Some file
 set_file (Flip file call at) = Some file
 set_file _ = None
 
--- the device, as it is set, of which no call was made yet: a second call to fail replaces the first, as does a
--- second flip
+-- the device, as it is set, of which no call was made yet: a second call to fail replaces the first, as does
+-- a second flip
 abbrev pub with_setting : Line → Device → Device
 with_setting (Fault file call) device =
     record device { failing_once = setting_after device.calls call device.failing_once }

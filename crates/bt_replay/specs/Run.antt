@@ -43,8 +43,8 @@ pub data EndsAtLine (handshake : List ℕ) (number : ℕ) (line : List ℕ) (old
   no_memory : fault ≡ OutOfMemory → Keeps old new → EndsAtLine handshake number line old new fault
   not_written : fault ≡ Write → EndsAtLine handshake number line old new fault
 
--- The lines, of which the first has this number, did not all run. Those before a bad line did; where memory was
--- refused, those at the front that are told did.
+-- The lines, of which the first has this number, did not all run. Those before a bad line did; where memory
+-- was refused, those at the front that are told did.
 pub data EndsEarly {D : Type 0} (history : D → History) (honest : D → Type 0) (faults : D → ℕ)
     (dig : List ℕ → List ℕ) (handshake : List ℕ) (first : EngineView D) (number : ℕ) (lines : List (List ℕ))
     (old new : Option (List ℕ)) (fault : ReplayFault) : Type 0 where

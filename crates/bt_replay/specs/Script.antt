@@ -77,7 +77,8 @@ device_faults device = fault_count (λ disk. disk.failed) device
 
 -- ---- the whole
 
--- All lines ran; or they ended early; or nothing was begun, and nothing written; or the writer failed at the end.
+-- All lines ran; or they ended early; or nothing was begun, and nothing written; or the writer failed at the
+-- end.
 pub data Replays (script : List ℕ) (old new : Option (List ℕ)) (outcome : Result (Unit {0}) ReplayFault)
     : Type 0 where
   whole : (first : List ℕ) (lines rest : List (List ℕ)) (torrent : Metainfo) (engine now : EngineView Device)
@@ -93,6 +94,7 @@ pub data Replays (script : List ℕ) (old new : Option (List ℕ)) (outcome : Re
       (count + 2) rest old new fault
       → outcome ≡ Err fault → Replays script old new outcome
   unbegun : (first : List ℕ) (lines : List (List ℕ)) (fault : ReplayFault)
-      → script_lines script ≡ first ∷ lines → NamesNone first fault → Keeps old new → outcome ≡ Err fault → Replays script old new outcome
+      → script_lines script ≡ first ∷ lines → NamesNone first fault → Keeps old new → outcome ≡ Err fault
+      → Replays script old new outcome
   without_memory : Keeps old new → outcome ≡ Err OutOfMemory → Replays script old new outcome
   unwritten : outcome ≡ Err Write → Replays script old new outcome

@@ -9,9 +9,9 @@ use crate::script::run_script;
 use std::alloc::Global;
 use std::io::{Read, Write};
 
-/// Reads a script and runs it, writes what tells of its lines, and gives the status that the program exits with.
-/// Where it ends before the script does, it says why, on `faults`; where that can't be said, there is the status
-/// alone.
+/// Reads a script and runs it, writes what tells of its lines, and gives the status that the program exits
+/// with. Where it ends before the script does, it says why, on `faults`; where that can't be said, there is
+/// the status alone.
 pub fn replay<R: Read, W: Write, E: Write>(
     alloc: Global,
     reader: &mut R,

@@ -13,7 +13,7 @@ use std::io::{ErrorKind, Read};
 pub const MAX_SCRIPT_LENGTH: usize = 1 << 24;
 
 /// How many bytes are asked for at a time.
-const READ_LENGTH: usize = 1 << 14;
+const READ_LEN: usize = 1 << 14;
 
 /// Reads a script: all bytes that the reader has, but no more than a script may have.
 pub fn read_script<R: Read>(alloc: Global, reader: &mut R) -> Result<Vec<u8>, ReplayFault>
@@ -22,9 +22,9 @@ pub fn read_script<R: Read>(alloc: Global, reader: &mut R) -> Result<Vec<u8>, Re
     ensures unread { IfErr result (IsUnread (R.remaining reader.old) (R.remaining reader.new)) }
 {
     let mut script = Vec::new(alloc);
-    let mut buffer = [0; READ_LENGTH];
+    let mut buffer = [0; READ_LEN];
     'reads: while script.len() < MAX_SCRIPT_LENGTH {
-        let wanted = READ_LENGTH.min(MAX_SCRIPT_LENGTH - script.len());
+        let wanted = READ_LEN.min(MAX_SCRIPT_LENGTH - script.len());
         let run = &mut buffer[..wanted];
         let count = read_some(reader, run)?;
         if count == 0 {
@@ -35,8 +35,8 @@ pub fn read_script<R: Read>(alloc: Global, reader: &mut R) -> Result<Vec<u8>, Re
     Ok(script)
 }
 
-/// Reads once, and says how many bytes came: none where there are no more. A read that was interrupted is made
-/// again. Errors: the reader failed, and none of its bytes is lost.
+/// Reads once, and says how many bytes came: none where there are no more. A read that was interrupted is
+/// made again. Errors: the reader failed, and none of its bytes is lost.
 fn read_some<R: Read>(reader: &mut R, buffer: &mut [u8]) -> Result<usize, ReplayFault>
     requires { 0 < length buffer.old }
     ensures given { IfOk result

@@ -13,8 +13,8 @@ use bt_tree::NodeHash;
 use std::alloc::Global;
 use std::io::Write;
 
-/// Does what the lines ask for, one after the other, and writes what tells of each as it is done. The first of
-/// them has this number.
+/// Does what the lines ask for, one after the other, and writes what tells of each as it is done. The first
+/// of them has this number.
 pub fn run_lines<D: Disk + Drop, H: NodeHash, W: Write>(
     alloc: Global,
     engine: &mut Engine<D, H>,

@@ -94,8 +94,8 @@ fn peer_handshake(torrent: &Torrent) -> [u8; HANDSHAKE_LEN]
     })
 }
 
-/// Starts the engine on the devices that the lines set, and gives the lines behind these settings, and how many
-/// settings there are.
+/// Starts the engine on the devices that the lines set, and gives the lines behind these settings, and how
+/// many settings there are.
 fn begin<'a>(
     alloc: Global,
     torrent: Torrent,

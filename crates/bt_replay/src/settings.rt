@@ -10,8 +10,8 @@ use crate::field::cut;
 use crate::line::line_in;
 use std::alloc::{AllocError, Global};
 
-/// Makes the settings at the front of the lines. Gives the lines behind them, and how many they are. Errors: out
-/// of memory.
+/// Makes the settings at the front of the lines. Gives the lines behind them, and how many they are. Errors:
+/// out of memory.
 pub(crate) fn set_devices<'a>(
     alloc: Global,
     devices: &mut Vec<Option<Device>>,
@@ -34,7 +34,8 @@ pub(crate) fn set_devices<'a>(
     Ok((None, count))
 }
 
-/// Makes the setting that a text spells. False where it spells none; nothing changed then. Errors: out of memory.
+/// Makes the setting that a text spells. False where it spells none; nothing changed then. Errors: out of
+/// memory.
 fn set_by(alloc: Global, devices: &mut Vec<Option<Device>>, text: &[u8]) -> Result<bool, AllocError>
     ensures set { IfOk result (λ set. OnTrue set (SetsBy devices.old.items text.now devices.new.items)) }
     ensures unset { IfOk result (λ set. OnFalse set (SetsNone devices.old.items text.now)) }

@@ -1,4 +1,5 @@
--- That bytes spell one list of hints. The proof stands here, since a list of hints is kept as its bytes: what contracts see of it rests on this.
+-- That bytes spell one list of hints. The proof stands here, since a list of hints is kept as its bytes: what
+-- contracts see of it rests on this.
 use Rattle.std.specs.Prelude.{◌≡◌, ℕ, ◌*◌, ◌^◌, ◌<◌, ◌≤◌, List, [], ◌∷◌, ◌++◌, length, take, drop, All, refl}
 use Rattle.std.specs.Coded.{coded_ℕ, coded_list, Coded-set, le_prop, Π_prop, ×_prop}
 use Rattle.std.specs.Int.{w32, to_be_bytes, from_be_bytes}

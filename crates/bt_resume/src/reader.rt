@@ -28,7 +28,8 @@ pub(crate) struct FoundHints {
 
 /// The hints that begin the bytes, as many as there are.
 pub(crate) fn measure_hints(bytes: &[u8]) -> FoundHints
-    ensures hints { (taken : List Hint) × AreTaken bytes.now taken result.len × (result.count ≡ length taken) }
+    ensures hints { (taken : List Hint) × AreTaken bytes.now taken result.len
+        × (result.count ≡ length taken) }
     ensures within { result.len ≤ length bytes.now }
 {
     let mut count = 0;

@@ -1,6 +1,6 @@
 //! What no clause says: that calls succeed, the bytes of a log by hand, and the log that a cut, a fault or a
-//! crash leaves. A log is called through functions without a contract, so that a test's proof carries no clause
-//! of its calls.
+//! crash leaves. A log is called through functions without a contract, so that a test's proof carries no
+//! clause of its calls.
 ghost use Rattle.std.specs.Prelude.{◌≡◌, []};
 ghost use Rattle.bt_disk.specs.Limits.{one_more};
 
@@ -67,8 +67,8 @@ impl<D: Disk + Drop> Fixture<D> {
     }
 }
 
-/// The pieces root of a file of 49,152 bytes: 16,384 of the value 1, as many of 2, and as many of 3 (BEP 52, by
-/// another program's SHA-256).
+/// The pieces root of a file of 49,152 bytes: 16,384 of the value 1, as many of 2, and as many of 3 (BEP 52,
+/// by another program's SHA-256).
 const ROOT: Hash32 = [
     0x35, 0x75, 0x4e, 0xe0, 0x33, 0x60, 0xca, 0xca, 0xb5, 0xe9, 0xe2, 0x76, 0x47, 0xda, 0x3d, 0x2a,
     0x4a, 0xb6, 0xf9, 0x76, 0x14, 0xed, 0x7d, 0x16, 0x92, 0xb9, 0xeb, 0x3c, 0x42, 0xa6, 0x5d, 0x69,

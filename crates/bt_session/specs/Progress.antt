@@ -51,7 +51,8 @@ abbrev pub IsUnknown : HowMuch
 IsUnknown old new frames = Unit {0}
 
 -- From the first place a session of so many turns came to where it is now, with `last` as its last answer. It
--- was fed, in their order, just the bytes that the reader gave; and of what it sent to its peer so much is written.
+-- was fed, in their order, just the bytes that the reader gave; and of what it sent to its peer so much is
+-- written.
 pub record HasRun {D : Type 0} (history : D → History) (honest : D → Type 0) (faults : D → ℕ)
     (dig : List ℕ → List ℕ) (key : PeerKey) (until_complete : Bool) (how_much : HowMuch) (first : Place D)
     (turns : ℕ) (last : Answer) (now : Place D) : Type 0 where

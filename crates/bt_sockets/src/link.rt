@@ -54,8 +54,8 @@ impl<'a, R: Net> Model for TcpLink<'a, R> {
 }
 
 impl<'a, R: Net> TcpLink<'a, R> {
-    /// A link that was not dialled yet. A peer that is idle for so long is given up; no time at all is refused
-    /// at each dial. Links that are dialled in turn may share what is remembered of their peers.
+    /// A link that was not dialled yet. A peer that is idle for so long is given up; no time at all is
+    /// refused at each dial. Links that are dialled in turn may share what is remembered of their peers.
     pub fn new(
         alloc: Global,
         net: &'a R,

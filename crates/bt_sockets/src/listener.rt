@@ -40,8 +40,8 @@ pub fn port_of<L: OpenListener>(listener: &L) -> Result<u16, Fault>
     }
 }
 
-/// Waits for a connection and serves it, as long as its peer is not idle for so long: Unreachable where it was
-/// gone already. Errors: none could be taken.
+/// Waits for a connection and serves it, as long as its peer is not idle for so long: Unreachable where it
+/// was gone already. Errors: none could be taken.
 pub fn serve<D: Disk + Drop, H: NodeHash, R: Net>(
     _net: &R,
     alloc: Global,

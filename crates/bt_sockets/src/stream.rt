@@ -35,8 +35,8 @@ pub(crate) fn connected<R: Net>(
 }
 
 /// Makes a connection ready for a session: what is read from it, and what is written to it, which are one
-/// socket. Each write leaves at once, and a read or a write fails where the peer was idle for so long. What was
-/// remembered of the peer of another connection is forgotten. Errors: the system refuses this.
+/// socket. Each write leaves at once, and a read or a write fails where the peer was idle for so long. What
+/// was remembered of the peer of another connection is forgotten. Errors: the system refuses this.
 pub(crate) fn both_ways<'a, S: OpenStream + Drop>(
     alloc: Global,
     stream: S,

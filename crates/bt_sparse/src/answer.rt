@@ -100,10 +100,10 @@ impl<H: NodeHash> SparseTree<H> {
     /// project's reading: a run of 2^m nodes with p proof layers has max(0, p - (m - 1)) uncles, the first in
     /// layer `base` + m.
     ///
-    /// A right request has a `length` of 2^m nodes, from 2 to 512, and an `index` that is a multiple of it; the
-    /// run and the node above it lie in the tree; and the proof layers end below the root: `base` + `layers` is
-    /// less than the height. Another one is refused with `Shape`, a right one with `Unknown` where a node that it
-    /// needs is not known, and else at most with `OutOfMemory`.
+    /// A right request has a `length` of 2^m nodes, from 2 to 512, and an `index` that is a multiple of it;
+    /// the run and the node above it lie in the tree; and the proof layers end below the root: `base` +
+    /// `layers` is less than the height. Another one is refused with `Shape`, a right one with `Unknown`
+    /// where a node that it needs is not known, and else at most with `OutOfMemory`.
     pub fn answer(
         &self,
         base: u32,

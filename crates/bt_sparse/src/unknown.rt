@@ -6,8 +6,8 @@ use crate::sparse_tree::SparseTree;
 use bt_tree::NodeHash;
 
 impl<H: NodeHash> SparseTree<H> {
-    /// The first block from this one on whose leaf is not known; None where the leaf of each is. The leaves are
-    /// looked at a page at a time, by the bits that say which are there.
+    /// The first block from this one on whose leaf is not known; None where the leaf of each is. The leaves
+    /// are looked at a page at a time, by the bits that say which are there.
     pub fn next_unknown(&self, from: u32) -> Option<u32>
         ensures some { IfSome result (IsNextUnknown self.now from) }
         ensures none { IfNone result (HoldsLeaves self.now from (blocks_of self.now)) }

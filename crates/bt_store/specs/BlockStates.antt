@@ -15,7 +15,7 @@ is_waiting Missing = false
 is_waiting Waiting = true
 is_waiting Marked = false
 
--- of these blocks, so many are marked and so many wait
+-- of these blocks `marked` are marked, and `waiting` wait
 pub record HasCounts (states : List BlockState) (marked waiting : ℕ) : Type 0 where
   pub marked_count : marked ≡ count_by is_marked states
   pub waiting_count : waiting ≡ count_by is_waiting states

@@ -16,7 +16,7 @@ noted i (Whole digest) digests = slice_set digests i digest
 noted i Short digests = digests
 noted i Failed digests = digests
 
--- so many blocks_found, from a place on
+-- the digests, in which those of the first j blocks found stand, where these are whole, from place `at` on
 unfoldable pub noted_found : ℕ → List BlockFound → ℕ → List (List ℕ) → List (List ℕ)
 noted_found at blocks_found zero digests = digests
 noted_found at blocks_found (suc j) digests =

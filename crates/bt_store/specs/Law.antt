@@ -66,8 +66,8 @@ AdoptExtends dig = (k grown : Facts) (from : ℕ) (old new : List BlockState) (r
 
 -- What reads make of states where each decides on its block: the block is marked exactly where its read gave
 -- right bytes, else missing; and a block that is not read has the state that it had.
-pub record DecidesEach (dig : List ℕ → List ℕ) (k : Facts) (reads : List BlockRead) (old new : List BlockState)
-    : Type 0 where
+pub record DecidesEach (dig : List ℕ → List ℕ) (k : Facts) (reads : List BlockRead)
+    (old new : List BlockState) : Type 0 where
   pub read : (read : BlockRead) → Contains reads read → block_of read < length old
       → slice_get new (block_of read) ≡ Some (if is_right_read dig k read then Marked else Missing)
   pub unread : (i : ℕ) → ¬ Contains (map block_of reads) i → slice_get new i ≡ slice_get old i
@@ -86,4 +86,5 @@ WaitingBlocksDiffer dig = (k : Facts) (states : List BlockState) (from count : �
 -- none of them lies behind the file's end
 abbrev pub WaitingBlocksLieInside : (List ℕ → List ℕ) → Type 0
 WaitingBlocksLieInside dig = (k : Facts) (states : List BlockState) (from count : ℕ)
-    → waiting_blocks dig k states from count ≡ waiting_blocks dig k states from (min count (length states - from))
+    → waiting_blocks dig k states from count
+    ≡ waiting_blocks dig k states from (min count (length states - from))

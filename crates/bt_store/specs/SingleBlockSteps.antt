@@ -7,7 +7,8 @@ use Rattle.bt_store.specs.declared.review.Verdict.{Verdict}
 use Rattle.bt_store.specs.declared.review.Verdict.TheVariants.{Right, Wrong, Fault}
 
 -- the read, whose bytes `out` begins with, and the verdict
-pub data ComesTo (dig : List ℕ → List ℕ) (k : Facts) (i : ℕ) (out : List ℕ) : BlockRead → Verdict → Type 0 where
+pub data ComesTo (dig : List ℕ → List ℕ) (k : Facts) (i : ℕ) (out : List ℕ)
+    : BlockRead → Verdict → Type 0 where
   right : IsRight dig k i (take (block_length k.file_length i) out)
       → ComesTo dig k i out (given i (take (block_length k.file_length i) out)) Right
   wrong : (bytes : List ℕ) → ¬ IsRight dig k i bytes → ComesTo dig k i out (given i bytes) Wrong

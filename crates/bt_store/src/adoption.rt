@@ -34,7 +34,7 @@ pub struct Adopted {
 }
 
 impl<D: Disk + Drop, H: NodeHash> FileStore<D, H> {
-    /// Takes in what the device has of the group of block `from`, by one read for each of its blocks.
+    /// Adopts what the device has of the group of block `from`, by one read for each of its blocks.
     ///
     /// Where the leaf is known, the group is that block and those after it whose leaves are known, at most
     /// eight: each becomes marked or missing by its digest, and stays as it is where its read fails. Else
@@ -72,7 +72,7 @@ impl<D: Disk + Drop, H: NodeHash> FileStore<D, H> {
         self.adopt_unknown(tree, from, anchor)
     }
 
-    /// Takes in blocks whose leaves are known.
+    /// Adopts blocks whose leaves are known.
     fn adopt_known(&mut self, tree: &SparseTree<H>, from: u32) -> Adopted
         requires geometry { tree.now.file_length ≡ self.old.file_length }
         requires inside { from < blocks_of tree.now }
@@ -90,7 +90,7 @@ impl<D: Disk + Drop, H: NodeHash> FileStore<D, H> {
         }
     }
 
-    /// Takes in the blocks below the nearest node that is held.
+    /// Adopts the blocks below the nearest node that is held.
     fn adopt_unknown(
         &mut self,
         tree: &mut SparseTree<H>,

@@ -48,7 +48,7 @@ impl<D: Disk + Drop, H: NodeHash> FileStore<D, H> {
         if is_wrong(self.hash, leaf, bytes) {
             return Ok(Put::Wrong);
         }
-        if let Err(_) = self.disk.write_at(place_of(block), bytes) {
+        if let Err(_) = self.disk.write_at(offset_of(block), bytes) {
             return Err(StoreError::Device);
         }
         if leaf.is_some() {
@@ -77,7 +77,7 @@ impl<D: Disk + Drop, H: NodeHash> FileStore<D, H> {
 }
 
 /// The byte of the device at which a block begins.
-pub(crate) fn place_of(block: u32) -> u64
+pub(crate) fn offset_of(block: u32) -> u64
     ensures { result ≡ full_block_length * block }
 {
     BLOCK_LEN as u64 * block as u64

@@ -6,7 +6,7 @@ ghost use Rattle.bt_store.specs.BlockReads.{call_of};
 ghost use Rattle.bt_store.specs.BatchesSteps.{batch_reads, found_of};
 ghost use Rattle.bt_store.specs.declared.batches.BlockFound.TheVariants.{Failed};
 
-use crate::arrival::place_of;
+use crate::arrival::offset_of;
 use bt_disk::Disk;
 use bt_tree::{BLOCK_LEN, Geometry, Hash32, NodeHash};
 
@@ -52,7 +52,7 @@ pub(crate) fn read_batch<D: Disk>(
         let block = first + j as u32;
         let from = j * BLOCK_LEN;
         let slot = &mut buffer[from..from + geometry.block_len(block)];
-        lengths[j] = disk.read_at(place_of(block), slot).ok();
+        lengths[j] = disk.read_at(offset_of(block), slot).ok();
     }
     lengths
 }

@@ -26,7 +26,7 @@ pub(crate) struct ReadTally {
 }
 
 impl ReadTally {
-    /// Of one read more.
+    /// The counts with one more read.
     fn with(self, found: BlockFound) -> ReadTally
         requires whole { self.whole + 1 < 2 ^ 32 }
         requires faults { self.faults + 1 < 2 ^ 32 }

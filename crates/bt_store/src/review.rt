@@ -75,7 +75,7 @@ pub(crate) struct Tally {
 }
 
 impl Tally {
-    /// Of no read.
+    /// The counts of no reads.
     pub(crate) fn new() -> Tally
         ensures { result ≡ record { right = 0; wrong = 0; faults = 0 } }
     {
@@ -86,7 +86,7 @@ impl Tally {
         }
     }
 
-    /// Of one read more.
+    /// The counts with one more read.
     fn with(self, verdict: Verdict) -> Tally
         requires { tally_sum self + 1 < 2 ^ 32 }
         ensures { result ≡ added verdict self }
@@ -107,7 +107,7 @@ impl Tally {
         }
     }
 
-    /// Of these reads and those.
+    /// The sums of two counts.
     fn plus(self, other: Tally) -> Tally
         requires { tally_sum self + tally_sum other < 2 ^ 32 }
         ensures right { result.right ≡ self.right + other.right }
@@ -298,7 +298,7 @@ impl<D: Disk + Drop, H: NodeHash> FileStore<D, H> {
 
     /// Reads blocks that lie next to each other, at most eight, and judges each.
     ///
-    /// The buffer is laid out here, so that a call that reads nothing doesn't pay for it. One block alone
+    /// The buffer is zeroed here, so that a call that reads nothing doesn't pay for it. One block alone
     /// needs a smaller one.
     pub(crate) fn judge_blocks(
         &mut self,

@@ -8,7 +8,7 @@ ghost use Rattle.bt_store.specs.SingleBlockSteps.{ComesTo};
 ghost use Rattle.bt_store.specs.Review.{is_marked_at};
 ghost use Rattle.bt_store.specs.SingleBlock.{IsLent, IsLost, IsRestored};
 
-use crate::arrival::place_of;
+use crate::arrival::offset_of;
 use crate::batches::digest_slot;
 use crate::block_states::BlockState;
 use crate::error::{ReadError, StoreError};
@@ -126,7 +126,7 @@ fn read_block<D: Disk, H: NodeHash>(
 {
     let geometry = tree.geometry();
     let length = geometry.block_len(block);
-    let Ok(count) = disk.read_at(place_of(block), &mut out[..length]) else {
+    let Ok(count) = disk.read_at(offset_of(block), &mut out[..length]) else {
         return Verdict::Fault;
     };
     let found = digest_slot(hash, geometry, block, Some(count), &out[..length]);

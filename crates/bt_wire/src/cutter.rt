@@ -99,7 +99,7 @@ impl Cutter {
     }
 }
 
-/// Leaves out the first `start` bytes where they are no fewer than the others. Returns where the others begin.
+/// Drops the first `start` bytes where they are at least half. Returns where the others begin.
 fn drop_taken(bytes: &mut Vec<u8>, start: usize) -> usize
     requires { start ≤ length bytes.old.items }
     ensures same { drop result bytes.new.items ≡ drop start bytes.old.items }
@@ -112,7 +112,7 @@ fn drop_taken(bytes: &mut Vec<u8>, start: usize) -> usize
     0
 }
 
-/// Leaves out the first bytes, which are no fewer than the others.
+/// Drops the first `count` bytes, which are at least half.
 fn drop_front(bytes: &mut Vec<u8>, count: usize)
     requires within { count ≤ length bytes.old.items }
     requires half { length bytes.old.items - count ≤ count }
@@ -124,9 +124,9 @@ fn drop_front(bytes: &mut Vec<u8>, count: usize)
     bytes.truncate(rest);
 }
 
-/// Leaves out the first bytes where the buffer has more room than is kept and at least four times what the
-/// others need: these go to a buffer of their size. Where memory for it is refused all stay. Returns where the
-/// others begin.
+/// Drops the first `start` bytes where the buffer has more room than is kept and at least four times what
+/// the others need: these go to a buffer of their size. Where memory for it is refused all stay. Returns
+/// where the others begin.
 fn start_of_rest(alloc: Global, bytes: &mut Vec<u8>, start: usize) -> usize
     requires { start ≤ length bytes.old.items }
     ensures within { result ≤ length bytes.new.items }

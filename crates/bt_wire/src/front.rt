@@ -95,7 +95,7 @@ fn frame_len(unread: &[u8]) -> Result<Option<usize>, WireError>
     Ok(Some(4 + field))
 }
 
-/// Whether a payload of so many bytes fits the kind; every payload fits an unknown kind.
+/// Whether a payload of `len` bytes fits the kind; every payload fits an unknown kind.
 fn fits_kind(kind: u8, len: usize) -> bool
     ensures yes { OnTrue result (FitsKind kind len) }
     ensures no { OnFalse result (IsMisfit kind len) }

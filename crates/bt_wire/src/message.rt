@@ -70,8 +70,8 @@ pub fn fits(message: &Message) -> bool
     }
 }
 
-/// How many bytes a key takes in a message, `KEY_LEN`. They are counted, since a proof knows that a root has 32
-/// bytes only where it is read.
+/// How many bytes a key takes in a message, `KEY_LEN`. They are counted, since a proof knows that a root has
+/// 32 bytes only where it is read.
 fn key_len(key: &HashKey) -> usize
     ensures spelled { result ≡ length (key_spelling key.now) }
     ensures value { result ≡ key_length }

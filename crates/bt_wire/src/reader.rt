@@ -9,7 +9,7 @@ use crate::message::{Ask, Message};
 use bt_hashreq::{HashKey, KEY_LEN, number_at, read_key};
 use std::alloc::{AllocError, Global};
 
-/// Whether a payload of so many bytes fits the kind; None for an unknown kind.
+/// Whether a payload of `len` bytes fits the kind; None for an unknown kind.
 pub(crate) fn payload_fits(kind: u8, len: usize) -> Option<bool>
     ensures listed { IsSome result ↔ IsListed kind }
     ensures fits { IfSome result (λ fits. IsTrue fits ↔ HasSize kind len) }

@@ -31,7 +31,7 @@ pub fn write_message(alloc: Global, message: &Message) -> Result<Vec<u8>, AllocE
             begin,
             bytes,
         } => {
-            let numbers = pair_bytes(*piece, *begin);
+            let numbers = two_numbers(*piece, *begin);
             frame(alloc, kind::PIECE, &numbers, bytes.as_slice())
         }
         Message::Cancel(ask) => frame(alloc, kind::CANCEL, &ask_bytes(ask), &[]),
@@ -68,7 +68,7 @@ fn ask_bytes(ask: &Ask) -> [u8; ASK_LEN]
 }
 
 /// Two numbers, the high byte of each first.
-fn pair_bytes(first: u32, second: u32) -> [u8; 8]
+fn two_numbers(first: u32, second: u32) -> [u8; 8]
     ensures { result ≡ to_be_bytes w32 first ++ to_be_bytes w32 second }
 {
     let [a, b, c, d] = first.to_be_bytes();

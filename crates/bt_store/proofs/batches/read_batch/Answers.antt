@@ -31,7 +31,7 @@ loop-j-preserved g c =
     let next = run_next d.history d.honest d.faults c.args.geometry c.args.first c.loop-j.j (c.loop-j.j * 16384 + c.block_len.result - c.loop-j.j * 16384)
     c.args.disk.now c.loop-j.disk c.read_at.new.self c.loop-j.lengths c.loop-j.buffer c.read_at.new.out c.read_at.result
     c.loop-j.invariant.calls in_lengths in_buffer size w.within w.counted w.as_honest
-    (λ h. subst (λ at. IsAnswered (d.history c.loop-j.disk) (read_call at c.read_at.new.out c.read_at.result) (d.history c.read_at.new.self)) c.place_of.ensures (w.answered h)) in
+    (λ h. subst (λ at. IsAnswered (d.history c.loop-j.disk) (read_call at c.read_at.new.out c.read_at.result) (d.history c.read_at.new.self)) c.offset_of.ensures (w.answered h)) in
     let given : IfSome c.ok.result (λ n. n ≤ block_length c.args.geometry i) =
     rw c.ok.ensures.value (given_within (block_length c.args.geometry i) c.read_at.new.out c.read_at.result size w.within) in
     record {

@@ -23,7 +23,7 @@ returns-in_default-clause-read g c =
     let size : length slot ≡ c.block_len-length.result = search rules in (
       failed i,
       one_failed d.history d.honest d.faults n i c.args.disk.now c.read_at.new.self slot (size ∙ place) w.counted w.as_honest
-          (λ h. subst (λ at. IsAnswered (d.history c.args.disk.now) (read_fault at (length slot)) (d.history c.read_at.new.self)) c.place_of.ensures (w.answered h)),
+          (λ h. subst (λ at. IsAnswered (d.history c.args.disk.now) (read_fault at (length slot)) (d.history c.read_at.new.self)) c.offset_of.ensures (w.answered h)),
       fault,
     )
 
@@ -48,6 +48,6 @@ returns-clause-read g c =
     c.verdict_of.ensures ∙ ap (λ o. verdict_of o c.digest_slot-found.result) c.known.ensures ∙ ap (verdict_of (value_at dig k 0 i)) found in (
       given i (take count slot),
       one_given d.history d.honest d.faults k.file_length i c.args.disk.now c.read_at.new.self slot count (size ∙ place) w.counted w.as_honest
-          (λ h. subst (λ at. IsAnswered (d.history c.args.disk.now) (bytes_given at (length slot) (take count slot)) (d.history c.read_at.new.self)) c.place_of.ensures (w.answered h)),
+          (λ h. subst (λ at. IsAnswered (d.history c.args.disk.now) (bytes_given at (length slot) (take count slot)) (d.history c.read_at.new.self)) c.offset_of.ensures (w.answered h)),
       rw verdict (given_comes dig k i (slot ++ rest) count slot w.within (take-append-le count slot rest w.within)),
     )
