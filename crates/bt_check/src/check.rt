@@ -16,7 +16,7 @@ use crate::output::print;
 use crate::pieces::PieceSize;
 use crate::report::{FileFinding, Summary, last_words, write_line};
 use bt_disk::Disk;
-use bt_meta::{MetaError, Torrent};
+use bt_meta::{Torrent, layers_are_of_trees};
 use bt_progress::{FileCall, Watch};
 use std::alloc::Global;
 use std::io::Write;
@@ -39,7 +39,11 @@ pub fn check_torrent<R: Files + AllocGlobal + Clone + Drop, P: Watch, W: Write>(
         × Appends (W.contents writer.old) (W.contents writer.new) (report_text found)) }
     ensures fault { IfErr result (λ fault. (fault ≡ device) ⊎ (fault ≡ out_of_memory)) }
 {
-    let size = PieceSize::new(torrent.piece_length()).ok_or(MetaError::PieceLength)?;
+    // A torrent that was read has a lawful piece length, and its layers are those of its files.
+    let Some(size) = PieceSize::new(torrent.piece_length()) else {
+        unreachable!();
+    };
+    layers_are_of_trees();
     watch.begin(FileCall::Read);
     let files = open_data_files(rt, watch, dir, torrent.files())?;
     if are_absent(&files) {
