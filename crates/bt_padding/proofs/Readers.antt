@@ -1,8 +1,9 @@
 -- What a reader takes of the one behind it, and what it gives of that.
-use Rattle.std.proofs.Common.{◌≡◌, ◌≤◌, ℕ, List, [], ◌++◌, take, drop, length, Option, sym, ◌∙◌, ap, arith, subst, length-drop}
+use Rattle.std.proofs.Common.{◌≡◌, ◌≤◌, ℕ, List, [], ◌++◌, take, drop, length, Option, refl, sym, ◌∙◌, ap, arith, subst, length-drop}
 use Rattle.std.proofs.lemmas.List.{drop_all}
+use Rattle.std.proofs.KnownBytes.{Keeps-refl}
 use Rattle.std.specs.Io.KnownBytes.{IsAtEnd}
-use Rattle.bt_padding.specs.Reader.{ReaderState, IsFilled, IsGiven, IsRead}
+use Rattle.bt_padding.specs.Reader.{ReaderState, IsFilled, IsGiven, IsRead, LosesNothing, IsInterrupted}
 
 -- nothing waits just where all is given
 pub all_given : (given : ℕ) (bytes : List ℕ) → given ≡ length bytes → drop given bytes ≡ []
@@ -24,4 +25,16 @@ module _ {R : Type 0} (remaining : R → Option (List ℕ)) where
         let nothing : filled.waiting ≡ [] = gives.first ∙ ap (λ n. take n buffer ++ new.waiting) none ∙ rest in
         let same : new.inner ≡ filled.inner = ap (λ (r : ReaderState R). r.inner) gives.others in
         subst (λ (i : R). IsAtEnd (remaining i)) (sym same) (fills.ended nothing);
+  }
+
+  -- where nothing is given, what was filled waits
+  pub nothing_given : (old filled new : ReaderState R) → IsFilled remaining old filled → new ≡ filled → IsInterrupted remaining old new
+  nothing_given old filled new fills same = record {
+    came = fills.came;
+    mid = filled;
+    takes = fills.takes;
+    loses_nothing = subst (λ (r : ReaderState R). LosesNothing remaining filled r) (sym same) (record {
+      kept = Keeps-refl (remaining filled.inner);
+      others = refl;
+    });
   }

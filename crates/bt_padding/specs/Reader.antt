@@ -1,6 +1,6 @@
 -- What a peer sends, read as its engine is to get it.
-use Rattle.std.specs.Prelude.{◌≡◌, ℕ, ◌<◌, List, [], ◌++◌, Option, length, take}
-use Rattle.std.specs.Io.KnownBytes.{Consumes, IsAtEnd}
+use Rattle.std.specs.Prelude.{◌≡◌, ℕ, ◌<◌, ◌≤◌, List, [], ◌++◌, Option, length, take}
+use Rattle.std.specs.Io.KnownBytes.{Consumes, IsAtEnd, Keeps}
 use Rattle.bt_wire.specs.Cutter.{Stream, new_stream}
 use Rattle.bt_meta.specs.Torrent.{Metainfo}
 use Rattle.bt_padding.specs.declared.translation.Side.TheVariants.{Peer}
@@ -17,9 +17,14 @@ abbrev pub new_reader : {R : Type 0} → R → Metainfo → ReaderState R
 new_reader inner torrent =
     record { inner = inner; torrent = torrent; stream = new_stream; waiting = [] }
 
+-- how many bytes the reader behind gives at most at a time: fewer requests of 17 bytes than are remembered
+abbrev pub read_length : ℕ
+read_length = 16384
+
 -- the reader behind gave these bytes, and what is given on of them waits
 pub record TakesPart {R : Type 0} (remaining : R → Option (List ℕ)) (old : ReaderState R) (part : List ℕ)
     (new : ReaderState R) : Type 0 where
+  pub few : length part ≤ read_length
   pub lost : Consumes (remaining old.inner) (remaining new.inner) part
   pub receives : ReceivesShared old.torrent Peer old.stream part new.stream old.waiting new.waiting
   pub torrent : new.torrent ≡ old.torrent
@@ -51,3 +56,17 @@ pub record IsRead {R : Type 0} (remaining : R → Option (List ℕ)) (old : Read
   pub fills : IsFilled remaining old filled
   pub gives : IsGiven filled count buffer new
   pub ended : count ≡ 0 → 0 < length buffer → IsAtEnd (remaining new.inner)
+
+-- the reader behind keeps its bytes, and all else is as it was
+pub record LosesNothing {R : Type 0} (remaining : R → Option (List ℕ)) (old new : ReaderState R)
+    : Type 0 where
+  pub kept : Keeps (remaining old.inner) (remaining new.inner)
+  pub others : new ≡ record old { inner = new.inner }
+
+-- What an interrupted read leaves, after which a caller reads again: what came before waits, all of it.
+pub record IsInterrupted {R : Type 0} (remaining : R → Option (List ℕ)) (old new : ReaderState R)
+    : Type 0 where
+  pub came : List ℕ
+  pub mid : ReaderState R
+  pub takes : TakesParts remaining old came mid
+  pub loses_nothing : LosesNothing remaining mid new

@@ -1,7 +1,7 @@
 //! One direction of a connection, cut into events, each with the bytes that spell it.
-ghost use Rattle.std.specs.Prelude.{◌≡◌, ◌+◌, ◌-◌, ◌≤◌, ℕ, Bool, List, ◌++◌, length, take, drop, IfOk, IfErr, OnOk, OnErr};
+ghost use Rattle.std.specs.Prelude.{◌≡◌, ◌+◌, ◌-◌, ◌≤◌, ℕ, Bool, false, List, ◌++◌, length, take, drop, IfOk, IfErr, OnOk, OnErr};
 ghost use Rattle.bt_wire.specs.Event.{IsEvent};
-ghost use Rattle.bt_wire.specs.Cutter.{new_stream, fed, IsRefusal};
+ghost use Rattle.bt_wire.specs.Cutter.{new_stream, fed, IsRefusal, IsFeedRefusal};
 ghost use Rattle.bt_padding.specs.Half.{new_half, IsTold};
 
 use bt_hashreq::number_at;
@@ -53,11 +53,16 @@ impl Half {
 
     /// Puts bytes behind the unread ones, all or none.
     ///
-    /// Errors: `Failed` after `next` returned a fault of the stream; `OutOfMemory`.
+    /// Errors: `Failed` after `next` returned a fault of the stream; `OutOfMemory`. Neither changes the stream.
     pub fn feed(&mut self, bytes: &[u8]) -> Result<(), WireError>
         ensures fed { OnOk result (self.new.stream ≡ fed self.old.stream bytes.now) }
+        ensures running { OnOk result (self.old.stream.failed ≡ false) }
+        ensures refused { IfErr result (IsFeedRefusal self.old.stream) }
         ensures kept { OnErr result (self.new.stream ≡ self.old.stream) }
     {
+        if self.failed {
+            return Err(WireError::Failed);
+        }
         self.last = 0;
         self.start = drop_taken(&mut self.bytes, self.start);
         let len = self.bytes.len();

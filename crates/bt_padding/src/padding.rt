@@ -15,8 +15,8 @@ use std::marker::Model;
 /// How many requests are remembered at most.
 const MAX_REMEMBERED: usize = 1024;
 
-/// What is remembered of a peer: the requests for padded blocks that were given on and not answered yet, and
-/// whether it is asked for padded blocks.
+/// What is remembered of a peer: its requests for padded blocks, shortened as they were given on, that are
+/// not answered yet; and whether it is asked for padded blocks.
 #[derive(Drop)]
 pub struct Padding {
     /// The requests as they were given on, from the oldest on.

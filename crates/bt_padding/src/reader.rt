@@ -1,8 +1,9 @@
 //! What a peer sends, read as its engine is to get it.
-ghost use Rattle.std.specs.Prelude.{◌≡◌, ◌↔◌, [], None, IfOk, IsTrue, OnOk};
+ghost use Rattle.std.specs.Prelude.{◌≡◌, ◌↔◌, [], None, IfOk, IfErr, IsTrue, OnOk, OnErr};
 ghost use Rattle.std.specs.Io.{ReadsAtMost};
 ghost use Rattle.std.specs.Io.KnownBytes.{ReadConsumes};
-ghost use Rattle.bt_padding.specs.Reader.{new_reader, IsFilled, IsGiven, IsRead};
+ghost use Rattle.std.specs.IoError.{error_kind};
+ghost use Rattle.bt_padding.specs.Reader.{new_reader, IsFilled, IsGiven, IsRead, LosesNothing, IsInterrupted};
 ghost use Rattle.bt_padding.specs.ReaderSteps.{IsRefilled};
 
 use crate::half::Half;
@@ -16,8 +17,8 @@ use std::io;
 use std::io::{ErrorKind, Read};
 use std::marker::Model;
 
-/// The reader behind is asked for so many bytes at a time. These hold fewer requests than are remembered, so
-/// none is forgotten before its engine gets it.
+/// The reader behind is asked for so many bytes at a time (`read_length`). These hold fewer requests than are
+/// remembered, so none is forgotten before its engine gets it.
 const READ_LEN: usize = 16384;
 
 /// A reader of what a peer sends, which gives what its engine is to get of it. What it remembers of the peer
@@ -82,6 +83,7 @@ impl<'a, R> PaddedReader<'a, R> {
     fn give(&mut self, buffer: &mut [u8]) -> io::Result<usize>
         ensures bound { ReadsAtMost result buffer.new }
         ensures given { IfOk result (λ count. IsGiven self.old count buffer.new self.new) }
+        ensures kept { OnErr result (self.new ≡ self.old) }
     {
         let mut waiting = &self.outgoing[self.given..];
         let count = waiting.read(buffer)?;
@@ -91,10 +93,13 @@ impl<'a, R> PaddedReader<'a, R> {
 }
 
 impl<'a, R: Read> PaddedReader<'a, R> {
-    /// Reads once, and translates what came: how many bytes these were, none at the end.
+    /// Reads once, and translates what came: how many bytes these were, none at the end. Errors: those of the
+    /// reader behind, of which Interrupted changes nothing; out of memory.
     fn refill(&mut self) -> io::Result<usize>
         requires { self.old.waiting ≡ [] }
-        ensures { IfOk result (λ count. IsRefilled R.remaining self.old count self.new) }
+        ensures given { IfOk result (λ count. IsRefilled R.remaining self.old count self.new) }
+        ensures again { IfErr result (λ error. error_kind error ≡ ErrorKind.Interrupted
+            → LosesNothing R.remaining self.old self.new) }
     {
         self.outgoing.clear();
         self.given = 0;
@@ -111,9 +116,11 @@ impl<'a, R: Read> PaddedReader<'a, R> {
         Ok(count)
     }
 
-    /// Reads until something waits to be given, or to the end.
+    /// Reads until something waits to be given, or to the end. Errors: those of `refill`.
     fn fill(&mut self) -> io::Result<()>
-        ensures { OnOk result (IsFilled R.remaining self.old self.new) }
+        ensures filled { OnOk result (IsFilled R.remaining self.old self.new) }
+        ensures again { IfErr result (λ error. error_kind error ≡ ErrorKind.Interrupted
+            → IsInterrupted R.remaining self.old self.new) }
     {
         // A bound, so that it ends whatever the system gives.
         for _ in 0..u64::MAX {
@@ -124,17 +131,20 @@ impl<'a, R: Read> PaddedReader<'a, R> {
                 return Ok(());
             }
         }
-        Err(io::Error::from(ErrorKind::Interrupted))
+        Err(io::Error::from(ErrorKind::TimedOut))
     }
 }
 
 // What is to come depends on what is remembered by then, so it is not known.
 impl<'a, R: Read> Read for PaddedReader<'a, R> {
-    /// Errors: those of the reader behind; out of memory.
+    /// Errors: those of the reader behind; out of memory. After Interrupted the read may be made again, and
+    /// nothing is lost.
     fn read(&mut self, buffer: &mut [u8]) -> io::Result<usize>
         ensures bound { ReadsAtMost result buffer.new }
         ensures bytes { ReadConsumes None None result buffer.new }
         ensures given { IfOk result (λ count. IsRead R.remaining self.old count buffer.new self.new) }
+        ensures again { IfErr result (λ error. error_kind error ≡ ErrorKind.Interrupted
+            → IsInterrupted R.remaining self.old self.new) }
     {
         self.fill()?;
         self.give(buffer)

@@ -34,7 +34,7 @@ pub fn translate(
     side: Side,
     bytes: &[u8],
     out: &mut Vec<u8>,
-) -> Result<(), WireError>
+) -> Result<(), AllocError>
     ensures { OnOk result (Receives torrent.now side (place padding.old half.old.stream) bytes.now
         (place padding.new half.new.stream) out.old.items out.new.items) }
 {
@@ -42,12 +42,16 @@ pub fn translate(
         out.extend_from_slice(bytes)?;
         return Ok(());
     }
-    half.feed(bytes)?;
+    // The stream has not failed, so it is memory that is refused.
+    let Ok(()) = half.feed(bytes) else {
+        return Err(AllocError);
+    };
     while step(alloc, padding, half, torrent, side, out)? {}
     Ok(())
 }
 
-/// Gives on one event: false where none is whole, or where a fault shows, behind which all goes on.
+/// Gives on one event: false where none is whole, or where a fault shows, behind which all goes on. Errors:
+/// out of memory; or the stream has failed before, which its caller looks at first.
 fn step(
     alloc: Global,
     padding: &mut Padding,
@@ -55,7 +59,7 @@ fn step(
     torrent: &Torrent,
     side: Side,
     out: &mut Vec<u8>,
-) -> Result<bool, WireError>
+) -> Result<bool, AllocError>
     ensures { IfOk result (λ more. IsStep torrent.now side (place padding.old half.old.stream) more
         (place padding.new half.new.stream) out.old.items out.new.items) }
 {
@@ -65,8 +69,7 @@ fn step(
             Ok(true)
         }
         Ok(None) => Ok(false),
-        Err(WireError::OutOfMemory) => Err(WireError::OutOfMemory),
-        Err(WireError::Failed) => Err(WireError::Failed),
+        Err(WireError::OutOfMemory | WireError::Failed) => Err(AllocError),
         Err(_) => {
             out.extend_from_slice(half.unread())?;
             Ok(false)
