@@ -1,5 +1,5 @@
 -- Lemmas on the devices of a torrent's files, file by file.
-use Rattle.std.proofs.Common.{◌≡◌, ◌≢◌, ℕ, suc, ◌+◌, ◌<◌, true, List, [], ◌∷◌, ◌++◌, length, map, take, get_or, nat_lt, refl, sym, ap, ◌∙◌, add-zero, append-nil, length-append, arith}
+use Rattle.std.proofs.Common.{◌≡◌, ◌≢◌, ℕ, suc, ◌+◌, ◌<◌, true, List, [], ◌∷◌, ◌++◌, length, map, take, get_or, nat_lt, Option, Some, None, refl, sym, ap, ◌∙◌, add-zero, append-nil, length-append, arith}
 use Rattle.std.specs.List.{enumerate_from}
 use Rattle.std.proofs.lemmas.Bool.{lt-ltb}
 use Rattle.std.proofs.lemmas.List.{length-map, map-append, take_more}
@@ -13,6 +13,7 @@ use Rattle.bt_meta.specs.declared.torrent.FileEntry.{FileEntry}
 use Rattle.bt_machine.specs.Start.{device_count}
 use Rattle.bt_check.specs.Paths.{path_below}
 use Rattle.bt_transfer.specs.DataFiles.{device_paths, files_with_bytes, new_device, new_devices}
+use Rattle.bt_transfer.specs.DataFilesSteps.{IsOpenedFor, IsPushed}
 
 pub enumerate_from-append : {X : Type 0} (n : ℕ) (xs ys : List X)
     → enumerate_from n (xs ++ ys) ≡ enumerate_from n xs ++ enumerate_from (n + length xs) ys
@@ -76,34 +77,29 @@ files_more entries i entry lt at =
 zero_below : (n : ℕ) → n ≢ 0 → nat_lt 0 n ≡ true
 zero_below n some = lt-ltb 0 n (omega (arith, some))
 
-device_is : (disk : PooledView) (number : ℕ) (path : List ℕ) → disk.number ≡ number → disk.path ≡ path → disk.access ≡ writing → disk.failed ≡ 0
-    → disk ≡ new_device number path
+-- the device that a pool opened
+pub device_is : (disk : PooledView) (number : ℕ) (path : List ℕ) → disk.number ≡ number → disk.path ≡ path → disk.access ≡ writing
+    → disk.failed ≡ 0 → disk ≡ new_device number path
 device_is disk number path a b c d = λ k. record { number = a k; path = b k; access = c k; failed = d k }
 
--- an empty entry was passed
-pub opened_empty : (dir : List ℕ) (entries : List FileEntry) (i : ℕ) (entry : FileEntry) (disks after : List PooledView) (made now : ℕ)
-    → i < length entries → entry ≡ get_or entries i entry → entry.length ≡ 0
-    → disks ≡ new_devices dir (map file_of (take i entries)) → made ≡ length disks → after ≡ disks → now ≡ made
+-- An entry was passed: an empty one has no device, and that of another was put behind those before.
+pub opened_more : (dir : List ℕ) (entries : List FileEntry) (i : ℕ) (entry : FileEntry) (disks after : List PooledView) (made now : ℕ)
+    (found : Option PooledView) → i < length entries → entry ≡ get_or entries i entry
+    → disks ≡ new_devices dir (map file_of (take i entries)) → made ≡ length disks
+    → IsOpenedFor dir (file_of entry) made found now → IsPushed disks found after
     → (after ≡ new_devices dir (map file_of (take (i + 1) entries))) × (now ≡ length after)
-opened_empty dir entries i entry disks after made now lt at empty are all same kept =
+opened_more dir entries i entry disks after made now None lt at are all opened same =
     let files = map file_of (take i entries) in (
-      same ∙ are ∙ sym (ap (new_devices dir) (files_more entries i entry lt at) ∙ empty_has_none dir files (file_of entry) empty),
-      kept ∙ all ∙ ap length (sym same),
+      same ∙ are ∙ sym (ap (new_devices dir) (files_more entries i entry lt at) ∙ empty_has_none dir files (file_of entry) opened.0),
+      opened.1 ∙ all ∙ ap length (sym same),
     )
-
--- the device of another was put behind those before
-pub opened_more : (dir : List ℕ) (entries : List FileEntry) (i : ℕ) (entry : FileEntry) (disks after : List PooledView) (made now : ℕ) (disk : PooledView)
-    → i < length entries → entry ≡ get_or entries i entry → entry.length ≢ 0
-    → disks ≡ new_devices dir (map file_of (take i entries)) → made ≡ length disks → after ≡ disks ++ disk ∷ [] → now ≡ made + 1
-    → disk.number ≡ now → disk.path ≡ path_below dir (file_of entry).path → disk.access ≡ writing → disk.failed ≡ 0
-    → (after ≡ new_devices dir (map file_of (take (i + 1) entries))) × (now ≡ length after)
-opened_more dir entries i entry disks after made now disk lt at some are all pushed next number path access failed =
+opened_more dir entries i entry disks after made now (Some disk) lt at are all opened pushed =
     let files = map file_of (take i entries) in
     let size = ap length are in
+    let next : now ≡ made + 1 = opened.1 in
     let last : now ≡ suc (length (new_devices dir files)) = omega (arith, next, all, size) in
-    let is : disk ≡ new_device now (path_below dir (file_of entry).path) = device_is disk _ _ number path access failed in
     let longer : length (disks ++ disk ∷ []) ≡ length disks + 1 = length-append disks (disk ∷ []) in (
-      pushed ∙ ap (λ ds. ds ++ disk ∷ []) are ∙ ap (λ d. new_devices dir files ++ d ∷ []) is
-          ∙ sym (ap (new_devices dir) (files_more entries i entry lt at) ∙ next_device dir files (file_of entry) now (zero_below _ some) last),
+      pushed ∙ ap (λ ds. ds ++ disk ∷ []) are ∙ ap (λ d. new_devices dir files ++ d ∷ []) opened.2
+          ∙ sym (ap (new_devices dir) (files_more entries i entry lt at) ∙ next_device dir files (file_of entry) now (zero_below _ opened.0) last),
       next ∙ ap (λ n. n + 1) all ∙ sym longer ∙ ap length (sym pushed),
     )

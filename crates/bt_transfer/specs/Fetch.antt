@@ -30,13 +30,19 @@ pub record HasFetched {D L : Type 0} (Try : Trial D L) (history : D → History)
 abbrev pub links_of : List Peer → List Dials
 links_of peers = map (λ peer. undialled peer.host.now peer.port) peers
 
+-- The same over a new link to each of the peers.
+pub record HasFetchedOverTcp {D : Type 0} (history : D → History) (honest : D → Type 0) (faults : D → ℕ)
+    (dig : List ℕ → List ℕ) (peers : List Peer) (old : EngineView D) (before after : Option (List ℕ))
+    (status : ℕ) (new : EngineView D) : Type 0 where
+  pub rest : List Dials
+  pub fetched : HasFetched (TriesOverTcp history honest faults dig) history honest faults dig peers
+      old (links_of peers) before after status rest new
+
 -- The store of a torrent of some text was opened in a folder, and the rest was fetched from the peers.
 pub record IsFetch (is_info : Bool) (dir : List ℕ) (peers : List Peer) (before after : Option (List ℕ))
     (status : ℕ) : Type 0 where
   pub store : EngineView PooledView
   pub loaded : IsLoaded is_info dir store
-  pub rest : List Dials
   pub last : EngineView PooledView
-  pub fetched : HasFetched (TriesOverTcp pooled_history pooled_honest pooled_faults sha256)
-      pooled_history pooled_honest pooled_faults sha256 peers store (links_of peers)
-      before after status rest last
+  pub fetched : HasFetchedOverTcp pooled_history pooled_honest pooled_faults sha256 peers store
+      before after status last

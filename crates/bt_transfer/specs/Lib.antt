@@ -1,4 +1,5 @@
 pub mod DataFiles
+pub mod DataFilesSteps
 pub mod Adoption
 pub mod Store
 pub mod Report

@@ -37,14 +37,20 @@ HasServedAll history honest faults dig Forever old before after new =
 abbrev pub listening_line : ℕ → List ℕ
 listening_line port = line_text (codes "listening " ++ decimal port)
 
+-- the port of a listener was told, and then connections were served
+pub record HasListened {D : Type 0} (history : D → History) (honest : D → Type 0) (faults : D → ℕ)
+    (dig : List ℕ → List ℕ) (serving : Serving) (old : EngineView D) (before after : Option (List ℕ))
+    (new : EngineView D) : Type 0 where
+  pub port : ℕ
+  pub told : Option (List ℕ)
+  pub listening : Appends before told (listening_line port)
+  pub served : HasServedAll history honest faults dig serving old told after new
+
 -- The store of a torrent of some text was opened in a folder, the port is told, and connections were served.
 pub record IsSeed (is_info : Bool) (dir : List ℕ) (serving : Serving) (before after : Option (List ℕ))
     (status : ℕ) : Type 0 where
   pub store : EngineView PooledView
   pub loaded : IsLoaded is_info dir store
-  pub port : ℕ
-  pub told : Option (List ℕ)
-  pub listening : Appends before told (listening_line port)
   pub last : EngineView PooledView
-  pub served : HasServedAll pooled_history pooled_honest pooled_faults sha256 serving store told after last
+  pub listened : HasListened pooled_history pooled_honest pooled_faults sha256 serving store before after last
   pub done : status ≡ 0

@@ -5,17 +5,15 @@ ghost use Rattle.bt_check.specs.Fault.{device, out_of_memory};
 ghost use Rattle.bt_transfer.specs.Connections.{HasServed, MeetsAndSyncs, served_line};
 ghost use Rattle.bt_transfer.specs.OverTcp.{MeetsOverTcp};
 
+use crate::reception::Reception;
 use crate::store::finish;
 use bt_check::{Fault, print};
 use bt_disk::Disk;
 use bt_engine::Engine;
-use bt_meta::Torrent;
-use bt_padding::Padding;
 use bt_peers::{PeerEnd, end_text};
 use bt_sockets::{IDLE_SECONDS, serve};
 use bt_tree::NodeHash;
 use std::alloc::{AllocError, Global};
-use std::cell::RefCell;
 use std::io::Write;
 use std::net::Net;
 use std::time::Duration;
@@ -23,12 +21,9 @@ use std::time::Duration;
 /// Serves so many connections, one after the other, and writes how it ended with each.
 pub(crate) fn serve_count<D: Disk + Drop, H: NodeHash, N: Net, W: Write>(
     alloc: Global,
-    net: &N,
+    reception: &Reception<'_, N>,
     engine: &mut Engine<D, H>,
-    listener: &N::Listener,
     count: u32,
-    torrent: &Torrent,
-    padding: &RefCell<Padding>,
     writer: &mut W,
 ) -> Result<(), Fault>
     requires no_peer { engine.old.state.peers ≡ [] }
@@ -38,7 +33,7 @@ pub(crate) fn serve_count<D: Disk + Drop, H: NodeHash, N: Net, W: Write>(
 {
     for number in 0..count {
         let next = u64::from(number) + 1;
-        serve_next(alloc, net, engine, listener, next, torrent, padding, writer)?;
+        serve_next(alloc, reception, engine, next, writer)?;
     }
     Ok(())
 }
@@ -47,11 +42,8 @@ pub(crate) fn serve_count<D: Disk + Drop, H: NodeHash, N: Net, W: Write>(
 /// then has all put on the devices.
 pub(crate) fn serve_forever<D: Disk + Drop, H: NodeHash, N: Net, W: Write>(
     alloc: Global,
-    net: &N,
+    reception: &Reception<'_, N>,
     engine: &mut Engine<D, H>,
-    listener: &N::Listener,
-    torrent: &Torrent,
-    padding: &RefCell<Padding>,
     writer: &mut W,
 ) -> Result<(), Fault>
     requires no_peer { engine.old.state.peers ≡ [] }
@@ -61,7 +53,7 @@ pub(crate) fn serve_forever<D: Disk + Drop, H: NodeHash, N: Net, W: Write>(
 {
     for number in 0..u64::MAX {
         let next = number + 1;
-        serve_and_sync(alloc, net, engine, listener, next, torrent, padding, writer)?;
+        serve_and_sync(alloc, reception, engine, next, writer)?;
     }
     Ok(())
 }
@@ -71,12 +63,9 @@ pub(crate) fn serve_forever<D: Disk + Drop, H: NodeHash, N: Net, W: Write>(
 #[tactic(auto, using(crate::proofs::ConnectionLines::flush_keeps_peers))]
 fn serve_and_sync<D: Disk + Drop, H: NodeHash, N: Net, W: Write>(
     alloc: Global,
-    net: &N,
+    reception: &Reception<'_, N>,
     engine: &mut Engine<D, H>,
-    listener: &N::Listener,
     number: u64,
-    torrent: &Torrent,
-    padding: &RefCell<Padding>,
     writer: &mut W,
 ) -> Result<PeerEnd, Fault>
     requires no_peer { engine.old.state.peers ≡ [] }
@@ -87,9 +76,7 @@ fn serve_and_sync<D: Disk + Drop, H: NodeHash, N: Net, W: Write>(
     ensures gone { OnOk result (engine.new.state.peers ≡ []) }
     ensures fault { IfErr result (λ fault. (fault ≡ device) ⊎ (fault ≡ out_of_memory)) }
 {
-    let end = serve_next(
-        alloc, net, engine, listener, number, torrent, padding, writer,
-    )?;
+    let end = serve_next(alloc, reception, engine, number, writer)?;
     finish(engine)?;
     Ok(end)
 }
@@ -98,12 +85,9 @@ fn serve_and_sync<D: Disk + Drop, H: NodeHash, N: Net, W: Write>(
 /// writer failed; out of memory.
 fn serve_next<D: Disk + Drop, H: NodeHash, N: Net, W: Write>(
     alloc: Global,
-    net: &N,
+    reception: &Reception<'_, N>,
     engine: &mut Engine<D, H>,
-    listener: &N::Listener,
     number: u64,
-    torrent: &Torrent,
-    padding: &RefCell<Padding>,
     writer: &mut W,
 ) -> Result<PeerEnd, Fault>
     requires no_peer { engine.old.state.peers ≡ [] }
@@ -114,12 +98,50 @@ fn serve_next<D: Disk + Drop, H: NodeHash, N: Net, W: Write>(
     ensures gone { engine.new.state.peers ≡ [] }
     ensures fault { IfErr result (λ fault. (fault ≡ device) ⊎ (fault ≡ out_of_memory)) }
 {
+    let end = serve_one(alloc, reception, engine)?;
+    tell_served(alloc, number, end, writer)?;
+    Ok(end)
+}
+
+/// Serves a connection. Errors: none could be taken.
+fn serve_one<D: Disk + Drop, H: NodeHash, N: Net>(
+    alloc: Global,
+    reception: &Reception<'_, N>,
+    engine: &mut Engine<D, H>,
+) -> Result<PeerEnd, Fault>
+    requires no_peer { engine.old.state.peers ≡ [] }
+    ensures served { IfOk result
+        (λ end. MeetsOverTcp D.history D.honest D.faults H.digest engine.old end engine.new) }
+    ensures gone { engine.new.state.peers ≡ [] }
+    ensures fault { IfErr result (λ fault. fault ≡ device) }
+{
     let idle = Duration::from_secs(IDLE_SECONDS);
-    let end = serve(net, alloc, engine, listener, idle, torrent, padding)?;
+    let end = serve(
+        reception.net,
+        alloc,
+        engine,
+        reception.listener,
+        idle,
+        reception.torrent,
+        reception.padding,
+    )?;
+    Ok(end)
+}
+
+/// Writes how it ended with the connection of a number.
+fn tell_served<W: Write>(
+    alloc: Global,
+    number: u64,
+    end: PeerEnd,
+    writer: &mut W,
+) -> Result<(), Fault>
+    ensures told { OnOk result
+        (Appends (W.contents writer.old) (W.contents writer.new) (served_line number end)) }
+    ensures fault { IfErr result (λ fault. (fault ≡ device) ⊎ (fault ≡ out_of_memory)) }
+{
     let mut line = String::new(alloc);
     push_line(&mut line, number, end)?;
-    print(writer, line.as_str())?;
-    Ok(end)
+    print(writer, line.as_str())
 }
 
 /// Adds the line of a connection.

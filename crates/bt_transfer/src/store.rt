@@ -17,27 +17,29 @@ use bt_disk::{Disk, PooledDisk};
 use bt_engine::{Engine, FlushError, StartError};
 use bt_lanes::Lanes;
 use bt_meta::Torrent;
+use bt_progress::{Watch, Watched};
 use bt_tree::NodeHash;
 use std::alloc::Global;
 use std::rt::Files;
 
 /// Opens the store of a torrent's files in a folder: missing folders and files are made, the files are opened
 /// in the order of the torrent, and then what they have is taken in. The first fault ends it.
-pub fn open_store<R: Files + AllocGlobal + Clone + Drop>(
+pub(crate) fn open_store<'a, R: Files + AllocGlobal + Clone + Drop, P: Watch>(
     rt: &R,
+    watch: &'a P,
     torrent: Torrent,
     dir: &str,
-) -> Result<Engine<PooledDisk<R>, Lanes>, Fault>
+) -> Result<Engine<Watched<'a, PooledDisk<R>, P>, Lanes>, Fault>
     ensures opened { IfOk result (HasBegun pooled_history pooled_honest pooled_faults sha256
         torrent (new_devices dir.now torrent.files)) }
     ensures fault { IfErr result (λ fault. (fault ≡ device) ⊎ (fault ≡ out_of_memory)) }
 {
-    let disks = open_devices(rt, dir, torrent.files())?;
+    let disks = open_devices(rt, watch, dir, torrent.files())?;
     begin(rt.alloc(), torrent, disks)
 }
 
 /// Starts an engine of a torrent over the devices of its files that have a byte, and takes in what they have.
-pub fn begin<D: Disk + Drop>(
+pub(crate) fn begin<D: Disk + Drop>(
     alloc: Global,
     torrent: Torrent,
     disks: Vec<D>,
@@ -59,7 +61,7 @@ pub fn begin<D: Disk + Drop>(
 }
 
 /// Has all that was written put on the devices. Errors: a device failed.
-pub fn finish<D: Disk + Drop, H: NodeHash>(engine: &mut Engine<D, H>) -> Result<(), Fault>
+pub(crate) fn finish<D: Disk + Drop, H: NodeHash>(engine: &mut Engine<D, H>) -> Result<(), Fault>
     ensures flushed { OnOk result
         (StepsTo D.history D.honest D.faults H.digest engine.old Flush (Flushed (Ok tt)) engine.new) }
     ensures failed { IfErr result (λ _.

@@ -4,9 +4,10 @@ ghost use Rattle.std.specs.Io.KnownBytes.{Keeps};
 ghost use Rattle.bt_check.specs.Fault.{device, out_of_memory, status_of};
 ghost use Rattle.bt_check.specs.TorrentFile.{IsLoadFault};
 ghost use Rattle.bt_peers.specs.Peers.{IsTried};
-ghost use Rattle.bt_transfer.specs.Fetch.{HasFetched, IsFetch, links_of};
+ghost use Rattle.bt_transfer.specs.Fetch.{HasFetched, HasFetchedOverTcp, IsFetch, links_of};
 
 use crate::ending::conclude;
+use crate::lacking::begin_fetching;
 use crate::loading::load_store;
 use crate::peer::Peer;
 use crate::peer_lines::write_peers;
@@ -16,6 +17,7 @@ use bt_engine::Engine;
 use bt_meta::Torrent;
 use bt_padding::Padding;
 use bt_peers::{Link, PeerEnd, run_peers};
+use bt_progress::Watch;
 use bt_sockets::{IDLE_SECONDS, SESSION_TURNS, TcpLink};
 use bt_tree::NodeHash;
 use std::alloc::{AllocError, Global};
@@ -29,10 +31,13 @@ use std::time::Duration;
 /// files are complete; writes how it ended with each that was tried; has all put on the devices; and reports.
 /// The answer is the status of the program: 0 where all files are complete, else 1.
 ///
+/// It is told how much is read of what the files have, and then how much is written of what they lack.
+///
 /// Errors: the torrent is refused, and then nothing is written; a device or the writer failed; out of memory.
-pub fn fetch<R: Files + AllocGlobal + Clone + Drop, N: Net, W: Write>(
+pub fn fetch<R: Files + AllocGlobal + Clone + Drop, N: Net, P: Watch, W: Write>(
     rt: &R,
     net: &N,
+    watch: &P,
     source: Source<'_>,
     dir: &str,
     peers: &[Peer<'_>],
@@ -44,17 +49,29 @@ pub fn fetch<R: Files + AllocGlobal + Clone + Drop, N: Net, W: Write>(
     ensures refused { IfErr result
         (λ fault. status_of fault ≡ 2 → Keeps (W.contents writer.old) (W.contents writer.new)) }
 {
-    let (mut engine, torrent) = load_store(rt, source, dir)?;
-    let padding = RefCell::new(Padding::new(rt.alloc())?);
-    let mut links = links_to(rt.alloc(), net, peers, &torrent, &padding)?;
-    let status = fetch_over(
-        rt.alloc(),
-        &mut engine,
-        peers,
-        &mut links,
-        SESSION_TURNS,
-        writer,
-    )?;
+    let (mut engine, torrent) = load_store(rt, watch, source, dir)?;
+    begin_fetching(watch, &engine);
+    let status = fetch_from(rt.alloc(), net, &mut engine, &torrent, peers, writer)?;
+    Ok(status)
+}
+
+/// Takes peers in turn, over TCP, until an engine of a torrent is complete, and tells of it as `fetch_over` does.
+fn fetch_from<D: Disk + Drop, H: NodeHash, N: Net, W: Write>(
+    alloc: Global,
+    net: &N,
+    engine: &mut Engine<D, H>,
+    torrent: &Torrent,
+    peers: &[Peer<'_>],
+    writer: &mut W,
+) -> Result<u8, Fault>
+    requires no_peer { engine.old.state.peers ≡ [] }
+    ensures fetched { IfOk result (λ status. HasFetchedOverTcp D.history D.honest D.faults H.digest peers.now
+        engine.old (W.contents writer.old) (W.contents writer.new) status engine.new) }
+    ensures fault { IfErr result (λ fault. (fault ≡ device) ⊎ (fault ≡ out_of_memory)) }
+{
+    let padding = RefCell::new(Padding::new(alloc)?);
+    let mut links = links_to(alloc, net, peers, torrent, &padding)?;
+    let status = fetch_over(alloc, engine, peers, &mut links, SESSION_TURNS, writer)?;
     Ok(status)
 }
 

@@ -3,23 +3,25 @@ ghost use Rattle.std.specs.Prelude.{[], ℕ, ◌≡◌, ◌⊎◌, ◌++◌, IfE
 ghost use Rattle.std.specs.Io.KnownBytes.{Appends, Keeps};
 ghost use Rattle.bt_check.specs.Fault.{device, out_of_memory, status_of};
 ghost use Rattle.bt_check.specs.TorrentFile.{IsLoadFault};
-ghost use Rattle.bt_transfer.specs.Seed.{HasServedAll, IsSeed, listening_line};
+ghost use Rattle.bt_transfer.specs.Seed.{HasListened, HasServedAll, IsSeed, listening_line};
 
 use crate::connections::{serve_count, serve_forever};
 use crate::loading::load_store;
 use crate::peer::{Service, Serving};
+use crate::reception::Reception;
 use crate::store::finish;
 use bt_check::{Fault, Source, print};
 use bt_disk::Disk;
 use bt_engine::Engine;
 use bt_meta::Torrent;
 use bt_padding::Padding;
+use bt_progress::{FileCall, Watch};
 use bt_sockets::{listen, port_of};
 use bt_tree::NodeHash;
 use std::alloc::{AllocError, Global};
 use std::cell::RefCell;
 use std::io::Write;
-use std::net::Net;
+use std::net::{Net, OpenListener};
 use std::rt::Files;
 
 /// Opens the store of a torrent's files in a folder, as `load_store` does; listens, and writes at which port;
@@ -27,11 +29,15 @@ use std::rt::Files;
 /// it ended. All is put on the devices behind the last, or behind each where no count is given. The answer is
 /// the status of the program, 0.
 ///
+/// It is told how much is read: first of what the files have, and then for peers, where it is not known how much
+/// that will be.
+///
 /// Errors: the torrent is refused, or the port can't be had, and then nothing is written; a device, the writer
 /// or the socket failed; out of memory.
-pub fn seed<R: Files + AllocGlobal + Clone + Drop, N: Net, W: Write>(
+pub fn seed<R: Files + AllocGlobal + Clone + Drop, N: Net, P: Watch, W: Write>(
     rt: &R,
     net: &N,
+    watch: &P,
     source: Source<'_>,
     dir: &str,
     service: Service<'_>,
@@ -43,26 +49,54 @@ pub fn seed<R: Files + AllocGlobal + Clone + Drop, N: Net, W: Write>(
     ensures refused { IfErr result
         (λ fault. status_of fault ≡ 2 → Keeps (W.contents writer.old) (W.contents writer.new)) }
 {
-    let (mut engine, torrent) = load_store(rt, source, dir)?;
-    let padding = RefCell::new(Padding::new(rt.alloc())?);
-    let listener = listen(net, service.address, service.port)?;
-    let port = port_of(&listener)?;
-    announce(rt.alloc(), port, writer)?;
-    serve_all(
-        rt.alloc(),
-        net,
-        &mut engine,
-        &listener,
-        service.serving,
-        &torrent,
-        &padding,
-        writer,
-    )?;
+    let (mut engine, torrent) = load_store(rt, watch, source, dir)?;
+    watch.begin(FileCall::Read);
+    listen_and_serve(rt.alloc(), net, &mut engine, &torrent, service, writer)?;
     Ok(0)
 }
 
+/// Listens, writes at which port, and serves connections to an engine of a torrent.
+fn listen_and_serve<D: Disk + Drop, H: NodeHash, N: Net, W: Write>(
+    alloc: Global,
+    net: &N,
+    engine: &mut Engine<D, H>,
+    torrent: &Torrent,
+    service: Service<'_>,
+    writer: &mut W,
+) -> Result<(), Fault>
+    requires no_peer { engine.old.state.peers ≡ [] }
+    ensures served { OnOk result (HasListened D.history D.honest D.faults H.digest service.entry.serving
+        engine.old (W.contents writer.old) (W.contents writer.new) engine.new) }
+    ensures fault { IfErr result (λ fault. (fault ≡ device) ⊎ (fault ≡ out_of_memory)) }
+{
+    let padding = RefCell::new(Padding::new(alloc)?);
+    let listener = listen(net, service.address, service.port)?;
+    announce(alloc, &listener, writer)?;
+    let reception = Reception {
+        net,
+        listener: &listener,
+        torrent,
+        padding: &padding,
+    };
+    serve_all(alloc, &reception, engine, service.serving, writer)
+}
+
 /// Writes at which port connections are waited for.
-fn announce<W: Write>(alloc: Global, port: u16, writer: &mut W) -> Result<(), Fault>
+fn announce<L: OpenListener, W: Write>(
+    alloc: Global,
+    listener: &L,
+    writer: &mut W,
+) -> Result<(), Fault>
+    ensures told { OnOk result ((port : ℕ)
+        × Appends (W.contents writer.old) (W.contents writer.new) (listening_line port)) }
+    ensures fault { IfErr result (λ fault. (fault ≡ device) ⊎ (fault ≡ out_of_memory)) }
+{
+    let port = port_of(listener)?;
+    tell_port(alloc, port, writer)
+}
+
+/// Writes the line of a port.
+fn tell_port<W: Write>(alloc: Global, port: u16, writer: &mut W) -> Result<(), Fault>
     ensures told { OnOk result
         (Appends (W.contents writer.old) (W.contents writer.new) (listening_line port)) }
     ensures fault { IfErr result (λ fault. (fault ≡ device) ⊎ (fault ≡ out_of_memory)) }
@@ -83,12 +117,9 @@ fn push_line(line: &mut String, port: u16) -> Result<(), AllocError>
 /// Serves as many connections as is said, and has all put on the devices.
 fn serve_all<D: Disk + Drop, H: NodeHash, N: Net, W: Write>(
     alloc: Global,
-    net: &N,
+    reception: &Reception<'_, N>,
     engine: &mut Engine<D, H>,
-    listener: &N::Listener,
     serving: Serving,
-    torrent: &Torrent,
-    padding: &RefCell<Padding>,
     writer: &mut W,
 ) -> Result<(), Fault>
     requires no_peer { engine.old.state.peers ≡ [] }
@@ -98,11 +129,9 @@ fn serve_all<D: Disk + Drop, H: NodeHash, N: Net, W: Write>(
 {
     match serving {
         Serving::Count(count) => {
-            serve_count(
-                alloc, net, engine, listener, count, torrent, padding, writer,
-            )?;
+            serve_count(alloc, reception, engine, count, writer)?;
             finish(engine)
         }
-        Serving::Forever => serve_forever(alloc, net, engine, listener, torrent, padding, writer),
+        Serving::Forever => serve_forever(alloc, reception, engine, writer),
     }
 }

@@ -1,5 +1,5 @@
 use Rattle.bt_transfer.proofs.OverTcp.{served_by_bytes}
-use Rattle.bt_transfer.proofs.connections.serve_next.Goals as goal
+use Rattle.bt_transfer.proofs.connections.serve_one.Goals as goal
 
 pub returns-clause-served : goal.returns-clause-served
 returns-clause-served g c =
