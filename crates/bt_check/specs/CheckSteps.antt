@@ -1,5 +1,5 @@
 -- Steps of a check of one file that only private functions cite.
-use Rattle.std.specs.Prelude.{◌≡◌, ℕ, ◌+◌, ◌*◌, ◌^◌, ◌<◌, ◌≤◌, ◌↔◌, List, Option, None, Some, length, map, IsTrue}
+use Rattle.std.specs.Prelude.{◌≡◌, ℕ, ◌+◌, ◌*◌, ◌^◌, ◌<◌, ◌≤◌, ◌↔◌, List, Option, None, Some, false, length, map, IsTrue}
 use Rattle.std.specs.List.{count_by, range_with_len}
 use Rattle.std.specs.Option.{option_or}
 use Rattle.bt_tree.specs.Blocks.{block_count}
@@ -9,7 +9,8 @@ use Rattle.bt_disk.specs.Calls.{HasCalls}
 use Rattle.bt_sparse.specs.SparseTree.{Facts, held_at}
 use Rattle.bt_store.specs.BlockReads.{BlockRead, block_of, call_of, fault_count}
 use Rattle.bt_check.specs.EntryCheck.{Answers, IsEntryCheck, is_node_read, leaf_read}
-use Rattle.bt_check.specs.Finding.{KnownLayer, is_right_block, piece_of, digest_of}
+use Rattle.bt_check.specs.Finding.{KnownLayer, IsFindingOf, is_right_block, piece_of, digest_of}
+use Rattle.bt_check.specs.declared.data_file.Finding.{Finding}
 use Rattle.bt_check.specs.declared.entry_check.BlockCheck.{BlockCheck}
 use Rattle.bt_check.specs.declared.entry_check.EntryCheck.{EntryCheck}
 
@@ -61,6 +62,13 @@ ChecksTree history honest faults tree disk check grown =
     → (answers : Answers)
     × IsEntryCheck history honest faults n known leaves disk answers check.disk check.finding
     × HoldsLeaves n known (leaves_after leaves answers.reads n known) grown
+
+-- and what is found of the bytes of a device that gives what was written
+abbrev pub FindsBytes : List ℕ → Facts → Finding → Type 0
+FindsBytes bytes tree finding =
+    let n = tree.file_length in
+    (known : KnownLayer) (leaves : ℕ → Option (List ℕ)) → HoldsLeaves n known leaves tree
+    → finding.faulty ≡ false → IsFindingOf bytes n known leaves finding
 
 -- something is known of a tree
 abbrev pub IsKnownTree : Facts → Type 0

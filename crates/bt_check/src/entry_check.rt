@@ -4,7 +4,7 @@ ghost use Rattle.bt_tree.specs.Blocks.{IsFileLength, block_count};
 ghost use Rattle.bt_tree.specs.Limits.{max_file_length};
 ghost use Rattle.bt_disk.specs.Calls.{HasCalls};
 ghost use Rattle.bt_meta.specs.Files.{file_of};
-ghost use Rattle.bt_check.specs.CheckSteps.{HoldsLeaves, ChecksBlocks, ChecksTree, IsKnownTree};
+ghost use Rattle.bt_check.specs.CheckSteps.{HoldsLeaves, ChecksBlocks, ChecksTree, FindsBytes, IsKnownTree};
 ghost use Rattle.bt_check.specs.EntryCheck.{Answers, IsCheckable, IsEntryCheck, len_call_of};
 ghost use Rattle.bt_check.specs.Finding.{KnownLayer, IsFindingOf, known_layer, no_leaves};
 
@@ -101,8 +101,10 @@ pub fn check_tree<D: Disk + Drop>(
     tree: &mut SparseTree<FileHash>,
 ) -> Result<EntryCheck<D>, AllocError>
     requires { IsKnownTree tree.old }
-    ensures { IfOk result
+    ensures answered { IfOk result
         (λ check. ChecksTree D.history D.honest D.faults tree.old disk check tree.new) }
+    ensures honest { D.honest disk
+        → IfOk result (λ check. FindsBytes (D.history disk).now.bytes tree.old check.finding) }
 {
     let mut disk = disk;
     let length = length_of(&mut disk);

@@ -30,7 +30,7 @@ pub returns-clause-answered : goal.returns-clause-answered
 returns-clause-answered g c =
     let holds = subst (λ n. HoldsLeaves n (known_layer c.args.size.layer (file_of c.args.entry.now)) no_leaves c.in_ok-tree.tree) c.in-Some.ensures.value
     c.in_ok-tree.ensures in
-    IfOk-weaker c.check_tree.result _ _ (λ check checks. let found = checked_at {check = check} checks holds in (found.0, found.1)) c.check_tree.ensures
+    IfOk-weaker c.check_tree.result _ _ (λ check checks. let found = checked_at {check = check} checks holds in (found.0, found.1)) c.check_tree.ensures.answered
 
 pub returns-clause-honest : goal.returns-clause-honest
 returns-clause-honest g c = λ honest.

@@ -31,7 +31,7 @@ returns g c =
     let some = (c.in-Some.ensures.lawful.0 refl).some in
     present_checked layer file c.args.kept.now c.insert.new.self c.in_ok-check.check.finding
     (λ before has.
-    let made = checked_at c.in_ok-check.ensures (c.in_ok-tree.ensures.tree before has some) in (
+    let made = checked_at c.in_ok-check.ensures.answered (c.in_ok-tree.ensures.tree before has some) in (
       made.0,
       made.1.found,
       tree_kept layer file c.args.kept.now c.insert.new.self c.in_ok-check.check.finding before made.0 _
