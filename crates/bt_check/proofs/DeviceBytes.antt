@@ -17,11 +17,12 @@ use Rattle.bt_disk.specs.History.{History}
 use Rattle.bt_disk.specs.Calls.{AreAnswered, HasCalls, IsAnswered}
 use Rattle.bt_store.specs.BlockReads.{BlockRead, given, failed, block_of, call_of, fault_count, is_fault}
 use Rattle.bt_store.specs.Adoption.{is_whole, claimed_digest}
-use Rattle.bt_check.specs.EntryCheck.{Answers, calls_of, len_call_of, leaves_read, reads_of_piece, is_piece_read, IsFindingBy}
-use Rattle.bt_check.specs.Finding.{KnownLayer, piece_blocks, has_known_piece, IsFindingOf}
-use Rattle.bt_check.specs.Pieces.{piece_start, piece_size}
+use Rattle.bt_check.specs.EntryCheck.{Answers, calls_of, len_call_of, leaves_read, reads_below, is_node_read, IsFindingBy}
+use Rattle.bt_check.specs.Finding.{KnownLayer, is_right_block, by_leaf, piece_of, digest_of, IsFindingOf}
+use Rattle.bt_check.specs.Pieces.{piece_start, piece_size, has_piece}
 use Rattle.bt_check.specs.declared.data_file.Finding.{Finding}
-use Rattle.bt_check.proofs.RightBlocks.{right_same_real, count_cons}
+use Rattle.bt_check.proofs.RightBlocks.{count_cons, count_same}
+use Rattle.bt_check.proofs.AdoptedGroups.{piece_begins}
 
 -- ---- the reads that a device with these bytes answers
 
@@ -135,24 +136,28 @@ claimed_whole : (n : ℕ) (bytes : List ℕ) (i : ℕ) → is_whole n (read_from
     → claimed_digest sha256 n (read_from n bytes i) ≡ sha256 (bytes_read n bytes i)
 claimed_whole n bytes i is = ap (λ t. cond t (sha256 (bytes_read n bytes i)) (padding_digest sha256 0)) is
 
-module _ (n : ℕ) (bytes : List ℕ) (layer : KnownLayer) (j : ℕ) (real : j * 2 ^ layer.layer < block_count n) where
-  piece_is : reads_of_piece (map (read_from n bytes) (range_with_len 0 (block_count n))) layer.layer j
-      ≡ map (read_from n bytes) (range_with_len (j * 2 ^ layer.layer) (piece_blocks n layer.layer j))
+-- how many blocks lie below a node
+abbrev blocks_below : ℕ → ℕ → ℕ → ℕ
+blocks_below n layer index = min (2 ^ layer) (block_count n - index * 2 ^ layer)
+
+module _ (n : ℕ) (bytes : List ℕ) (layer j : ℕ) (digest : List ℕ) (real : j * 2 ^ layer < block_count n) where
+  piece_is : reads_below (map (read_from n bytes) (range_with_len 0 (block_count n))) layer j
+      ≡ map (read_from n bytes) (range_with_len (j * 2 ^ layer) (blocks_below n layer j))
   piece_is =
       let f : ℕ → BlockRead = read_from n bytes in
-      let first : ℕ = j * 2 ^ layer.layer in
+      let first : ℕ = j * 2 ^ layer in
       let here : 0 + first ≡ first = omega arith in
-      ap (take (2 ^ layer.layer)) (drop_map f first (range_with_len 0 (block_count n)) ∙ ap (map f) (drop_range 0 (block_count n) first (omega (arith, real))))
-      ∙ take_map f (2 ^ layer.layer) (range_with_len (0 + first) (block_count n - first))
-      ∙ ap (map f) (take_range (0 + first) (block_count n - first) (2 ^ layer.layer) ∙ ap (λ s. range_with_len s (min (2 ^ layer.layer) (block_count n - first))) here)
+      ap (take (2 ^ layer)) (drop_map f first (range_with_len 0 (block_count n)) ∙ ap (map f) (drop_range 0 (block_count n) first (omega (arith, real))))
+      ∙ take_map f (2 ^ layer) (range_with_len (0 + first) (block_count n - first))
+      ∙ ap (map f) (take_range (0 + first) (block_count n - first) (2 ^ layer) ∙ ap (λ s. range_with_len s (min (2 ^ layer) (block_count n - first))) here)
 
-  leaf_read : (first count i : ℕ) → first ≡ j * 2 ^ layer.layer → count ≡ piece_blocks n layer.layer j
-      → piece_start layer.layer j + piece_size n layer.layer j ≤ length bytes → i < 2 ^ layer.layer
-      → get_or (leaves_read n layer.layer (map (read_from n bytes) (range_with_len first count))) i [] ≡ node_digest sha256 (take n bytes) 0 (first + i)
+  leaf_read : (first count i : ℕ) → first ≡ j * 2 ^ layer → count ≡ blocks_below n layer j
+      → piece_start layer j + piece_size n layer j ≤ length bytes → i < 2 ^ layer
+      → get_or (leaves_read n layer (map (read_from n bytes) (range_with_len first count))) i [] ≡ node_digest sha256 (take n bytes) 0 (first + i)
   leaf_read first count i first_is count_is h low =
       let reads : List BlockRead = map (read_from n bytes) (range_with_len first count) in
       let own : List (List ℕ) = map (claimed_digest sha256 n) reads in
-      let rest : List (List ℕ) = replicate (2 ^ layer.layer - length reads) (padding_digest sha256 0) in
+      let rest : List (List ℕ) = replicate (2 ^ layer - length reads) (padding_digest sha256 0) in
       let few : length reads ≡ count = length-map-range_with_len (read_from n bytes) first count in
       let same : length own ≡ count = length-map reads (claimed_digest sha256 n) ∙ few in
       let shorter = length-take n bytes in
@@ -166,58 +171,73 @@ module _ (n : ℕ) (bytes : List ℕ) (layer : KnownLayer) (j : ℕ) (real : j *
             ∙ sym (leaf_is sha256 (take n bytes) (first + i) (omega (arith, shorter, whole, lt, real, first_is, count_is)))
         | inr le ↦
             get_or-append_right own rest count i [] same le
-            ∙ get_or-replicate (2 ^ layer.layer - length reads) (i - count) (padding_digest sha256 0) [] (omega (arith, few, low, le))
+            ∙ get_or-replicate (2 ^ layer - length reads) (i - count) (padding_digest sha256 0) [] (omega (arith, few, low, le))
             ∙ sym (leaf_past sha256 (take n bytes) (first + i) (omega (arith, shorter, le, low, real, first_is, count_is)))
       ]
 
   -- the node over the blocks that were read
-  node_read : piece_start layer.layer j + piece_size n layer.layer j ≤ length bytes
-      → fold_of sha256 layer.layer (leaves_read n layer.layer (map (read_from n bytes) (range_with_len (j * 2 ^ layer.layer) (piece_blocks n layer.layer j))))
-      ≡ node_digest sha256 (take n bytes) layer.layer j
+  node_read : piece_start layer j + piece_size n layer j ≤ length bytes
+      → fold_of sha256 layer (leaves_read n layer (map (read_from n bytes) (range_with_len (j * 2 ^ layer) (blocks_below n layer j))))
+      ≡ node_digest sha256 (take n bytes) layer j
   node_read h =
-      let first : ℕ = j * 2 ^ layer.layer in
-      let reads : List BlockRead = map (read_from n bytes) (range_with_len first (piece_blocks n layer.layer j)) in
-      fold_is sha256 layer.layer (leaves_read n layer.layer reads)
-      ∙ row_node_same sha256 (λ i. get_or (leaves_read n layer.layer reads) i []) (λ i. node_digest sha256 (take n bytes) 0 (first + i)) layer.layer 0
-      (λ i low high. leaf_read first (piece_blocks n layer.layer j) i refl refl h (omega (arith, high)))
-      ∙ node_digest_below sha256 (take n bytes) layer.layer j
+      let first : ℕ = j * 2 ^ layer in
+      let reads : List BlockRead = map (read_from n bytes) (range_with_len first (blocks_below n layer j)) in
+      fold_is sha256 layer (leaves_read n layer reads)
+      ∙ row_node_same sha256 (λ i. get_or (leaves_read n layer reads) i []) (λ i. node_digest sha256 (take n bytes) 0 (first + i)) layer 0
+      (λ i low high. leaf_read first (blocks_below n layer j) i refl refl h (omega (arith, high)))
+      ∙ node_digest_below sha256 (take n bytes) layer j
 
-  all_read : piece_start layer.layer j + piece_size n layer.layer j ≤ length bytes
-      → list_all (is_whole n) (map (read_from n bytes) (range_with_len (j * 2 ^ layer.layer) (piece_blocks n layer.layer j))) ≡ true
+  all_read : piece_start layer j + piece_size n layer j ≤ length bytes
+      → list_all (is_whole n) (map (read_from n bytes) (range_with_len (j * 2 ^ layer) (blocks_below n layer j))) ≡ true
   all_read h =
-      all_in_range (is_whole n) (read_from n bytes) (j * 2 ^ layer.layer) (piece_blocks n layer.layer j)
+      all_in_range (is_whole n) (read_from n bytes) (j * 2 ^ layer) (blocks_below n layer j)
       (λ i low high. whole_read n bytes i (omega (arith, h, low, high, real)))
 
-  not_all_read : length bytes < piece_start layer.layer j + piece_size n layer.layer j
-      → list_all (is_whole n) (map (read_from n bytes) (range_with_len (j * 2 ^ layer.layer) (piece_blocks n layer.layer j))) ≡ false
+  not_all_read : length bytes < piece_start layer j + piece_size n layer j
+      → list_all (is_whole n) (map (read_from n bytes) (range_with_len (j * 2 ^ layer) (blocks_below n layer j))) ≡ false
   not_all_read h =
-      let wide = pow_pos layer.layer in
-      let last : ℕ = j * 2 ^ layer.layer + piece_blocks n layer.layer j - 1 in
-      one_in_range (is_whole n) (read_from n bytes) (j * 2 ^ layer.layer) (piece_blocks n layer.layer j) last (omega (arith, wide, real)) (omega (arith, wide, real))
+      let wide = pow_pos layer in
+      let last : ℕ = j * 2 ^ layer + blocks_below n layer j - 1 in
+      one_in_range (is_whole n) (read_from n bytes) (j * 2 ^ layer) (blocks_below n layer j) last (omega (arith, wide, real)) (omega (arith, wide, real))
       (short_read n bytes last (omega (arith, wide, real)) (omega (arith, h, wide, real)))
 
-  -- the reads tell of the piece what the bytes do
-  pub piece_same : is_piece_read (map (read_from n bytes) (range_with_len 0 (block_count n))) n layer j ≡ has_known_piece bytes n layer j
-  piece_same =
-      let piece : List BlockRead = map (read_from n bytes) (range_with_len (j * 2 ^ layer.layer) (piece_blocks n layer.layer j)) in
-      let digest : List ℕ = slice_index_or layer.digests j [] in
-      let until : ℕ = piece_start layer.layer j + piece_size n layer.layer j in
-      ap (λ reads. list_all (is_whole n) reads && pointwise nat_eq digest (fold_of sha256 layer.layer (leaves_read n layer.layer reads))) piece_is
+  -- the reads tell of the node what the bytes do
+  pub node_same : is_node_read (map (read_from n bytes) (range_with_len 0 (block_count n))) n layer j digest ≡ has_piece bytes n layer j digest
+  node_same =
+      let piece : List BlockRead = map (read_from n bytes) (range_with_len (j * 2 ^ layer) (blocks_below n layer j)) in
+      let until : ℕ = piece_start layer j + piece_size n layer j in
+      ap (λ reads. list_all (is_whole n) reads && pointwise nat_eq digest (fold_of sha256 layer (leaves_read n layer reads))) piece_is
       ∙ elim (leb_tells until (length bytes)) [
         | inl is ↦
-            ap (λ b. b && pointwise nat_eq digest (fold_of sha256 layer.layer (leaves_read n layer.layer piece))) (all_read is.1)
+            ap (λ b. b && pointwise nat_eq digest (fold_of sha256 layer (leaves_read n layer piece))) (all_read is.1)
             ∙ ap (λ d. pointwise nat_eq digest d) (node_read is.1)
-            ∙ sym (ap (λ b. b && pointwise nat_eq digest (node_digest sha256 (take n bytes) layer.layer j)) is.0)
+            ∙ sym (ap (λ b. b && pointwise nat_eq digest (node_digest sha256 (take n bytes) layer j)) is.0)
         | inr is ↦
-            ap (λ b. b && pointwise nat_eq digest (fold_of sha256 layer.layer (leaves_read n layer.layer piece))) (not_all_read (omega (arith, is.1)))
-            ∙ sym (ap (λ b. b && pointwise nat_eq digest (node_digest sha256 (take n bytes) layer.layer j)) is.0)
+            ap (λ b. b && pointwise nat_eq digest (fold_of sha256 layer (leaves_read n layer piece))) (not_all_read (omega (arith, is.1)))
+            ∙ sym (ap (λ b. b && pointwise nat_eq digest (node_digest sha256 (take n bytes) layer j)) is.0)
       ]
 
 -- ---- the whole file
 
-module _ {D : Type 0} (history : D → History) (honest : D → Type 0) (faults : D → ℕ) (n : ℕ) (layer : KnownLayer) where
-  found_of_reads : (answers : Answers) (finding : Finding) (h new : History) (len : ℕ) → IsFindingBy answers n layer finding → finding.faulty ≡ false
-      → answers.len ≡ Some len → len ≡ length h.now.bytes → AreAnswered h (map (call_of n) answers.reads) new → IsFindingOf h.now.bytes n layer finding
+module _ {D : Type 0} (history : D → History) (honest : D → Type 0) (faults : D → ℕ) (n : ℕ) (known : KnownLayer) (leaves : ℕ → Option (List ℕ)) where
+  -- the reads tell of a block what the bytes do
+  block_same : (bytes : List ℕ) (reads : List BlockRead) → reads ≡ map (read_from n bytes) (range_with_len 0 (block_count n)) → (i : ℕ) → i < block_count n
+      → is_right_block (is_node_read reads n) known leaves i ≡ is_right_block (has_piece bytes n) known leaves i
+  block_same bytes reads are i lt =
+      let begins = piece_begins known i (piece_of known i) refl in
+      let piece_too : is_node_read reads n known.layer (piece_of known i) (digest_of known (piece_of known i))
+      ≡ has_piece bytes n known.layer (piece_of known i) (digest_of known (piece_of known i)) =
+      ap (λ l. is_node_read l n known.layer (piece_of known i) (digest_of known (piece_of known i))) are
+      ∙ node_same n bytes known.layer (piece_of known i) (digest_of known (piece_of known i)) (omega (arith, begins, lt)) in
+      by_either (leaves i) (is_node_read reads n 0 i) (has_piece bytes n 0 i)
+      (λ d. ap (λ l. is_node_read l n 0 i d) are ∙ node_same n bytes 0 i d (omega (arith, lt))) piece_too
+    where
+      by_either : (leaf : Option (List ℕ)) (f g : List ℕ → Bool) → ((d : List ℕ) → f d ≡ g d) → {a b : Bool} → a ≡ b → by_leaf leaf f a ≡ by_leaf leaf g b
+      by_either None f g same e = e
+      by_either (Some d) f g same e = same d
+
+  found_of_reads : (answers : Answers) (finding : Finding) (h new : History) (len : ℕ) → IsFindingBy answers n known leaves finding → finding.faulty ≡ false
+      → answers.len ≡ Some len → len ≡ length h.now.bytes → AreAnswered h (map (call_of n) answers.reads) new → IsFindingOf h.now.bytes n known leaves finding
   found_of_reads answers finding h new len found sound asked is answered =
       let none : fault_count answers.reads ≡ 0 = elim (cases_lt 0 (fault_count answers.reads)) [
         | inl lt ↦ absurd (true≢false (sym (found.faulty.1 (inr lt)) ∙ sound))
@@ -229,8 +249,8 @@ module _ {D : Type 0} (history : D → History) (honest : D → Type 0) (faults 
         marks = record {
           blocks = found.marks.blocks;
           marked = found.marks.marked
-              ∙ right_same_real (is_piece_read answers.reads n layer) (has_known_piece h.now.bytes n layer) n layer.layer (length layer.digests) (λ j lt real.
-              ap (λ l. is_piece_read l n layer j) reads ∙ piece_same n h.now.bytes layer j real);
+              ∙ count_same (is_right_block (is_node_read answers.reads n) known leaves) (is_right_block (has_piece h.now.bytes n) known leaves) 0 (block_count n)
+              (λ i low high. block_same h.now.bytes answers.reads reads i (omega (arith, high)));
         };
         longer = (
           λ t. omega (arith, is, subst (λ o. IsSomeAnd o (λ l. n < l)) asked (found.longer.0 t)),
@@ -239,11 +259,11 @@ module _ {D : Type 0} (history : D → History) (honest : D → Type 0) (faults 
       }
 
   pub honest_finding : (old new : D) (answers : Answers) (finding : Finding) → honest old → HasCalls history honest faults old (calls_of n answers) new
-      → IsFindingBy answers n layer finding → finding.faulty ≡ false → IsFindingOf (history old).now.bytes n layer finding
+      → IsFindingBy answers n known leaves finding → finding.faulty ≡ false → IsFindingOf (history old).now.bytes n known leaves finding
   honest_finding old new answers finding is calls found sound = go answers.len refl (calls.answered is)
     where
       go : (o : Option ℕ) → answers.len ≡ o → AreAnswered (history old) (len_call_of answers.len ∷ map (call_of n) answers.reads) (history new)
-          → IsFindingOf (history old).now.bytes n layer finding
+          → IsFindingOf (history old).now.bytes n known leaves finding
       go None none answered = absurd (true≢false (sym (found.faulty.1 (inl none)) ∙ sound))
       go (Some len) asked answered =
           let first : IsAnswered (history old) (len_call_of (Some len)) answered.0 = subst (λ l. IsAnswered (history old) (len_call_of l) answered.0) asked answered.1 in

@@ -15,9 +15,10 @@ use Rattle.bt_sparse.specs.SparseTree.{Facts, held_at, root_facts}
 use Rattle.bt_sparse.specs.Layer.{HoldsLayer, layer_digest}
 use Rattle.bt_sparse.proofs.NodeMaps.{digest_at_new, digest_at_other, digest_at_empty}
 use Rattle.bt_sparse.proofs.LayerNodes.{layer_real}
+use Rattle.bt_sparse.proofs.Values.{none_some}
 use Rattle.bt_meta.specs.Files.{File}
-use Rattle.bt_check.specs.Finding.{KnownLayer, known_layer, digests_in}
-use Rattle.bt_check.specs.CheckSteps.{HoldsJust}
+use Rattle.bt_check.specs.Finding.{KnownLayer, known_layer, digests_in, no_leaves}
+use Rattle.bt_check.specs.CheckSteps.{HoldsLeaves}
 use Rattle.bt_check.proofs.PiecesNode.{covers}
 
 root_known : (layer : ℕ) (file : File) → length file.layer ≡ 0
@@ -32,7 +33,7 @@ nothing None h = refl
 nothing (Some x) h = absurd (h x refl)
 
 pub root_held : (n layer : ℕ) (file : File) (k : Facts) → length file.layer ≡ 0 → n ≡ file.length → IsFileLength n → k ≡ root_facts n file.root
-    → HoldsJust n (known_layer layer file) k
+    → HoldsLeaves n (known_layer layer file) no_leaves k
 root_held n layer file k none same lawful is =
     let blocks : ℕ = block_count n in
     let enough = (height_is blocks).enough in
@@ -40,7 +41,7 @@ root_held n layer file k none same lawful is =
     let high : height_of blocks ≡ height_of (block_count file.length) = ap (λ m. height_of (block_count m)) same in
     let only : KnownLayer = record { layer = height_of blocks; digests = root ∷ [] } in
     let held : (l i : ℕ) → held_at k l i ≡ held_at (root_facts n root) l i = λ l i. ap (λ f. held_at f l i) is in
-    let just : HoldsJust n only k = record {
+    let just : HoldsLeaves n only no_leaves k = record {
       length_is = ap (λ (f : Facts). f.file_length) is;
       inside = omega arith;
       width = omega (
@@ -51,15 +52,16 @@ root_held n layer file k none same lawful is =
       holds = λ i lt.
           let first : i ≡ 0 = omega (arith, lt) in
           rw first (held (height_of blocks) 0 ∙ digest_at_new finite.empty (height_of blocks) 0 root);
-      below = λ l i low.
+      leaf = λ i d _ e. absurd (none_some d e);
+      bare = λ _ _ _ l i low _ _.
           held l i ∙ digest_at_other finite.empty (height_of blocks) 0 l i root (λ e _. omega (arith, e, low)) ∙ digest_at_empty l i;
     } in
     let known : only ≡ known_layer layer file =
     ap (λ h. record { layer = h; digests = root ∷ [] }) high ∙ sym (root_known layer file none) in
-    subst (λ w. HoldsJust n w k) known just
+    subst (λ w. HoldsLeaves n w no_leaves k) known just
 
 pub layer_held : (n layer : ℕ) (file : File) (k : Facts) → (length file.layer == 0) ≡ false → HoldsLayer sha256 n file.root layer file.layer k
-    → HoldsJust n (known_layer layer file) k
+    → HoldsLeaves n (known_layer layer file) no_leaves k
 layer_held n layer file k some holds =
     let blocks : ℕ = block_count n in
     let size = holds.is_layer.size.size in
@@ -67,7 +69,7 @@ layer_held n layer file k some holds =
     let count : length file.layer / 32 ≡ real_width blocks layer = omega (arith, size) in
     let chunks : digests_in file.layer ≡ first_chunks 32 (real_width blocks layer) file.layer = ap (λ m. first_chunks 32 m file.layer) count in
     let length_is : length (digests_in file.layer) ≡ real_width blocks layer = length_chunks 32 (length file.layer / 32) file.layer ∙ count in
-    let just : HoldsJust n (record { layer = layer; digests = digests_in file.layer }) k = record {
+    let just : HoldsLeaves n (record { layer = layer; digests = digests_in file.layer }) no_leaves k = record {
       length_is = holds.length_is;
       inside = inside;
       width = length_is;
@@ -78,9 +80,10 @@ layer_held n layer file k some holds =
           ∙ ap (λ d. Some d) (ap (λ h. row_node sha256 (layer_digest sha256 blocks layer file.layer) h i) here
           ∙ row_zero sha256 (layer_digest sha256 blocks layer file.layer) i
           ∙ layer_real sha256 blocks layer file.layer i real ∙ ap (λ l. slice_index_or l i []) (sym chunks));
-      below = λ l i low. nothing (held_at k l i) (λ d held. let past = (holds.only l i d held).0 in omega (arith, past, low));
+      leaf = λ i d _ e. absurd (none_some d e);
+      bare = λ _ _ _ l i low _ _. nothing (held_at k l i) (λ d held. let past = (holds.only l i d held).0 in omega (arith, past, low));
     } in
-    subst (λ w. HoldsJust n w k) (sym (layer_known layer file some)) just
+    subst (λ w. HoldsLeaves n w no_leaves k) (sym (layer_known layer file some)) just
   where
     length_chunks : (size count : ℕ) (bytes : List ℕ) → length (first_chunks size count bytes) ≡ count
     length_chunks size zero bytes = refl

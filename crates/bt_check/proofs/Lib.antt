@@ -6,11 +6,13 @@ pub mod PieceRuns
 -- `check`
 pub mod RightBlocks
 pub mod KnownTree
+pub mod LeafKnowledge
 pub mod PieceGroup
 pub mod AdoptedGroups
 pub mod BlockChecks
 pub mod DeviceBytes
 pub mod EntryChecks
+pub mod SharedTrees
 pub mod CheckFault
 pub mod ReportLines
 pub mod PoolNumbers

@@ -3,7 +3,7 @@
 use Rattle.std.proofs.Common.{◌≡◌, ◌≢◌, ℕ, zero, suc, ◌+◌, ◌-◌, ◌*◌, ◌/◌, ◌%◌, ◌^◌, ◌<◌, ◌≤◌, true≢false, is_some, Option, None, Some, IsSome, List, [], ◌++◌, length, get_or, inl, inr, arith, refl, sym, ap, ◌∙◌, subst, min}
 use Rattle.std.specs.Prelude.{slice_index_or}
 use Rattle.std.proofs.Math.Nat.{mul-le-mul_right, mul-div_cancel, mul-mod_left, div-lt_iff_lt-mul, le-div_iff_mul-le}
-use Rattle.std.proofs.lemmas.Nat.{pow_pos, pow-add, pow_below}
+use Rattle.std.proofs.lemmas.Nat.{pow_pos, pow-add, pow_below, div-mul-add}
 use Rattle.std.proofs.lemmas.Bool.{cases_lt}
 use Rattle.sha2.specs.Sha256.{sha256}
 use Rattle.bt_tree.specs.Blocks.{block_count}
@@ -22,25 +22,17 @@ use Rattle.bt_sparse.proofs.Values.{same_value, none_some, value_covers, value_p
 use Rattle.bt_sparse.proofs.Expansions.{path_first}
 use Rattle.bt_store.specs.Adoption.{IsUnknownGroup, leaf_claim}
 use Rattle.bt_check.specs.Finding.{KnownLayer}
-use Rattle.bt_check.proofs.PiecesNode.{width_covers}
+use Rattle.bt_check.specs.CheckSteps.{IsBare}
+use Rattle.bt_check.proofs.PiecesNode.{covers, real_index, width_covers}
+use Rattle.bt_tree.proofs.LayerNodes.{row_zero}
 
--- The layer is held whole, and nothing below it from a block on.
-pub record IsReady (n : ℕ) (known : KnownLayer) (from : ℕ) (k : Facts) : Type 0 where
+-- The layer is held whole, and nothing below a piece.
+pub record IsReady (n : ℕ) (known : KnownLayer) (piece : ℕ) (k : Facts) : Type 0 where
   pub length_is : k.file_length ≡ n
   pub inside : known.layer ≤ height_of (block_count n)
   pub width : length known.digests ≡ real_width (block_count n) known.layer
   pub holds : (i : ℕ) → i < length known.digests → held_at k known.layer i ≡ Some (slice_index_or known.digests i [])
-  pub below : (layer i : ℕ) → layer < known.layer → from ≤ i * 2 ^ layer → held_at k layer i ≡ None
-
--- from a later block on
-pub ready_later : (n : ℕ) (known : KnownLayer) (from next : ℕ) (k : Facts) → from ≤ next → IsReady n known from k → IsReady n known next k
-ready_later n known from next k le ready = record {
-  length_is = ready.length_is;
-  inside = ready.inside;
-  width = ready.width;
-  holds = ready.holds;
-  below = λ layer i low here. ready.below layer i low (omega (arith, le, here));
-}
+  pub bare : IsBare known piece k
 
 -- a block of a piece is a block of the file
 pub piece_is_real : (n pieces : ℕ) (known : KnownLayer) → length known.digests ≡ real_width (block_count n) known.layer
@@ -73,7 +65,7 @@ pub record IsPieceGroup (n : ℕ) (known : KnownLayer) (from anchor first count 
   pub first_is : first ≡ from
   pub count_is : count ≡ min (2 ^ known.layer) (block_count n - from)
 
-module _ (n : ℕ) (known : KnownLayer) (k : Facts) (pieces from : ℕ) (ready : IsReady n known from k) (place : from ≡ pieces * 2 ^ known.layer)
+module _ (n : ℕ) (known : KnownLayer) (k : Facts) (pieces from : ℕ) (ready : IsReady n known pieces k) (place : from ≡ pieces * 2 ^ known.layer)
     (real : from < block_count n) where
   index_is : from / 2 ^ known.layer ≡ pieces
   index_is = ap (λ m. m / 2 ^ known.layer) place ∙ mul-div_cancel pieces (pow_pos known.layer)
@@ -87,8 +79,9 @@ module _ (n : ℕ) (known : KnownLayer) (k : Facts) (pieces from : ℕ) (ready :
       let whole : from ≡ pieces * 2 ^ (known.layer - anchor) * 2 ^ anchor = place ∙ ap (λ p. pieces * p) split ∙ omega arith in
       let node : from / 2 ^ anchor ≡ pieces * 2 ^ (known.layer - anchor) =
       ap (λ m. m / 2 ^ anchor) whole ∙ mul-div_cancel (pieces * 2 ^ (known.layer - anchor)) (pow_pos anchor) in
-      let back : from ≤ from / 2 ^ anchor * 2 ^ anchor = omega (arith, whole, ap (λ m. m * 2 ^ anchor) node) in
-      true≢false (sym held ∙ ap (λ o. is_some o) (ready.below anchor (from / 2 ^ anchor) low back))
+      let back : from / 2 ^ anchor * 2 ^ anchor ≡ from = ap (λ m. m * 2 ^ anchor) node ∙ sym whole in
+      let none = ready.bare anchor (from / 2 ^ anchor) low (omega (arith, back, place)) (omega (arith, back, place, pow_pos known.layer)) in
+      true≢false (sym held ∙ ap (λ o. is_some o) none)
 
   not_higher : (anchor : ℕ) → known.layer < anchor → ((layer : ℕ) → layer < anchor → held_at k layer (from / 2 ^ layer) ≡ None) → ⊥
   not_higher anchor high nearest =
@@ -124,7 +117,7 @@ pub record ArePieceLeaves (n : ℕ) (known : KnownLayer) (from : ℕ) (leaves : 
   pub all : length leaves ≡ 2 ^ known.layer
   pub past : (i : ℕ) → block_count n ≤ from + i → i < 2 ^ known.layer → get_or leaves i [] ≡ padding_digest sha256 0
 
-module _ (n : ℕ) (known : KnownLayer) (k : Facts) (pieces from : ℕ) (ready : IsReady n known from k) (place : from ≡ pieces * 2 ^ known.layer)
+module _ (n : ℕ) (known : KnownLayer) (k : Facts) (pieces from : ℕ) (ready : IsReady n known pieces k) (place : from ≡ pieces * 2 ^ known.layer)
     (real : from < block_count n) (leaves : List (List ℕ)) (are : ArePieceLeaves n known from leaves) where
   tall : run_height (leaf_claim from leaves) ≡ known.layer
   tall = ap height_of are.all ∙ height_of_power known.layer
@@ -219,7 +212,7 @@ module _ (n : ℕ) (known : KnownLayer) (k : Facts) (pieces from : ℕ) (ready :
   known_below layer i d e low claims value =
       let b = claimed_below layer i d claims in
       elim (cases_node (blocks_of k) layer i (value_inside sha256 k layer i e value)) [
-        | inl covers ↦ absurd (none_some e (sym (ready.below layer i low b.first) ∙ sym (value_covers sha256 k layer i covers) ∙ value))
+        | inl covers ↦ absurd (none_some e (sym (ready.bare layer i low (omega (arith, b.first, place)) (omega (arith, b.last, place, pow_pos layer))) ∙ sym (value_covers sha256 k layer i covers) ∙ value))
         | inr is ↦
             same_value (value_at sha256 k layer i) e (padding_digest sha256 layer) value (value_padding sha256 k layer i is)
             ∙ sym (has_padding layer i d claims is)
@@ -275,26 +268,47 @@ module _ (n : ℕ) (known : KnownLayer) (k : Facts) (pieces from : ℕ) (ready :
   refused_digest error above (clash layer index ours theirs _ _ _ is) other = λ _. no_clash layer index ours theirs is
   refused_digest error above (no_memory _) other = λ _. other refl
 
-  -- the tree that accepted it holds nothing below the pieces that come after
-  pub ready_after : (next : ℕ) (grown : Facts) → next ≡ min (from + 2 ^ known.layer) (block_count n) → Accepts sha256 k (leaf_claim from leaves) grown
-      → IsReady n known next grown
-  ready_after next grown next_is accepts = record {
-    length_is = accepts.joins.file_length ∙ ready.length_is;
-    inside = ready.inside;
-    width = ready.width;
-    holds = λ i lt. accepts.joins.kept known.layer i _ (ready.holds i lt);
-    below = λ layer i low here. nothing (held_at grown layer i) (λ d held. not_held layer i d low here held);
-  }
+  -- the tree that accepted it holds below other pieces what it held
+  pub others_bare : (grown : Facts) → Accepts sha256 k (leaf_claim from leaves) grown → (piece : ℕ) → (piece ≡ pieces → ⊥) → IsBare known piece k
+      → IsBare known piece grown
+  others_bare grown accepts piece other bare layer i low first last = nothing (held_at grown layer i) (λ d held.
+      elim (accepts.joins.only layer i d held) [
+        | inl old ↦ none_some d (sym (bare layer i low first last) ∙ old)
+        | inr both ↦ let b = claimed_below layer i d both.0 in other (meets b.first b.last)
+      ])
     where
       nothing : {X : Type 0} (o : Option X) → ((x : X) → o ≡ Some x → ⊥) → o ≡ None
       nothing None h = refl
       nothing (Some x) h = absurd (h x refl)
 
-      not_held : (layer i : ℕ) (d : List ℕ) → layer < known.layer → next ≤ i * 2 ^ layer → held_at grown layer i ≡ Some d → ⊥
-      not_held layer i d low here held = elim (accepts.joins.only layer i d held) [
-        | inl old ↦ none_some d (sym (ready.below layer i low (omega (arith, next_is, here, real))) ∙ old)
-        | inr both ↦
-            let b = claimed_below layer i d both.0 in
-            let covers = real_lt (block_count n) (2 ^ layer) i (pow_pos layer) (subst (λ m. i < real_width (block_count m) layer) ready.length_is both.1.real) in
-            omega (arith, b.last, covers, next_is, here, pow_pos layer)
+      meets : from ≤ i * 2 ^ layer → (i + 1) * 2 ^ layer ≤ from + 2 ^ known.layer → piece ≡ pieces
+      meets begins ends = elim (cases_lt piece pieces) [
+        | inl lt ↦ let far = mul-le-mul_right {m = piece + 1} {n = pieces} (2 ^ known.layer) (omega (arith, lt)) in absurd (omega (arith, far, place, begins, last))
+        | inr le ↦ elim (cases_lt pieces piece) [
+          | inl lt ↦
+              let far = mul-le-mul_right {m = pieces + 1} {n = piece} (2 ^ known.layer) (omega (arith, lt)) in
+              absurd (omega (arith, far, place, first, ends, pow_pos layer))
+          | inr ge ↦ omega (arith, le, ge)
+        ]
       ]
+
+  -- and the leaves of the piece's blocks
+  pub leaf_added : (grown : Facts) → Accepts sha256 k (leaf_claim from leaves) grown → (j : ℕ) → from + j < block_count n → j < 2 ^ known.layer
+      → held_at grown 0 (from + j) ≡ Some (get_or leaves j [])
+  leaf_added grown accepts j inside_file inside_piece =
+      let c = leaf_claim from leaves in
+      let whole : known.layer - 0 ≡ known.layer = omega arith in
+      let under : (from + j) / 2 ^ (run_height c - 0) ≡ run_node c =
+      ap (λ h. (from + j) / 2 ^ (h - 0)) tall ∙ ap (λ h. (from + j) / 2 ^ h) whole ∙ ap (λ m. (m + j) / 2 ^ known.layer) place
+      ∙ div-mul-add pieces (2 ^ known.layer) j inside_piece ∙ sym node_is in
+      let real_leaf : from + j < real_width (blocks_of k) 0 =
+      subst (λ m. from + j < real_width (block_count m) 0) (sym ready.length_is) (real_index (block_count n) 0 (from + j) (omega (arith, inside_file))) in
+      accepts.joins.added 0 (from + j) (get_or leaves j [])
+      (in_run (record {
+        above = 0;
+        here = refl;
+        low = omega arith;
+        under = under;
+        digest = sym (row_zero sha256 (run_digest c) (from + j) ∙ digest_from j);
+      }))
+      (covers (blocks_of k) 0 (from + j) (omega arith) real_leaf)

@@ -1,85 +1,85 @@
--- Lemmas on the reads of a piece, and on how many blocks the right pieces have.
-use Rattle.std.proofs.Common.{◌≡◌, ℕ, zero, suc, ◌+◌, ◌-◌, ◌*◌, ◌^◌, ◌<◌, ◌≤◌, ◌⊎◌, Bool, true, false, cond, List, [], ◌∷◌, ◌++◌, length, take, drop, inl, inr, arith, refl, sym, ap, ◌∙◌, add-one, take_all, if◌then◌else◌}
-use Rattle.std.specs.List.{count_by, list_all}
-use Rattle.std.proofs.Math.Nat.{mul-le-mul_right}
+-- Lemmas on the reads of a piece, and on how many blocks are right.
+use Rattle.std.proofs.Common.{◌≡◌, ℕ, zero, suc, ◌+◌, ◌-◌, ◌*◌, ◌^◌, ◌<◌, ◌≤◌, ◌⊎◌, Bool, true, false, cond, List, [], ◌∷◌, ◌++◌, length, take, drop, get_or, inl, inr, arith, refl, sym, ap, ◌∙◌, take_all, if◌then◌else◌}
+use Rattle.std.specs.List.{count_by, list_all, range_with_len}
 use Rattle.std.proofs.lemmas.List.{drop-append-le, length-drop, take-append-le}
+use Rattle.std.proofs.lemmas.List.FromFn.{length-range_with_len}
 use Rattle.std.proofs.lemmas.List.Sums.{sum_by-append, count_by-le-length}
-use Rattle.std.proofs.lemmas.Bool.{cases_lt}
-use Rattle.bt_tree.specs.Blocks.{block_count}
 use Rattle.bt_store.specs.BlockReads.{BlockRead, given, failed, fault_count, is_fault}
 use Rattle.bt_store.specs.Adoption.{is_whole}
-use Rattle.bt_check.specs.EntryCheck.{reads_of_piece, is_piece_read}
-use Rattle.bt_check.specs.Finding.{KnownLayer, right_blocks, piece_blocks}
+use Rattle.bt_check.specs.EntryCheck.{reads_below, is_node_read}
 
-pub right_none : (f : ℕ → Bool) (n layer : ℕ) → right_blocks f n layer 0 ≡ 0
-unfolding right_blocks
-right_none f n layer = refl
+pub cases_bool : (b : Bool) → (b ≡ true) ⊎ (b ≡ false)
+cases_bool true = inl refl
+cases_bool false = inr refl
 
-pub right_more : (f : ℕ → Bool) (n layer index : ℕ)
-    → right_blocks f n layer (index + 1) ≡ right_blocks f n layer index + (if f index then piece_blocks n layer index else 0)
-unfolding right_blocks
-right_more f n layer index = rw (add-one index) refl
+-- ---- counts
 
--- the same pieces are right
-pub right_same : (f g : ℕ → Bool) (n layer count : ℕ) → ((j : ℕ) → j < count → f j ≡ g j) → right_blocks f n layer count ≡ right_blocks g n layer count
-unfolding right_blocks
-right_same f g n layer zero same = refl
-right_same f g n layer (suc index) same =
-    ap (λ m. m + (if f index then piece_blocks n layer index else 0)) (right_same f g n layer index (λ j lt. same j (omega (arith, lt))))
-    ∙ ap (λ b. right_blocks g n layer index + (if b then piece_blocks n layer index else 0)) (same index (omega arith))
+pub count_cons : {X : Type 0} (p : X → Bool) (x : X) (xs : List X) → count_by p (x ∷ xs) ≡ cond (p x) 1 0 + count_by p xs
+count_cons p x xs = sum_by-append (λ y. cond (p y) 1 0) (x ∷ []) xs ∙ omega arith
 
--- the same pieces are right of those that have blocks
-none_either : (b : Bool) (m : ℕ) → m ≡ 0 → (if b then m else 0) ≡ 0
-none_either true m e = e
-none_either false m e = refl
+-- numbers that pass the same tests as some values do
+pub count_along : {X : Type 0} (p : X → Bool) (q : ℕ → Bool) (d : X) (a : ℕ) (xs : List X) → ((j : ℕ) → j < length xs → p (get_or xs j d) ≡ q (a + j))
+    → count_by p xs ≡ count_by q (range_with_len a (length xs))
+count_along p q d a [] same = refl
+count_along p q d a (x ∷ xs) same =
+    let here : a + 0 ≡ a = omega arith in
+    let rest = count_along p q d (a + 1) xs (λ j lt. let up : a + suc j ≡ a + 1 + j = omega arith in same (suc j) (omega (arith, lt)) ∙ ap q up) in
+    count_cons p x xs ∙ ap (λ b. cond b 1 0 + count_by p xs) (same 0 (omega arith) ∙ ap q here) ∙ ap (λ m. cond (q a) 1 0 + m) rest
+    ∙ sym (count_cons q a (range_with_len (a + 1) (length xs)))
 
-pub right_same_real : (f g : ℕ → Bool) (n layer count : ℕ) → ((j : ℕ) → j < count → j * 2 ^ layer < block_count n → f j ≡ g j)
-    → right_blocks f n layer count ≡ right_blocks g n layer count
-unfolding right_blocks
-right_same_real f g n layer zero same = refl
-right_same_real f g n layer (suc index) same =
-    let before = right_same_real f g n layer index (λ j lt. same j (omega (arith, lt))) in
-    elim (cases_lt (index * 2 ^ layer) (block_count n)) [
-      | inl real ↦
-          ap (λ m. m + (if f index then piece_blocks n layer index else 0)) before
-          ∙ ap (λ b. right_blocks g n layer index + (if b then piece_blocks n layer index else 0)) (same index (omega arith) real)
-      | inr past ↦
-          let empty : piece_blocks n layer index ≡ 0 = omega (arith, past) in
-          omega (arith, before, none_either (f index) (piece_blocks n layer index) empty, none_either (g index) (piece_blocks n layer index) empty)
-    ]
+-- two tests that are the same there
+pub count_same : (p q : ℕ → Bool) (a m : ℕ) → ((i : ℕ) → a ≤ i → i < a + m → p i ≡ q i) → count_by p (range_with_len a m) ≡ count_by q (range_with_len a m)
+count_same p q a zero same = refl
+count_same p q a (suc m) same =
+    let rest = count_same p q (a + 1) m (λ i low high. same i (omega (arith, low)) (omega (arith, high))) in
+    count_cons p a (range_with_len (a + 1) m) ∙ ap (λ b. cond b 1 0 + count_by p (range_with_len (a + 1) m)) (same a (omega arith) (omega arith))
+    ∙ ap (λ k. cond (q a) 1 0 + k) rest ∙ sym (count_cons q a (range_with_len (a + 1) m))
 
--- a file with no block has no right one
-pub right_empty : (f : ℕ → Bool) (n layer count : ℕ) → block_count n ≡ 0 → right_blocks f n layer count ≡ 0
-unfolding right_blocks
-right_empty f n layer zero none = refl
-right_empty f n layer (suc index) none =
-    let empty : piece_blocks n layer index ≡ 0 = omega (arith, none) in
-    omega (arith, right_empty f n layer index none, none_either (f index) (piece_blocks n layer index) empty)
-
--- no piece is right of those that have blocks
-pub right_never : (f : ℕ → Bool) (n layer count : ℕ) → ((j : ℕ) → j * 2 ^ layer < block_count n → f j ≡ false) → right_blocks f n layer count ≡ 0
-right_never f n layer count none =
-    right_same_real f (λ _. false) n layer count (λ j lt real. none j real) ∙ never count
+-- all of them pass, or none does
+pub count_const : (p : ℕ → Bool) (b : Bool) (a m : ℕ) → ((i : ℕ) → a ≤ i → i < a + m → p i ≡ b) → count_by p (range_with_len a m) ≡ (if b then m else 0)
+count_const p b a m is = count_same p (λ _. b) a m is ∙ all b a m
   where
-    never : (m : ℕ) → right_blocks (λ _. false) n layer m ≡ 0
-    never zero = right_none (λ _. false) n layer
-    never (suc m) = let up : suc m ≡ m + 1 = omega arith in ap (right_blocks (λ _. false) n layer) up ∙ right_more (λ _. false) n layer m ∙ omega (arith, never m)
+    all : (b : Bool) (a m : ℕ) → count_by {X = ℕ} (λ _. b) (range_with_len a m) ≡ (if b then m else 0)
+    all true a zero = refl
+    all false a zero = refl
+    all true a (suc m) = count_cons (λ _. true) a (range_with_len (a + 1) m) ∙ omega (arith, all true (a + 1) m)
+    all false a (suc m) = count_cons (λ _. false) a (range_with_len (a + 1) m) ∙ omega (arith, all false (a + 1) m)
 
--- ---- the reads of a piece
+pub ranges_joined : (a b c m : ℕ) → m ≡ a + b → range_with_len a b ++ range_with_len m c ≡ range_with_len a (b + c)
+ranges_joined a zero c m e =
+    let same : m ≡ a = omega (arith, e) in
+    let all : 0 + c ≡ c = omega arith in
+    ap (λ s. range_with_len s c) same ∙ ap (range_with_len a) (sym all)
+ranges_joined a (suc b) c m e =
+    let up : suc b + c ≡ suc (b + c) = omega arith in
+    ap (λ l. a ∷ l) (ranges_joined (a + 1) b c m (omega (arith, e))) ∙ ap (range_with_len a) (sym up)
 
--- a piece all of whose blocks were read before
-piece_kept : (before more : List BlockRead) (layer j : ℕ) → (j + 1) * 2 ^ layer ≤ length before
-    → reads_of_piece (before ++ more) layer j ≡ reads_of_piece before layer j
-piece_kept before more layer j h =
+pub count_joined : (p : ℕ → Bool) (m k : ℕ) → count_by p (range_with_len 0 (m + k)) ≡ count_by p (range_with_len 0 m) + count_by p (range_with_len m k)
+count_joined p m k =
+    ap (count_by p) (sym (ranges_joined 0 m k m (omega arith))) ∙ sum_by-append (λ i. cond (p i) 1 0) (range_with_len 0 m) (range_with_len m k)
+
+pub count_few : (p : ℕ → Bool) (a m : ℕ) → count_by p (range_with_len a m) ≤ m
+count_few p a m = omega (arith, count_by-le-length p (range_with_len a m), length-range_with_len a m)
+
+-- ---- the reads below a node
+
+-- one all of whose blocks were read before
+below_kept : (before more : List BlockRead) (layer j : ℕ) → (j + 1) * 2 ^ layer ≤ length before
+    → reads_below (before ++ more) layer j ≡ reads_below before layer j
+below_kept before more layer j h =
     let inside : j * 2 ^ layer ≤ length before = omega (arith, h) in
     let left : length (drop (j * 2 ^ layer) before) ≡ length before - j * 2 ^ layer = length-drop (j * 2 ^ layer) before in
     ap (take (2 ^ layer)) (drop-append-le (j * 2 ^ layer) before more inside)
     ∙ take-append-le (2 ^ layer) (drop (j * 2 ^ layer) before) more (omega (arith, left, h))
 
+pub node_kept : (before more : List BlockRead) (n layer j : ℕ) (digest : List ℕ) → (j + 1) * 2 ^ layer ≤ length before
+    → is_node_read (before ++ more) n layer j digest ≡ is_node_read before n layer j digest
+node_kept before more n layer j digest h = rw (below_kept before more layer j h) refl
+
 -- and one whose blocks were read last
-pub piece_last : (before more : List BlockRead) (layer j : ℕ) → length before ≡ j * 2 ^ layer → length more ≤ 2 ^ layer
-    → reads_of_piece (before ++ more) layer j ≡ more
-piece_last before more layer j here few =
+pub below_last : (before more : List BlockRead) (layer j : ℕ) → length before ≡ j * 2 ^ layer → length more ≤ 2 ^ layer
+    → reads_below (before ++ more) layer j ≡ more
+below_last before more layer j here few =
     let none : drop (j * 2 ^ layer) before ≡ [] = sym (ap (λ m. drop m before) here) ∙ drop_whole before in
     ap (take (2 ^ layer)) (drop-append-le (j * 2 ^ layer) before more (omega (arith, here)) ∙ ap (λ l. l ++ more) none) ∙ take_all (2 ^ layer) more few
   where
@@ -87,26 +87,7 @@ piece_last before more layer j here few =
     drop_whole [] = refl
     drop_whole (x ∷ xs) = drop_whole xs
 
--- what is found of the pieces that were read before stays
-pub right_kept : (before more : List BlockRead) (n : ℕ) (known : KnownLayer) (count : ℕ) → count * 2 ^ known.layer ≤ length before
-    → right_blocks (is_piece_read (before ++ more) n known) n known.layer count ≡ right_blocks (is_piece_read before n known) n known.layer count
-right_kept before more n known count h =
-    right_same (is_piece_read (before ++ more) n known) (is_piece_read before n known) n known.layer count (λ j lt.
-    let far = mul-le-mul_right {m = j + 1} {n = count} (2 ^ known.layer) (omega (arith, lt)) in
-    is_same j (piece_kept before more known.layer j (omega (arith, far, h))))
-  where
-    is_same : (j : ℕ) → reads_of_piece (before ++ more) known.layer j ≡ reads_of_piece before known.layer j
-        → is_piece_read (before ++ more) n known j ≡ is_piece_read before n known j
-    is_same j e = rw e refl
-
 -- ---- reads that gave whole blocks
-
-pub cases_bool : (b : Bool) → (b ≡ true) ⊎ (b ≡ false)
-cases_bool true = inl refl
-cases_bool false = inr refl
-
-pub count_cons : {X : Type 0} (p : X → Bool) (x : X) (xs : List X) → count_by p (x ∷ xs) ≡ cond (p x) 1 0 + count_by p xs
-count_cons p x xs = sum_by-append (λ y. cond (p y) 1 0) (x ∷ []) xs ∙ omega arith
 
 -- all of them
 pub all_whole : (n : ℕ) (reads : List BlockRead) → length reads ≤ count_by (is_whole n) reads → list_all (is_whole n) reads ≡ true

@@ -1,5 +1,6 @@
--- What a check finds of a file: which of its pieces are right, and so which of its blocks are marked.
-use Rattle.std.specs.Prelude.{◌≡◌, ℕ, zero, suc, ◌+◌, ◌-◌, ◌*◌, ◌/◌, ◌^◌, ◌<◌, ◌↔◌, ◌==◌, ◌&&◌, not, min, Bool, List, [], ◌∷◌, length, slice_index_or, IsTrue, if◌then◌else◌}
+-- What a check finds of a file: which of its blocks are right, and so marked.
+use Rattle.std.specs.Prelude.{◌≡◌, ℕ, ◌/◌, ◌^◌, ◌<◌, ◌↔◌, ◌==◌, ◌&&◌, not, Bool, List, [], ◌∷◌, length, slice_index_or, IsTrue, if◌then◌else◌, Option, None, Some}
+use Rattle.std.specs.List.{count_by, range_with_len}
 use Rattle.std.specs.Simd.{first_chunks}
 use Rattle.bt_tree.specs.Blocks.{block_count}
 use Rattle.bt_tree.specs.TreeShape.{height_of}
@@ -25,29 +26,38 @@ known_layer layer file =
     then record { layer = height_of (block_count file.length); digests = file.root ∷ [] }
     else record { layer = layer; digests = digests_in file.layer }
 
--- how many blocks a piece has, in a file of n bytes
-abbrev pub piece_blocks : ℕ → ℕ → ℕ → ℕ
-piece_blocks n layer index = min (2 ^ layer) (block_count n - index * 2 ^ layer)
+-- the piece of a block, and a piece's digest
+abbrev pub piece_of : KnownLayer → ℕ → ℕ
+piece_of known block = block / 2 ^ known.layer
 
--- how many blocks those of the first pieces have together that are right
-unfoldable pub right_blocks : (ℕ → Bool) → ℕ → ℕ → ℕ → ℕ
-right_blocks is_right n layer zero = 0
-right_blocks is_right n layer (suc index) =
-    right_blocks is_right n layer index + (if is_right index then piece_blocks n layer index else 0)
+abbrev pub digest_of : KnownLayer → ℕ → List ℕ
+digest_of known piece = slice_index_or known.digests piece []
 
--- of a file of n bytes the blocks of the right pieces are marked, and no others
-pub record MarksPieces (is_right : ℕ → Bool) (n : ℕ) (known : KnownLayer) (finding : Finding) : Type 0 where
+-- what a known leaf tells of a block; where none is known, what its piece tells
+abbrev pub by_leaf : Option (List ℕ) → (List ℕ → Bool) → Bool → Bool
+by_leaf None has_leaf piece_is_right = piece_is_right
+by_leaf (Some leaf) has_leaf piece_is_right = has_leaf leaf
+
+-- Where a block's leaf is known before, the block is right if it has this digest, and else if its piece has
+-- the piece's. `has layer index digest` says whether a node has a digest.
+abbrev pub is_right_block : (ℕ → ℕ → List ℕ → Bool) → KnownLayer → (ℕ → Option (List ℕ)) → ℕ → Bool
+is_right_block has known leaves block =
+    by_leaf (leaves block) (has 0 block)
+    (has known.layer (piece_of known block) (digest_of known (piece_of known block)))
+
+-- of a file of n bytes the right blocks are marked, and no others
+pub record MarksBlocks (is_right : ℕ → Bool) (n : ℕ) (finding : Finding) : Type 0 where
   pub blocks : finding.blocks ≡ block_count n
-  pub marked : finding.marked ≡ right_blocks is_right n known.layer (length known.digests)
+  pub marked : finding.marked ≡ count_by is_right (range_with_len 0 (block_count n))
 
--- the bytes, as those of a file of n bytes, have the whole piece with its digest
-abbrev pub has_known_piece : List ℕ → ℕ → KnownLayer → ℕ → Bool
-has_known_piece bytes n known index =
-    has_piece bytes n known.layer index (slice_index_or known.digests index [])
+-- no leaf is known
+abbrev pub no_leaves : ℕ → Option (List ℕ)
+no_leaves block = None
 
--- what a check finds of these bytes
-pub record IsFindingOf (bytes : List ℕ) (n : ℕ) (known : KnownLayer) (finding : Finding) : Type 0 where
-  pub marks : MarksPieces (has_known_piece bytes n known) n known finding
+-- what a check finds of these bytes, where some leaves are known before
+pub record IsFindingOf (bytes : List ℕ) (n : ℕ) (known : KnownLayer) (leaves : ℕ → Option (List ℕ))
+    (finding : Finding) : Type 0 where
+  pub marks : MarksBlocks (is_right_block (has_piece bytes n) known leaves) n finding
   pub longer : IsTrue finding.longer ↔ (n < length bytes)
 
 -- the data file is the torrent's: all its blocks are marked, it is not longer, and no call of its device

@@ -17,4 +17,5 @@ pub mod Show
 pub mod Fault
 -- what private steps cite
 pub mod CheckSteps
+pub mod TreeSteps
 pub mod DigestSteps

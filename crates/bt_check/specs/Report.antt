@@ -1,11 +1,11 @@
 -- What a check reports on the files of a torrent.
-use Rattle.std.specs.Prelude.{◌≡◌, ℕ, ◌*◌, ◌^◌, ◌++◌, if◌then◌else◌, Bool, List, Result, Ok, Err, codes, map}
+use Rattle.std.specs.Prelude.{◌≡◌, ℕ, ◌*◌, ◌^◌, ◌++◌, if◌then◌else◌, Bool, List, [], ◌∷◌, Result, Ok, Err, codes, map}
 use Rattle.std.specs.Fmt.{decimal}
-use Rattle.std.specs.List.{flat_map, list_all, list_any, All}
+use Rattle.std.specs.List.{flat_map, list_all, list_any}
 use Rattle.bt_meta.specs.Files.{File, file_of}
 use Rattle.bt_meta.specs.Torrent.{Metainfo}
 use Rattle.bt_tree.specs.Limits.{full_block_length}
-use Rattle.bt_check.specs.Check.{IsFileFinding}
+use Rattle.bt_check.specs.Check.{CheckedFile, IsFileFinding}
 use Rattle.bt_check.specs.Finding.{is_complete_finding}
 use Rattle.bt_check.specs.Display.{display_text, line_text}
 use Rattle.bt_check.specs.Fault.{device}
@@ -27,11 +27,19 @@ is_complete_report found = list_all (λ f. is_complete_finding f.finding) found
 abbrev pub is_faulty_report : List FileFinding → Bool
 is_faulty_report found = list_any (λ f. f.finding.faulty) found
 
+-- the findings of some files, each after those before it were checked, and which are checked then
+pub data AreFindings (layer : ℕ) : List CheckedFile → List FileFinding → List CheckedFile → Type 0 where
+  none : (before : List CheckedFile) → AreFindings layer before [] before
+  more : (before mid after : List CheckedFile) (one : FileFinding) (rest : List FileFinding)
+      → IsFileFinding layer before (file_in one) one.finding mid → AreFindings layer mid rest after
+      → AreFindings layer before (one ∷ rest) after
+
 -- The findings are of these files, in order, and the summary is theirs; a piece has 2 ^ layer blocks.
 pub record IsReportOf (layer : ℕ) (files : List File) (found : List FileFinding) (summary : Summary)
     : Type 0 where
   pub each : map file_in found ≡ files
-  pub are : All (λ f. IsFileFinding layer (file_in f) f.finding) found
+  pub checked : List CheckedFile
+  pub are : AreFindings layer [] found checked
   pub complete : summary.complete ≡ is_complete_report found
   pub faulty : summary.faulty ≡ is_faulty_report found
 

@@ -9,12 +9,12 @@ ghost use Rattle.bt_check.specs.Report.{IsReportOf, IsReportOn, lines_text, repo
 ghost use Rattle.bt_check.specs.declared.report.FileFinding.{FileFinding};
 
 use crate::data_file::{DataFile, open_data_files};
-use crate::entry_check::check_data_file;
 use crate::fault::Fault;
 use crate::hint::hint_at_folder;
 use crate::output::print;
 use crate::pieces::PieceSize;
 use crate::report::{FileFinding, Summary, last_words, write_line};
+use crate::trees::SharedTrees;
 use bt_disk::Disk;
 use bt_meta::{Torrent, layers_are_of_trees};
 use bt_progress::{FileCall, Watch};
@@ -72,12 +72,13 @@ fn check_files<D: Disk + Drop, W: Write>(
         × Appends (W.contents writer.old) (W.contents writer.new) (lines_text found)) }
     ensures fault { IfErr result (λ fault. (fault ≡ device) ⊎ (fault ≡ out_of_memory)) }
 {
+    let mut trees = SharedTrees::new(alloc, &files)?;
     let mut summary = Summary {
         complete: true,
         faulty: false,
     };
     for DataFile { file, disk } in files {
-        let finding = check_data_file(alloc, disk, file, size)?;
+        let finding = trees.check(alloc, disk, file, size)?;
         write_line(alloc, &FileFinding { file, finding }, writer)?;
         summary = summary.with(finding);
     }

@@ -1,13 +1,12 @@
 //! Checking a data file on its device, piece by piece (BEP 52).
-ghost use Rattle.std.specs.Prelude.{◌≡◌, ◌<◌, ◌≤◌, ◌↔◌, [], ◌∷◌, false, IsTrue, IsSomeAnd, IfOk};
+ghost use Rattle.std.specs.Prelude.{◌≡◌, ◌<◌, ◌≤◌, ◌↔◌, [], ◌∷◌, ℕ, List, Option, false, IsTrue, IsSomeAnd, IfOk};
 ghost use Rattle.bt_tree.specs.Blocks.{IsFileLength, block_count};
 ghost use Rattle.bt_tree.specs.Limits.{max_file_length};
 ghost use Rattle.bt_disk.specs.Calls.{HasCalls};
 ghost use Rattle.bt_meta.specs.Files.{file_of};
-ghost use Rattle.bt_check.specs.Check.{IsEntryFinding, IsFileFinding};
-ghost use Rattle.bt_check.specs.CheckSteps.{HoldsJust, IsBlockCheck};
+ghost use Rattle.bt_check.specs.CheckSteps.{HoldsLeaves, ChecksBlocks, ChecksTree, FindsBytes, IsKnownTree};
 ghost use Rattle.bt_check.specs.EntryCheck.{Answers, IsCheckable, IsEntryCheck, len_call_of};
-ghost use Rattle.bt_check.specs.Finding.{known_layer};
+ghost use Rattle.bt_check.specs.Finding.{KnownLayer, IsFindingOf, known_layer, no_leaves};
 
 use crate::data_file::Finding;
 use crate::file_hash::FileHash;
@@ -26,25 +25,9 @@ pub struct EntryCheck<D: Disk + Drop> {
     pub finding: Finding,
 }
 
-/// Checks the data file of an entry. A file that is not there is not longer, and none of its blocks are
-/// marked.
-pub fn check_data_file<D: Disk + Drop>(
-    alloc: Global,
-    disk: Option<D>,
-    entry: &FileEntry,
-    size: PieceSize,
-) -> Result<Finding, AllocError>
-    requires { IsCheckable size.layer (file_of entry.now) }
-    ensures { IfOk result (IsFileFinding size.layer (file_of entry.now)) }
-{
-    match disk {
-        Some(disk) => Ok(check_entry(alloc, disk, entry, size)?.finding),
-        None => Ok(absent_finding(entry.length)),
-    }
-}
-
-/// What is found of a file of this length where there is no data file.
-fn absent_finding(length: u64) -> Finding
+/// What is found of a file of this length where there is no data file: it is not longer, and none of its
+/// blocks are marked.
+pub fn absent_finding(length: u64) -> Finding
     requires { length ≤ max_file_length }
     ensures { result ≡ record { blocks = block_count length; marked = 0; longer = false; faulty = false } }
 {
@@ -75,26 +58,60 @@ pub fn check_entry<D: Disk + Drop>(
 
     // of what the device answered, at every device
     ensures answered { IfOk result (λ check. (answers : Answers) × IsEntryCheck D.history D.honest D.faults
-        size.layer (file_of entry.now) disk answers check.disk check.finding) }
+        entry.now.length (known_layer size.layer (file_of entry.now)) no_leaves
+        disk answers check.disk check.finding) }
 
     // of the device's bytes, where it gives what was written
     ensures honest { D.honest disk → IfOk result (λ check. check.finding.faulty ≡ false
-        → IsEntryFinding (D.history disk).now.bytes size.layer (file_of entry.now) check.finding) }
+        → IsFindingOf (D.history disk).now.bytes
+        entry.now.length (known_layer size.layer (file_of entry.now)) no_leaves check.finding) }
+{
+    let Some(geometry) = Geometry::new(entry.length) else {
+        return Ok(check_empty(disk));
+    };
+    let mut tree = known_tree(alloc, geometry, entry, size)?;
+    check_tree(alloc, disk, &mut tree)
+}
+
+/// Checks the device of an empty file, which has no tree.
+pub fn check_empty<D: Disk + Drop>(disk: D) -> EntryCheck<D>
+    ensures { (len : Option ℕ) × ((known : KnownLayer) (leaves : ℕ → Option (List ℕ))
+        → IsEntryCheck D.history D.honest D.faults
+        0 known leaves disk (record { len = len; reads = [] }) result.disk result.finding) }
 {
     let mut disk = disk;
     let length = length_of(&mut disk);
-    let longer = is_longer(length, entry.length);
+    let longer = is_longer(length, 0);
     let unknown = length.is_none();
-    let Some(geometry) = Geometry::new(entry.length) else {
-        let finding = Finding {
+    EntryCheck {
+        disk,
+        finding: Finding {
             blocks: 0,
             marked: 0,
             longer,
             faulty: unknown,
-        };
-        return Ok(EntryCheck { disk, finding });
-    };
-    let check = check_blocks(alloc, disk, geometry, entry, size)?;
+        },
+    }
+}
+
+/// Checks the device of a file by what its tree knows; the tree learns the leaves of pieces that are right.
+pub fn check_tree<D: Disk + Drop>(
+    alloc: Global,
+    disk: D,
+    tree: &mut SparseTree<FileHash>,
+) -> Result<EntryCheck<D>, AllocError>
+    requires { IsKnownTree tree.old }
+    ensures answered { IfOk result
+        (λ check. ChecksTree D.history D.honest D.faults tree.old disk check tree.new) }
+    ensures honest { D.honest disk
+        → IfOk result (λ check. FindsBytes (D.history disk).now.bytes tree.old check.finding) }
+{
+    let mut disk = disk;
+    let length = length_of(&mut disk);
+    let geometry = tree.geometry();
+    let longer = is_longer(length, geometry.length());
+    let unknown = length.is_none();
+    let check = check_blocks(alloc, disk, tree)?;
     let finding = Finding {
         blocks: geometry.blocks(),
         marked: check.marked,
@@ -139,17 +156,13 @@ struct BlockCheck<D: Disk + Drop> {
 fn check_blocks<D: Disk + Drop>(
     alloc: Global,
     disk: D,
-    geometry: Geometry,
-    entry: &FileEntry,
-    size: PieceSize,
+    tree: &mut SparseTree<FileHash>,
 ) -> Result<BlockCheck<D>, AllocError>
-    requires checkable { IsCheckable size.layer (file_of entry.now) }
-    requires length { geometry ≡ entry.now.length }
-    requires lawful { IsFileLength geometry }
-    ensures { IfOk result (IsBlockCheck D.history D.honest D.faults
-        geometry (known_layer size.layer (file_of entry.now)) disk) }
+    requires { IsKnownTree tree.old }
+    ensures { IfOk result
+        (λ check. ChecksBlocks D.history D.honest D.faults tree.old disk check tree.new) }
 {
-    let mut tree = known_tree(alloc, geometry, entry, size)?;
+    let geometry = tree.geometry();
     let Ok(mut store) = FileStore::create(alloc, disk, FileHash, geometry) else {
         return Err(AllocError);
     };
@@ -157,7 +170,7 @@ fn check_blocks<D: Disk + Drop>(
     let mut marked = 0;
     let mut faulty = false;
     while from < geometry.blocks() {
-        let adopted = store.adopt(&mut tree, from)?;
+        let adopted = store.adopt(tree, from)?;
         marked += adopted.marked;
         faulty |= adopted.faults > 0;
         from = adopted.next;
@@ -170,7 +183,7 @@ fn check_blocks<D: Disk + Drop>(
 }
 
 /// The tree of a file as far as a torrent tells it: down to the layer of its pieces, or the root alone.
-fn known_tree(
+pub fn known_tree(
     alloc: Global,
     geometry: Geometry,
     entry: &FileEntry,
@@ -179,7 +192,7 @@ fn known_tree(
     requires checkable { IsCheckable size.layer (file_of entry.now) }
     requires length { geometry ≡ entry.now.length }
     requires lawful { IsFileLength geometry }
-    ensures { IfOk result (HoldsJust geometry (known_layer size.layer (file_of entry.now))) }
+    ensures { IfOk result (HoldsLeaves geometry (known_layer size.layer (file_of entry.now)) no_leaves) }
 {
     if entry.layer.is_empty() {
         return SparseTree::new(alloc, FileHash, geometry, entry.root);

@@ -20,6 +20,7 @@ mod reader;
 mod report;
 mod show;
 mod torrent_file;
+mod trees;
 
 pub use call_fault::{fault_name, is_device_fault, told};
 pub use check::check_torrent;

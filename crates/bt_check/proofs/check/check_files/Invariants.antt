@@ -7,5 +7,5 @@ use Rattle.bt_check.proofs.check.check_files.Given as goal
 
 abbrev pub invariant-loop-file : goal.invariant-loop-file
 invariant-loop-file g l =
-    IsReporting l.size.layer (map file_at l.fn.files.items) (map file_at (into_iter_items l.file-iterator)) l.summary
+    IsReporting l.size.layer (map file_at l.fn.files.items) (map file_at (into_iter_items l.file-iterator)) l.trees l.summary
     (g.W.Write.contents l.fn.writer) (g.W.Write.contents l.writer)

@@ -1,30 +1,47 @@
-use Rattle.std.proofs.Common.{◌<◌, arith, refl}
+use Rattle.std.proofs.Common.{◌<◌, arith, refl, sym, ◌∙◌, ap}
 use Rattle.bt_tree.specs.Blocks.{block_count}
 use Rattle.bt_check.proofs.BlockChecks.{checking_begun, checking_more, next_is_later, next_is_inside, sum_is_few, all_checked}
 use Rattle.bt_check.proofs.entry_check.check_blocks.Goals as goal
 
 pub loop-from-init : goal.loop-from-init
-loop-from-init g c = checking_begun _ _ _ _ _ _ _ _ c.in_ok-tree.ensures c.in-Ok.ensures.file c.in-Ok.ensures.disk
+loop-from-init g c = λ known leaves holds.
+    checking_begun _ _ _ _ known leaves _ _ _ holds (c.in-Ok.ensures.file ∙ c.geometry-geometry.ensures.value) c.in-Ok.ensures.disk
+
+pub adopt-requires-clause-geometry : goal.adopt-requires-clause-geometry
+adopt-requires-clause-geometry g c =
+    let is = c.loop-from.invariant c.requires.0 c.requires.1 c.requires.2 in
+    is.learned.tree.length_is ∙ sym is.same_file
+
+pub adopt-requires-clause-inside : goal.adopt-requires-clause-inside
+adopt-requires-clause-inside g c =
+    let is = c.loop-from.invariant c.requires.0 c.requires.1 c.requires.2 in
+    omega (arith, is.within, ap block_count is.same_file)
 
 pub overflow_add-marked : goal.overflow_add-marked
 overflow_add-marked g c =
-    let real : c.loop-from.from < block_count c.args.geometry = omega (arith, c.loop-from-test.true, c.blocks-in-loop-from.ensures.value) in
-    let few = sum_is_few _ _ _ _ _ _ _ _ _ _ _ _ _ _ _ c.loop-from.invariant real c.in_ok-adopted.ensures.ok.1 in
-    omega (arith, few, c.blocks-in-loop-from.ensures.value, c.blocks-in-loop-from.ensures.limit)
+    let is = c.loop-from.invariant c.requires.0 c.requires.1 c.requires.2 in
+    let real : c.loop-from.from < block_count c.args.tree.now.file_length =
+    omega (arith, c.loop-from-test.true, c.blocks-in-loop-from.ensures.value, ap block_count c.geometry-geometry.ensures.value) in
+    let few = sum_is_few _ _ _ _ _ _ _ _ _ _ _ _ _ _ _ _ is real c.in_ok-adopted.ensures.ok.1 in
+    omega (arith, few, c.blocks-in-loop-from.ensures.value, c.blocks-in-loop-from.ensures.limit, ap block_count c.geometry-geometry.ensures.value)
 
 pub loop-from-smaller : goal.loop-from-smaller
 loop-from-smaller g c =
-    let real : c.loop-from.from < block_count c.args.geometry = omega (arith, c.loop-from-test.true, c.blocks-in-loop-from.ensures.value) in
-    let later = next_is_later _ _ _ _ _ _ _ _ _ _ _ _ _ _ _ c.loop-from.invariant real c.in_ok-adopted.ensures.ok.1 in
-    let inside = next_is_inside _ _ _ _ _ _ _ _ _ _ _ _ _ _ _ c.loop-from.invariant real c.in_ok-adopted.ensures.ok.1 in
-    omega (arith, later, inside, real)
+    let is = c.loop-from.invariant c.requires.0 c.requires.1 c.requires.2 in
+    let real : c.loop-from.from < block_count c.args.tree.now.file_length =
+    omega (arith, c.loop-from-test.true, c.blocks-in-loop-from.ensures.value, ap block_count c.geometry-geometry.ensures.value) in
+    let later = next_is_later _ _ _ _ _ _ _ _ _ _ _ _ _ _ _ _ is real c.in_ok-adopted.ensures.ok.1 in
+    let inside = next_is_inside _ _ _ _ _ _ _ _ _ _ _ _ _ _ _ _ is real c.in_ok-adopted.ensures.ok.1 in
+    omega (arith, later, inside, real, ap block_count c.geometry-geometry.ensures.value)
 
 pub loop-from-preserved : goal.loop-from-preserved
-loop-from-preserved g c =
-    let real : c.loop-from.from < block_count c.args.geometry = omega (arith, c.loop-from-test.true, c.blocks-in-loop-from.ensures.value) in
-    checking_more _ _ _ _ _ _ _ _ _ _ _ _ _ _ _ c.loop-from.invariant real c.in_ok-adopted.ensures.ok.1
+loop-from-preserved g c = λ known leaves holds.
+    let real : c.loop-from.from < block_count c.args.tree.now.file_length =
+    omega (arith, c.loop-from-test.true, c.blocks-in-loop-from.ensures.value, ap block_count c.geometry-geometry.ensures.value) in
+    checking_more _ _ _ _ _ _ _ _ _ _ _ _ _ _ _ _ (c.loop-from.invariant known leaves holds) real c.in_ok-adopted.ensures.ok.1
 
 pub returns : goal.returns
-returns g c =
-    all_checked _ _ _ _ _ _ c.loop-from.from c.loop-from.marked c.loop-from.faulty c.loop-from.tree c.loop-from.store _ c.loop-from.invariant
-    (omega (arith, c.loop-from-test.false, c.blocks-in-loop-from.ensures.value)) c.into_disk.ensures refl refl
+returns g c = λ known leaves holds.
+    all_checked _ _ _ _ known leaves _ c.loop-from.from c.loop-from.marked c.loop-from.faulty c.loop-from.tree c.loop-from.store _
+    (c.loop-from.invariant known leaves holds)
+    (omega (arith, c.loop-from-test.false, c.blocks-in-loop-from.ensures.value, ap block_count c.geometry-geometry.ensures.value)) c.into_disk.ensures refl refl
