@@ -1,6 +1,6 @@
 //! A connection.
-ghost use Rattle.std.specs.Prelude.{IfOk};
-ghost use Rattle.bt_sockets.specs.StreamSteps.{IsAddressOf};
+ghost use Rattle.std.specs.Prelude.{◌≡◌, ◌≢◌, List, ℕ, IfOk, MatchOption};
+ghost use Rattle.bt_sockets.specs.StreamSteps.{IsAddressOf, IsTextOf, bracketed};
 
 use bt_meta::Torrent;
 use bt_padding::{PaddedReader, PaddedWriter, Padding};
@@ -8,14 +8,14 @@ use std::alloc::Global;
 use std::cell::RefCell;
 use std::io;
 use std::io::ErrorKind;
-use std::net::{Net, OpenStream, SocketAddr, TcpStream, ToSocketAddrs};
+use std::net::{Ipv6Addr, Net, OpenStream, SocketAddr, TcpStream, ToSocketAddrs};
 use std::time::Duration;
 
 /// How many seconds each address of a host has to answer.
 pub const CONNECT_SECONDS: u64 = 20;
 
-/// How many seconds a peer may send nothing, or take nothing, before a program gives it up.
-pub const IDLE_SECONDS: u64 = 120;
+/// For how many seconds a peer may send nothing at all, or take nothing, before a program gives it up.
+pub const IDLE_SECONDS: u64 = 150;
 
 /// Connects to the first address of a host that answers, and gives that address too. Errors: none does.
 pub(crate) fn connected<R: Net>(
@@ -26,12 +26,36 @@ pub(crate) fn connected<R: Net>(
     ensures { IfOk result (λ connection. IsAddressOf host.now port connection.1) }
 {
     let limit = Duration::from_secs(CONNECT_SECONDS);
-    for address in (host, port).to_socket_addrs(net)? {
+    for address in (text_of(host), port).to_socket_addrs(net)? {
         if let Ok(stream) = TcpStream::connect_timeout(net, &address, limit) {
             return Ok((stream, address));
         }
     }
     Err(io::Error::from(ErrorKind::NotConnected))
+}
+
+/// A host as it is looked up: without the brackets that stand around an IPv6 address.
+fn text_of(host: &str) -> &str
+    ensures { IsTextOf host.now result.now }
+{
+    match in_brackets(host) {
+        Some(text) => match text.parse::<Ipv6Addr>() {
+            Ok(_) => text,
+            Err(_) => host,
+        },
+        None => host,
+    }
+}
+
+/// What stands in a pair of brackets.
+fn in_brackets(host: &str) -> Option<&str>
+    ensures { MatchOption result ((text : List ℕ) → host.now ≢ bracketed text)
+        (λ text. host.now ≡ bracketed text.now) }
+{
+    match host.strip_prefix('[') {
+        Some(behind) => behind.strip_suffix(']'),
+        None => None,
+    }
 }
 
 /// Makes a connection ready for a session: what is read from it, and what is written to it, which are one

@@ -1,10 +1,12 @@
-use Rattle.std.proofs.Common.{◌≡◌, ◌∷◌, [], suc, take, Some, sym, ap, subst, ◌∙◌, add-one}
+use Rattle.std.proofs.Common.{◌≡◌, ◌∷◌, [], ℕ, List, suc, take, Some, sym, ap, subst, ◌∙◌, add-one}
 use Rattle.std.specs.Prelude.{All}
 use Rattle.std.proofs.lemmas.List.Elements.{All-cons, All-head, All-nil, All-tail}
 use Rattle.std.specs.Array.Iter.{array_into_iter_items, array_steps}
 use Rattle.std.specs.Iterator.Adapters.{take_count, take_source, take_steps}
 use Rattle.std.specs.declared.net.socket_addr.SocketAddr.{SocketAddr}
 use Rattle.std.specs.Net.ToAddrs.{HostAddrs, IsHostAndPort, host_addrs}
+use Rattle.std.specs.Net.Grammar.{IsIpText}
+use Rattle.bt_sockets.proofs.Hosts.{text_is, spells}
 use Rattle.bt_sockets.proofs.stream.connected.Goals as goal
 
 -- the address that comes is the first of those that were left
@@ -24,15 +26,18 @@ module _ (P : SocketAddr → Type 0) (before after : HostAddrs) (address : Socke
   later = All-tail P address (host_addrs after) (subst (All P) (first_left before after address step) all)
 
 pub loop-address-init : goal.loop-address-init
-loop-address-init g c = λ ip spelled.
+loop-address-init g c = λ written ip writes.
+    let same : c.text_of.result.now ≡ written = text_is c.args.host.now c.text_of.result.now written ip c.text_of.ensures writes in
+    let spelled : IsIpText c.text_of.result.now ip = subst (λ (t : List ℕ). IsIpText t ip) (sym same) (spells c.args.host.now written ip writes) in
     let one = c.in_ok-address-items.ensures.gives ip spelled in
-    let P = IsHostAndPort c.args.host.now c.args.port in
-    subst (All P) (sym (ap host_addrs c.into_iter-address-iterator.ensures.into_iter_gives ∙ one.1)) (All-cons P one.0 [] one.2 (All-nil P))
+    let P = IsHostAndPort written c.args.port in
+    let is_it : P one.0 = subst (λ (t : List ℕ). IsHostAndPort t c.args.port one.0) same one.2 in
+    subst (All P) (sym (ap host_addrs c.into_iter-address-iterator.ensures.into_iter_gives ∙ one.1)) (All-cons P one.0 [] is_it (All-nil P))
 
 pub loop-address-preserved : goal.loop-address-preserved
-loop-address-preserved g c = λ ip spelled.
-    later (IsHostAndPort c.args.host.now c.args.port) _ _ c.in-Some.address c.in-Some.ensures.steps (c.loop-address.invariant ip spelled)
+loop-address-preserved g c = λ written ip writes.
+    later (IsHostAndPort written c.args.port) _ _ c.in-Some.address c.in-Some.ensures.steps (c.loop-address.invariant written ip writes)
 
 pub returns-in-Ok : goal.returns-in-Ok
-returns-in-Ok g c = λ ip spelled.
-    now (IsHostAndPort c.args.host.now c.args.port) _ _ c.in-Some.address c.in-Some.ensures.steps (c.loop-address.invariant ip spelled)
+returns-in-Ok g c = λ written ip writes.
+    now (IsHostAndPort written c.args.port) _ _ c.in-Some.address c.in-Some.ensures.steps (c.loop-address.invariant written ip writes)
