@@ -5,6 +5,8 @@ pub mod ValueData
 pub mod ReadRanges
 pub mod ReadNumerals
 pub mod ReadParts
+-- how long spellings are, and a value's part of one
+pub mod SpellingEnds
 -- the laws of spellings and of the first fault, by a reading that is a function of the text
 pub mod Representable
 pub mod Reading

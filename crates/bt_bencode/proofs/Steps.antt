@@ -1,7 +1,8 @@
 -- The lemmas that close the steps of each function.
-use Rattle.bt_bencode.proofs.Base.{append_assoc, inl, inr, drop-length, append-nil, drop_more, take_all, behind_the_value}
+use Rattle.bt_bencode.proofs.Base.{append_assoc, length-append, inl, inr, drop-length, append-nil, drop_more, take_all, behind_the_value}
 use Rattle.std.proofs.lemmas.Fmt.{IsAscii-from_digits}
 use Rattle.std.proofs.lemmas.Str.{IsUtf8-from_ascii}
+use Rattle.bt_bencode.proofs.SpellingEnds.{one_digit, digit_more, few_digits, item_next, entry_next, entry_at, entry_fits}
 use Rattle.bt_bencode.proofs.ReadParts.{last_decides, too_deep_at}
 use Rattle.bt_bencode.proofs.ReadingLaws.{none_spells}
 use Rattle.bt_bencode.proofs.ReadRanges.{digits_one_more}
@@ -14,6 +15,12 @@ pub ruleset digits_end_steps = (digits_one_more)
 pub ruleset may_follow_steps = (last_decides)
 
 pub ruleset field_steps = (data_of-Dict, drop_more, drop-length)
+
+pub ruleset field_text_steps = (data_of-Dict, drop-length, entry_at, entry_fits)
+
+pub ruleset end_steps = (one_digit, digit_more, few_digits, length-append)
+
+pub ruleset value_end_steps = (data_of-Int, data_of-Bytes, data_of-List, data_of-Dict, length-append, drop-length, item_next, entry_next)
 
 pub ruleset put_value_steps = (data_of-Int, data_of-Bytes, data_of-List, data_of-Dict, take_all, append-nil, append_assoc)
 

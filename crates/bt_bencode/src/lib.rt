@@ -3,6 +3,7 @@
 
 mod dictionary;
 mod doc;
+mod ends;
 mod error;
 mod law;
 mod number;
@@ -10,7 +11,7 @@ mod reader;
 mod value;
 mod writer;
 
-pub use dictionary::field;
+pub use dictionary::{field, field_text};
 pub use doc::Doc;
 pub use error::BencodeError;
 pub use law::{first_fault_is_one, spellings_are_prefix_free};

@@ -24,7 +24,7 @@ pub mod MakeFiles
 pub mod EncodeValue
 -- what is made: a canonical value, in which no check finds a fault, and which gives the files back
 pub mod MadeTree
-pub mod MadeTorrent
+pub mod MadeText
 -- the law by which it is read back
 pub mod LawReadBack
 -- what closes the steps of each function

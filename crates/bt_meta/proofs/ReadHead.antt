@@ -1,5 +1,9 @@
 -- What the checks of an info dictionary and of a torrent come to, behind those of the head.
-use Rattle.bt_meta.proofs.Base.{◌≡◌, List, ◌++◌, map, Some, refl, ◌∙◌, codes, sha256, Data, data_of, spelling_of, dictionary_at, File, file_of, files_of, first_of, head_checks, tree_checks, layer_checks, piece_length_of, tree_of, info_of, layers_of, first_fault, metainfo_of, IsHead, IsListing, layer_faults, Head, Listing, MetaError}
+use Rattle.bt_meta.proofs.Base.{◌≡◌, ℕ, List, ◌++◌, map, Some, refl, ◌∙◌, codes, sha256, Data, data_of, spelling_of, dictionary_at, File, file_of, files_of, first_of, head_checks, tree_checks, layer_checks, piece_length_of, tree_of, info_of, layers_of, first_fault, metainfo_of, IsHead, IsListing, layer_faults, Head, Listing, MetaError, Option, None, integer, string, dictionary, as_dictionary, no_dictionary}
+use Rattle.std.specs.Prelude.{IsSome, unwrap_or}
+use Rattle.std.specs.Option.{option_and_then, option_map}
+use Rattle.bt_bencode.specs.Dictionary.{field_of}
+use Rattle.bt_bencode.specs.Value.{list}
 use Rattle.bt_meta.specs.Faults.{info_checks}
 use Rattle.bt_meta.proofs.Checks.{first_of-append, first_of-append_some}
 use Rattle.bt_meta.proofs.FileLayers.{layer_faults_are}
@@ -16,6 +20,30 @@ pub metainfo_is : {info : Data} {head : Head} (layers : Data) (files : List File
     → metainfo_of info layers ≡ record { name = head.name.now; piece_length = head.piece_length; infohash = sha256 (spelling_of info); files = files }
 unfolding metainfo_of
 metainfo_is layers files h f = rw (h.name, h.piece_length, h.tree, f) refl
+
+-- ---- the text of an info dictionary
+
+text_of : (field : Option Data) (text : List ℕ) → IsSome (option_and_then as_dictionary field) → Some text ≡ option_map spelling_of field
+    → text ≡ spelling_of (unwrap_or (option_and_then as_dictionary field) no_dictionary)
+text_of None text some is = cc
+text_of (Some (integer z)) text some is = cc
+text_of (Some (string s)) text some is = cc
+text_of (Some (list ds)) text some is = cc
+text_of (Some (dictionary es)) text some is = cc
+
+pub info_text : (torrent : Data) (text : List ℕ) → IsSome (dictionary_at torrent (codes "info"))
+    → Some text ≡ option_map spelling_of (field_of torrent (codes "info")) → text ≡ spelling_of (info_of torrent)
+unfolding dictionary_at info_of
+info_text torrent = text_of (field_of torrent (codes "info"))
+
+no_text_of : (field : Option Data) → IsSome (option_and_then as_dictionary field) → None ≡ option_map spelling_of field → ⊥
+no_text_of None some is = cc
+no_text_of (Some d) some is = cc
+
+pub no_info_text : (torrent : Data) → IsSome (dictionary_at torrent (codes "info"))
+    → None ≡ option_map spelling_of (field_of torrent (codes "info")) → ⊥
+unfolding dictionary_at
+no_info_text torrent = no_text_of (field_of torrent (codes "info"))
 
 -- ---- the whole of a torrent
 

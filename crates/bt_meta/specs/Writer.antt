@@ -49,6 +49,10 @@ pub record IsMade (name : List ℕ) (piece_length : ℕ) (files : List Given) (b
   pub torrent : IsTorrent bytes (torrent_made name piece_length ordered)
   pub small : length bytes ≤ max_text_length
 
+-- the digest is the infohash of the torrent that the bytes spell
+abbrev pub IsInfohashOf : List ℕ → List ℕ → Type 0
+IsInfohashOf bytes digest = (torrent : Metainfo) → IsTorrent bytes torrent → digest ≡ torrent.infohash
+
 -- ---- why nothing is made
 
 -- one of the paths begins the other, or is the other: no tree has both files

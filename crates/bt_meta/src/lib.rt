@@ -24,4 +24,4 @@ pub use properties::MAX_FILE_LENGTH;
 pub use reader::{MAX_TEXT_LENGTH, read_info, read_torrent};
 pub use torrent::{FileEntry, Span, Torrent};
 pub use walk::{MAX_FILES, MAX_PIECES};
-pub use writer::{Made, MakeError, make};
+pub use writer::{Made, MadeTorrent, MakeError, make, make_torrent};

@@ -1,11 +1,11 @@
 //! Reading torrents.
-ghost use Rattle.std.specs.Prelude.{◌≡◌, ℕ, map, codes, IfOk, IfErr, MatchResult, Option, None, Some, if◌then◌else◌};
+ghost use Rattle.std.specs.Prelude.{◌≡◌, ℕ, map, codes, IfOk, IfErr, MatchResult, Option, None, Some, IsSome, if◌then◌else◌};
 ghost use Rattle.std.specs.Result.{result_err};
 ghost use Rattle.sha2.specs.Sha256.{sha256};
 ghost use Rattle.bt_bencode.specs.Spelling.{spelling_of};
 ghost use Rattle.bt_bencode.specs.Doc.{HasAscendingKeys};
 ghost use Rattle.bt_bencode.specs.Value.{data_of};
-ghost use Rattle.bt_meta.specs.Fields.{integer_at, no_dictionary};
+ghost use Rattle.bt_meta.specs.Fields.{integer_at, dictionary_at, no_dictionary};
 ghost use Rattle.bt_meta.specs.Files.{file_of};
 ghost use Rattle.bt_meta.specs.Faults.{first_of, head_checks, first_fault, first_info_fault, version_check, is_hybrid as is_hybrid_info, is_piece_length as is_lawful_piece_length, piece_length_of, info_of, layers_of};
 ghost use Rattle.bt_meta.specs.Torrent.{IsTorrent, IsInfo, metainfo_of, metainfo_with, HaveAscendingPaths, IsLawful};
@@ -17,7 +17,7 @@ use crate::fields::{dictionary, has, integer, is_dictionary, natural, string};
 use crate::layers::add_layers;
 use crate::torrent::Torrent;
 use crate::walk::{Listing, read_tree};
-use bt_bencode::{Value, parse, write};
+use bt_bencode::{Value, field_text, parse};
 use bt_tree::{Hash32, is_piece_length};
 use sha2::{Digest, Sha256};
 use std::alloc::{AllocError, Global};
@@ -38,7 +38,7 @@ pub fn read_torrent(alloc: Global, bytes: &[u8]) -> Result<Torrent, MetaError>
         return Err(MetaError::TooMany);
     }
     let doc = parse(alloc, bytes)?;
-    torrent_in(alloc, doc.value())
+    torrent_in(alloc, doc.value(), bytes)
 }
 
 /// The torrent whose `info` the bytes spell: it has no layers, and none is looked for.
@@ -54,13 +54,14 @@ pub fn read_info(alloc: Global, bytes: &[u8]) -> Result<Torrent, MetaError>
         return Err(MetaError::TooMany);
     }
     let info = parse(alloc, bytes)?;
-    info_in(alloc, info.value())
+    info_in(alloc, info.value(), bytes)
 }
 
-/// The torrent that the value describes.
+/// The torrent that the value describes, which the text spells.
 #[tactic(auto, using(crate::proofs::Steps::torrent_in_steps), unfolding(crate::specs::Faults::first_fault, crate::specs::Faults::info_of))]
-fn torrent_in(alloc: Global, value: &Value) -> Result<Torrent, MetaError>
-    requires { HasAscendingKeys (data_of value.now) }
+fn torrent_in(alloc: Global, value: &Value, text: &[u8]) -> Result<Torrent, MetaError>
+    requires ascending { HasAscendingKeys (data_of value.now) }
+    requires spelled { spelling_of (data_of value.now) ≡ text.now }
     ensures faultless { IfOk result (λ _. first_fault (data_of value.now) ≡ None) }
     ensures described { IfOk result (λ torrent.
         torrent ≡ metainfo_of (info_of (data_of value.now)) (layers_of (data_of value.now))) }
@@ -73,14 +74,16 @@ fn torrent_in(alloc: Global, value: &Value) -> Result<Torrent, MetaError>
     let head = read_head(info)?;
     let mut listing = read_tree(alloc, head.tree, head.piece_length)?;
     add_layers(alloc, &mut listing.files, value, head.piece_length)?;
-    let torrent = torrent_of(alloc, info, &head, listing)?;
+    let infohash = infohash_in(value, text);
+    let torrent = torrent_of(alloc, &head, infohash, listing)?;
     Ok(torrent)
 }
 
-/// The torrent that the value describes as its `info`.
+/// The torrent that the value, which the text spells, describes as its `info`.
 #[tactic(auto, using(crate::proofs::Steps::info_in_steps), unfolding(crate::specs::Faults::first_info_fault))]
-fn info_in(alloc: Global, info: &Value) -> Result<Torrent, MetaError>
-    requires { HasAscendingKeys (data_of info.now) }
+fn info_in(alloc: Global, info: &Value, text: &[u8]) -> Result<Torrent, MetaError>
+    requires ascending { HasAscendingKeys (data_of info.now) }
+    requires spelled { spelling_of (data_of info.now) ≡ text.now }
     ensures faultless { IfOk result (λ _. first_info_fault (data_of info.now) ≡ None) }
     ensures described { IfOk result (λ torrent. torrent ≡ metainfo_of (data_of info.now) no_dictionary) }
     ensures lawful { IfOk result (λ torrent. IsLawful torrent.piece_length torrent.files) }
@@ -91,25 +94,24 @@ fn info_in(alloc: Global, info: &Value) -> Result<Torrent, MetaError>
     }
     let head = read_head(info)?;
     let listing = read_tree(alloc, head.tree, head.piece_length)?;
-    let torrent = torrent_of(alloc, info, &head, listing)?;
+    let infohash = Sha256::digest(text);
+    let torrent = torrent_of(alloc, &head, infohash, listing)?;
     Ok(torrent)
 }
 
 /// The torrent of these parts.
 fn torrent_of(
     alloc: Global,
-    info: &Value,
     head: &Head<'_>,
+    infohash: Hash32,
     listing: Listing,
 ) -> Result<Torrent, AllocError>
     requires counted { listing.pieces ≡ pieces_in head.now.piece_length listing.files.items }
     requires lawful { IsLawful head.now.piece_length (map file_of listing.files.items) }
     ensures { IfOk result (λ torrent.
-        let infohash = sha256 (spelling_of (data_of info.now)) in
         torrent ≡ metainfo_with head.now.name.now head.now.piece_length infohash listing.files.items) }
 {
     let name = Vec::from_slice(alloc, head.name)?;
-    let infohash = infohash(alloc, info)?;
     Ok(Torrent::new(
         name,
         head.piece_length,
@@ -195,10 +197,14 @@ pub(crate) fn is_lawful_length(length: u32) -> bool
     is_piece_length(length)
 }
 
-/// The SHA-256 of the spelling of `info`.
-fn infohash(alloc: Global, info: &Value) -> Result<Hash32, AllocError>
-    ensures { IfOk result (λ digest. digest ≡ sha256 (spelling_of (data_of info.now))) }
+/// The SHA-256 of the bytes of `info` in a torrent's text.
+pub(crate) fn infohash_in(torrent: &Value, text: &[u8]) -> Hash32
+    requires spelled { spelling_of (data_of torrent.now) ≡ text.now }
+    requires there { IsSome (dictionary_at (data_of torrent.now) (codes "info")) }
+    ensures { result ≡ sha256 (spelling_of (info_of (data_of torrent.now))) }
 {
-    let spelling = write(alloc, info)?;
-    Ok(Sha256::digest(spelling.as_slice()))
+    match field_text(text, torrent, b"info") {
+        Some(info) => Sha256::digest(info),
+        None => unreachable!(),
+    }
 }

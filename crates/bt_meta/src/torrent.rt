@@ -8,7 +8,7 @@ ghost use Rattle.bt_meta.specs.Place.{IsPlace};
 ghost use Rattle.bt_meta.specs.PlaceSteps.{IsLastFileAt, HasNoFileAt};
 
 use crate::file_path::FilePath;
-use bt_tree::Hash32;
+use bt_tree::{BLOCK_LEN, Hash32};
 use std::marker::Model;
 
 /// A file of a torrent.
@@ -39,7 +39,7 @@ pub struct Span {
 }
 
 /// The longest range that a peer may ask for: one block (BEP 3).
-const MAX_RANGE: u32 = 16_384;
+const MAX_RANGE: u32 = BLOCK_LEN as u32;
 
 /// A torrent: its name, its piece length, its infohash and its files.
 #[derive(Debug, Drop)]
@@ -131,6 +131,17 @@ impl Torrent {
         ensures one_length { HaveOneLengthPerRoot (map file_of result.now) }
     {
         &self.files
+    }
+
+    /// What every torrent keeps to. It does nothing when it runs.
+    pub fn keeps_laws(&self)
+        ensures lawful { IsLawful self.now.piece_length self.now.files }
+        ensures piece { IsPieceLength self.now.piece_length }
+        ensures laid_out { IsLaidOut self.now.piece_length self.now.files }
+        ensures each { All (IsLawfulFile self.now.piece_length) self.now.files }
+    {
+        // A proof knows what holds of a torrent only from a step that looks at its fields.
+        let _ = &self.files;
     }
 
     /// Where `length` bytes of a piece lie, from its byte `begin` on. None where `length` is 0 or above

@@ -9,7 +9,7 @@ ghost use Rattle.bt_meta.specs.Faults.{first_of, is_piece_length as is_lawful_pi
 ghost use Rattle.bt_meta.specs.GivenFiles.{Given, given_of, content_given, HasRoot, IsInTreeOrder, path_order, is_before, begins as begins_path};
 ghost use Rattle.bt_meta.specs.WriterRefusals.{file_refusal, own_refusal, layer_refusal, conflict_with};
 ghost use Rattle.bt_meta.specs.Faults.{is_path as is_lawful_path, is_element as is_lawful_element};
-ghost use Rattle.bt_meta.specs.Writer.{IsMade, have_overlap, IsNotMade};
+ghost use Rattle.bt_meta.specs.Writer.{IsMade, IsInfohashOf, have_overlap, IsNotMade};
 ghost use Rattle.bt_meta.specs.PropertySteps.{HasLengths};
 ghost use Rattle.bt_meta.specs.WriterSteps.{IsTallyOf, IsWithinLimits, Refuses, RefusesFile};
 ghost use Rattle.bt_meta.specs.EncodeSteps.{given_at};
@@ -20,7 +20,7 @@ use crate::error::MetaError;
 use crate::file_path::MAX_PATH_LENGTH;
 use crate::layers::check as check_bytes;
 use crate::properties::{MAX_FILE_LENGTH, note_length, path_element};
-use crate::reader::{MAX_TEXT_LENGTH, is_lawful_length};
+use crate::reader::{MAX_TEXT_LENGTH, infohash_in, is_lawful_length};
 use crate::walk::{MAX_FILES, MAX_PIECES};
 use bt_bencode::write;
 use bt_tree::Hash32;
@@ -81,9 +81,7 @@ impl From<AllocError> for MakeError {
     }
 }
 
-/// The torrent of these files, with this name: the canonical bencoding of its keys, with the files in the
-/// order of their paths.
-#[tactic(auto, using(crate::proofs::Steps::make_steps), unfolding(crate::specs::WriterRefusals::refusal_of_files))]
+/// The text of the torrent of these files, with this name: see [`make_torrent`].
 pub fn make(
     alloc: Global,
     name: &[u8],
@@ -91,6 +89,33 @@ pub fn make(
     files: &[Made],
 ) -> Result<Vec<u8>, MakeError>
     ensures made { IfOk result (λ text. IsMade name.now piece_length (map given_of files.now) text.items) }
+    ensures apart { OnOk result (have_overlap (map given_of files.now) ≡ false) }
+    ensures refused { IfErr result (IsNotMade name.now piece_length (map given_of files.now)) }
+{
+    Ok(make_torrent(alloc, name, piece_length, files)?.text)
+}
+
+/// A torrent that was made.
+#[derive(Debug, Drop)]
+pub struct MadeTorrent {
+    /// Its bytes.
+    pub text: Vec<u8>,
+    /// The SHA-256 of those of `info` in it.
+    pub infohash: Hash32,
+}
+
+/// The torrent of these files, with this name: the canonical bencoding of its keys, with the files in the
+/// order of their paths; and its infohash.
+#[tactic(auto, using(crate::proofs::Steps::make_steps), unfolding(crate::specs::WriterRefusals::refusal_of_files))]
+pub fn make_torrent(
+    alloc: Global,
+    name: &[u8],
+    piece_length: u32,
+    files: &[Made],
+) -> Result<MadeTorrent, MakeError>
+    ensures made { IfOk result (λ made.
+        IsMade name.now piece_length (map given_of files.now) made.text.items) }
+    ensures infohash { IfOk result (λ made. IsInfohashOf made.text.items made.infohash) }
     ensures apart { OnOk result (have_overlap (map given_of files.now) ≡ false) }
     ensures refused { IfErr result (IsNotMade name.now piece_length (map given_of files.now)) }
 {
@@ -110,7 +135,8 @@ pub fn make(
     if text.len() > MAX_TEXT_LENGTH {
         return Err(MakeError::Count);
     }
-    Ok(text)
+    let infohash = infohash_in(&value, &text);
+    Ok(MadeTorrent { text, infohash })
 }
 
 /// Refuses the first file that is not lawful, in the order given.

@@ -1,8 +1,5 @@
 //! The short last blocks of files.
 ghost use Rattle.std.specs.Prelude.{◌≡◌, ℕ, ◌↔◌, IfSome, Some, IsTrue};
-ghost use Rattle.std.specs.List.{All};
-ghost use Rattle.bt_tree.specs.TreeShape.{IsPieceLength};
-ghost use Rattle.bt_meta.specs.Torrent.{IsLaidOut, IsLawfulFile};
 ghost use Rattle.bt_padding.specs.Blocks.{ask_of, IsShortBlock};
 
 use bt_meta::Torrent;
@@ -15,7 +12,7 @@ pub fn short_length(torrent: &Torrent, piece: u32, begin: u32) -> Option<u32>
     ensures some { IfSome result (λ n. IsShortBlock torrent.now (ask_of piece begin n)) }
     ensures only { (n : ℕ) → IsShortBlock torrent.now (ask_of piece begin n) → result ≡ Some n }
 {
-    keeps_laws(torrent);
+    torrent.keeps_laws();
     let run = torrent.blocks_of(piece)?;
     let index = begin / BLOCK_LEN as u32;
     if index >= run.count {
@@ -37,14 +34,4 @@ pub fn is_short_block(torrent: &Torrent, ask: Ask) -> bool
         Some(length) => length == ask.length,
         None => false,
     }
-}
-
-/// What every torrent keeps to, for the proof above.
-fn keeps_laws(torrent: &Torrent)
-    ensures piece { IsPieceLength torrent.now.piece_length }
-    ensures laid_out { IsLaidOut torrent.now.piece_length torrent.now.files }
-    ensures lawful { All (IsLawfulFile torrent.now.piece_length) torrent.now.files }
-{
-    let _ = torrent.piece_length();
-    let _ = torrent.files();
 }

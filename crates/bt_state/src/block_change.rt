@@ -1,6 +1,5 @@
 ghost use Rattle.std.specs.Prelude.{◌≡◌, ℕ, ◌+◌, ◌-◌, ◌^◌, ◌<◌, ◌≤◌, Some, length, slice_index, slice_set};
-ghost use Rattle.bt_tree.specs.TreeShape.{IsPieceLength};
-ghost use Rattle.bt_meta.specs.Torrent.{total_pieces, IsLaidOut};
+ghost use Rattle.bt_meta.specs.Torrent.{total_pieces};
 ghost use Rattle.bt_meta.specs.PieceBlocks.{HasBlock};
 ghost use Rattle.bt_book.specs.Book.{asked_of, peers_of};
 ghost use Rattle.bt_machine.specs.State.{EngineState};
@@ -32,7 +31,7 @@ pub fn follow_block<D: Disk + Drop, H: NodeHash>(
     ensures peers { peers_of parts.new.book ≡ peers_of parts.old.book }
     ensures others { parts.new ≡ record parts.old { book = parts.new.book; unmarked = parts.new.unmarked } }
 {
-    keeps_laws(&parts.torrent);
+    parts.torrent.keeps_laws();
     parts.book.keeps_laws();
     let piece = piece_of(&parts.torrent, block);
     count_block(&mut parts.unmarked, piece, was, now);
@@ -48,20 +47,11 @@ fn piece_of(torrent: &Torrent, block: BlockId) -> u32
     ensures lies { piece_in torrent.now block ≡ Some result }
     ensures inside { result < total_pieces torrent.now }
 {
-    keeps_laws(torrent);
+    torrent.keeps_laws();
     let Some(range) = torrent.range_of(block.file, block.block) else {
         unreachable!();
     };
     range.piece
-}
-
-/// What every torrent keeps to. It does nothing when it runs.
-fn keeps_laws(torrent: &Torrent)
-    ensures size { IsPieceLength torrent.now.piece_length }
-    ensures laid_out { IsLaidOut torrent.now.piece_length torrent.now.files }
-{
-    let _ = torrent.piece_length();
-    let _ = torrent.files();
 }
 
 /// Takes a block of a piece out of the count of those that are not marked, or into it.

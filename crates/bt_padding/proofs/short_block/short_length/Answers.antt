@@ -5,7 +5,7 @@ use Rattle.bt_padding.proofs.short_block.short_length.Goals.{else-range-begin-vi
 
 pub overflow_add-run : goal.overflow_add-run
 overflow_add-run c =
-    omega (arith, run_fits c.args.torrent.now c.args.piece c.in_ok-run.run' (c.args.begin / 16384) c.in_ok-run.ensures.value c.keeps_laws.ensures.lawful (omega arith))
+    omega (arith, run_fits c.args.torrent.now c.args.piece c.in_ok-run.run' (c.args.begin / 16384) c.in_ok-run.ensures.value c.keeps_laws.ensures.each (omega arith))
 
 pub returns-then-index-run-clause-only : goal.returns-then-index-run-clause-only
 returns-then-index-run-clause-only c n s =

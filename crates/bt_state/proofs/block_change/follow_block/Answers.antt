@@ -10,7 +10,7 @@ piece_of-piece-requires g c = has_it c.requires
 pub count_block-requires-clause-room : goal.count_block-requires-clause-room
 count_block-requires-clause-room g c =
     rw c.deref_mut.ensures.value
-    (bears_few c.requires c.piece_of-piece.result c.piece_of-piece.ensures.lies c.piece_of-piece.ensures.inside c.keeps_laws.ensures.size c.keeps_laws.ensures.laid_out)
+    (bears_few c.requires c.piece_of-piece.result c.piece_of-piece.ensures.lies c.piece_of-piece.ensures.inside c.keeps_laws.ensures.piece c.keeps_laws.ensures.laid_out)
 
 pub count_block-requires-clause-some : goal.count_block-requires-clause-some
 count_block-requires-clause-some g c =

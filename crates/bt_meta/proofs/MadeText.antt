@@ -1,5 +1,5 @@
 -- What is made of lawful files is a torrent, and gives them back.
-use Rattle.bt_meta.proofs.Base.{get_or, ◌≡◌, ◌≢◌, ℕ, ◌≤◌, Bool, true, false, List, [], ◌∷◌, ◌++◌, length, map, None, refl, sym, ap, ◌∙◌, arith, inl, inr, append_assoc, length-append, Option, Some, filter, nat_lt, not, ◌&&◌, ◌==◌, sum_by, nat_eq, unwrap_or, if◌then◌else◌, All, list_any, cases_Bool, and_parts, nat_tests, length-map, map_push, All-head, filter-append, All-tail, sum_by-append, sum_by-cons, option_map, option_and_then, pointwise, All-permutation, length_permutation, bytes_eq-Decides, dictionary, Entries, Data, string, spelling_of, max_path_length, max_file_count, max_piece_count, max_text_length, has_key, integer_at, string_at, dictionary_at, TreeEntry, tree_entries_below, tree_entries_among, with_earlier, is_file, length_of, root_of, pieces_of, piece_count, layer_at, file_at, files_of, first_of, fault_if, Content, content_of, contents_of, is_conflict, has_root_conflict, is_too_many, entry_check, tree_checks, is_piece_length, head_checks, piece_length_of, tree_of, layer_check, layer_checks, info_of, layers_of, first_fault, Given, given_of, HasRoot, IsInTreeOrder, has_layer_size, has_root, metainfo_of, Made, file_refusal, first_layer, AreLayersOf, tree_made, value_made}
+use Rattle.bt_meta.proofs.Base.{get_or, ◌≡◌, ◌≢◌, ℕ, ◌≤◌, Bool, true, false, List, [], ◌∷◌, ◌++◌, length, map, None, refl, sym, ap, ◌∙◌, arith, inl, inr, append_assoc, length-append, Option, Some, filter, nat_lt, not, ◌&&◌, ◌==◌, sum_by, nat_eq, unwrap_or, if◌then◌else◌, All, list_any, cases_Bool, and_parts, nat_tests, length-map, map_push, All-head, filter-append, All-tail, sum_by-append, sum_by-cons, option_map, option_and_then, pointwise, All-permutation, length_permutation, bytes_eq-Decides, dictionary, Entries, Data, string, spelling_of, max_path_length, max_file_count, max_piece_count, max_text_length, has_key, integer_at, string_at, dictionary_at, TreeEntry, tree_entries_below, tree_entries_among, with_earlier, is_file, length_of, root_of, pieces_of, piece_count, layer_at, file_at, files_of, first_of, fault_if, Content, content_of, contents_of, is_conflict, has_root_conflict, is_too_many, entry_check, tree_checks, is_piece_length, head_checks, piece_length_of, tree_of, layer_check, layer_checks, info_of, layers_of, first_fault, Given, given_of, HasRoot, IsInTreeOrder, has_layer_size, has_root, metainfo_of, Made, file_refusal, first_layer, AreLayersOf, tree_made, value_made, sha256, Metainfo}
 use Rattle.std.proofs.lemmas.List.Elements.{All-map}
 use Rattle.std.proofs.lemmas.List.Folds.{list_any_at, list_any_none}
 use Rattle.std.proofs.lemmas.List.Recursion.{is_sum_by}
@@ -11,11 +11,14 @@ use Rattle.bt_meta.proofs.Lists.{All-front, All-back}
 use Rattle.bt_meta.proofs.TreeWalk.{file_counted, folder_counted, some_of_filter}
 use Rattle.bt_meta.proofs.RootLengths.{conflict_free}
 use Rattle.bt_meta.proofs.MadeTree.{Agree, AreAlike, IsGood, entry_made, length_of_made, root_of_some, IsTreeOf, canonical_made, AreLawful, IsLawful, lawful_ordered, ordered_named, value_is_file, root_of_made, tree_is}
+use Rattle.std.specs.Prelude.{codes, IsSome}
 use Rattle.bt_meta.specs.EncodeSteps.{IsValueOf}
+use Rattle.bt_meta.proofs.LawReadBack.{one_torrent}
 use Rattle.bt_meta.proofs.MakeFiles.{files_refused, tree_paths}
 use Rattle.bt_meta.specs.declared.writer.MakeError.TheVariants.{LayerSize as layer_size, LayerDiffers as layer_differs}
 use Rattle.bt_meta.specs.WriterRefusals.{Check}
-use Rattle.bt_meta.specs.Writer.{IsMade, file_made, have_overlap, torrent_made}
+use Rattle.bt_meta.specs.Torrent.{IsTorrent}
+use Rattle.bt_meta.specs.Writer.{IsMade, IsInfohashOf, file_made, have_overlap, torrent_made}
 
 -- ==== no check refuses the tree of files that are lawful
 
@@ -190,34 +193,48 @@ module _ (name : List ℕ) {n : ℕ} {files : List Given} {layers : Entries} (la
 
 -- ---- the torrent
 
-pub made_of_given : (files : List Made) {name : List ℕ} {n : ℕ} {ordered : List Given} {value : Data} {bytes : List ℕ}
-    → true ≡ is_piece_length n → false ≡ (length files == 0)
-    → first_of (with_earlier (file_refusal n) [] (map given_of files)) ≡ None → All HasRoot (map given_of files)
-    → IsInTreeOrder (map given_of files) ordered → false ≡ have_overlap ordered → IsValueOf name n ordered value
-    → bytes ≡ spelling_of value → length bytes ≤ max_text_length → IsMade name n (map given_of files) bytes
-made_of_given files {name} {n} {ordered} lawful some none rooted order apart made spelled small =
-    let given = map given_of files in
-    let h = lawful_ordered n given ordered none order in
-    let named = ordered_named n given ordered none order in
-    let paths = tree_paths order apart in
-    let tree = tree_is n ordered paths named h.each (All-permutation HasRoot given ordered order.same rooted) in
-    let as_many : length ordered ≡ length files = length_permutation given ordered order.same ∙ length-map _ _ in
-    let whole = spelled ∙ ap spelling_of made.made in
-    record {
-      faultless = files_refused n files lawful some ∙ none;
-      ordered = ordered;
-      in_order = order;
-      tree_paths = paths;
-      layers = made.layers;
-      layered = made.layered;
-      spelled = whole;
-      torrent = record {
+-- what each lemma below takes: what was checked, and what was written
+module _ (files : List Made) {name : List ℕ} {n : ℕ} {ordered : List Given} {value : Data} {bytes : List ℕ}
+    (lawful : true ≡ is_piece_length n) (some : false ≡ (length files == 0))
+    (none : first_of (with_earlier (file_refusal n) [] (map given_of files)) ≡ None) (rooted : All HasRoot (map given_of files))
+    (order : IsInTreeOrder (map given_of files) ordered) (apart : false ≡ have_overlap ordered) (made : IsValueOf name n ordered value)
+    (spelled : bytes ≡ spelling_of value) (small : length bytes ≤ max_text_length) where
+  torrent_of_given : IsTorrent bytes (torrent_made name n ordered)
+  torrent_of_given =
+      let given = map given_of files in
+      let h = lawful_ordered n given ordered none order in
+      let named = ordered_named n given ordered none order in
+      let tree = tree_is n ordered (tree_paths order apart) named h.each (All-permutation HasRoot given ordered order.same rooted) in
+      let as_many : length ordered ≡ length files = length_permutation given ordered order.same ∙ length-map _ _ in
+      record {
         value = value_made name n ordered made.layers;
         small = small;
         canonical = canonical_made name n _ _ (sym lawful) tree made.layered;
-        spelled = sym whole;
+        spelled = sym (spelled ∙ ap spelling_of made.made);
         faultless = made_passes name made.layered tree (sym lawful) h (grind (arith, nat_tests));
         described = said name made.layered tree;
-      };
-      small = small;
-    }
+      }
+
+  pub made_of_given : IsMade name n (map given_of files) bytes
+  made_of_given = record {
+    faultless = files_refused n files lawful some ∙ none;
+    ordered = ordered;
+    in_order = order;
+    tree_paths = tree_paths order apart;
+    layers = made.layers;
+    layered = made.layered;
+    spelled = spelled ∙ ap spelling_of made.made;
+    torrent = torrent_of_given;
+    small = small;
+  }
+
+  pub infohash_made : {digest : List ℕ} → digest ≡ sha256 (spelling_of (info_of value)) → IsInfohashOf bytes digest
+  unfolding torrent_made info_of dictionary_at
+  infohash_made is torrent h =
+      is ∙ rw made.made refl ∙ ap (λ (t : Metainfo). t.infohash) (one_torrent bytes (torrent_made name n ordered) torrent torrent_of_given h)
+
+-- the value of a torrent has its `info`
+pub has_info : {name : List ℕ} {n : ℕ} {ordered : List Given} {value : Data} → IsValueOf name n ordered value
+    → IsSome (dictionary_at value (codes "info"))
+unfolding dictionary_at
+has_info made = rw made.made refl

@@ -1,8 +1,8 @@
 use Rattle.bt_meta.proofs.Base.{arith, ◌∙◌, overlap}
 use Rattle.bt_meta.specs.Writer.{too_long}
 use Rattle.bt_meta.proofs.MakeFiles.{same_overlap, tree_paths, files_refused}
-use Rattle.bt_meta.proofs.MadeTorrent.{made_of_given}
-use Rattle.bt_meta.proofs.writer.make.Goals as goal
+use Rattle.bt_meta.proofs.MadeText.{made_of_given, infohash_made, has_info}
+use Rattle.bt_meta.proofs.writer.make_torrent.Goals as goal
 
 pub returns-then-has_overlap-clause-refused : goal.returns-then-has_overlap-clause-refused
 returns-then-has_overlap-clause-refused c =
@@ -34,3 +34,12 @@ returns-clause-made c =
 
 pub returns-clause-apart : goal.returns-clause-apart
 returns-clause-apart c = same_overlap c.in_ok-ordered.ensures (rw (c.deref.ensures.value) at c.if-has_overlap.ensures)
+
+pub infohash_in-infohash-requires-clause-there : goal.infohash_in-infohash-requires-clause-there
+infohash_in-infohash-requires-clause-there c = has_info (rw (c.deref-2.ensures.value) at c.in_ok-value.ensures)
+
+pub returns-clause-infohash : goal.returns-clause-infohash
+returns-clause-infohash c =
+    infohash_made c.args.files.now c.if-not-is_lawful_length.ensures c.if-is_empty.ensures c.in_ok-check_files.ensures.checked
+    c.in_ok-check_files.ensures.rooted c.in_ok-ordered.ensures (rw (c.deref.ensures.value) at c.if-has_overlap.ensures)
+    (rw (c.deref-2.ensures.value) at c.in_ok-value.ensures) c.in_ok-text.ensures (omega arith) c.infohash_in-infohash.ensures
