@@ -15,7 +15,7 @@ use std::time::Duration;
 pub const CONNECT_SECONDS: u64 = 20;
 
 /// For how many seconds a peer may send nothing at all, or take nothing, before a program gives it up.
-pub const IDLE_SECONDS: u64 = 150;
+pub const IDLE_SECONDS: u64 = 120;
 
 /// Connects to the first address of a host that answers, and gives that address too. Errors: none does.
 pub(crate) fn connected<R: Net>(
