@@ -7,7 +7,7 @@ use Rattle.std.specs.Cmp.Lexicographic.{bytes_decides}
 use Rattle.std.specs.List.{AllZip}
 use Rattle.std.specs.Str.{bytes_eq}
 use Rattle.std.specs.Box.{box_value}
-use Rattle.clap.specs.Words.{App, HasKind, IsAmong, Row, Text, all_of, fault_of, kind_of, first_of, first_value, found_of, is_simple, is_simple_and_free, matched_of, raw_values, rows_of, subcommand_name_of, subcommand_of, subcommand_rows, subcommand_rows_of}
+use Rattle.clap.specs.Words.{App, FailsBy, HasKind, HasMatchesOf, IsAmong, Row, Text, all_of, fault_of, kind_of, first_of, first_value, found_of, is_simple, is_simple_and_free, matched_of, raw_values, rows_of, subcommand_name_of, subcommand_of, subcommand_rows, subcommand_rows_of}
 use Rattle.clap.specs.declared.parser.matches.ArgMatches.{ArgMatches}
 use Rattle.clap.specs.declared.parser.matches.ArgMatches.TheViews.{out-ArgMatches, out-SubCommand}
 use Rattle.clap.specs.declared.parser.matches.Found.{Found}
@@ -19,8 +19,8 @@ use Rattle.bt_check.specs.declared.torrent_file.Source.{Source}
 use Rattle.bt_transfer.specs.declared.peer.Serving.{Serving}
 use Rattle.bt_transfer.specs.declared.peer.Serving.TheVariants.{Count, Forever}
 use Rattle.bt_commands.specs.CommandLine.{AsksFor, HasNumber, IsFetchTaskIn, IsGiven, IsMakeTaskIn, IsSeedTaskIn, IsServingIn, IsSourceIn, IsTaskIn, IsTaskOf, IsNoTaskOf}
-use Rattle.bt_commands.specs.CommandLineSteps.{IsRefusalFor, TellsOf}
-use Rattle.bt_commands.specs.Subcommands.{program_app}
+use Rattle.bt_commands.specs.CommandLineSteps.{AreWordsOf, IsRefusalFor, TellsOf}
+use Rattle.bt_commands.specs.Subcommands.{check_app, fetch_app, file_app, make_app, program_app, replay_app, seed_app, show_app, top_app, transfer_app}
 use Rattle.bt_commands.specs.Values.{IsNumber, IsPeerWord}
 use Rattle.bt_transfer.specs.declared.peer.Peer.{Peer}
 use Rattle.bt_commands.specs.declared.command_line.Refusal.{Refusal}
@@ -192,34 +192,43 @@ met_refused o name rows r met h = subst (λ o. IfErr r (IsRefusalFor ((task : Ta
 -- ---- the words
 
 pub words_simple : is_simple program_app ≡ true
-unfolding clap_on_literals
+unfolding clap_on_literals program_app transfer_app file_app top_app make_app show_app check_app seed_app fetch_app replay_app
 words_simple = refl
 
 pub words_free : is_simple_and_free program_app ≡ true
-unfolding clap_on_literals
+unfolding clap_on_literals program_app transfer_app file_app top_app make_app show_app check_app seed_app fetch_app replay_app
 words_free = refl
 
-pub asked : (app : App) (words : List Text) (m : ArgMatches) (task : Task) → app ≡ program_app → fault_of app words ≡ []
-    → subcommand_rows_of m ≡ subcommand_of app words → IsTaskIn (subcommand_rows_of m) task → IsTaskOf words task
-asked app words m task is faultless met t = record {
-  faultless = ap (λ a. fault_of a words) (sym is) ∙ faultless;
-  asked = subst (λ o. IsTaskIn o task) (met ∙ ap (λ a. subcommand_of a words) is) t;
-}
+pub asked : (words : List Text) (m : ArgMatches) (task : Task) → AreWordsOf words m → IsTaskIn (subcommand_rows_of m) task → IsTaskOf words task
+asked words m task are t = record { faultless = are.faultless; asked = subst (λ o. IsTaskIn o task) are.met t }
 
-pub not_asked : (app : App) (words : List Text) (m : ArgMatches) → app ≡ program_app → subcommand_rows_of m ≡ subcommand_of app words
-    → ((task : Task) → ¬ IsTaskIn (subcommand_rows_of m) task) → (task : Task) → ¬ IsTaskOf words task
-not_asked app words m is met none task a =
-    none task (subst (λ o. IsTaskIn o task) (sym (met ∙ ap (λ a. subcommand_of a words) is)) a.asked)
+pub not_asked : (words : List Text) (m : ArgMatches) → AreWordsOf words m → ((task : Task) → ¬ IsTaskIn (subcommand_rows_of m) task)
+    → (task : Task) → ¬ IsTaskOf words task
+not_asked words m are none task a = none task (subst (λ o. IsTaskIn o task) (sym are.met) a.asked)
+
+-- what clap says of words that it has read by the program's commands
+pub words_met : (r : Result ArgMatches Error) (app : App) (words : List Text) → app ≡ program_app
+    → (is_simple_and_free app ≡ true → FailsBy (fault_of app words) r) → IfOk r (HasMatchesOf app words) → IfOk r (AreWordsOf words)
+words_met (Ok m) app words is kinds has = record {
+  faultless = ap (λ a. fault_of a words) (sym is) ∙ kinds (ap is_simple_and_free is ∙ words_free);
+  met = (has (ap is_simple is ∙ words_simple)).1 ∙ ap (λ a. subcommand_of a words) is;
+}
+words_met (Err e) app words is kinds has = tt
 
 -- the kinds that the words' fault can have
 kind_of_fault : (app : App) (words : List Text) (e : Error) → app ≡ program_app → HasKind (fault_of app words) e → IsNoTaskOf words (kind_of e)
 kind_of_fault app words e is (inl memory) = inl memory
 kind_of_fault app words e is (inr among) = inr (inl (subst (λ a. IsAmong (kind_of e) (fault_of a words)) is among))
 
-pub faulty : {T : Type 0} (r : Result T Error) (app : App) (words : List Text) (e : Error) → app ≡ program_app → HasKind (fault_of app words) e
-    → IsErrAnd r (λ found. found ≡ e) → IfErr r (λ found. IsNoTaskOf words (kind_of found))
-faulty (Ok x) app words e is kinds same = absurd same
-faulty (Err found) app words e is kinds same = rw same (kind_of_fault app words e is kinds)
+pub words_faulty : (r : Result ArgMatches Error) (app : App) (words : List Text) → app ≡ program_app
+    → (is_simple_and_free app ≡ true → FailsBy (fault_of app words) r) → IfErr r (λ error. IsNoTaskOf words (kind_of error))
+words_faulty (Ok m) app words is kinds = tt
+words_faulty (Err e) app words is kinds = kind_of_fault app words e is (kinds (ap is_simple_and_free is ∙ words_free))
+
+pub faulty : {T : Type 0} (r : Result T Error) (words : List Text) (e : Error) → IsNoTaskOf words (kind_of e) → IsErrAnd r (λ found. found ≡ e)
+    → IfErr r (λ found. IsNoTaskOf words (kind_of found))
+faulty (Ok x) words e is same = absurd same
+faulty (Err found) words e is same = rw same is
 
 -- the kind of the error that tells of a refusal
 pub told : (words : List Text) (e : Refusal) (k : ErrorKind) → TellsOf e k → IsRefusalFor ((task : Task) → ¬ IsTaskOf words task) e → IsNoTaskOf words k

@@ -1,7 +1,7 @@
 -- Lemmas on the order of a walk: the paths of the files that were found, and behind them those of the entries that
 -- wait, the next one first, ascend.
 use Rattle.std.proofs.Common.{String, Global, ◌≡◌, ◌++◌, ◌≤◌, ℕ, refl, subst, List, [], ◌∷◌, map, length, take, string_bytes, sym, ◌∙◌, ap, arith, take_all, take_at, length-take-le}
-use Rattle.std.proofs.lemmas.List.{append_assoc, append-nil, length-take, map-append, reverse-append, reverse-reverse, take-take}
+use Rattle.std.proofs.lemmas.List.{append_assoc, append-nil, length-map, length-take, map-append, reverse-append, reverse-reverse, take-take}
 use Rattle.std.proofs.lemmas.List.Elements.{All-nil, All-head, All-tail, All-push, All-same}
 use Rattle.std.proofs.lemmas.Cmp.{nat_list_cmp_total}
 use Rattle.std.specs.Prelude.{reverse, Option, Some, option_to_list, ⊤}
@@ -13,7 +13,9 @@ use Rattle.std.specs.declared.cmp.Ordering.{Ordering}
 use Rattle.std.specs.declared.cmp.Ordering.TheVariants.{Less, Equal, Greater}
 use Rattle.std.specs.String.{string_cmp}
 use Rattle.bt_commands.specs.Folder.{Ascend, file_paths, path_behind, path_of_file}
-use Rattle.bt_commands.specs.FolderSteps.{PutsEntries}
+use Rattle.bt_commands.specs.FolderSteps.{GoesOn, IsBegun, PutsEntries}
+use Rattle.bt_commands.specs.declared.folder.EntryKind.{EntryKind}
+use Rattle.bt_commands.specs.declared.folder.Walk.{Walk}
 use Rattle.bt_commands.specs.declared.folder.EntryKind.TheVariants.{File, Folder}
 use Rattle.bt_commands.specs.declared.folder.FolderEntry.{FolderEntry}
 use Rattle.bt_commands.proofs.FolderWalk.{Path, file_paths_more, file_paths_none, last_path, last_path_more, last_path_none, name_of}
@@ -307,3 +309,49 @@ ordered_folder found more left new path next depth entry folder deep put at =
 pub ordered_files : (found waiting : List FolderEntry) (path : Path) → IsWalk found waiting path → Ascend (file_paths [] found)
 ordered_files found waiting path walk =
     ascend (file_paths [] found) (front_in_order (file_paths [] found) (stack_paths path (reverse waiting)) walk.order)
+
+-- ---- the code's walk
+
+abbrev pub path_of_walk : Walk → Path
+path_of_walk walk = map string_bytes walk.path.items
+
+pub walk_begun : (walk : Walk) → IsBegun walk → IsWalk walk.entries.items walk.waiting.items (path_of_walk walk)
+walk_begun walk is =
+    ordered_begun walk.entries.items (path_of_walk walk) 0 [] walk.waiting.items is.none (ap (map string_bytes) is.top) refl refl is.put
+
+walk_to : (old new : Walk) (kind : EntryKind) (on : GoesOn old new) → on.entry.kind ≡ kind
+    → IsNext old.entries.items new.entries.items on.others (path_of_walk old) (path_of_walk new) on.entry
+    → IsWalk new.entries.items new.waiting.items (path_of_walk new)
+walk_to old new File on is at =
+    subst (λ l. IsWalk new.entries.items l (path_of_walk new)) (sym (on.file is))
+    (ordered_file old.entries.items new.entries.items on.others (path_of_walk old) (path_of_walk new) on.entry is at)
+walk_to old new Folder on is at =
+    ordered_folder old.entries.items new.entries.items on.others new.waiting.items (path_of_walk old) (path_of_walk new) (length new.path.items) on.entry is
+    (sym (length-map new.path.items string_bytes)) (on.folder is) at
+
+pub walk_on : (old new : Walk) → GoesOn old new → IsWalk old.entries.items old.waiting.items (path_of_walk old)
+    → IsWalk new.entries.items new.waiting.items (path_of_walk new)
+walk_on old new on walk =
+    walk_to old new on.entry.kind on refl
+    (ordered_next old.entries.items new.entries.items old.waiting.items on.others (path_of_walk old) (path_of_walk new) (Some on.entry) on.entry
+    on.taken refl on.path on.found walk)
+
+-- at the end
+pub walk_ended : (found entries waiting : List FolderEntry) (path : Path) → found ≡ entries → IsWalk entries waiting path → Ascend (file_paths [] found)
+walk_ended found entries waiting path same walk =
+    subst (λ l. Ascend (file_paths [] l)) (sym same) (ordered_files entries waiting path walk)
+
+-- an entry was taken from those that waited
+pub went_on : (old new : Walk) (left : List FolderEntry) (r : Option FolderEntry) (entry : FolderEntry) → old.waiting.items ≡ left ++ option_to_list r
+    → r ≡ Some entry → new.entries.items ≡ old.entries.items ++ entry ∷ []
+    → map string_bytes new.path.items ≡ path_behind (map string_bytes old.path.items) entry → (entry.kind ≡ File → new.waiting.items ≡ left)
+    → (entry.kind ≡ Folder → PutsEntries (length new.path.items) left new.waiting.items) → GoesOn old new
+went_on old new left r entry items some found path file folder = record {
+  entry = entry;
+  others = left;
+  taken = items ∙ ap (λ o. left ++ option_to_list o) some;
+  found = found;
+  path = path;
+  file = file;
+  folder = folder;
+}

@@ -6,5 +6,6 @@ pub mod MakeFault
 pub mod AtomicFilePath
 -- the program
 pub mod PeerWords
+pub mod CommandWords
 pub mod CommandLineTask
 pub mod ProgramRun

@@ -9,6 +9,7 @@ pub mod CommandLine
 pub mod Program
 -- what private steps cite
 pub mod CommandLineSteps
+pub mod SubcommandsSteps
 pub mod FolderSteps
 pub mod MakeSteps
 pub mod AtomicFileSteps

@@ -1,6 +1,6 @@
 -- The commands of the program, and the words of each, as the kit's `clap` reads them.
-use Rattle.std.specs.Prelude.{true, [], ◌∷◌, Some, codes}
-use Rattle.clap.specs.Words.{App, Rule, Text, new_app, new_rule, with_rule, with_subcommand}
+use Rattle.std.specs.Prelude.{true, List, [], ◌∷◌, ◌++◌, Some, codes}
+use Rattle.clap.specs.Words.{App, Rule, Text, new_app, new_rule, with_subcommand}
 use Rattle.clap.specs.Simple.{on_top}
 use Rattle.clap.specs.declared.builder.action.ArgAction.TheVariants.{Append, SetTrue}
 
@@ -51,31 +51,35 @@ peers_rule = record (required_rule (codes "PEER")) { action = Some Append }
 
 -- ---- commands
 
-abbrev pub make_app : App
-make_app =
-    with_rule (with_rule (with_rule (with_rule (with_rule (new_app (codes "make"))
-    (required_rule (codes "DIR"))) (required_rule (codes "OUT"))) name_rule) piece_length_rule) verbose_rule
+-- a command with these words, in turn, behind those that it has
+abbrev pub with_rules : App → List Rule → App
+with_rules app rules = on_top (λ shape. record shape { rules = shape.rules ++ rules }) app
 
-abbrev pub show_app : App
-show_app = with_rule (with_rule (new_app (codes "show")) (required_rule (codes "TORRENT"))) info_rule
+-- a command of this name with these words
+abbrev pub command_app : Text → List Rule → App
+command_app name rules = with_rules (new_app name) rules
 
--- a command on a torrent and the folder of its files
-abbrev pub data_app : Text → App
-data_app name =
-    with_rule (with_rule (new_app name) (required_rule (codes "TORRENT"))) (required_rule (codes "DIR"))
+unfoldable pub make_app : App
+make_app = command_app (codes "make")
+    (required_rule (codes "DIR") ∷ required_rule (codes "OUT") ∷ name_rule ∷ piece_length_rule ∷ verbose_rule ∷ [])
 
-abbrev pub check_app : App
-check_app = with_rule (with_rule (data_app (codes "check")) info_rule) verbose_rule
+unfoldable pub show_app : App
+show_app = command_app (codes "show") (required_rule (codes "TORRENT") ∷ info_rule ∷ [])
 
-abbrev pub seed_app : App
-seed_app =
-    with_rule (with_rule (with_rule (with_rule (with_rule (data_app (codes "seed"))
-    serve_rule) forever_rule) listen_rule) port_rule) info_rule
+unfoldable pub check_app : App
+check_app = command_app (codes "check")
+    (required_rule (codes "TORRENT") ∷ required_rule (codes "DIR") ∷ info_rule ∷ verbose_rule ∷ [])
 
-abbrev pub fetch_app : App
-fetch_app = with_rule (with_rule (data_app (codes "fetch")) peers_rule) info_rule
+unfoldable pub seed_app : App
+seed_app = command_app (codes "seed")
+    (required_rule (codes "TORRENT") ∷ required_rule (codes "DIR") ∷ serve_rule ∷ forever_rule ∷ listen_rule
+    ∷ port_rule ∷ info_rule ∷ [])
 
-abbrev pub replay_app : App
+unfoldable pub fetch_app : App
+fetch_app = command_app (codes "fetch")
+    (required_rule (codes "TORRENT") ∷ required_rule (codes "DIR") ∷ peers_rule ∷ info_rule ∷ [])
+
+unfoldable pub replay_app : App
 replay_app = new_app (codes "replay")
 
 -- ---- the program
@@ -91,16 +95,16 @@ with_demands = on_top (λ shape. record shape {
   arg_required_else_help = true;
 })
 
-abbrev pub top_app : App
+unfoldable pub top_app : App
 top_app = with_demands (with_version (new_app (codes "btseed")))
 
 -- the program with the commands that work on torrents and their files
-abbrev pub file_app : App
+unfoldable pub file_app : App
 file_app = with_subcommand (with_subcommand (with_subcommand top_app make_app.top) show_app.top) check_app.top
 
 -- and on peers
-abbrev pub transfer_app : App
+unfoldable pub transfer_app : App
 transfer_app = with_subcommand (with_subcommand file_app seed_app.top) fetch_app.top
 
-abbrev pub program_app : App
+unfoldable pub program_app : App
 program_app = with_subcommand transfer_app replay_app.top

@@ -10,7 +10,7 @@ use bt_check::{Fault, print, system_fault, told};
 use bt_progress::{FileCall, Watch};
 use bt_tree::Hash32;
 use std::alloc::{AllocError, Global};
-use std::fs::{self, File, OpenFile, Permissions};
+use std::fs::{self, File, Metadata, OpenFile, Permissions};
 use std::io::{ErrorKind, Write};
 use std::rt::Files;
 
@@ -71,27 +71,50 @@ fn replace_file<R: Files + AllocGlobal, P: Watch>(
 ) -> Result<(), Fault>
     ensures { IfErr result (λ fault. (fault ≡ device) ⊎ (fault ≡ out_of_memory)) }
 {
-    let alloc = rt.alloc();
-    let target = told(alloc, watch, FileCall::Look, path, target_of(rt, path));
+    let target = told(rt.alloc(), watch, FileCall::Look, path, target_of(rt, path));
     let Target { path, permissions } = target?;
-    let target = path.as_str();
+    replace_target(rt, watch, path.as_str(), permissions, bytes)
+}
+
+/// Writes the file at a path, which has these permissions where it is there.
+fn replace_target<R: Files + AllocGlobal, P: Watch>(
+    rt: &R,
+    watch: &P,
+    path: &str,
+    permissions: Option<Permissions>,
+    bytes: &[u8],
+) -> Result<(), Fault>
+    ensures { IfErr result (λ fault. (fault ≡ device) ⊎ (fault ≡ out_of_memory)) }
+{
     let part = told(
-        alloc,
+        rt.alloc(),
         watch,
         FileCall::Create,
-        target,
-        create_part(rt, target),
+        path,
+        create_part(rt, path),
     );
     let (part, mut file) = part?;
     let written = write_part(&mut file, permissions, bytes);
-    let outcome = match told(alloc, watch, FileCall::Write, target, written) {
-        Ok(()) => renamed(rt, watch, part.as_str(), target),
-        Err(fault) => Err(fault),
-    };
+    let outcome = put_in_place(rt, watch, part.as_str(), path, written);
     if outcome.is_err() {
         let _ = fs::remove_file(rt, part.as_str());
     }
     outcome
+}
+
+/// Gives a part file its name, where it was written. A fault is told of.
+fn put_in_place<R: Files + AllocGlobal, P: Watch>(
+    rt: &R,
+    watch: &P,
+    part: &str,
+    path: &str,
+    written: Result<(), Fault>,
+) -> Result<(), Fault>
+    requires { IfErr written (λ fault. fault ≡ device) }
+    ensures { IfErr result (λ fault. fault ≡ device) }
+{
+    told(rt.alloc(), watch, FileCall::Write, path, written)?;
+    renamed(rt, watch, part, path)
 }
 
 /// Gives a file another's name, and takes its place. A fault is told of.
@@ -121,22 +144,42 @@ fn target_of<R: Files + AllocGlobal>(rt: &R, path: &str) -> Result<Target, Fault
     let mut path = String::from_str(rt.alloc(), path)?;
     // a look at each link, and one at the file behind them
     for _ in 0..=MAX_LINKS {
-        match fs::symlink_metadata(rt, path.as_str()) {
-            Ok(metadata) if metadata.is_file() => {
-                let permissions = Some(metadata.permissions());
-                return Ok(Target { path, permissions });
-            }
-            Ok(metadata) if metadata.is_symlink() => {
-                path = followed_link(rt, path.as_str())?;
-            }
-            Err(error) if error.kind() == ErrorKind::NotFound => {
-                let permissions = None;
-                return Ok(Target { path, permissions });
-            }
-            Ok(_) | Err(_) => return Err(Fault::Device),
+        match found_at(rt, path.as_str())? {
+            Found::Replaceable(permissions) => return Ok(Target { path, permissions }),
+            Found::Link => path = followed_link(rt, path.as_str())?,
         }
     }
     Err(Fault::Device)
+}
+
+/// What is found where a file is replaced.
+#[derive(Drop)]
+enum Found {
+    /// A regular file with these permissions, or nothing.
+    Replaceable(Option<Permissions>),
+    Link,
+}
+
+/// What lies at a path itself. Anything else there is a device fault.
+fn found_at<R: Files>(rt: &R, path: &str) -> Result<Found, Fault>
+    ensures { IfErr result (λ fault. fault ≡ device) }
+{
+    match fs::symlink_metadata(rt, path) {
+        Ok(metadata) => kind_found(&metadata).ok_or(Fault::Device),
+        Err(error) if error.kind() == ErrorKind::NotFound => Ok(Found::Replaceable(None)),
+        Err(_) => Err(Fault::Device),
+    }
+}
+
+/// A regular file or a link; none for anything else.
+fn kind_found(metadata: &Metadata) -> Option<Found> {
+    if metadata.is_file() {
+        Some(Found::Replaceable(Some(metadata.permissions())))
+    } else if metadata.is_symlink() {
+        Some(Found::Link)
+    } else {
+        None
+    }
 }
 
 /// The path that a symbolic link leads to.
@@ -169,8 +212,7 @@ fn create_part<R: Files + AllocGlobal>(rt: &R, path: &str) -> Result<(String, R:
     ensures fault { IfErr result (λ fault. (fault ≡ device) ⊎ (fault ≡ out_of_memory)) }
 {
     for number in 0..u32::MAX {
-        let name = format!(in rt.alloc(); ".btseed-{number}.part")?;
-        let part = sibling(rt.alloc(), path, name.as_str())?;
+        let part = part_path(rt.alloc(), path, number)?;
         match File::create_new(rt, part.as_str()) {
             Ok(file) => return Ok((part, file)),
             Err(error) if error.kind() == ErrorKind::AlreadyExists => {}
@@ -178,6 +220,14 @@ fn create_part<R: Files + AllocGlobal>(rt: &R, path: &str) -> Result<(String, R:
         }
     }
     Err(Fault::Device)
+}
+
+/// The path of a part file of this number, beside a path.
+fn part_path(alloc: Global, path: &str, number: u32) -> Result<String, AllocError>
+    ensures { IfOk result (λ part. IsSibling path.now (part_name number) (string_bytes part)) }
+{
+    let name = format!(in alloc; ".btseed-{number}.part")?;
+    sibling(alloc, path, name.as_str())
 }
 
 /// Whether a file of this name is left by a run that was ended while it wrote: `.btseed-`, digits and `.part`.

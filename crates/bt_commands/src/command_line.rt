@@ -2,9 +2,10 @@
 ghost use Rattle.std.specs.Prelude.{◌≡◌, ℕ, Some, List, map, codes, string_bytes, IfOk, IfErr};
 ghost use Rattle.std.specs.Bool.{Decides};
 ghost use Rattle.std.specs.List.{AllZip};
-ghost use Rattle.clap.specs.Words.{all_of, first_of, found_of, kind_of, rows_of, subcommand_rows_of};
+ghost use Rattle.clap.specs.Words.{all_of, app_of, first_of, found_of, kind_of, rows_of, subcommand_rows_of};
 ghost use Rattle.bt_commands.specs.CommandLine.{AsksFor, IsTaskOf, IsNoTaskOf, IsTaskIn, IsMakeTaskIn, IsSeedTaskIn, IsServiceIn, IsServingIn, IsFetchTaskIn, IsSourceIn, IsFlagIn, IsGiven};
-ghost use Rattle.bt_commands.specs.CommandLineSteps.{IsRefusalFor, TellsOf};
+ghost use Rattle.bt_commands.specs.CommandLineSteps.{AreWordsOf, IsRefusalFor, TellsOf};
+ghost use Rattle.bt_commands.specs.Subcommands.{program_app};
 ghost use Rattle.bt_commands.specs.Values.{IsPeerWord};
 ghost use Rattle.bt_commands.specs.declared.command_line.Refusal.TheVariants.{OutOfMemory};
 
@@ -17,7 +18,7 @@ use clap::{ArgMatches, Command, Error};
 use std::alloc::{AllocError, AllocFailed, Global};
 
 /// What the program is asked to do.
-#[derive(Debug, Drop)]
+#[derive(Drop)]
 pub enum Task<'a> {
     /// Write the torrent of a folder.
     Make(MakeTask<'a>),
@@ -41,7 +42,7 @@ pub enum Task<'a> {
 }
 
 /// The folder that a torrent is made of, the file that it is written to, and what it says beside the files.
-#[derive(Clone, Copy, Debug, PartialEq, Eq)]
+#[derive(Clone, Copy)]
 pub struct MakeTask<'a> {
     pub dir: &'a str,
     pub out: &'a str,
@@ -52,7 +53,7 @@ pub struct MakeTask<'a> {
 }
 
 /// The torrent whose files are served, the folder in which they lie, and where peers connect.
-#[derive(Clone, Copy, Debug, PartialEq, Eq)]
+#[derive(Clone, Copy)]
 pub struct SeedTask<'a> {
     pub torrent: Source<'a>,
     pub dir: &'a str,
@@ -61,7 +62,7 @@ pub struct SeedTask<'a> {
 
 /// The torrent whose files are fetched, the folder that they are put in, and the peers, to be tried in turn: one
 /// at least.
-#[derive(Debug, Drop)]
+#[derive(Drop)]
 pub struct FetchTask<'a> {
     pub torrent: Source<'a>,
     pub dir: &'a str,
@@ -69,7 +70,7 @@ pub struct FetchTask<'a> {
 }
 
 /// Why words that are well formed ask for no task.
-#[derive(Clone, Copy, Debug, PartialEq, Eq)]
+#[derive(Drop)]
 enum Refusal {
     OutOfMemory,
     /// A value is missing, or what stands in its place is none: the text says what is wanted.
@@ -117,11 +118,33 @@ pub fn parse<'a>(alloc: Global, words: &'a [String]) -> Result<Task<'a>, Error>
     ensures error { IfErr result (λ error. IsNoTaskOf (map string_bytes words.now) (kind_of error)) }
 {
     let mut command = commands(alloc)?;
-    let matches = command.try_get_matches_from_mut(words)?;
+    task_by(alloc, &mut command, words)
+}
+
+/// Reads the words by the program's commands.
+fn task_by<'a>(
+    alloc: Global,
+    command: &mut Command<'a>,
+    words: &'a [String],
+) -> Result<Task<'a>, Error>
+    requires { app_of command.old ≡ program_app }
+    ensures task { IfOk result (IsTaskOf (map string_bytes words.now)) }
+    ensures error { IfErr result (λ error. IsNoTaskOf (map string_bytes words.now) (kind_of error)) }
+{
+    let matches = matches_of(command, words)?;
     match task_of(alloc, &matches) {
         Ok(task) => Ok(task),
-        Err(refusal) => Err(error_of(&mut command, refusal)),
+        Err(refusal) => Err(error_of(command, refusal)),
     }
+}
+
+/// The words, as the program's commands have them.
+fn matches_of<'a>(command: &mut Command<'a>, words: &'a [String]) -> Result<ArgMatches<'a>, Error>
+    requires { app_of command.old ≡ program_app }
+    ensures matches { IfOk result (AreWordsOf (map string_bytes words.now)) }
+    ensures error { IfErr result (λ error. IsNoTaskOf (map string_bytes words.now) (kind_of error)) }
+{
+    command.try_get_matches_from_mut(words)
 }
 
 /// The error that tells of a refusal.

@@ -7,7 +7,7 @@ ghost use Rattle.std.specs.BTreeMap.{IsOrdered};
 ghost use Rattle.bt_check.specs.Fault.{device};
 ghost use Rattle.bt_commands.specs.AtomicFileSteps.{is_part_name};
 ghost use Rattle.bt_commands.specs.Folder.{Ascend, HasElement, IsListingFault, file_paths, listing_fault, path_behind};
-ghost use Rattle.bt_commands.specs.FolderSteps.{PutsEntries};
+ghost use Rattle.bt_commands.specs.FolderSteps.{GoesOn, IsBegun, PutsEntries};
 ghost use Rattle.bt_commands.specs.declared.folder.EntryKind.TheVariants.{File, Folder};
 
 use crate::atomic_file::is_part_name;
@@ -22,7 +22,7 @@ use std::path::Path;
 use std::rt::Files;
 
 /// What a torrent takes of a folder.
-#[derive(Clone, Copy, PartialEq, Eq)]
+#[derive(Clone, Copy)]
 pub enum EntryKind {
     File,
     Folder,
@@ -52,24 +52,84 @@ pub fn files_in<R: Files + AllocGlobal + Clone + Drop, P: Watch>(
     ensures ascending { IfOk result (λ entries. Ascend (file_paths [] entries.items)) }
     ensures fault { IfErr result IsListingFault }
 {
-    let alloc = rt.alloc();
-    let mut entries = Vec::new(alloc);
-    let mut waiting = Vec::new(alloc);
-    let mut path = Vec::new(alloc);
-    push_entries(rt, watch, dir, &path, &mut waiting)?;
+    let mut walk = walk_in(rt, watch, dir)?;
     // A bound, so that it ends whatever the system gives.
     for _ in 0..u64::MAX {
-        let Some(entry) = waiting.pop() else {
-            return Ok(entries);
-        };
-        follow(&mut path, &entry)?;
-        match entry.kind {
-            EntryKind::File => {}
-            EntryKind::Folder => push_entries(rt, watch, dir, &path, &mut waiting)?,
+        let more = go_on(rt, watch, dir, &mut walk)?;
+        if !more {
+            return Ok(walk.entries);
         }
-        entries.push(entry)?;
     }
     Err(Fault::Device)
+}
+
+/// How far a walk is: the entries that it found, those that wait, the next one last, and the path of the last one
+/// that it found.
+#[derive(Drop)]
+struct Walk {
+    entries: Vec<FolderEntry>,
+    waiting: Vec<FolderEntry>,
+    path: Vec<String>,
+}
+
+/// A walk that begins in a folder.
+fn walk_in<R: Files + AllocGlobal + Clone + Drop, P: Watch>(
+    rt: &R,
+    watch: &P,
+    dir: &str,
+) -> Result<Walk, Fault>
+    ensures walk { IfOk result IsBegun }
+    ensures fault { IfErr result IsListingFault }
+{
+    let mut waiting = Vec::new(rt.alloc());
+    push_entries(rt, watch, dir, &[], &mut waiting)?;
+    Ok(Walk {
+        entries: Vec::new(rt.alloc()),
+        waiting,
+        path: Vec::new(rt.alloc()),
+    })
+}
+
+/// Finds the next entry. False where none waits.
+fn go_on<R: Files + AllocGlobal + Clone + Drop, P: Watch>(
+    rt: &R,
+    watch: &P,
+    dir: &str,
+    walk: &mut Walk,
+) -> Result<bool, Fault>
+    ensures went { IfOk result (λ more. more ≡ true → GoesOn walk.old walk.new) }
+    ensures ended { IfOk result (λ more. more ≡ false → walk.new.entries.items ≡ walk.old.entries.items) }
+    ensures fault { IfErr result IsListingFault }
+{
+    let Some(entry) = walk.waiting.pop() else {
+        return Ok(false);
+    };
+    go_to(rt, watch, dir, &entry, &mut walk.path, &mut walk.waiting)?;
+    walk.entries.push(entry)?;
+    Ok(true)
+}
+
+/// Goes on to an entry from the one before it, which had this path, and puts what it has onto those that wait.
+fn go_to<R: Files + AllocGlobal + Clone + Drop, P: Watch>(
+    rt: &R,
+    watch: &P,
+    dir: &str,
+    entry: &FolderEntry,
+    path: &mut Vec<String>,
+    waiting: &mut Vec<FolderEntry>,
+) -> Result<(), Fault>
+    ensures path { OnOk result (map string_bytes path.new.items
+        ≡ path_behind (map string_bytes path.old.items) entry.now) }
+    ensures file { OnOk result (entry.now.kind ≡ File → waiting.new.items ≡ waiting.old.items) }
+    ensures folder { OnOk result (entry.now.kind ≡ Folder
+        → PutsEntries (length path.new.items) waiting.old.items waiting.new.items) }
+    ensures fault { IfErr result IsListingFault }
+{
+    follow(path, entry)?;
+    match entry.kind {
+        EntryKind::File => Ok(()),
+        EntryKind::Folder => push_entries(rt, watch, dir, path, waiting),
+    }
 }
 
 /// Goes on to an entry from the one before it, which had this path.

@@ -10,7 +10,7 @@ use bt_check::PieceSize;
 use bt_meta::{MAX_FILE_LENGTH, MAX_FILES, MAX_PATH_LENGTH, MAX_PIECES, MakeError};
 
 /// How many files and pieces a torrent has so far.
-#[derive(Clone, Copy, Debug)]
+#[derive(Clone, Copy)]
 pub struct Counts {
     pub files: usize,
     pub pieces: u64,

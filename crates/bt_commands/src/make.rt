@@ -9,7 +9,7 @@ ghost use Rattle.bt_check.specs.Digests.{IsDigestFault};
 ghost use Rattle.bt_check.specs.Fault.{device, make_fault, out_of_memory};
 ghost use Rattle.bt_commands.specs.Folder.{file_paths};
 ghost use Rattle.bt_commands.specs.Make.{HasContent, IsFilesFault, IsMakeFault, IsMakeTorrent, IsMeasuringFault, IsTorrentOf, first_count_refusal, total_piece_count};
-ghost use Rattle.bt_commands.specs.MakeSteps.{elements_in, file_of_made};
+ghost use Rattle.bt_commands.specs.MakeSteps.{AreOfSomeBytes, elements_in, file_of_made};
 
 use crate::command_line::MakeTask;
 use crate::folder::{EntryKind, FolderEntry, files_in, follow};
@@ -74,14 +74,31 @@ fn is_among<R: Files + AllocGlobal, P: Watch>(
     let mut path = Vec::new(rt.alloc());
     for entry in entries {
         follow(&mut path, entry)?;
-        if entry.kind == EntryKind::File {
-            let file = file_at(rt, watch, dir, &path)?;
-            if is_same_file(&out, &file) {
-                return Ok(true);
-            }
+        if is_met(rt, watch, &out, dir, &path, entry.kind)? {
+            return Ok(true);
         }
     }
     Ok(false)
+}
+
+/// Whether what has this path below a folder is the file that a look met.
+fn is_met<R: Files + AllocGlobal, P: Watch>(
+    rt: &R,
+    watch: &P,
+    out: &Metadata,
+    dir: &str,
+    path: &[String],
+    kind: EntryKind,
+) -> Result<bool, Fault>
+    ensures { IfErr result (λ fault. (fault ≡ device) ⊎ (fault ≡ out_of_memory)) }
+{
+    match kind {
+        EntryKind::Folder => Ok(false),
+        EntryKind::File => {
+            let file = file_at(rt, watch, dir, path)?;
+            Ok(is_same_file(out, &file))
+        }
+    }
 }
 
 /// What a look at the file of a folder that has this path meets. A fault is told of.
@@ -224,21 +241,35 @@ fn read_file<R: Files + AllocGlobal, P: Watch>(
     ensures length { IfOk result (λ made. made.length ≡ file.length) }
     ensures fault { IfErr result (IsDigestFault file.length) }
 {
-    let alloc = rt.alloc();
     let FolderFile { path, length } = file;
-    let data = found_path(alloc, dir, &path)?;
-    let mut reader = open_watched(rt, watch, data.as_path())?;
-    let outcome = digest_reader(alloc, &mut reader, length, size, buffer);
-    // No call failed, where the file has another length than it had.
-    let failed = is_device_fault(&outcome);
-    reader.tell(FileCall::Read, failed);
-    let Digests { root, layer } = outcome?;
+    let data = found_path(rt.alloc(), dir, &path)?;
+    let Digests { root, layer } = digests_at(rt, watch, data.as_path(), length, size, buffer)?;
     Ok(Made {
         path,
         length,
         root,
         layer,
     })
+}
+
+/// The digests of the file at a path, which has so many bytes.
+fn digests_at<R: Files + AllocGlobal, P: Watch>(
+    rt: &R,
+    watch: &P,
+    path: Path<'_>,
+    bytes: u64,
+    size: PieceSize,
+    buffer: &mut [u8; BUFFER_LEN],
+) -> Result<Digests, Fault>
+    ensures digests { IfOk result (AreOfSomeBytes bytes size.layer) }
+    ensures fault { IfErr result (IsDigestFault bytes) }
+{
+    let mut reader = open_watched(rt, watch, path)?;
+    let outcome = digest_reader(rt.alloc(), &mut reader, bytes, size, buffer);
+    // No call failed, where the file has another length than it had.
+    let failed = is_device_fault(&outcome);
+    reader.tell(FileCall::Read, failed);
+    outcome
 }
 
 /// Opens a file of the folder to read it, and tells of its calls.

@@ -1,8 +1,9 @@
 //! The commands of the program, and the words of each.
-ghost use Rattle.std.specs.Prelude.{◌≡◌, false, codes, IfOk};
+ghost use Rattle.std.specs.Prelude.{◌≡◌, false, codes, map, IfOk};
 ghost use Rattle.clap.specs.Words.{app_of, new_app, rule_of, with_rule, with_subcommand};
 ghost use Rattle.clap.specs.declared.builder.command.Command.TheViews.{out-Command as fields_of};
-ghost use Rattle.bt_commands.specs.Subcommands.{with_version, with_demands, make_app, show_app, check_app, seed_app, fetch_app, replay_app, top_app, file_app, transfer_app, program_app, data_app, required_rule, option_rule, flag_rule, name_rule, piece_length_rule, verbose_rule, serve_rule, forever_rule, listen_rule, port_rule, peers_rule};
+ghost use Rattle.bt_commands.specs.Subcommands.{with_version, with_demands, with_rules, command_app, make_app, show_app, check_app, seed_app, fetch_app, replay_app, top_app, file_app, transfer_app, program_app};
+ghost use Rattle.bt_commands.specs.SubcommandsSteps.{rule_of_word};
 
 use clap::{Arg, ArgAction, Command};
 use std::alloc::{AllocError, Global};
@@ -12,55 +13,134 @@ const ABOUT: &str =
 
 const VERSION: &str = "0.1.0";
 
-const TORRENT_HELP: &str = "The torrent file";
-
-const INFO_HELP: &str = "The torrent file holds the info dictionary alone";
-
-const VERBOSE_HELP: &str =
-    "On a device fault, tell first of which file it is, and which call on it failed";
-
 const MAKE_ABOUT: &str = "Writes the torrent of a folder, and prints its infohash";
-
-const MAKE_DIR_HELP: &str = "The folder whose files the torrent is made of";
-
-const OUT_HELP: &str = "The file that the torrent is written to";
-
-const NAME_HELP: &str = "The name that the torrent gives its files as a whole";
-
-const PIECE_LENGTH_HELP: &str =
-    "How many bytes a piece has: a power of two from 16384 to 268435456";
 
 const SHOW_ABOUT: &str = "Prints what a torrent says";
 
 const CHECK_ABOUT: &str =
     "Tells which files of a folder are those of the torrent, and changes nothing";
 
-const DIR_HELP: &str = "The folder in which the torrent's files lie";
-
 const SEED_ABOUT: &str = "Serves the files of a folder to peers that connect, one after the other";
-
-const SERVE_HELP: &str = "How many connections are served";
-
-const FOREVER_HELP: &str =
-    "Serve all connections that come, until the program is ended, in place of --serve";
-
-const LISTEN_HELP: &str =
-    "The address of this machine at which it listens, IPv4 or IPv6: at 127.0.0.1 this machine alone can connect";
-
-const PORT_HELP: &str =
-    "The port at which it listens, from 0 to 65535: at 0 the system chooses one";
 
 const FETCH_ABOUT: &str =
     "Fetches the files of a torrent from peers, which are tried in turn, and prints the report";
 
-const FETCH_DIR_HELP: &str = "The folder that the files are put in";
-
-const PEER_HELP: &str = "A peer as HOST:PORT, a name or an address before the last colon";
-
 const REPLAY_ABOUT: &str =
     "Runs the script of events on standard input over files in memory, and prints what they answer";
 
+/// A word of a command: how it is named and taken, and what help says of it.
+#[derive(Clone, Copy)]
+struct Word<'a> {
+    id: &'a str,
+    kind: Kind<'a>,
+    help: &'a str,
+}
+
+/// How a word is taken. A value's name is that which help gives it.
+#[derive(Clone, Copy)]
+enum Kind<'a> {
+    /// It must be there, by its place.
+    Needed,
+    /// The same, and more may follow.
+    NeededList,
+    /// An option with a value, which must be there.
+    NeededOption,
+    /// An option with a value: where it is not there, it is this.
+    Default(&'a str),
+    /// An option with a value of this name.
+    Value(&'a str),
+    /// The same, and its value where it is not there.
+    ValueOr(&'a str, &'a str),
+    /// An option without a value.
+    Flag,
+}
+
+const TORRENT: Word<'static> = Word {
+    id: "TORRENT",
+    kind: Kind::Needed,
+    help: "The torrent file",
+};
+
+const INFO: Word<'static> = Word {
+    id: "info",
+    kind: Kind::Flag,
+    help: "The torrent file holds the info dictionary alone",
+};
+
+const VERBOSE: Word<'static> = Word {
+    id: "verbose",
+    kind: Kind::Flag,
+    help: "On a device fault, tell first of which file it is, and which call on it failed",
+};
+
+const MAKE_DIR: Word<'static> = Word {
+    id: "DIR",
+    kind: Kind::Needed,
+    help: "The folder whose files the torrent is made of",
+};
+
+const OUT: Word<'static> = Word {
+    id: "OUT",
+    kind: Kind::Needed,
+    help: "The file that the torrent is written to",
+};
+
+const NAME: Word<'static> = Word {
+    id: "name",
+    kind: Kind::NeededOption,
+    help: "The name that the torrent gives its files as a whole",
+};
+
+const PIECE_LENGTH: Word<'static> = Word {
+    id: "piece-length",
+    kind: Kind::Default("262144"),
+    help: "How many bytes a piece has: a power of two from 16384 to 268435456",
+};
+
+const DIR: Word<'static> = Word {
+    id: "DIR",
+    kind: Kind::Needed,
+    help: "The folder in which the torrent's files lie",
+};
+
+const SERVE: Word<'static> = Word {
+    id: "serve",
+    kind: Kind::Value("N"),
+    help: "How many connections are served",
+};
+
+const FOREVER: Word<'static> = Word {
+    id: "forever",
+    kind: Kind::Flag,
+    help: "Serve all connections that come, until the program is ended, in place of --serve",
+};
+
+const LISTEN: Word<'static> = Word {
+    id: "listen",
+    kind: Kind::ValueOr("ADDRESS", "127.0.0.1"),
+    help: "The address of this machine at which it listens, IPv4 or IPv6: at 127.0.0.1 this machine alone can connect",
+};
+
+const PORT: Word<'static> = Word {
+    id: "port",
+    kind: Kind::ValueOr("P", "0"),
+    help: "The port at which it listens, from 0 to 65535: at 0 the system chooses one",
+};
+
+const FETCH_DIR: Word<'static> = Word {
+    id: "DIR",
+    kind: Kind::Needed,
+    help: "The folder that the files are put in",
+};
+
+const PEERS: Word<'static> = Word {
+    id: "PEER",
+    kind: Kind::NeededList,
+    help: "A peer as HOST:PORT, a name or an address before the last colon",
+};
+
 /// The program, its commands and their words.
+#[tactic(auto, unfolding(crate::specs::Subcommands::program_app))]
 pub fn commands<'a>(alloc: Global) -> Result<Command<'a>, AllocError>
     ensures { IfOk result (λ command. app_of command ≡ program_app) }
 {
@@ -68,6 +148,7 @@ pub fn commands<'a>(alloc: Global) -> Result<Command<'a>, AllocError>
 }
 
 /// The program with the commands that work on torrents, their files and peers.
+#[tactic(auto, unfolding(crate::specs::Subcommands::transfer_app))]
 fn transfer_commands<'a>(alloc: Global) -> Result<Command<'a>, AllocError>
     ensures { IfOk result (λ command. app_of command ≡ transfer_app) }
 {
@@ -76,6 +157,7 @@ fn transfer_commands<'a>(alloc: Global) -> Result<Command<'a>, AllocError>
 }
 
 /// The program with the commands that work on torrents and their files.
+#[tactic(auto, unfolding(crate::specs::Subcommands::file_app))]
 fn file_commands<'a>(alloc: Global) -> Result<Command<'a>, AllocError>
     ensures { IfOk result (λ command. app_of command ≡ file_app) }
 {
@@ -97,6 +179,7 @@ fn with_command<'a>(
 }
 
 /// The program, of which each command is a subcommand.
+#[tactic(auto, unfolding(crate::specs::Subcommands::top_app))]
 fn top_command<'a>(alloc: Global) -> Result<Command<'a>, AllocError>
     ensures { IfOk result (λ command. app_of command ≡ top_app) }
 {
@@ -122,77 +205,62 @@ fn with_demands<'a>(command: Command<'a>) -> Command<'a>
         .arg_required_else_help(true)
 }
 
+#[tactic(auto, unfolding(crate::specs::Subcommands::make_app))]
 fn make_command<'a>(alloc: Global) -> Result<Command<'a>, AllocError>
     ensures words { IfOk result (λ command. app_of command ≡ make_app) }
     ensures local { IfOk result (λ command. (fields_of command).has_globals ≡ false) }
 {
-    let command = plain_command(alloc, "make", MAKE_ABOUT);
-    let command = with_word(command, needed_word(alloc, "DIR", MAKE_DIR_HELP))?;
-    let command = with_word(command, needed_word(alloc, "OUT", OUT_HELP))?;
-    let command = with_sayings(alloc, command)?;
-    with_word(command, verbose_flag(alloc))
+    command_of(
+        alloc,
+        "make",
+        MAKE_ABOUT,
+        &[MAKE_DIR, OUT, NAME, PIECE_LENGTH, VERBOSE],
+    )
 }
 
-/// A command with the words for what a torrent says beside its files.
-fn with_sayings<'a>(alloc: Global, command: Command<'a>) -> Result<Command<'a>, AllocError>
-    ensures words { IfOk result
-        (λ made. app_of made ≡ with_rule (with_rule (app_of command.entry) name_rule) piece_length_rule) }
-    ensures local { IfOk result
-        (λ made. (fields_of made).has_globals ≡ (fields_of command.entry).has_globals) }
-{
-    let command = with_word(command, name_word(alloc))?;
-    with_word(command, piece_length_word(alloc))
-}
-
+#[tactic(auto, unfolding(crate::specs::Subcommands::show_app))]
 fn show_command<'a>(alloc: Global) -> Result<Command<'a>, AllocError>
     ensures words { IfOk result (λ command. app_of command ≡ show_app) }
     ensures local { IfOk result (λ command. (fields_of command).has_globals ≡ false) }
 {
-    let command = plain_command(alloc, "show", SHOW_ABOUT);
-    let command = with_word(command, needed_word(alloc, "TORRENT", TORRENT_HELP))?;
-    with_word(command, flag(alloc, "info", INFO_HELP))
+    command_of(alloc, "show", SHOW_ABOUT, &[TORRENT, INFO])
 }
 
+#[tactic(auto, unfolding(crate::specs::Subcommands::check_app))]
 fn check_command<'a>(alloc: Global) -> Result<Command<'a>, AllocError>
     ensures words { IfOk result (λ command. app_of command ≡ check_app) }
     ensures local { IfOk result (λ command. (fields_of command).has_globals ≡ false) }
 {
-    let command = data_command(alloc, "check", CHECK_ABOUT, DIR_HELP)?;
-    let command = with_word(command, flag(alloc, "info", INFO_HELP))?;
-    with_word(command, verbose_flag(alloc))
+    command_of(alloc, "check", CHECK_ABOUT, &[TORRENT, DIR, INFO, VERBOSE])
 }
 
+#[tactic(auto, unfolding(crate::specs::Subcommands::seed_app))]
 fn seed_command<'a>(alloc: Global) -> Result<Command<'a>, AllocError>
     ensures words { IfOk result (λ command. app_of command ≡ seed_app) }
     ensures local { IfOk result (λ command. (fields_of command).has_globals ≡ false) }
 {
-    let command = data_command(alloc, "seed", SEED_ABOUT, DIR_HELP)?;
-    let command = with_serving(alloc, command)?;
-    let command = with_word(command, listen_word(alloc))?;
-    let command = with_word(command, port_word(alloc))?;
-    with_word(command, flag(alloc, "info", INFO_HELP))
+    command_of(
+        alloc,
+        "seed",
+        SEED_ABOUT,
+        &[TORRENT, DIR, SERVE, FOREVER, LISTEN, PORT, INFO],
+    )
 }
 
-/// A command with the words that say how many connections are served.
-fn with_serving<'a>(alloc: Global, command: Command<'a>) -> Result<Command<'a>, AllocError>
-    ensures words { IfOk result
-        (λ made. app_of made ≡ with_rule (with_rule (app_of command.entry) serve_rule) forever_rule) }
-    ensures local { IfOk result
-        (λ made. (fields_of made).has_globals ≡ (fields_of command.entry).has_globals) }
-{
-    let command = with_word(command, option(alloc, "serve", "N", SERVE_HELP))?;
-    with_word(command, flag(alloc, "forever", FOREVER_HELP))
-}
-
+#[tactic(auto, unfolding(crate::specs::Subcommands::fetch_app))]
 fn fetch_command<'a>(alloc: Global) -> Result<Command<'a>, AllocError>
     ensures words { IfOk result (λ command. app_of command ≡ fetch_app) }
     ensures local { IfOk result (λ command. (fields_of command).has_globals ≡ false) }
 {
-    let command = data_command(alloc, "fetch", FETCH_ABOUT, FETCH_DIR_HELP)?;
-    let command = with_word(command, peer_words(alloc))?;
-    with_word(command, flag(alloc, "info", INFO_HELP))
+    command_of(
+        alloc,
+        "fetch",
+        FETCH_ABOUT,
+        &[TORRENT, FETCH_DIR, PEERS, INFO],
+    )
 }
 
+#[tactic(auto, unfolding(crate::specs::Subcommands::replay_app))]
 fn replay_command<'a>(alloc: Global) -> Command<'a>
     ensures words { app_of result ≡ replay_app }
     ensures local { (fields_of result).has_globals ≡ false }
@@ -200,19 +268,22 @@ fn replay_command<'a>(alloc: Global) -> Command<'a>
     plain_command(alloc, "replay", REPLAY_ABOUT)
 }
 
-/// A command on a torrent and the folder of its files.
-fn data_command<'a>(
+/// A command of this name with these words.
+fn command_of<'a>(
     alloc: Global,
     name: &'a str,
     about: &'a str,
-    dir_help: &'a str,
+    words: &[Word<'a>],
 ) -> Result<Command<'a>, AllocError>
-    ensures words { IfOk result (λ command. app_of command ≡ data_app name.now) }
+    ensures words { IfOk result
+        (λ command. app_of command ≡ command_app name.now (map rule_of_word words.now)) }
     ensures local { IfOk result (λ command. (fields_of command).has_globals ≡ false) }
 {
-    let command = plain_command(alloc, name, about);
-    let command = with_word(command, needed_word(alloc, "TORRENT", TORRENT_HELP))?;
-    with_word(command, needed_word(alloc, "DIR", dir_help))
+    let mut command = plain_command(alloc, name, about);
+    for word in words {
+        command = with_word(command, arg_of(alloc, *word))?;
+    }
+    Ok(command)
 }
 
 /// A command of this name, with no words.
@@ -234,74 +305,20 @@ fn with_word<'a>(command: Command<'a>, word: Arg<'a>) -> Result<Command<'a>, All
     command.arg(word)
 }
 
-/// A word that must be there, by its place.
-fn needed_word<'a>(alloc: Global, id: &'a str, help: &'a str) -> Arg<'a>
-    ensures rule { rule_of result ≡ required_rule id.now }
+/// A word, as clap has it.
+fn arg_of<'a>(alloc: Global, word: Word<'a>) -> Arg<'a>
+    ensures rule { rule_of result ≡ rule_of_word word.entry }
     ensures local { result.global ≡ false }
 {
-    Arg::new(alloc, id).required(true).help(help)
-}
-
-/// An option with a value, which help calls so.
-fn option<'a>(alloc: Global, id: &'a str, value: &'a str, help: &'a str) -> Arg<'a>
-    ensures rule { rule_of result ≡ option_rule id.now }
-    ensures local { result.global ≡ false }
-{
-    Arg::new(alloc, id).long(id).value_name(value).help(help)
-}
-
-/// An option without a value.
-fn flag<'a>(alloc: Global, id: &'a str, help: &'a str) -> Arg<'a>
-    ensures rule { rule_of result ≡ flag_rule id.now }
-    ensures local { result.global ≡ false }
-{
-    Arg::new(alloc, id)
-        .long(id)
-        .action(ArgAction::SetTrue)
-        .help(help)
-}
-
-fn verbose_flag<'a>(alloc: Global) -> Arg<'a>
-    ensures rule { rule_of result ≡ verbose_rule }
-    ensures local { result.global ≡ false }
-{
-    flag(alloc, "verbose", VERBOSE_HELP)
-}
-
-fn name_word<'a>(alloc: Global) -> Arg<'a>
-    ensures rule { rule_of result ≡ name_rule }
-    ensures local { result.global ≡ false }
-{
-    needed_word(alloc, "name", NAME_HELP).long("name")
-}
-
-fn piece_length_word<'a>(alloc: Global) -> Arg<'a>
-    ensures rule { rule_of result ≡ piece_length_rule }
-    ensures local { result.global ≡ false }
-{
-    Arg::new(alloc, "piece-length")
-        .long("piece-length")
-        .default_value("262144")
-        .help(PIECE_LENGTH_HELP)
-}
-
-fn listen_word<'a>(alloc: Global) -> Arg<'a>
-    ensures rule { rule_of result ≡ listen_rule }
-    ensures local { result.global ≡ false }
-{
-    option(alloc, "listen", "ADDRESS", LISTEN_HELP).default_value("127.0.0.1")
-}
-
-fn port_word<'a>(alloc: Global) -> Arg<'a>
-    ensures rule { rule_of result ≡ port_rule }
-    ensures local { result.global ≡ false }
-{
-    option(alloc, "port", "P", PORT_HELP).default_value("0")
-}
-
-fn peer_words<'a>(alloc: Global) -> Arg<'a>
-    ensures rule { rule_of result ≡ peers_rule }
-    ensures local { result.global ≡ false }
-{
-    needed_word(alloc, "PEER", PEER_HELP).action(ArgAction::Append)
+    let id = word.id;
+    let arg = Arg::new(alloc, id).help(word.help);
+    match word.kind {
+        Kind::Needed => arg.required(true),
+        Kind::NeededList => arg.required(true).action(ArgAction::Append),
+        Kind::NeededOption => arg.required(true).long(id),
+        Kind::Default(otherwise) => arg.long(id).default_value(otherwise),
+        Kind::Value(name) => arg.long(id).value_name(name),
+        Kind::ValueOr(name, otherwise) => { arg.long(id).value_name(name).default_value(otherwise) }
+        Kind::Flag => arg.long(id).action(ArgAction::SetTrue),
+    }
 }

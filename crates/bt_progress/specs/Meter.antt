@@ -5,6 +5,10 @@ use Rattle.std.specs.Prelude.{ℕ, ◌+◌, ◌-◌, ◌*◌, ◌/◌, ◌^◌, 
 abbrev pub count_with : ℕ → ℕ → ℕ
 count_with count bytes = min (2 ^ 64 - 1) (count + bytes)
 
+-- how many whole MiB bytes make
+abbrev pub mebibytes : ℕ → ℕ
+mebibytes bytes = bytes / 2 ^ 20
+
 -- the hundredths of all that are done, and no more than there are
 abbrev pub percent : ℕ → ℕ → ℕ
 percent done all = min 100 (done * 100 / all)

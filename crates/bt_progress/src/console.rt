@@ -84,11 +84,12 @@ impl<'a, C: Clock, W: Write> Watch for Console<'a, C, W> {
         if !self.is_terminal {
             return;
         }
-        let Ok(now) = Instant::now(self.clock) else {
-            return;
-        };
         if let Ok(mut screen) = self.screen.try_borrow_mut() {
-            screen.advance(self.alloc, call, bytes, now);
+            if screen.count(call, bytes) {
+                if let Ok(now) = Instant::now(self.clock) {
+                    screen.tick(self.alloc, now);
+                }
+            }
         }
     }
 

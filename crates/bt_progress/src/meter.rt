@@ -1,6 +1,8 @@
 //! How much of some work is done.
-ghost use Rattle.std.specs.Prelude.{◌≡◌, ◌<◌};
-ghost use Rattle.bt_progress.specs.Meter.{count_with, percent, rate};
+ghost use Rattle.std.specs.Prelude.{◌≡◌, ◌<◌, ◌↔◌, IsTrue};
+ghost use Rattle.bt_progress.specs.Meter.{count_with, mebibytes, percent, rate};
+
+const MEBIBYTE: u64 = 1 << 20;
 
 /// How many bytes are done, and how many are to be done in all: 0 where that is not known.
 #[derive(Clone, Copy, Debug, PartialEq, Eq)]
@@ -38,6 +40,13 @@ impl Meter {
             done: self.done.saturating_add(bytes),
             all: self.all,
         }
+    }
+
+    /// Whether the bytes done have reached a further MiB since an earlier state.
+    pub(crate) fn is_mebibyte_on(self, earlier: Meter) -> bool
+        ensures { IsTrue result ↔ (mebibytes earlier.done < mebibytes self.done) }
+    {
+        earlier.done / MEBIBYTE < self.done / MEBIBYTE
     }
 
     /// How many hundredths are done, where it is known what is to be; 100 at most.

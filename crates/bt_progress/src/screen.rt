@@ -55,12 +55,19 @@ impl<W: Write> Screen<W> {
         self.meter = self.meter.expect(bytes);
     }
 
-    /// Counts bytes, and writes the line where it is due.
-    pub(crate) fn advance(&mut self, alloc: Global, call: FileCall, bytes: u64, now: Instant) {
+    /// Counts bytes. Whether the time is to be asked for: at the first bytes, and once for each MiB from there
+    /// on, since the clock is asked more slowly than a device is read.
+    pub(crate) fn count(&mut self, call: FileCall, bytes: u64) -> bool {
         if self.call != Some(call) {
-            return;
+            return false;
         }
-        self.meter = self.meter.advance(bytes);
+        let before = self.meter;
+        self.meter = before.advance(bytes);
+        self.times.is_none() || self.meter.is_mebibyte_on(before)
+    }
+
+    /// Writes the line where it is due.
+    pub(crate) fn tick(&mut self, alloc: Global, now: Instant) {
         let Some(times) = self.times else {
             self.times = Some(Times {
                 began: now,

@@ -1,27 +1,16 @@
-use Rattle.std.proofs.Common.{[], ap, length, map, string_bytes, rules, sym, ◌∙◌}
-use Rattle.std.proofs.lemmas.List.{length-map}
-use Rattle.bt_commands.proofs.FolderOrder.{ordered_begun, ordered_file, ordered_files, ordered_folder, ordered_next}
+use Rattle.std.proofs.Common.{[], rules}
+use Rattle.bt_commands.proofs.FolderOrder.{walk_begun, walk_ended, walk_on}
 use Rattle.bt_commands.proofs.FolderWalk.{files_named}
 use Rattle.bt_commands.proofs.folder.files_in.Goals as goal
-use Rattle.bt_commands.proofs.folder.files_in.Goals.{in-File, in-Folder+in_ok-push_entries-in-Folder}
 
 pub loop-init : goal.loop-init
-loop-init g c =
-    ordered_begun _ _ _ _ _ c.new-entries.ensures.items (ap (map string_bytes) c.new-path.ensures.items) (search rules) c.new-waiting.ensures.items
-    c.in_ok-push_entries.ensures.put
+loop-init g c = walk_begun c.in_ok-walk.walk c.in_ok-walk.ensures.walk
 
 pub loop-preserved : goal.loop-preserved
-loop-preserved g c =
-    let next = ordered_next _ _ _ _ _ _ _ c.in-Some.entry c.pop.ensures.items c.in-Some.is c.in_ok-follow.ensures c.in_ok-push.ensures.items c.loop.invariant in
-    elim c.match-entry.branch [
-      | in-File w ↦ rw w.waiting-is (ordered_file _ _ _ _ _ c.in-Some.entry w.in-File.is next)
-      | in-Folder+in_ok-push_entries-in-Folder w ↦
-          let deep = ap length w.deref-in-Folder.ensures.value ∙ sym (length-map c.follow.new.path.items string_bytes) in
-          rw w.waiting-is (ordered_folder _ _ _ _ _ _ _ c.in-Some.entry w.in-Folder.is deep w.in_ok-push_entries-in-Folder.ensures.put next)
-    ]
+loop-preserved g c = walk_on _ _ (c.in_ok-more.ensures.went (search rules)) c.loop.invariant
 
-pub returns-in_default-clause-named : goal.returns-in_default-clause-named
-returns-in_default-clause-named g c = files_named [] c.loop.entries.items
+pub returns-then-not-more-clause-named : goal.returns-then-not-more-clause-named
+returns-then-not-more-clause-named g c = files_named [] _
 
-pub returns-in_default-clause-ascending : goal.returns-in_default-clause-ascending
-returns-in_default-clause-ascending g c = ordered_files _ _ _ c.loop.invariant
+pub returns-then-not-more-clause-ascending : goal.returns-then-not-more-clause-ascending
+returns-then-not-more-clause-ascending g c = walk_ended _ _ _ _ (c.in_ok-more.ensures.ended (search rules)) c.loop.invariant

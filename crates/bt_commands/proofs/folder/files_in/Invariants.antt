@@ -1,7 +1,6 @@
 -- The files so far, and the entries that wait, have paths that ascend.
-use Rattle.std.proofs.Common.{map, string_bytes}
-use Rattle.bt_commands.proofs.FolderOrder.{IsWalk}
+use Rattle.bt_commands.proofs.FolderOrder.{IsWalk, path_of_walk}
 use Rattle.bt_commands.proofs.folder.files_in.Given as goal
 
 abbrev pub invariant-loop : goal.invariant-loop
-invariant-loop g l = IsWalk l.entries.items l.waiting.items (map string_bytes l.path.items)
+invariant-loop g l = IsWalk l.walk.entries.items l.walk.waiting.items (path_of_walk l.walk)
