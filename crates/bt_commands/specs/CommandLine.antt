@@ -63,6 +63,7 @@ pub record IsSeedTaskIn (rows : List Row) (task : SeedTask) : Type 0 where
   pub torrent : IsSourceIn rows task.torrent
   pub dir : first_of (codes "DIR") rows ≡ Some task.dir.now
   pub service : IsServiceIn rows task.service
+  pub verbose : IsFlagIn (codes "verbose") task.verbose rows
 
 -- each word in a peer's place names one, in turn
 pub record IsFetchTaskIn (rows : List Row) (task : FetchTask) : Type 0 where
@@ -71,6 +72,7 @@ pub record IsFetchTaskIn (rows : List Row) (task : FetchTask) : Type 0 where
   pub words : List Text
   pub given : all_of (codes "PEER") rows ≡ Some words
   pub peers : AllZip IsPeerWord words task.peers.items
+  pub verbose : IsFlagIn (codes "verbose") task.verbose rows
 
 -- a subcommand of this name with these rows asks for the task
 abbrev pub AsksFor : Text → List Row → Task → Type 0

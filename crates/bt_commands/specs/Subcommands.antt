@@ -73,11 +73,11 @@ check_app = command_app (codes "check")
 unfoldable pub seed_app : App
 seed_app = command_app (codes "seed")
     (required_rule (codes "TORRENT") ∷ required_rule (codes "DIR") ∷ serve_rule ∷ forever_rule ∷ listen_rule
-    ∷ port_rule ∷ info_rule ∷ [])
+    ∷ port_rule ∷ info_rule ∷ verbose_rule ∷ [])
 
 unfoldable pub fetch_app : App
 fetch_app = command_app (codes "fetch")
-    (required_rule (codes "TORRENT") ∷ required_rule (codes "DIR") ∷ peers_rule ∷ info_rule ∷ [])
+    (required_rule (codes "TORRENT") ∷ required_rule (codes "DIR") ∷ peers_rule ∷ info_rule ∷ verbose_rule ∷ [])
 
 unfoldable pub replay_app : App
 replay_app = new_app (codes "replay")

@@ -58,6 +58,8 @@ pub struct SeedTask<'a> {
     pub torrent: Source<'a>,
     pub dir: &'a str,
     pub service: Service<'a>,
+    /// Whether a call that fails is told of.
+    pub verbose: bool,
 }
 
 /// The torrent whose files are fetched, the folder that they are put in, and the peers, to be tried in turn: one
@@ -67,6 +69,8 @@ pub struct FetchTask<'a> {
     pub torrent: Source<'a>,
     pub dir: &'a str,
     pub peers: Vec<Peer<'a>>,
+    /// Whether a call that fails is told of.
+    pub verbose: bool,
 }
 
 /// Why words that are well formed ask for no task.
@@ -230,10 +234,12 @@ fn seed_task<'a>(matches: &ArgMatches<'a>) -> Result<Task<'a>, Refusal>
     let torrent = source_of(matches)?;
     let dir = word_of(matches, "DIR")?;
     let service = service_of(matches)?;
+    let verbose = has_flag(matches, "verbose");
     Ok(Task::Seed(SeedTask {
         torrent,
         dir,
         service,
+        verbose,
     }))
 }
 
@@ -244,12 +250,14 @@ fn fetch_task<'a>(alloc: Global, matches: &ArgMatches<'a>) -> Result<Task<'a>, R
 {
     let torrent = source_of(matches)?;
     let dir = word_of(matches, "DIR")?;
+    let verbose = has_flag(matches, "verbose");
     let words = words_of(matches, "PEER")?;
     let peers = peers_of(alloc, words)?;
     Ok(Task::Fetch(FetchTask {
         torrent,
         dir,
         peers,
+        verbose,
     }))
 }
 

@@ -143,8 +143,8 @@ fn perform<R: Files + AllocGlobal + Clone + Drop, N: Net, P: Watch, I: Read, O: 
             dir,
             verbose,
         } => perform_check(rt, watch, torrent, dir, verbose, writer),
-        Task::Seed(task) => perform_seed(rt, net, task, writer),
-        Task::Fetch(task) => perform_fetch(rt, net, task, writer),
+        Task::Seed(task) => perform_seed(rt, net, watch, task, writer),
+        Task::Fetch(task) => perform_fetch(rt, net, watch, task, writer),
         Task::Replay => Ok(replay(rt.alloc(), reader, writer, faults)),
     }
 }
@@ -203,9 +203,10 @@ fn perform_check<R: Files + AllocGlobal + Clone + Drop, P: Watch, O: Write>(
     summary.outcome()
 }
 
-fn perform_seed<R: Files + AllocGlobal + Clone + Drop, N: Net, O: Write>(
+fn perform_seed<R: Files + AllocGlobal + Clone + Drop, N: Net, P: Watch, O: Write>(
     rt: &R,
     net: &N,
+    watch: &P,
     task: SeedTask<'_>,
     writer: &mut O,
 ) -> Result<u8, Fault>
@@ -214,12 +215,14 @@ fn perform_seed<R: Files + AllocGlobal + Clone + Drop, N: Net, O: Write>(
     ensures ended { IfErr result
         (IsTaskEnd (Seed task.entry) (O.contents writer.old) (O.contents writer.new)) }
 {
-    seed(rt, net, task.torrent, task.dir, task.service, writer)
+    watch.set_verbose(task.verbose);
+    seed(rt, net, watch, task.torrent, task.dir, task.service, writer)
 }
 
-fn perform_fetch<R: Files + AllocGlobal + Clone + Drop, N: Net, O: Write>(
+fn perform_fetch<R: Files + AllocGlobal + Clone + Drop, N: Net, P: Watch, O: Write>(
     rt: &R,
     net: &N,
+    watch: &P,
     task: FetchTask<'_>,
     writer: &mut O,
 ) -> Result<u8, Fault>
@@ -228,7 +231,8 @@ fn perform_fetch<R: Files + AllocGlobal + Clone + Drop, N: Net, O: Write>(
     ensures ended { IfErr result
         (IsTaskEnd (Fetch task.entry) (O.contents writer.old) (O.contents writer.new)) }
 {
-    fetch(rt, net, task.torrent, task.dir, &task.peers, writer)
+    watch.set_verbose(task.verbose);
+    fetch(rt, net, watch, task.torrent, task.dir, &task.peers, writer)
 }
 
 /// Prints help, or why the words are refused.

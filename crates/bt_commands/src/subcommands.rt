@@ -15,10 +15,9 @@ const VERSION: &str = "0.1.0";
 
 const MAKE_ABOUT: &str = "Writes the torrent of a folder, and prints its infohash";
 
-const SHOW_ABOUT: &str = "Prints what a torrent says";
+const SHOW_ABOUT: &str = "Prints a torrent's contents";
 
-const CHECK_ABOUT: &str =
-    "Tells which files of a folder are those of the torrent, and changes nothing";
+const CHECK_ABOUT: &str = "Checks downloaded files against a torrent; changes nothing";
 
 const SEED_ABOUT: &str = "Serves the files of a folder to peers that connect, one after the other";
 
@@ -88,7 +87,7 @@ const OUT: Word<'static> = Word {
 const NAME: Word<'static> = Word {
     id: "name",
     kind: Kind::NeededOption,
-    help: "The name that the torrent gives its files as a whole",
+    help: "The torrent's name",
 };
 
 const PIECE_LENGTH: Word<'static> = Word {
@@ -100,7 +99,7 @@ const PIECE_LENGTH: Word<'static> = Word {
 const DIR: Word<'static> = Word {
     id: "DIR",
     kind: Kind::Needed,
-    help: "The folder in which the torrent's files lie",
+    help: "The folder that holds the files",
 };
 
 const SERVE: Word<'static> = Word {
@@ -243,7 +242,7 @@ fn seed_command<'a>(alloc: Global) -> Result<Command<'a>, AllocError>
         alloc,
         "seed",
         SEED_ABOUT,
-        &[TORRENT, DIR, SERVE, FOREVER, LISTEN, PORT, INFO],
+        &[TORRENT, DIR, SERVE, FOREVER, LISTEN, PORT, INFO, VERBOSE],
     )
 }
 
@@ -256,7 +255,7 @@ fn fetch_command<'a>(alloc: Global) -> Result<Command<'a>, AllocError>
         alloc,
         "fetch",
         FETCH_ABOUT,
-        &[TORRENT, FETCH_DIR, PEERS, INFO],
+        &[TORRENT, FETCH_DIR, PEERS, INFO, VERBOSE],
     )
 }
 

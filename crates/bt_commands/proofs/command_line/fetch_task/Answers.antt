@@ -47,5 +47,6 @@ returns-clause-task c = (
     words = map (λ word. word.now) c.in_ok-words.words.now;
     given = c.in_ok-words.ensures.words;
     peers = c.in_ok-peers.ensures.peers;
+    verbose = c.has_flag-verbose.ensures;
   },
 )

@@ -31,5 +31,10 @@ returns-in_err-service-clause-refused c =
 pub returns-clause-task : goal.returns-clause-task
 returns-clause-task c = (
   refl,
-  record { torrent = c.in_ok-torrent.ensures.source; dir = c.in_ok-dir.ensures.word; service = c.in_ok-service.ensures.service },
+  record {
+    torrent = c.in_ok-torrent.ensures.source;
+    dir = c.in_ok-dir.ensures.word;
+    service = c.in_ok-service.ensures.service;
+    verbose = c.has_flag-verbose.ensures;
+  },
 )
