@@ -1,5 +1,4 @@
 pub mod DataFiles
-pub mod Adoption
 pub mod Store
 pub mod Report
 pub mod Ending

@@ -2,7 +2,6 @@
 //! which takes in what they have already; at the end the store is flushed, and how far it is is told.
 #![tactic(auto)]
 
-mod adoption;
 mod command;
 mod connections;
 mod data_files;
@@ -13,7 +12,6 @@ mod peer_lines;
 mod report;
 mod store;
 
-pub use adoption::adopt_files;
 pub use command::fetch::fetch;
 pub use command::seed::seed;
 pub use data_files::open_devices;
