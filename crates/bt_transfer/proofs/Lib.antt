@@ -1,5 +1,4 @@
 pub mod Devices
-pub mod Adoptions
 pub mod ReportLines
 pub mod PeerLines
 pub mod OverTcp

@@ -84,8 +84,10 @@ fetched_by Try To carry history honest faults dig peers old links before now sta
   ends = f.ends;
   met = f.met;
   told = f.told;
+  taken = f.taken;
   in_turn = in_turn_by Try To carry f.in_turn;
   lines = f.lines;
+  taken_in = f.taken_in;
   end = f.end;
 }
 

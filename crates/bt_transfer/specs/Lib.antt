@@ -1,6 +1,5 @@
 pub mod DataFiles
 pub mod DataFilesSteps
-pub mod Adoption
 pub mod Store
 pub mod Report
 pub mod Ending

@@ -5,7 +5,7 @@ use Rattle.bt_disk.specs.Pool.{PooledView}
 use Rattle.bt_meta.specs.Torrent.{Metainfo}
 use Rattle.bt_machine.specs.Start.{AreDevicesOf, Starts}
 use Rattle.bt_machine.specs.State.{EngineView}
-use Rattle.bt_transfer.specs.Adoption.{TakesInAll}
+use Rattle.bt_intake.specs.Adoption.{TakesInAll}
 
 -- An engine of the torrent, which began with these devices and has taken in what they have: no read of them
 -- failed. No peer is connected.

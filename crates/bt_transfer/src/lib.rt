@@ -2,7 +2,6 @@
 //! which takes in what they have already; at the end the store is flushed, and how far it is is told.
 #![tactic(auto)]
 
-mod adoption;
 mod command;
 mod connections;
 mod data_files;

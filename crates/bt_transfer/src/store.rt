@@ -10,11 +10,11 @@ ghost use Rattle.bt_check.specs.Fault.{device, out_of_memory};
 ghost use Rattle.bt_transfer.specs.DataFiles.{new_devices};
 ghost use Rattle.bt_transfer.specs.Store.{HasBegun, pooled_faults, pooled_history, pooled_honest};
 
-use crate::adoption::adopt_files;
 use crate::data_files::open_devices;
 use bt_check::Fault;
 use bt_disk::{Disk, PooledDisk};
 use bt_engine::{Engine, FlushError, StartError};
+use bt_intake::adopt_files;
 use bt_lanes::Lanes;
 use bt_meta::Torrent;
 use bt_progress::{Watch, Watched};

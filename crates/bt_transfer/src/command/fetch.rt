@@ -14,6 +14,7 @@ use crate::peer_lines::write_peers;
 use bt_check::{Fault, Source};
 use bt_disk::Disk;
 use bt_engine::Engine;
+use bt_intake::adopt_waiting;
 use bt_meta::Torrent;
 use bt_padding::Padding;
 use bt_peers::{Link, PeerEnd, run_peers};
@@ -28,8 +29,9 @@ use std::rt::Files;
 use std::time::Duration;
 
 /// Opens the store of a torrent's files in a folder, as `load_store` does; takes peers in turn until all
-/// files are complete; writes how it ended with each that was tried; has all put on the devices; and reports.
-/// The answer is the status of the program: 0 where all files are complete, else 1.
+/// files are complete; writes how it ended with each that was tried; takes in the files whose blocks all came,
+/// some of them without their hashes; has all put on the devices; and reports. The answer is the status of the
+/// program: 0 where all files are complete, else 1.
 ///
 /// It is told how much is read of what the files have, and then how much is written of what they lack.
 ///
@@ -95,7 +97,8 @@ fn links_to<'a, N: Net>(
 }
 
 /// Takes peers in turn, each by its link, until the engine is complete; writes how it ended with each that
-/// was tried; and then has all put on the devices, and reports. A peer's session has so many turns at most.
+/// was tried; takes in the files whose blocks came without their hashes; and then has all put on the devices,
+/// and reports. A peer's session has so many turns at most.
 fn fetch_over<D: Disk + Drop, H: NodeHash, L: Link, W: Write>(
     alloc: Global,
     engine: &mut Engine<D, H>,
@@ -115,5 +118,6 @@ fn fetch_over<D: Disk + Drop, H: NodeHash, L: Link, W: Write>(
     let mut ends = vec![in alloc; PeerEnd::Untried; peers.len()]?;
     run_peers(alloc, engine, links, &mut ends, turns);
     write_peers(alloc, peers, &ends, writer)?;
+    adopt_waiting(engine)?;
     conclude(alloc, engine, writer)
 }

@@ -3,7 +3,7 @@ ghost use Rattle.std.specs.Prelude.{[], ◌≡◌, ◌<◌, length, IfErr, Match
 ghost use Rattle.bt_machine.specs.declared.event.Event.TheVariants.{Adopt};
 ghost use Rattle.bt_machine.specs.declared.event.Answer.{Answer};
 ghost use Rattle.bt_machine.specs.View.{StepsTo};
-ghost use Rattle.bt_transfer.specs.Adoption.{IsAdoptionFault, IsTakenIn, StopsAtFile, TakesInAll};
+ghost use Rattle.bt_intake.specs.Adoption.{IsAdoptionFault, IsTakenIn, StopsAtFile, TakesInAll};
 
 use bt_check::Fault;
 use bt_disk::Disk;
@@ -30,7 +30,7 @@ pub fn adopt_files<D: Disk + Drop, H: NodeHash>(engine: &mut Engine<D, H>) -> Re
 }
 
 /// Takes in what the device of a file has.
-fn adopt_file<D: Disk + Drop, H: NodeHash>(
+pub(crate) fn adopt_file<D: Disk + Drop, H: NodeHash>(
     engine: &mut Engine<D, H>,
     file: u32,
 ) -> Result<(), Fault>

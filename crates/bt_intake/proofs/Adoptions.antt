@@ -11,7 +11,7 @@ use Rattle.bt_machine.specs.View.{RunsTo, StepsTo}
 use Rattle.bt_machine.specs.Adopting.{AdoptsGroups, StepAdopt, no_file, busy, empty, adopts, no_memory}
 use Rattle.bt_machine.proofs.Shape.{step_shape}
 use Rattle.bt_machine.proofs.View.{none_run, one_more_runs}
-use Rattle.bt_transfer.specs.Adoption.{IsTakenIn, TakesIn}
+use Rattle.bt_intake.specs.Adoption.{IsTakenIn, TakesIn}
 
 module _ (dig : List ℕ → List ℕ) where
   groups_peers : (s new file from groups total : _) → AdoptsGroups dig s file from groups total new → new.peers ≡ s.peers

@@ -1,6 +1,6 @@
 use Rattle.std.proofs.Common.{◌∙◌}
-use Rattle.bt_transfer.proofs.Adoptions.{adoption_keeps_peers}
-use Rattle.bt_transfer.proofs.adoption.adopt_file.Goals as goal
+use Rattle.bt_intake.proofs.Adoptions.{adoption_keeps_peers}
+use Rattle.bt_intake.proofs.adoption.adopt_file.Goals as goal
 
 pub returns-in-Ok-clause-no_peer : goal.returns-in-Ok-clause-no_peer
 returns-in-Ok-clause-no_peer g c = adoption_keeps_peers g.H.NodeHash.digest c.adopt.ensures.step.2 ∙ c.requires.no_peer

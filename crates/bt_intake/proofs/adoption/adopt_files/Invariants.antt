@@ -1,7 +1,7 @@
 -- The files so far are taken in.
 use Rattle.std.proofs.Common.{◌≡◌, length}
-use Rattle.bt_transfer.proofs.Adoptions.{IsTaking}
-use Rattle.bt_transfer.proofs.adoption.adopt_files.Given as goal
+use Rattle.bt_intake.proofs.Adoptions.{IsTaking}
+use Rattle.bt_intake.proofs.adoption.adopt_files.Given as goal
 
 abbrev pub invariant-loop-file : goal.invariant-loop-file
 invariant-loop-file g l =

@@ -1,5 +1,5 @@
-use Rattle.bt_transfer.proofs.Adoptions.{keeps_torrent, taking_more}
-use Rattle.bt_transfer.proofs.adoption.adopt_files.Goals as goal
+use Rattle.bt_intake.proofs.Adoptions.{keeps_torrent, taking_more}
+use Rattle.bt_intake.proofs.adoption.adopt_files.Goals as goal
 
 pub returns-in_err-adopt_file-clause-torrent : goal.returns-in_err-adopt_file-clause-torrent
 returns-in_err-adopt_file-clause-torrent g c =

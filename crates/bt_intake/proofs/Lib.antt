@@ -1,0 +1,2 @@
+pub mod Adoptions
+pub mod Waits

@@ -1,0 +1,9 @@
+-- The files so far were seen to.
+use Rattle.std.proofs.Common.{◌≡◌, length}
+use Rattle.bt_intake.proofs.Waits.{IsSeeing}
+use Rattle.bt_intake.proofs.waiting.adopt_waiting.Given as goal
+
+abbrev pub invariant-loop-file : goal.invariant-loop-file
+invariant-loop-file g l =
+    IsSeeing g.D.Disk.history g.D.Disk.honest g.D.Disk.faults g.H.NodeHash.digest l.initial.engine l.file l.engine
+    × (l.count ≡ length l.initial.engine.state.files)

@@ -1,0 +1,2 @@
+pub mod Adoption
+pub mod Waiting
