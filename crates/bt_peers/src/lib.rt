@@ -6,8 +6,6 @@ mod end;
 mod link;
 mod peer;
 mod peers;
-#[cfg(test)]
-mod tests;
 
 pub use end::{PeerEnd, end_text};
 pub use link::Link;

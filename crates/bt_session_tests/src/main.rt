@@ -1,22 +1,46 @@
-//! Runs sessions with peers whose bytes lie in memory, on engines whose files lie in memory, and prints how each ended, what was
-//! written, and what the engine has then. The lines of `stdin` are the sessions, and `stdout` has what they are to answer.
+//! Runs sessions with peers whose bytes lie in memory, on engines whose files lie in memory, tries peers in turn, opens sockets of
+//! this machine with itself, and passes conversations through a reader and a writer of `bt_padding`, as the rows of `stdin` say.
+//! `stdout` has what they are to answer. README.md tells the rows.
 #![tactic(auto)]
 
 mod bytes;
+mod ends;
+mod engine;
+mod links;
 mod partner;
 mod row;
+mod sessions;
+mod sockets;
 mod stage;
+mod talk;
+mod talks;
 mod words;
 
 use stage::Stage;
+use std::alloc::{AllocError, Global};
+use std::io;
 
-fn main(rt: HostRuntime) -> anyhow::Result<()> {
-    let alloc = rt.alloc();
-    let mut stage = Stage::new();
-    for line in rt.lines(alloc) {
+fn main(rt: HostRuntime) -> io::Result<()> {
+    let mut stage = Stage::new(&rt);
+    print_lines(&rt, &mut stage)
+}
+
+fn print_lines(rt: &HostRuntime, stage: &mut Stage<'_>) -> io::Result<()> {
+    for line in rt.lines(rt.alloc()) {
         let line = line?;
-        let answer = stage.answer(alloc, line.as_str())?;
-        print!(rt; "{answer}")?;
+        print_line(rt, stage, line.as_str())?;
     }
     Ok(())
+}
+
+fn print_line(rt: &HostRuntime, stage: &mut Stage<'_>, row: &str) -> io::Result<()> {
+    let answer = answer_of(rt.alloc(), stage, row)?;
+    print!(rt; "{answer}")?;
+    Ok(())
+}
+
+fn answer_of(alloc: Global, stage: &mut Stage<'_>, row: &str) -> Result<String, AllocError> {
+    let mut out = String::new(alloc);
+    stage.answer(alloc, row, &mut out)?;
+    Ok(out)
 }

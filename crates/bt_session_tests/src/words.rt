@@ -1,83 +1,62 @@
-//! What a session came to, in words.
+//! The words of a row.
 
-use crate::stage::TestEngine;
-use bt_machine::{ConnectError, FileReport, Why};
-use bt_session::SessionEnd;
-use bt_tree::{NodeHash, Plain};
+use crate::bytes::bytes_of;
 use std::alloc::{AllocError, Global};
-use std::fmt::Write;
+use std::io;
 
-/// The most bytes that are printed one by one.
-const MOST_SHOWN: usize = 256;
-
-pub fn end_words(
-    alloc: Global,
-    end: &Result<SessionEnd, ConnectError>,
-) -> Result<String, AllocError> {
-    let words = match end {
-        Ok(SessionEnd::Complete) => "complete",
-        Ok(SessionEnd::Ended) => "ended",
-        Ok(SessionEnd::Closed(why)) => return why_words(alloc, why),
-        Ok(SessionEnd::TurnsSpent) => "turns spent",
-        Ok(SessionEnd::ReadFault) => "read fault",
-        Ok(SessionEnd::WriteFault) => "write fault",
-        Ok(SessionEnd::Memory) => "out of memory",
-        Err(error) => return format!(in alloc; "refused {error}"),
-    };
-    String::from_str(alloc, words)
+/// Why a row has no answer.
+#[derive(Drop)]
+pub enum RowError {
+    /// It is no row, or a word of it is not what stands there.
+    Unread,
+    /// A read or a write failed.
+    Failed,
+    Memory(AllocError),
 }
 
-/// The code, with the fault that it carries.
-fn why_words(alloc: Global, why: &Why) -> Result<String, AllocError> {
-    let code = match why {
-        Why::Wire(fault) => return format!(in alloc; "closed C1 {fault}"),
-        Why::WrongTorrent => "C2",
-        Why::BadPiece => "C3",
-        Why::BadBitfield => "C4",
-        Why::BadRequest => "C5",
-        Why::WrongBlock => "C6",
-        Why::UnknownRoot => "C7",
-        Why::Proof(fault) => return format!(in alloc; "closed C8 {fault}"),
-    };
-    format!(in alloc; "closed {code}")
-}
-
-/// How many bytes, and which: in hexadecimal where they are few, else their SHA-256.
-pub fn shown(alloc: Global, bytes: &[u8]) -> Result<String, AllocError> {
-    let count = bytes.len();
-    if count <= MOST_SHOWN {
-        return format!(in alloc; "{count} bytes {}", hex::encode(alloc, bytes)?);
+impl From<AllocError> for RowError {
+    fn from(error: AllocError) -> Self {
+        RowError::Memory(error)
     }
-    format!(in alloc;
-        "{count} bytes of {}",
-        hex::encode(alloc, &Plain.block(bytes))?
-    )
 }
 
-/// Adds how far each file is, and whether all are complete.
-pub fn push_reports(lines: &mut String, engine: &TestEngine) -> Result<(), AllocError> {
-    for file in 0..u32::MAX {
-        let Some(report) = engine.report(file) else {
-            break;
-        };
-        push_report(lines, file, &report)?;
+impl From<io::Error> for RowError {
+    fn from(_error: io::Error) -> Self {
+        RowError::Failed
     }
-    if engine.is_complete() {
-        lines.push_str("all complete\n")?;
-    }
-    Ok(())
 }
 
-fn push_report(lines: &mut String, file: u32, report: &FileReport) -> Result<(), AllocError> {
-    let FileReport {
-        blocks,
-        marked,
-        waiting,
-        complete,
-    } = *report;
-    let end = if complete { " complete" } else { "" };
-    writeln!(
-        lines,
-        "file {file} {marked} of {blocks}, {waiting} waiting{end}"
-    )
+/// The words of a row that are not read yet.
+#[derive(Clone, Copy)]
+pub struct Words<'a> {
+    rest: &'a str,
+}
+
+impl<'a> Words<'a> {
+    pub fn new(row: &'a str) -> Self {
+        Words { rest: row }
+    }
+
+    pub fn is_at_end(&self) -> bool {
+        self.rest.is_empty()
+    }
+
+    /// The next word; an empty one at the end.
+    pub fn word(&mut self) -> &'a str {
+        let (word, rest) = self.rest.split_once(' ').unwrap_or((self.rest, ""));
+        self.rest = rest;
+        word
+    }
+
+    /// The bytes that the next word spells; none where it is `-`.
+    pub fn bytes(&mut self, alloc: Global) -> Result<Vec<u8>, RowError> {
+        let word = self.word();
+        if word == "-" {
+            return Ok(Vec::new(alloc));
+        }
+        match bytes_of(alloc, word)? {
+            Some(bytes) => Ok(bytes),
+            None => Err(RowError::Unread),
+        }
+    }
 }

@@ -4,8 +4,6 @@
 mod link;
 mod listener;
 mod stream;
-#[cfg(test)]
-mod tests;
 
 pub use link::TcpLink;
 pub use listener::{SESSION_TURNS, listen, port_of, serve};

@@ -1,0 +1,193 @@
+//! Connections of this machine with itself.
+ghost use Rattle.std.specs.Prelude.{◌≡◌};
+
+use crate::engine::TestEngine;
+use crate::sessions::tell_end;
+use bt_meta::Torrent;
+use bt_padding::{PaddedReader, PaddedWriter, Padding};
+use bt_peers::{Link, PeerEnd, end_text};
+use bt_sockets::{IDLE_SECONDS, TcpLink, listen, port_of, serve};
+use std::alloc::{AllocError, Global};
+use std::cell::RefCell;
+use std::fmt::Write;
+use std::io::{self, Read};
+use std::net::{Net, OpenListener};
+use std::time::Duration;
+
+const HOST: &str = "127.0.0.1";
+
+type Listener = <HostRuntime as Net>::Listener;
+
+type Stream = <HostRuntime as Net>::Stream;
+
+/// What stands between sockets and an engine.
+#[derive(Drop)]
+struct Site<'a> {
+    net: &'a HostRuntime,
+    alloc: Global,
+    torrent: &'a Torrent,
+    padding: &'a RefCell<Padding>,
+}
+
+/// As long as a program waits.
+fn patience() -> Duration {
+    Duration::from_secs(IDLE_SECONDS)
+}
+
+/// Adds what a row answers: whether a closed port is reached, a byte that goes there and back, or what comes of so many milliseconds
+/// of silence.
+pub fn socket_row(
+    net: &HostRuntime,
+    alloc: Global,
+    torrent: &Torrent,
+    engine: &mut TestEngine,
+    row: &str,
+    out: &mut String,
+) -> Result<(), AllocError> {
+    let padding = RefCell::new(Padding::new(alloc)?);
+    let site = Site {
+        net,
+        alloc,
+        torrent,
+        padding: &padding,
+    };
+    let (name, number) = row.split_once(' ').unwrap_or((row, "0"));
+    let number = number.parse::<u8>().unwrap_or(0);
+    let idle = Duration::from_millis(number as u64);
+    match name {
+        "closed" => out.push_str(if is_closed_reached(&site) {
+            "reached\n"
+        } else {
+            "not reached\n"
+        }),
+        "echo" => tell_echo(out, echo(&site, number)),
+        "silent" => out.push_str(if is_given_up(&site, idle) {
+            "given up\n"
+        } else {
+            "not given up\n"
+        }),
+        "serve" => tell_served(out, silent_end(&site, engine, idle)),
+        _ => out.push_str("no socket\n"),
+    }
+}
+
+/// A link to a port of this machine.
+fn link<'a>(site: &Site<'a>, port: u16, idle: Duration) -> TcpLink<'a, HostRuntime>
+    ensures { result.all ≡ 0 }
+{
+    TcpLink::new(
+        site.alloc,
+        site.net,
+        HOST,
+        port,
+        idle,
+        site.torrent,
+        site.padding,
+    )
+}
+
+fn dialled<'a>(
+    site: &Site<'a>,
+    port: u16,
+    idle: Duration,
+) -> Option<(PaddedReader<'a, Stream>, PaddedWriter<'a, Stream>)> {
+    link(site, port, idle).dial()
+}
+
+/// A port at which nobody listens any more.
+fn closed_port(net: &HostRuntime) -> Option<u16> {
+    let listener = listen(net, HOST, 0).ok()?;
+    port_of(&listener).ok()
+}
+
+fn is_closed_reached(site: &Site<'_>) -> bool {
+    match closed_port(site.net) {
+        Some(port) => dialled(site, port, patience()).is_some(),
+        None => true,
+    }
+}
+
+/// Sends a byte over a link to a listener, and back, and gives what comes.
+fn echo(site: &Site<'_>, byte: u8) -> Option<u8> {
+    let listener = listen(site.net, HOST, 0).ok()?;
+    echo_by(site, &listener, byte)
+}
+
+fn echo_by(site: &Site<'_>, listener: &Listener, byte: u8) -> Option<u8> {
+    let port = port_of(listener).ok()?;
+    let (mut reader, mut writer) = dialled(site, port, patience())?;
+    let (mut stream, _) = listener.accept().ok()?;
+    let there = pass(&mut writer, &mut stream, byte).ok()?;
+    pass(&mut stream, &mut reader, there).ok()
+}
+
+/// Writes a byte at one end, and gives the one that is read at the other.
+fn pass<W: io::Write, R: Read>(writer: &mut W, reader: &mut R, byte: u8) -> io::Result<u8> {
+    let mut room = [0];
+    writer.write_all(&[byte])?;
+    reader.read_exact(&mut room)?;
+    Ok(room[0])
+}
+
+fn tell_echo(out: &mut String, byte: Option<u8>) -> Result<(), AllocError> {
+    match byte {
+        Some(byte) => writeln!(out, "{byte}"),
+        None => out.push_str("no connection\n"),
+    }
+}
+
+/// Whether a peer that is reached over a link, and sends nothing for so long, is given up.
+fn is_given_up(site: &Site<'_>, idle: Duration) -> bool {
+    match listen(site.net, HOST, 0) {
+        Ok(listener) => is_given_up_by(site, &listener, idle),
+        Err(_) => false,
+    }
+}
+
+fn is_given_up_by(site: &Site<'_>, listener: &Listener, idle: Duration) -> bool {
+    let Ok(port) = port_of(listener) else {
+        return false;
+    };
+    match dialled(site, port, idle) {
+        Some((mut reader, _writer)) => reader.read(&mut [0]).is_err(),
+        None => false,
+    }
+}
+
+/// What comes of serving a peer that sends nothing for so long.
+fn silent_end(site: &Site<'_>, engine: &mut TestEngine, idle: Duration) -> Option<PeerEnd> {
+    let listener = listen(site.net, HOST, 0).ok()?;
+    let port = port_of(&listener).ok()?;
+    let _silent = dialled(site, port, patience())?;
+    served(site, engine, &listener, idle)
+}
+
+fn served(
+    site: &Site<'_>,
+    engine: &mut TestEngine,
+    listener: &Listener,
+    idle: Duration,
+) -> Option<PeerEnd> {
+    if engine.peers() != 0 {
+        return None;
+    }
+    serve(
+        site.net,
+        site.alloc,
+        engine,
+        listener,
+        idle,
+        site.torrent,
+        site.padding,
+    )
+    .ok()
+}
+
+fn tell_served(out: &mut String, end: Option<PeerEnd>) -> Result<(), AllocError> {
+    match end {
+        Some(PeerEnd::Session(end)) => tell_end(out, &Ok(end))?,
+        Some(end) => out.push_str(end_text(end))?,
+        None => out.push_str("not served")?,
+    }
+    out.push_str("\n")
+}
