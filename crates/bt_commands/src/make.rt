@@ -18,7 +18,7 @@ use bt_check::{
     BUFFER_LEN, Digests, Fault, PieceSize, digest_reader, fault_name, found_path, is_device_fault,
     told,
 };
-use bt_meta::{Made, MakeError, read_torrent};
+use bt_meta::{Made, MakeError, make_torrent};
 use bt_progress::{FileCall, Watch, Watched};
 use bt_tree::Hash32;
 use std::alloc::{AllocError, Global};
@@ -147,10 +147,11 @@ fn torrent_of<R: Files + AllocGlobal, P: Watch>(
     watch.begin(FileCall::Read);
     let files = measured_files(rt, watch, dir, entries, size)?;
     let files = read_files(rt, watch, dir, files, size)?;
-    let text = bt_meta::make(alloc, name.as_bytes(), size.bytes, &files)?;
-    // read back for the infohash alone: what was made is lawful, so it is refused for memory at most
-    let infohash = read_torrent(alloc, &text)?.infohash();
-    Ok(NewTorrent { text, infohash })
+    let made = make_torrent(alloc, name.as_bytes(), size.bytes, &files)?;
+    Ok(NewTorrent {
+        text: made.text,
+        infohash: made.infohash,
+    })
 }
 
 /// A file of the folder: its path below it, and how many bytes it has.
