@@ -1,7 +1,5 @@
 ghost use Rattle.std.specs.Prelude.{◌≡◌, ◌+◌, ◌*◌, ◌≤◌, IfNone, IfSome, ℕ, length};
 ghost use Rattle.bt_tree.specs.Limits.{full_block_length};
-ghost use Rattle.bt_tree.specs.TreeShape.{IsPieceLength};
-ghost use Rattle.bt_meta.specs.Torrent.{IsLaidOut};
 ghost use Rattle.bt_meta.specs.Place.{IsPlace};
 ghost use Rattle.bt_machine.specs.Spans.{IsRangeOf, first_block, last_block};
 ghost use Rattle.bt_block_events.specs.SpansSteps.{IsShortSpan};
@@ -41,7 +39,7 @@ fn block_in(torrent: &Torrent, ask: Ask) -> Option<BlockId>
         → IsRangeOf torrent.now ask.piece ask.begin ask.length b → a ≡ b }
 {
     block_ranges_are_places();
-    keeps_laws(torrent);
+    torrent.keeps_laws();
     let span = place_of(torrent, ask)?;
     // It can be no other block than the first that the range lies in.
     let block = BlockId {
@@ -85,13 +83,4 @@ pub(crate) fn last_block(span: Span) -> u32
     ensures { result ≡ last_block span }
 {
     ((span.start + span.length as u64 - 1) / BLOCK_LEN as u64) as u32
-}
-
-/// What every torrent keeps to. It does nothing when it runs.
-fn keeps_laws(torrent: &Torrent)
-    ensures size { IsPieceLength torrent.now.piece_length }
-    ensures laid_out { IsLaidOut torrent.now.piece_length torrent.now.files }
-{
-    let _ = torrent.piece_length();
-    let _ = torrent.files();
 }

@@ -64,7 +64,7 @@ impl<D: Disk + Drop, H: NodeHash> Engine<D, H> {
         requires { H.digest ≡ sha256 }
         ensures { AnswersStart H.digest torrent disks.items result }
     {
-        torrent_is_lawful(&torrent);
+        torrent.keeps_laws();
         match bt_start::start(alloc, torrent, hash, disks) {
             Ok(parts) => Ok(Engine { alloc, parts }),
             Err(refused) => Err(refused),
@@ -186,15 +186,6 @@ impl<D: Disk + Drop, H: NodeHash> Engine<D, H> {
         ensures sparse { AreSparseTrees H.digest self.now.state }
         ensures sound { IsSound D.history D.honest H.digest self.now.state self.now.disks }
     {
-        torrent_is_lawful(&self.parts.torrent);
+        self.parts.torrent.keeps_laws();
     }
-}
-
-/// Every torrent is lawful: the clauses of its calls say so. It does nothing when it runs.
-fn torrent_is_lawful(torrent: &Torrent)
-    ensures { IsLawful torrent.now.piece_length torrent.now.files }
-{
-    let _ = torrent.piece_length();
-    let _ = torrent.pieces();
-    let _ = torrent.files();
 }

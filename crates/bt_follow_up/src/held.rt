@@ -1,7 +1,5 @@
 //! What a peer has, by leaps.
 ghost use Rattle.std.specs.Prelude.{ℕ, Bool, List, IfSome, IfNone};
-ghost use Rattle.bt_tree.specs.TreeShape.{IsPieceLength};
-ghost use Rattle.bt_meta.specs.Torrent.{IsLaidOut};
 ghost use Rattle.bt_book.specs.BitSet.{IsNext};
 ghost use Rattle.bt_state.specs.PieceSets.{without};
 ghost use Rattle.bt_follow_up.specs.HeldSteps.{IsFirstPiece, HasNoBlock, IsNextHeld};
@@ -14,7 +12,7 @@ use bt_state::PieceSet;
 pub(crate) fn next_held(torrent: &Torrent, has: &PieceSet, from: BlockId) -> Option<BlockId>
     ensures { IsNextHeld torrent.now has.now from result }
 {
-    keeps_laws(torrent);
+    torrent.keeps_laws();
     let first = first_piece(torrent, from)?;
     let piece = has.next(first)?;
     first_in(torrent, piece, from)
@@ -29,7 +27,7 @@ pub(crate) fn next_outside(
 ) -> Option<BlockId>
     ensures { IsNextHeld torrent.now (without has.now other.now) from result }
 {
-    keeps_laws(torrent);
+    torrent.keeps_laws();
     let first = first_piece(torrent, from)?;
     let piece = has.next_outside(other, first)?;
     first_in(torrent, piece, from)
@@ -40,7 +38,7 @@ fn first_in(torrent: &Torrent, piece: u32, from: BlockId) -> Option<BlockId>
     ensures { (pieces : List Bool) (first : ℕ) → IsFirstPiece torrent.now from first
         → IsNext pieces first piece → IsNextHeld torrent.now pieces from result }
 {
-    keeps_laws(torrent);
+    torrent.keeps_laws();
     let run = torrent.blocks_of(piece)?;
     let block = if run.file == from.file {
         run.first.max(from.block)
@@ -58,20 +56,11 @@ pub(crate) fn first_piece(torrent: &Torrent, from: BlockId) -> Option<u32>
     ensures some { IfSome result (IsFirstPiece torrent.now from) }
     ensures none { IfNone result (HasNoBlock torrent.now from) }
 {
-    keeps_laws(torrent);
+    torrent.keeps_laws();
     if let Some(range) = torrent.range_of(from.file, from.block) {
         return Some(range.piece);
     }
     let files = torrent.files();
     let next = files.get(from.file as usize + 1)?;
     Some(next.first_piece)
-}
-
-/// What every torrent keeps to. It does nothing when it runs.
-pub(crate) fn keeps_laws(torrent: &Torrent)
-    ensures size { IsPieceLength torrent.now.piece_length }
-    ensures laid_out { IsLaidOut torrent.now.piece_length torrent.now.files }
-{
-    let _ = torrent.piece_length();
-    let _ = torrent.files();
 }

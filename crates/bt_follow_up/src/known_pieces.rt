@@ -8,7 +8,7 @@ ghost use Rattle.bt_state.specs.Ties.{IsTied};
 ghost use Rattle.bt_follow_up.specs.KnownPiecesSteps.{AreKnownTo};
 
 use crate::hash_requests::next_unknown;
-use crate::held::{first_piece, keeps_laws};
+use crate::held::first_piece;
 use bt_book::BlockId;
 use bt_disk::Disk;
 use bt_state::Parts;
@@ -43,7 +43,7 @@ fn known_to<D: Disk + Drop, H: NodeHash>(parts: &Parts<D, H>, piece: u32) -> u32
     ensures inside { piece < result → result ≤ total_pieces parts.now.torrent }
 {
     let torrent = &parts.torrent;
-    keeps_laws(torrent);
+    torrent.keeps_laws();
     let Some(run) = torrent.blocks_of(piece) else {
         return piece;
     };

@@ -1,6 +1,5 @@
 ghost use Rattle.std.specs.Prelude.{◌≡◌, length, IfOk, OnOk, OnErr};
 ghost use Rattle.sha2.specs.Sha256.{sha256};
-ghost use Rattle.bt_meta.specs.Torrent.{IsLawful};
 ghost use Rattle.bt_machine.specs.Law.{AreRooted};
 ghost use Rattle.bt_machine.specs.Orderly.{IsOrderly};
 ghost use Rattle.bt_machine.specs.Shape.{IsShaped};
@@ -76,7 +75,7 @@ fn bare_parts<D: Disk + Drop, H: NodeHash>(
     ensures torrent { IfOk result (λ parts. parts.torrent ≡ torrent) }
     ensures bare { IfOk result (λ parts. AreBareParts H.digest parts) }
 {
-    torrent_is_lawful(&torrent);
+    torrent.keeps_laws();
     let (trees, slots) = bare_slots(alloc, hash, &torrent)?;
     let counts = block_counts(alloc, torrent.files())?;
     Ok(Parts {
@@ -107,13 +106,4 @@ fn give_devices<D: Disk + Drop, H: NodeHash>(
 {
     let files = parts.torrent.files();
     hand_out(alloc, hash, files, &mut parts.slots, disks)
-}
-
-/// Every torrent is lawful: the clauses of its calls say so. It does nothing when it runs.
-fn torrent_is_lawful(torrent: &Torrent)
-    ensures { IsLawful torrent.now.piece_length torrent.now.files }
-{
-    let _ = torrent.piece_length();
-    let _ = torrent.pieces();
-    let _ = torrent.files();
 }

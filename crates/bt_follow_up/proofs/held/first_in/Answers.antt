@@ -12,19 +12,19 @@ returns-in_err-run c = λ pieces first is next.
     ] in
     rw c.from_residual.ensures (
       tt,
-      none_in c.args.torrent.now c.keeps_laws.ensures.size c.keeps_laws.ensures.laid_out pieces c.args.from first is c.args.piece next past,
+      none_in c.args.torrent.now c.keeps_laws.ensures.piece c.keeps_laws.ensures.laid_out pieces c.args.from first is c.args.piece next past,
     )
 
 pub returns-then-run-from : goal.returns-then-run-from
 returns-then-run-from c = λ pieces first is next. (
-  at_latest c.args.torrent.now c.keeps_laws.ensures.size c.keeps_laws.ensures.laid_out pieces c.args.from first is c.args.piece next
+  at_latest c.args.torrent.now c.keeps_laws.ensures.piece c.keeps_laws.ensures.laid_out pieces c.args.from first is c.args.piece next
       c.in_ok-run.run' c.in_ok-run.ensures.value c.max-block.result c.if-run-from.true c.max-block.ensures,
   tt,
 )
 
 pub returns-else-run-from : goal.returns-else-run-from
 returns-else-run-from c = λ pieces first is next. (
-  in_place c.args.torrent.now c.keeps_laws.ensures.size c.keeps_laws.ensures.laid_out pieces c.args.from first is c.args.piece next
+  in_place c.args.torrent.now c.keeps_laws.ensures.piece c.keeps_laws.ensures.laid_out pieces c.args.from first is c.args.piece next
       c.in_ok-run.run' c.in_ok-run.ensures.value c.if-run-from.false,
   tt,
 )

@@ -12,7 +12,7 @@ pub returns-clause-bare : goal.returns-clause-bare
 returns-clause-bare g c =
     let files = c.files.result.now in
     record {
-      lawful = c.torrent_is_lawful.ensures;
+      lawful = c.keeps_laws.ensures.lawful;
       trees = c.in_ok-trees.ensures.trees;
       slots = c.in_ok-trees.ensures.slots;
       sizes = c.in_ok-piece_sizes.ensures;

@@ -16,7 +16,7 @@ invariant_of-result g c =
       tied = c.in-Ok.ensures.tied;
       shaped = subst (λ (t : Metainfo). IsShaped t (state_of c.in-Ok.parts)) (sym shaped.same) shaped;
       orderly = c.in-Ok.ensures.orderly;
-      sparse = start_sparse (layers_are_sound g.met.H.NodeHash.has_32_bytes) (root_sound g.H.NodeHash.digest) c.torrent_is_lawful.ensures (begun (view_of c.in-Ok.parts) c.in-Ok.ensures.answer);
+      sparse = start_sparse (layers_are_sound g.met.H.NodeHash.has_32_bytes) (root_sound g.H.NodeHash.digest) c.keeps_laws.ensures.lawful (begun (view_of c.in-Ok.parts) c.in-Ok.ensures.answer);
       rooted = c.in-Ok.ensures.rooted;
       sound = c.in-Ok.ensures.sound;
     }
