@@ -1,164 +1,172 @@
 //! What events answer, in words.
 
+use crate::bytes::tell_hex;
 use bt_book::{BlockId, PeerKey};
 use bt_machine::{
-    AdoptError, Answer, ConnectError, EngineError, FileReport, FlushError, Frame, Note, Output, Why,
+    AdoptError, Answer, ConnectError, EngineError, FlushError, Frame, Note, Output, Why,
 };
 use bt_store::Adopted;
-use bt_wire::{fits, write_message};
+use bt_wire::{Message, fits, write_message};
 use std::alloc::{AllocError, Global};
+use std::fmt::Write;
 
-/// What an event answers.
-pub fn answer_lines(alloc: Global, answer: &Answer) -> Result<String, AllocError> {
+/// Adds what an event answers.
+pub fn tell_answer(alloc: Global, out: &mut String, answer: &Answer) -> Result<(), AllocError> {
     match answer {
-        Answer::Connected(told) => connected_lines(alloc, told),
-        Answer::Fed(told) => peer_line(alloc, "fed", told),
-        Answer::Stepped(told) => stepped_lines(alloc, told),
-        Answer::Lost(told) => peer_line(alloc, "done", told),
-        Answer::Rechoked(told) => rechoked_lines(alloc, told),
-        Answer::Adopted(told) => adopted_line(alloc, told),
-        Answer::Flushed(told) => flushed_line(alloc, told),
+        Answer::Connected(told) => tell_connected(alloc, out, told),
+        Answer::Fed(told) => tell_done(out, "fed\n", told),
+        Answer::Stepped(told) => tell_stepped(alloc, out, told),
+        Answer::Lost(told) => tell_done(out, "done\n", told),
+        Answer::Rechoked(told) => tell_rechoked(alloc, out, told),
+        Answer::Adopted(told) => tell_adopted(out, told),
+        Answer::Flushed(told) => tell_flushed(out, told),
     }
 }
 
-fn connected_lines(
+fn tell_connected(
     alloc: Global,
+    out: &mut String,
     told: &Result<(PeerKey, Output), ConnectError>,
-) -> Result<String, AllocError> {
+) -> Result<(), AllocError> {
     match told {
         Ok((key, output)) => {
-            let lines = output_lines(alloc, output)?;
-            format!(in alloc; "peer {}\n{lines}", key.0)
+            writeln!(out, "peer {}", key.0)?;
+            tell_output(alloc, out, output)
         }
-        Err(error) => format!(in alloc; "refused {error}\n"),
+        Err(error) => writeln!(out, "refused {error}"),
     }
 }
 
-fn stepped_lines(
+fn tell_stepped(
     alloc: Global,
+    out: &mut String,
     told: &Result<Option<Output>, EngineError>,
-) -> Result<String, AllocError> {
+) -> Result<(), AllocError> {
     match told {
-        Ok(Some(output)) => {
-            let lines = output_lines(alloc, output)?;
-            format!(in alloc; "step\n{lines}")
-        }
-        Ok(None) => String::from_str(alloc, "none\n"),
-        Err(error) => format!(in alloc; "refused {error}\n"),
+        Ok(Some(output)) => tell_step(alloc, out, output),
+        Ok(None) => out.push_str("none\n"),
+        Err(error) => writeln!(out, "refused {error}"),
     }
+}
+
+fn tell_step(alloc: Global, out: &mut String, output: &Output) -> Result<(), AllocError> {
+    out.push_str("step\n")?;
+    tell_output(alloc, out, output)
 }
 
 /// An event of a peer that answers nothing else.
-fn peer_line(
-    alloc: Global,
-    word: &str,
+fn tell_done(
+    out: &mut String,
+    line: &str,
     told: &Result<(), EngineError>,
-) -> Result<String, AllocError> {
+) -> Result<(), AllocError> {
     match told {
-        Ok(()) => format!(in alloc; "{word}\n"),
-        Err(error) => format!(in alloc; "refused {error}\n"),
+        Ok(()) => out.push_str(line),
+        Err(error) => writeln!(out, "refused {error}"),
     }
 }
 
-fn rechoked_lines(alloc: Global, told: &Result<Output, AllocError>) -> Result<String, AllocError> {
+fn tell_rechoked(
+    alloc: Global,
+    out: &mut String,
+    told: &Result<Output, AllocError>,
+) -> Result<(), AllocError> {
     match told {
-        Ok(output) => {
-            let lines = output_lines(alloc, output)?;
-            format!(in alloc; "step\n{lines}")
-        }
-        Err(error) => format!(in alloc; "refused {error}\n"),
+        Ok(output) => tell_step(alloc, out, output),
+        Err(error) => writeln!(out, "refused {error}"),
     }
 }
 
-fn adopted_line(alloc: Global, told: &Result<Adopted, AdoptError>) -> Result<String, AllocError> {
+fn tell_adopted(out: &mut String, told: &Result<Adopted, AdoptError>) -> Result<(), AllocError> {
     match told {
-        Ok(adopted) => {
-            format!(in alloc;
-                "adopted {} of {}, {} faults\n",
-                adopted.marked, adopted.next, adopted.faults
-            )
-        }
-        Err(error) => format!(in alloc; "refused {error}\n"),
+        Ok(adopted) => writeln!(
+            out,
+            "adopted {} of {}, {} faults",
+            adopted.marked, adopted.next, adopted.faults
+        ),
+        Err(error) => writeln!(out, "refused {error}"),
     }
 }
 
-fn flushed_line(alloc: Global, told: &Result<(), FlushError>) -> Result<String, AllocError> {
+fn tell_flushed(out: &mut String, told: &Result<(), FlushError>) -> Result<(), AllocError> {
     match told {
-        Ok(()) => String::from_str(alloc, "done\n"),
-        Err(error) => format!(in alloc; "refused {error}\n"),
+        Ok(()) => out.push_str("done\n"),
+        Err(error) => writeln!(out, "refused {error}"),
     }
 }
 
 /// What an event sends and notes, a line each.
-fn output_lines(alloc: Global, output: &Output) -> Result<String, AllocError> {
-    let mut lines = String::new(alloc);
-    for (key, frame) in output.send.iter() {
-        let frame = frame_words(alloc, frame)?;
-        lines.push_str(format!(in alloc; "send {} {frame}\n", key.0)?.as_str())?;
-    }
+fn tell_output(alloc: Global, out: &mut String, output: &Output) -> Result<(), AllocError> {
+    tell_sent(alloc, out, &output.send)?;
     if let Some(why) = &output.close {
-        lines.push_str(format!(in alloc; "close {}\n", why_words(alloc, why)?)?.as_str())?;
+        tell_closed(out, why)?;
     }
-    lines.push_str(note_lines(alloc, &output.notes)?.as_str())?;
-    Ok(lines)
+    tell_notes(out, &output.notes)
 }
 
-fn frame_words(alloc: Global, frame: &Frame) -> Result<String, AllocError> {
+fn tell_sent(alloc: Global, out: &mut String, sent: &[(PeerKey, Frame)]) -> Result<(), AllocError> {
+    for (key, frame) in sent {
+        write!(out, "send {} ", key.0)?;
+        tell_frame(alloc, out, frame)?;
+        out.push_str("\n")?;
+    }
+    Ok(())
+}
+
+fn tell_frame(alloc: Global, out: &mut String, frame: &Frame) -> Result<(), AllocError> {
     match frame {
-        Frame::Hello(_) => String::from_str(alloc, "hello"),
-        Frame::Message(message) if fits(message) => {
-            hex::encode(alloc, &write_message(alloc, message)?)
-        }
-        Frame::Message(_) => String::from_str(alloc, "what does not fit"),
+        Frame::Hello(_) => out.push_str("hello"),
+        Frame::Message(message) => tell_message(alloc, out, message),
     }
 }
 
-/// The code, with the fault that it carries.
-fn why_words(alloc: Global, why: &Why) -> Result<String, AllocError> {
+fn tell_message(alloc: Global, out: &mut String, message: &Message) -> Result<(), AllocError> {
+    if !fits(message) {
+        return out.push_str("what does not fit");
+    }
+    let bytes = write_message(alloc, message)?;
+    tell_hex(alloc, out, &bytes)
+}
+
+fn tell_closed(out: &mut String, why: &Why) -> Result<(), AllocError> {
+    out.push_str("close ")?;
+    tell_why(out, why)?;
+    out.push_str("\n")
+}
+
+/// Adds the code, with the fault that it carries.
+fn tell_why(out: &mut String, why: &Why) -> Result<(), AllocError> {
     match why {
-        Why::Wire(fault) => format!(in alloc; "C1 {fault}"),
-        Why::WrongTorrent => String::from_str(alloc, "C2"),
-        Why::BadPiece => String::from_str(alloc, "C3"),
-        Why::BadBitfield => String::from_str(alloc, "C4"),
-        Why::BadRequest => String::from_str(alloc, "C5"),
-        Why::WrongBlock => String::from_str(alloc, "C6"),
-        Why::UnknownRoot => String::from_str(alloc, "C7"),
-        Why::Proof(fault) => format!(in alloc; "C8 {fault}"),
+        Why::Wire(fault) => write!(out, "C1 {fault}"),
+        Why::WrongTorrent => out.push_str("C2"),
+        Why::BadPiece => out.push_str("C3"),
+        Why::BadBitfield => out.push_str("C4"),
+        Why::BadRequest => out.push_str("C5"),
+        Why::WrongBlock => out.push_str("C6"),
+        Why::UnknownRoot => out.push_str("C7"),
+        Why::Proof(fault) => write!(out, "C8 {fault}"),
     }
 }
 
-fn note_lines(alloc: Global, notes: &[Note]) -> Result<String, AllocError> {
-    let mut lines = String::new(alloc);
+fn tell_notes(out: &mut String, notes: &[Note]) -> Result<(), AllocError> {
     for note in notes {
-        lines.push_str(note_line(alloc, *note)?.as_str())?;
+        tell_note(out, *note)?;
     }
-    Ok(lines)
+    Ok(())
 }
 
-fn note_line(alloc: Global, note: Note) -> Result<String, AllocError> {
+fn tell_note(out: &mut String, note: Note) -> Result<(), AllocError> {
     match note {
-        Note::Marked(block) => block_line(alloc, "marked", block),
-        Note::Waiting(block) => block_line(alloc, "waiting", block),
-        Note::Freed(block) => block_line(alloc, "freed", block),
-        Note::Damaged(block) => block_line(alloc, "damaged", block),
-        Note::Device(file) => format!(in alloc; "device {file}\n"),
-        Note::Stale => String::from_str(alloc, "stale\n"),
-        Note::Complete(file) => format!(in alloc; "complete {file}\n"),
+        Note::Marked(block) => tell_block(out, "marked", block),
+        Note::Waiting(block) => tell_block(out, "waiting", block),
+        Note::Freed(block) => tell_block(out, "freed", block),
+        Note::Damaged(block) => tell_block(out, "damaged", block),
+        Note::Device(file) => writeln!(out, "device {file}"),
+        Note::Stale => out.push_str("stale\n"),
+        Note::Complete(file) => writeln!(out, "complete {file}"),
     }
 }
 
-fn block_line(alloc: Global, word: &str, block: BlockId) -> Result<String, AllocError> {
-    format!(in alloc; "{word} {} {}\n", block.file, block.block)
-}
-
-/// How far a file is.
-pub fn report_line(alloc: Global, file: u32, report: &FileReport) -> Result<String, AllocError> {
-    let FileReport {
-        blocks,
-        marked,
-        waiting,
-        complete,
-    } = *report;
-    let end = if complete { " complete" } else { "" };
-    format!(in alloc; "file {file} {marked} of {blocks}, {waiting} waiting{end}\n")
+fn tell_block(out: &mut String, word: &str, block: BlockId) -> Result<(), AllocError> {
+    writeln!(out, "{word} {} {}", block.file, block.block)
 }

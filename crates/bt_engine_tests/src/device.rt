@@ -1,8 +1,9 @@
+//! What the devices of a list of events are to be.
 ghost use Rattle.std.specs.Prelude.{◌<◌, ◌-◌, ◌^◌};
 ghost use Rattle.std.specs.Bool.{OnTrue};
 
 use crate::bytes::bytes_of;
-use bt_disk::{FaultDisk, MemoryDisk};
+use crate::engine::{TestDisk, memory_disk};
 use std::alloc::{AllocError, Global};
 
 /// What the device of a file is to be.
@@ -27,39 +28,47 @@ impl Device {
     /// Makes a setting: its bytes, the call that fails, or the call and the place of a flip. False where it is none.
     pub fn set(&mut self, alloc: Global, name: &str, words: &str) -> Result<bool, AllocError> {
         if name == "bytes" {
-            let Some(bytes) = bytes_of(alloc, words)? else {
-                return Ok(false);
-            };
-            self.bytes = bytes;
-            return Ok(true);
+            return self.set_bytes(alloc, words);
         }
-        let (call, place) = words.split_once(' ').unwrap_or((words, "0"));
-        let (Some(call), Ok(place)) = (call_number(call), place.parse::<u64>()) else {
-            return Ok(false);
-        };
-        if name == "flip" {
-            self.flip = Some((call, place));
-        } else {
-            self.fault = Some(call);
+        match call_and_place(words) {
+            Some((call, place)) if name == "flip" => self.flip = Some((call, place)),
+            Some((call, _)) => self.fault = Some(call),
+            None => return Ok(false),
         }
         Ok(true)
     }
 
-    pub fn into_disk(self, alloc: Global) -> FaultDisk<MemoryDisk> {
-        let Device { bytes, fault, flip } = self;
-        let disk = FaultDisk::new(MemoryDisk::new(alloc, bytes));
-        let disk = match fault {
-            Some(call) => with_fault(disk, call),
-            None => disk,
-        };
-        match flip {
-            Some((call, place)) => with_flip(disk, call, place),
-            None => disk,
+    fn set_bytes(&mut self, alloc: Global, word: &str) -> Result<bool, AllocError> {
+        match bytes_of(alloc, word)? {
+            Some(bytes) => {
+                self.bytes = bytes;
+                Ok(true)
+            }
+            None => Ok(false),
         }
+    }
+
+    pub fn into_disk(self, alloc: Global) -> TestDisk {
+        let Device { bytes, fault, flip } = self;
+        flipped(faulty(memory_disk(alloc, bytes), fault), flip)
     }
 }
 
-fn with_fault(disk: FaultDisk<MemoryDisk>, call: u64) -> FaultDisk<MemoryDisk> {
+fn faulty(disk: TestDisk, fault: Option<u64>) -> TestDisk {
+    match fault {
+        Some(call) => with_fault(disk, call),
+        None => disk,
+    }
+}
+
+fn flipped(disk: TestDisk, flip: Option<(u64, u64)>) -> TestDisk {
+    match flip {
+        Some((call, place)) => with_flip(disk, call, place),
+        None => disk,
+    }
+}
+
+fn with_fault(disk: TestDisk, call: u64) -> TestDisk {
     if is_call(call) {
         disk.failing_once(call)
     } else {
@@ -67,7 +76,7 @@ fn with_fault(disk: FaultDisk<MemoryDisk>, call: u64) -> FaultDisk<MemoryDisk> {
     }
 }
 
-fn with_flip(disk: FaultDisk<MemoryDisk>, call: u64, place: u64) -> FaultDisk<MemoryDisk> {
+fn with_flip(disk: TestDisk, call: u64, place: u64) -> TestDisk {
     if is_call(call) {
         disk.flipping(call, place)
     } else {
@@ -75,10 +84,13 @@ fn with_flip(disk: FaultDisk<MemoryDisk>, call: u64, place: u64) -> FaultDisk<Me
     }
 }
 
-/// The number of a call that may fail.
-fn call_number(word: &str) -> Option<u64> {
-    let call = word.parse::<u64>().ok()?;
-    if is_call(call) { Some(call) } else { None }
+/// The number of a call that may fail, and a place, 0 where there is none.
+fn call_and_place(words: &str) -> Option<(u64, u64)> {
+    let (call, place) = words.split_once(' ').unwrap_or((words, "0"));
+    match (call.parse::<u64>(), place.parse::<u64>()) {
+        (Ok(call), Ok(place)) if is_call(call) => Some((call, place)),
+        _ => None,
+    }
 }
 
 /// Whether a call has this number: from 1 to 2^64 - 2.

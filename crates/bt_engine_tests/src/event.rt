@@ -33,14 +33,28 @@ fn feed_of(alloc: Global, key: PeerKey, word: &str) -> Result<Option<Event>, All
 pub fn byte_events(alloc: Global, rest: &str) -> Result<Option<Vec<Event>>, AllocError> {
     let (first, second) = rest.split_once(' ').unwrap_or((rest, ""));
     let key = PeerKey(first.parse().unwrap_or(0));
-    let Some(bytes) = bytes_of(alloc, second)? else {
-        return Ok(None);
-    };
-    let mut events = Vec::new(alloc);
-    for byte in bytes.as_slice() {
-        let one = vec![in alloc; *byte; 1]?;
-        events.push(Event::Feed(key, Bytes::new(one)))?;
-        events.push(Event::Next(key))?;
+    match bytes_of(alloc, second)? {
+        Some(bytes) => Ok(Some(events_of(alloc, key, &bytes)?)),
+        None => Ok(None),
     }
-    Ok(Some(events))
+}
+
+fn events_of(alloc: Global, key: PeerKey, bytes: &[u8]) -> Result<Vec<Event>, AllocError> {
+    let mut events = Vec::new(alloc);
+    for byte in bytes {
+        push_byte(alloc, &mut events, key, *byte)?;
+    }
+    Ok(events)
+}
+
+fn push_byte(
+    alloc: Global,
+    events: &mut Vec<Event>,
+    key: PeerKey,
+    byte: u8,
+) -> Result<(), AllocError> {
+    let one = vec![in alloc; byte; 1]?;
+    events.push(Event::Feed(key, Bytes::new(one)))?;
+    events.push(Event::Next(key))?;
+    Ok(())
 }

@@ -5,21 +5,45 @@
 mod answers;
 mod bytes;
 mod device;
+mod engine;
 mod event;
+mod lists;
 mod run;
-mod stage;
 
-use stage::Stage;
+use lists::Lists;
+use std::alloc::{AllocError, Global};
+use std::io;
 
-fn main(rt: HostRuntime) -> anyhow::Result<()> {
-    let alloc = rt.alloc();
-    let mut stage = Stage::Empty;
-    for line in rt.lines(alloc) {
-        let line = line?;
-        let answer = stage.answer(alloc, line.as_str())?;
-        print!(rt; "{answer}")?;
-    }
-    let answer = stage.finish(alloc)?;
+fn main(rt: HostRuntime) -> io::Result<()> {
+    let mut lists = Lists::Empty;
+    print_lines(&rt, &mut lists)?;
+    let answer = last_answer(rt.alloc(), &mut lists)?;
     print!(rt; "{answer}")?;
     Ok(())
+}
+
+fn print_lines(rt: &HostRuntime, lists: &mut Lists) -> io::Result<()> {
+    for line in rt.lines(rt.alloc()) {
+        let line = line?;
+        print_line(rt, lists, line.as_str())?;
+    }
+    Ok(())
+}
+
+fn print_line(rt: &HostRuntime, lists: &mut Lists, line: &str) -> io::Result<()> {
+    let answer = answer_of(rt.alloc(), lists, line)?;
+    print!(rt; "{answer}")?;
+    Ok(())
+}
+
+fn answer_of(alloc: Global, lists: &mut Lists, line: &str) -> Result<String, AllocError> {
+    let mut out = String::new(alloc);
+    lists.answer(alloc, line, &mut out)?;
+    Ok(out)
+}
+
+fn last_answer(alloc: Global, lists: &mut Lists) -> Result<String, AllocError> {
+    let mut out = String::new(alloc);
+    lists.finish(alloc, &mut out)?;
+    Ok(out)
 }

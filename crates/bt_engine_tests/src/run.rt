@@ -1,14 +1,11 @@
 //! An engine, and the events that are to happen to it.
 
-use crate::answers::{answer_lines, report_line};
-use bt_disk::{FaultDisk, MemoryDisk};
-use bt_engine::Engine;
-use bt_lanes::Lanes;
+use crate::answers::tell_answer;
+use crate::engine::{TestEngine, tell_reports};
 use bt_machine::{Answer, Event};
 use bt_runs::run_as_promised;
 use std::alloc::{AllocError, Global};
-
-pub type TestEngine = Engine<FaultDisk<MemoryDisk>, Lanes>;
+use std::fmt::Write;
 
 /// An engine, with events that it is still to run.
 #[derive(Drop)]
@@ -31,52 +28,65 @@ impl Run {
     }
 
     /// Runs the events as one list, and says what they answer.
-    pub fn finish(&mut self, alloc: Global) -> Result<String, AllocError> {
+    pub fn finish(&mut self, alloc: Global, out: &mut String) -> Result<(), AllocError> {
         let answers = self.answers(alloc)?;
-        self.events.clear();
-        let mut lines = String::new(alloc);
-        for answer in answers.iter() {
-            lines.push_str(answer_lines(alloc, answer)?.as_str())?;
-        }
-        Ok(lines)
+        tell_answers(alloc, out, &answers)
     }
 
     /// The same, but that nothing is said where bytes were only taken and where no event was whole.
-    pub fn finish_bytes(&mut self, alloc: Global) -> Result<String, AllocError> {
+    pub fn finish_bytes(&mut self, alloc: Global, out: &mut String) -> Result<(), AllocError> {
         let answers = self.answers(alloc)?;
-        self.events.clear();
-        let mut lines = String::new(alloc);
-        for answer in answers.iter() {
-            match answer {
-                Answer::Fed(Ok(())) | Answer::Stepped(Ok(None)) => {}
-                answer => lines.push_str(answer_lines(alloc, answer)?.as_str())?,
-            }
-        }
-        Ok(lines)
+        tell_whole_answers(alloc, out, &answers)
     }
 
+    /// What the events answer, which have run then.
     fn answers(&mut self, alloc: Global) -> Result<Vec<Answer>, AllocError> {
         let mut answers = Vec::new(alloc);
-        run_as_promised(&mut self.engine, &self.events, &mut answers)?;
+        run_all(&mut self.engine, &self.events, &mut answers)?;
+        self.events.clear();
         Ok(answers)
     }
 
-    pub fn peers_line(&self, alloc: Global) -> Result<String, AllocError> {
-        format!(in alloc; "{} peers\n", self.engine.peers())
+    pub fn tell_peers(&self, out: &mut String) -> Result<(), AllocError> {
+        let peers = self.engine.peers();
+        writeln!(out, "{peers} peers")
     }
 
     /// How far each file is, and whether all are complete.
-    pub fn report_lines(&self, alloc: Global) -> Result<String, AllocError> {
-        let mut lines = String::new(alloc);
-        for file in 0..u32::MAX {
-            let Some(report) = self.engine.report(file) else {
-                break;
-            };
-            lines.push_str(report_line(alloc, file, &report)?.as_str())?;
-        }
-        if self.engine.is_complete() {
-            lines.push_str("all complete\n")?;
-        }
-        Ok(lines)
+    pub fn tell_reports(&self, out: &mut String) -> Result<(), AllocError> {
+        tell_reports(out, &self.engine)
     }
+}
+
+fn run_all(
+    engine: &mut TestEngine,
+    events: &[Event],
+    answers: &mut Vec<Answer>,
+) -> Result<(), AllocError> {
+    run_as_promised(engine, events, answers)
+}
+
+fn tell_answers(alloc: Global, out: &mut String, answers: &[Answer]) -> Result<(), AllocError> {
+    for answer in answers {
+        tell_answer(alloc, out, answer)?;
+    }
+    Ok(())
+}
+
+fn tell_whole_answers(
+    alloc: Global,
+    out: &mut String,
+    answers: &[Answer],
+) -> Result<(), AllocError> {
+    for answer in answers {
+        if !is_of_part(answer) {
+            tell_answer(alloc, out, answer)?;
+        }
+    }
+    Ok(())
+}
+
+/// Whether bytes were only taken, or no event was whole.
+fn is_of_part(answer: &Answer) -> bool {
+    matches!(answer, Answer::Fed(Ok(())) | Answer::Stepped(Ok(None)))
 }
