@@ -148,9 +148,10 @@ fn torrent_of<R: Files + AllocGlobal, P: Watch>(
     let files = measured_files(rt, watch, dir, entries, size)?;
     let files = read_files(rt, watch, dir, files, size)?;
     let made = make_torrent(alloc, name.as_bytes(), size.bytes, &files)?;
+    let infohash = made.infohash;
     Ok(NewTorrent {
         text: made.text,
-        infohash: made.infohash,
+        infohash,
     })
 }
 
