@@ -3,7 +3,7 @@
 use super::tools::{THREE_INFO, THREE_ROOT, confirm, digest, front, three_blocks};
 use bt_check::{FileHash, Finding, PieceSize, check_entry};
 use bt_disk::{Disk, FaultDisk, MemoryDisk};
-use bt_meta::{Made, Torrent, make, read_info, read_torrent};
+use bt_meta::{Made, Torrent, layers_are_of_trees, make, read_info, read_torrent};
 use bt_tree::NodeHash;
 use std::alloc::{AllocError, Global};
 use std::test::Fail;
@@ -43,6 +43,8 @@ fn torrent_of_the_whole(alloc: Global) -> Result<Torrent, Fail> {
 fn found_on<D: Disk + Drop>(alloc: Global, torrent: &Torrent, disk: D) -> Result<Finding, Fail> {
     let size = PieceSize::new(torrent.piece_length()).ok_or("no piece length")?;
     let entry = torrent.files().first().ok_or("no file")?;
+    // The layers of a torrent that was read are those of its files.
+    layers_are_of_trees();
     Ok(check_entry(alloc, disk, entry, size)?.finding)
 }
 

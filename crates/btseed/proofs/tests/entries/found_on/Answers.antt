@@ -1,7 +1,17 @@
-use Rattle.std.proofs.Common.{◌≡◌, Some, map, rules}
+use Rattle.std.proofs.Common.{◌≡◌, ℕ, ◌<◌, Some, List, length, map, get_or, rules, arith}
+use Rattle.std.specs.List.{All}
+use Rattle.std.proofs.lemmas.List.{length-map, get_or-map}
 use Rattle.bt_meta.specs.Files.{file_of}
-use Rattle.bt_check.proofs.CheckFault.{all_checkable, checkable_at}
+use Rattle.bt_meta.specs.declared.torrent.FileEntry.{FileEntry}
+use Rattle.bt_check.specs.EntryCheck.{IsCheckable}
+use Rattle.bt_check.proofs.CheckFault.{all_checkable}
 use Rattle.btseed.proofs.tests.entries.found_on.Goals as goal
+
+checkable_at : (layer i : ℕ) (entries : List FileEntry) (entry : FileEntry) → i < length entries → entry ≡ get_or entries i entry
+    → All (IsCheckable layer) (map file_of entries) → IsCheckable layer (file_of entry)
+checkable_at layer i entries entry lt is all =
+    let within : i < length (map file_of entries) = omega (arith, length-map entries file_of) in
+    rw is (rw (get_or-map file_of entries i entry (file_of entry) lt) at (all i (file_of entry) within))
 
 pub check_entry-requires : goal.check_entry-requires
 check_entry-requires g c =
@@ -10,4 +20,5 @@ check_entry-requires g c =
     let first : c.first.result ≡ Some c.in_ok-entry.entry = search rules in
     let item = rw first at c.first.ensures.item.1 in
     checkable_at size.layer 0 c.files.result.now c.in_ok-entry.entry.now c.files.ensures.some item
-    (all_checkable size.bytes size.layer (map file_of c.files.result.now) size.of_layer (rw bytes c.files.ensures.lawful))
+    (all_checkable size.bytes size.layer (map file_of c.files.result.now) size.of_layer (rw bytes c.files.ensures.lawful)
+    c.layers_are_of_trees.ensures)
