@@ -18,7 +18,7 @@ use Rattle.bt_check.specs.Fault.{device, make_fault, out_of_memory}
 use Rattle.bt_commands.specs.Limits.{count_refusal}
 use Rattle.bt_commands.specs.Folder.{file_paths, path_behind, path_of_file}
 use Rattle.bt_commands.specs.Make.{HasContent, IsMeasuringFault, Paths, elements_of, first_count_refusal, paths_of, refusal_behind, total_piece_count}
-use Rattle.bt_commands.specs.MakeSteps.{elements_in, file_of_made}
+use Rattle.bt_commands.specs.MakeSteps.{AddsFile, IsFileRefusal, elements_in, file_of_made}
 use Rattle.bt_check.specs.declared.fault.Fault.{Fault}
 use Rattle.bt_commands.proofs.FolderWalk.{Path, file_paths_first, file_paths_none}
 use Rattle.bt_commands.specs.declared.folder.EntryKind.TheVariants.{File, Folder}
@@ -140,6 +140,29 @@ module _ {size count pieces : ℕ} {all left : Paths} {old : List FolderFile} (h
     refusal = told_behind (Some cause) refused;
     is = refl;
   }))
+
+-- a file was added, or refused
+pub measured_added : (size count pieces next_count next_pieces : ℕ) (all left rest : Paths) (path : List (String Global)) (old new : List FolderFile)
+    → left ≡ map string_bytes path ∷ rest → AddsFile size count pieces path old new next_count next_pieces → AreMeasured size count pieces all left old
+    → AreMeasured size next_count next_pieces all rest new
+measured_added size count pieces next_count next_pieces all left rest path old new first adds h =
+    measured_more h rest adds.file (length path) (first ∙ ap (λ p. p ∷ rest) (sym adds.named)) (as_many adds.file path adds.named) next_count next_pieces new
+    adds.behind adds.passes adds.short adds.count adds.sum
+
+pub measured_fault : (size count pieces : ℕ) (all left rest : Paths) (path : Vec (String Global) Global) (old : List FolderFile) (fault : Fault)
+    → left ≡ map string_bytes path.items ∷ rest → AreMeasured size count pieces all left old
+    → (fault ≡ device) ⊎ (fault ≡ out_of_memory) ⊎ IsFileRefusal size count pieces path.items fault → IsMeasuringFault all size fault
+measured_fault size count pieces all left rest path old fault first h (inl failed) = inl failed
+measured_fault size count pieces all left rest path old fault first h (inr (inl memory)) = inr (inl memory)
+measured_fault size count pieces all left rest path old fault first h (inr (inr refused)) =
+    subst (IsMeasuringFault all size) (sym refused.is)
+    (measured_refused h rest (record { path = path; length = refused.bytes }) (length path.items) first refl refused.cause refused.refusal)
+
+-- why a file is refused
+pub file_refused : (size count pieces elements bytes : ℕ) (path : List (String Global)) (cause : MakeError) → elements ≡ length path
+    → Some cause ≡ count_refusal count pieces size elements bytes → IsFileRefusal size count pieces path (make_fault cause)
+file_refused size count pieces elements bytes path cause sized refused =
+    record { bytes = bytes; cause = cause; refusal = refused ∙ ap (λ n. count_refusal count pieces size n bytes) sized; is = refl }
 
 -- ---- files as they are read
 

@@ -61,7 +61,8 @@ command_app name rules = with_rules (new_app name) rules
 
 unfoldable pub make_app : App
 make_app = command_app (codes "make")
-    (required_rule (codes "DIR") ∷ required_rule (codes "OUT") ∷ name_rule ∷ piece_length_rule ∷ verbose_rule ∷ [])
+    (required_rule (codes "DIR") ∷ required_rule (codes "OUT") ∷ name_rule ∷ piece_length_rule
+    ∷ verbose_rule ∷ [])
 
 unfoldable pub show_app : App
 show_app = command_app (codes "show") (required_rule (codes "TORRENT") ∷ info_rule ∷ [])
@@ -77,7 +78,8 @@ seed_app = command_app (codes "seed")
 
 unfoldable pub fetch_app : App
 fetch_app = command_app (codes "fetch")
-    (required_rule (codes "TORRENT") ∷ required_rule (codes "DIR") ∷ peers_rule ∷ info_rule ∷ verbose_rule ∷ [])
+    (required_rule (codes "TORRENT") ∷ required_rule (codes "DIR") ∷ peers_rule ∷ info_rule
+    ∷ verbose_rule ∷ [])
 
 unfoldable pub replay_app : App
 replay_app = new_app (codes "replay")

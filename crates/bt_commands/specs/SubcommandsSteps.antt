@@ -1,10 +1,11 @@
--- The words of a command, as the table of the private function that makes it has them.
-use Rattle.std.specs.Prelude.{[], ◌∷◌, Some}
-use Rattle.clap.specs.Words.{Rule, Text, new_rule}
+-- The commands and their words, as the private tables have them.
+use Rattle.std.specs.Prelude.{List, [], ◌∷◌, Some, map}
+use Rattle.clap.specs.Words.{App, Rule, Text, new_rule, with_subcommand}
 use Rattle.clap.specs.declared.builder.action.ArgAction.TheVariants.{Append}
-use Rattle.bt_commands.specs.Subcommands.{flag_rule, option_rule, required_rule}
+use Rattle.bt_commands.specs.Subcommands.{command_app, flag_rule, option_rule, required_rule}
 use Rattle.bt_commands.specs.declared.subcommands.Kind.{Kind}
 use Rattle.bt_commands.specs.declared.subcommands.Kind.TheVariants.{Needed, NeededList, NeededOption, Default, Value, ValueOr, Flag}
+use Rattle.bt_commands.specs.declared.subcommands.Subcommand.{Subcommand}
 use Rattle.bt_commands.specs.declared.subcommands.Word.{Word}
 
 abbrev pub rule_of_kind : Text → Kind → Rule
@@ -18,3 +19,11 @@ rule_of_kind id Flag = flag_rule id
 
 abbrev pub rule_of_word : Word → Rule
 rule_of_word word = rule_of_kind word.id.now word.kind
+
+abbrev pub app_of_row : Subcommand → App
+app_of_row row = command_app row.name.now (map rule_of_word row.words.now)
+
+-- a command with these subcommands more, in turn
+abbrev pub with_commands : App → List App → App
+with_commands app [] = app
+with_commands app (command ∷ commands) = with_commands (with_subcommand app command.top) commands

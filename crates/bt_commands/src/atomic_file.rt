@@ -1,17 +1,18 @@
 //! Writing a torrent to its file, wholly or not at all, and the line that tells of it.
-ghost use Rattle.std.specs.Prelude.{◌≡◌, ℕ, ◌⊎◌, string_bytes, IfOk, IfErr, OnOk};
+ghost use Rattle.std.specs.Prelude.{◌≡◌, ℕ, ◌⊎◌, string_bytes, IfOk, IfErr, IfSome, OnOk};
 ghost use Rattle.std.specs.Io.KnownBytes.{Appends, Keeps};
 ghost use Rattle.std.specs.List.{list_all};
 ghost use Rattle.bt_commands.specs.AtomicFileSteps.{IsLinkTarget, IsSibling, is_digit, is_part_name, part_name};
 ghost use Rattle.bt_check.specs.Fault.{device, out_of_memory};
 ghost use Rattle.bt_commands.specs.Program.{infohash_line};
 
+use crate::device_call::of_device;
 use bt_check::{Fault, print, system_fault, told};
 use bt_progress::{FileCall, Watch};
 use bt_tree::Hash32;
 use std::alloc::{AllocError, Global};
 use std::fs::{self, File, Metadata, OpenFile, Permissions};
-use std::io::{ErrorKind, Write};
+use std::io::{self, ErrorKind, Write};
 use std::rt::Files;
 
 /// How many symbolic links are followed from a path to its file, as many as Linux follows.
@@ -102,31 +103,19 @@ fn replace_target<R: Files + AllocGlobal, P: Watch>(
     outcome
 }
 
-/// Gives a part file its name, where it was written. A fault is told of.
+/// Gives a part file the name of the file whose place it takes, where it was written. A fault is told of.
 fn put_in_place<R: Files + AllocGlobal, P: Watch>(
     rt: &R,
     watch: &P,
     part: &str,
     path: &str,
-    written: Result<(), Fault>,
-) -> Result<(), Fault>
-    requires { IfErr written (λ fault. fault ≡ device) }
-    ensures { IfErr result (λ fault. fault ≡ device) }
-{
-    told(rt.alloc(), watch, FileCall::Write, path, written)?;
-    renamed(rt, watch, part, path)
-}
-
-/// Gives a file another's name, and takes its place. A fault is told of.
-fn renamed<R: Files + AllocGlobal, P: Watch>(
-    rt: &R,
-    watch: &P,
-    part: &str,
-    path: &str,
+    written: io::Result<()>,
 ) -> Result<(), Fault>
     ensures { IfErr result (λ fault. fault ≡ device) }
 {
-    let outcome = fs::rename(rt, part, path).map_err(|_| Fault::Device);
+    let outcome = of_device(written);
+    told(rt.alloc(), watch, FileCall::Write, path, outcome)?;
+    let outcome = of_device(fs::rename(rt, part, path));
     told(rt.alloc(), watch, FileCall::Rename, path, outcome)
 }
 
@@ -146,7 +135,7 @@ fn target_of<R: Files + AllocGlobal>(rt: &R, path: &str) -> Result<Target, Fault
     for _ in 0..=MAX_LINKS {
         match found_at(rt, path.as_str())? {
             Found::Replaceable(permissions) => return Ok(Target { path, permissions }),
-            Found::Link => path = followed_link(rt, path.as_str())?,
+            Found::Link(next) => path = next,
         }
     }
     Err(Fault::Device)
@@ -157,28 +146,40 @@ fn target_of<R: Files + AllocGlobal>(rt: &R, path: &str) -> Result<Target, Fault
 enum Found {
     /// A regular file with these permissions, or nothing.
     Replaceable(Option<Permissions>),
-    Link,
+    /// A symbolic link that leads to this path.
+    Link(String),
 }
 
-/// What lies at a path itself. Anything else there is a device fault.
-fn found_at<R: Files>(rt: &R, path: &str) -> Result<Found, Fault>
-    ensures { IfErr result (λ fault. fault ≡ device) }
+/// What lies at a path itself: nothing, a regular file or a link. Anything else is a device fault.
+fn found_at<R: Files + AllocGlobal>(rt: &R, path: &str) -> Result<Found, Fault>
+    ensures { IfErr result (λ fault. (fault ≡ device) ⊎ (fault ≡ out_of_memory)) }
 {
     match fs::symlink_metadata(rt, path) {
-        Ok(metadata) => kind_found(&metadata).ok_or(Fault::Device),
-        Err(error) if error.kind() == ErrorKind::NotFound => Ok(Found::Replaceable(None)),
-        Err(_) => Err(Fault::Device),
+        Ok(metadata) => found_by(rt, path, &metadata),
+        Err(error) => found_by_none(error.kind()),
     }
 }
 
-/// A regular file or a link; none for anything else.
-fn kind_found(metadata: &Metadata) -> Option<Found> {
+/// What a look met: a regular file, or a link, which is read. Anything else is a device fault.
+fn found_by<R: Files + AllocGlobal>(rt: &R, path: &str, metadata: &Metadata) -> Result<Found, Fault>
+    ensures { IfErr result (λ fault. (fault ≡ device) ⊎ (fault ≡ out_of_memory)) }
+{
     if metadata.is_file() {
-        Some(Found::Replaceable(Some(metadata.permissions())))
+        Ok(Found::Replaceable(Some(metadata.permissions())))
     } else if metadata.is_symlink() {
-        Some(Found::Link)
+        Ok(Found::Link(followed_link(rt, path)?))
     } else {
-        None
+        Err(Fault::Device)
+    }
+}
+
+/// What lies where a look failed: nothing, if it failed for that; else that is a device fault.
+fn found_by_none(kind: ErrorKind) -> Result<Found, Fault>
+    ensures { IfErr result (λ fault. fault ≡ device) }
+{
+    match kind {
+        ErrorKind::NotFound => Ok(Found::Replaceable(None)),
+        _ => Err(Fault::Device),
     }
 }
 
@@ -186,10 +187,10 @@ fn kind_found(metadata: &Metadata) -> Option<Found> {
 fn followed_link<R: Files + AllocGlobal>(rt: &R, path: &str) -> Result<String, Fault>
     ensures { IfErr result (λ fault. (fault ≡ device) ⊎ (fault ≡ out_of_memory)) }
 {
-    let link = rt
-        .read_link(rt.alloc(), path)
-        .map_err(|e| system_fault(e.kind()))?;
-    Ok(link_target(rt.alloc(), path, link.as_str())?)
+    match rt.read_link(rt.alloc(), path) {
+        Ok(link) => Ok(link_target(rt.alloc(), path, link.as_str())?),
+        Err(error) => Err(system_fault(error.kind())),
+    }
 }
 
 /// Where the text of a symbolic link leads: to itself from the top, and else from the folder that the link is
@@ -212,14 +213,29 @@ fn create_part<R: Files + AllocGlobal>(rt: &R, path: &str) -> Result<(String, R:
     ensures fault { IfErr result (λ fault. (fault ≡ device) ⊎ (fault ≡ out_of_memory)) }
 {
     for number in 0..u32::MAX {
-        let part = part_path(rt.alloc(), path, number)?;
-        match File::create_new(rt, part.as_str()) {
-            Ok(file) => return Ok((part, file)),
-            Err(error) if error.kind() == ErrorKind::AlreadyExists => {}
-            Err(_) => return Err(Fault::Device),
+        if let Some(part) = numbered_part(rt, path, number)? {
+            return Ok(part);
         }
     }
     Err(Fault::Device)
+}
+
+/// Makes a new file in the same folder, under the name of this number, if that is free. None where it is not.
+fn numbered_part<R: Files + AllocGlobal>(
+    rt: &R,
+    path: &str,
+    number: u32,
+) -> Result<Option<(String, R::File)>, Fault>
+    ensures part { IfOk result
+        (λ made. IfSome made (λ part. IsSibling path.now (part_name number) (string_bytes part.0))) }
+    ensures fault { IfErr result (λ fault. (fault ≡ device) ⊎ (fault ≡ out_of_memory)) }
+{
+    let part = part_path(rt.alloc(), path, number)?;
+    match File::create_new(rt, part.as_str()) {
+        Ok(file) => Ok(Some((part, file))),
+        Err(error) if error.kind() == ErrorKind::AlreadyExists => Ok(None),
+        Err(_) => Err(Fault::Device),
+    }
 }
 
 /// The path of a part file of this number, beside a path.
@@ -261,23 +277,20 @@ fn write_part<F: OpenFile + Write>(
     file: &mut F,
     permissions: Option<Permissions>,
     bytes: &[u8],
-) -> Result<(), Fault>
+) -> io::Result<()>
     ensures bytes { OnOk result (Appends (F.contents file.old) (F.contents file.new) bytes.now) }
-    ensures fault { IfErr result (λ fault. fault ≡ device) }
 {
     if let Some(permissions) = permissions {
-        file.set_permissions(permissions)
-            .map_err(|_| Fault::Device)?;
+        file.set_permissions(permissions)?;
     }
     write_bytes(file, bytes)
 }
 
 /// Writes the bytes, and has them put on the device.
-fn write_bytes<F: OpenFile + Write>(file: &mut F, bytes: &[u8]) -> Result<(), Fault>
+fn write_bytes<F: OpenFile + Write>(file: &mut F, bytes: &[u8]) -> io::Result<()>
     ensures bytes { OnOk result (Appends (F.contents file.old) (F.contents file.new) bytes.now) }
-    ensures fault { IfErr result (λ fault. fault ≡ device) }
 {
-    file.write_all(bytes).map_err(|_| Fault::Device)?;
-    file.flush().map_err(|_| Fault::Device)?;
-    file.sync_all().map_err(|_| Fault::Device)
+    file.write_all(bytes)?;
+    file.flush()?;
+    file.sync_all()
 }

@@ -4,20 +4,21 @@ ghost use Rattle.std.specs.List.{All};
 ghost use Rattle.std.specs.Fs.{IsDir, IsFile};
 ghost use Rattle.std.specs.String.{string_cmp};
 ghost use Rattle.std.specs.BTreeMap.{IsOrdered};
-ghost use Rattle.bt_check.specs.Fault.{device};
+ghost use Rattle.bt_check.specs.Fault.{device, out_of_memory};
 ghost use Rattle.bt_commands.specs.AtomicFileSteps.{is_part_name};
 ghost use Rattle.bt_commands.specs.Folder.{Ascend, HasElement, IsListingFault, file_paths, listing_fault, path_behind};
 ghost use Rattle.bt_commands.specs.FolderSteps.{GoesOn, IsBegun, PutsEntries};
 ghost use Rattle.bt_commands.specs.declared.folder.EntryKind.TheVariants.{File, Folder};
 
 use crate::atomic_file::is_part_name;
+use crate::device_call::of_device;
 use bt_check::{Fault, found_path, system_fault, told};
 use bt_meta::MakeError;
 use bt_progress::{FileCall, Watch};
 use std::alloc::{AllocError, Global};
 use std::collections::BTreeMap;
-use std::fs::{self, DirEntry, FileType};
-use std::io::ErrorKind;
+use std::fs::{self, DirEntry, FileType, ReadDir};
+use std::io::{self, ErrorKind};
 use std::path::Path;
 use std::rt::Files;
 
@@ -190,16 +191,58 @@ fn names_in<R: Files + AllocGlobal + Clone + Drop>(
     ensures ordered { IfOk result (IsOrdered string_cmp) }
     ensures fault { IfErr result IsListingFault }
 {
-    let alloc = rt.alloc();
+    match fs::read_dir(rt, folder) {
+        Ok(entries) => names_among(rt.alloc(), entries),
+        Err(error) => Err(system_fault(error.kind())),
+    }
+}
+
+/// The names of the files and the folders among the entries of a folder.
+fn names_among<R: Files + AllocGlobal + Clone + Drop>(
+    alloc: Global,
+    entries: ReadDir<R>,
+) -> Result<BTreeMap<String, EntryKind>, Fault>
+    ensures ordered { IfOk result (IsOrdered string_cmp) }
+    ensures fault { IfErr result IsListingFault }
+{
     let mut names = BTreeMap::new(alloc);
-    for entry in fs::read_dir(rt, folder).map_err(|e| system_fault(e.kind()))? {
-        let entry = entry.map_err(|e| listing_fault(e.kind()))?;
-        let name = entry.file_name();
-        if let Some(kind) = kind_of(name, entry_type(&entry)?) {
-            names.insert(String::from_str(alloc, name)?, kind)?;
-        }
+    for entry in entries {
+        insert_listed(alloc, &mut names, entry)?;
     }
     Ok(names)
+}
+
+/// Inserts the name of an entry that was read, if it is a file or a folder.
+fn insert_listed<R: Files + AllocGlobal + Clone + Drop>(
+    alloc: Global,
+    names: &mut BTreeMap<String, EntryKind>,
+    entry: io::Result<DirEntry<R>>,
+) -> Result<(), Fault>
+    requires { IsOrdered string_cmp names.old }
+    ensures ordered { IsOrdered string_cmp names.new }
+    ensures fault { IfErr result IsListingFault }
+{
+    match entry {
+        Ok(entry) => insert_name(alloc, names, &entry),
+        Err(error) => Err(listing_fault(error.kind())),
+    }
+}
+
+/// Inserts the name of an entry, if it is a file or a folder.
+fn insert_name<R: Files + AllocGlobal + Clone + Drop>(
+    alloc: Global,
+    names: &mut BTreeMap<String, EntryKind>,
+    entry: &DirEntry<R>,
+) -> Result<(), Fault>
+    requires { IsOrdered string_cmp names.old }
+    ensures ordered { IsOrdered string_cmp names.new }
+    ensures fault { IfErr result (λ fault. (fault ≡ device) ⊎ (fault ≡ out_of_memory)) }
+{
+    let name = entry.file_name();
+    if let Some(kind) = kind_of(name, entry_type(entry)?) {
+        names.insert(String::from_str(alloc, name)?, kind)?;
+    }
+    Ok(())
 }
 
 /// The type of an entry, also of a link and not of what it leads to. To ask for it takes no memory, so that
@@ -207,7 +250,7 @@ fn names_in<R: Files + AllocGlobal + Clone + Drop>(
 fn entry_type<R: Files>(entry: &DirEntry<R>) -> Result<FileType, Fault>
     ensures { IfErr result (λ fault. fault ≡ device) }
 {
-    entry.file_type().map_err(|_| Fault::Device)
+    of_device(entry.file_type())
 }
 
 /// What an entry is to a torrent: none for what is left out, a symbolic link, a pipe, a socket or a device,

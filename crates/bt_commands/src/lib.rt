@@ -3,6 +3,7 @@
 
 mod atomic_file;
 mod command_line;
+mod device_call;
 mod folder;
 mod limits;
 mod make;

@@ -9,9 +9,10 @@ ghost use Rattle.bt_check.specs.Digests.{IsDigestFault};
 ghost use Rattle.bt_check.specs.Fault.{device, make_fault, out_of_memory};
 ghost use Rattle.bt_commands.specs.Folder.{file_paths};
 ghost use Rattle.bt_commands.specs.Make.{HasContent, IsFilesFault, IsMakeFault, IsMakeTorrent, IsMeasuringFault, IsTorrentOf, first_count_refusal, total_piece_count};
-ghost use Rattle.bt_commands.specs.MakeSteps.{AreOfSomeBytes, elements_in, file_of_made};
+ghost use Rattle.bt_commands.specs.MakeSteps.{AddsFile, AreOfSomeBytes, IsFileRefusal, elements_in, file_of_made};
 
 use crate::command_line::MakeTask;
+use crate::device_call::of_device;
 use crate::folder::{EntryKind, FolderEntry, files_in, follow};
 use crate::limits::Counts;
 use bt_check::{
@@ -73,26 +74,26 @@ fn is_among<R: Files + AllocGlobal, P: Watch>(
     };
     let mut path = Vec::new(rt.alloc());
     for entry in entries {
-        follow(&mut path, entry)?;
-        if is_met(rt, watch, &out, dir, &path, entry.kind)? {
+        if is_met(rt, watch, &out, dir, &mut path, entry)? {
             return Ok(true);
         }
     }
     Ok(false)
 }
 
-/// Whether what has this path below a folder is the file that a look met.
+/// Goes on to an entry from the one before it, which had this path, and says whether it is the file that a look met.
 fn is_met<R: Files + AllocGlobal, P: Watch>(
     rt: &R,
     watch: &P,
     out: &Metadata,
     dir: &str,
-    path: &[String],
-    kind: EntryKind,
+    path: &mut Vec<String>,
+    entry: &FolderEntry,
 ) -> Result<bool, Fault>
     ensures { IfErr result (λ fault. (fault ≡ device) ⊎ (fault ≡ out_of_memory)) }
 {
-    match kind {
+    follow(path, entry)?;
+    match entry.kind {
         EntryKind::Folder => Ok(false),
         EntryKind::File => {
             let file = file_at(rt, watch, dir, path)?;
@@ -111,19 +112,14 @@ fn file_at<R: Files + AllocGlobal, P: Watch>(
     ensures { IfErr result (λ fault. (fault ≡ device) ⊎ (fault ≡ out_of_memory)) }
 {
     let path = found_path(rt.alloc(), dir, path)?;
-    looked_at(rt, watch, path.as_path())
-}
-
-/// What a look at a path meets. A fault is told of.
-fn looked_at<R: Files + AllocGlobal, P: Watch>(
-    rt: &R,
-    watch: &P,
-    path: Path<'_>,
-) -> Result<Metadata, Fault>
-    ensures { IfErr result (λ fault. fault ≡ device) }
-{
-    let outcome = fs::metadata(rt, path).map_err(|_| Fault::Device);
-    told(rt.alloc(), watch, FileCall::Look, path.as_str(), outcome)
+    let outcome = of_device(fs::metadata(rt, path.as_path()));
+    told(
+        rt.alloc(),
+        watch,
+        FileCall::Look,
+        path.as_path().as_str(),
+        outcome,
+    )
 }
 
 /// Whether two looks met the same file: one inode of one device.
@@ -186,14 +182,34 @@ fn measured_files<R: Files + AllocGlobal, P: Watch>(
         match entry.kind {
             EntryKind::Folder => {}
             EntryKind::File => {
-                let length = file_at(rt, watch, dir, &path)?.len();
-                watch.expect(length);
-                counts = counts.with(path.len(), length, size)?;
-                files.push(file_with(rt.alloc(), &path, length)?)?;
+                counts = add_file(rt, watch, dir, &path, size, counts, &mut files)?;
             }
         }
     }
     Ok(files)
+}
+
+/// Adds the file of a folder that has this path to those counted so far, and gives the counts with it.
+fn add_file<R: Files + AllocGlobal, P: Watch>(
+    rt: &R,
+    watch: &P,
+    dir: &str,
+    path: &[String],
+    size: PieceSize,
+    counts: Counts,
+    files: &mut Vec<FolderFile>,
+) -> Result<Counts, Fault>
+    ensures added { IfOk result (λ next. AddsFile size.bytes counts.files counts.pieces path.now
+        files.old.items files.new.items next.files next.pieces) }
+    ensures fault { IfErr result (λ fault. (fault ≡ device) ⊎ (fault ≡ out_of_memory)
+        ⊎ IsFileRefusal size.bytes counts.files counts.pieces path.now fault) }
+{
+    let length = file_at(rt, watch, dir, path)?.len();
+    watch.expect(length);
+    let elements = path.len();
+    let counts = counts.with(elements, length, size)?;
+    files.push(file_with(rt.alloc(), path, length)?)?;
+    Ok(counts)
 }
 
 /// A file of the folder that has this path.
@@ -297,8 +313,5 @@ pub fn open_file<R: Files>(rt: &R, path: Path<'_>) -> Result<R::File, Fault>
         Ok(metadata) if metadata.is_file() => {}
         _ => return Err(Fault::Device),
     }
-    match fs::open(rt, path) {
-        Ok(file) => Ok(file),
-        Err(_) => Err(Fault::Device),
-    }
+    of_device(fs::open(rt, path))
 }

@@ -11,6 +11,7 @@ ghost use Rattle.bt_commands.specs.declared.command_line.Task.TheVariants.{Make,
 
 use crate::atomic_file::{InfohashLine, publish};
 use crate::command_line::{FetchTask, MakeTask, SeedTask, Task, parse};
+use crate::device_call::of_device;
 use crate::make::make;
 use bt_check::{BUFFER_LEN, Fault, Source, check_torrent, load, load_watched, show_torrent};
 use bt_progress::Watch;
@@ -248,10 +249,17 @@ fn explain<O: Write, E: Write>(error: &Error, writer: &mut O, faults: &mut E) ->
         let _ = write!(faults, "{error}");
         Ok(2)
     } else {
-        write!(writer, "{error}").map_err(|_| Fault::Device)?;
-        writer.flush().map_err(|_| Fault::Device)?;
-        Ok(0)
+        explain_help(error, writer)
     }
+}
+
+/// Prints help, or the version.
+fn explain_help<O: Write>(error: &Error, writer: &mut O) -> Result<u8, Fault>
+    ensures { (status_after result ≡ 0) ⊎ (status_after result ≡ 3) }
+{
+    of_device(write!(writer, "{error}"))?;
+    of_device(writer.flush())?;
+    Ok(0)
 }
 
 /// Says why there is no result, and returns the status. Where it can't be said, there is the status alone.

@@ -2,8 +2,8 @@
 ghost use Rattle.std.specs.Prelude.{◌≡◌, false, codes, map, IfOk};
 ghost use Rattle.clap.specs.Words.{app_of, new_app, rule_of, with_rule, with_subcommand};
 ghost use Rattle.clap.specs.declared.builder.command.Command.TheViews.{out-Command as fields_of};
-ghost use Rattle.bt_commands.specs.Subcommands.{with_version, with_demands, with_rules, command_app, make_app, show_app, check_app, seed_app, fetch_app, replay_app, top_app, file_app, transfer_app, program_app};
-ghost use Rattle.bt_commands.specs.SubcommandsSteps.{rule_of_word};
+ghost use Rattle.bt_commands.specs.Subcommands.{with_version, with_demands, command_app, top_app, program_app};
+ghost use Rattle.bt_commands.specs.SubcommandsSteps.{app_of_row, rule_of_word, with_commands};
 
 use clap::{Arg, ArgAction, Command};
 use std::alloc::{AllocError, Global};
@@ -12,20 +12,6 @@ const ABOUT: &str =
     "Makes, shows, checks, seeds and fetches BitTorrent v2 torrents, and replays scripts of events.";
 
 const VERSION: &str = "0.1.0";
-
-const MAKE_ABOUT: &str = "Writes the torrent of a folder, and prints its infohash";
-
-const SHOW_ABOUT: &str = "Prints a torrent's contents";
-
-const CHECK_ABOUT: &str = "Checks downloaded files against a torrent; changes nothing";
-
-const SEED_ABOUT: &str = "Serves the files of a folder to peers that connect, one after the other";
-
-const FETCH_ABOUT: &str =
-    "Fetches the files of a torrent from peers, which are tried in turn, and prints the report";
-
-const REPLAY_ABOUT: &str =
-    "Runs the script of events on standard input over files in memory, and prints what they answer";
 
 /// A word of a command: how it is named and taken, and what help says of it.
 #[derive(Clone, Copy)]
@@ -138,42 +124,79 @@ const PEERS: Word<'static> = Word {
     help: "A peer as HOST:PORT, a name or an address before the last colon",
 };
 
+/// A command: its name, what it is for, and its words.
+#[derive(Clone, Copy)]
+struct Subcommand<'a> {
+    name: &'a str,
+    about: &'a str,
+    words: &'a [Word<'a>],
+}
+
+const SUBCOMMANDS: &[Subcommand<'static>] = &[
+    Subcommand {
+        name: "make",
+        about: "Writes the torrent of a folder, and prints its infohash",
+        words: &[MAKE_DIR, OUT, NAME, PIECE_LENGTH, VERBOSE],
+    },
+    Subcommand {
+        name: "show",
+        about: "Prints a torrent's contents",
+        words: &[TORRENT, INFO],
+    },
+    Subcommand {
+        name: "check",
+        about: "Checks downloaded files against a torrent; changes nothing",
+        words: &[TORRENT, DIR, INFO, VERBOSE],
+    },
+    Subcommand {
+        name: "seed",
+        about: "Serves the files of a folder to peers that connect, one after the other",
+        words: &[TORRENT, DIR, SERVE, FOREVER, LISTEN, PORT, INFO, VERBOSE],
+    },
+    Subcommand {
+        name: "fetch",
+        about: "Fetches the files of a torrent from peers, which are tried in turn, and prints the report",
+        words: &[TORRENT, FETCH_DIR, PEERS, INFO, VERBOSE],
+    },
+    Subcommand {
+        name: "replay",
+        about: "Runs the script of events on standard input over files in memory, and prints what they answer",
+        words: &[],
+    },
+];
+
 /// The program, its commands and their words.
-#[tactic(auto, unfolding(crate::specs::Subcommands::program_app))]
 pub fn commands<'a>(alloc: Global) -> Result<Command<'a>, AllocError>
     ensures { IfOk result (λ command. app_of command ≡ program_app) }
 {
-    with_command(transfer_commands(alloc)?, replay_command(alloc))
+    with_commands(alloc, SUBCOMMANDS)
 }
 
-/// The program with the commands that work on torrents, their files and peers.
-#[tactic(auto, unfolding(crate::specs::Subcommands::transfer_app))]
-fn transfer_commands<'a>(alloc: Global) -> Result<Command<'a>, AllocError>
-    ensures { IfOk result (λ command. app_of command ≡ transfer_app) }
+/// The program with these commands.
+fn with_commands<'a>(
+    alloc: Global,
+    rows: &[Subcommand<'a>],
+) -> Result<Command<'a>, AllocError>
+    ensures { IfOk result (λ made. app_of made ≡ with_commands top_app (map app_of_row rows.now)) }
 {
-    let command = with_command(file_commands(alloc)?, seed_command(alloc)?)?;
-    with_command(command, fetch_command(alloc)?)
-}
-
-/// The program with the commands that work on torrents and their files.
-#[tactic(auto, unfolding(crate::specs::Subcommands::file_app))]
-fn file_commands<'a>(alloc: Global) -> Result<Command<'a>, AllocError>
-    ensures { IfOk result (λ command. app_of command ≡ file_app) }
-{
-    let command = with_command(top_command(alloc)?, make_command(alloc)?)?;
-    let command = with_command(command, show_command(alloc)?)?;
-    with_command(command, check_command(alloc)?)
+    let top = top_command(alloc)?;
+    let mut command = top;
+    for row in rows {
+        command = with_command(alloc, command, *row)?;
+    }
+    Ok(command)
 }
 
 /// A command with a subcommand more.
 fn with_command<'a>(
+    alloc: Global,
     command: Command<'a>,
-    subcommand: Command<'a>,
+    row: Subcommand<'a>,
 ) -> Result<Command<'a>, AllocError>
-    requires { (fields_of subcommand).has_globals ≡ false }
     ensures { IfOk result
-        (λ made. app_of made ≡ with_subcommand (app_of command.entry) (app_of subcommand.entry).top) }
+        (λ made. app_of made ≡ with_subcommand (app_of command.entry) (app_of_row row.entry).top) }
 {
+    let subcommand = command_of(alloc, row.name, row.about, row.words)?;
     command.subcommand(subcommand)
 }
 
@@ -202,69 +225,6 @@ fn with_demands<'a>(command: Command<'a>) -> Command<'a>
         .no_binary_name(true)
         .subcommand_required(true)
         .arg_required_else_help(true)
-}
-
-#[tactic(auto, unfolding(crate::specs::Subcommands::make_app))]
-fn make_command<'a>(alloc: Global) -> Result<Command<'a>, AllocError>
-    ensures words { IfOk result (λ command. app_of command ≡ make_app) }
-    ensures local { IfOk result (λ command. (fields_of command).has_globals ≡ false) }
-{
-    command_of(
-        alloc,
-        "make",
-        MAKE_ABOUT,
-        &[MAKE_DIR, OUT, NAME, PIECE_LENGTH, VERBOSE],
-    )
-}
-
-#[tactic(auto, unfolding(crate::specs::Subcommands::show_app))]
-fn show_command<'a>(alloc: Global) -> Result<Command<'a>, AllocError>
-    ensures words { IfOk result (λ command. app_of command ≡ show_app) }
-    ensures local { IfOk result (λ command. (fields_of command).has_globals ≡ false) }
-{
-    command_of(alloc, "show", SHOW_ABOUT, &[TORRENT, INFO])
-}
-
-#[tactic(auto, unfolding(crate::specs::Subcommands::check_app))]
-fn check_command<'a>(alloc: Global) -> Result<Command<'a>, AllocError>
-    ensures words { IfOk result (λ command. app_of command ≡ check_app) }
-    ensures local { IfOk result (λ command. (fields_of command).has_globals ≡ false) }
-{
-    command_of(alloc, "check", CHECK_ABOUT, &[TORRENT, DIR, INFO, VERBOSE])
-}
-
-#[tactic(auto, unfolding(crate::specs::Subcommands::seed_app))]
-fn seed_command<'a>(alloc: Global) -> Result<Command<'a>, AllocError>
-    ensures words { IfOk result (λ command. app_of command ≡ seed_app) }
-    ensures local { IfOk result (λ command. (fields_of command).has_globals ≡ false) }
-{
-    command_of(
-        alloc,
-        "seed",
-        SEED_ABOUT,
-        &[TORRENT, DIR, SERVE, FOREVER, LISTEN, PORT, INFO, VERBOSE],
-    )
-}
-
-#[tactic(auto, unfolding(crate::specs::Subcommands::fetch_app))]
-fn fetch_command<'a>(alloc: Global) -> Result<Command<'a>, AllocError>
-    ensures words { IfOk result (λ command. app_of command ≡ fetch_app) }
-    ensures local { IfOk result (λ command. (fields_of command).has_globals ≡ false) }
-{
-    command_of(
-        alloc,
-        "fetch",
-        FETCH_ABOUT,
-        &[TORRENT, FETCH_DIR, PEERS, INFO, VERBOSE],
-    )
-}
-
-#[tactic(auto, unfolding(crate::specs::Subcommands::replay_app))]
-fn replay_command<'a>(alloc: Global) -> Command<'a>
-    ensures words { app_of result ≡ replay_app }
-    ensures local { (fields_of result).has_globals ≡ false }
-{
-    plain_command(alloc, "replay", REPLAY_ABOUT)
 }
 
 /// A command of this name with these words.

@@ -1,10 +1,15 @@
 //! The program `btseed` once more, and the rows that test it. By the word `rows` it gives standard input to a shell, with its own path, so
-//! that rows start it as a process: on any other words it is `btseed`, but for two with which rows help themselves.
+//! that rows start it as a process: on any other words it is `btseed`, but for some with which rows help themselves, or have it run over
+//! stand-ins for files, devices, readers and writers.
 #![tactic(auto)]
 
 mod bytes;
+mod device;
+mod failing;
 mod peer;
+mod reading;
 mod rows;
+mod streams;
 
 use bt_commands::start;
 use bt_progress::{Console, Watched};
@@ -32,6 +37,18 @@ fn answer(rt: &HostRuntime, words: &[String]) -> ExitCode {
         "rows" => ended(rt, rows::run(rt, path.as_str())),
         "bytes" => ended(rt, bytes::print(rt, rest)),
         "peer" => ended(rt, peer::meet(rt, rest)),
+        _ => on_stand_ins(rt, role.as_str(), rest),
+    }
+}
+
+/// What stand-ins are for, or else the program itself.
+fn on_stand_ins(rt: &HostRuntime, role: &str, words: &[String]) -> ExitCode {
+    match role {
+        "failing" => exited(rt, failing::status_of(rt, words)),
+        "text" => exited(rt, reading::text(rt, words)),
+        "digest" => exited(rt, reading::digest(rt, words)),
+        "entry" => exited(rt, reading::entry(rt, false, words)),
+        "entry-info" => exited(rt, reading::entry(rt, true, words)),
         _ => program(rt),
     }
 }
@@ -56,6 +73,14 @@ fn program(rt: &HostRuntime) -> ExitCode {
 fn ended(rt: &HostRuntime, end: io::Result<()>) -> ExitCode {
     match end {
         Ok(()) => ExitCode::SUCCESS,
+        Err(error) => exited(rt, Err(error)),
+    }
+}
+
+/// The same, where it gives one.
+fn exited(rt: &HostRuntime, end: io::Result<u8>) -> ExitCode {
+    match end {
+        Ok(status) => ExitCode::from(status),
         Err(error) => {
             let _ = eprintln!(rt; "{error}");
             ExitCode::FAILURE

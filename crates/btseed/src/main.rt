@@ -21,6 +21,3 @@ fn main(rt: HostRuntime) -> ExitCode {
         &mut rt.stderr(),
     )
 }
-
-#[cfg(test)]
-mod tests;

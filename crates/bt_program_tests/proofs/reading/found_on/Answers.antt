@@ -5,7 +5,7 @@ use Rattle.bt_meta.specs.Files.{file_of}
 use Rattle.bt_meta.specs.declared.torrent.FileEntry.{FileEntry}
 use Rattle.bt_check.specs.EntryCheck.{IsCheckable}
 use Rattle.bt_check.proofs.CheckFault.{all_checkable}
-use Rattle.btseed.proofs.tests.entries.found_on.Goals as goal
+use Rattle.bt_program_tests.proofs.reading.found_on.Goals as goal
 
 checkable_at : (layer i : ℕ) (entries : List FileEntry) (entry : FileEntry) → i < length entries → entry ≡ get_or entries i entry
     → All (IsCheckable layer) (map file_of entries) → IsCheckable layer (file_of entry)
