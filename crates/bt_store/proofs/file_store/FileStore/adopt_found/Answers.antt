@@ -1,7 +1,7 @@
 use Rattle.std.proofs.Common.{◌≡◌, ◌+◌, ◌-◌, ◌<◌, length, take, drop, sym, ap, ◌∙◌, subst, arith}
 use Rattle.std.proofs.lemmas.List.{take_rest}
 use Rattle.bt_store.specs.SmallGroupsSteps.{AdoptsFound, StopsBatch}
-use Rattle.bt_store.proofs.SmallGroups.{way_begun, way_nearest, way_more, way_stops, way_ended}
+use Rattle.bt_store.proofs.SmallGroups.{way_begun, way_nearest, way_more, way_stops}
 use Rattle.bt_store.proofs.file_store.FileStore.adopt_found.Goals as goal
 
 pub loop-total-init : goal.loop-total-init
@@ -18,9 +18,9 @@ loop-total-preserved g c =
     let told : length found ≡ 8 = omega (arith, c.told-blocks_found) in
     let rest : take (8 - done) (drop done found) ≡ drop done found = ap (λ n. take (n - done) (drop done found)) (sym told) ∙ take_rest found done in
     let adopts : AdoptsFound g.H.NodeHash.digest c.loop-total.self.file_length c.loop-total.tree c.args.batch.anchor c.group_below-group.result.first
-        c.group_below-group.result.count c.loop-total.self.states (drop done found) c.in-Ok.adopted c.adopt_read.new.tree c.adopt_read.new.self.states =
+    c.group_below-group.result.count c.loop-total.self.states (drop done found) c.in-Ok.adopted c.adopt_read.new.tree c.adopt_read.new.self.states =
     subst (λ l. AdoptsFound g.H.NodeHash.digest c.loop-total.self.file_length c.loop-total.tree c.args.batch.anchor c.group_below-group.result.first
-        c.group_below-group.result.count c.loop-total.self.states l c.in-Ok.adopted c.adopt_read.new.tree c.adopt_read.new.self.states) rest c.in-Ok.ensures.ok in
+    c.group_below-group.result.count c.loop-total.self.states l c.in-Ok.adopted c.adopt_read.new.tree c.adopt_read.new.self.states) rest c.in-Ok.ensures.ok in
     rw c.with-total.ensures (way_more _ _ _ _ _ _ _ _ _ _ c.loop-total.invariant left _ _ c.group_below-group.ensures.group c.requires.read _ _ _
     adopts c.in-Ok.ensures.next c.in-Ok.ensures.marked c.in-Ok.ensures.faults c.adopt_read.ensures.others)
 

@@ -1,9 +1,8 @@
-use Rattle.std.proofs.Common.{◌≡◌, ◌^◌, ◌++◌, length, take, drop, replicate, sym, ap, ◌∙◌, subst}
-use Rattle.std.proofs.lemmas.List.{length-replicate}
+use Rattle.std.proofs.Common.{◌≡◌, ◌^◌, ◌++◌, length, take, drop, replicate, sym, ◌∙◌, subst}
 use Rattle.std.proofs.lemmas.Result.{IfOk-weaker}
 use Rattle.bt_tree.specs.Tree.{padding_digest}
 use Rattle.bt_store.specs.BatchesSteps.{batch_reads}
-use Rattle.bt_store.specs.GroupsSteps.{AreGroupReads, noted_found, counted_found}
+use Rattle.bt_store.specs.GroupsSteps.{AreGroupReads, noted_found}
 use Rattle.bt_store.proofs.Adoptions.{written_whole}
 use Rattle.bt_store.proofs.GroupReads.{reads_at_once}
 use Rattle.bt_store.proofs.file_store.FileStore.adopt_read.Goals as goal

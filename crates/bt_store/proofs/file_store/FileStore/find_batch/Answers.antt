@@ -1,5 +1,4 @@
-use Rattle.std.proofs.Common.{◌*◌, ◌≤◌, length, arith, ap, subst}
-use Rattle.bt_store.specs.FileStore.{StoreView}
+use Rattle.std.proofs.Common.{◌*◌, ◌≤◌, length, arith, subst}
 use Rattle.bt_store.specs.SmallGroupsSteps.{IsBatchRead}
 use Rattle.bt_store.proofs.Judgements.{within_parts}
 use Rattle.bt_store.proofs.file_store.FileStore.find_batch.Goals as goal
