@@ -1,4 +1,4 @@
-ghost use Rattle.std.specs.Prelude.{◌≡◌, ℕ, ◌+◌, ◌-◌, ◌%◌, ◌^◌, ◌<◌, ◌≤◌, ◌⊎◌, List, IfOk, IfErr, IfSome, length};
+ghost use Rattle.std.specs.Prelude.{◌≡◌, ℕ, ◌+◌, ◌%◌, ◌^◌, ◌<◌, ◌≤◌, ◌⊎◌, List, IfOk, IfErr, IfSome, length};
 ghost use Rattle.bt_tree.specs.Limits.{max_block_count, max_height};
 ghost use Rattle.bt_tree.specs.Blocks.{block_count};
 ghost use Rattle.bt_sparse.specs.SparseTree.{blocks_of};
@@ -236,8 +236,8 @@ impl<D: Disk + Drop, H: NodeHash> FileStore<D, H> {
         requires layer { anchor ≤ max_height }
         requires fits { group.count ≤ 2 ^ anchor }
         requires found { group.count ≤ length blocks_found.now }
-        ensures ok { IfOk result (λ adopted. AdoptsFound H.digest self.old.file_length tree.old
-            anchor group.first group.count self.old.states blocks_found.now adopted tree.new self.new.states) }
+        ensures ok { IfOk result (λ adopted. AdoptsFound H.digest self.old.file_length tree.old anchor
+            group.first group.count self.old.states blocks_found.now adopted tree.new self.new.states) }
         ensures next { IfOk result (λ adopted. adopted.next ≡ group.first + group.count) }
         ensures marked { IfOk result (λ adopted. adopted.marked ≤ group.count) }
         ensures faults { IfOk result (λ adopted. adopted.faults ≤ group.count) }
