@@ -80,7 +80,7 @@ fn torrent_in(alloc: Global, value: &Value, text: &[u8]) -> Result<Torrent, Meta
 }
 
 /// The torrent that the value, which the text spells, describes as its `info`.
-#[tactic(auto, using(crate::proofs::Steps::info_in_steps), unfolding(crate::specs::Faults::first_info_fault))]
+#[tactic(auto, using(crate::proofs::Steps::described_steps), unfolding(crate::specs::Faults::first_info_fault))]
 fn info_in(alloc: Global, info: &Value, text: &[u8]) -> Result<Torrent, MetaError>
     requires ascending { HasAscendingKeys (data_of info.now) }
     requires spelled { spelling_of (data_of info.now) ≡ text.now }
