@@ -69,6 +69,10 @@ no_info_text torrent = no_text_of (field_of torrent (codes "info"))
 -- ---- the whole of a torrent
 
 module _ (torrent : Data) {info : Data} (there : Some info ≡ dictionary_at torrent (codes "info")) where
+  pub info_is : info_of torrent ≡ info
+  unfolding info_of
+  info_is = rw (← there) refl
+
   first_fault_in : first_fault torrent ≡ first_of (info_checks info ++ layer_checks (piece_length_of info) (layers_of torrent) (tree_of info))
   unfolding first_fault info_of
   first_fault_in = rw (← there) refl

@@ -2,21 +2,16 @@
 use Rattle.bt_meta.proofs.Base.{data_of-Dict, data_of-Bytes, no_spelling, unlawful, nat_tests, length-map, take_all, err_from_is_err_and, is_utf8-from_IsUtf8, map-append, list_any-append, or-false}
 use Rattle.bt_meta.proofs.Dictionaries.{entries_ascend, field_ascends, nothing_ascends, single_entry}
 use Rattle.bt_meta.proofs.EncodeValue.{lent_behind, tree_more, file_in, layers_of_known, layers_of_short, entries_push, opened_push, before_none, before_more}
-use Rattle.bt_meta.proofs.FileLayers.{files_with_layers, layer_differs, layer_right, layer_sized_wrong}
+use Rattle.bt_meta.proofs.FileLayers.{layer_differs, layer_right, layer_sized_wrong}
 use Rattle.bt_meta.proofs.MadeTree.{lent_short, ordered_named}
 use Rattle.bt_meta.proofs.MakeFiles.{apart_more, memory_short, none_overlap, overlap_found}
 use Rattle.bt_meta.proofs.ReadFiles.{ascends}
-use Rattle.bt_meta.proofs.ReadHead.{metainfo_is}
 use Rattle.bt_meta.proofs.ReadRefusals.{value_refused}
 use Rattle.bt_meta.proofs.TreeWalk.{key_at_top, no_file, start, tree_stops, no_folder, none_yet}
 use Rattle.bt_meta.specs.Reader.{too_long as text_too_long}
 use Rattle.std.proofs.lemmas.List.{nil_from_length, take_all, drop_all}
 use Rattle.std.proofs.lemmas.Str.{IsUtf8-from_is_utf8}
 use Rattle.bt_bencode.proofs.ValueData.{data_of-Int, data_of-List}
-
-pub ruleset described_steps = (metainfo_is)
-
-pub ruleset torrent_in_steps = (metainfo_is, files_with_layers)
 
 pub ruleset read_tree_steps = (err_from_is_err_and, start, key_at_top, tree_stops, no_file)
 

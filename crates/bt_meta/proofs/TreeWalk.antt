@@ -38,6 +38,10 @@ with_earlier-append f before [] ys = ap (λ b. with_earlier f b ys) (sym (append
 with_earlier-append f before (x ∷ xs) ys = ap (λ r. f before x ∷ r) (with_earlier-append f (before ++ x ∷ []) xs ys ∙ rw (append_assoc _ _ _) refl)
 
 module _ {n : ℕ} {old : Walk} where
+  -- no memory is left
+  pub memory_stops : {entries : List TreeEntry} {e : MetaError} → e ≡ OutOfMemory → Stops n entries old e
+  memory_stops none = record { told = λ before h. inl none }
+
   pub passes_nothing : Passes n [] old old
   passes_nothing = record { told = λ before h. (rw (append-nil _) h, refl) }
 
@@ -156,10 +160,6 @@ unfolding has_lawful_length length_in
 lawful_is_short properties e = grind (arith, nat_tests)
 
 -- ---- a file
-
--- no memory is left for it
-pub memory_stops : {n : ℕ} {p : TreeEntry} {old : Walk} {e : MetaError} → e ≡ OutOfMemory → Stops n (p ∷ []) old e
-memory_stops none = walks_one (λ before h. inl none)
 
 -- its properties have a fault
 pub faulty_stops : {n : ℕ} {old : Walk} {path : List (List ℕ)} {name : List ℕ} {properties : Data} {p : TreeEntry}

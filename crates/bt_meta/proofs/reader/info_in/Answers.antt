@@ -1,6 +1,6 @@
-use Rattle.bt_meta.proofs.Base.{inl, inr, err_from_is_err_and}
+use Rattle.bt_meta.proofs.Base.{inl, inr, refl, no_dictionary, err_from_is_err_and}
 use Rattle.bt_meta.proofs.ReadFiles.{info_lawful}
-use Rattle.bt_meta.proofs.ReadHead.{info_head_fault, info_tree_refused, info_faultless}
+use Rattle.bt_meta.proofs.ReadHead.{metainfo_is, info_head_fault, info_tree_refused, info_faultless}
 use Rattle.bt_meta.proofs.reader.info_in.Goals as goal
 
 pub returns-in_err-head-clause-refused : goal.returns-in_err-head-clause-refused
@@ -23,3 +23,15 @@ returns-in_err-torrent-clause-refused c =
 
 pub returns-clause-faultless : goal.returns-clause-faultless
 returns-clause-faultless c = info_faultless _ c.if-not-is_dictionary.ensures c.in_ok-head.ensures c.in_ok-listing.ensures
+
+pub returns-clause-described : goal.returns-clause-described
+returns-clause-described c =
+    rw (
+      metainfo_is no_dictionary _ c.in_ok-head.ensures c.in_ok-listing.ensures.files,
+      c.in_ok-torrent.ensures,
+      c.digest-infohash.ensures,
+      c.requires.spelled,
+    ) refl
+
+pub returns-clause-lawful : goal.returns-clause-lawful
+returns-clause-lawful c = rw c.in_ok-torrent.ensures (info_lawful c.requires.ascending c.in_ok-head.ensures c.in_ok-listing.ensures)

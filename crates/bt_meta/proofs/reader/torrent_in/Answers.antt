@@ -1,6 +1,6 @@
-use Rattle.bt_meta.proofs.Base.{codes, data_of, inl, inr, ◌∙◌, err_from_is_err_and}
-use Rattle.bt_meta.proofs.FileLayers.{pieces_after}
-use Rattle.bt_meta.proofs.ReadHead.{torrent_head_fault, torrent_tree_refused, torrent_layers, torrent_layers_refused}
+use Rattle.bt_meta.proofs.Base.{ap, map, codes, data_of, inl, inr, refl, ◌∙◌, layers_of, with_layer, err_from_is_err_and}
+use Rattle.bt_meta.proofs.FileLayers.{pieces_after, files_with_layers}
+use Rattle.bt_meta.proofs.ReadHead.{info_is, metainfo_is, torrent_head_fault, torrent_tree_refused, torrent_layers, torrent_layers_refused}
 use Rattle.bt_meta.proofs.Dictionaries.{at_key}
 use Rattle.bt_meta.proofs.ReadFiles.{layers_lawful}
 use Rattle.bt_meta.proofs.reader.torrent_in.Goals as goal
@@ -42,3 +42,17 @@ returns-in_err-torrent-clause-refused c =
 
 pub returns-clause-faultless : goal.returns-clause-faultless
 returns-clause-faultless c = torrent_layers _ c.in-Some.ensures c.in_ok-head.ensures c.in_ok-listing.ensures ∙ c.in_ok-add_layers.ensures.faultless
+
+pub returns-clause-described : goal.returns-clause-described
+returns-clause-described c =
+    let layers = layers_of (data_of c.args.value.now) in
+    let n = c.in_ok-head.head.piece_length in
+    let files = c.in_ok-add_layers.ensures.whole ∙ ap (map (with_layer n layers)) c.in_ok-listing.ensures.files
+    ∙ files_with_layers n layers (data_of c.in_ok-head.head.tree.now) in
+    rw (
+      info_is _ c.in-Some.ensures,
+      metainfo_is layers _ c.in_ok-head.ensures files,
+      c.in_ok-torrent.ensures,
+      c.infohash_in-infohash.ensures,
+      info_is _ c.in-Some.ensures,
+    ) refl
