@@ -70,7 +70,9 @@ impl<R: Files + Drop> HandlePool<R> {
         let Some(file) = open_to_read(&self.shared.rt, path.as_str())? else {
             return self.device(path, Use::Absent);
         };
-        self.device_of(path, Use::Reading, file)
+        let disk = self.device(path, Use::Reading)?;
+        put_back(&disk.shared, disk.number, file);
+        Ok(disk)
     }
 
     /// A file that is read and written, as [`FileDisk::writing`](crate::FileDisk::writing) has it.
@@ -86,26 +88,7 @@ impl<R: Files + Drop> HandlePool<R> {
     {
         make_room(&self.shared);
         let file = open_to_write(&self.shared.rt, path.as_str())?;
-        self.device_of(path, Use::Writing, file)
-    }
-
-    /// The next device, with its open file, which is put into the pool.
-    fn device_of(
-        &mut self,
-        path: String,
-        usage: Use,
-        file: R::File,
-    ) -> Result<PooledDisk<R>, DeviceFault>
-        ensures device { IfOk result (λ disk. disk ≡ record {
-          number = self.new.made;
-          path = string_bytes path;
-          access = access_of_use usage;
-          failed = 0;
-        }) }
-        ensures one_more { IfOk result (λ _. self.new.made ≡ self.old.made + 1) }
-        ensures no_more { IfErr result (λ _. self.new ≡ self.old) }
-    {
-        let disk = self.device(path, usage)?;
+        let disk = self.device(path, Use::Writing)?;
         put_back(&disk.shared, disk.number, file);
         Ok(disk)
     }
@@ -217,16 +200,24 @@ impl<R: Files + Drop> PooledDisk<R> {
 
     fn set_file_len(&self, len: u64) -> Result<(), DeviceFault> {
         let file = self.file()?;
-        let is_set = file.set_len(len).is_ok();
+        let answer = file.set_len(len);
         put_back(&self.shared, self.number, file);
-        if is_set { Ok(()) } else { Err(DeviceFault) }
+        if answer.is_ok() {
+            Ok(())
+        } else {
+            Err(DeviceFault)
+        }
     }
 
     fn sync_file(&self) -> Result<(), DeviceFault> {
         let file = self.file()?;
-        let is_synced = file.sync_all().is_ok();
+        let answer = file.sync_all();
         put_back(&self.shared, self.number, file);
-        if is_synced { Ok(()) } else { Err(DeviceFault) }
+        if answer.is_ok() {
+            Ok(())
+        } else {
+            Err(DeviceFault)
+        }
     }
 }
 

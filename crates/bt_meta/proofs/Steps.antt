@@ -31,9 +31,7 @@ pub ruleset folder_with_steps = (data_of-Dict, file_in, nil_from_length)
 
 pub ruleset open_last_steps = (entries_push, opened_push, before_none)
 
-pub ruleset with_string_steps = (data_of-Bytes)
-
-pub ruleset layer_entries_steps = (before_more)
+pub ruleset layer_entries_steps = (data_of-Bytes, before_more)
 
 pub ruleset value_of_steps = (data_of-Dict)
 

@@ -58,10 +58,11 @@ fn info_of(
     ensures { IfOk result (λ value.
         data_of value ≡ info_made name.now piece_length (map given_at files.now)) }
 {
-    let tree = Value::Dict(tree_of(alloc, files)?);
-    let one = entries_with(alloc, Vec::new(alloc), b"file tree", tree)?;
+    let tree = tree_of(alloc, files)?;
+    let name = Vec::from_slice(alloc, name)?;
+    let one = entries_with(alloc, Vec::new(alloc), b"file tree", Value::Dict(tree))?;
     let two = entries_with(alloc, one, b"meta version", Value::Int(2))?;
-    let three = entries_with_string(alloc, two, b"name", name)?;
+    let three = entries_with(alloc, two, b"name", Value::Bytes(name))?;
     let piece_length = Value::Int(piece_length as i64);
     let four = entries_with(alloc, three, b"piece length", piece_length)?;
     Ok(Value::Dict(four))
@@ -152,7 +153,8 @@ fn properties_of(alloc: Global, file: &Made) -> Result<Value, AllocError>
     if file.length == 0 {
         return Ok(Value::Dict(alone));
     }
-    let both = entries_with_string(alloc, alone, b"pieces root", &file.root)?;
+    let root = Vec::from_slice(alloc, &file.root)?;
+    let both = entries_with(alloc, alone, b"pieces root", Value::Bytes(root))?;
     Ok(Value::Dict(both))
 }
 
@@ -192,25 +194,10 @@ fn layer_entries(alloc: Global, layers: &BTreeMap<Hash32, &[u8]>) -> Result<Entr
 {
     let mut entries = Vec::new(alloc);
     for (root, layer) in layers {
-        entries = entries_with_string(alloc, entries, root, layer)?;
+        let layer = Vec::from_slice(alloc, layer)?;
+        entries = entries_with(alloc, entries, root, Value::Bytes(layer))?;
     }
     Ok(entries)
-}
-
-/// The entries with one behind them, a string of these bytes.
-#[tactic(auto, using(crate::proofs::Steps::with_string_steps))]
-fn entries_with_string(
-    alloc: Global,
-    entries: Entries,
-    key: &[u8],
-    bytes: &[u8],
-) -> Result<Entries, AllocError>
-    ensures { IfOk result (λ more.
-        entries_of more.items
-        ≡ entries_before (entries_of entries.items) (entry key.now (string bytes.now) no_entries)) }
-{
-    let bytes = Vec::from_slice(alloc, bytes)?;
-    entries_with(alloc, entries, key, Value::Bytes(bytes))
 }
 
 /// The entries with one behind them.
