@@ -102,7 +102,7 @@ fn sixteen(digests: &[Hash32], padding: Hash32) -> [Hash32; 16]
 }
 
 /// Sixteen digests: eight, and the eight after them.
-pub fn side_by_side(left: &[Hash32; 8], right: &[Hash32; 8]) -> [Hash32; 16]
+fn side_by_side(left: &[Hash32; 8], right: &[Hash32; 8]) -> [Hash32; 16]
     ensures left { (i : ℕ) → i < 8 → slice_index_or result i [] ≡ slice_index_or left.now i [] }
     ensures right { (i : ℕ) → i < 8 → slice_index_or result (8 + i) [] ≡ slice_index_or right.now i [] }
 {

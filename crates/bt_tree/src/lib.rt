@@ -21,7 +21,7 @@ mod tree_shape;
 
 pub use comparison::{Compared, compare_files};
 pub use law::{heights_are_least, roots_tell_files};
-pub use layer_fold::{eight_parents, pair_bytes, side_by_side};
+pub use layer_fold::{eight_parents, pair_bytes};
 pub use layers::{LayerError, check_layer, layer_root};
 pub use node_hash::{Hash32, NodeHash, Plain, Weak};
 pub use padding::pad;
