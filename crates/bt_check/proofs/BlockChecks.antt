@@ -1,5 +1,5 @@
 -- A check of a file's blocks, group by group.
-use Rattle.std.proofs.Common.{◌≡◌, ℕ, ◌+◌, ◌-◌, ◌<◌, ◌≤◌, ◌↔◌, ◌||◌, Bool, true, false, true≢false, Option, None, IsTrue, List, [], ◌++◌, map, length, inl, inr, arith, refl, sym, ap, ◌∙◌, subst, cond, append-nil, append_assoc}
+use Rattle.std.proofs.Common.{◌≡◌, ℕ, ◌+◌, ◌-◌, ◌<◌, ◌≤◌, ◌↔◌, ◌||◌, Bool, true, false, true≢false, Option, IsTrue, List, [], ◌++◌, map, length, inl, inr, arith, refl, sym, ap, ◌∙◌, subst, cond, append-nil, append_assoc}
 use Rattle.std.specs.Prelude.{nat_lt}
 use Rattle.std.specs.List.{count_by, range_with_len}
 use Rattle.std.specs.Option.{option_or}
