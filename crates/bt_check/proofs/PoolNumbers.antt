@@ -1,12 +1,9 @@
--- Lemmas on the data files that are opened in turn, and on the numbers that a pool gives their devices.
-use Rattle.std.proofs.Common.{◌≡◌, ℕ, zero, suc, ◌+◌, ◌<◌, List, [], ◌∷◌, ◌++◌, Option, Some, None, length, map, take, get_or, sym, ap, ◌∙◌, append-nil, arith}
+-- Lemmas on the numbers that a pool gives its devices.
+use Rattle.std.proofs.Common.{◌≡◌, ℕ, zero, suc, ◌+◌, List, [], ◌∷◌, ◌++◌, Option, Some, None, sym, ap, ◌∙◌, append-nil, arith}
 use Rattle.std.specs.List.{flat_map, range_with_len}
 use Rattle.std.proofs.lemmas.Grind.{flat_map-append}
-use Rattle.std.proofs.lemmas.List.{map-append, take_more}
 use Rattle.bt_disk.specs.Pool.{PooledView}
-use Rattle.bt_meta.specs.Files.{File, file_of}
-use Rattle.bt_meta.specs.declared.torrent.FileEntry.{FileEntry}
-use Rattle.bt_check.specs.DataFile.{file_at, number_of, IsNextOf}
+use Rattle.bt_check.specs.DataFile.{number_of, IsNextOf}
 use Rattle.bt_check.specs.declared.data_file.DataFile.{DataFile}
 
 range_more : (a n : ℕ) → range_with_len a (suc n) ≡ range_with_len a n ++ (a + n) ∷ []
@@ -31,15 +28,3 @@ numbers_go_on before after files all one pushed numbers next =
     let numbered : DataFile PooledView → List ℕ = λ d. number_of d.disk in
     ap (flat_map numbered) pushed ∙ flat_map-append numbered files (one ∷ []) ∙ ap (λ l. flat_map numbered files ++ l) (append-nil (number_of one.disk))
     ∙ ap (λ l. l ++ number_of one.disk) numbers ∙ next_number before after one.disk next
-
--- one data file more is that of one entry more
-pub files_go_on : (entries : List FileEntry) (i : ℕ) (entry : FileEntry) (files all : List (DataFile PooledView)) (one : DataFile PooledView)
-    → i < length entries → entry ≡ get_or entries i entry → map file_at files ≡ map file_of (take i entries) → all ≡ files ++ one ∷ []
-    → file_at one ≡ file_of entry → map file_at all ≡ map file_of (take (i + 1) entries)
-files_go_on entries i entry files all one lt at are pushed same =
-    let before = map file_of (take i entries) in
-    let more : map file_of (take (i + 1) entries) ≡ before ++ file_of entry ∷ [] =
-    ap (map file_of) (take_more entries i entry lt) ∙ map-append file_of (take i entries) (get_or entries i entry ∷ [])
-    ∙ ap (λ e. before ++ file_of e ∷ []) (sym at) in
-    ap (map file_at) pushed ∙ map-append file_at files (one ∷ []) ∙ ap (λ l. l ++ file_at one ∷ []) are
-    ∙ ap (λ f. before ++ f ∷ []) same ∙ sym more

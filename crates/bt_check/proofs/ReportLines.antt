@@ -14,7 +14,8 @@ use Rattle.bt_meta.specs.Torrent.{Metainfo}
 use Rattle.bt_tree.specs.Limits.{full_block_length}
 use Rattle.bt_check.specs.Report.{AreFindings, none, more, IsReportOf, IsReportOn, file_in, file_line, last_line, lines_text, report_text, is_complete_report, is_faulty_report}
 use Rattle.bt_check.specs.declared.report.FileFinding.{FileFinding}
-use Rattle.bt_check.specs.TreeSteps.{ChecksNext, KeepsTrees}
+use Rattle.bt_check.specs.TreeSteps.{KeepsTrees}
+use Rattle.bt_check.specs.declared.data_file.Finding.{Finding}
 use Rattle.bt_check.specs.declared.report.Summary.{Summary}
 use Rattle.bt_check.specs.declared.trees.SharedTrees.{SharedTrees}
 
@@ -56,6 +57,11 @@ are_more : (layer : ℕ) (before mid after : List CheckedFile) (found : List Fil
 are_more layer _ _ after _ one (none before) is = more before after after one [] is (none after)
 are_more layer _ _ after _ one (more before next mid first rest found are) is =
     more before next after first (rest ++ one ∷ []) found (are_more layer next mid after rest one are is)
+
+-- what the check of a file found, and the trees after it
+abbrev pub ChecksNext : ℕ → File → SharedTrees → Finding → SharedTrees → Type 0
+ChecksNext layer file old finding new = (before : List CheckedFile) (rest : List File) → KeepsTrees layer before (file ∷ rest) old
+    → (after : List CheckedFile) × IsFileFinding layer before file finding after × KeepsTrees layer after rest new
 
 pub reporting_more : (layer : ℕ) (all before left : List File) (file : File) (trees grown : SharedTrees) (summary next : Summary) (one : FileFinding)
     (old mid new : Option (List ℕ))

@@ -1,5 +1,5 @@
 -- The data files of a torrent.
-use Rattle.std.specs.Prelude.{◌≡◌, ◌⊎◌, ◌+◌, ℕ, List, [], ◌∷◌, ◌++◌, Option, Some, None, IfSome}
+use Rattle.std.specs.Prelude.{◌≡◌, ◌⊎◌, ◌+◌, ℕ, List, [], ◌∷◌, Option, Some, None, IfSome}
 use Rattle.std.specs.List.{flat_map, range_with_len}
 use Rattle.std.specs.declared.io.ErrorKind.{ErrorKind}
 use Rattle.std.specs.declared.io.ErrorKind.TheVariants.{NotFound, NotADirectory, InvalidFilename}
@@ -33,12 +33,3 @@ AreOfOnePool files = (count : ℕ) × (flat_map (λ d. number_of d.disk) files �
 abbrev pub IsNextOf : (before after : ℕ) → Option PooledView → Type 0
 IsNextOf before after None = after ≡ before
 IsNextOf before after (Some disk) = (after ≡ before + 1) × (disk.number ≡ after)
-
--- the data file of a file below a folder was put behind others, and the pool went on
-pub record AddsFile (dir : List ℕ) (file : File) (before after : ℕ) (old new : List (DataFile PooledView))
-    : Type 0 where
-  pub one : DataFile PooledView
-  pub pushed : new ≡ old ++ one ∷ []
-  pub same : file_at one ≡ file
-  pub path : IsAtPath dir one
-  pub next : IsNextOf before after one.disk

@@ -1,5 +1,5 @@
 -- Trees that are kept for later files of the same root and length. No public contract cites them.
-use Rattle.std.specs.Prelude.{◌≡◌, ℕ, ◌+◌, ◌<◌, ◌≤◌, ◌⊎◌, true, false, List, [], ◌∷◌, length, Option, None, Some, slice_get}
+use Rattle.std.specs.Prelude.{◌≡◌, ℕ, ◌+◌, ◌<◌, ◌≤◌, ◌⊎◌, true, false, List, [], length, Option, None, Some, slice_get}
 use Rattle.std.specs.List.{filter}
 use Rattle.std.specs.Ordering.{nat_cmp, ordering_then}
 use Rattle.std.specs.Cmp.Lexicographic.{slice_cmp}
@@ -59,12 +59,6 @@ pub record KeepsTrees (layer : ℕ) (before : List CheckedFile) (left : List Fil
   pub has : (i : ℕ) (file : File) → slice_get left i ≡ Some file → HasTree layer before file trees.kept
   pub last : (i : ℕ) (file : File) → slice_get left i ≡ Some file
       → (behind : ℕ) × (behind + i < length left) × (get key_cmp trees.last (tree_key file) ≡ Some behind)
-
--- what the check of a file found, and the trees after it
-abbrev pub ChecksNext : ℕ → File → SharedTrees → Finding → SharedTrees → Type 0
-ChecksNext layer file old finding new = (before : List CheckedFile) (rest : List File)
-    → KeepsTrees layer before (file ∷ rest) old → (after : List CheckedFile)
-    × IsFileFinding layer before file finding after × KeepsTrees layer after rest new
 
 -- no file that is left has the root and length of a file
 abbrev pub IsLast : SharedTrees → File → Type 0

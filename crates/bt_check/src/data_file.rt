@@ -1,9 +1,9 @@
 //! The data files of a torrent, and what a check finds of one.
-ghost use Rattle.std.specs.Prelude.{◌≡◌, ◌⊎◌, ◌↔◌, map, IfOk, IfErr, IfSome, IsSome, IsSomeAnd, IsTrue, OnOk};
+ghost use Rattle.std.specs.Prelude.{◌≡◌, ◌⊎◌, ◌↔◌, map, IfOk, IfErr, IfSome, IsSome, IsSomeAnd, IsTrue};
 ghost use Rattle.std.specs.List.{All};
 ghost use Rattle.std.specs.Path.{path_buf_bytes};
 ghost use Rattle.bt_meta.specs.Files.{file_of};
-ghost use Rattle.bt_check.specs.DataFile.{file_at, AddsFile, AreOfOnePool, IsAbsence, IsAtPath, IsNextOf};
+ghost use Rattle.bt_check.specs.DataFile.{file_at, AreOfOnePool, IsAbsence, IsAtPath, IsNextOf};
 ghost use Rattle.bt_check.specs.Fault.{device, out_of_memory};
 ghost use Rattle.bt_check.specs.Paths.{path_below};
 
@@ -15,7 +15,7 @@ use bt_meta::FileEntry;
 use bt_progress::{FileCall, Watch, Watched};
 use std::fs;
 use std::io::ErrorKind;
-use std::path::{Path, PathBuf};
+use std::path::PathBuf;
 use std::rt::Files;
 
 /// How many data files are held open at a time.
@@ -64,46 +64,12 @@ pub fn open_data_files<'a, R: Files + AllocGlobal + Clone + Drop, P: Watch>(
     ensures fault { IfErr result (λ fault. (fault ≡ device) ⊎ (fault ≡ out_of_memory)) }
 {
     let mut pool = HandlePool::new(rt.alloc(), rt.clone()?, OPEN_FILES)?;
-    open_by(rt, watch, &mut pool, dir, entries)
-}
-
-/// The same, by a pool that gave no device yet.
-fn open_by<'a, R: Files + AllocGlobal + Drop, P: Watch>(
-    rt: &R,
-    watch: &'a P,
-    pool: &mut HandlePool<R>,
-    dir: &str,
-    entries: &'a [FileEntry],
-) -> Result<Vec<DataFile<'a, Watched<'a, PooledDisk<R>, P>>>, Fault>
-    requires { pool.old.made ≡ 0 }
-    ensures each { IfOk result (λ files. map file_at files.items ≡ map file_of entries.now) }
-    ensures paths { IfOk result (λ files. All (IsAtPath dir.now) files.items) }
-    ensures one_pool { IfOk result (λ files. AreOfOnePool files.items) }
-    ensures fault { IfErr result (λ fault. (fault ≡ device) ⊎ (fault ≡ out_of_memory)) }
-{
     let mut files = Vec::new(rt.alloc());
     for file in entries {
-        add_file(rt, watch, pool, dir, file, &mut files)?;
+        let disk = open_watched(rt, watch, &mut pool, dir, file)?;
+        files.push(DataFile { file, disk })?;
     }
     Ok(files)
-}
-
-/// Opens the data file of an entry, and puts it behind others.
-fn add_file<'a, R: Files + AllocGlobal + Drop, P: Watch>(
-    rt: &R,
-    watch: &'a P,
-    pool: &mut HandlePool<R>,
-    dir: &str,
-    file: &'a FileEntry,
-    files: &mut Vec<DataFile<'a, Watched<'a, PooledDisk<R>, P>>>,
-) -> Result<(), Fault>
-    ensures added { OnOk result (AddsFile dir.now (file_of file.now) pool.old.made pool.new.made
-        files.old.items files.new.items) }
-    ensures fault { IfErr result (λ fault. (fault ≡ device) ⊎ (fault ≡ out_of_memory)) }
-{
-    let disk = open_watched(rt, watch, pool, dir, file)?;
-    files.push(DataFile { file, disk })?;
-    Ok(())
 }
 
 /// Opens the data file of an entry to read it, as `open_data_file` does, and tells of it.
@@ -162,16 +128,10 @@ pub fn open_data_file<R: Files + Drop>(
     ensures next { IfOk result (IsNextOf pool.old.made pool.new.made) }
     ensures fault { IfErr result (λ fault. fault ≡ device) }
 {
-    let trouble = trouble_at(rt, path.as_path());
+    let trouble = fs::metadata(rt, path.as_path())
+        .err()
+        .map(|error| error.kind());
     device_at(pool, path, trouble)
-}
-
-/// The trouble that a look at a path meets: none where something is there.
-fn trouble_at<R: Files>(rt: &R, path: Path<'_>) -> Option<ErrorKind> {
-    match fs::metadata(rt, path) {
-        Ok(_) => None,
-        Err(error) => Some(error.kind()),
-    }
 }
 
 /// The device of a path, a look at which met this trouble: none where that says that no file can be there.

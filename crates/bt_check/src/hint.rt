@@ -30,44 +30,16 @@ fn hint_text<R: Files + AllocGlobal>(
     torrent: &Torrent,
     dir: &str,
 ) -> Result<String, AllocError> {
-    let mut text = String::from_str(rt.alloc(), "none of the torrent's files is in ")?;
-    push_shown(rt.alloc(), &mut text, dir)?;
-    push_other(rt, &mut text, torrent, dir)?;
-    Ok(text)
-}
-
-/// Adds a folder, as it is printed.
-fn push_shown(alloc: Global, text: &mut String, folder: &str) -> Result<(), AllocError> {
-    let shown = display_name(alloc, folder.as_bytes())?;
-    text.push_str(shown.as_str())
-}
-
-/// Adds the folder in a folder that has the torrent's name, where one of its files is there.
-fn push_other<R: Files + AllocGlobal>(
-    rt: &R,
-    text: &mut String,
-    torrent: &Torrent,
-    dir: &str,
-) -> Result<(), AllocError> {
-    match folder_in(rt.alloc(), torrent, dir)? {
-        Some(folder) => push_folder(rt, text, torrent, folder.as_path().as_str()),
-        None => Ok(()),
+    let alloc = rt.alloc();
+    let shown = display_name(alloc, dir.as_bytes())?;
+    let Some(folder) = folder_in(alloc, torrent, dir)? else {
+        return format!(in alloc; "none of the torrent's files is in {shown}");
+    };
+    if !has_file(rt, torrent, folder.as_path().as_str())? {
+        return format!(in alloc; "none of the torrent's files is in {shown}");
     }
-}
-
-/// Adds a folder, where one of the torrent's files is there.
-fn push_folder<R: Files + AllocGlobal>(
-    rt: &R,
-    text: &mut String,
-    torrent: &Torrent,
-    folder: &str,
-) -> Result<(), AllocError> {
-    if !has_file(rt, torrent, folder)? {
-        return Ok(());
-    }
-    text.push_str(", but ")?;
-    push_shown(rt.alloc(), text, folder)?;
-    text.push_str(" has some")
+    let other = display_name(alloc, folder.as_path().as_str().as_bytes())?;
+    format!(in alloc; "none of the torrent's files is in {shown}, but {other} has some")
 }
 
 /// The folder in a folder that has the torrent's name: none where that can be no folder's name.

@@ -36,4 +36,4 @@ pub use pieces::PieceSize;
 pub use reader::BUFFER_LEN;
 pub use report::{FileFinding, Summary, last_words, write_line};
 pub use show::show_torrent;
-pub use torrent_file::{Source, load, load_watched, open_watched, read_text, torrent_of};
+pub use torrent_file::{Source, load, load_watched, read_text};

@@ -23,16 +23,5 @@ pub fn print<O: Write>(writer: &mut O, text: &str) -> Result<(), Fault>
     ensures fault { IfErr result (λ fault. fault ≡ device) }
 {
     write_text(writer, text)?;
-    flush(writer)
-}
-
-/// Flushes a writer, of which nothing more is known where that fails.
-pub fn flush<W: Write>(writer: &mut W) -> Result<(), Fault>
-    ensures kept { Keeps (W.contents writer.old) (W.contents writer.new) }
-    ensures fault { IfErr result (λ fault. fault ≡ device) }
-{
-    match writer.flush() {
-        Ok(()) => Ok(()),
-        Err(_) => Err(Fault::Device),
-    }
+    writer.flush().map_err(|_| Fault::Device)
 }

@@ -9,7 +9,7 @@ ghost use Rattle.bt_check.specs.Fault.{device, out_of_memory};
 
 use crate::display::{display_name, display_path};
 use crate::fault::Fault;
-use crate::output::{flush, write_text};
+use crate::output::write_text;
 use bt_meta::{FileEntry, Torrent};
 use std::alloc::{AllocError, Global};
 use std::io::Write;
@@ -24,19 +24,9 @@ pub fn show_torrent<W: Write>(alloc: Global, torrent: &Torrent, writer: &mut W) 
     write_text(writer, head(alloc, torrent)?.as_str())?;
     let files = torrent.files();
     for file in files {
-        write_file(alloc, file, writer)?;
+        write_text(writer, file_line(alloc, file)?.as_str())?;
     }
-    flush(writer)
-}
-
-/// Writes the line of a file.
-fn write_file<W: Write>(alloc: Global, file: &FileEntry, writer: &mut W) -> Result<(), Fault>
-    ensures text { OnOk result (Appends (W.contents writer.old) (W.contents writer.new)
-        (line_text (entry_line (file_of file.now)))) }
-    ensures fault { IfErr result (λ fault. (fault ≡ device) ⊎ (fault ≡ out_of_memory)) }
-{
-    let line = file_line(alloc, file)?;
-    write_text(writer, line.as_str())
+    writer.flush().map_err(|_| Fault::Device)
 }
 
 /// The lines on the whole torrent.

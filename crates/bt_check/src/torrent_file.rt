@@ -1,7 +1,7 @@
 //! Reading torrents from files.
 ghost use Rattle.std.specs.Prelude.{◌≡◌, ◌⊎◌, ◌+◌, IfOk, IfErr, IfSome};
 ghost use Rattle.bt_meta.specs.Limits.{max_text_length};
-ghost use Rattle.bt_check.specs.TorrentFile.{HasText, IsLoadFault, IsRefusalOfText, IsSourceFault, IsTorrentOfText, text_in};
+ghost use Rattle.bt_check.specs.TorrentFile.{HasText, IsLoadFault, IsSourceFault, IsTorrentOfText, text_in};
 ghost use Rattle.bt_check.specs.Reader.{Gives};
 ghost use Rattle.bt_check.specs.Fault.{device, out_of_memory};
 
@@ -45,31 +45,12 @@ pub fn load_watched<R: Files + AllocGlobal, P: Watch>(
     ensures torrent { IfOk result (HasText source.entry.is_info) }
     ensures fault { IfErr result (IsLoadFault source.entry.is_info) }
 {
-    let mut reader = open_watched(rt, watch, source.path)?;
-    read_source(rt.alloc(), &mut reader, source.is_info, buffer)
-}
-
-/// Opens a file to read it. Its calls are told.
-pub fn open_watched<'a, R: Files + AllocGlobal, P: Watch>(
-    rt: &R,
-    watch: &'a P,
-    path: &str,
-) -> Result<Watched<'a, R::File, P>, Fault>
-    ensures { IfErr result (λ fault. (fault ≡ device) ⊎ (fault ≡ out_of_memory)) }
-{
-    let name = fault_name(rt.alloc(), watch, path)?;
-    let file = told(rt.alloc(), watch, FileCall::Open, path, opened(rt, path))?;
-    Ok(Watched::new(file, watch, name))
-}
-
-/// Opens a file to read it.
-fn opened<R: Files>(rt: &R, path: &str) -> Result<R::File, Fault>
-    ensures { IfErr result (λ fault. fault ≡ device) }
-{
-    match fs::open(rt, path) {
-        Ok(file) => Ok(file),
-        Err(_) => Err(Fault::Device),
-    }
+    let alloc = rt.alloc();
+    let opened = fs::open(rt, source.path).map_err(|_| Fault::Device);
+    let file = told(alloc, watch, FileCall::Open, source.path, opened)?;
+    let name = fault_name(alloc, watch, source.path)?;
+    let mut reader = Watched::new(file, watch, name);
+    read_source(alloc, &mut reader, source.is_info, buffer)
 }
 
 /// Reads a torrent, or the info dictionary of one alone, from what a reader has.
@@ -86,19 +67,10 @@ fn read_source<R: Read>(
     ensures some_fault { IfErr result (IsLoadFault is_info) }
 {
     let text = read_text(alloc, reader, buffer)?;
-    let torrent = torrent_of(alloc, &text, is_info)?;
-    Ok(torrent)
-}
-
-/// The torrent that a text spells, as a whole or as an info dictionary alone.
-pub fn torrent_of(alloc: Global, text: &[u8], is_info: bool) -> Result<Torrent, Fault>
-    ensures torrent { IfOk result (IsTorrentOfText is_info text.now) }
-    ensures refused { IfErr result (IsRefusalOfText is_info text.now) }
-{
     if is_info {
-        Ok(read_info(alloc, text)?)
+        Ok(read_info(alloc, &text)?)
     } else {
-        Ok(read_torrent(alloc, text)?)
+        Ok(read_torrent(alloc, &text)?)
     }
 }
 

@@ -1,13 +1,21 @@
-use Rattle.std.proofs.Common.{sym, ◌∙◌}
+use Rattle.std.proofs.Common.{◌≡◌, map, rules, sym, subst, ◌∙◌}
+use Rattle.std.specs.List.{All}
+use Rattle.bt_meta.specs.Files.{file_of}
+use Rattle.bt_check.specs.EntryCheck.{IsCheckable}
+use Rattle.bt_check.proofs.CheckFault.{all_checkable}
 use Rattle.bt_check.proofs.ReportLines.{report_on}
 use Rattle.bt_check.proofs.check.check_torrent.Goals as goal
 
 pub check_files-requires : goal.check_files-requires
 check_files-requires g c =
-    c.in_ok-files.ensures.checkable c.piece_size-size.result.layer (sym c.piece_size-size.ensures ∙ c.piece_size-size.result.of_layer)
+    let size = c.in-Some.size in
+    let bytes : size.bytes ≡ c.args.torrent.now.piece_length = search rules in
+    subst (All (IsCheckable size.layer)) (sym c.in_ok-files.ensures.each)
+    (all_checkable size.bytes size.layer (map file_of c.files.result.now) size.of_layer (rw bytes c.files.ensures.lawful) c.layers_are_of_trees.ensures)
 
 pub returns-clause-report : goal.returns-clause-report
 returns-clause-report g c =
-    let size = c.piece_size-size.result in
-    report_on c.args.torrent.now size.layer size.bytes _ c.in_ok-summary.summary _ _ _ _ (sym c.piece_size-size.ensures) size.of_layer
-    c.in_ok-files.ensures.each c.in_ok-summary.ensures.report c.last_words.ensures c.in_ok-print.ensures.text
+    let size = c.in-Some.size in
+    let bytes : size.bytes ≡ c.args.torrent.now.piece_length = search rules in
+    report_on c.args.torrent.now size.layer size.bytes _ c.in_ok-summary.summary _ _ _ _ (sym bytes) size.of_layer
+    (c.in_ok-files.ensures.each ∙ c.files.ensures.said) c.in_ok-summary.ensures.report c.last_words.ensures c.in_ok-print.ensures.text

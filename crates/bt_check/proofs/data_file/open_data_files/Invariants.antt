@@ -3,7 +3,7 @@ use Rattle.std.proofs.Common.{◌≡◌, map, take}
 use Rattle.std.specs.List.{flat_map, range_with_len, All}
 use Rattle.bt_meta.specs.Files.{file_of}
 use Rattle.bt_check.specs.DataFile.{file_at, number_of, IsAtPath}
-use Rattle.bt_check.proofs.data_file.open_by.Given as goal
+use Rattle.bt_check.proofs.data_file.open_data_files.Given as goal
 
 abbrev pub invariant-loop-file : goal.invariant-loop-file
 invariant-loop-file g l =
