@@ -1,5 +1,5 @@
 -- Lemmas on the digests of a file's pieces, as they are read, and on the nodes above them.
-use Rattle.std.proofs.Common.{◌≡◌, ℕ, zero, suc, ◌+◌, ◌-◌, ◌*◌, ◌^◌, ◌<◌, ◌≤◌, min, List, [], ◌∷◌, ◌++◌, Option, length, take, drop, get_or, replicate, inl, inr, arith, refl, sym, ap, ◌∙◌, subst, length-append, take_all, take_at, drop_at, get_or-take, length-take-le, flat_map}
+use Rattle.std.proofs.Common.{◌≡◌, ℕ, zero, suc, ◌+◌, ◌-◌, ◌*◌, ◌^◌, ◌<◌, ◌≤◌, min, List, [], ◌∷◌, ◌++◌, Option, length, take, drop, get_or, replicate, inl, inr, arith, refl, sym, ap, ◌∙◌, length-append, take_all, take_at, drop_at, get_or-take, length-take-le, flat_map}
 use Rattle.std.specs.Simd.{first_chunks}
 use Rattle.std.proofs.Math.Nat.{mul-le-mul_right}
 use Rattle.std.proofs.lemmas.Nat.{pow_pos}
