@@ -1,17 +1,17 @@
 -- The pairs of a book, as its calls change them.
-use Rattle.std.proofs.Common.{◌≡◌, ℕ, ◌+◌, ◌<◌, ◌≤◌, Bool, true, false, not, cond, List, [], ◌∷◌, ◌++◌, length, get_or, set, map, count_by, refl, Option, Some, None, IfSome, is_some, sym, ap, filter, ◌∙◌, arith}
+use Rattle.std.proofs.Common.{◌≡◌, ℕ, ◌+◌, ◌<◌, ◌≤◌, Bool, true, false, not, cond, List, [], ◌∷◌, ◌++◌, length, get_or, set, map, take, drop, count_by, refl, Option, Some, None, IfSome, is_some, sym, ap, filter, ◌∙◌, subst, arith}
 use Rattle.std.specs.List.{remove}
-use Rattle.std.proofs.lemmas.List.{get_or_default, set-get_or, length-set, length_push, length-map}
+use Rattle.std.proofs.lemmas.List.{get_or_default, set-get_or, length-set, length_push, length-map, take_more, take-append-drop}
 use Rattle.std.proofs.lemmas.List.Elements.{All-set, All-push, All-filter, All-map, All-weaker}
 use Rattle.std.proofs.lemmas.List.Edits.{length-remove}
-use Rattle.std.proofs.lemmas.List.Sums.{sum_by-cons, sum_by_push, sum_by-set, sum_by-remove, get_or-le-sum_by, length-filter, count_by-le-length}
+use Rattle.std.proofs.lemmas.List.Sums.{sum_by-cons, sum_by_push, sum_by-append, sum_by-set, sum_by-remove, get_or-le-sum_by, length-filter, count_by-le-length}
 use Rattle.std.proofs.lemmas.Bool.Decides.{nat_tests}
 use Rattle.bt_book.specs.declared.names.PeerKey.{PeerKey}
 use Rattle.bt_book.specs.declared.names.BlockId.{BlockId}
 use Rattle.bt_book.specs.Blocks.{Blocks, of_file, IsInRange, member, is_block, with_block, GivesFirst, IsLeast, HasNone, says}
 use Rattle.bt_book.specs.Book.{PeerRequests, is_of, asked_in, change_of, pairs_in, without_block, without_block_of, IsBook, IsUnasked, IsLeastUnasked, HasNoneUnasked}
 use Rattle.bt_book.proofs.Asked.{asked_at, changed_at, asked_short}
-use Rattle.bt_book.specs.BookSteps.{one_if, IsKept, IsIndexOf, HasRoomAt, AreAdded}
+use Rattle.bt_book.specs.BookSteps.{one_if, IsKept, IsIndexOf, HasRoomAt, AreAdded, CanAdd}
 use Rattle.bt_book.proofs.BlockSets.{member_with, shape_with, member_in_range}
 use Rattle.bt_book.proofs.Once.{counted, count_cons, filter_none, filter_one}
 
@@ -66,6 +66,27 @@ count_le_pairs b peers i e inside read = grind (arith, get_or-le-sum_by (λ q. c
 
 pub is_member : (set : Blocks) (b : BlockId) → 1 ≤ one_if (member set b) → member set b ≡ true
 is_member set b some = grind arith
+
+pub added_in_range : (old mid : Blocks) (blocks : List BlockId) (i : ℕ) (b d : BlockId) → CanAdd old blocks → i < length blocks → b ≡ get_or blocks i d
+    → AreAdded old (take i blocks) mid → IsInRange mid b
+added_in_range old mid blocks i b d can lt read added =
+    let inside : IsInRange old b = subst (λ (x : BlockId). IsInRange old x) (sym read) (can.inside i d lt) in
+    let shape = added.shape b.file in
+    omega arith
+
+-- one block more of those that may be put in
+pub added_more : (old mid : Blocks) (blocks : List BlockId) (i : ℕ) (b d : BlockId) → CanAdd old blocks → i < length blocks → b ≡ get_or blocks i d
+    → AreAdded old (take i blocks) mid → AreAdded old (take (i + 1) blocks) (with_block mid b true)
+added_more old mid blocks i b d can lt read added =
+    let inside = added_in_range old mid blocks i b d can lt read added in
+    record {
+      shape = λ file. shape_with mid b true file inside ∙ added.shape file;
+      counts = λ c.
+          let one : BlockId → ℕ = λ x. cond (is_block c x) 1 0 in
+          let taken = ap (count_by (is_block c)) (take_more blocks i d lt ∙ ap (λ x. take i blocks ++ x ∷ []) (sym read)) ∙ sum_by_push one (take i blocks) b in
+          let most = ap (count_by (is_block c)) (sym (take-append-drop (i + 1) blocks)) ∙ sum_by-append one (take (i + 1) blocks) (drop (i + 1) blocks) in
+          grind (arith, taken, most, member_with mid b c true inside, is_block_turned b c, added.counts c, can.counts c);
+    }
 
 -- ---- a book is kept
 abbrev IsShort : PeerRequests → Type 0
@@ -239,7 +260,7 @@ found_joined key None same found some = cc
 
 -- ---- the blocks that may be asked
 module _ {wanted unasked : Blocks} {peers : List PeerRequests} (kept : IsKept wanted unasked peers) where
-  unasked_is : (b : BlockId) → member unasked b ≡ true → IsUnasked (record { wanted = wanted; peers = peers }) b
+  pub unasked_is : (b : BlockId) → member unasked b ≡ true → IsUnasked (record { wanted = wanted; peers = peers }) b
   unasked_is b is = record {
     wanted = grind (arith, kept.counts b);
     free = grind (arith, kept.counts b);
@@ -248,23 +269,28 @@ module _ {wanted unasked : Blocks} {peers : List PeerRequests} (kept : IsKept wa
   pub is_unasked : (b : BlockId) → IsUnasked (record { wanted = wanted; peers = peers }) b → member unasked b ≡ true
   is_unasked b free = grind (arith, kept.counts b, free.wanted, free.free)
 
+  pub least_is : (has : BlockId → Bool → Type 0) (b : BlockId) → IsLeast has unasked b
+      → IsLeastUnasked has (record { wanted = wanted; peers = peers }) b
+  least_is has b found = record {
+    unasked = unasked_is b found.among;
+    held = found.held;
+    least = λ c before free. found.least c before (is_unasked c free);
+  }
+
+  pub none_is : (has : BlockId → Bool → Type 0) → HasNone has unasked → HasNoneUnasked has (record { wanted = wanted; peers = peers })
+  none_is has none c free = none c (is_unasked c free)
+
   module _ (next : BlockId → Option BlockId → Type 0) (has : BlockId → Bool) (gives_first : GivesFirst next wanted has) where
     gives_unasked : GivesFirst next unasked has
     gives_unasked b r inside gives = gives_first b r (omega (arith, inside, kept.shape b.file)) gives
 
     pub least_asked : (b : BlockId) → (GivesFirst next unasked has → IsLeast (says has) unasked b)
         → IsLeastUnasked (says has) (record { wanted = wanted; peers = peers }) b
-    least_asked b least =
-        let found = least gives_unasked in
-        record {
-          unasked = unasked_is b found.among;
-          held = found.held;
-          least = λ c before free. found.least c before (is_unasked c free);
-        }
+    least_asked b least = least_is (says has) b (least gives_unasked)
 
     pub none_asked : (GivesFirst next unasked has → HasNone (says has) unasked)
         → HasNoneUnasked (says has) (record { wanted = wanted; peers = peers })
-    none_asked none c free = none gives_unasked c (is_unasked c free)
+    none_asked none = none_is (says has) (none gives_unasked)
 
 -- ---- the laws
 pub book_is : {wanted unasked : Blocks} {peers : List PeerRequests} → IsKept wanted unasked peers → IsBook (record { wanted = wanted; peers = peers })

@@ -7,7 +7,7 @@ use Rattle.std.specs.Option.{option_or}
 use Rattle.std.proofs.Math.Nat.{mul-div_cancel, div-lt_iff_lt-mul, le-div_iff_mul-le}
 use Rattle.std.proofs.lemmas.Bool.{cases_lt, lt-ltb, le-ltb, false_from_ne_true}
 use Rattle.std.proofs.lemmas.Nat.{pow_pos, div-mul-add}
-use Rattle.std.proofs.lemmas.List.{length-map, length-replicate, get_or-append_right, get_or_append_left, get_or-append-add, get_or-map, get_or-replicate, get_or_default, drop_more}
+use Rattle.std.proofs.lemmas.List.{length-map, length-replicate, get_or-append_right, get_or_append_left, get_or-map, get_or-replicate, get_or_default, drop_more}
 use Rattle.std.proofs.lemmas.List.FromFn.{length-range_with_len, get_or-range_with_len}
 use Rattle.std.proofs.lemmas.Slice.Eq.{bytes_eq-Decides}
 use Rattle.sha2.specs.Sha256.{sha256}
@@ -19,7 +19,7 @@ use Rattle.bt_sparse.specs.SparseTree.{Facts, blocks_of, held_at, value_at}
 use Rattle.bt_sparse.specs.Acceptance.{Accepts, IsRefused}
 use Rattle.bt_sparse.specs.declared.claim.ProofError.{ProofError}
 use Rattle.bt_sparse.specs.declared.claim.ProofError.TheVariants.{OutOfMemory}
-use Rattle.bt_sparse.proofs.Values.{value_covers, none_some, same_value}
+use Rattle.bt_sparse.proofs.Values.{value_covers, none_some}
 use Rattle.bt_store.specs.BlockReads.{BlockRead, given, failed, block_of, fault_count, right_count, is_right_read, is_leaf}
 use Rattle.bt_store.specs.Adoption.{Adopts, IsUnknownGroup, IsKnownGroup, AreWhole, is_whole, claimed_digest, claim_of_reads, leaf_claim, none, known as blockwise, accepted, refused, short, unread}
 use Rattle.bt_store.specs.declared.adoption.Adopted.{Adopted}
@@ -27,7 +27,7 @@ use Rattle.bt_store.specs.declared.block_states.BlockState.{BlockState}
 use Rattle.bt_check.specs.CheckSteps.{IsBare, HoldsLeaves}
 use Rattle.bt_check.specs.EntryCheck.{leaves_read, reads_below, is_node_read, leaf_read}
 use Rattle.bt_check.specs.Finding.{KnownLayer, is_right_block, by_leaf, piece_of, digest_of}
-use Rattle.bt_check.proofs.PiecesNode.{covers, real_index, width_covers}
+use Rattle.bt_check.proofs.PiecesNode.{covers, real_index}
 use Rattle.bt_check.proofs.RightBlocks.{cases_bool, count_along, count_const, below_last, node_kept, all_whole, not_all_whole, whole_or_fault}
 use Rattle.bt_check.proofs.PieceGroup.{IsReady, IsPieceGroup, ArePieceLeaves, group_is_piece, accepted_digest, refused_digest, others_bare, leaf_added}
 

@@ -1,6 +1,6 @@
 -- A check by the answers of an honest device is one of its bytes.
 use Rattle.std.proofs.Common.{◌≡◌, ℕ, zero, suc, ◌+◌, ◌-◌, ◌*◌, ◌^◌, ◌<◌, ◌≤◌, ◌&&◌, Bool, true, false, true≢false, cond, Option, None, Some, IsSomeAnd, List, [], ◌∷◌, map, length, take, drop, replicate, get_or, inl, inr, arith, refl, sym, ap, ◌∙◌, subst, min}
-use Rattle.std.specs.Prelude.{slice_index_or, nat_eq}
+use Rattle.std.specs.Prelude.{nat_eq}
 use Rattle.std.specs.Cmp.Lexicographic.{pointwise}
 use Rattle.std.specs.List.{list_all, range_with_len}
 use Rattle.std.proofs.lemmas.Bool.{cases_lt, eq-eqb}

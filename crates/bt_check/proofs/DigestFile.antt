@@ -9,12 +9,13 @@ use Rattle.bt_tree.specs.Blocks.{block_count, HasRun}
 use Rattle.bt_tree.specs.RootBuilder.{BuilderState, BuildsFrom, first_block, node_end}
 use Rattle.bt_tree.specs.TreeShape.{height_of, real_width}
 use Rattle.bt_tree.specs.Tree.{node_digest}
+use Rattle.bt_tree.specs.Layers.{HasLayerSize, fold_of, layer_digests}
 use Rattle.bt_tree.proofs.TreeShape.{height_is}
 use Rattle.bt_check.specs.Reader.{GivesNode, TellsMore}
-use Rattle.bt_check.specs.DigestSteps.{IsRow, GivesLayer, GivesFile}
+use Rattle.bt_check.specs.DigestSteps.{GivesLayer, GivesFile}
 use Rattle.bt_check.specs.Digests.{AreDigestsOf, IsPieceLayer, GivesAll}
 use Rattle.bt_check.specs.declared.digests.Digests.{Digests}
-use Rattle.bt_check.proofs.DigestLayer.{row_of_layer}
+use Rattle.bt_check.proofs.DigestLayer.{root_folded}
 
 -- the whole file lies below the root
 pub root_covers : (bytes : ℕ) (b : BuilderState) → b.file_length ≡ bytes → b.layer ≡ height_of (block_count bytes) → b.index ≡ 0
@@ -54,29 +55,32 @@ short_file old new file_length layer piece_bytes root b digests short bytes laye
       };
     }
 
+-- the pieces' digests have the layer's size
+pub layer_sized : (old new : Option (List ℕ)) (file_length layer : ℕ) (bytes : List ℕ) → 16384 * 2 ^ layer < file_length
+    → GivesLayer old new file_length layer bytes → HasLayerSize (block_count file_length) layer bytes
+layer_sized old new file_length layer bytes long g = record {
+  inside = layer_inside file_length layer long;
+  size = g.layer_is.size ∙ ap (λ k. 32 * real_width (block_count k) layer) g.whole;
+}
+
 -- a longer file
-pub long_file : (old new : Option (List ℕ)) (file_length layer piece_bytes above : ℕ) (bytes root : List ℕ) (digests : Digests)
-    → piece_bytes < file_length → piece_bytes ≡ 16384 * 2 ^ layer → above ≡ height_of (block_count file_length) - layer
-    → GivesLayer old new file_length layer bytes
-    → ((file : List ℕ) (index count : ℕ) → IsRow file layer above index count bytes → root ≡ node_digest sha256 file (layer + above) index)
+pub long_file : (old new : Option (List ℕ)) (file_length layer : ℕ) (bytes root : List ℕ) (digests : Digests)
+    → 16384 * 2 ^ layer < file_length → GivesLayer old new file_length layer bytes
+    → root ≡ fold_of sha256 (height_of (block_count file_length) - layer) (layer_digests sha256 (block_count file_length) layer bytes)
     → digests.root ≡ root → digests.layer.items ≡ bytes → GivesFile old new file_length layer digests
-long_file old new file_length layer piece_bytes above bytes root digests long size above_is g value root_is layer_is =
+long_file old new file_length layer bytes root digests long g value root_is layer_is =
     let whole = g.whole in
-    let n : ℕ = block_count (length g.file) in
-    let same : height_of (block_count file_length) ≡ height_of n = ap (λ k. height_of (block_count k)) (sym whole) in
-    let inside : layer ≤ height_of n = layer_inside (length g.file) layer (omega (arith, whole, long, size)) in
-    let row = row_of_layer g.file layer bytes inside g.layer_is in
-    let up : above ≡ height_of n - layer = above_is ∙ ap (λ h. h - layer) same in
-    let top : layer + above ≡ height_of n = omega (arith, up, inside) in
-    let built = value g.file 0 (real_width n layer) (subst (λ a. IsRow g.file layer a 0 (real_width n layer) bytes) (sym up) row) in
+    let far : 16384 * 2 ^ layer < length g.file = omega (arith, whole, long) in
+    let folded = root_folded g.file layer bytes (layer_inside (length g.file) layer far) g.layer_is in
     record {
       file = g.file;
       given = g.given;
       whole = whole;
       are = record {
         empty = λ e. absurd (omega (arith, e, whole, long));
-        root = λ _. root_is ∙ built ∙ ap (λ k. node_digest sha256 g.file k 0) top;
-        short = λ short. absurd (omega (arith, short, whole, long, size));
+        root = λ _. root_is ∙ value
+            ∙ ap (λ k. fold_of sha256 (height_of (block_count k) - layer) (layer_digests sha256 (block_count k) layer bytes)) (sym whole) ∙ folded;
+        short = λ short. absurd (omega (arith, short, far));
         long = λ _. subst (IsPieceLayer g.file layer) (sym layer_is) g.layer_is;
       };
     }

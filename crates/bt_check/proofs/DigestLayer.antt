@@ -1,20 +1,25 @@
 -- Lemmas on the digests of a file's pieces, as they are read, and on the nodes above them.
-use Rattle.std.proofs.Common.{◌≡◌, ℕ, zero, suc, ◌+◌, ◌-◌, ◌*◌, ◌^◌, ◌<◌, ◌≤◌, min, List, [], ◌∷◌, ◌++◌, Option, length, take, drop, get_or, replicate, inl, inr, arith, refl, sym, ap, ◌∙◌, subst, length-append, take_all, take_at, drop_at, get_or-take, length-take-le, flat_map}
-use Rattle.std.proofs.Math.Nat.{mul-le-mul_right, pow-suc}
-use Rattle.std.proofs.lemmas.Nat.{pow_pos, pow-add}
+use Rattle.std.proofs.Common.{◌≡◌, ℕ, zero, suc, ◌+◌, ◌-◌, ◌*◌, ◌^◌, ◌<◌, ◌≤◌, min, List, [], ◌∷◌, ◌++◌, Option, length, take, drop, get_or, replicate, inl, inr, arith, refl, sym, ap, ◌∙◌, length-append, take_all, take_at, drop_at, get_or-take, length-take-le, flat_map}
+use Rattle.std.specs.Simd.{first_chunks}
+use Rattle.std.proofs.Math.Nat.{mul-le-mul_right}
+use Rattle.std.proofs.lemmas.Nat.{pow_pos}
 use Rattle.std.proofs.lemmas.Bool.{cases_lt}
-use Rattle.std.proofs.lemmas.List.{drop-append-le, length-drop, take-take, drop-take, drop-drop, length-take, length-replicate}
+use Rattle.std.proofs.lemmas.List.{drop-append-le, length-drop, drop-drop, length-replicate, get_or_append_left, get_or-append_right, get_or-replicate}
 use Rattle.std.proofs.KnownBytes.{Consumes-nil, Consumes-trans}
 use Rattle.std.specs.Io.KnownBytes.{Consumes}
 use Rattle.sha2.specs.Sha256.{sha256}
 use Rattle.bt_tree.specs.Blocks.{block_count, HasRun}
 use Rattle.bt_tree.specs.TreeShape.{real_width, height_of}
-use Rattle.bt_tree.specs.Tree.{node_digest, padding_digest}
-use Rattle.bt_tree.proofs.TreeShape.{real_le, real_limit}
-use Rattle.bt_tree.proofs.TreeNodes.{node_parent, node_past, length-node_digest}
+use Rattle.bt_tree.specs.Tree.{node_digest, padding_digest, file_root}
+use Rattle.bt_tree.specs.Peaks.{row_node}
+use Rattle.bt_tree.specs.Layers.{fold_of, layer_digests}
+use Rattle.bt_tree.proofs.TreeShape.{real_le}
+use Rattle.bt_tree.proofs.TreeNodes.{node_parent, node_past, length-node_digest, fold_is, row_node_same}
+use Rattle.bt_sparse.proofs.Parents.{chunk_at}
+use Rattle.bt_sparse.proofs.LayerTrees.{chunk_count}
 use Rattle.bt_tree.specs.NodeHash.{length-sha256}
 use Rattle.bt_check.specs.Pieces.{piece_start, GivesPieces}
-use Rattle.bt_check.specs.DigestSteps.{IsRow, GivesLayer}
+use Rattle.bt_check.specs.DigestSteps.{GivesLayer}
 use Rattle.bt_check.specs.Digests.{IsPieceLayer}
 use Rattle.bt_check.specs.declared.pieces.PieceRun.{PieceRun}
 use Rattle.bt_check.proofs.ReaderNode.{front_has_run, part_has_run}
@@ -159,107 +164,46 @@ layering_done old new file_length layer index rest bytes none c =
       layer_is = record { size = c.size ∙ ap (λ i. 32 * i) (sym width); digests = λ j lt. c.digests c.front whole here j (omega (arith, width, lt)) };
     }
 
--- a node without digests below it
-pub row_past : (file : List ℕ) (base layers index count : ℕ) (bytes : List ℕ) → IsRow file base layers index count bytes → length bytes < 32
-    → padding_digest sha256 (base + layers) ≡ node_digest sha256 file (base + layers) index
-row_past file base layers index count bytes row short =
-    let size = row.size in
-    let none : count ≡ 0 = omega (arith, size, short) in
-    let some = pow_pos layers in
-    let past = row.past (omega (arith, none, some)) in
-    let power : 2 ^ (base + layers) ≡ 2 ^ base * 2 ^ layers = pow-add 2 base layers in
-    let place : index * 2 ^ (base + layers) ≡ (index * 2 ^ layers + count) * 2 ^ base = ap (λ p. index * p) power ∙ omega (arith, none, ap (λ c. c * 2 ^ base) none) in
-    sym (node_past sha256 file (base + layers) index (rw place past))
+-- a node over those of a layer
+node_over : (file : List ℕ) (base k i : ℕ) → row_node sha256 (λ j. node_digest sha256 file base j) k i ≡ node_digest sha256 file (base + k) i
+unfolding row_node
+node_over file base zero i = let flat : base ≡ base + 0 = omega arith in ap (λ l. node_digest sha256 file l i) flat
+node_over file base (suc k) i =
+    let up : suc (base + k) ≡ base + suc k = omega arith in
+    ap (λ d. sha256 (d ++ row_node sha256 (λ j. node_digest sha256 file base j) k (2 * i + 1))) (node_over file base k (2 * i))
+    ∙ ap (λ d. sha256 (node_digest sha256 file (base + k) (2 * i) ++ d)) (node_over file base k (2 * i + 1))
+    ∙ sym (node_parent sha256 file (base + k) i) ∙ ap (λ l. node_digest sha256 file l i) up
 
--- a node of the layer itself
-pub row_leaf : (file : List ℕ) (base layers index count : ℕ) (bytes first : List ℕ) → IsRow file base layers index count bytes → layers ≡ 0
-    → 32 ≤ length bytes → first ≡ take 32 bytes → first ≡ node_digest sha256 file (base + layers) index
-row_leaf file base layers index count bytes first row flat some e =
-    let size = row.size in
-    let one : 2 ^ layers ≡ 1 = ap (λ k. 2 ^ k) flat in
-    let place : index * 2 ^ layers + 0 ≡ index = ap (λ p. index * p + 0) one ∙ omega arith in
-    e ∙ row.digests 0 (omega (arith, size, some)) ∙ ap (node_digest sha256 file base) place
-    ∙ ap (λ k. node_digest sha256 file k index) (let up : base ≡ base + layers = omega (arith, flat) in up)
-
--- the widths of a row and of its halves
-power_is : (layers l : ℕ) → layers ≡ l + 1 → 2 ^ layers ≡ 2 ^ l * 2
-power_is layers l e = ap (λ k. 2 ^ k) (let up : layers ≡ suc l = omega (arith, e) in up) ∙ pow-suc 2 l
-
-drop_of_take : (xs : List ℕ) (m n : ℕ) → n ≤ m → drop n (take m xs) ≡ take (m - n) (drop n xs)
-drop_of_take xs m n h =
-    let split : m ≡ n + (m - n) = omega (arith, h) in
-    ap (λ k. drop n (take k xs)) split ∙ drop-take n (m - n) xs
-
-pub row_left : (file : List ℕ) (base layers l index count : ℕ) (bytes : List ℕ) → layers ≡ l + 1 → IsRow file base layers index count bytes
-    → IsRow file base l (2 * index) (min count (2 ^ l)) (take (min (length bytes) (32 * 2 ^ l)) bytes)
-row_left file base layers l index count bytes e row =
-    let power = power_is layers l e in
-    let place : index * 2 ^ layers ≡ 2 * index * 2 ^ l = ap (λ p. index * p) power ∙ omega arith in
-    let size = row.size in
-    let within = row.within in
-    let m : ℕ = min (length bytes) (32 * 2 ^ l) in
-    record {
-      size = length-take m bytes ∙ omega (arith, size);
-      within = omega arith;
-      digests = λ j lt.
-          let fits : 32 * j + 32 ≤ m = omega (arith, lt, size) in
-          take_in bytes m j fits ∙ row.digests j (omega (arith, lt)) ∙ ap (λ p. node_digest sha256 file base (p + j)) place;
-      past = λ less.
-          let past = row.past (omega (arith, less, power, within)) in
-          let same : min count (2 ^ l) ≡ count = omega (arith, less) in
-          let at : (index * 2 ^ layers + count) * 2 ^ base ≡ (2 * index * 2 ^ l + min count (2 ^ l)) * 2 ^ base =
-          ap (λ p. (p + count) * 2 ^ base) place ∙ ap (λ c. (2 * index * 2 ^ l + c) * 2 ^ base) (sym same) in
-          rw at at past;
-    }
-  where
-    take_in : (bytes : List ℕ) (m j : ℕ) → 32 * j + 32 ≤ m → take 32 (drop (32 * j) (take m bytes)) ≡ take 32 (drop (32 * j) bytes)
-    take_in bytes m j fits = ap (take 32) (drop_of_take bytes m (32 * j) (omega (arith, fits))) ∙ take-take 32 (m - 32 * j) (drop (32 * j) bytes) (omega (arith, fits))
-
-pub row_right : (file : List ℕ) (base layers l index count : ℕ) (bytes : List ℕ) → layers ≡ l + 1 → IsRow file base layers index count bytes
-    → IsRow file base l (2 * index + 1) (count - 2 ^ l) (drop (min (length bytes) (32 * 2 ^ l)) bytes)
-row_right file base layers l index count bytes e row =
-    let power = power_is layers l e in
-    let place : index * 2 ^ layers + 2 ^ l ≡ (2 * index + 1) * 2 ^ l = ap (λ p. index * p + 2 ^ l) power ∙ omega arith in
-    let size = row.size in
-    let within = row.within in
-    let m : ℕ = min (length bytes) (32 * 2 ^ l) in
-    record {
-      size = length-drop m bytes ∙ omega (arith, size);
-      within = omega (arith, within, power);
-      digests = λ j lt.
-          let middle : m ≡ 32 * 2 ^ l = omega (arith, size, lt) in
-          let at : m + 32 * j ≡ 32 * (2 ^ l + j) = omega (arith, middle) in
-          let next : index * 2 ^ layers + (2 ^ l + j) ≡ (2 * index + 1) * 2 ^ l + j = omega (arith, place) in
-          ap (take 32) (drop-drop (32 * j) m bytes ∙ ap (λ n. drop n bytes) at)
-          ∙ row.digests (2 ^ l + j) (omega (arith, lt)) ∙ ap (node_digest sha256 file base) next;
-      past = λ less.
-          let past = row.past (omega (arith, less, power)) in
-          let low : index * 2 ^ layers + count ≤ (2 * index + 1) * 2 ^ l + (count - 2 ^ l) = omega (arith, place) in
-          let far = mul-le-mul_right (2 ^ base) low in
-          omega (arith, past, far);
-    }
-
--- a node whose two halves were digested
-pub row_joined : (file : List ℕ) (base layers l index : ℕ) (left right : List ℕ) → layers ≡ l + 1
-    → left ≡ node_digest sha256 file (base + l) (2 * index) → right ≡ node_digest sha256 file (base + l) (2 * index + 1)
-    → sha256 (left ++ right) ≡ node_digest sha256 file (base + layers) index
-row_joined file base layers l index left right e left_is right_is =
-    ap (λ d. sha256 (d ++ right)) left_is ∙ ap (λ d. sha256 (node_digest sha256 file (base + l) (2 * index) ++ d)) right_is
-    ∙ sym (node_parent sha256 file (base + l) index)
-    ∙ ap (λ k. node_digest sha256 file k index) (let up : suc (base + l) ≡ base + layers = omega (arith, e) in up)
-
--- the pieces' digests are the row below the root
-pub row_of_layer : (file : List ℕ) (layer : ℕ) (bytes : List ℕ) → layer ≤ height_of (block_count (length file)) → IsPieceLayer file layer bytes
-    → IsRow file layer (height_of (block_count (length file)) - layer) 0 (real_width (block_count (length file)) layer) bytes
-row_of_layer file layer bytes inside is =
-    let n : ℕ = block_count (length file) in
+-- the digests of the pieces fold to the root
+pub root_folded : (file : List ℕ) (layer : ℕ) (bytes : List ℕ) → layer ≤ height_of (block_count (length file)) → IsPieceLayer file layer bytes
+    → fold_of sha256 (height_of (block_count (length file)) - layer) (layer_digests sha256 (block_count (length file)) layer bytes) ≡ file_root sha256 file
+root_folded file layer bytes inside is =
     let above : ℕ = height_of n - layer in
-    let first : 0 * 2 ^ above ≡ 0 = omega arith in
-    record {
-      size = is.size;
-      within = real_limit n layer inside;
-      digests = λ j lt. is.digests j lt ∙ ap (node_digest sha256 file layer) (let here : j ≡ 0 * 2 ^ above + j = omega (arith, first) in here);
-      past = λ less.
-          let width : 0 * 2 ^ above + real_width n layer ≡ real_width n layer = omega (arith, first) in
-          subst (λ i. n ≤ i * 2 ^ layer) (sym width) (width_covers n layer);
-    }
+    let top : layer + above ≡ height_of n = omega (arith, inside) in
+    fold_is sha256 above whole
+    ∙ row_node_same sha256 (λ i. get_or whole i []) (λ i. node_digest sha256 file layer i) above 0 (λ j low high. node j (omega (arith, high)))
+    ∙ node_over file layer above 0 ∙ ap (λ l. node_digest sha256 file l 0) top
+  where
+    n : ℕ
+    n = block_count (length file)
+
+    chunks : List (List ℕ)
+    chunks = first_chunks 32 (real_width n layer) bytes
+
+    rest : List (List ℕ)
+    rest = replicate (2 ^ (height_of n - layer) - real_width n layer) (padding_digest sha256 layer)
+
+    whole : List (List ℕ)
+    whole = chunks ++ rest
+
+    node : (j : ℕ) → j < 2 ^ (height_of n - layer) → get_or whole j [] ≡ node_digest sha256 file layer j
+    node j lt = elim (cases_lt j (real_width n layer)) [
+      | inl real ↦
+          get_or_append_left chunks rest [] j (omega (arith, chunk_count (real_width n layer) bytes, real))
+          ∙ chunk_at 32 (real_width n layer) bytes j real ∙ is.digests j real
+      | inr past ↦
+          let far = mul-le-mul_right {m = real_width n layer} {n = j} (2 ^ layer) past in
+          get_or-append_right chunks rest (real_width n layer) j [] (chunk_count (real_width n layer) bytes) past
+          ∙ get_or-replicate (2 ^ (height_of n - layer) - real_width n layer) (j - real_width n layer) (padding_digest sha256 layer) [] (omega (arith, lt, past))
+          ∙ sym (node_past sha256 file layer j (omega (arith, far, width_covers n layer)))
+    ]

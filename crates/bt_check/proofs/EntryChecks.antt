@@ -1,5 +1,5 @@
 -- What a check finds of a file.
-use Rattle.std.proofs.Common.{◌≡◌, ℕ, ◌+◌, ◌<◌, ◌≤◌, ◌↔◌, ◌⊎◌, ◌||◌, ◌&&◌, not, Bool, true, false, true≢false, is_some, IsTrue, IsSomeAnd, Option, None, Some, [], ◌∷◌, List, map, take, ◌*◌, ◌^◌, inl, inr, arith, refl, sym, ap, ◌∙◌, subst, length}
+use Rattle.std.proofs.Common.{◌≡◌, ℕ, ◌+◌, ◌<◌, ◌≤◌, ◌↔◌, ◌⊎◌, ◌||◌, ◌&&◌, not, Bool, true, false, true≢false, is_some, IsTrue, IsSomeAnd, Option, None, Some, [], ◌∷◌, List, map, take, ◌*◌, ◌^◌, inl, inr, arith, refl, sym, ap, subst}
 use Rattle.std.proofs.lemmas.Bool.{cases_lt, false≢true}
 use Rattle.bt_tree.specs.Blocks.{IsFileLength, block_count}
 use Rattle.bt_tree.specs.Limits.{max_file_length}

@@ -11,7 +11,7 @@ use Rattle.bt_tree.specs.Layers.{fold_of}
 use Rattle.bt_tree.specs.Peaks.{row_node}
 use Rattle.bt_tree.specs.Tree.{padding_digest}
 use Rattle.bt_tree.specs.TreeShape.{height_of, real_width}
-use Rattle.bt_tree.proofs.TreeShape.{height_is, real_lt, real_limit, pow_le}
+use Rattle.bt_tree.proofs.TreeShape.{height_is, real_limit, pow_le}
 use Rattle.bt_tree.proofs.TreeNodes.{row_node_same, row_node_shift, fold_is, padding_suc}
 use Rattle.bt_sparse.specs.SparseTree.{Facts, blocks_of, height, held_at, value_at}
 use Rattle.bt_sparse.specs.Claim.{Claims, HasShape, in_run, on_path, uncle, run_height, run_node, run_digest, path_digest, top_layer, top_node, top_digest}

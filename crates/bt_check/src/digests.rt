@@ -1,12 +1,9 @@
 //! The digests that a torrent says of a file, from one reading of its bytes.
-ghost use Rattle.std.specs.Prelude.{◌≡◌, ℕ, ◌+◌, ◌^◌, ◌*◌, ◌≤◌, ◌⊎◌, List, [], length, IfOk, IfErr, IfSome};
+ghost use Rattle.std.specs.Prelude.{◌≡◌, ℕ, ◌≤◌, ◌⊎◌, [], IfOk, IfErr, IfSome};
 ghost use Rattle.bt_tree.specs.Blocks.{block_count};
-ghost use Rattle.bt_tree.specs.Tree.{node_digest};
 ghost use Rattle.bt_tree.specs.TreeShape.{height_of};
-ghost use Rattle.sha2.specs.Sha256.{sha256};
-ghost use Rattle.bt_tree.specs.Limits.{max_height};
 ghost use Rattle.bt_check.specs.Fault.{device, out_of_memory};
-ghost use Rattle.bt_check.specs.DigestSteps.{GivesLayer, GivesFile, IsRow};
+ghost use Rattle.bt_check.specs.DigestSteps.{GivesLayer, GivesFile};
 ghost use Rattle.bt_check.specs.Digests.{AreDigestsOf, GivesAll, IsDigestFault};
 
 use crate::fault::Fault;
@@ -14,7 +11,7 @@ use crate::file_hash::FileHash;
 use crate::pieces::{PieceSize, read_pieces};
 use crate::reader::{BUFFER_LEN, has_more, read_node};
 use bt_meta::MakeError;
-use bt_tree::{Geometry, Hash32, NodeHash, RootBuilder, pad};
+use bt_tree::{Geometry, Hash32, RootBuilder, layer_root};
 use std::alloc::Global;
 use std::io::Read;
 
@@ -86,8 +83,7 @@ fn digest_file<R: Read>(
         });
     }
     let layer = read_layer(alloc, reader, geometry, size, buffer)?;
-    let above = geometry.height() - size.layer;
-    let root = node_above(layer.as_slice(), size.layer, above);
+    let root = layer_root(FileHash, geometry, size.layer, layer.as_slice());
     Ok(Digests { root, layer })
 }
 
@@ -116,24 +112,4 @@ fn read_layer<R: Read>(
         rest -= pieces.bytes;
     }
     Ok(layer)
-}
-
-/// The digest of a node that lies `layers` layers above the layer `base`: of the nodes of that layer that lie
-/// below it, those that cover a block have these digests.
-fn node_above(digests: &[u8], base: u8, layers: u8) -> Hash32
-    requires high { base + layers ≤ max_height }
-    ensures { (file : List ℕ) (index count : ℕ) → IsRow file base layers index count digests.now
-        → result ≡ node_digest sha256 file (base + layers) index }
-{
-    let Some(first) = digests.first_chunk::<32>() else {
-        return pad(FileHash, base + layers);
-    };
-    if layers == 0 {
-        return *first;
-    }
-    let middle = digests.len().min(32 << (layers - 1));
-    let (left, right) = digests.split_at(middle);
-    let left = node_above(left, base, layers - 1);
-    let right = node_above(right, base, layers - 1);
-    FileHash.pair(&left, &right)
 }

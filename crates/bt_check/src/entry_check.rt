@@ -152,7 +152,7 @@ struct BlockCheck<D: Disk + Drop> {
     faulty: bool,
 }
 
-/// Reads the blocks of a file group by group, as a store takes them in.
+/// Reads the blocks of a file group by group, as a store takes them in; small groups are digested together.
 fn check_blocks<D: Disk + Drop>(
     alloc: Global,
     disk: D,
@@ -170,7 +170,7 @@ fn check_blocks<D: Disk + Drop>(
     let mut marked = 0;
     let mut faulty = false;
     while from < geometry.blocks() {
-        let adopted = store.adopt(tree, from)?;
+        let adopted = store.adopt_groups(tree, from)?;
         marked += adopted.marked;
         faulty |= adopted.faults > 0;
         from = adopted.next;

@@ -1,5 +1,5 @@
 -- Open handles that devices share.
-use Rattle.std.specs.Prelude.{◌≡◌, ◌≢◌, ℕ, ◌-◌, List, [], ◌∷◌, take, slice_get, Some, All}
+use Rattle.std.specs.Prelude.{◌≡◌, ◌≢◌, ℕ, ◌-◌, ◌<◌, List, [], ◌∷◌, length, take, slice_get, slice_index_or, Some, All}
 use Rattle.std.specs.List.{remove}
 use Rattle.bt_disk.specs.declared.open_handles.Entry.{Entry}
 
@@ -20,6 +20,11 @@ abbrev pub with_handle : {F : Type 0} → ℕ → F → HandlesView F → Handle
 with_handle device file handles =
     let entry : Entry _ = record { device = device; file = file } in
     record handles { entries = entry ∷ take (handles.limit - 1) handles.entries }
+
+-- the handle at this place is this device's
+pub record IsPlaceOf {F : Type 0} (device : ℕ) (entries : List (Entry F)) (place : ℕ) : Type 0 where
+  pub inside : place < length entries
+  pub here : (entry : Entry F) → entry ≡ slice_index_or entries place entry → entry.device ≡ device
 
 -- none is this device's
 abbrev pub HasNone : {F : Type 0} → ℕ → HandlesView F → Type 0

@@ -1,6 +1,6 @@
 //! The open handles that devices of a pool share.
-ghost use Rattle.std.specs.Prelude.{◌≡◌, ◌<◌, IfOk, IfSome, IfNone};
-ghost use Rattle.bt_disk.specs.OpenHandles.{no_handles, with_room, with_handle, IsTaken, HasNone};
+ghost use Rattle.std.specs.Prelude.{◌≡◌, ◌≢◌, ◌<◌, IfOk, IfSome, IfNone, All};
+ghost use Rattle.bt_disk.specs.OpenHandles.{no_handles, with_room, with_handle, IsTaken, HasNone, IsPlaceOf};
 
 use std::alloc::{AllocError, Global};
 use std::collections::VecDeque;
@@ -47,10 +47,7 @@ impl<F: Drop> OpenHandles<F> {
         ensures taken { IfSome result (λ file. IsTaken device file self.old self.new) }
         ensures none { IfNone result (HasNone device self.old × (self.new ≡ self.old)) }
     {
-        let place = self
-            .entries
-            .iter()
-            .position(|entry| entry.device == device)?;
+        let place = place_of(&self.entries, device)?;
         let entry = self.entries.remove(place)?;
         Some(entry.file)
     }
@@ -71,4 +68,12 @@ impl<F: Drop> OpenHandles<F> {
         self.make_room();
         self.entries.push_front_reserved(Entry { device, file });
     }
+}
+
+/// The place of a device's handle, where it is open.
+fn place_of<F>(entries: &VecDeque<Entry<F>>, device: u64) -> Option<usize>
+    ensures some { IfSome result (IsPlaceOf device entries.now.items) }
+    ensures none { IfNone result (All (λ entry. entry.device ≢ device) entries.now.items) }
+{
+    entries.iter().position(|entry| entry.device == device)
 }

@@ -1,5 +1,5 @@
-//! Calls devices of bytes, and stores of blocks on them, as the rows of `stdin` say, and prints what each call
-//! answers: `stdout` has what they are to answer. README.md tells the rows.
+//! Calls devices of bytes, and stores of blocks and logs of hints on them, as the rows of `stdin` say, and prints
+//! what each call answers: `stdout` has what they are to answer. README.md tells the rows.
 #![tactic(auto)]
 
 mod bytes;
@@ -7,11 +7,14 @@ mod calls;
 mod device;
 mod files;
 mod fixture;
+mod hints;
+mod logs;
 mod many;
 mod shop;
 mod stage;
 mod store;
 mod system;
+mod unreadable;
 mod words;
 
 use files::{clear_folder, new_folder};

@@ -1,19 +1,21 @@
 //! What the rows so far have made, and the first word of a row.
 
 use crate::device::{Device, device_row, put};
+use crate::logs::{Log, log_row};
 use crate::shop::{Shop, shop_row};
 use crate::store::{Store, store_row};
 use crate::system::Counts;
 use crate::words::{RowError, Words};
 use std::alloc::{AllocError, Global};
 
-/// What the rows work on: three devices, and a store, which takes the first of them.
+/// What the rows work on: three devices, and a store and a log, which take the first of them.
 #[derive(Drop)]
 pub struct Stage<'a> {
     first: Device<'a>,
     second: Device<'a>,
     third: Device<'a>,
     store: Store,
+    log: Log,
     shop: Shop<'a>,
 }
 
@@ -24,6 +26,7 @@ impl<'a> Stage<'a> {
             second: Device::Empty,
             third: Device::Empty,
             store: Store::Empty,
+            log: Log::Empty,
             shop: Shop::new(rt, counts, top),
         }
     }
@@ -86,6 +89,7 @@ impl<'a> Stage<'a> {
     fn row(&mut self, words: &mut Words, out: &mut String) -> Result<(), RowError> {
         match words.word() {
             "store" => self.store_row(words, out),
+            "log" => self.log_row(words, out),
             "system" => self.system_row(words, out),
             name => self.device_row(name, words, out),
         }
@@ -109,6 +113,11 @@ impl<'a> Stage<'a> {
     fn store_row(&mut self, words: &mut Words, out: &mut String) -> Result<(), RowError> {
         let alloc = self.shop.alloc();
         store_row(alloc, &mut self.store, &mut self.first, words, out)
+    }
+
+    fn log_row(&mut self, words: &mut Words, out: &mut String) -> Result<(), RowError> {
+        let alloc = self.shop.alloc();
+        log_row(alloc, &mut self.log, &mut self.first, words, out)
     }
 
     /// Another system. All devices that were there are gone.

@@ -5,6 +5,7 @@ ghost use Rattle.bt_hashreq.specs.Claim.{IsRunLength, HasShape, IsClaimBy, IsNoC
 
 use crate::key::HashKey;
 use bt_sparse::{Claim, Digests, MAX_RUN_LENGTH, ProofError};
+use bt_tree::tree_height;
 use std::alloc::Global;
 
 /// The height of the longest file's tree, 2^40 bytes.
@@ -73,8 +74,8 @@ fn run_height(length: u32) -> Option<u32>
     if length < 2 || length > MAX_RUN_LENGTH {
         return None;
     }
-    let height = length.ilog2();
-    if length == 1 << height {
+    let height = tree_height(length) as u32;
+    if length as u64 == 1 << height {
         Some(height)
     } else {
         None

@@ -1,5 +1,5 @@
 -- The files that a torrent is made of: their order, of which no path begins another, and their first refusal.
-use Rattle.bt_meta.proofs.Base.{◌≡◌, ℕ, ◌+◌, ◌<◌, ◌≤◌, Bool, false, List, [], ◌∷◌, length, map, refl, sym, ap, ◌∙◌, arith, ◌-◌, true, string_bytes, ◌&&◌, ◌||◌, ◌==◌, get_or, length-map, get_or-map, Bor, ordering_then, nat_cmp, is_lt, ordering_reverse, slice_cmp, nat_list_cmp_total, IsSortedBy, Ordering, Less, Equal, Greater, true≢false, or_parts, false_from_ne_true, nat_tests, bytes_eq-Decides, pointwise, nat_eq, is_eq-slice_cmp, cases_Bool, first_of, is_piece_length, with_earlier, Given, given_of, path_order, IsInTreeOrder, begins, HaveTreePaths, file_refusal, Made, given_at}
+use Rattle.bt_meta.proofs.Base.{inl, inr, unlawful, ◌≡◌, ℕ, ◌+◌, ◌<◌, ◌≤◌, Bool, false, List, [], ◌∷◌, length, map, refl, sym, ap, ◌∙◌, arith, ◌-◌, true, string_bytes, ◌&&◌, ◌||◌, ◌==◌, get_or, length-map, get_or-map, Bor, ordering_then, nat_cmp, is_lt, ordering_reverse, slice_cmp, nat_list_cmp_total, IsSortedBy, Ordering, Less, Equal, Greater, true≢false, or_parts, false_from_ne_true, nat_tests, bytes_eq-Decides, pointwise, nat_eq, is_eq-slice_cmp, cases_Bool, first_of, is_piece_length, with_earlier, Given, given_of, path_order, IsInTreeOrder, begins, HaveTreePaths, file_refusal, Made, given_at}
 use Rattle.std.proofs.Common.{◌↔◌}
 use Rattle.std.specs.Prelude.{String}
 use Rattle.std.specs.Global.{Global}
@@ -19,6 +19,8 @@ use Rattle.bt_meta.specs.GivenFiles.{is_before}
 use Rattle.bt_meta.specs.WriterRefusals.{refusal_of_files}
 use Rattle.bt_meta.proofs.Lists.{none_of}
 use Rattle.bt_meta.specs.Writer.{is_overlap, have_overlap, IsNotMade, no_memory}
+use Rattle.bt_meta.specs.WriterSteps.{Refuses}
+use Rattle.bt_meta.specs.declared.writer.MakeError.{MakeError}
 use Rattle.bt_meta.specs.declared.writer.MakeError.TheVariants.{OutOfMemory}
 
 -- ==== the files in tree order
@@ -158,3 +160,9 @@ pub files_refused : (piece_length : ℕ) (files : List Made) → true ≡ is_pie
     → refusal_of_files piece_length (map given_of files) ≡ first_of (with_earlier (file_refusal piece_length) [] (map given_of files))
 unfolding refusal_of_files
 files_refused piece_length files is some = rw (← is, length-map, ← some) refl
+
+pub files_unlawful : {name : List ℕ} {piece_length : ℕ} (files : List Made) → true ≡ is_piece_length piece_length → false ≡ (length files == 0)
+    → {e : MakeError} → Refuses (first_of (with_earlier (file_refusal piece_length) [] (map given_of files))) e
+    → IsNotMade name piece_length (map given_of files) e
+files_unlawful files lawful some (inl m) = rw m (memory_short files lawful some)
+files_unlawful files lawful some (inr k) = unlawful _ (files_refused _ files lawful some ∙ k)

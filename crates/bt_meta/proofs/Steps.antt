@@ -1,28 +1,17 @@
 -- The lemmas that close the steps of each function.
-use Rattle.bt_meta.proofs.Base.{data_of-Dict, data_of-Bytes, no_spelling, overlap, unlawful, nat_tests, length-map, take_all, err_from_is_err_and, is_utf8-from_IsUtf8, map-append, list_any-append, or-false}
-use Rattle.bt_meta.proofs.Checks.{first_of-append_some}
-use Rattle.bt_meta.proofs.Choices.{test_of_none, test_of_some}
-use Rattle.bt_meta.proofs.Dictionaries.{empty_key, entries_ascend, field_ascends, key_entries, nothing_ascends, single_entry}
+use Rattle.bt_meta.proofs.Base.{data_of-Dict, data_of-Bytes, no_spelling, unlawful, nat_tests, length-map, take_all, err_from_is_err_and, is_utf8-from_IsUtf8, map-append, list_any-append, or-false}
+use Rattle.bt_meta.proofs.Dictionaries.{entries_ascend, field_ascends, nothing_ascends, single_entry}
 use Rattle.bt_meta.proofs.EncodeValue.{lent_behind, tree_more, file_in, layers_of_known, layers_of_short, entries_push, opened_push, before_none, before_more}
-use Rattle.bt_meta.proofs.FileLayers.{files_with_layers, layer_differs, layer_right, layer_sized_wrong, pieces_after, faultless_at_end, next_refused, next_short, whole_at_end}
+use Rattle.bt_meta.proofs.FileLayers.{layer_differs, layer_right, layer_sized_wrong}
 use Rattle.bt_meta.proofs.MadeTree.{lent_short, ordered_named}
 use Rattle.bt_meta.proofs.MakeFiles.{apart_more, memory_short, none_overlap, overlap_found}
 use Rattle.bt_meta.proofs.ReadFiles.{ascends}
-use Rattle.bt_meta.proofs.ReadHead.{info_faults, metainfo_is, torrent_head_fault, torrent_layers, torrent_tree_fault}
 use Rattle.bt_meta.proofs.ReadRefusals.{value_refused}
-use Rattle.bt_meta.proofs.TreeWalk.{bad_name_stops, conflict_stops, entry_stops, file_entered, file_entry, file_passes, folder_many, folder_passes, key_at_top, no_file, no_node_stops, passes_nothing, start, tree_stops, no_folder, none_yet}
+use Rattle.bt_meta.proofs.TreeWalk.{key_at_top, no_file, start, tree_stops, no_folder, none_yet}
 use Rattle.bt_meta.specs.Reader.{too_long as text_too_long}
 use Rattle.std.proofs.lemmas.List.{nil_from_length, take_all, drop_all}
 use Rattle.std.proofs.lemmas.Str.{IsUtf8-from_is_utf8}
 use Rattle.bt_bencode.proofs.ValueData.{data_of-Int, data_of-List}
-
-pub ruleset info_in_steps = (err_from_is_err_and, first_of-append_some, info_faults, metainfo_is)
-
-pub ruleset torrent_in_steps = (err_from_is_err_and, torrent_head_fault, torrent_tree_fault, torrent_layers, metainfo_is, files_with_layers, pieces_after)
-
-pub ruleset enter_steps = (err_from_is_err_and, test_of_some, test_of_none, empty_key, key_entries, passes_nothing, no_node_stops, bad_name_stops, folder_many, folder_passes, entry_stops, file_entry, file_entered)
-
-pub ruleset add_file_steps = (err_from_is_err_and, conflict_stops, file_passes)
 
 pub ruleset read_tree_steps = (err_from_is_err_and, start, key_at_top, tree_stops, no_file)
 
@@ -53,8 +42,6 @@ pub ruleset read_steps = (err_from_is_err_and, text_too_long, no_spelling, value
 pub ruleset make_steps = (err_from_is_err_and, memory_short, unlawful, ordered_named, lent_short, length-map)
 
 pub ruleset check_steps = (layer_right, layer_sized_wrong, layer_differs)
-
-pub ruleset add_layers_of_steps = (err_from_is_err_and, whole_at_end, faultless_at_end, next_short, next_refused)
 
 pub ruleset walk_folder_steps = (data_of-Int, data_of-Bytes, data_of-List, no_folder, none_yet)
 

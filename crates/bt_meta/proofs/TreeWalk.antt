@@ -7,7 +7,7 @@ use Rattle.bt_meta.specs.Faults.{Check}
 use Rattle.bt_meta.specs.PropertySteps.{IsFileFacts, IsLengthConflict}
 use Rattle.bt_meta.specs.WalkSteps.{IsWalkOver, Walks, Stops, IsFileEntry, Enters, StopsAtEntry}
 use Rattle.bt_meta.specs.declared.walk.Walk.{Walk}
-use Rattle.bt_meta.specs.declared.error.MetaError.TheVariants.{RootConflict, BadPath}
+use Rattle.bt_meta.specs.declared.error.MetaError.TheVariants.{RootConflict, BadPath, OutOfMemory}
 use Rattle.bt_meta.proofs.Checks.{first_of-append, first_of-append_some}
 use Rattle.bt_meta.specs.Fields.{is_dictionary}
 use Rattle.bt_meta.proofs.Dictionaries.{nothing_below}
@@ -22,6 +22,9 @@ module _ (n : ℕ) (before : List TreeEntry) (p : TreeEntry) (node : is_node p.v
   pub folder_counted : {many : Bool} → is_file p ≡ false → is_too_many n before p ≡ many → entry_check n before p ≡ first_of (fault_if many TooMany ∷ [])
   folder_counted folder m = rw (m, node, name, folder) refl
 
+  pub file_faulty : is_file p ≡ true → {e : MetaError} → first_of (property_checks (properties_of p)) ≡ Some e → entry_check n before p ≡ Some e
+  file_faulty file fault = rw (node, name, file, first_of-append_some (property_checks (properties_of p)) _ _ fault) refl
+
   pub file_counted : is_file p ≡ true → first_of (property_checks (properties_of p)) ≡ None → {other many : Bool}
       → has_root_conflict (contents_of before) (content_of p) ≡ other
       → is_too_many n before p ≡ many → entry_check n before p ≡ first_of (first_of (fault_if other RootConflict ∷ []) ∷ fault_if many TooMany ∷ [])
@@ -35,6 +38,10 @@ with_earlier-append f before [] ys = ap (λ b. with_earlier f b ys) (sym (append
 with_earlier-append f before (x ∷ xs) ys = ap (λ r. f before x ∷ r) (with_earlier-append f (before ++ x ∷ []) xs ys ∙ rw (append_assoc _ _ _) refl)
 
 module _ {n : ℕ} {old : Walk} where
+  -- no memory is left
+  pub memory_stops : {entries : List TreeEntry} {e : MetaError} → e ≡ OutOfMemory → Stops n entries old e
+  memory_stops none = record { told = λ before h. inl none }
+
   pub passes_nothing : Passes n [] old old
   passes_nothing = record { told = λ before h. (rw (append-nil _) h, refl) }
 
@@ -153,6 +160,11 @@ unfolding has_lawful_length length_in
 lawful_is_short properties e = grind (arith, nat_tests)
 
 -- ---- a file
+
+-- its properties have a fault
+pub faulty_stops : {n : ℕ} {old : Walk} {path : List (List ℕ)} {name : List ℕ} {properties : Data} {p : TreeEntry}
+    → IsFileEntry path name properties p → {e : MetaError} → first_of (property_checks properties) ≡ Some e → Stops n (p ∷ []) old e
+faulty_stops {n} {p = p} at fault = walks_one (λ before h. inr (file_faulty n before p at.node at.named at.file (rw at.properties_are fault)))
 
 -- with this file there are too many elements, files or pieces
 abbrev are_many : ℕ → List (List ℕ) → Walk → FileFacts → Bool

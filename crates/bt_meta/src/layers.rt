@@ -57,7 +57,6 @@ fn layer_entries(torrent: &Value) -> &[(Vec<u8>, Value)]
 }
 
 /// Gives each file that is longer than a piece its layer, out of these entries.
-#[tactic(auto, using(crate::proofs::Steps::add_layers_of_steps))]
 fn add_layers_of(
     alloc: Global,
     files: &mut [FileEntry],

@@ -58,7 +58,7 @@ pub fn read_info(alloc: Global, bytes: &[u8]) -> Result<Torrent, MetaError>
 }
 
 /// The torrent that the value describes, which the text spells.
-#[tactic(auto, using(crate::proofs::Steps::torrent_in_steps), unfolding(crate::specs::Faults::first_fault, crate::specs::Faults::info_of))]
+#[tactic(auto, unfolding(crate::specs::Faults::first_fault, crate::specs::Faults::info_of))]
 fn torrent_in(alloc: Global, value: &Value, text: &[u8]) -> Result<Torrent, MetaError>
     requires ascending { HasAscendingKeys (data_of value.now) }
     requires spelled { spelling_of (data_of value.now) ≡ text.now }
@@ -80,7 +80,7 @@ fn torrent_in(alloc: Global, value: &Value, text: &[u8]) -> Result<Torrent, Meta
 }
 
 /// The torrent that the value, which the text spells, describes as its `info`.
-#[tactic(auto, using(crate::proofs::Steps::info_in_steps), unfolding(crate::specs::Faults::first_info_fault))]
+#[tactic(auto, unfolding(crate::specs::Faults::first_info_fault))]
 fn info_in(alloc: Global, info: &Value, text: &[u8]) -> Result<Torrent, MetaError>
     requires ascending { HasAscendingKeys (data_of info.now) }
     requires spelled { spelling_of (data_of info.now) ≡ text.now }

@@ -108,7 +108,6 @@ fn walk_folder(
 }
 
 /// Tests an entry of a folder with this path. A file is put to the others; of a folder the path is returned.
-#[tactic(auto, using(crate::proofs::Steps::enter_steps))]
 fn enter(
     alloc: Global,
     walk: &mut Walk,
@@ -166,7 +165,6 @@ fn node_of(value: &Value) -> Option<Node<'_>>
 }
 
 /// Puts a file with these properties to those of the walk.
-#[tactic(auto, using(crate::proofs::Steps::add_file_steps))]
 fn add_file(
     alloc: Global,
     walk: &mut Walk,

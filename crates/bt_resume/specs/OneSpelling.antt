@@ -43,15 +43,17 @@ same_parts p q r s same e = (
   sym (drop_at p r (length p) refl) ∙ ap (λ xs. drop (length p) xs) e ∙ drop_at q s (length p) (sym same),
 )
 
-same_digests : (ds es : List (List ℕ)) (x y : List ℕ) → All IsWhole ds → All IsWhole es → length ds ≡ length es
-    → joined ds ++ x ≡ joined es ++ y → (ds ≡ es) × (x ≡ y)
+same_digests : (ds es : List (List ℕ)) (x y : List ℕ) → All IsWhole ds → All IsWhole es
+    → length ds ≡ length es → joined ds ++ x ≡ joined es ++ y → (ds ≡ es) × (x ≡ y)
 same_digests [] [] x y p q size e = (refl, e)
 same_digests [] (b ∷ es) x y p q size e = absurd (omega (arith, size))
 same_digests (a ∷ ds) [] x y p q size e = absurd (omega (arith, size))
 same_digests (a ∷ ds) (b ∷ es) x y p q size e =
     let one : length a ≡ length b = All-head IsWhole a ds p ∙ sym (All-head IsWhole b es q) in
-    let first = same_parts a b (joined ds ++ x) (joined es ++ y) one (sym (append_assoc a (joined ds) x) ∙ e ∙ append_assoc b (joined es) y) in
-    let behind = same_digests ds es x y (All-tail IsWhole a ds p) (All-tail IsWhole b es q) (omega (arith, size)) first.1 in
+    let first = same_parts a b (joined ds ++ x) (joined es ++ y) one
+    (sym (append_assoc a (joined ds) x) ∙ e ∙ append_assoc b (joined es) y) in
+    let behind = same_digests ds es x y (All-tail IsWhole a ds p) (All-tail IsWhole b es q)
+    (omega (arith, size)) first.1 in
     (ap (λ d. d ∷ ds) first.0 ∙ ap (λ xs. b ∷ xs) behind.0, behind.1)
 
 -- ---- keys and numbers
@@ -64,31 +66,39 @@ key_size k is =
       length-append k.root (to_be_bytes w32 k.base),
       length-append (k.root ++ to_be_bytes w32 k.base) (to_be_bytes w32 k.index),
       length-append (k.root ++ to_be_bytes w32 k.base ++ to_be_bytes w32 k.index) (to_be_bytes w32 k.length),
-      length-append (k.root ++ to_be_bytes w32 k.base ++ to_be_bytes w32 k.index ++ to_be_bytes w32 k.length) (to_be_bytes w32 k.layers),
+      length-append (k.root ++ to_be_bytes w32 k.base ++ to_be_bytes w32 k.index ++ to_be_bytes w32 k.length)
+          (to_be_bytes w32 k.layers),
     )
 
 same_number : (n m : ℕ) → n < 2 ^ 32 → m < 2 ^ 32 → to_be_bytes w32 n ≡ to_be_bytes w32 m → n ≡ m
 same_number n m n-fits m-fits e =
-    sym (from_be_bytes-to_be_bytes_4 n n-fits) ∙ ap (λ xs. from_be_bytes w32 xs) e ∙ from_be_bytes-to_be_bytes_4 m m-fits
+    sym (from_be_bytes-to_be_bytes_4 n n-fits) ∙ ap (λ xs. from_be_bytes w32 xs) e
+    ∙ from_be_bytes-to_be_bytes_4 m m-fits
 
 -- ---- a hint's bytes tell it, whatever follows
 
-same_proof : (k l : HashKey) (ds es : List (List ℕ)) (x y : List ℕ) → IsHint (Proof k ds) → IsHint (Proof l es)
-    → (key_spelling k ++ joined ds) ++ x ≡ (key_spelling l ++ joined es) ++ y → (Proof k ds ≡ Proof l es) × (x ≡ y)
+same_proof : (k l : HashKey) (ds es : List (List ℕ)) (x y : List ℕ)
+    → IsHint (Proof k ds) → IsHint (Proof l es)
+    → (key_spelling k ++ joined ds) ++ x ≡ (key_spelling l ++ joined es) ++ y
+    → (Proof k ds ≡ Proof l es) × (x ≡ y)
 same_proof k l ds es x y p q e =
     let size = key_size k p.typed.0 ∙ sym (key_size l q.typed.0) in
     let front = same_parts (key_spelling k) (key_spelling l) (joined ds ++ x) (joined es ++ y) size
     (sym (append_assoc (key_spelling k) (joined ds) x) ∙ e ∙ append_assoc (key_spelling l) (joined es) y) in
     let key : k ≡ l = spells_one_key k l p.typed.0 q.typed.0 front.0 in
-    let count : length ds ≡ length es = p.readable.1 ∙ ap (λ (h : HashKey). answer_size h.length h.layers) key ∙ sym q.readable.1 in
+    let count : length ds ≡ length es =
+    p.readable.1 ∙ ap (λ (h : HashKey). answer_size h.length h.layers) key ∙ sym q.readable.1 in
     let behind = same_digests ds es x y p.typed.1 q.typed.1 count front.1 in
     (ap (λ h. Proof h ds) key ∙ ap (λ xs. Proof l xs) behind.0, behind.1)
 
 same_mark : (f g b c : ℕ) (x y : List ℕ) → IsHint (Mark f b) → IsHint (Mark g c)
-    → (to_be_bytes w32 f ++ to_be_bytes w32 b) ++ x ≡ (to_be_bytes w32 g ++ to_be_bytes w32 c) ++ y → (Mark f b ≡ Mark g c) × (x ≡ y)
+    → (to_be_bytes w32 f ++ to_be_bytes w32 b) ++ x ≡ (to_be_bytes w32 g ++ to_be_bytes w32 c) ++ y
+    → (Mark f b ≡ Mark g c) × (x ≡ y)
 same_mark f g b c x y p q e =
-    let first = same_parts (to_be_bytes w32 f) (to_be_bytes w32 g) (to_be_bytes w32 b ++ x) (to_be_bytes w32 c ++ y) refl
-    (sym (append_assoc (to_be_bytes w32 f) (to_be_bytes w32 b) x) ∙ e ∙ append_assoc (to_be_bytes w32 g) (to_be_bytes w32 c) y) in
+    let first = same_parts (to_be_bytes w32 f) (to_be_bytes w32 g)
+    (to_be_bytes w32 b ++ x) (to_be_bytes w32 c ++ y) refl
+    (sym (append_assoc (to_be_bytes w32 f) (to_be_bytes w32 b) x) ∙ e
+    ∙ append_assoc (to_be_bytes w32 g) (to_be_bytes w32 c) y) in
     let second = same_parts (to_be_bytes w32 b) (to_be_bytes w32 c) x y refl first.1 in
     let file : f ≡ g = same_number f g p.typed.0 q.typed.0 first.0 in
     let block : b ≡ c = same_number b c p.typed.1 q.typed.1 second.0 in
@@ -97,7 +107,8 @@ same_mark f g b c x y p q e =
 first_byte : (a b : ℕ) (x y : List ℕ) → a ∷ x ≡ b ∷ y → a ≡ b
 first_byte a b x y e = ap (λ xs. get_or xs 0 0) e
 
-pub same_hint : (a b : Hint) (x y : List ℕ) → IsHint a → IsHint b → hint_spelling a ++ x ≡ hint_spelling b ++ y → (a ≡ b) × (x ≡ y)
+pub same_hint : (a b : Hint) (x y : List ℕ) → IsHint a → IsHint b
+    → hint_spelling a ++ x ≡ hint_spelling b ++ y → (a ≡ b) × (x ≡ y)
 same_hint (Proof k ds) (Proof l es) x y p q e = same_proof k l ds es x y p q (ap (λ xs. drop 1 xs) e)
 same_hint (Mark f b) (Mark g c) x y p q e = same_mark f g b c x y p q (ap (λ xs. drop 1 xs) e)
 same_hint (Proof k ds) (Mark g c) x y p q e = absurd (omega (arith, first_byte _ _ _ _ e))
@@ -112,12 +123,24 @@ hint_is_some (Proof k ds) is = omega arith
 one_list : (a b : List Hint) → All IsHint a → All IsHint b → hints_spelling a ≡ hints_spelling b → a ≡ b
 one_list [] [] p q e = refl
 one_list [] (b ∷ bs) p q e =
-    absurd (omega (arith, ap length e, length-append (hint_spelling b) (hints_spelling bs), hint_is_some b (All-head IsHint b bs q)))
+    absurd (omega (
+      arith,
+      ap length e,
+      length-append (hint_spelling b) (hints_spelling bs),
+      hint_is_some b (All-head IsHint b bs q),
+    ))
 one_list (a ∷ xs) [] p q e =
-    absurd (omega (arith, ap length e, length-append (hint_spelling a) (hints_spelling xs), hint_is_some a (All-head IsHint a xs p)))
+    absurd (omega (
+      arith,
+      ap length e,
+      length-append (hint_spelling a) (hints_spelling xs),
+      hint_is_some a (All-head IsHint a xs p),
+    ))
 one_list (a ∷ xs) (b ∷ bs) p q e =
-    let first = same_hint a b (hints_spelling xs) (hints_spelling bs) (All-head IsHint a xs p) (All-head IsHint b bs q) e in
-    ap (λ h. h ∷ xs) first.0 ∙ ap (λ l. b ∷ l) (one_list xs bs (All-tail IsHint a xs p) (All-tail IsHint b bs q) first.1)
+    let first = same_hint a b (hints_spelling xs) (hints_spelling bs)
+    (All-head IsHint a xs p) (All-head IsHint b bs q) e in
+    let behind = one_list xs bs (All-tail IsHint a xs p) (All-tail IsHint b bs q) first.1 in
+    ap (λ h. h ∷ xs) first.0 ∙ ap (λ l. b ∷ l) behind
 
 number_set : IsSet ℕ
 number_set = Coded-set coded_ℕ
@@ -134,4 +157,5 @@ AreSpelled-prop bytes hints =
     ×_prop (Π_prop (λ k. Π_prop (λ d. Π_prop (λ l. IsHint-prop _)))) (bytes_set bytes (hints_spelling hints))
 
 pub IsSpelling-prop : (bytes : List ℕ) → IsProp (IsSpelling bytes)
-IsSpelling-prop bytes a b = Σ_prop_path (AreSpelled-prop bytes) (one_list a.0 b.0 a.1.0 b.1.0 (sym a.1.1 ∙ b.1.1))
+IsSpelling-prop bytes a b =
+    Σ_prop_path (AreSpelled-prop bytes) (one_list a.0 b.0 a.1.0 b.1.0 (sym a.1.1 ∙ b.1.1))

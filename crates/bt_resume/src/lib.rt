@@ -19,6 +19,3 @@ pub use law::{
     logs_keep_hints,
 };
 pub use resume_log::ResumeLog;
-
-#[cfg(test)]
-mod tests;

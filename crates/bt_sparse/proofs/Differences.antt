@@ -1,11 +1,10 @@
 -- What the pairs of a claim show of a tree: whether their padding is right, and the highest difference.
-use Rattle.std.proofs.Common.{◌≡◌, ℕ, ◌+◌, ◌-◌, ◌*◌, ◌/◌, ◌<◌, ◌≤◌, ◌⊎◌, inl, inr, Bool, true, false, eqb, ltb, cond, ◌||◌, ◌&&◌, List, [], ◌∷◌, ◌++◌, length, take, get_or, Option, Some, None, refl, sym, ◌∙◌, subst, append-nil, replicate, arith}
-use borrow.Rule.Slice.PartMut.{put_mid}
+use Rattle.std.proofs.Common.{◌≡◌, ℕ, ◌+◌, ◌-◌, ◌*◌, ◌/◌, ◌<◌, ◌≤◌, ◌⊎◌, inl, inr, Bool, true, false, eqb, ltb, cond, ◌||◌, ◌&&◌, List, [], ◌∷◌, ◌++◌, length, take, get_or, Option, Some, None, refl, sym, ◌∙◌, subst, arith}
 use Rattle.std.specs.List.{All}
 use Rattle.std.specs.Option.{unwrap_or, MatchOption, IfSome}
 use Rattle.std.proofs.lemmas.Bool.Decides.{nat_tests}
 use Rattle.std.proofs.lemmas.List.Elements.{All-more, All-weaker, Contains-append_left, Contains-push}
-use Rattle.std.proofs.lemmas.List.{take_at, take_more, drop_at, drop_all}
+use Rattle.std.proofs.lemmas.List.{take_more}
 use Rattle.bt_tree.specs.TreeShape.{real_width, IsPadding}
 use Rattle.bt_sparse.specs.declared.expansion.ClaimedPair.{ClaimedPair}
 use Rattle.bt_sparse.specs.declared.acceptance.Difference.{Difference}
@@ -17,13 +16,6 @@ use Rattle.bt_sparse.proofs.Values.{value_covers, value_padding, value_inside, c
 -- what a list has past its end, in goals
 abbrev pub no_pair : ClaimedPair
 no_pair = record { layer = 0; index = 0; left = []; right = [] }
-
--- the second half of 64 bytes is written
-pub second_half : (xs ys : List ℕ) → length xs ≡ 32 → put_mid 32 32 (xs ++ replicate 32 0) ys ≡ xs ++ ys
-second_half xs ys size = general 32 32 (replicate 32 0) size refl
-  where
-    general : (a k : ℕ) (zs : List ℕ) → length xs ≡ a → length zs ≡ k → put_mid a k (xs ++ zs) ys ≡ xs ++ ys
-    general a k zs p q = rw (take_at xs zs a p, drop_at xs zs a p, drop_all k zs (omega arith), append-nil ys) refl
 
 -- ---- one pair
 pub no_left : (dig : List ℕ → List ℕ) (k : Facts) (p : ClaimedPair) → IsPairIn (height k) p → IsPadded dig (blocks_of k) p

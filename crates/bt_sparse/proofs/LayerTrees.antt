@@ -19,7 +19,7 @@ chunk_length zero i bytes lt room = absurd (omega arith)
 chunk_length (suc count) zero bytes lt room = omega (arith, length-take 32 bytes)
 chunk_length (suc count) (suc i) bytes lt room = chunk_length count i _ (omega arith) (omega (arith, length-drop 32 bytes))
 
-chunk_count : (count : ℕ) (bytes : List ℕ) → length (first_chunks 32 count bytes) ≡ count
+pub chunk_count : (count : ℕ) (bytes : List ℕ) → length (first_chunks 32 count bytes) ≡ count
 chunk_count zero bytes = refl
 chunk_count (suc count) bytes = ap (λ n. suc n) (chunk_count count _)
 

@@ -11,11 +11,11 @@ ghost use Rattle.bt_sparse.specs.ExpansionSteps.{IsPairOf};
 ghost use Rattle.bt_sparse.specs.AcceptanceSteps.{IsPairIn, IsPadded, HasNoDifference, IsDifference, higher_of, IsHighestOf, IsPut, AgreesAt, IsGrownBy, HangsFrom, IsExpandedClaim, HasPlaces};
 
 use crate::claim::{Claim, ProofError};
-use crate::expansion::{ClaimedPair, Expansion, expand_covered, has_shape, input, top_of};
+use crate::expansion::{ClaimedPair, Expansion, expand_covered, has_shape, top_of};
 use crate::node_map::NodeMap;
 use crate::padding::{are_uncles_padded, is_run_padded};
 use crate::sparse_tree::SparseTree;
-use bt_tree::{Geometry, Hash32, NodeHash};
+use bt_tree::{Geometry, Hash32, NodeHash, pair_bytes};
 use std::alloc::AllocError;
 
 /// A pair of siblings that a claim names, and the tree's digests of the two, of which one or both differ.
@@ -77,8 +77,8 @@ impl<H: NodeHash> SparseTree<H> {
             return Err(ProofError::Clash {
                 layer: found.pair.layer + 1,
                 index: found.pair.index,
-                ours: input(&found.left, &found.right),
-                theirs: input(&found.pair.left, &found.pair.right),
+                ours: pair_bytes(&found.left, &found.right),
+                theirs: pair_bytes(&found.pair.left, &found.pair.right),
             });
         }
         Ok(expansion)

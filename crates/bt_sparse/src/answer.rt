@@ -6,10 +6,10 @@ ghost use Rattle.bt_sparse.specs.SparseTree.{blocks_of, height, value_at, IsSoun
 ghost use Rattle.bt_sparse.specs.declared.answer.AnswerError.TheVariants.{OutOfMemory as out_of_memory};
 ghost use Rattle.bt_sparse.specs.Answer.{IsRequest, IsAnswer, HasUnknown, KnowsAll, HasRoom, answer_size, answer_layer, answer_index};
 
-use crate::expansion::{run_height, sibling};
+use crate::expansion::sibling;
 use crate::padding::Padding;
 use crate::sparse_tree::SparseTree;
-use bt_tree::{Hash32, NodeHash};
+use bt_tree::{Hash32, NodeHash, tree_height};
 use std::alloc::AllocError;
 use thiserror::Error;
 
@@ -58,7 +58,7 @@ impl Request {
             return false;
         }
         let rest = height - self.base;
-        let above = run_height(self.length) as u32;
+        let above = tree_height(self.length) as u32;
         self.length as u64 == 1 << above
             && self.index % self.length == 0
             && above <= rest
@@ -72,7 +72,7 @@ impl Request {
         requires high { self.height ≤ max_height }
         ensures { result ≡ answer_size self.length self.layers }
     {
-        let above = run_height(self.length) as u32;
+        let above = tree_height(self.length) as u32;
         self.length + self.layers.saturating_sub(above - 1)
     }
 
@@ -87,7 +87,7 @@ impl Request {
         if t < self.length {
             return (self.base, self.index + t);
         }
-        let above = run_height(self.length) as u32;
+        let above = tree_height(self.length) as u32;
         let up = t - self.length;
         (self.base + above + up, sibling(self.index >> above >> up))
     }

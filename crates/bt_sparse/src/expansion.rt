@@ -1,4 +1,4 @@
-ghost use Rattle.std.specs.Prelude.{◌≡◌, ℕ, List, [], slice_index_or, ◌*◌, ◌/◌, ◌+◌, ◌%◌, ◌++◌, ◌<◌, ◌≤◌, ◌==◌, ◌↔◌, if◌then◌else◌, IsTrue, IfOk, OnOk, length};
+ghost use Rattle.std.specs.Prelude.{◌≡◌, ℕ, List, [], ◌*◌, ◌/◌, ◌+◌, ◌%◌, ◌++◌, ◌<◌, ◌≤◌, ◌==◌, ◌↔◌, if◌then◌else◌, IsTrue, IfOk, OnOk, length};
 ghost use Rattle.bt_tree.specs.Limits.{max_block_count, max_height};
 ghost use Rattle.bt_tree.specs.Blocks.{block_count};
 ghost use Rattle.bt_tree.specs.TreeShape.{height_of};
@@ -10,7 +10,7 @@ ghost use Rattle.bt_sparse.specs.PaddingSteps.{HasPaddedRun};
 
 use crate::claim::Claim;
 use crate::padding::Padding;
-use bt_tree::{Geometry, Hash32, NodeHash};
+use bt_tree::{Geometry, Hash32, NodeHash, eight_parents, tree_height};
 use std::alloc::{AllocError, Global};
 
 /// Two siblings that a claim names, in layer `layer`, below node `index` of the next one.
@@ -30,15 +30,6 @@ pub(crate) struct Expansion {
     pub(crate) top_digest: Hash32,
 }
 
-/// How many layers lie between a run of this many nodes and the one node above it.
-pub(crate) fn run_height(count: u32) -> u8
-    requires { 0 < count }
-    ensures value { result ≡ height_of count }
-    ensures limit { result ≤ 32 }
-{
-    (u32::BITS - (count - 1).leading_zeros()) as u8
-}
-
 /// Whether a claim has the shape of one in a tree of this height.
 pub(crate) fn has_shape(height: u8, claim: &Claim) -> bool
     requires { height ≤ max_height }
@@ -53,7 +44,7 @@ pub(crate) fn has_shape(height: u8, claim: &Claim) -> bool
     if count < 2 || count > 1 << rest || uncles > rest as usize {
         return false;
     }
-    let layers = run_height(count as u32);
+    let layers = tree_height(count as u32);
     count == 1 << layers
         && claim.index as usize % count == 0
         && claim.index as usize + count <= 1 << rest
@@ -67,7 +58,7 @@ pub(crate) fn top_of(claim: &Claim) -> (u32, u32)
     ensures layer { result.0 ≡ top_layer claim.now }
     ensures index { result.1 ≡ top_node claim.now }
 {
-    let layers = run_height(claim.run.as_slice().len() as u32) as u32;
+    let layers = tree_height(claim.run.as_slice().len() as u32) as u32;
     let uncles = claim.uncles.as_slice().len() as u32;
     let node = claim.index >> layers;
     (claim.base + layers + uncles, node >> uncles)
@@ -88,7 +79,7 @@ pub(crate) fn expand_covered<H: NodeHash>(
     ensures { IfOk result (IsExpansion H.digest (block_count geometry) claim.now) }
 {
     let count = claim.run.as_slice().len();
-    let layers = run_height(count as u32);
+    let layers = tree_height(count as u32);
     let covered = covered_count(geometry, claim);
     // The run's layers have this many pairs at most.
     let most = (covered + layers as usize).min(count - 1);
@@ -210,7 +201,7 @@ pub(crate) fn parents<H: NodeHash>(
 }
 
 /// Adds the digests of the pairs in whole eights.
-#[tactic(auto, using(crate::proofs::Parents::no_parents, crate::proofs::Parents::eight_more))]
+#[tactic(auto, using(crate::proofs::Parents::no_parents))]
 fn add_eights<H: NodeHash>(
     hash: H,
     above: &mut Vec<Hash32>,
@@ -219,37 +210,11 @@ fn add_eights<H: NodeHash>(
     requires { above.old.items ≡ [] }
     ensures { OnOk result (AreParents H.digest nodes.now above.new.items (length nodes.now / 2 / 8 * 8)) }
 {
-    for eight in 0..nodes.len() / 2 / 8 {
-        let digests = hash.pairs8(&inputs(nodes, 8 * eight));
-        above.extend_from_slice(&digests)?;
+    let (sixteens, _) = nodes.as_chunks::<16>();
+    for sixteen in sixteens {
+        above.extend_from_slice(&eight_parents(hash, sixteen))?;
     }
     Ok(())
-}
-
-/// The inputs of eight parents, from this one on.
-fn inputs(nodes: &[Hash32], first: usize) -> [[u8; 64]; 8]
-    requires { 2 * first + 16 ≤ length nodes.now }
-    ensures { (j : ℕ) → j < 8 → slice_index_or result j []
-        ≡ slice_index_or nodes.now (2 * (first + j)) [] ++ slice_index_or nodes.now (2 * (first + j) + 1) [] }
-{
-    let mut inputs = [[0; 64]; 8];
-    for j in 0..8usize {
-        inputs[j] = input(&nodes[2 * (first + j)], &nodes[2 * (first + j) + 1]);
-    }
-    inputs
-}
-
-/// The 64 bytes of two digests.
-#[tactic(auto, using(crate::proofs::Differences::second_half))]
-pub(crate) fn input(left: &Hash32, right: &Hash32) -> [u8; 64]
-    ensures value { result ≡ left.now ++ right.now }
-    ensures left { length left.now ≡ 32 }
-    ensures right { length right.now ≡ 32 }
-{
-    let mut bytes = [0; 64];
-    bytes[..32].copy_from_slice(&left[..]);
-    bytes[32..].copy_from_slice(&right[..]);
-    bytes
 }
 
 /// Adds the pairs on the path from the run's top up, whose digest this is, and returns the digest of the

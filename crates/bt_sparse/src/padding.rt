@@ -7,8 +7,8 @@ ghost use Rattle.bt_sparse.specs.Claim.{HasShape};
 ghost use Rattle.bt_sparse.specs.PaddingSteps.{HasPaddedRun, HasPaddedUncles};
 
 use crate::claim::Claim;
-use crate::expansion::{run_height, sibling};
-use bt_tree::{Geometry, Hash32, NodeHash, pad};
+use crate::expansion::sibling;
+use bt_tree::{Geometry, Hash32, NodeHash, pad, tree_height};
 use std::marker::Model;
 
 /// The digest of the padding at a layer, from which those of the layers above come as they are needed.
@@ -87,7 +87,7 @@ pub(crate) fn are_uncles_padded<H: NodeHash>(hash: H, geometry: Geometry, claim:
     requires high { height_of (block_count geometry) ≤ max_height }
     ensures { IsTrue result ↔ HasPaddedUncles H.digest (block_count geometry) claim.now }
 {
-    let layers = run_height(claim.run.as_slice().len() as u32);
+    let layers = tree_height(claim.run.as_slice().len() as u32);
     let mut node = claim.index >> layers;
     let mut layer = claim.base as u8 + layers;
     let mut padding = Padding::new(hash);

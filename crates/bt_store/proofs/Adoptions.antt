@@ -1,6 +1,8 @@
 -- What the reads of a group come to.
-use Rattle.std.proofs.Common.{◌≡◌, ◌≢◌, ℕ, ◌+◌, ◌-◌, ◌%◌, ◌^◌, ◌<◌, ◌≤◌, inl, inr, List, [], ◌++◌, map, length, replicate, refl, sym, ap, ◌∙◌, subst, arith}
+use Rattle.std.proofs.Common.{◌≡◌, ◌≢◌, ℕ, ◌+◌, ◌-◌, ◌%◌, ◌^◌, ◌<◌, ◌≤◌, inl, inr, List, [], ◌++◌, map, length, take, drop, replicate, refl, sym, ap, ◌∙◌, subst, arith}
 use Rattle.std.specs.List.{count_by}
+use Rattle.std.proofs.lemmas.List.{take-append-le}
+use Rattle.std.proofs.Math.Seq.{take-length}
 use Rattle.bt_tree.specs.Tree.{padding_digest}
 use Rattle.bt_disk.specs.History.{History}
 use Rattle.bt_disk.specs.Calls.{HasCalls}
@@ -14,7 +16,8 @@ use Rattle.bt_sparse.specs.declared.claim.ProofError.TheVariants.{OutOfMemory}
 use Rattle.bt_store.specs.FileStore.{StoreView}
 use Rattle.bt_store.specs.BlockReads.{BlockRead, call_of}
 use Rattle.bt_store.specs.Adoption.{Adopts, none as at_end, known, IsUnknownGroup, claimed_digest, is_whole, leaf_claim, claim_of_reads, marked_group, AreWhole, accepted, refused, short, unread, IsAdopted, StopsAdopting}
-use Rattle.bt_store.specs.GroupsSteps.{IsGroupRead}
+use Rattle.bt_store.specs.AdoptionSteps.{AdoptsGroup}
+use Rattle.bt_store.specs.GroupsSteps.{AreGroupReads, IsGroupRead}
 use Rattle.bt_store.specs.declared.adoption.Adopted.{Adopted}
 use Rattle.bt_store.specs.declared.block_states.BlockState.{BlockState}
 use Rattle.bt_store.specs.declared.groups.ReadTally.{ReadTally}
@@ -36,24 +39,6 @@ module _ {D : Type 0} (history : D → History) (honest : D → Type 0) (faults 
 
 module _ {D : Type 0} (history : D → History) (honest : D → Type 0) (faults : D → ℕ) (dig : List ℕ → List ℕ) (k : Facts) (from anchor first count : ℕ)
     (old new : StoreView D) (reads : List BlockRead) (tally : ReadTally) (digests : List (List ℕ)) where
-  whole_reads : old.file_length ≡ k.file_length → IsGroupRead history honest faults dig old.file_length first count (2 ^ anchor) old.disk reads tally new.disk digests
-      → count ≤ tally.whole → AreWhole k.file_length first count reads
-  whole_reads same read all =
-      let limit = (group_limits history honest faults dig old.file_length first (2 ^ anchor) count old.disk new.disk reads tally digests read).0 in
-      record {
-        blocks = read.in_order;
-        whole = ap (λ n. count_by (is_whole n) reads) (sym same) ∙ sym read.whole ∙ omega (arith, limit, all);
-      }
-
-  claim_is : old.file_length ≡ k.file_length → IsGroupRead history honest faults dig old.file_length first count (2 ^ anchor) old.disk reads tally new.disk digests
-      → leaf_claim first digests ≡ claim_of_reads dig k.file_length anchor first reads
-  claim_is same read =
-      let size : length reads ≡ count = group_size history honest faults dig old.file_length first (2 ^ anchor) count old.disk new.disk reads tally digests read in
-      ap (leaf_claim first) (
-      read.claims ∙ ap (λ n. map (claimed_digest dig n) reads ++ replicate (2 ^ anchor - count) (padding_digest dig 0)) same
-      ∙ ap (λ n. map (claimed_digest dig k.file_length) reads ++ replicate (2 ^ anchor - n) (padding_digest dig 0)) (sym size)
-      )
-
   pub stops_after : IsUnknownGroup k from anchor first count → IsGroupRead history honest faults dig old.file_length first count (2 ^ anchor) old.disk reads tally new.disk digests
       → new ≡ record old { disk = new.disk } → StopsAdopting history honest faults dig k from old reads new
   stops_after group read others = record {
@@ -62,53 +47,65 @@ module _ {D : Type 0} (history : D → History) (honest : D → Type 0) (faults 
     first = first;
     count = count;
     group = group;
-    in_order = inr read.in_order;
+    in_order = inr read.are.in_order;
     others = others;
   }
 
-  pub adopts_unread : IsUnknownGroup k from anchor first count → IsGroupRead history honest faults dig old.file_length first count (2 ^ anchor) old.disk reads tally new.disk digests
-      → new ≡ record old { disk = new.disk } → 0 < tally.faults
-      → IsAdopted history honest faults dig k from old reads (record { next = first + count; anchor = 0; marked = 0; faults = tally.faults }) k new
-  adopts_unread group read others some = record {
-    calls = read.calls;
-    adopts = rw (read.failed, ap (λ s. s.states) others) (unread anchor first count reads group read.in_order (subst (λ n. 0 < n) read.failed some));
-    same_file = ap (λ s. s.file_length) others;
+  -- what became of it
+  pub adopts_by : (after : StoreView D) (adopted : Adopted) (grown : Facts) → IsUnknownGroup k from anchor first count
+      → IsGroupRead history honest faults dig old.file_length first count (2 ^ anchor) old.disk reads tally new.disk digests
+      → new ≡ record old { disk = new.disk } → after ≡ record new { states = after.states }
+      → AdoptsGroup dig new.file_length k anchor first count new.states digests tally adopted grown after.states
+      → IsAdopted history honest faults dig k from old reads adopted grown after
+  adopts_by after adopted grown group read others claimed adopts = record {
+    calls = subst (λ d. HasCalls history honest faults old.disk (map (call_of old.file_length) reads) d) (sym (ap (λ s. s.disk) claimed)) read.calls;
+    adopts = subst (λ s. Adopts dig k from s reads adopted grown after.states) (ap (λ s. s.states) others)
+        (adopts from reads group (subst (λ n. AreGroupReads dig n first count (2 ^ anchor) reads tally digests) (sym (ap (λ s. s.file_length) others)) read.are));
+    same_file = ap (λ s. s.file_length) claimed ∙ ap (λ s. s.file_length) others;
   }
 
-  pub adopts_short : IsUnknownGroup k from anchor first count → old.file_length ≡ k.file_length
-      → IsGroupRead history honest faults dig old.file_length first count (2 ^ anchor) old.disk reads tally new.disk digests
-      → new ≡ record old { disk = new.disk } → tally.faults ≡ 0 → tally.whole < count
-      → IsAdopted history honest faults dig k from old reads (record { next = first + count; anchor = anchor; marked = 0; faults = tally.faults }) k new
-  adopts_short group same read others none few = record {
-    calls = read.calls;
-    adopts = rw (none, ap (λ s. s.states) others) (short anchor first count reads group read.in_order (sym read.failed ∙ none)
-        (subst (λ n. count_by (is_whole n) reads < count) same (subst (λ n. n < count) read.whole few)));
-    same_file = ap (λ s. s.file_length) others;
-  }
+module _ (dig : List ℕ → List ℕ) (n : ℕ) (k : Facts) (from anchor first count : ℕ) (states : List BlockState) (reads : List BlockRead) (tally : ReadTally)
+    (digests : List (List ℕ)) (same : n ≡ k.file_length) (group : IsUnknownGroup k from anchor first count)
+    (are : AreGroupReads dig n first count (2 ^ anchor) reads tally digests) where
+  whole_reads : count ≤ tally.whole → AreWhole k.file_length first count reads
+  whole_reads all =
+      let limit = (group_limits dig n first (2 ^ anchor) count reads tally digests are).0 in
+      record {
+        blocks = are.in_order;
+        whole = ap (λ n. count_by (is_whole n) reads) (sym same) ∙ sym are.whole ∙ omega (arith, limit, all);
+      }
 
-  pub adopts_refused : IsUnknownGroup k from anchor first count → old.file_length ≡ k.file_length
-      → IsGroupRead history honest faults dig old.file_length first count (2 ^ anchor) old.disk reads tally new.disk digests
-      → new ≡ record old { disk = new.disk } → tally.faults ≡ 0 → count ≤ tally.whole
-      → (error : ProofError) → IsRefused dig k (leaf_claim first digests) error → error ≢ OutOfMemory
-      → IsAdopted history honest faults dig k from old reads (record { next = first + count; anchor = anchor; marked = 0; faults = tally.faults }) k new
-  adopts_refused group same read others none all error is_refused other = record {
-    calls = read.calls;
-    adopts = rw (none, ap (λ s. s.states) others) (refused anchor first count reads error group (whole_reads same read all)
-        (subst (λ c. IsRefused dig k c error) (claim_is same read) is_refused) other);
-    same_file = ap (λ s. s.file_length) others;
-  }
+  claim_is : leaf_claim first digests ≡ claim_of_reads dig k.file_length anchor first reads
+  claim_is =
+      let size : length reads ≡ count = group_size dig n first (2 ^ anchor) count reads tally digests are in
+      ap (leaf_claim first) (
+      are.claims ∙ ap (λ n. map (claimed_digest dig n) reads ++ replicate (2 ^ anchor - count) (padding_digest dig 0)) same
+      ∙ ap (λ n. map (claimed_digest dig k.file_length) reads ++ replicate (2 ^ anchor - n) (padding_digest dig 0)) (sym size)
+      )
 
-  pub adopts_accepted : (grown : Facts) (after : StoreView D) → IsUnknownGroup k from anchor first count → old.file_length ≡ k.file_length
-      → IsGroupRead history honest faults dig old.file_length first count (2 ^ anchor) old.disk reads tally new.disk digests
-      → new ≡ record old { disk = new.disk } → tally.faults ≡ 0 → count ≤ tally.whole
-      → Accepts dig k (leaf_claim first digests) grown → after ≡ record new { states = marked_group first count new.states }
-      → IsAdopted history honest faults dig k from old reads (record { next = first + count; anchor = anchor; marked = count; faults = tally.faults }) grown after
-  adopts_accepted grown after group same read others none all accepts marks = record {
-    calls = subst (λ d. HasCalls history honest faults old.disk (map (call_of old.file_length) reads) d) (sym (ap (λ s. s.disk) marks)) read.calls;
-    adopts = rw (none, ap (λ s. s.states) marks, ap (λ s. s.states) others) (accepted anchor first count reads grown group (whole_reads same read all)
-        (subst (λ c. Accepts dig k c grown) (claim_is same read) accepts));
-    same_file = ap (λ s. s.file_length) marks ∙ ap (λ s. s.file_length) others;
-  }
+  pub adopts_unread : 0 < tally.faults → Adopts dig k from states reads (record { next = first + count; anchor = 0; marked = 0; faults = tally.faults }) k states
+  adopts_unread some = rw are.failed (unread anchor first count reads group are.in_order (subst (λ n. 0 < n) are.failed some))
+
+  pub adopts_short : tally.faults ≡ 0 → tally.whole < count
+      → Adopts dig k from states reads (record { next = first + count; anchor = anchor; marked = 0; faults = tally.faults }) k states
+  adopts_short none few =
+      rw none (short anchor first count reads group are.in_order (sym are.failed ∙ none)
+      (subst (λ n. count_by (is_whole n) reads < count) same (subst (λ n. n < count) are.whole few)))
+
+  pub adopts_refused : tally.faults ≡ 0 → count ≤ tally.whole → (error : ProofError) → IsRefused dig k (leaf_claim first digests) error → error ≢ OutOfMemory
+      → Adopts dig k from states reads (record { next = first + count; anchor = anchor; marked = 0; faults = tally.faults }) k states
+  adopts_refused none all error is_refused other =
+      rw none (refused anchor first count reads error group (whole_reads all) (subst (λ c. IsRefused dig k c error) claim_is is_refused) other)
+
+  pub adopts_accepted : (grown : Facts) → tally.faults ≡ 0 → count ≤ tally.whole → Accepts dig k (leaf_claim first digests) grown
+      → Adopts dig k from states reads (record { next = first + count; anchor = anchor; marked = count; faults = tally.faults }) grown (marked_group first count states)
+  adopts_accepted grown none all accepts =
+      rw none (accepted anchor first count reads grown group (whole_reads all) (subst (λ c. Accepts dig k c grown) claim_is accepts))
+
+-- a list of digests that was written whole
+pub written_whole : {X : Type 0} (n : ℕ) (new old : List X) → length new ≡ n → take n (new ++ drop (length new) old) ≡ new
+written_whole n new old size =
+    take-append-le n new (drop (length new) old) (omega arith) ∙ ap (λ m. take m new) (sym size) ∙ take-length new
 
 -- ---- the block after a group
 

@@ -13,7 +13,7 @@ use Rattle.bt_disk.proofs.CallLists.{has_none, has_then}
 use Rattle.bt_store.specs.BlockReads.{BlockRead, block_of, call_of, is_fault, fault_count}
 use Rattle.bt_store.specs.BatchesSteps.{read_of, batch_reads, found_of}
 use Rattle.bt_store.specs.Adoption.{is_whole, claimed_digest}
-use Rattle.bt_store.specs.GroupsSteps.{noted, noted_found, counted, counted_found, IsGroupRead}
+use Rattle.bt_store.specs.GroupsSteps.{noted, noted_found, counted, counted_found, AreGroupReads, IsGroupRead}
 use Rattle.bt_store.specs.declared.batches.BlockFound.{BlockFound}
 use Rattle.bt_store.specs.declared.batches.BlockFound.TheVariants.{Whole, Short, Failed}
 use Rattle.bt_store.specs.declared.groups.ReadTally.{ReadTally}
@@ -164,29 +164,71 @@ module _ (dig : List ℕ → List ℕ) (n first : ℕ) (counts : List (Option �
 
 -- ---- a group
 
-module _ {D : Type 0} (history : D → History) (honest : D → Type 0) (faults : D → ℕ) (dig : List ℕ → List ℕ) (n first width : ℕ) where
-  pub group_start : (a : D) (digests : List (List ℕ)) → digests ≡ replicate width (padding_digest dig 0)
-      → IsGroupRead history honest faults dig n first 0 width a [] (record { whole = 0; faults = 0 }) a digests
-  group_start a digests padded =
+module _ (dig : List ℕ → List ℕ) (n first width : ℕ) where
+  pub reads_none_yet : (digests : List (List ℕ)) → digests ≡ replicate width (padding_digest dig 0)
+      → AreGroupReads dig n first 0 width [] (record { whole = 0; faults = 0 }) digests
+  reads_none_yet digests padded =
       let all : width - 0 ≡ width = omega arith in
       record {
-        calls = has_none history honest faults a;
         in_order = refl;
         claims = padded ∙ ap (λ m. replicate m (padding_digest dig 0)) (sym all);
         whole = refl;
         failed = refl;
       }
 
-  pub group_size : (done : ℕ) (a b : D) (reads : List BlockRead) (tally : ReadTally) (digests : List (List ℕ))
-      → IsGroupRead history honest faults dig n first done width a reads tally b digests → length reads ≡ done
-  group_size done a b reads tally digests read =
+  pub group_size : (done : ℕ) (reads : List BlockRead) (tally : ReadTally) (digests : List (List ℕ))
+      → AreGroupReads dig n first done width reads tally digests → length reads ≡ done
+  group_size done reads tally digests read =
       sym (length-map reads block_of) ∙ ap length read.in_order ∙ length-range_with_len first done
 
-  pub group_limits : (done : ℕ) (a b : D) (reads : List BlockRead) (tally : ReadTally) (digests : List (List ℕ))
-      → IsGroupRead history honest faults dig n first done width a reads tally b digests → (tally.whole ≤ done) × (tally.faults ≤ done)
-  group_limits done a b reads tally digests read =
-      let size = group_size done a b reads tally digests read in
+  pub group_limits : (done : ℕ) (reads : List BlockRead) (tally : ReadTally) (digests : List (List ℕ))
+      → AreGroupReads dig n first done width reads tally digests → (tally.whole ≤ done) × (tally.faults ≤ done)
+  group_limits done reads tally digests read =
+      let size = group_size done reads tally digests read in
       (omega (arith, read.whole, size, count_by-le-length (is_whole n) reads), omega (arith, read.failed, size, count_by-le-length is_fault reads))
+
+  pub reads_more_of : (done m : ℕ) (reads : List BlockRead) (tally : ReadTally) (digests : List (List ℕ)) (counts : List (Option ℕ)) (buffer : List ℕ) (blocks_found : List BlockFound)
+      → AreGroupReads dig n first done width reads tally digests → done + m ≤ width
+      → IsWithinParts counts buffer m → AreFound dig n (first + done) counts buffer blocks_found m
+      → AreGroupReads dig n first (done + m) width (reads ++ batch_reads (first + done) counts buffer m) (counted_found blocks_found m tally)
+      (noted_found done blocks_found m digests)
+  reads_more_of done m reads tally digests counts buffer blocks_found before fits within found =
+      let more = batch_reads (first + done) counts buffer m in
+      let padding = padding_digest dig 0 in
+      let front = map (claimed_digest dig n) reads in
+      let rest : width - done ≡ m + (width - (done + m)) = omega arith in
+      let front_size : length front ≡ done = length-map reads (claimed_digest dig n) ∙ group_size done reads tally digests before in
+      record {
+        in_order = map-append block_of reads more ∙ ap (λ l. l ++ map block_of more) before.in_order
+            ∙ ap (λ l. range_with_len first done ++ l) (blocks_of_batch (first + done) counts buffer m) ∙ sym (range_split first done m);
+        claims = ap (noted_found done blocks_found m) (before.claims ∙ ap (λ k. front ++ replicate k padding) rest)
+            ∙ noted_batch padding done blocks_found front m (width - (done + m)) front_size
+            ∙ ap (λ l. (front ++ l) ++ replicate (width - (done + m)) padding) (run_digests dig n (first + done) counts buffer blocks_found m within found)
+            ∙ ap (λ l. l ++ replicate (width - (done + m)) padding) (sym (map-append (claimed_digest dig n) reads more));
+        whole = omega (arith, before.whole, run_whole dig n (first + done) counts buffer blocks_found m tally within found, sum_by-append (λ x. cond (is_whole n x) 1 0) reads more);
+        failed = omega (arith, before.failed, run_faults dig n (first + done) counts buffer blocks_found m tally found, sum_by-append (λ x. cond (is_fault x) 1 0) reads more);
+      }
+
+  -- a group that is read at once
+  pub reads_at_once : (m : ℕ) (digests : List (List ℕ)) (counts : List (Option ℕ)) (buffer : List ℕ) (blocks_found : List BlockFound)
+      → digests ≡ replicate width (padding_digest dig 0) → m ≤ width
+      → IsWithinParts counts buffer m → AreFound dig n first counts buffer blocks_found m
+      → AreGroupReads dig n first m width (batch_reads first counts buffer m) (counted_found blocks_found m (record { whole = 0; faults = 0 }))
+      (noted_found 0 blocks_found m digests)
+  reads_at_once m digests counts buffer blocks_found padded fits within found =
+      let none : ReadTally = record { whole = 0; faults = 0 } in
+      let start : first + 0 ≡ first = omega arith in
+      let all : 0 + m ≡ m = omega arith in
+      let made : AreGroupReads dig n first (0 + m) width (batch_reads (first + 0) counts buffer m) (counted_found blocks_found m none) (noted_found 0 blocks_found m digests) =
+      reads_more_of 0 m [] none digests counts buffer blocks_found (reads_none_yet digests padded) (omega (arith, fits)) within
+      (subst (λ f. AreFound dig n f counts buffer blocks_found m) (sym start) found) in
+      subst (λ k. AreGroupReads dig n first k width (batch_reads first counts buffer m) (counted_found blocks_found m none) (noted_found 0 blocks_found m digests)) all
+      (subst (λ f. AreGroupReads dig n first (0 + m) width (batch_reads f counts buffer m) (counted_found blocks_found m none) (noted_found 0 blocks_found m digests)) start made)
+
+module _ {D : Type 0} (history : D → History) (honest : D → Type 0) (faults : D → ℕ) (dig : List ℕ → List ℕ) (n first width : ℕ) where
+  pub group_start : (a : D) (digests : List (List ℕ)) → digests ≡ replicate width (padding_digest dig 0)
+      → IsGroupRead history honest faults dig n first 0 width a [] (record { whole = 0; faults = 0 }) a digests
+  group_start a digests padded = record { calls = has_none history honest faults a; are = reads_none_yet dig n first width digests padded }
 
   pub group_next : (done m : ℕ) (a b c : D) (reads : List BlockRead) (tally : ReadTally) (digests : List (List ℕ)) (counts : List (Option ℕ)) (buffer : List ℕ) (blocks_found : List BlockFound)
       → IsGroupRead history honest faults dig n first done width a reads tally b digests → done + m ≤ width
@@ -196,18 +238,7 @@ module _ {D : Type 0} (history : D → History) (honest : D → Type 0) (faults 
       (noted_found done blocks_found m digests)
   group_next done m a b c reads tally digests counts buffer blocks_found before fits calls within found =
       let more = batch_reads (first + done) counts buffer m in
-      let padding = padding_digest dig 0 in
-      let front = map (claimed_digest dig n) reads in
-      let rest : width - done ≡ m + (width - (done + m)) = omega arith in
-      let front_size : length front ≡ done = length-map reads (claimed_digest dig n) ∙ group_size done a b reads tally digests before in
       record {
         calls = subst (λ l. HasCalls history honest faults a l c) (sym (map-append (call_of n) reads more)) (has_then history honest faults a b c _ _ before.calls calls);
-        in_order = map-append block_of reads more ∙ ap (λ l. l ++ map block_of more) before.in_order
-            ∙ ap (λ l. range_with_len first done ++ l) (blocks_of_batch (first + done) counts buffer m) ∙ sym (range_split first done m);
-        claims = ap (noted_found done blocks_found m) (before.claims ∙ ap (λ k. front ++ replicate k padding) rest)
-            ∙ noted_batch padding done blocks_found front m (width - (done + m)) front_size
-            ∙ ap (λ l. (front ++ l) ++ replicate (width - (done + m)) padding) (run_digests dig n (first + done) counts buffer blocks_found m within found)
-            ∙ ap (λ l. l ++ replicate (width - (done + m)) padding) (sym (map-append (claimed_digest dig n) reads more));
-        whole = omega (arith, before.whole, run_whole dig n (first + done) counts buffer blocks_found m tally within found, sum_by-append (λ x. cond (is_whole n x) 1 0) reads more);
-        failed = omega (arith, before.failed, run_faults dig n (first + done) counts buffer blocks_found m tally found, sum_by-append (λ x. cond (is_fault x) 1 0) reads more);
+        are = reads_more_of dig n first width done m reads tally digests counts buffer blocks_found before.are fits within found;
       }

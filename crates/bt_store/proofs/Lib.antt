@@ -18,3 +18,5 @@ pub mod Marks
 pub mod Adoptions
 -- What is marked there.
 pub mod AdoptionMarks
+-- Small groups that are read together.
+pub mod SmallGroups

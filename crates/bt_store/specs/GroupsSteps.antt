@@ -32,13 +32,18 @@ counted_found blocks_found zero tally = tally
 counted_found blocks_found (suc j) tally =
     counted (slice_index_or blocks_found j Failed) (counted_found blocks_found j tally)
 
--- so many blocks from the first on were read, no other call failed or changed an honest device; the list has
--- their digests, and padding behind them; and so many were given whole, and failed
-pub record IsGroupRead {D : Type 0} (history : D → History) (honest : D → Type 0) (faults : D → ℕ)
-    (dig : List ℕ → List ℕ) (n first count width : ℕ) (old : D) (reads : List BlockRead) (tally : ReadTally)
-    (new : D) (digests : List (List ℕ)) : Type 0 where
-  pub calls : HasCalls history honest faults old (map (call_of n) reads) new
+-- the reads are those of so many blocks from the first on; the list has their digests, and padding behind
+-- them; and so many were given whole, and failed
+pub record AreGroupReads (dig : List ℕ → List ℕ) (n first count width : ℕ) (reads : List BlockRead)
+    (tally : ReadTally) (digests : List (List ℕ)) : Type 0 where
   pub in_order : map block_of reads ≡ range_with_len first count
   pub claims : digests ≡ map (claimed_digest dig n) reads ++ replicate (width - count) (padding_digest dig 0)
   pub whole : tally.whole ≡ count_by (is_whole n) reads
   pub failed : tally.faults ≡ fault_count reads
+
+-- these reads were made, and no other call failed or changed an honest device
+pub record IsGroupRead {D : Type 0} (history : D → History) (honest : D → Type 0) (faults : D → ℕ)
+    (dig : List ℕ → List ℕ) (n first count width : ℕ) (old : D) (reads : List BlockRead) (tally : ReadTally)
+    (new : D) (digests : List (List ℕ)) : Type 0 where
+  pub calls : HasCalls history honest faults old (map (call_of n) reads) new
+  pub are : AreGroupReads dig n first count width reads tally digests

@@ -10,3 +10,6 @@ pub mod SingleBlockSteps
 pub mod Law
 pub mod Adoption
 pub mod GroupsSteps
+pub mod AdoptionSteps
+pub mod SmallGroups
+pub mod SmallGroupsSteps

@@ -7,6 +7,7 @@ ghost use Rattle.bt_sparse.specs.SparseTree.{Facts, blocks_of, held_at, value_at
 ghost use Rattle.bt_sparse.specs.Anchor.{IsAnchor};
 ghost use Rattle.bt_store.specs.BlockReads.{BlockRead};
 ghost use Rattle.bt_store.specs.Adoption.{IsKnownGroup, IsUnknownGroup, marked_group, IsAdopted, StopsAdopting};
+ghost use Rattle.bt_store.specs.AdoptionSteps.{AdoptsGroup};
 ghost use Rattle.bt_store.specs.GroupsSteps.{IsGroupRead};
 
 use crate::batches::BATCH_LEN;
@@ -108,11 +109,37 @@ impl<D: Disk + Drop, H: NodeHash> FileStore<D, H> {
             H.digest tree.old from self.old reads self.new) }
         ensures tree { IfErr result (λ _. tree.new ≡ tree.old) }
     {
-        let Group { first, count } = group_below(tree, from, anchor);
+        let group = group_below(tree, from, anchor);
         let Ok(mut leaves) = padding(self.alloc, self.hash, anchor) else {
             return Err(AllocError);
         };
-        let reads = self.read_group(first, count, leaves.as_mut_slice());
+        let reads = self.read_group(group.first, group.count, leaves.as_mut_slice());
+        self.claim_group(tree, group, anchor, leaves, reads)
+    }
+
+    /// Claims the digests of a group's blocks, and marks these where the tree accepts the claim; nothing
+    /// changes where it does not, or where a read failed or gave too few bytes.
+    pub(crate) fn claim_group(
+        &mut self,
+        tree: &mut SparseTree<H>,
+        group: Group,
+        anchor: u32,
+        leaves: Vec<Hash32>,
+        reads: ReadTally,
+    ) -> Result<Adopted, AllocError>
+        requires geometry { tree.old.file_length ≡ self.old.file_length }
+        requires inside { group.first + group.count ≤ block_count self.old.file_length }
+        requires limit { block_count self.old.file_length ≤ max_block_count }
+        ensures ok { IfOk result (λ adopted. AdoptsGroup H.digest self.old.file_length tree.old anchor
+            group.first group.count self.old.states leaves.items reads adopted tree.new self.new.states) }
+        ensures next { IfOk result (λ adopted. adopted.next ≡ group.first + group.count) }
+        ensures marked { IfOk result (λ adopted. adopted.marked ≤ group.count) }
+        ensures faults { IfOk result (λ adopted. adopted.faults ≡ reads.faults) }
+        ensures others { self.new ≡ record self.old { states = self.new.states } }
+        ensures tree { IfErr result (λ _. tree.new ≡ tree.old) }
+        ensures states { IfErr result (λ _. self.new ≡ self.old) }
+    {
+        let Group { first, count } = group;
         let unchanged = Adopted {
             next: first + count,
             anchor,

@@ -11,7 +11,7 @@ ghost use Rattle.bt_store.specs.BlockReads.{BlockRead};
 ghost use Rattle.bt_store.specs.Adoption.{IsKnownGroup, IsUnknownGroup, leaf_claim, marked_group};
 ghost use Rattle.bt_store.specs.GroupsSteps.{noted, counted, noted_found, counted_found, IsGroupRead};
 
-use crate::batches::{BATCH_BLOCKS, BlockFound, digest_batch, read_batch};
+use crate::batches::{BlockFound, digest_batch, read_batch};
 use crate::block_states::{BlockState, BlockStates};
 use bt_disk::Disk;
 use bt_sparse::{Claim, Digests, ProofError, SparseTree};
@@ -162,19 +162,20 @@ fn note(digests: &mut [Hash32], i: usize, found: BlockFound)
 }
 
 /// Puts the digests of whole blocks into a list, from a place on, and counts what the reads found.
-fn note_found(
+pub(crate) fn note_found(
     digests: &mut [Hash32],
     at: usize,
-    blocks_found: &[BlockFound; BATCH_BLOCKS],
+    blocks_found: &[BlockFound],
     count: usize,
     tally: ReadTally,
 ) -> ReadTally
-    requires few { count ≤ 8 }
+    requires few { count ≤ length blocks_found.now }
     requires inside { at + count ≤ length digests.old }
     requires whole { tally.whole + count + 1 < 2 ^ 32 }
     requires faults { tally.faults + count + 1 < 2 ^ 32 }
     ensures digests { digests.new ≡ noted_found at blocks_found.now count digests.old }
     ensures tally { result ≡ counted_found blocks_found.now count tally }
+    ensures faults { result.faults ≤ tally.faults + count }
 {
     let mut tally = tally;
     for j in 0..count {

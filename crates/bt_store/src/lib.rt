@@ -13,6 +13,7 @@ mod groups;
 mod law;
 mod review;
 mod single_block;
+mod small_groups;
 
 pub use adoption::Adopted;
 pub use arrival::Put;
@@ -24,3 +25,4 @@ pub use law::{
     right_blocks_are_files, waiting_blocks_lie_inside,
 };
 pub use review::{Rechecked, Settled};
+pub use small_groups::AdoptedGroups;

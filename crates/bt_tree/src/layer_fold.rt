@@ -57,16 +57,16 @@ fn eight_nodes<H: NodeHash>(
         return [pads[(layer + below + 1) as usize]; 8];
     }
     if below == 0 {
-        return parents(hash, &sixteen(digests, pads[layer as usize]));
+        return eight_parents(hash, &sixteen(digests, pads[layer as usize]));
     }
     let (first, second) = digests.split_at(digests.len().min(8 << below));
     let left = eight_nodes(hash, first, pads, layer, below - 1);
     let right = eight_nodes(hash, second, pads, layer, below - 1);
-    parents(hash, &both(&left, &right))
+    eight_parents(hash, &side_by_side(&left, &right))
 }
 
-/// The parents of sixteen nodes that lie side by side.
-fn parents<H: NodeHash>(hash: H, nodes: &[Hash32; 16]) -> [Hash32; 8]
+/// The digests of the parents of sixteen nodes that lie side by side, each pair digested with the others.
+pub fn eight_parents<H: NodeHash>(hash: H, nodes: &[Hash32; 16]) -> [Hash32; 8]
     ensures { (j : ℕ) → j < 8 → slice_index_or result j []
         ≡ H.digest (slice_index_or nodes.now (2 * j) [] ++ slice_index_or nodes.now (2 * j + 1) []) }
 {
@@ -77,8 +77,8 @@ fn parents<H: NodeHash>(hash: H, nodes: &[Hash32; 16]) -> [Hash32; 8]
     hash.pairs8(&pairs)
 }
 
-/// The bytes of two digests, the left one first.
-fn pair_bytes(left: &Hash32, right: &Hash32) -> [u8; 64]
+/// The bytes of two digests, the left one first: what the parent of two nodes is the digest of.
+pub fn pair_bytes(left: &Hash32, right: &Hash32) -> [u8; 64]
     ensures { result ≡ left.now ++ right.now }
 {
     let mut pair = [0; 64];
@@ -101,8 +101,8 @@ fn sixteen(digests: &[Hash32], padding: Hash32) -> [Hash32; 16]
     nodes
 }
 
-/// Sixteen digests: eight, and eight after them.
-fn both(left: &[Hash32; 8], right: &[Hash32; 8]) -> [Hash32; 16]
+/// Sixteen digests: eight, and the eight after them.
+fn side_by_side(left: &[Hash32; 8], right: &[Hash32; 8]) -> [Hash32; 16]
     ensures left { (i : ℕ) → i < 8 → slice_index_or result i [] ≡ slice_index_or left.now i [] }
     ensures right { (i : ℕ) → i < 8 → slice_index_or result (8 + i) [] ≡ slice_index_or right.now i [] }
 {

@@ -1,6 +1,7 @@
 ghost use Rattle.std.specs.Prelude.{◌≡◌, ◌≢◌, ◌-◌, ◌^◌, ◌≤◌, ◌↔◌, length, IsOk};
 ghost use Rattle.bt_tree.specs.Blocks.{block_count};
-ghost use Rattle.bt_tree.specs.Layers.{IsLayer, HasLayerSize};
+ghost use Rattle.bt_tree.specs.TreeShape.{height_of};
+ghost use Rattle.bt_tree.specs.Layers.{IsLayer, HasLayerSize, fold_of, layer_digests};
 
 use crate::layer_fold::fold;
 use crate::node_hash::{Hash32, NodeHash};
@@ -22,6 +23,18 @@ pub enum LayerError {
     OutOfMemory,
 }
 
+/// The root of a tree by the bytes of a layer, which have its size: the digests of the layer's nodes that
+/// cover a block, from the left, 32 bytes each. The others are known: they have the digest of `pad`.
+pub fn layer_root<H: NodeHash>(hash: H, geometry: Geometry, layer: u8, bytes: &[u8]) -> Hash32
+    requires { HasLayerSize (block_count geometry) layer bytes.now }
+    ensures { result ≡ fold_of H.digest (height_of (block_count geometry) - layer)
+        (layer_digests H.digest (block_count geometry) layer bytes.now) }
+{
+    let height = geometry.height();
+    let (digests, _) = bytes.as_chunks::<32>();
+    fold(hash, digests, &pads(hash, height), layer, height)
+}
+
 /// Whether the bytes are a layer of a tree with this root: the digests of the layer's nodes that cover a
 /// block, from the left, 32 bytes each. The others are known: they have the digest of `pad`.
 pub fn check_layer<H: NodeHash>(
@@ -37,12 +50,10 @@ pub fn check_layer<H: NodeHash>(
         × (¬ IsLayer H.digest (block_count geometry) root.now layer bytes.now)) }
     ensures no_memory { result ≢ Err LayerError.OutOfMemory }
 {
-    let height = geometry.height();
-    if layer > height || bytes.len() != 32 * geometry.real(layer) as usize {
+    if layer > geometry.height() || bytes.len() != 32 * geometry.real(layer) as usize {
         return Err(LayerError::Size);
     }
-    let (digests, _) = bytes.as_chunks::<32>();
-    if fold(hash, digests, &pads(hash, height), layer, height) == *root {
+    if layer_root(hash, geometry, layer, bytes) == *root {
         Ok(())
     } else {
         Err(LayerError::Differs)

@@ -21,8 +21,9 @@ mod tree_shape;
 
 pub use comparison::{Compared, compare_files};
 pub use law::{heights_are_least, roots_tell_files};
-pub use layers::{LayerError, check_layer};
+pub use layer_fold::{eight_parents, pair_bytes};
+pub use layers::{LayerError, check_layer, layer_root};
 pub use node_hash::{Hash32, NodeHash, Plain, Weak};
 pub use padding::pad;
 pub use root_builder::{RootBuilder, Shape};
-pub use tree_shape::{BLOCK_LEN, Geometry, is_piece_length, piece_layer};
+pub use tree_shape::{BLOCK_LEN, Geometry, is_piece_length, piece_layer, tree_height};

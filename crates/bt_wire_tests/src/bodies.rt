@@ -1,10 +1,10 @@
 //! The pages and the ordered map run the same claims, and are to answer alike.
 
 use crate::map_body::{MapTree, map_accept, map_known, new_map_tree};
-use crate::tree::{accept, claim_from, known, outcome_words};
-use crate::words::{RowError, Words, told};
+use crate::tree::{accept, claim_from, known, push_outcome};
+use crate::words::Words;
 use bt_sparse::{Claim, SparseTree};
-use bt_tree::Plain;
+use bt_tree::{Geometry, Hash32, Plain};
 use std::alloc::{AllocError, Global};
 
 /// A tree with each body.
@@ -19,11 +19,18 @@ pub fn bodies_row(
     alloc: Global,
     bodies: &mut Option<Bodies>,
     words: &mut Words,
-) -> Result<String, RowError> {
+    out: &mut String,
+) -> Result<(), AllocError> {
     match words.word() {
-        "new" => new_row(alloc, bodies, words),
-        "accept" => any_accept_row(alloc, bodies, words),
-        _ => Err(RowError::Unread),
+        "new" => new_row(alloc, bodies, words, out),
+        "accept" => match bodies {
+            Some(bodies) => accept_row(alloc, bodies, words, out),
+            None => out.push_str("no trees"),
+        },
+        _ => {
+            words.are_wrong();
+            Ok(())
+        }
     }
 }
 
@@ -31,43 +38,44 @@ fn new_row(
     alloc: Global,
     bodies: &mut Option<Bodies>,
     words: &mut Words,
-) -> Result<String, RowError> {
-    *bodies = Some(new_bodies(alloc, words)?);
-    told(alloc, "two trees")
-}
-
-fn any_accept_row(
-    alloc: Global,
-    bodies: &mut Option<Bodies>,
-    words: &mut Words,
-) -> Result<String, RowError> {
-    match bodies {
-        Some(bodies) => accept_row(alloc, bodies, words),
-        None => Err(RowError::Unread),
-    }
-}
-
-fn new_bodies(alloc: Global, words: &mut Words) -> Result<Bodies, RowError> {
-    let geometry = words.geometry()?;
+    out: &mut String,
+) -> Result<(), AllocError> {
+    let geometry = Geometry::new(words.long());
     let root = words.array(alloc)?;
-    Ok(Bodies {
-        pages: SparseTree::new(alloc, Plain, geometry, root)?,
-        map: new_map_tree(alloc, geometry, &root)?,
-    })
+    match geometry {
+        Some(geometry) => *bodies = Some(new_bodies(alloc, geometry, &root)?),
+        None => words.are_wrong(),
+    }
+    out.push_str("two trees")
+}
+
+fn new_bodies(alloc: Global, geometry: Geometry, root: &Hash32) -> Result<Bodies, AllocError> {
+    let pages = SparseTree::new(alloc, Plain, geometry, *root)?;
+    let map = new_map_tree(alloc, geometry, root)?;
+    Ok(Bodies { pages, map })
 }
 
 /// What the pages answer, and whether the map answers the same, and then knows the same of each node.
-fn accept_row(alloc: Global, bodies: &mut Bodies, words: &mut Words) -> Result<String, RowError> {
+fn accept_row(
+    alloc: Global,
+    bodies: &mut Bodies,
+    words: &mut Words,
+    out: &mut String,
+) -> Result<(), AllocError> {
     let claim = claim_from(alloc, words)?;
-    Ok(both_words(alloc, bodies, &claim)?)
+    push_both(alloc, bodies, &claim, out)
 }
 
-fn both_words(alloc: Global, bodies: &mut Bodies, claim: &Claim) -> Result<String, AllocError> {
+fn push_both(
+    alloc: Global,
+    bodies: &mut Bodies,
+    claim: &Claim,
+    out: &mut String,
+) -> Result<(), AllocError> {
     let ours = accept(&mut bodies.pages, claim);
     let is_same = map_accept(&mut bodies.map, claim)? == ours;
-    let mut text = outcome_words(alloc, ours)?;
-    text.push_str(comparison(bodies, is_same))?;
-    Ok(text)
+    push_outcome(alloc, out, ours)?;
+    out.push_str(comparison(bodies, is_same))
 }
 
 fn comparison(bodies: &Bodies, is_same: bool) -> &'static str {

@@ -1,117 +1,128 @@
 //! Calls of a book of requests.
 
+use crate::bytes::push_yes_or_no;
 use crate::held::{ask, ask_next, held_from, wants};
-use crate::words::{RowError, Words, told, yes_or_no};
+use crate::words::Words;
 use bt_book::{BlockId, Book, PeerKey};
-use std::alloc::Global;
+use std::alloc::{AllocError, Global};
+use std::fmt::Write;
+
+/// A book. Only small functions without a contract look into it, so that no other proof speaks of what it has.
+#[derive(Drop)]
+pub struct Requests {
+    pub book: Book,
+}
 
 /// A new book, or a call of the one that is there.
-pub fn book_row(alloc: Global, book: &mut Book, words: &mut Words) -> Result<String, RowError> {
+pub fn book_row(
+    alloc: Global,
+    requests: &mut Requests,
+    words: &mut Words,
+    out: &mut String,
+) -> Result<(), AllocError> {
     match words.word() {
-        "new" => new_row(alloc, book, words),
-        "join" => join_row(alloc, book, words),
-        "lost" => lost_row(alloc, book, words),
-        "choked" => choked_row(alloc, book, words),
-        "came" => came_row(alloc, book, words),
-        "want" => want_row(alloc, book, words),
-        "done" => done_row(alloc, book, words),
-        "ask" => ask_row(alloc, book, words),
-        "next" => next_row(alloc, book, words),
-        "wants" => wants_row(alloc, book, words),
-        "order" => order_row(alloc, words),
-        _ => Err(RowError::Unread),
+        "new" => new_row(alloc, requests, words, out),
+        "want" => want_row(requests, words, out),
+        "done" => done_row(requests, words, out),
+        "wants" => push_yes_or_no(out, wants(requests, held_from(words))),
+        "order" => push_yes_or_no(out, block_from(words) < block_from(words)),
+        name => peer_row(requests, name, words, out),
     }
 }
 
-fn peer_from(words: &mut Words) -> Result<PeerKey, RowError> {
-    Ok(PeerKey(words.long()?))
+fn block_from(words: &mut Words) -> BlockId {
+    let file = words.number();
+    let block = words.number();
+    BlockId { file, block }
 }
 
-fn block_from(words: &mut Words) -> Result<BlockId, RowError> {
-    let file = words.number()?;
-    let block = words.number()?;
-    Ok(BlockId { file, block })
+fn new_row(
+    alloc: Global,
+    requests: &mut Requests,
+    words: &mut Words,
+    out: &mut String,
+) -> Result<(), AllocError> {
+    let mut blocks = Vec::new(alloc);
+    push_blocks(&mut blocks, words)?;
+    requests.book = Book::new(alloc, &blocks)?;
+    out.push_str("a book")
 }
 
-fn new_row(alloc: Global, book: &mut Book, words: &mut Words) -> Result<String, RowError> {
-    let blocks = words.numbers(alloc)?;
-    *book = Book::new(alloc, &blocks)?;
-    told(alloc, "a book")
-}
-
-fn join_row(alloc: Global, book: &mut Book, words: &mut Words) -> Result<String, RowError> {
-    let peer = peer_from(words)?;
-    let joins = book.join(peer);
-    yes_or_no(alloc, joins)
-}
-
-fn lost_row(alloc: Global, book: &mut Book, words: &mut Words) -> Result<String, RowError> {
-    let peer = peer_from(words)?;
-    book.lost(peer);
-    told(alloc, "lost")
-}
-
-fn choked_row(alloc: Global, book: &mut Book, words: &mut Words) -> Result<String, RowError> {
-    let peer = peer_from(words)?;
-    book.choked(peer);
-    told(alloc, "choked")
-}
-
-fn came_row(alloc: Global, book: &mut Book, words: &mut Words) -> Result<String, RowError> {
-    let peer = peer_from(words)?;
-    let block = block_from(words)?;
-    yes_or_no(alloc, came(book, peer, block))
-}
-
-fn came(book: &mut Book, peer: PeerKey, block: BlockId) -> bool {
-    book.came(peer, block)
-}
-
-fn want_row(alloc: Global, book: &mut Book, words: &mut Words) -> Result<String, RowError> {
-    let block = block_from(words)?;
-    if !book.is_in_range(block) {
-        return told(alloc, "out of range");
+fn push_blocks(blocks: &mut Vec<u32>, words: &mut Words) -> Result<(), AllocError> {
+    for _ in 0..u64::MAX {
+        if words.is_at_end() {
+            break;
+        }
+        blocks.push(words.number())?;
     }
-    book.want(block);
-    told(alloc, "wanted")
+    Ok(())
 }
 
-fn done_row(alloc: Global, book: &mut Book, words: &mut Words) -> Result<String, RowError> {
-    let block = block_from(words)?;
-    if !book.is_in_range(block) {
-        return told(alloc, "out of range");
+fn want_row(
+    requests: &mut Requests,
+    words: &mut Words,
+    out: &mut String,
+) -> Result<(), AllocError> {
+    let block = block_from(words);
+    if !requests.book.is_in_range(block) {
+        return out.push_str("out of range");
     }
-    book.done(block);
-    told(alloc, "done")
+    requests.book.want(block);
+    out.push_str("wanted")
 }
 
-fn ask_row(alloc: Global, book: &mut Book, words: &mut Words) -> Result<String, RowError> {
-    let peer = peer_from(words)?;
-    let held = held_from(words)?;
-    block_words(alloc, ask(book, peer, held))
+fn done_row(
+    requests: &mut Requests,
+    words: &mut Words,
+    out: &mut String,
+) -> Result<(), AllocError> {
+    let block = block_from(words);
+    if !requests.book.is_in_range(block) {
+        return out.push_str("out of range");
+    }
+    requests.book.done(block);
+    out.push_str("done")
 }
 
-fn next_row(alloc: Global, book: &mut Book, words: &mut Words) -> Result<String, RowError> {
-    let peer = peer_from(words)?;
-    let held = held_from(words)?;
-    block_words(alloc, ask_next(book, peer, held))
+/// A call that is about a peer.
+fn peer_row(
+    requests: &mut Requests,
+    name: &str,
+    words: &mut Words,
+    out: &mut String,
+) -> Result<(), AllocError> {
+    let peer = PeerKey(words.long());
+    match name {
+        "join" => push_yes_or_no(out, join(requests, peer)),
+        "came" => push_yes_or_no(out, came(requests, peer, block_from(words))),
+        "ask" => push_block(out, ask(requests, peer, held_from(words))),
+        "next" => push_block(out, ask_next(requests, peer, held_from(words))),
+        "lost" => {
+            requests.book.lost(peer);
+            out.push_str("lost")
+        }
+        "choked" => {
+            requests.book.choked(peer);
+            out.push_str("choked")
+        }
+        _ => {
+            words.are_wrong();
+            Ok(())
+        }
+    }
 }
 
-fn wants_row(alloc: Global, book: &mut Book, words: &mut Words) -> Result<String, RowError> {
-    let held = held_from(words)?;
-    yes_or_no(alloc, wants(book, held))
+pub fn join(requests: &mut Requests, peer: PeerKey) -> bool {
+    requests.book.join(peer)
 }
 
-fn block_words(alloc: Global, block: Option<BlockId>) -> Result<String, RowError> {
+pub fn came(requests: &mut Requests, peer: PeerKey, block: BlockId) -> bool {
+    requests.book.came(peer, block)
+}
+
+fn push_block(out: &mut String, block: Option<BlockId>) -> Result<(), AllocError> {
     match block {
-        Some(BlockId { file, block }) => Ok(format!(in alloc; "{file} {block}")?),
-        None => told(alloc, "none"),
+        Some(BlockId { file, block }) => write!(out, "{file} {block}"),
+        None => out.push_str("none"),
     }
-}
-
-/// Whether a block comes before another.
-fn order_row(alloc: Global, words: &mut Words) -> Result<String, RowError> {
-    let first = block_from(words)?;
-    let second = block_from(words)?;
-    yes_or_no(alloc, first < second)
 }

@@ -1,47 +1,51 @@
 //! Bytes as words.
 
-use crate::words::{RowError, number_of};
 use bt_tree::{Hash32, NodeHash, Plain};
 use std::alloc::{AllocError, Global};
+use std::fmt::Write;
 
 /// The most bytes that are printed one by one.
 const MOST_SHOWN: usize = 128;
 
-/// The bytes that a word spells: parts that are joined by `+`; none, where it is `-`.
-pub fn bytes_of(alloc: Global, word: &str) -> Result<Vec<u8>, RowError> {
-    let mut bytes = Vec::new(alloc);
+/// Adds the bytes that a word spells: parts that are joined by `+`; none, where it is `-`. False where it
+/// spells none.
+pub fn push_word(alloc: Global, bytes: &mut Vec<u8>, word: &str) -> Result<bool, AllocError> {
     if word == "-" {
-        return Ok(bytes);
+        return Ok(true);
     }
-    let mut rest = word;
-    for _ in 0..word.len() {
-        let (part, more) = rest.split_once('+').unwrap_or((rest, ""));
-        push_part(alloc, &mut bytes, part)?;
-        if part.len() == rest.len() {
-            return Ok(bytes);
+    for part in word.split('+') {
+        if !push_part(alloc, bytes, part)? {
+            return Ok(false);
         }
-        rest = more;
     }
-    Err(RowError::Unread)
+    Ok(!word.is_empty())
 }
 
 /// Adds the bytes of one part: bytes in hexadecimal, with `*COUNT` behind them where they stand so many
 /// times; or `FROM..END:HEX`, each number from FROM up to END in four bytes, the high one first, with the
-/// bytes HEX behind each.
-fn push_part(alloc: Global, bytes: &mut Vec<u8>, part: &str) -> Result<(), RowError> {
-    if let Some((range, digits)) = part.split_once(':') {
-        return push_numbers(alloc, bytes, range, digits);
+/// bytes HEX behind each. False where it is none.
+fn push_part(alloc: Global, bytes: &mut Vec<u8>, part: &str) -> Result<bool, AllocError> {
+    match part.split_once(':') {
+        Some((range, digits)) => push_numbers(alloc, bytes, range, digits),
+        None => push_often(alloc, bytes, part),
     }
+}
+
+fn push_often(alloc: Global, bytes: &mut Vec<u8>, part: &str) -> Result<bool, AllocError> {
     let (digits, times) = part.split_once('*').unwrap_or((part, "1"));
-    let run = run_of(alloc, digits)?;
-    let count = number_of(times)?;
-    Ok(push_run(bytes, &run, count)?)
+    let Ok(count) = times.parse::<u32>() else {
+        return Ok(false);
+    };
+    match hex::decode(alloc, digits) {
+        Ok(run) => {
+            push_run(bytes, &run, count)?;
+            Ok(true)
+        }
+        Err(_) => Ok(false),
+    }
 }
 
 fn push_run(bytes: &mut Vec<u8>, run: &[u8], count: u32) -> Result<(), AllocError> {
-    if let [byte] = run {
-        return bytes.resize(bytes.len().saturating_add(count as usize), *byte);
-    }
     for _ in 0..count {
         bytes.extend_from_slice(run)?;
     }
@@ -53,37 +57,67 @@ fn push_numbers(
     bytes: &mut Vec<u8>,
     range: &str,
     digits: &str,
-) -> Result<(), RowError> {
-    let (from, end) = range.split_once("..").ok_or(RowError::Unread)?;
-    let run = run_of(alloc, digits)?;
-    for number in number_of(from)?..number_of(end)? {
+) -> Result<bool, AllocError> {
+    let Some((from, end)) = range_of(range) else {
+        return Ok(false);
+    };
+    match hex::decode(alloc, digits) {
+        Ok(run) => {
+            push_between(bytes, from, end, &run)?;
+            Ok(true)
+        }
+        Err(_) => Ok(false),
+    }
+}
+
+/// The numbers of `FROM..END`; none, where it is no range.
+fn range_of(text: &str) -> Option<(u32, u32)> {
+    let (from, end) = text.split_once("..")?;
+    match (from.parse::<u32>(), end.parse::<u32>()) {
+        (Ok(from), Ok(end)) => Some((from, end)),
+        _ => None,
+    }
+}
+
+fn push_between(bytes: &mut Vec<u8>, from: u32, end: u32, run: &[u8]) -> Result<(), AllocError> {
+    for number in from..end {
         bytes.extend_from_slice(&number.to_be_bytes())?;
-        bytes.extend_from_slice(&run)?;
+        bytes.extend_from_slice(run)?;
     }
     Ok(())
 }
 
-fn run_of(alloc: Global, digits: &str) -> Result<Vec<u8>, RowError> {
-    hex::decode(alloc, digits).or(Err(RowError::Unread))
+/// Adds bytes in hexadecimal.
+pub fn push_hex(alloc: Global, out: &mut String, bytes: &[u8]) -> Result<(), AllocError> {
+    let text = hex::encode(alloc, bytes)?;
+    out.push_str(text.as_str())
 }
 
-/// Bytes in hexadecimal, where they are few, else how many they are and their SHA-256.
-pub fn shown(alloc: Global, bytes: &[u8]) -> Result<String, AllocError> {
+/// Adds bytes in hexadecimal, where they are few, else how many they are and their SHA-256.
+pub fn push_shown(alloc: Global, out: &mut String, bytes: &[u8]) -> Result<(), AllocError> {
     if bytes.is_empty() {
-        return String::from_str(alloc, "-");
+        return out.push_str("-");
     }
     if bytes.len() <= MOST_SHOWN {
-        return hex::encode(alloc, bytes);
+        return push_hex(alloc, out, bytes);
     }
-    let digest = hex::encode(alloc, &Plain.block(bytes))?;
-    format!(in alloc; "{} bytes of {digest}", bytes.len())
+    write!(out, "{} bytes of ", bytes.len())?;
+    push_hex(alloc, out, &Plain.block(bytes))
 }
 
-/// Digests, one after the other, as these bytes.
-pub fn shown_digests(alloc: Global, digests: &[Hash32]) -> Result<String, AllocError> {
-    let mut bytes = Vec::new(alloc);
-    for digest in digests {
-        bytes.extend_from_slice(&digest[..])?;
+/// Adds digests as the bytes that they are, one after the other.
+pub fn push_digests(alloc: Global, out: &mut String, digests: &[Hash32]) -> Result<(), AllocError> {
+    push_shown(alloc, out, digests.as_flattened())
+}
+
+/// Adds numbers, with a space before each.
+pub fn push_each(out: &mut String, numbers: &[u32]) -> Result<(), AllocError> {
+    for number in numbers {
+        write!(out, " {number}")?;
     }
-    shown(alloc, &bytes)
+    Ok(())
+}
+
+pub fn push_yes_or_no(out: &mut String, is: bool) -> Result<(), AllocError> {
+    out.push_str(if is { "yes" } else { "no" })
 }

@@ -1,228 +1,273 @@
 //! Streams, whole and in parts.
 
-use crate::message::event_words;
-use crate::words::{RowError, Words, told};
-use bt_wire::{Cutter, WireError};
+use crate::message::push_event;
+use crate::words::Words;
+use bt_wire::{Cutter, WireError, WireEvent};
 use std::alloc::{AllocError, Global};
+use std::fmt::Write;
+
+/// A cutter. Only small functions without a contract look into it, so that no other proof speaks of its bytes.
+#[derive(Drop)]
+pub struct Stream {
+    cutter: Cutter,
+}
+
+pub fn new_stream(alloc: Global) -> Stream {
+    Stream {
+        cutter: Cutter::new(alloc),
+    }
+}
 
 /// A call of the cutter.
 pub fn cutter_row(
     alloc: Global,
-    cutter: &mut Cutter,
+    stream: &mut Stream,
     words: &mut Words,
-) -> Result<String, RowError> {
+    out: &mut String,
+) -> Result<(), AllocError> {
     match words.word() {
         "new" => {
-            *cutter = Cutter::new(alloc);
-            told(alloc, "a cutter")
+            *stream = new_stream(alloc);
+            out.push_str("a cutter")
         }
-        "feed" => feed_row(alloc, cutter, words),
-        "next" => Ok(next_words(alloc, cutter)?),
-        "room" => room_row(alloc, cutter, words),
-        "turns" => turns_row(alloc, cutter, words),
-        _ => Err(RowError::Unread),
+        "feed" => feed_row(alloc, stream, words, out),
+        "next" => next_row(alloc, stream, out),
+        "room" => room_row(stream, words, out),
+        "turns" => turns_row(alloc, stream, words, out),
+        _ => {
+            words.are_wrong();
+            Ok(())
+        }
     }
 }
 
-fn feed_row(alloc: Global, cutter: &mut Cutter, words: &mut Words) -> Result<String, RowError> {
+fn feed(stream: &mut Stream, bytes: &[u8]) -> Result<(), WireError> {
+    stream.cutter.feed(bytes)
+}
+
+fn next(stream: &mut Stream) -> Result<Option<WireEvent>, WireError> {
+    stream.cutter.next()
+}
+
+fn is_above(stream: &Stream, limit: usize) -> bool {
+    stream.cutter.room() > limit
+}
+
+fn feed_row(
+    alloc: Global,
+    stream: &mut Stream,
+    words: &mut Words,
+    out: &mut String,
+) -> Result<(), AllocError> {
     let bytes = words.bytes(alloc)?;
-    match cutter.feed(&bytes) {
-        Ok(()) => told(alloc, "fed"),
-        Err(error) => Ok(format!(in alloc; "{error}")?),
+    match feed(stream, &bytes) {
+        Ok(()) => out.push_str("fed"),
+        Err(error) => write!(out, "{error}"),
     }
 }
 
 /// What the next call gives.
-fn next_words(alloc: Global, cutter: &mut Cutter) -> Result<String, AllocError> {
-    match cutter.next() {
-        Ok(Some(event)) => event_words(alloc, &event),
-        Ok(None) => String::from_str(alloc, "none"),
-        Err(error) => format!(in alloc; "{error}"),
+fn next_row(alloc: Global, stream: &mut Stream, out: &mut String) -> Result<(), AllocError> {
+    match next(stream) {
+        Ok(Some(event)) => push_event(alloc, out, &event),
+        Ok(None) => out.push_str("none"),
+        Err(error) => write!(out, "{error}"),
     }
 }
 
 /// Whether the cutter has room for more than so many bytes.
-fn room_row(alloc: Global, cutter: &Cutter, words: &mut Words) -> Result<String, RowError> {
-    let limit = words.number()?;
-    let word = if cutter.room() > limit as usize {
-        "above"
+fn room_row(stream: &Stream, words: &mut Words, out: &mut String) -> Result<(), AllocError> {
+    let limit = words.number();
+    out.push_str(if is_above(stream, limit as usize) {
+        "above "
     } else {
-        "up to"
-    };
-    Ok(format!(in alloc; "{word} {limit}")?)
+        "up to "
+    })?;
+    write!(out, "{limit}")
 }
 
 /// Feeds bytes so many times, and takes what is there behind each, which has to be the same, and in no more
 /// room than this.
-fn turns_row(alloc: Global, cutter: &mut Cutter, words: &mut Words) -> Result<String, RowError> {
-    let count = words.number()?;
-    let limit = words.number()? as usize;
-    let bytes = words.bytes(alloc)?;
-    let first = turn(alloc, cutter, &bytes, limit)?;
-    for _ in 1..count {
-        if let Some(other) = other_turn(alloc, cutter, &bytes, limit, first.as_str())? {
-            return Ok(other);
-        }
-    }
-    Ok(first)
-}
-
-/// What one more turn finds, if it is something else.
-fn other_turn(
+fn turns_row(
     alloc: Global,
-    cutter: &mut Cutter,
-    bytes: &[u8],
-    limit: usize,
-    wanted: &str,
-) -> Result<Option<String>, AllocError> {
-    let found = turn(alloc, cutter, bytes, limit)?;
-    Ok(if found.as_str() == wanted {
-        None
-    } else {
-        Some(found)
-    })
-}
-
-fn turn(
-    alloc: Global,
-    cutter: &mut Cutter,
-    bytes: &[u8],
-    limit: usize,
-) -> Result<String, AllocError> {
-    let mut found = String::new(alloc);
-    read_part(alloc, cutter, bytes, limit, &mut found)?;
-    Ok(found)
-}
-
-/// Feeds a part and takes what is there. Behind a fault nothing is fed.
-fn read_part(
-    alloc: Global,
-    cutter: &mut Cutter,
-    part: &[u8],
-    limit: usize,
-    found: &mut String,
+    stream: &mut Stream,
+    words: &mut Words,
+    out: &mut String,
 ) -> Result<(), AllocError> {
-    if matches!(cutter.feed(part), Err(WireError::OutOfMemory)) {
-        return found.push_str("not fed;");
-    }
-    if cutter.room() > limit {
-        found.push_str("too much room;")?;
-    }
-    take_all(alloc, cutter, found)
+    let count = words.number();
+    let limit = words.number() as usize;
+    let bytes = words.bytes(alloc)?;
+    read_part(alloc, stream, &bytes, limit, out)?;
+    push_other_turn(alloc, stream, &bytes, limit, count, out)
 }
 
-/// Takes the events that are there and puts them behind the others; a fault is the last.
-fn take_all(alloc: Global, cutter: &mut Cutter, found: &mut String) -> Result<(), AllocError> {
-    for _ in 0..u64::MAX {
-        match next_found(alloc, cutter)? {
-            Some(text) => found.push_str(text.as_str())?,
-            None => return Ok(()),
+/// Takes the turns behind the first, up to one that finds something else, which is added.
+fn push_other_turn(
+    alloc: Global,
+    stream: &mut Stream,
+    bytes: &[u8],
+    limit: usize,
+    count: u32,
+    out: &mut String,
+) -> Result<(), AllocError> {
+    for _ in 1..count {
+        if is_other_turn(alloc, stream, bytes, limit, out)? {
+            break;
         }
     }
     Ok(())
 }
 
-/// What the next call gives; None where it gives nothing, or the cutter has failed before.
-fn next_found(alloc: Global, cutter: &mut Cutter) -> Result<Option<String>, AllocError> {
-    match cutter.next() {
-        Ok(Some(event)) => {
-            let mut text = event_words(alloc, &event)?;
-            text.push_str(";")?;
-            Ok(Some(text))
+fn is_other_turn(
+    alloc: Global,
+    stream: &mut Stream,
+    bytes: &[u8],
+    limit: usize,
+    out: &mut String,
+) -> Result<bool, AllocError> {
+    let mut found = String::new(alloc);
+    read_part(alloc, stream, bytes, limit, &mut found)?;
+    push_other(out, found.as_str())
+}
+
+/// Adds a text that is another than the one that is there. Whether it is one.
+fn push_other(out: &mut String, found: &str) -> Result<bool, AllocError> {
+    if out.as_str() == found {
+        return Ok(false);
+    }
+    out.push_str(" or else: ")?;
+    out.push_str(found)?;
+    Ok(true)
+}
+
+/// Feeds a part and takes what is there. Behind a fault nothing is fed.
+fn read_part(
+    alloc: Global,
+    stream: &mut Stream,
+    part: &[u8],
+    limit: usize,
+    found: &mut String,
+) -> Result<(), AllocError> {
+    if matches!(feed(stream, part), Err(WireError::OutOfMemory)) {
+        return found.push_str("not fed;");
+    }
+    if is_above(stream, limit) {
+        found.push_str("too much room;")?;
+    }
+    take_all(alloc, stream, found)
+}
+
+/// Takes the events that are there and puts them behind the others; a fault is the last.
+fn take_all(alloc: Global, stream: &mut Stream, found: &mut String) -> Result<(), AllocError> {
+    for _ in 0..u64::MAX {
+        if !take_one(alloc, stream, found)? {
+            break;
         }
-        Ok(None) | Err(WireError::Failed) => Ok(None),
-        Err(error) => Ok(Some(format!(in alloc; "{error};")?)),
+    }
+    Ok(())
+}
+
+/// Adds what the next call gives. False where it gives nothing, or the cutter has failed before.
+fn take_one(alloc: Global, stream: &mut Stream, found: &mut String) -> Result<bool, AllocError> {
+    match next(stream) {
+        Ok(Some(event)) => push_taken(alloc, found, &event),
+        Ok(None) | Err(WireError::Failed) => Ok(false),
+        Err(error) => push_fault(found, error),
     }
 }
 
-/// What a stream says that comes in these parts.
-fn findings(alloc: Global, parts: &[&[u8]]) -> Result<String, AllocError> {
-    let mut cutter = Cutter::new(alloc);
-    let mut found = String::new(alloc);
-    for part in parts {
-        read_part(alloc, &mut cutter, part, usize::MAX, &mut found)?;
-    }
-    Ok(found)
+fn push_taken(alloc: Global, found: &mut String, event: &WireEvent) -> Result<bool, AllocError> {
+    push_event(alloc, found, event)?;
+    found.push_str(";")?;
+    Ok(true)
 }
 
-/// What a stream says that comes byte by byte.
-fn findings_by_byte(alloc: Global, bytes: &[u8]) -> Result<String, AllocError> {
-    let mut cutter = Cutter::new(alloc);
-    let mut found = String::new(alloc);
+fn push_fault(found: &mut String, error: WireError) -> Result<bool, AllocError> {
+    write!(found, "{error};")?;
+    Ok(true)
+}
+
+/// Adds what a stream says that comes in parts: each but the last has the number of bytes that stands here.
+fn push_found(
+    alloc: Global,
+    bytes: &[u8],
+    lengths: &[usize],
+    found: &mut String,
+) -> Result<(), AllocError> {
+    let mut stream = new_stream(alloc);
+    let mut rest = bytes;
+    for length in lengths {
+        let (part, more) = rest.split_at(rest.len().min(*length));
+        read_part(alloc, &mut stream, part, usize::MAX, found)?;
+        rest = more;
+    }
+    read_part(alloc, &mut stream, rest, usize::MAX, found)
+}
+
+/// Adds what a stream says that comes byte by byte.
+fn push_found_by_byte(alloc: Global, bytes: &[u8], found: &mut String) -> Result<(), AllocError> {
+    let mut stream = new_stream(alloc);
     for byte in bytes {
-        read_part(alloc, &mut cutter, &[*byte], usize::MAX, &mut found)?;
+        read_part(alloc, &mut stream, &[*byte], usize::MAX, found)?;
     }
-    Ok(found)
+    Ok(())
 }
 
 /// What a stream says, whole and byte by byte.
-pub fn stream_row(alloc: Global, words: &mut Words) -> Result<String, RowError> {
+pub fn stream_row(alloc: Global, words: &mut Words, out: &mut String) -> Result<(), AllocError> {
     let bytes = words.bytes(alloc)?;
-    let whole = findings(alloc, &[bytes.as_slice()])?;
-    let by_byte = findings_by_byte(alloc, &bytes)?;
-    Ok(one_text(alloc, whole, by_byte.as_str())?)
+    push_found(alloc, &bytes, &[], out)?;
+    push_other_by_byte(alloc, &bytes, out)
 }
 
-/// The one text that two are.
-fn one_text(alloc: Global, text: String, other: &str) -> Result<String, AllocError> {
-    if text.as_str() != other {
-        return format!(in alloc; "{text} or in parts: {other}");
+fn push_other_by_byte(alloc: Global, bytes: &[u8], out: &mut String) -> Result<(), AllocError> {
+    let mut found = String::new(alloc);
+    push_found_by_byte(alloc, bytes, &mut found)?;
+    if !push_other(out, found.as_str())? && found.is_empty() {
+        return out.push_str("nothing");
     }
-    if text.is_empty() {
-        return String::from_str(alloc, "nothing");
-    }
-    Ok(text)
+    Ok(())
 }
 
 /// What a stream says, whole and cut into two and into three in each way.
-pub fn cuts_row(alloc: Global, words: &mut Words) -> Result<String, RowError> {
+pub fn cuts_row(alloc: Global, words: &mut Words, out: &mut String) -> Result<(), AllocError> {
     let bytes = words.bytes(alloc)?;
-    let whole = findings(alloc, &[bytes.as_slice()])?;
-    match other_cut(alloc, &bytes, whole.as_str())? {
-        Some(other) => Ok(one_text(alloc, other, whole.as_str())?),
-        None => Ok(whole),
-    }
+    push_found(alloc, &bytes, &[], out)?;
+    push_other_cut(alloc, &bytes, out)
 }
 
-/// What a stream says else where it is cut, if there is such a cut.
-fn other_cut(alloc: Global, bytes: &[u8], wanted: &str) -> Result<Option<String>, AllocError> {
-    for cut in 0..=bytes.len() {
-        let (front, rest) = bytes.split_at(cut);
-        if let Some(other) = other_findings(alloc, &[front, rest], wanted)? {
-            return Ok(Some(other));
-        }
-        if let Some(other) = other_second_cut(alloc, front, rest, wanted)? {
-            return Ok(Some(other));
+/// Adds what a stream says else where it is cut, if there is such a cut.
+fn push_other_cut(alloc: Global, bytes: &[u8], out: &mut String) -> Result<(), AllocError> {
+    for first in 0..=bytes.len() {
+        if is_other(alloc, bytes, &[first], out)? || is_other_second(alloc, bytes, first, out)? {
+            break;
         }
     }
-    Ok(None)
+    Ok(())
 }
 
-/// What a part and the others, cut into two, say else, if there is such a cut.
-fn other_second_cut(
+/// Whether three parts, of which the first has so many bytes, say something else, which is added.
+fn is_other_second(
     alloc: Global,
-    front: &[u8],
-    rest: &[u8],
-    wanted: &str,
-) -> Result<Option<String>, AllocError> {
-    for cut in 0..=rest.len() {
-        let (middle, back) = rest.split_at(cut);
-        if let Some(other) = other_findings(alloc, &[front, middle, back], wanted)? {
-            return Ok(Some(other));
+    bytes: &[u8],
+    first: usize,
+    out: &mut String,
+) -> Result<bool, AllocError> {
+    for second in 0..=bytes.len().saturating_sub(first) {
+        if is_other(alloc, bytes, &[first, second], out)? {
+            return Ok(true);
         }
     }
-    Ok(None)
+    Ok(false)
 }
 
-fn other_findings(
+fn is_other(
     alloc: Global,
-    parts: &[&[u8]],
-    wanted: &str,
-) -> Result<Option<String>, AllocError> {
-    let found = findings(alloc, parts)?;
-    Ok(if found.as_str() == wanted {
-        None
-    } else {
-        Some(found)
-    })
+    bytes: &[u8],
+    lengths: &[usize],
+    out: &mut String,
+) -> Result<bool, AllocError> {
+    let mut found = String::new(alloc);
+    push_found(alloc, bytes, lengths, &mut found)?;
+    push_other(out, found.as_str())
 }

@@ -1,7 +1,8 @@
 //! Which blocks a peer has.
 
-use crate::words::{RowError, Words};
-use bt_book::{BlockId, Book, PeerKey};
+use crate::book::Requests;
+use crate::words::Words;
+use bt_book::{BlockId, PeerKey};
 
 /// The blocks of a peer.
 #[derive(Clone, Copy)]
@@ -19,14 +20,17 @@ pub enum Held {
 /// How many blocks each file has where calls are random.
 const FILES: [(u32, u32); 4] = [(0, 5), (1, 0), (2, 70), (3, 3)];
 
-pub fn held_from(words: &mut Words) -> Result<Held, RowError> {
+pub fn held_from(words: &mut Words) -> Held {
     match words.word() {
-        "all" => Ok(Held::All),
-        "none" => Ok(Held::None),
-        "file" => Ok(Held::File(words.number()?)),
-        "rest" => Ok(Held::Rest(words.number()?)),
-        "thirds" => Ok(Held::Thirds(words.number()?)),
-        _ => Err(RowError::Unread),
+        "all" => Held::All,
+        "none" => Held::None,
+        "file" => Held::File(words.number()),
+        "rest" => Held::Rest(words.number()),
+        "thirds" => Held::Thirds(words.number()),
+        _ => {
+            words.are_wrong();
+            Held::None
+        }
     }
 }
 
@@ -83,16 +87,16 @@ fn next_in_thirds(number: u32, from: BlockId) -> Option<BlockId> {
 }
 
 /// Asks a peer, block by block.
-pub fn ask(book: &mut Book, peer: PeerKey, held: Held) -> Option<BlockId> {
-    book.ask(peer, |block| has(held, block))
+pub fn ask(requests: &mut Requests, peer: PeerKey, held: Held) -> Option<BlockId> {
+    requests.book.ask(peer, |block| has(held, block))
 }
 
 /// Asks a peer, by leaps over what it lacks.
-pub fn ask_next(book: &mut Book, peer: PeerKey, held: Held) -> Option<BlockId> {
-    book.ask_next(peer, |from| next(held, from))
+pub fn ask_next(requests: &mut Requests, peer: PeerKey, held: Held) -> Option<BlockId> {
+    requests.book.ask_next(peer, |from| next(held, from))
 }
 
 /// Whether a block is wanted that such a peer has.
-pub fn wants(book: &Book, held: Held) -> bool {
-    book.wants(|from| next(held, from))
+pub fn wants(requests: &Requests, held: Held) -> bool {
+    requests.book.wants(|from| next(held, from))
 }

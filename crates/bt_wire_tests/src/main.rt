@@ -17,14 +17,23 @@ mod tree;
 mod words;
 
 use stage::Stage;
+use std::io;
 
-fn main(rt: HostRuntime) -> anyhow::Result<()> {
-    let alloc = rt.alloc();
-    let mut stage = Stage::new(alloc)?;
-    for line in rt.lines(alloc) {
+fn main(rt: HostRuntime) -> io::Result<()> {
+    let mut stage = Stage::new(rt.alloc())?;
+    print_lines(&rt, &mut stage)
+}
+
+fn print_lines(rt: &HostRuntime, stage: &mut Stage) -> io::Result<()> {
+    for line in rt.lines(rt.alloc()) {
         let line = line?;
-        let answer = stage.answer(alloc, line.as_str())?;
-        println!(rt; "{answer}")?;
+        print_line(rt, stage, line.as_str())?;
     }
     Ok(())
+}
+
+fn print_line(rt: &HostRuntime, stage: &mut Stage, row: &str) -> io::Result<()> {
+    let mut out = String::new(rt.alloc());
+    stage.answer(rt.alloc(), row, &mut out)?;
+    println!(rt; "{out}")
 }

@@ -162,69 +162,63 @@ fn at(digests: &[Hash32], index: usize) -> Hash32 {
     digests.get(index).copied().unwrap_or([0; 32])
 }
 
-/// The digests of the layer above.
-fn parents(alloc: Global, nodes: &[Hash32]) -> Result<Vec<Hash32>, AllocError> {
-    let mut above = Vec::new(alloc);
-    for i in 0..nodes.len() / 2 {
-        let left = i.wrapping_mul(2);
-        above.push(Plain.pair(&at(nodes, left), &at(nodes, left.wrapping_add(1))))?;
+/// The node that two siblings hang from.
+fn node_above(pair: &ClaimedPair) -> PathNode {
+    PathNode {
+        layer: pair.layer.wrapping_add(1),
+        index: pair.index,
+        digest: Plain.pair(&pair.left, &pair.right),
     }
-    Ok(above)
 }
 
-/// Adds the pairs that a layer's nodes make, from this index on.
-fn add_pairs(
-    pairs: &mut Vec<ClaimedPair>,
-    layer: u32,
-    first: u32,
-    nodes: &[Hash32],
-) -> Result<(), AllocError> {
-    let mut index = first / 2;
-    for i in 0..nodes.len() / 2 {
+/// The node above the pair of this number; one of zeros past the end.
+fn node_at(pairs: &[ClaimedPair], index: usize) -> PathNode {
+    match pairs.get(index) {
+        Some(pair) => node_above(pair),
+        None => PathNode {
+            layer: 0,
+            index: 0,
+            digest: [0; 32],
+        },
+    }
+}
+
+/// The siblings that two nodes next to each other are.
+fn pair_of(left: &PathNode, right: &PathNode) -> ClaimedPair {
+    ClaimedPair {
+        layer: left.layer,
+        index: left.index / 2,
+        left: left.digest,
+        right: right.digest,
+    }
+}
+
+/// Adds the pairs that a claim's run makes.
+fn add_run(claim: &Claim, pairs: &mut Vec<ClaimedPair>) -> Result<(), AllocError> {
+    let run = claim.run.as_slice();
+    let mut index = claim.index / 2;
+    for i in 0..run.len() / 2 {
         let left = i.wrapping_mul(2);
         pairs.push(ClaimedPair {
-            layer,
+            layer: claim.base,
             index,
-            left: at(nodes, left),
-            right: at(nodes, left.wrapping_add(1)),
+            left: at(run, left),
+            right: at(run, left.wrapping_add(1)),
         })?;
         index = index.wrapping_add(1);
     }
     Ok(())
 }
 
-/// Adds the pairs of a claim's run and of the layers above it, and returns the run's top.
-fn add_run(
-    alloc: Global,
-    claim: &Claim,
-    pairs: &mut Vec<ClaimedPair>,
-) -> Result<PathNode, AllocError> {
-    let mut nodes = Vec::from_slice(alloc, claim.run.as_slice())?;
-    let mut layer = claim.base;
-    let mut index = claim.index;
-    for _ in 0..counts(claim).0.trailing_zeros() {
-        add_pairs(pairs, layer, index, nodes.as_slice())?;
-        nodes = parents(alloc, nodes.as_slice())?;
-        layer = layer.wrapping_add(1);
-        index /= 2;
+/// Adds the pairs of the layers above a run: the nodes above each two pairs are the next one.
+fn add_layers(pairs: &mut Vec<ClaimedPair>) -> Result<(), AllocError> {
+    for i in 1..pairs.len() {
+        let right = i.wrapping_mul(2).wrapping_sub(1);
+        let left = node_at(pairs.as_slice(), right.wrapping_sub(1));
+        let pair = pair_of(&left, &node_at(pairs.as_slice(), right));
+        pairs.push(pair)?;
     }
-    let digest = at(nodes.as_slice(), 0);
-    Ok(PathNode {
-        layer,
-        index,
-        digest,
-    })
-}
-
-/// The pair of a node of a path and its uncle.
-fn path_pair(node: PathNode, uncle: Hash32) -> ClaimedPair {
-    let is_left = node.index % 2 == 0;
-    ClaimedPair {
-        layer: node.layer,
-        index: node.index / 2,
-        left: if is_left { node.digest } else { uncle },
-        right: if is_left { uncle } else { node.digest },
-    }
+    Ok(())
 }
 
 /// Adds the pairs of the path from the run's top up, and returns the path's end.
@@ -236,14 +230,21 @@ fn add_path(
     let mut node = from;
     for uncle in claim.uncles.as_slice() {
         let pair = path_pair(node, *uncle);
+        node = node_above(&pair);
         pairs.push(pair)?;
-        node = PathNode {
-            layer: node.layer.wrapping_add(1),
-            index: pair.index,
-            digest: Plain.pair(&pair.left, &pair.right),
-        };
     }
     Ok(node)
+}
+
+/// The pair of a node of a path and its uncle.
+fn path_pair(node: PathNode, uncle: Hash32) -> ClaimedPair {
+    let is_left = node.index % 2 == 0;
+    ClaimedPair {
+        layer: node.layer,
+        index: node.index / 2,
+        left: if is_left { node.digest } else { uncle },
+        right: if is_left { uncle } else { node.digest },
+    }
 }
 
 /// What speaks against these pairs: a node without a block that has another digest than the padding.
@@ -272,12 +273,10 @@ fn refusal(tree: &MapTree, pairs: &[ClaimedPair], top: PathNode) -> Option<Proof
 }
 
 /// The nodes that a claim names, in pairs, and its top.
-fn name_nodes(
-    alloc: Global,
-    claim: &Claim,
-    pairs: &mut Vec<ClaimedPair>,
-) -> Result<PathNode, AllocError> {
-    let top = add_run(alloc, claim, pairs)?;
+fn name_nodes(claim: &Claim, pairs: &mut Vec<ClaimedPair>) -> Result<PathNode, AllocError> {
+    add_run(claim, pairs)?;
+    add_layers(pairs)?;
+    let top = node_at(pairs.as_slice(), pairs.len().wrapping_sub(1));
     add_path(claim, top, pairs)
 }
 
@@ -290,7 +289,7 @@ pub fn map_accept(
         return Ok(Err(ProofError::Shape));
     }
     let mut pairs = Vec::new(tree.alloc);
-    let top = name_nodes(tree.alloc, claim, &mut pairs)?;
+    let top = name_nodes(claim, &mut pairs)?;
     if let Some(error) = refusal(tree, pairs.as_slice(), top) {
         return Ok(Err(error));
     }

@@ -1,137 +1,152 @@
 //! Handshakes and messages, in words and from words.
 
-use crate::bytes::{shown, shown_digests};
-use crate::key::{key_from, key_words};
-use crate::words::{RowError, Words, told};
+use crate::bytes::{push_digests, push_each, push_hex, push_shown};
+use crate::key::{key_from, push_key};
+use crate::words::Words;
 use bt_hashreq::HashKey;
 use bt_sparse::{Digests, ProofError};
 use bt_wire::{
     Ask, Bytes, Handshake, Message, WireError, WireEvent, fits, write_handshake, write_message,
 };
 use std::alloc::{AllocError, Global};
+use std::fmt::Write;
 
-/// An event in words.
-pub fn event_words(alloc: Global, event: &WireEvent) -> Result<String, AllocError> {
+/// Adds an event in words.
+pub fn push_event(alloc: Global, out: &mut String, event: &WireEvent) -> Result<(), AllocError> {
     match event {
-        WireEvent::Hello(handshake) => hello_words(alloc, handshake),
-        WireEvent::Message(message) => message_words(alloc, message),
-        WireEvent::Skipped(kind) => format!(in alloc; "skipped {kind}"),
+        WireEvent::Hello(handshake) => push_hello(alloc, out, handshake),
+        WireEvent::Message(message) => push_message(alloc, out, message),
+        WireEvent::Skipped(kind) => write!(out, "skipped {kind}"),
     }
 }
 
-fn hello_words(alloc: Global, handshake: &Handshake) -> Result<String, AllocError> {
-    let infohash = hex::encode(alloc, &handshake.infohash)?;
-    let peer_id = hex::encode(alloc, &handshake.peer_id)?;
-    format!(in alloc; "hello {infohash} {peer_id}")
+fn push_hello(alloc: Global, out: &mut String, handshake: &Handshake) -> Result<(), AllocError> {
+    out.push_str("hello ")?;
+    push_hex(alloc, out, &handshake.infohash)?;
+    out.push_str(" ")?;
+    push_hex(alloc, out, &handshake.peer_id)
 }
 
-/// A message in the words of a `write` row.
-fn message_words(alloc: Global, message: &Message) -> Result<String, AllocError> {
+/// Adds a message in the words of a `write` row.
+fn push_message(alloc: Global, out: &mut String, message: &Message) -> Result<(), AllocError> {
     match message {
-        Message::KeepAlive => String::from_str(alloc, "keepalive"),
-        Message::Choke => String::from_str(alloc, "choke"),
-        Message::Unchoke => String::from_str(alloc, "unchoke"),
-        Message::Interested => String::from_str(alloc, "interested"),
-        Message::NotInterested => String::from_str(alloc, "not_interested"),
-        Message::Have(piece) => format!(in alloc; "have {piece}"),
-        Message::Bitfield(bits) => carried(alloc, "bitfield", bits.as_slice()),
-        Message::Request(ask) => ask_words(alloc, "request", ask),
+        Message::KeepAlive => out.push_str("keepalive"),
+        Message::Choke => out.push_str("choke"),
+        Message::Unchoke => out.push_str("unchoke"),
+        Message::Interested => out.push_str("interested"),
+        Message::NotInterested => out.push_str("not_interested"),
+        Message::Have(piece) => write!(out, "have {piece}"),
+        Message::Bitfield(bits) => {
+            out.push_str("bitfield ")?;
+            push_shown(alloc, out, bits.as_slice())
+        }
+        Message::Request(ask) => push_ask(out, "request", ask),
         Message::Piece {
             piece,
             begin,
             bytes,
-        } => piece_words(alloc, *piece, *begin, bytes.as_slice()),
-        Message::Cancel(ask) => ask_words(alloc, "cancel", ask),
-        Message::HashRequest(key) => keyed(alloc, "hash_request", key),
-        Message::Hashes(key, digests) => hashes_words(alloc, key, digests.as_slice()),
-        Message::HashReject(key) => keyed(alloc, "hash_reject", key),
+        } => push_piece(alloc, out, *piece, *begin, bytes.as_slice()),
+        Message::Cancel(ask) => push_ask(out, "cancel", ask),
+        Message::HashRequest(key) => push_keyed(alloc, out, "hash_request ", key),
+        Message::Hashes(key, digests) => push_hashes(alloc, out, key, digests.as_slice()),
+        Message::HashReject(key) => push_keyed(alloc, out, "hash_reject ", key),
     }
 }
 
-fn carried(alloc: Global, name: &str, bytes: &[u8]) -> Result<String, AllocError> {
-    let bytes = shown(alloc, bytes)?;
-    format!(in alloc; "{name} {bytes}")
+fn push_ask(out: &mut String, name: &str, ask: &Ask) -> Result<(), AllocError> {
+    out.push_str(name)?;
+    push_each(out, &[ask.piece, ask.begin, ask.length])
 }
 
-fn ask_words(alloc: Global, name: &str, ask: &Ask) -> Result<String, AllocError> {
-    let Ask {
-        piece,
-        begin,
-        length,
-    } = *ask;
-    format!(in alloc; "{name} {piece} {begin} {length}")
+fn push_piece(
+    alloc: Global,
+    out: &mut String,
+    piece: u32,
+    begin: u32,
+    bytes: &[u8],
+) -> Result<(), AllocError> {
+    write!(out, "piece {piece} {begin} ")?;
+    push_shown(alloc, out, bytes)
 }
 
-fn piece_words(alloc: Global, piece: u32, begin: u32, bytes: &[u8]) -> Result<String, AllocError> {
-    let bytes = shown(alloc, bytes)?;
-    format!(in alloc; "piece {piece} {begin} {bytes}")
+fn push_keyed(
+    alloc: Global,
+    out: &mut String,
+    name: &str,
+    key: &HashKey,
+) -> Result<(), AllocError> {
+    out.push_str(name)?;
+    push_key(alloc, out, key)
 }
 
-fn keyed(alloc: Global, name: &str, key: &HashKey) -> Result<String, AllocError> {
-    let key = key_words(alloc, key)?;
-    format!(in alloc; "{name} {key}")
-}
-
-fn hashes_words(alloc: Global, key: &HashKey, digests: &[u8]) -> Result<String, AllocError> {
-    let key = key_words(alloc, key)?;
-    let digests = shown(alloc, digests)?;
-    format!(in alloc; "hashes {key} {digests}")
+fn push_hashes(
+    alloc: Global,
+    out: &mut String,
+    key: &HashKey,
+    digests: &[u8],
+) -> Result<(), AllocError> {
+    push_keyed(alloc, out, "hashes ", key)?;
+    out.push_str(" ")?;
+    push_shown(alloc, out, digests)
 }
 
 /// The bytes of a message, if it fits.
-pub fn write_row(alloc: Global, words: &mut Words) -> Result<String, RowError> {
+pub fn write_row(alloc: Global, words: &mut Words, out: &mut String) -> Result<(), AllocError> {
     let message = message_from(alloc, words)?;
-    written(alloc, &message)
+    push_written(alloc, out, &message)
 }
 
-fn written(alloc: Global, message: &Message) -> Result<String, RowError> {
+fn push_written(alloc: Global, out: &mut String, message: &Message) -> Result<(), AllocError> {
     if !fits(message) {
-        return told(alloc, "does not fit");
+        return out.push_str("does not fit");
     }
     let bytes = write_message(alloc, message)?;
-    Ok(shown(alloc, &bytes)?)
+    push_shown(alloc, out, &bytes)
 }
 
-fn message_from(alloc: Global, words: &mut Words) -> Result<Message, RowError> {
+fn message_from(alloc: Global, words: &mut Words) -> Result<Message, AllocError> {
     match words.word() {
         "keepalive" => Ok(Message::KeepAlive),
         "choke" => Ok(Message::Choke),
         "unchoke" => Ok(Message::Unchoke),
         "interested" => Ok(Message::Interested),
         "not_interested" => Ok(Message::NotInterested),
-        "have" => Ok(Message::Have(words.number()?)),
-        "request" => Ok(Message::Request(ask_from(words)?)),
-        "cancel" => Ok(Message::Cancel(ask_from(words)?)),
-        "hash_request" => Ok(Message::HashRequest(key_from(alloc, words)?)),
-        "hash_reject" => Ok(Message::HashReject(key_from(alloc, words)?)),
+        "have" => Ok(Message::Have(words.number())),
+        "request" => Ok(Message::Request(ask_from(words))),
+        "cancel" => Ok(Message::Cancel(ask_from(words))),
         name => long_message_from(alloc, name, words),
     }
 }
 
-/// A message that carries bytes.
-fn long_message_from(alloc: Global, name: &str, words: &mut Words) -> Result<Message, RowError> {
+/// A message that carries a key or bytes.
+fn long_message_from(alloc: Global, name: &str, words: &mut Words) -> Result<Message, AllocError> {
     match name {
+        "hash_request" => Ok(Message::HashRequest(key_from(alloc, words)?)),
+        "hash_reject" => Ok(Message::HashReject(key_from(alloc, words)?)),
         "bitfield" => Ok(Message::Bitfield(Bytes::new(words.bytes(alloc)?))),
         "piece" => piece_from(alloc, words),
         "hashes" => hashes_from(alloc, words),
-        _ => Err(RowError::Unread),
+        _ => {
+            words.are_wrong();
+            Ok(Message::KeepAlive)
+        }
     }
 }
 
-fn ask_from(words: &mut Words) -> Result<Ask, RowError> {
-    let piece = words.number()?;
-    let begin = words.number()?;
-    let length = words.number()?;
-    Ok(Ask {
+fn ask_from(words: &mut Words) -> Ask {
+    let piece = words.number();
+    let begin = words.number();
+    let length = words.number();
+    Ask {
         piece,
         begin,
         length,
-    })
+    }
 }
 
-fn piece_from(alloc: Global, words: &mut Words) -> Result<Message, RowError> {
-    let piece = words.number()?;
-    let begin = words.number()?;
+fn piece_from(alloc: Global, words: &mut Words) -> Result<Message, AllocError> {
+    let piece = words.number();
+    let begin = words.number();
     let bytes = Bytes::new(words.bytes(alloc)?);
     Ok(Message::Piece {
         piece,
@@ -140,44 +155,52 @@ fn piece_from(alloc: Global, words: &mut Words) -> Result<Message, RowError> {
     })
 }
 
-fn hashes_from(alloc: Global, words: &mut Words) -> Result<Message, RowError> {
+fn hashes_from(alloc: Global, words: &mut Words) -> Result<Message, AllocError> {
     let key = key_from(alloc, words)?;
     let digests = Bytes::new(words.bytes(alloc)?);
     Ok(Message::Hashes(key, digests))
 }
 
 /// The bytes of a handshake.
-pub fn hello_row(alloc: Global, words: &mut Words) -> Result<String, RowError> {
+pub fn hello_row(alloc: Global, words: &mut Words, out: &mut String) -> Result<(), AllocError> {
     let infohash = words.array(alloc)?;
     let peer_id = words.array(alloc)?;
     let bytes = write_handshake(&Handshake { infohash, peer_id });
-    Ok(shown(alloc, &bytes)?)
+    push_shown(alloc, out, &bytes)
 }
 
 /// What a list shows, and what it gives back.
-pub fn list_row(alloc: Global, words: &mut Words) -> Result<String, RowError> {
+pub fn list_row(alloc: Global, words: &mut Words, out: &mut String) -> Result<(), AllocError> {
     match words.word() {
-        "bytes" => bytes_list(alloc, words),
-        "digests" => digest_list(alloc, words),
-        _ => Err(RowError::Unread),
+        "bytes" => bytes_list(alloc, words, out),
+        "digests" => digest_list(alloc, words, out),
+        _ => {
+            words.are_wrong();
+            Ok(())
+        }
     }
 }
 
-fn bytes_list(alloc: Global, words: &mut Words) -> Result<String, RowError> {
+fn bytes_list(alloc: Global, words: &mut Words, out: &mut String) -> Result<(), AllocError> {
     let list = Bytes::new(words.bytes(alloc)?);
-    let there = shown(alloc, list.as_slice())?;
-    let back = shown(alloc, &list.into_vec())?;
-    Ok(format!(in alloc; "{there} and back {back}")?)
+    push_shown(alloc, out, list.as_slice())?;
+    out.push_str(" and back ")?;
+    push_shown(alloc, out, &list.into_vec())
 }
 
-fn digest_list(alloc: Global, words: &mut Words) -> Result<String, RowError> {
+fn digest_list(alloc: Global, words: &mut Words, out: &mut String) -> Result<(), AllocError> {
     let list = Digests::new(words.digests(alloc)?);
-    let there = shown_digests(alloc, list.as_slice())?;
-    let back = shown_digests(alloc, &list.into_vec())?;
-    Ok(format!(in alloc; "{there} and back {back}")?)
+    push_digests(alloc, out, list.as_slice())?;
+    out.push_str(" and back ")?;
+    push_digests(alloc, out, &list.into_vec())
 }
 
 /// The texts of errors that no row brings about.
-pub fn texts_row(alloc: Global) -> Result<String, RowError> {
-    Ok(format!(in alloc; "{}, {}", WireError::OutOfMemory, ProofError::OutOfMemory)?)
+pub fn texts_row(out: &mut String) -> Result<(), AllocError> {
+    write!(
+        out,
+        "{}, {}",
+        WireError::OutOfMemory,
+        ProofError::OutOfMemory
+    )
 }

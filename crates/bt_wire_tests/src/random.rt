@@ -1,9 +1,11 @@
 //! Random calls of a book.
 
+use crate::book::{Requests, came, join};
 use crate::held::{Held, ask, ask_next, wants};
-use crate::words::{RowError, Words};
-use bt_book::{BlockId, Book, PeerKey};
-use std::alloc::{AllocError, Global};
+use crate::words::Words;
+use bt_book::{BlockId, PeerKey};
+use std::alloc::AllocError;
+use std::fmt::Write;
 
 /// The numbers of a linear congruential generator, by their upper bits.
 #[derive(Drop)]
@@ -36,72 +38,77 @@ impl Random {
 /// Makes so many random calls. What each answers is told, or a dot, and behind it a `+` where a block is
 /// wanted that the peer has whose turn it is, of 70.
 pub fn random_row(
-    alloc: Global,
     random: &mut Random,
-    book: &mut Book,
+    requests: &mut Requests,
     words: &mut Words,
-) -> Result<String, RowError> {
-    let mut text = String::from_str(alloc, "answers")?;
-    for turn in 0..words.number()? {
-        let answer = random_answer(alloc, random, book)?;
-        let sign = if wants(book, Held::Thirds(turn % 70)) {
-            "+"
-        } else {
-            ""
-        };
-        text.push_str(format!(in alloc; " {answer}{sign}")?.as_str())?;
+    out: &mut String,
+) -> Result<(), AllocError> {
+    out.push_str("answers")?;
+    for turn in 0..words.number() {
+        push_turn(random, requests, Held::Thirds(turn % 70), out)?;
     }
-    Ok(text)
+    Ok(())
 }
 
-fn random_answer(
-    alloc: Global,
+fn push_turn(
     random: &mut Random,
-    book: &mut Book,
-) -> Result<String, AllocError> {
+    requests: &mut Requests,
+    held: Held,
+    out: &mut String,
+) -> Result<(), AllocError> {
+    out.push_str(" ")?;
+    push_answer(random, requests, out)?;
+    out.push_str(if wants(requests, held) { "+" } else { "" })
+}
+
+fn push_answer(
+    random: &mut Random,
+    requests: &mut Requests,
+    out: &mut String,
+) -> Result<(), AllocError> {
     let key = random.below(70);
     let peer = PeerKey(u64::from(key));
     let target = random.block();
     match random.below(16) {
-        0..=1 => letter(alloc, book.join(peer)),
-        9..=10 => letter(alloc, book.came(peer, target)),
-        11..=15 => asked_words(alloc, any_ask(book, peer, key)),
+        0..=1 => push_letter(out, join(requests, peer)),
+        9..=10 => push_letter(out, came(requests, peer, target)),
+        11..=15 => push_asked(out, any_ask(requests, peer, key)),
         choice => {
-            change(book, choice, peer, target);
-            String::from_str(alloc, ".")
+            change(requests, choice, peer, target);
+            out.push_str(".")
         }
     }
 }
 
-fn letter(alloc: Global, is: bool) -> Result<String, AllocError> {
-    String::from_str(alloc, if is { "y" } else { "n" })
+fn push_letter(out: &mut String, is: bool) -> Result<(), AllocError> {
+    out.push_str(if is { "y" } else { "n" })
 }
 
 /// A call that answers nothing.
-fn change(book: &mut Book, choice: u32, peer: PeerKey, target: BlockId) {
-    if !book.is_in_range(target) {
+fn change(requests: &mut Requests, choice: u32, peer: PeerKey, target: BlockId) {
+    if !requests.book.is_in_range(target) {
         return;
     }
     match choice {
-        2 => book.lost(peer),
-        3 => book.choked(peer),
-        8 => book.done(target),
-        _ => book.want(target),
+        2 => requests.book.lost(peer),
+        3 => requests.book.choked(peer),
+        8 => requests.book.done(target),
+        _ => requests.book.want(target),
     }
 }
 
 /// Which of the two is called makes no difference.
-fn any_ask(book: &mut Book, peer: PeerKey, key: u32) -> Option<BlockId> {
+fn any_ask(requests: &mut Requests, peer: PeerKey, key: u32) -> Option<BlockId> {
     if key % 3 == 0 {
-        ask(book, peer, Held::Thirds(key))
+        ask(requests, peer, Held::Thirds(key))
     } else {
-        ask_next(book, peer, Held::Thirds(key))
+        ask_next(requests, peer, Held::Thirds(key))
     }
 }
 
-fn asked_words(alloc: Global, asked: Option<BlockId>) -> Result<String, AllocError> {
+fn push_asked(out: &mut String, asked: Option<BlockId>) -> Result<(), AllocError> {
     match asked {
-        Some(BlockId { file, block }) => format!(in alloc; "{file}.{block}"),
-        None => String::from_str(alloc, "-"),
+        Some(BlockId { file, block }) => write!(out, "{file}.{block}"),
+        None => out.push_str("-"),
     }
 }

@@ -3,54 +3,65 @@ ghost use Rattle.std.specs.Prelude.{◌≢◌, All, Bool};
 ghost use Rattle.std.specs.Bool.{OnTrue};
 ghost use Rattle.bt_book.specs.Choking.{HaveOwnKeys};
 
-use crate::words::{RowError, Words, long_of, push, told};
+use crate::words::Words;
 use bt_book::{PeerKey, Standing, choose};
 use std::alloc::{AllocError, Global};
+use std::fmt::Write;
 
 /// The peers to serve at a turn, of these standings.
-pub fn serve_row(alloc: Global, words: &mut Words) -> Result<String, RowError> {
-    let turn = words.long()?;
-    let standings = standings_from(alloc, words)?;
-    if !apart(&standings) {
-        return told(alloc, "a peer stands twice");
-    }
-    let chosen = choose(&standings, turn);
-    Ok(keys_words(alloc, chosen.as_slice())?)
-}
-
-fn keys_words(alloc: Global, keys: &[PeerKey]) -> Result<String, AllocError> {
-    let mut text = String::from_str(alloc, "served:")?;
-    for key in keys {
-        text.push_str(format!(in alloc; " {}", key.0)?.as_str())?;
-    }
-    Ok(text)
-}
-
-fn standings_from(alloc: Global, words: &mut Words) -> Result<Vec<Standing>, RowError> {
+pub fn serve_row(alloc: Global, words: &mut Words, out: &mut String) -> Result<(), AllocError> {
+    let turn = words.long();
     let mut standings = Vec::new(alloc);
+    push_standings(&mut standings, words)?;
+    push_chosen(out, &standings, turn)
+}
+
+fn push_chosen(out: &mut String, standings: &[Standing], turn: u64) -> Result<(), AllocError> {
+    if !apart(standings) {
+        return out.push_str("a peer stands twice");
+    }
+    let chosen = choose(standings, turn);
+    push_keys(out, chosen.as_slice())
+}
+
+fn push_keys(out: &mut String, keys: &[PeerKey]) -> Result<(), AllocError> {
+    out.push_str("served:")?;
+    for key in keys {
+        write!(out, " {}", key.0)?;
+    }
+    Ok(())
+}
+
+fn push_standings(standings: &mut Vec<Standing>, words: &mut Words) -> Result<(), AllocError> {
     for _ in 0..u64::MAX {
         if words.is_at_end() {
             break;
         }
-        push(&mut standings, standing_of(words.word())?)?;
+        match standing_of(words.word()) {
+            Some(standing) => standings.push(standing)?,
+            None => words.are_wrong(),
+        }
     }
-    Ok(standings)
+    Ok(())
 }
 
 /// A peer's key, whether it is interested, and its bytes, with a colon between them.
-fn standing_of(word: &str) -> Result<Standing, RowError> {
-    let (peer, rest) = word.split_once(':').ok_or(RowError::Unread)?;
-    let (interested, bytes) = rest.split_once(':').ok_or(RowError::Unread)?;
+fn standing_of(word: &str) -> Option<Standing> {
+    let (peer, rest) = word.split_once(':')?;
+    let (interested, bytes) = rest.split_once(':')?;
     let interested = match interested {
         "yes" => true,
         "no" => false,
-        _ => return Err(RowError::Unread),
+        _ => return None,
     };
-    Ok(Standing {
-        peer: PeerKey(long_of(peer)?),
-        interested,
-        bytes: long_of(bytes)?,
-    })
+    match (peer.parse::<u64>(), bytes.parse::<u64>()) {
+        (Ok(peer), Ok(bytes)) => Some(Standing {
+            peer: PeerKey(peer),
+            interested,
+            bytes,
+        }),
+        _ => None,
+    }
 }
 
 /// Whether each standing is of another peer.

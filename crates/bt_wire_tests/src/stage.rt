@@ -1,23 +1,23 @@
 //! What the rows so far have made, and the first word of a row.
 
 use crate::bodies::{Bodies, bodies_row};
-use crate::book::book_row;
-use crate::cutter::{cuts_row, cutter_row, stream_row};
+use crate::book::{Requests, book_row};
+use crate::cutter::{Stream, cuts_row, cutter_row, new_stream, stream_row};
 use crate::key::key_row;
 use crate::message::{hello_row, list_row, texts_row, write_row};
 use crate::random::{Random, random_row};
 use crate::serve::serve_row;
 use crate::tree::{Tree, tree_row};
-use crate::words::{RowError, Words};
+use crate::words::Words;
 use bt_book::Book;
-use bt_wire::Cutter;
 use std::alloc::{AllocError, Global};
+use std::fmt::Write;
 
 /// What the rows work on.
 #[derive(Drop)]
 pub struct Stage {
-    cutter: Cutter,
-    book: Book,
+    stream: Stream,
+    requests: Requests,
     random: Random,
     tree: Tree,
     bodies: Option<Bodies>,
@@ -25,44 +25,54 @@ pub struct Stage {
 
 impl Stage {
     pub fn new(alloc: Global) -> Result<Stage, AllocError> {
+        let book = Book::new(alloc, &[])?;
         Ok(Stage {
-            cutter: Cutter::new(alloc),
-            book: Book::new(alloc, &[])?,
+            stream: new_stream(alloc),
+            requests: Requests { book },
             random: Random::new(),
             tree: Tree::Empty,
             bodies: None,
         })
     }
 
-    /// What a row answers. One that begins with `#` is told as it is, and what is no row says so.
-    pub fn answer(&mut self, alloc: Global, row: &str) -> Result<String, AllocError> {
+    /// Adds what a row answers. One that begins with `#` is told as it is, and what is no row says so.
+    pub fn answer(&mut self, alloc: Global, row: &str, out: &mut String) -> Result<(), AllocError> {
         if row.is_empty() || row.starts_with('#') {
-            return String::from_str(alloc, row);
+            return out.push_str(row);
         }
         let mut words = Words::new(row);
-        match self.row(alloc, &mut words) {
-            Ok(answer) if words.is_at_end() => Ok(answer),
-            Ok(_) | Err(RowError::Unread) => format!(in alloc; "not understood: {row}"),
-            Err(RowError::Memory(error)) => Err(error),
+        self.row(alloc, &mut words, out)?;
+        if words.are_read() {
+            return Ok(());
         }
+        out.clear();
+        write!(out, "not understood: {row}")
     }
 
-    fn row(&mut self, alloc: Global, words: &mut Words) -> Result<String, RowError> {
+    fn row(
+        &mut self,
+        alloc: Global,
+        words: &mut Words,
+        out: &mut String,
+    ) -> Result<(), AllocError> {
         match words.word() {
-            "cutter" => cutter_row(alloc, &mut self.cutter, words),
-            "stream" => stream_row(alloc, words),
-            "cuts" => cuts_row(alloc, words),
-            "write" => write_row(alloc, words),
-            "hello" => hello_row(alloc, words),
-            "list" => list_row(alloc, words),
-            "texts" => texts_row(alloc),
-            "book" => book_row(alloc, &mut self.book, words),
-            "random" => random_row(alloc, &mut self.random, &mut self.book, words),
-            "serve" => serve_row(alloc, words),
-            "key" => key_row(alloc, words),
-            "tree" => tree_row(alloc, &mut self.tree, words),
-            "bodies" => bodies_row(alloc, &mut self.bodies, words),
-            _ => Err(RowError::Unread),
+            "cutter" => cutter_row(alloc, &mut self.stream, words, out),
+            "stream" => stream_row(alloc, words, out),
+            "cuts" => cuts_row(alloc, words, out),
+            "write" => write_row(alloc, words, out),
+            "hello" => hello_row(alloc, words, out),
+            "list" => list_row(alloc, words, out),
+            "texts" => texts_row(out),
+            "book" => book_row(alloc, &mut self.requests, words, out),
+            "random" => random_row(&mut self.random, &mut self.requests, words, out),
+            "serve" => serve_row(alloc, words, out),
+            "key" => key_row(alloc, words, out),
+            "tree" => tree_row(alloc, &mut self.tree, words, out),
+            "bodies" => bodies_row(alloc, &mut self.bodies, words, out),
+            _ => {
+                words.are_wrong();
+                Ok(())
+            }
         }
     }
 }

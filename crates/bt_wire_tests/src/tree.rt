@@ -1,13 +1,14 @@
 //! Trees of which some nodes are known. They are called through functions without a contract, so that no
 //! proof here carries a clause of theirs.
 
-use crate::bytes::{shown, shown_digests};
-use crate::key::{key_from, key_words};
-use crate::words::{RowError, Words, told};
+use crate::bytes::{push_digests, push_hex, push_shown};
+use crate::key::{key_from, push_key};
+use crate::words::Words;
 use bt_hashreq::{HashKey, plan, to_claim};
 use bt_sparse::{AnswerError, Claim, Digests, ProofError, SparseTree};
-use bt_tree::{Hash32, NodeHash, Plain, Weak};
+use bt_tree::{Geometry, Hash32, LayerError, NodeHash, Plain, Weak};
 use std::alloc::{AllocError, Global};
+use std::fmt::Write;
 
 /// A tree over SHA-256, or over the digest of tests of which collisions are easily found.
 #[derive(Drop)]
@@ -18,45 +19,95 @@ pub enum Tree {
 }
 
 /// A new tree, or a call of the one that is there.
-pub fn tree_row(alloc: Global, tree: &mut Tree, words: &mut Words) -> Result<String, RowError> {
+pub fn tree_row(
+    alloc: Global,
+    tree: &mut Tree,
+    words: &mut Words,
+    out: &mut String,
+) -> Result<(), AllocError> {
     match words.word() {
-        "new" => {
-            *tree = Tree::Plain(root_tree(alloc, Plain, words)?);
-            told(alloc, "a tree")
-        }
-        "weak" => {
-            *tree = Tree::Weak(root_tree(alloc, Weak, words)?);
-            told(alloc, "a tree")
-        }
-        "layer" => layer_row(alloc, tree, words),
-        name => any_tree_row(alloc, tree, name, words),
+        "new" => plain_row(alloc, tree, words, out),
+        "weak" => weak_row(alloc, tree, words, out),
+        "layer" => layer_row(alloc, tree, words, out),
+        name => any_tree_row(alloc, tree, name, words, out),
     }
 }
 
-/// A tree of which the root alone is known.
-pub fn root_tree<H: NodeHash>(
+/// Only here is dropped what was there.
+fn put(place: &mut Tree, tree: Tree) {
+    *place = tree;
+}
+
+fn plain_row(
+    alloc: Global,
+    tree: &mut Tree,
+    words: &mut Words,
+    out: &mut String,
+) -> Result<(), AllocError> {
+    if let Some(made) = root_tree(alloc, Plain, words)? {
+        put(tree, Tree::Plain(made));
+    }
+    out.push_str("a tree")
+}
+
+fn weak_row(
+    alloc: Global,
+    tree: &mut Tree,
+    words: &mut Words,
+    out: &mut String,
+) -> Result<(), AllocError> {
+    if let Some(made) = root_tree(alloc, Weak, words)? {
+        put(tree, Tree::Weak(made));
+    }
+    out.push_str("a tree")
+}
+
+/// A tree of which the root alone is known; none, where no file has so many bytes.
+fn root_tree<H: NodeHash>(
     alloc: Global,
     hash: H,
     words: &mut Words,
-) -> Result<SparseTree<H>, RowError> {
-    let geometry = words.geometry()?;
+) -> Result<Option<SparseTree<H>>, AllocError> {
+    let geometry = Geometry::new(words.long());
     let root = words.array(alloc)?;
-    Ok(SparseTree::new(alloc, hash, geometry, root)?)
+    match geometry {
+        Some(geometry) => Ok(Some(SparseTree::new(alloc, hash, geometry, root)?)),
+        None => {
+            words.are_wrong();
+            Ok(None)
+        }
+    }
 }
 
 /// A tree of which a layer is known, or why these bytes are none.
-fn layer_row(alloc: Global, tree: &mut Tree, words: &mut Words) -> Result<String, RowError> {
-    let geometry = words.geometry()?;
-    let root = words.array(alloc)?;
-    let layer = words.word().parse::<u8>().or(Err(RowError::Unread))?;
-    let bytes = words.bytes(alloc)?;
-    match SparseTree::with_layer(alloc, Plain, geometry, root, layer, &bytes) {
+fn layer_row(
+    alloc: Global,
+    tree: &mut Tree,
+    words: &mut Words,
+    out: &mut String,
+) -> Result<(), AllocError> {
+    let Some(geometry) = Geometry::new(words.long()) else {
+        words.are_wrong();
+        return Ok(());
+    };
+    match layer_tree(alloc, geometry, words)? {
         Ok(made) => {
-            *tree = Tree::Plain(made);
-            told(alloc, "a tree")
+            put(tree, Tree::Plain(made));
+            out.push_str("a tree")
         }
-        Err(error) => Ok(format!(in alloc; "{error}")?),
+        Err(error) => write!(out, "{error}"),
     }
+}
+
+fn layer_tree(
+    alloc: Global,
+    geometry: Geometry,
+    words: &mut Words,
+) -> Result<Result<SparseTree<Plain>, LayerError>, AllocError> {
+    let root = words.array(alloc)?;
+    let layer = words.number().min(255) as u8;
+    let bytes = words.bytes(alloc)?;
+    Ok(SparseTree::with_layer(alloc, Plain, geometry, root, layer, &bytes))
 }
 
 fn any_tree_row(
@@ -64,11 +115,12 @@ fn any_tree_row(
     tree: &mut Tree,
     name: &str,
     words: &mut Words,
-) -> Result<String, RowError> {
+    out: &mut String,
+) -> Result<(), AllocError> {
     match tree {
-        Tree::Empty => Err(RowError::Unread),
-        Tree::Plain(tree) => call_row(alloc, tree, name, words),
-        Tree::Weak(tree) => call_row(alloc, tree, name, words),
+        Tree::Empty => out.push_str("no tree"),
+        Tree::Plain(tree) => call_row(alloc, tree, name, words, out),
+        Tree::Weak(tree) => call_row(alloc, tree, name, words, out),
     }
 }
 
@@ -77,18 +129,22 @@ fn call_row<H: NodeHash>(
     tree: &mut SparseTree<H>,
     name: &str,
     words: &mut Words,
-) -> Result<String, RowError> {
+    out: &mut String,
+) -> Result<(), AllocError> {
     match name {
-        "accept" => accept_row(alloc, tree, words),
-        "take" => take_row(alloc, tree, words),
-        "known" => known_row(alloc, tree, words),
-        "nodes" => nodes_row(alloc, tree),
-        "unknown" => unknown_row(alloc, tree, words),
-        "plan" => plan_row(alloc, tree, words),
-        "answer" => answer_row(alloc, tree, words),
-        "length" => length_row(alloc, tree, words),
-        "room" => answer_room_row(alloc, tree, words),
-        _ => Err(RowError::Unread),
+        "accept" => accept_row(alloc, tree, words, out),
+        "take" => take_row(alloc, tree, words, out),
+        "known" => known_row(alloc, tree, words, out),
+        "nodes" => nodes_row(alloc, tree, out),
+        "unknown" => unknown_row(tree, words, out),
+        "plan" => plan_row(alloc, tree, words, out),
+        "answer" => answer_row(alloc, tree, words, out),
+        "length" => length_row(tree, words, out),
+        "room" => answer_room_row(alloc, tree, words, out),
+        _ => {
+            words.are_wrong();
+            Ok(())
+        }
     }
 }
 
@@ -101,9 +157,9 @@ pub fn known<H: NodeHash>(tree: &SparseTree<H>, layer: u32, index: u32) -> Optio
 }
 
 /// A claim by its base, its index, its run and its uncles.
-pub fn claim_from(alloc: Global, words: &mut Words) -> Result<Claim, RowError> {
-    let base = words.number()?;
-    let index = words.number()?;
+pub fn claim_from(alloc: Global, words: &mut Words) -> Result<Claim, AllocError> {
+    let base = words.number();
+    let index = words.number();
     let run = Digests::new(words.digests(alloc)?);
     let uncles = Digests::new(words.digests(alloc)?);
     Ok(Claim {
@@ -115,38 +171,43 @@ pub fn claim_from(alloc: Global, words: &mut Words) -> Result<Claim, RowError> {
 }
 
 /// How many nodes are new, or why a claim is refused.
-pub fn outcome_words(
+pub fn push_outcome(
     alloc: Global,
+    out: &mut String,
     outcome: Result<u32, ProofError>,
-) -> Result<String, AllocError> {
+) -> Result<(), AllocError> {
     match outcome {
-        Ok(count) => format!(in alloc; "{count} new"),
-        Err(error) => refusal_words(alloc, &error),
+        Ok(count) => write!(out, "{count} new"),
+        Err(error) => push_refusal(alloc, out, &error),
     }
 }
 
-fn refusal_words(alloc: Global, error: &ProofError) -> Result<String, AllocError> {
-    let ProofError::Clash {
-        layer,
-        index,
-        ours,
-        theirs,
-    } = error
-    else {
-        return format!(in alloc; "{error}");
-    };
-    let ours = hex::encode(alloc, ours)?;
-    let theirs = hex::encode(alloc, theirs)?;
-    format!(in alloc; "{error} {layer} {index} {ours} {theirs}")
+fn push_refusal(alloc: Global, out: &mut String, error: &ProofError) -> Result<(), AllocError> {
+    write!(out, "{error}")?;
+    match error {
+        ProofError::Clash {
+            layer,
+            index,
+            ours,
+            theirs,
+        } => {
+            write!(out, " {layer} {index} ")?;
+            push_hex(alloc, out, ours)?;
+            out.push_str(" ")?;
+            push_hex(alloc, out, theirs)
+        }
+        _ => Ok(()),
+    }
 }
 
 fn accept_row<H: NodeHash>(
     alloc: Global,
     tree: &mut SparseTree<H>,
     words: &mut Words,
-) -> Result<String, RowError> {
+    out: &mut String,
+) -> Result<(), AllocError> {
     let claim = claim_from(alloc, words)?;
-    Ok(outcome_words(alloc, accept(tree, &claim))?)
+    push_outcome(alloc, out, accept(tree, &claim))
 }
 
 /// What comes with a key is made a claim and taken.
@@ -154,10 +215,11 @@ fn take_row<H: NodeHash>(
     alloc: Global,
     tree: &mut SparseTree<H>,
     words: &mut Words,
-) -> Result<String, RowError> {
+    out: &mut String,
+) -> Result<(), AllocError> {
     let key = key_from(alloc, words)?;
     let digests = words.bytes(alloc)?;
-    Ok(outcome_words(alloc, taken(alloc, tree, &key, &digests))?)
+    push_outcome(alloc, out, taken(alloc, tree, &key, &digests))
 }
 
 fn taken<H: NodeHash>(
@@ -174,30 +236,43 @@ fn known_row<H: NodeHash>(
     alloc: Global,
     tree: &SparseTree<H>,
     words: &mut Words,
-) -> Result<String, RowError> {
-    let layer = words.number()?;
-    let index = words.number()?;
+    out: &mut String,
+) -> Result<(), AllocError> {
+    let layer = words.number();
+    let index = words.number();
     match known(tree, layer, index) {
-        Some(digest) => Ok(hex::encode(alloc, &digest)?),
-        None => told(alloc, "not known"),
+        Some(digest) => push_hex(alloc, out, &digest),
+        None => out.push_str("not known"),
     }
 }
 
 /// How many nodes of the tree are known, and which: layer by layer from the leaves, a 1 and the digest of
 /// each, and a 0 for each that is not known.
-fn nodes_row<H: NodeHash>(alloc: Global, tree: &SparseTree<H>) -> Result<String, RowError> {
+fn nodes_row<H: NodeHash>(
+    alloc: Global,
+    tree: &SparseTree<H>,
+    out: &mut String,
+) -> Result<(), AllocError> {
     let mut bytes = Vec::new(alloc);
+    let count = append_layers(tree, &mut bytes)?;
+    write!(out, "{count} known, ")?;
+    push_shown(alloc, out, &bytes)
+}
+
+fn append_layers<H: NodeHash>(
+    tree: &SparseTree<H>,
+    bytes: &mut Vec<u8>,
+) -> Result<u32, AllocError> {
     let mut count = 0u32;
     let height = tree.geometry().height() as u32;
     for layer in 0..=height {
         let width = 1u32.wrapping_shl(height.wrapping_sub(layer));
-        count = count.wrapping_add(push_layer(tree, layer, width, &mut bytes)?);
+        count = count.wrapping_add(append_layer(tree, layer, width, bytes)?);
     }
-    let bytes = shown(alloc, &bytes)?;
-    Ok(format!(in alloc; "{count} known, {bytes}")?)
+    Ok(count)
 }
 
-fn push_layer<H: NodeHash>(
+fn append_layer<H: NodeHash>(
     tree: &SparseTree<H>,
     layer: u32,
     width: u32,
@@ -205,27 +280,35 @@ fn push_layer<H: NodeHash>(
 ) -> Result<u32, AllocError> {
     let mut count = 0u32;
     for index in 0..width {
-        match known(tree, layer, index) {
-            Some(digest) => {
-                bytes.push(1)?;
-                bytes.extend_from_slice(&digest)?;
-                count = count.wrapping_add(1);
-            }
-            None => bytes.push(0)?,
-        }
+        count = count.wrapping_add(append_node(bytes, known(tree, layer, index))?);
     }
     Ok(count)
 }
 
+/// Adds a node, and returns how many are known: 1 or 0.
+fn append_node(bytes: &mut Vec<u8>, node: Option<Hash32>) -> Result<u32, AllocError> {
+    match node {
+        Some(digest) => {
+            bytes.extend_from_slice(&[1])?;
+            bytes.extend_from_slice(&digest)?;
+            Ok(1)
+        }
+        None => {
+            bytes.extend_from_slice(&[0])?;
+            Ok(0)
+        }
+    }
+}
+
 /// The next leaf that is not known.
 fn unknown_row<H: NodeHash>(
-    alloc: Global,
     tree: &SparseTree<H>,
     words: &mut Words,
-) -> Result<String, RowError> {
-    match tree.next_unknown(words.number()?) {
-        Some(leaf) => Ok(format!(in alloc; "{leaf}")?),
-        None => told(alloc, "none"),
+    out: &mut String,
+) -> Result<(), AllocError> {
+    match tree.next_unknown(words.number()) {
+        Some(leaf) => write!(out, "{leaf}"),
+        None => out.push_str("none"),
     }
 }
 
@@ -234,14 +317,15 @@ fn plan_row<H: NodeHash>(
     alloc: Global,
     tree: &SparseTree<H>,
     words: &mut Words,
-) -> Result<String, RowError> {
-    let leaf = words.number()?;
+    out: &mut String,
+) -> Result<(), AllocError> {
+    let leaf = words.number();
     if leaf >= tree.geometry().blocks() {
-        return told(alloc, "no such block");
+        return out.push_str("no such block");
     }
     match plan(tree, leaf) {
-        Some(key) => Ok(key_words(alloc, &key)?),
-        None => told(alloc, "none"),
+        Some(key) => push_key(alloc, out, &key),
+        None => out.push_str("none"),
     }
 }
 
@@ -254,17 +338,17 @@ struct Request {
     layers: u32,
 }
 
-fn request_from(words: &mut Words) -> Result<Request, RowError> {
-    let base = words.number()?;
-    let index = words.number()?;
-    let length = words.number()?;
-    let layers = words.number()?;
-    Ok(Request {
+fn request_from(words: &mut Words) -> Request {
+    let base = words.number();
+    let index = words.number();
+    let length = words.number();
+    let layers = words.number();
+    Request {
         base,
         index,
         length,
         layers,
-    })
+    }
 }
 
 fn answer<H: NodeHash>(tree: &SparseTree<H>, request: Request) -> Result<Vec<Hash32>, AnswerError> {
@@ -275,11 +359,12 @@ fn answer_row<H: NodeHash>(
     alloc: Global,
     tree: &SparseTree<H>,
     words: &mut Words,
-) -> Result<String, RowError> {
-    let request = request_from(words)?;
+    out: &mut String,
+) -> Result<(), AllocError> {
+    let request = request_from(words);
     match answer(tree, request) {
-        Ok(digests) => Ok(shown_digests(alloc, &digests)?),
-        Err(error) => Ok(format!(in alloc; "{error}")?),
+        Ok(digests) => push_digests(alloc, out, &digests),
+        Err(error) => write!(out, "{error}"),
     }
 }
 
@@ -289,14 +374,14 @@ fn answer_len<H: NodeHash>(tree: &SparseTree<H>, request: Request) -> Option<u32
 
 /// How many digests answer a request.
 fn length_row<H: NodeHash>(
-    alloc: Global,
     tree: &SparseTree<H>,
     words: &mut Words,
-) -> Result<String, RowError> {
-    let request = request_from(words)?;
+    out: &mut String,
+) -> Result<(), AllocError> {
+    let request = request_from(words);
     match answer_len(tree, request) {
-        Some(count) => Ok(format!(in alloc; "{count} digests")?),
-        None => told(alloc, "no answer"),
+        Some(count) => write!(out, "{count} digests"),
+        None => out.push_str("no answer"),
     }
 }
 
@@ -306,23 +391,22 @@ fn answer_room_row<H: NodeHash>(
     alloc: Global,
     tree: &SparseTree<H>,
     words: &mut Words,
-) -> Result<String, RowError> {
-    let request = request_from(words)?;
+    out: &mut String,
+) -> Result<(), AllocError> {
+    let request = request_from(words);
     let mut room = [[9; 32]; 3];
-    let outcome = answer_into(tree, request, &mut room);
-    Ok(room_words(alloc, outcome, &room)?)
+    push_answered(out, answer_into(tree, request, &mut room))?;
+    push_digests(alloc, out, &room)
 }
 
-fn room_words(
-    alloc: Global,
+fn push_answered(
+    out: &mut String,
     outcome: Option<Result<(), AnswerError>>,
-    room: &[Hash32],
-) -> Result<String, AllocError> {
-    let room = shown_digests(alloc, room)?;
+) -> Result<(), AllocError> {
     match outcome {
-        None => format!(in alloc; "another length {room}"),
-        Some(Ok(())) => format!(in alloc; "written {room}"),
-        Some(Err(error)) => format!(in alloc; "{error} {room}"),
+        None => out.push_str("another length "),
+        Some(Ok(())) => out.push_str("written "),
+        Some(Err(error)) => write!(out, "{error} "),
     }
 }
 

@@ -1,6 +1,6 @@
 use Rattle.bt_meta.proofs.Base.{◌≡◌, take, arith, take_all, err_from_is_err_and}
 use Rattle.bt_meta.proofs.Dictionaries.{entries_below}
-use Rattle.bt_meta.proofs.TreeWalk.{walks_key, walks_folder, stops_among}
+use Rattle.bt_meta.proofs.TreeWalk.{none_yet, memory_stops, walks_key, walks_folder, stops_among}
 use Rattle.bt_meta.proofs.walk.+walk_folder.Goals as goal
 
 pub returns-in_err-inner-clause-stopped : goal.returns-in_err-inner-clause-stopped
@@ -8,6 +8,14 @@ returns-in_err-inner-clause-stopped t c =
     let q = err_from_is_err_and c.from_residual.result c.from_residual.ensures.1 in
     rw (q.1, q.2, entries_below _ _ _ _ c.in-Dict.is c.deref-key-items.ensures.value)
     (stops_among _ _ _ (walks_key _ _ _ c.loop-key-test.true c.loop-key-item.is c.loop-key.invariant (rw (← c.deref.ensures.value) c.in_err-inner.ensures)))
+
+pub returns-in_err-new-clause-stopped : goal.returns-in_err-new-clause-stopped
+returns-in_err-new-clause-stopped t c =
+    let q = err_from_is_err_and c.from_residual-in_err-new.result c.from_residual-in_err-new.ensures.1 in
+    rw q.1 (memory_stops q.2)
+
+pub loop-key-init : goal.loop-key-init
+loop-key-init t c = none_yet _
 
 pub returns-in_err-walk_folder-clause-stopped : goal.returns-in_err-walk_folder-clause-stopped
 returns-in_err-walk_folder-clause-stopped t c =

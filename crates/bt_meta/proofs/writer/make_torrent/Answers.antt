@@ -1,8 +1,28 @@
-use Rattle.bt_meta.proofs.Base.{arith, ◌∙◌, overlap}
+use Rattle.bt_meta.proofs.Base.{arith, ◌∙◌, overlap, err_from_is_err_and}
 use Rattle.bt_meta.specs.Writer.{too_long}
-use Rattle.bt_meta.proofs.MakeFiles.{same_overlap, tree_paths, files_refused}
+use Rattle.bt_meta.proofs.MakeFiles.{same_overlap, tree_paths, files_refused, files_unlawful, memory_short}
 use Rattle.bt_meta.proofs.MadeText.{made_of_given, infohash_made, has_info}
 use Rattle.bt_meta.proofs.writer.make_torrent.Goals as goal
+
+pub returns-in_err-check_files-clause-refused : goal.returns-in_err-check_files-clause-refused
+returns-in_err-check_files-clause-refused c =
+    let q = err_from_is_err_and c.from_residual.result c.from_residual.ensures.1 in
+    rw (q.1, q.2) (files_unlawful _ c.if-not-is_lawful_length.ensures c.if-is_empty.ensures c.in_err-check_files.ensures.checked)
+
+pub returns-in_err-ordered-clause-refused : goal.returns-in_err-ordered-clause-refused
+returns-in_err-ordered-clause-refused c =
+    let q = err_from_is_err_and c.from_residual-in_err-ordered.result c.from_residual-in_err-ordered.ensures.1 in
+    rw (q.1, q.2) (memory_short _ c.if-not-is_lawful_length.ensures c.if-is_empty.ensures)
+
+pub returns-in_err-value-clause-refused : goal.returns-in_err-value-clause-refused
+returns-in_err-value-clause-refused c =
+    let q = err_from_is_err_and c.from_residual-in_err-value.result c.from_residual-in_err-value.ensures.1 in
+    rw (q.1, q.2) (memory_short _ c.if-not-is_lawful_length.ensures c.if-is_empty.ensures)
+
+pub returns-in_err-text-clause-refused : goal.returns-in_err-text-clause-refused
+returns-in_err-text-clause-refused c =
+    let q = err_from_is_err_and c.from_residual-in_err-text.result c.from_residual-in_err-text.ensures.1 in
+    rw (q.1, q.2) (memory_short _ c.if-not-is_lawful_length.ensures c.if-is_empty.ensures)
 
 pub returns-then-has_overlap-clause-refused : goal.returns-then-has_overlap-clause-refused
 returns-then-has_overlap-clause-refused c =

@@ -18,7 +18,7 @@ loop-j-preserved c =
     let j = c.loop-j.j in
     let before = c.loop-j.invariant in
     let blocks_found = c.args.blocks_found.now in
-    let few : j < length blocks_found = omega (arith, c.told-blocks_found, c.requires.few) in
+    let few : j < length blocks_found = omega (arith, c.loop-j-test.true, c.loop-j.auto.j-end, c.requires.few) in
     let same = get_or_defaults blocks_found j (Whole []) Failed few in
     record {
       digests = c.note.ensures ∙ ap (λ f. noted (c.args.at + j) f c.loop-j.digests) same ∙ ap (noted (c.args.at + j) (get_or blocks_found j Failed)) before.digests

@@ -51,7 +51,7 @@ returns-then-below-eq0 g t c = λ row same past j lt.
           c.sixteen.ensures.padding i padding low ∙ c.requires.pads c.args.layer (omega arith) ∙ sym (past i padding (omega arith))
           ∙ sym (row_zero dig row i) ∙ ap (λ k. row_node dig row k i) (sym none)
     ])
-    (c.parents.ensures j lt)
+    (c.eight_parents.ensures j lt)
 
 pub returns : goal.returns
 returns g t c = λ row same past j lt.
@@ -73,7 +73,7 @@ returns g t c = λ row same past j lt.
     let at : m + i ≡ half + i = omega arith in
     ap (λ (xs : List (List ℕ)). get_or xs i []) c.split_at.ensures.back ∙ get_or-drop m digests i [] ∙ same (m + i) (omega arith) ∙ ap row at)
     (λ i low high. past (half + i) (omega arith) (omega arith)) in
-    nodes_up dig row below j c.both.result _ lt
-    (nodes_beside dig row below half c.both.result c.eight_nodes-left.result c.eight_nodes-right.result (omega arith) c.both.ensures.left c.both.ensures.right
+    nodes_up dig row below j c.side_by_side.result _ lt
+    (nodes_beside dig row below half c.side_by_side.result c.eight_nodes-left.result c.eight_nodes-right.result (omega arith) c.side_by_side.ensures.left c.side_by_side.ensures.right
     (λ i low. lows i low ∙ ap (λ k. row_node dig row k i) level) (λ i low. highs i low ∙ ap (λ k. row_node dig (λ q. row (half + q)) k i) level))
-    (c.parents-2.ensures j lt)
+    (c.eight_parents-2.ensures j lt)

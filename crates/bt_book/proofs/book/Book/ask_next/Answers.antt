@@ -1,7 +1,7 @@
 use Rattle.std.proofs.Common.{[], ◌∷◌, ◌++◌, inr, subst}
-use Rattle.bt_book.specs.Book.{BookState, IsLeastUnasked, HasNoneUnasked}
+use Rattle.bt_book.specs.Book.{BookState, IsUnasked, IsLeastUnasked, HasNoneUnasked}
 use Rattle.bt_book.specs.Blocks.{IsInRange, says}
-use Rattle.bt_book.proofs.Pairs.{least_asked, none_asked}
+use Rattle.bt_book.proofs.Pairs.{unasked_is, least_asked, none_asked}
 use Rattle.bt_book.proofs.Firsts.{as_none}
 use Rattle.bt_book.proofs.Changes.{joined_at, asked_by, others_by, peers_by}
 use Rattle.bt_book.proofs.book.Book.ask_next.Goals as goal
@@ -17,6 +17,16 @@ returns-clause-least g c = λ has gives_first.
     subst (λ (s : BookState). IsLeastUnasked (says has) s c.in_ok-block.block) c.self.view_is
     (least_asked c.self.invariant.0 _ has (λ b r inside gives. gives_first b r
     (subst (λ (s : BookState). IsInRange s.wanted b) c.self.view_is inside) gives) c.in_ok-block.block (c.in_ok-block.ensures.some has))
+
+pub make_pair-requires-clause-unasked : goal.make_pair-requires-clause-unasked
+make_pair-requires-clause-unasked g c =
+    subst (λ (s : BookState). IsUnasked s c.in_ok-block.block) c.self.view_is
+    (unasked_is c.self.invariant.0 c.in_ok-block.block c.in_ok-block.ensures.among)
+
+pub returns-clause-unasked : goal.returns-clause-unasked
+returns-clause-unasked g c =
+    subst (λ (s : BookState). IsUnasked s c.in_ok-block.block) c.self.view_is
+    (unasked_is c.self.invariant.0 c.in_ok-block.block c.in_ok-block.ensures.among)
 
 pub returns-clause-now : goal.returns-clause-now
 returns-clause-now g c = c.make_pair.ensures c.args.peer c.in_ok-index.ensures.here

@@ -1,6 +1,6 @@
 use Rattle.std.proofs.Common.{arith}
 use Rattle.bt_book.proofs.Pairs.{asked_once, asked_is, changed_is, forgotten_is, kept_came, free_came}
-use Rattle.bt_book.proofs.Asked.{asked_forgotten, asked_changed_other}
+use Rattle.bt_book.proofs.Asked.{asked_none, changed_none, asked_forgotten, asked_changed_other}
 use Rattle.bt_book.proofs.Changes.{peers_by}
 use Rattle.bt_book.specs.Book.{without_block}
 use Rattle.bt_book.proofs.book.Book.came.Goals as goal
@@ -66,3 +66,12 @@ returns-then-not-forget-clause-peers c =
 
 pub returns-clause-peers : goal.returns-clause-peers
 returns-clause-peers c = peers_by c.args.peer c.args.self.now _ (without_block c.args.block) (returns-clause-now c)
+
+pub returns-in_default-clause-was : goal.returns-in_default-clause-was
+returns-in_default-clause-was c = grind (arith, asked_none)
+
+pub returns-in_default-clause-now : goal.returns-in_default-clause-now
+returns-in_default-clause-now c = grind (arith, changed_none)
+
+pub returns-in_default-clause-asked : goal.returns-in_default-clause-asked
+returns-in_default-clause-asked c = grind (arith, asked_none)

@@ -3,7 +3,7 @@ use Rattle.std.proofs.lemmas.List.{get_or_default}
 use Rattle.bt_book.proofs.Pairs.{kept_choked, changed_is, book_is}
 use Rattle.bt_book.proofs.Changes.{peers_by, freed_by}
 use Rattle.bt_book.specs.Book.{IsBook}
-use Rattle.bt_book.proofs.Asked.{asked_cleared, asked_changed_other}
+use Rattle.bt_book.proofs.Asked.{asked_none, changed_none, asked_cleared, asked_changed_other}
 use Rattle.bt_book.proofs.book.Book.choked.Goals as goal
 
 pub invariant_of-self : goal.invariant_of-self
@@ -27,3 +27,9 @@ returns-in-Some-clause-free c =
 
 pub returns-in-Some-clause-peers : goal.returns-in-Some-clause-peers
 returns-in-Some-clause-peers c = peers_by c.args.peer c.args.self.now _ (λ _. []) (returns-in-Some-clause-now c)
+
+pub returns-in_default-clause-now : goal.returns-in_default-clause-now
+returns-in_default-clause-now c = grind (arith, changed_none)
+
+pub returns-in_default-clause-nothing_asked : goal.returns-in_default-clause-nothing_asked
+returns-in_default-clause-nothing_asked c = grind (arith, asked_none)

@@ -2,7 +2,7 @@ use Rattle.std.proofs.Common.{subst, ap, ◌∙◌, arith}
 use Rattle.bt_book.proofs.Pairs.{kept_lost, lost_is, book_is}
 use Rattle.bt_book.proofs.Changes.{keys_lost, freed_lost}
 use Rattle.bt_book.specs.Book.{IsBook, peers_of}
-use Rattle.bt_book.proofs.Asked.{asked_lost, asked_lost_other, lost_none}
+use Rattle.bt_book.proofs.Asked.{asked_none, asked_lost, asked_lost_other, lost_none}
 use Rattle.bt_book.proofs.book.Book.lost.Goals as goal
 
 pub invariant_of-self : goal.invariant_of-self
@@ -27,3 +27,9 @@ returns-in-Some-clause-peers c = ap peers_of (returns-in-Some-clause-now c) ∙ 
 
 pub returns-in_default-clause-peers : goal.returns-in_default-clause-peers
 returns-in_default-clause-peers c = grind (arith, lost_none, keys_lost c.args.peer c.args.self.now.peers)
+
+pub returns-in_default-clause-now : goal.returns-in_default-clause-now
+returns-in_default-clause-now c = grind (arith, lost_none)
+
+pub returns-in_default-clause-nothing_asked : goal.returns-in_default-clause-nothing_asked
+returns-in_default-clause-nothing_asked c = grind (arith, asked_none)

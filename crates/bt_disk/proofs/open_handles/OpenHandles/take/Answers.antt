@@ -4,6 +4,9 @@ use Rattle.bt_disk.proofs.open_handles.OpenHandles.take.Goals as goal
 
 pub returns-clause-taken : goal.returns-clause-taken
 returns-clause-taken g c =
-    let same : c.in_ok-entry.entry.device ≡ c.args.device = search rules in
-    let read = slice_get_read c.self.inside.entries.items (length c.self.inside.entries.items) c.in_ok-place.place c.in_ok-entry.entry refl (search rules) (search rules) in
-    record { place = c.in_ok-place.place; there = rw (← c.self.view_is, ← same) read; rest = search rules }
+    let place = c.in_ok-place.ensures.some in
+    let read = c.in_ok-entry.ensures.value in
+    let same : c.in_ok-entry.entry.device ≡ c.args.device = place.here _ read in
+    let entries = c.self.inside.entries.items in
+    let there = slice_get_read entries (length entries) c.in_ok-place.place c.in_ok-entry.entry refl place.inside read in
+    record { place = c.in_ok-place.place; there = rw (← c.self.view_is, ← same) there; rest = search rules }

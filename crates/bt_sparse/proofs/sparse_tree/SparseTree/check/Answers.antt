@@ -1,4 +1,4 @@
-use Rattle.std.proofs.Common.{◌≡◌, ◌<◌, ◌≤◌, length, Some, sym, ap, ◌∙◌, subst, arith}
+use Rattle.std.proofs.Common.{rules, ◌≡◌, ◌<◌, ◌≤◌, length, Some, sym, ap, ◌∙◌, subst, arith}
 use Rattle.std.specs.List.{All}
 use Rattle.std.proofs.lemmas.List.Elements.{All-contains}
 use Rattle.bt_tree.specs.Limits.{max_height}
@@ -78,10 +78,10 @@ returns-in-Some-clause-refused g c =
     hangs.held ∙ ap (λ d. Some d) (equal_bytes _ _ _ c.ne.ensures c.if-ne.false ∙ c.in_ok-expansion.ensures.digest) in
     let found : IsHighestIn g.H.NodeHash.digest c.args.self.now (claimed_pairs g.H.NodeHash.digest (blocks_of c.args.self.now) c.args.claim.now) c.in-Some.found =
     subst (λ ps. IsHighestIn g.H.NodeHash.digest c.args.self.now ps c.in-Some.found) pairs c.in-Some.ensures in
-    rw (c.input.ensures.value, c.input-in-Some.ensures.value)
+    rw (c.pair_bytes.ensures, c.pair_bytes-in-Some.ensures)
     (clash _ _ _ _ hangs.shape hangs.padding top
     (is_clash g.H.NodeHash.digest c.args.self.now c.args.claim.now c.in-Some.found hangs.shape rooted hangs.padding top found
-    c.input.ensures.left c.input-in-Some.ensures.left))
+    (search rules) (search rules)))
 
 pub returns-clause-ok : goal.returns-clause-ok
 returns-clause-ok g c =

@@ -1,5 +1,5 @@
 use Rattle.std.proofs.Common.{◌≡◌, ℕ, ◌+◌, ◌*◌, ◌<◌, ◌++◌, get_or, [], length}
-use Rattle.bt_tree.proofs.layer_fold.parents.Given as goal
+use Rattle.bt_tree.proofs.layer_fold.eight_parents.Given as goal
 
 abbrev pub invariant-loop-j : goal.invariant-loop-j
 invariant-loop-j g l = record {

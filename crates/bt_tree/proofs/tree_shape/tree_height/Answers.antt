@@ -1,6 +1,6 @@
 use Rattle.std.proofs.Common.{arith, refl}
 use Rattle.bt_tree.proofs.TreeShape.{height_from_zeros, height_is, same_height}
-use Rattle.bt_sparse.proofs.expansion.run_height.Goals as goal
+use Rattle.bt_tree.proofs.tree_shape.tree_height.Goals as goal
 
 pub returns-clause-value : goal.returns-clause-value
 returns-clause-value c =
