@@ -173,10 +173,7 @@ pub fn commands<'a>(alloc: Global) -> Result<Command<'a>, AllocError>
 }
 
 /// The program with these commands.
-fn with_commands<'a>(
-    alloc: Global,
-    rows: &[Subcommand<'a>],
-) -> Result<Command<'a>, AllocError>
+fn with_commands<'a>(alloc: Global, rows: &[Subcommand<'a>]) -> Result<Command<'a>, AllocError>
     ensures { IfOk result (λ made. app_of made ≡ with_commands top_app (map app_of_row rows.now)) }
 {
     let top = top_command(alloc)?;
