@@ -1,6 +1,7 @@
 #!/usr/bin/env python3
 """Times sessions that fetch a file of 256 MiB into a device in memory from a peer whose bytes are in memory, and beside each the check of
-the same bytes against the digests of the torrent, by the groups of `btseed check`.
+the same bytes against the digests of the torrent, by the groups of `btseed check`. Each session runs as it is, and read ahead, as `btseed
+fetch` has it.
 
     python3 bench/session.py [FOLDER]
 
@@ -17,7 +18,7 @@ import tempfile
 
 from measure import built
 
-CRATES = ["bt_session", "bt_engine", "bt_meta", "bt_wire", "bt_hashreq", "bt_store", "bt_disk", "bt_sparse", "bt_lanes", "bt_tree"]
+CRATES = ["bt_session", "bt_engine", "bt_meta", "bt_wire", "bt_hashreq", "bt_store", "bt_ahead", "bt_disk", "bt_sparse", "bt_lanes", "bt_tree"]
 
 
 def main():
@@ -31,7 +32,7 @@ def main():
         best[what, int(length)] = tuple(map(min, best.get((what, int(length)), times), times))
     for (what, length), times in best.items():
         session, check = (length / (1 << 20) / (time / 1e9) for time in times)
-        print(f"{what:22} session {session:7.0f} MiB/s, check {check:7.0f} MiB/s, {session / check:5.2f} of the check")
+        print(f"{what:34} session {session:7.0f} MiB/s, check {check:7.0f} MiB/s, {session / check:5.2f} of the check")
 
 
 if __name__ == "__main__":

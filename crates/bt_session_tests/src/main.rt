@@ -1,8 +1,9 @@
 //! Runs sessions with peers whose bytes lie in memory, on engines whose files lie in memory, tries peers in turn, opens sockets of
-//! this machine with itself, and passes conversations through a reader and a writer of `bt_padding`, as the rows of `stdin` say.
+//! this machine with itself, and passes conversations through a reader and a writer of `bt_padding`, and reads ahead by `bt_ahead`, as the rows of `stdin` say.
 //! `stdout` has what they are to answer. README.md tells the rows.
 #![tactic(auto)]
 
+mod ahead;
 mod bytes;
 mod ends;
 mod engine;

@@ -3,10 +3,11 @@ ghost use Rattle.std.specs.Prelude.{◌≡◌};
 
 use crate::engine::TestEngine;
 use crate::sessions::tell_end;
+use bt_ahead::{DigestCache, ReadAhead};
 use bt_meta::Torrent;
 use bt_padding::{PaddedReader, PaddedWriter, Padding};
 use bt_peers::{Link, PeerEnd, end_text};
-use bt_sockets::{IDLE_SECONDS, TcpLink, listen, port_of, serve};
+use bt_sockets::{IDLE_SECONDS, Passage, TcpLink, listen, port_of, serve};
 use std::alloc::{AllocError, Global};
 use std::cell::RefCell;
 use std::fmt::Write;
@@ -25,8 +26,7 @@ type Stream = <HostRuntime as Net>::Stream;
 struct Site<'a> {
     net: &'a HostRuntime,
     alloc: Global,
-    torrent: &'a Torrent,
-    padding: &'a RefCell<Padding>,
+    passage: Passage<'a>,
 }
 
 /// As long as a program waits.
@@ -36,20 +36,25 @@ fn patience() -> Duration {
 
 /// Adds what a row answers: whether a closed port is reached, a byte that goes there and back, or what comes of so many milliseconds
 /// of silence.
-pub fn socket_row(
-    net: &HostRuntime,
+pub fn socket_row<'a>(
+    net: &'a HostRuntime,
     alloc: Global,
-    torrent: &Torrent,
+    torrent: &'a Torrent,
     engine: &mut TestEngine,
     row: &str,
     out: &mut String,
 ) -> Result<(), AllocError> {
     let padding = RefCell::new(Padding::new(alloc)?);
+    let digests = RefCell::new(DigestCache::new(alloc)?);
+    let passage = Passage {
+        torrent,
+        padding: &padding,
+        digests: &digests,
+    };
     let site = Site {
         net,
         alloc,
-        torrent,
-        padding: &padding,
+        passage,
     };
     let (name, number) = row.split_once(' ').unwrap_or((row, "0"));
     let number = number.parse::<u8>().unwrap_or(0);
@@ -75,22 +80,19 @@ pub fn socket_row(
 fn link<'a>(site: &Site<'a>, port: u16, idle: Duration) -> TcpLink<'a, HostRuntime>
     ensures { result.all ≡ 0 }
 {
-    TcpLink::new(
-        site.alloc,
-        site.net,
-        HOST,
-        port,
-        idle,
-        site.torrent,
-        site.padding,
-    )
+    TcpLink::new(site.alloc, site.net, HOST, port, idle, site.passage)
 }
 
 fn dialled<'a>(
     site: &Site<'a>,
     port: u16,
     idle: Duration,
-) -> Option<(PaddedReader<'a, Stream>, PaddedWriter<'a, Stream>)> {
+) -> Option<
+    (
+        PaddedReader<'a, ReadAhead<'a, Stream>>,
+        PaddedWriter<'a, Stream>,
+    ),
+> {
     link(site, port, idle).dial()
 }
 
@@ -171,16 +173,7 @@ fn served(
     if engine.peers() != 0 {
         return None;
     }
-    serve(
-        site.net,
-        site.alloc,
-        engine,
-        listener,
-        idle,
-        site.torrent,
-        site.padding,
-    )
-    .ok()
+    serve(site.net, site.alloc, engine, listener, idle, site.passage).ok()
 }
 
 fn tell_served(out: &mut String, end: Option<PeerEnd>) -> Result<(), AllocError> {

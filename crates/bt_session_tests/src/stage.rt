@@ -1,5 +1,6 @@
 //! What the rows so far have made, and whose row one is.
 
+use crate::ahead::ahead_row;
 use crate::sessions::Sessions;
 use crate::sockets::socket_row;
 use crate::talks::Talks;
@@ -30,6 +31,7 @@ impl<'a> Stage<'a> {
         }
         let (name, rest) = row.split_once(' ').unwrap_or((row, ""));
         match name {
+            "ahead" => ahead_row(alloc, rest, out),
             "padding" => self.talks.answer(alloc, rest, out),
             "socket" => self.socket_row(alloc, rest, out),
             _ => self.sessions.answer(alloc, name, rest, out),

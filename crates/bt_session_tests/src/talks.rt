@@ -1,10 +1,9 @@
 //! Conversations, and the torrent that they are of.
 
 use crate::talk::talk_row;
-use crate::words::{RowError, Words};
+use crate::words::{RowError, Words, tell_answer};
 use bt_meta::{Torrent, read_info};
 use std::alloc::{AllocError, Global};
-use std::fmt::Write;
 
 /// What the rows so far have made.
 #[derive(Drop)]
@@ -20,12 +19,8 @@ impl Talks {
     /// Adds what a row answers. What is no row says so.
     pub fn answer(&mut self, alloc: Global, row: &str, out: &mut String) -> Result<(), AllocError> {
         let mut words = Words::new(row);
-        match self.row(alloc, &mut words) {
-            Ok(answer) if words.is_at_end() => writeln!(out, "{answer}"),
-            Ok(_) | Err(RowError::Unread) => writeln!(out, "not understood: {row}"),
-            Err(RowError::Failed) => out.push_str("failed\n"),
-            Err(RowError::Memory(error)) => Err(error),
-        }
+        let answer = self.row(alloc, &mut words);
+        tell_answer(answer, words.is_at_end(), row, out)
     }
 
     fn row(&mut self, alloc: Global, words: &mut Words) -> Result<String, RowError> {

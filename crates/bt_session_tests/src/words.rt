@@ -2,6 +2,7 @@
 
 use crate::bytes::bytes_of;
 use std::alloc::{AllocError, Global};
+use std::fmt::Write;
 use std::io;
 
 /// Why a row has no answer.
@@ -26,6 +27,21 @@ impl From<io::Error> for RowError {
     }
 }
 
+/// Adds what a row answers, all of which has to be read. What is no row says so.
+pub fn tell_answer(
+    answer: Result<String, RowError>,
+    is_at_end: bool,
+    row: &str,
+    out: &mut String,
+) -> Result<(), AllocError> {
+    match answer {
+        Ok(answer) if is_at_end => writeln!(out, "{answer}"),
+        Ok(_) | Err(RowError::Unread) => writeln!(out, "not understood: {row}"),
+        Err(RowError::Failed) => out.push_str("failed\n"),
+        Err(RowError::Memory(error)) => Err(error),
+    }
+}
+
 /// The words of a row that are not read yet.
 #[derive(Clone, Copy)]
 pub struct Words<'a> {
@@ -46,6 +62,14 @@ impl<'a> Words<'a> {
         let (word, rest) = self.rest.split_once(' ').unwrap_or((self.rest, ""));
         self.rest = rest;
         word
+    }
+
+    /// The number that the next word spells.
+    pub fn number(&mut self) -> Result<u32, RowError> {
+        match self.word().parse::<u32>() {
+            Ok(number) => Ok(number),
+            Err(_) => Err(RowError::Unread),
+        }
     }
 
     /// The bytes that the next word spells; none where it is `-`.

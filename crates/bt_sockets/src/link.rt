@@ -4,12 +4,12 @@ ghost use Rattle.bt_peers.specs.Link.{failure_count};
 ghost use Rattle.bt_sockets.specs.Link.{LeadToSamePeer, undialled};
 ghost use Rattle.bt_sockets.specs.StreamSteps.{IsAddressOf};
 
+use crate::passage::Passage;
 use crate::stream::{both_ways, connected};
-use bt_meta::Torrent;
-use bt_padding::{PaddedReader, PaddedWriter, Padding};
+use bt_ahead::ReadAhead;
+use bt_padding::{PaddedReader, PaddedWriter};
 use bt_peers::Link;
 use std::alloc::Global;
-use std::cell::RefCell;
 use std::io;
 use std::marker::Model;
 use std::net::{Net, SocketAddr};
@@ -23,8 +23,7 @@ pub struct TcpLink<'a, R: Net> {
     host: &'a str,
     port: u16,
     idle: Duration,
-    torrent: &'a Torrent,
-    padding: &'a RefCell<Padding>,
+    passage: Passage<'a>,
     dials: u64,
     failures: u64,
 }
@@ -32,7 +31,7 @@ pub struct TcpLink<'a, R: Net> {
 /// A connection to a peer: what is read from it, what is written to it, and the address that was dialled.
 #[derive(Drop)]
 struct Connection<'a, S> {
-    reader: PaddedReader<'a, S>,
+    reader: PaddedReader<'a, ReadAhead<'a, S>>,
     writer: PaddedWriter<'a, S>,
     address: SocketAddr,
 }
@@ -55,15 +54,14 @@ impl<'a, R: Net> Model for TcpLink<'a, R> {
 
 impl<'a, R: Net> TcpLink<'a, R> {
     /// A link that was not dialled yet. A peer that is idle for so long is given up; no time at all is
-    /// refused at each dial. Links that are dialled in turn may share what is remembered of their peers.
+    /// refused at each dial. Links that are dialled in turn may share their passage.
     pub fn new(
         alloc: Global,
         net: &'a R,
         host: &'a str,
         port: u16,
         idle: Duration,
-        torrent: &'a Torrent,
-        padding: &'a RefCell<Padding>,
+        passage: Passage<'a>,
     ) -> Self
         ensures { result ≡ undialled host.now port }
     {
@@ -73,8 +71,7 @@ impl<'a, R: Net> TcpLink<'a, R> {
             host,
             port,
             idle,
-            torrent,
-            padding,
+            passage,
             dials: 0,
             failures: 0,
         }
@@ -85,13 +82,7 @@ impl<'a, R: Net> TcpLink<'a, R> {
         ensures { IfOk result (λ connection. IsAddressOf self.now.host self.now.port connection.address) }
     {
         let (stream, address) = connected(self.net, self.host, self.port)?;
-        let (reader, writer) = both_ways(
-            self.alloc,
-            stream,
-            self.idle,
-            self.torrent,
-            self.padding,
-        )?;
+        let (reader, writer) = both_ways(self.alloc, stream, self.idle, self.passage)?;
         Ok(Connection {
             reader,
             writer,
@@ -119,7 +110,7 @@ impl<'a, R: Net> TcpLink<'a, R> {
 
 // Nothing is said of what a socket gives.
 impl<'a, R: Net> Link for TcpLink<'a, R> {
-    type R = PaddedReader<'a, R::Stream>;
+    type R = PaddedReader<'a, ReadAhead<'a, R::Stream>>;
 
     type W = PaddedWriter<'a, R::Stream>;
 
@@ -129,7 +120,14 @@ impl<'a, R: Net> Link for TcpLink<'a, R> {
 
     ghost gives = { λ link reader writer. ⊤ };
 
-    fn dial(&mut self) -> Option<(PaddedReader<'a, R::Stream>, PaddedWriter<'a, R::Stream>)> {
+    fn dial(
+        &mut self,
+    ) -> Option<
+        (
+            PaddedReader<'a, ReadAhead<'a, R::Stream>>,
+            PaddedWriter<'a, R::Stream>,
+        ),
+    > {
         let Connection { reader, writer, .. } = self.reach()?;
         Some((reader, writer))
     }

@@ -3,16 +3,16 @@ ghost use Rattle.std.specs.Prelude.{[], ◌≡◌, IfOk, IfErr, OnErr};
 ghost use Rattle.bt_check.specs.Fault.{device};
 ghost use Rattle.bt_sockets.specs.Listener.{IsServed};
 
+use crate::passage::Passage;
 use crate::stream::both_ways;
+use bt_ahead::ReadAhead;
 use bt_check::Fault;
 use bt_disk::Disk;
 use bt_engine::Engine;
-use bt_meta::Torrent;
-use bt_padding::{PaddedReader, PaddedWriter, Padding};
+use bt_padding::{PaddedReader, PaddedWriter};
 use bt_peers::{PeerEnd, meet_peer};
 use bt_tree::NodeHash;
 use std::alloc::Global;
-use std::cell::RefCell;
 use std::io::{Read, Write};
 use std::net::{Net, OpenListener, TcpListener};
 use std::time::Duration;
@@ -48,12 +48,11 @@ pub fn serve<D: Disk + Drop, H: NodeHash, R: Net>(
     engine: &mut Engine<D, H>,
     listener: &R::Listener,
     idle: Duration,
-    torrent: &Torrent,
-    padding: &RefCell<Padding>,
+    passage: Passage<'_>,
 ) -> Result<PeerEnd, Fault>
     requires no_peer { engine.old.state.peers ≡ [] }
     ensures served { IfOk result (λ end. IsServed D.history D.honest D.faults H.digest
-        ⟦<PaddedReader<'static, R::Stream> as Read>⟧.remaining
+        ⟦<PaddedReader<'static, ReadAhead<'static, R::Stream>> as Read>⟧.remaining
         ⟦<PaddedWriter<'static, R::Stream> as Write>⟧.contents SESSION_TURNS engine.old end engine.new) }
     ensures gone { engine.new.state.peers ≡ [] }
     ensures refused { IfErr result (λ fault. fault ≡ device) }
@@ -61,7 +60,7 @@ pub fn serve<D: Disk + Drop, H: NodeHash, R: Net>(
 {
     match listener.accept() {
         Ok((stream, _)) => {
-            let reached = both_ways(alloc, stream, idle, torrent, padding).ok();
+            let reached = both_ways(alloc, stream, idle, passage).ok();
             Ok(meet_peer(alloc, engine, reached, false, SESSION_TURNS))
         }
         Err(_) => Err(Fault::Device),

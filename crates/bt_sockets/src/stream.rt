@@ -2,7 +2,8 @@
 ghost use Rattle.std.specs.Prelude.{◌≡◌, ◌≢◌, List, ℕ, IfOk, MatchOption};
 ghost use Rattle.bt_sockets.specs.StreamSteps.{IsAddressOf, IsTextOf, bracketed};
 
-use bt_meta::Torrent;
+use crate::passage::Passage;
+use bt_ahead::ReadAhead;
 use bt_padding::{PaddedReader, PaddedWriter, Padding};
 use std::alloc::Global;
 use std::cell::RefCell;
@@ -58,22 +59,28 @@ fn in_brackets(host: &str) -> Option<&str>
     }
 }
 
-/// Makes a connection ready for a session: what is read from it, and what is written to it, which are one
-/// socket. Each write leaves at once, and a read or a write fails where the peer was idle for so long. What
-/// was remembered of the peer of another connection is forgotten. Errors: the system refuses this.
+/// Makes a connection ready for a session: what is read from it, ahead of its engine, and what is written to
+/// it, which are one socket. Each write leaves at once, and a read or a write fails where the peer was idle
+/// for so long. What was remembered of the peer of another connection is forgotten. Errors: the system refuses
+/// this; out of memory.
 pub(crate) fn both_ways<'a, S: OpenStream + Drop>(
     alloc: Global,
     stream: S,
     idle: Duration,
-    torrent: &'a Torrent,
-    padding: &'a RefCell<Padding>,
-) -> io::Result<(PaddedReader<'a, S>, PaddedWriter<'a, S>)> {
+    passage: Passage<'a>,
+) -> io::Result<(PaddedReader<'a, ReadAhead<'a, S>>, PaddedWriter<'a, S>)> {
+    let Passage {
+        torrent,
+        padding,
+        digests,
+    } = passage;
     forget(padding)?;
     stream.set_nodelay(true)?;
     stream.set_read_timeout(Some(idle))?;
     stream.set_write_timeout(Some(idle))?;
     let clone = stream.try_clone()?;
-    let reader = PaddedReader::new(alloc, stream, torrent, padding);
+    let ahead = ReadAhead::new(alloc, stream, digests)?;
+    let reader = PaddedReader::new(alloc, ahead, torrent, padding);
     let writer = PaddedWriter::new(alloc, clone, torrent, padding);
     Ok((reader, writer))
 }

@@ -8,11 +8,12 @@ use Rattle.std.proofs.lemmas.List.FromFn.{length-enumerate_from}
 use Rattle.std.proofs.lemmas.List.Sums.{length-filter}
 use Rattle.bt_disk.specs.FileDisk.{writing}
 use Rattle.bt_disk.specs.Pool.{PooledView}
+use Rattle.bt_ahead.specs.Disk.{AheadView, new_ahead}
 use Rattle.bt_meta.specs.Files.{File, file_of}
 use Rattle.bt_meta.specs.declared.torrent.FileEntry.{FileEntry}
 use Rattle.bt_machine.specs.Start.{device_count}
 use Rattle.bt_check.specs.Paths.{path_below}
-use Rattle.bt_transfer.specs.DataFiles.{device_paths, files_with_bytes, new_device, new_devices}
+use Rattle.bt_transfer.specs.DataFiles.{DeviceView, device_paths, files_with_bytes, new_device, new_devices}
 use Rattle.bt_transfer.specs.DataFilesSteps.{IsOpenedFor, IsPushed}
 
 pub enumerate_from-append : {X : Type 0} (n : ℕ) (xs ys : List X)
@@ -33,7 +34,7 @@ devices_more : (dir : List ℕ) (files : List File) (file : File) (paths : List 
     → new_devices dir (files ++ file ∷ [])
     ≡ new_devices dir files ++ map (λ p. new_device p.0 p.1) (enumerate_from (1 + length (device_paths dir files)) paths)
 devices_more dir files file paths are =
-    let numbered : ℕ → List (List ℕ) → List PooledView = λ n ps. map (λ p. new_device p.0 p.1) (enumerate_from n ps) in
+    let numbered : ℕ → List (List ℕ) → List DeviceView = λ n ps. map (λ p. new_device p.0 p.1) (enumerate_from n ps) in
     ap (numbered 1) (paths_more dir files file ∙ ap (λ ps. device_paths dir files ++ ps) are)
     ∙ ap (map (λ p. new_device p.0 p.1)) (enumerate_from-append 1 (device_paths dir files) paths)
     ∙ map-append (λ p. new_device p.0 p.1) (enumerate_from 1 (device_paths dir files)) (enumerate_from (1 + length (device_paths dir files)) paths)
@@ -77,14 +78,14 @@ files_more entries i entry lt at =
 zero_below : (n : ℕ) → n ≢ 0 → nat_lt 0 n ≡ true
 zero_below n some = lt-ltb 0 n (omega (arith, some))
 
--- the device that a pool opened
+-- the device that a pool opened, which is read ahead
 pub device_is : (disk : PooledView) (number : ℕ) (path : List ℕ) → disk.number ≡ number → disk.path ≡ path → disk.access ≡ writing
-    → disk.failed ≡ 0 → disk ≡ new_device number path
-device_is disk number path a b c d = λ k. record { number = a k; path = b k; access = c k; failed = d k }
+    → disk.failed ≡ 0 → new_ahead disk ≡ new_device number path
+device_is disk number path a b c d = λ k. record { inner = record { number = a k; path = b k; access = c k; failed = d k }; failed = 0 }
 
 -- An entry was passed: an empty one has no device, and that of another was put behind those before.
-pub opened_more : (dir : List ℕ) (entries : List FileEntry) (i : ℕ) (entry : FileEntry) (disks after : List PooledView) (made now : ℕ)
-    (found : Option PooledView) → i < length entries → entry ≡ get_or entries i entry
+pub opened_more : (dir : List ℕ) (entries : List FileEntry) (i : ℕ) (entry : FileEntry) (disks after : List DeviceView) (made now : ℕ)
+    (found : Option DeviceView) → i < length entries → entry ≡ get_or entries i entry
     → disks ≡ new_devices dir (map file_of (take i entries)) → made ≡ length disks
     → IsOpenedFor dir (file_of entry) made found now → IsPushed disks found after
     → (after ≡ new_devices dir (map file_of (take (i + 1) entries))) × (now ≡ length after)

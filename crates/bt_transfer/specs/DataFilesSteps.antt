@@ -1,13 +1,12 @@
 -- What is opened for one file of a torrent.
 use Rattle.std.specs.Prelude.{◌≡◌, ◌≢◌, ℕ, ◌+◌, List, [], ◌∷◌, ◌++◌, Option, Some, None}
-use Rattle.bt_disk.specs.Pool.{PooledView}
 use Rattle.bt_meta.specs.Files.{File}
 use Rattle.bt_check.specs.Paths.{path_below}
-use Rattle.bt_transfer.specs.DataFiles.{new_device}
+use Rattle.bt_transfer.specs.DataFiles.{DeviceView, new_device}
 
 -- What a pool that had made so many devices gave for a file below a folder, and how many it has made then: the next
 -- device, or none where the file is empty.
-abbrev pub IsOpenedFor : List ℕ → File → (before : ℕ) → Option PooledView → (after : ℕ) → Type 0
+abbrev pub IsOpenedFor : List ℕ → File → (before : ℕ) → Option DeviceView → (after : ℕ) → Type 0
 IsOpenedFor dir file before None after = (file.length ≡ 0) × (after ≡ before)
 IsOpenedFor dir file before (Some disk) after =
     (file.length ≢ 0) × (after ≡ before + 1) × (disk ≡ new_device after (path_below dir file.path))

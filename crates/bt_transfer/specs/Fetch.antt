@@ -3,17 +3,17 @@ use Rattle.std.specs.Prelude.{ℕ, Bool, List, Option, map}
 use Rattle.std.specs.Io.KnownBytes.{Appends}
 use Rattle.sha2.specs.Sha256.{sha256}
 use Rattle.bt_disk.specs.History.{History}
-use Rattle.bt_disk.specs.Pool.{PooledView}
 use Rattle.bt_intake.specs.Waiting.{TakesInAllWaiting}
 use Rattle.bt_machine.specs.State.{EngineView}
 use Rattle.bt_peers.specs.Peers.{InTurn, Trial}
 use Rattle.bt_peers.specs.declared.end.PeerEnd.{PeerEnd}
 use Rattle.bt_sockets.specs.Link.{Dials, undialled}
+use Rattle.bt_transfer.specs.DataFiles.{DeviceView}
 use Rattle.bt_transfer.specs.Ending.{IsConcluded}
 use Rattle.bt_transfer.specs.Loading.{IsLoaded}
 use Rattle.bt_transfer.specs.OverTcp.{TriesOverTcp}
 use Rattle.bt_transfer.specs.PeerLines.{peer_lines}
-use Rattle.bt_transfer.specs.Store.{pooled_faults, pooled_history, pooled_honest}
+use Rattle.bt_transfer.specs.Store.{device_faults, device_history, device_honest}
 use Rattle.bt_transfer.specs.declared.peer.Peer.{Peer}
 
 -- The peers were tried in turn, a line tells of each that was, the files whose blocks came without their
@@ -45,8 +45,8 @@ pub record HasFetchedOverTcp {D : Type 0} (history : D → History) (honest : D 
 -- The store of a torrent of some text was opened in a folder, and the rest was fetched from the peers.
 pub record IsFetch (is_info : Bool) (dir : List ℕ) (peers : List Peer) (before after : Option (List ℕ))
     (status : ℕ) : Type 0 where
-  pub store : EngineView PooledView
+  pub store : EngineView DeviceView
   pub loaded : IsLoaded is_info dir store
-  pub last : EngineView PooledView
-  pub fetched : HasFetchedOverTcp pooled_history pooled_honest pooled_faults sha256 peers store
+  pub last : EngineView DeviceView
+  pub fetched : HasFetchedOverTcp device_history device_honest device_faults sha256 peers store
       before after status last

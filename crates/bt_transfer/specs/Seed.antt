@@ -5,15 +5,15 @@ use Rattle.std.specs.Io.KnownBytes.{Appends}
 use Rattle.sha2.specs.Sha256.{sha256}
 use Rattle.bt_check.specs.Display.{line_text}
 use Rattle.bt_disk.specs.History.{History}
-use Rattle.bt_disk.specs.Pool.{PooledView}
 use Rattle.bt_machine.specs.declared.event.Event.TheVariants.{Flush}
 use Rattle.bt_machine.specs.declared.event.Answer.TheVariants.{Flushed}
 use Rattle.bt_machine.specs.State.{EngineView}
 use Rattle.bt_machine.specs.View.{StepsTo}
+use Rattle.bt_transfer.specs.DataFiles.{DeviceView}
 use Rattle.bt_transfer.specs.Connections.{HasServed, MeetsAndSyncs}
 use Rattle.bt_transfer.specs.Loading.{IsLoaded}
 use Rattle.bt_transfer.specs.OverTcp.{MeetsOverTcp}
-use Rattle.bt_transfer.specs.Store.{pooled_faults, pooled_history, pooled_honest}
+use Rattle.bt_transfer.specs.Store.{device_faults, device_history, device_honest}
 use Rattle.bt_transfer.specs.declared.peer.Serving.{Serving}
 use Rattle.bt_transfer.specs.declared.peer.Serving.TheVariants.{Count, Forever}
 
@@ -49,8 +49,8 @@ pub record HasListened {D : Type 0} (history : D → History) (honest : D → Ty
 -- The store of a torrent of some text was opened in a folder, the port is told, and connections were served.
 pub record IsSeed (is_info : Bool) (dir : List ℕ) (serving : Serving) (before after : Option (List ℕ))
     (status : ℕ) : Type 0 where
-  pub store : EngineView PooledView
+  pub store : EngineView DeviceView
   pub loaded : IsLoaded is_info dir store
-  pub last : EngineView PooledView
-  pub listened : HasListened pooled_history pooled_honest pooled_faults sha256 serving store before after last
+  pub last : EngineView DeviceView
+  pub listened : HasListened device_history device_honest device_faults sha256 serving store before after last
   pub done : status ≡ 0

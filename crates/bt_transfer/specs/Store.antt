@@ -1,11 +1,11 @@
 -- The engine that a store is opened with.
 use Rattle.std.specs.Prelude.{[], ◌≡◌, ℕ, List}
 use Rattle.bt_disk.specs.History.{History, new_history}
-use Rattle.bt_disk.specs.Pool.{PooledView}
 use Rattle.bt_meta.specs.Torrent.{Metainfo}
 use Rattle.bt_machine.specs.Start.{AreDevicesOf, Starts}
 use Rattle.bt_machine.specs.State.{EngineView}
 use Rattle.bt_intake.specs.Adoption.{TakesInAll}
+use Rattle.bt_transfer.specs.DataFiles.{DeviceView}
 
 -- An engine of the torrent, which began with these devices and has taken in what they have: no read of them
 -- failed. No peer is connected.
@@ -18,14 +18,14 @@ pub record HasBegun {D : Type 0} (history : D → History) (honest : D → Type 
   pub same : engine.state.torrent ≡ torrent
   pub no_peer : engine.state.peers ≡ []
 
--- ---- the devices of a pool, as `Disk` has them
+-- ---- the devices of data files, as `Disk` has them
 
 -- of what a file of the system holds nothing is known
-abbrev pub pooled_history : PooledView → History
-pooled_history disk = new_history []
+abbrev pub device_history : DeviceView → History
+device_history disk = new_history []
 
-abbrev pub pooled_honest : PooledView → Type 0
-pooled_honest disk = ⊥
+abbrev pub device_honest : DeviceView → Type 0
+device_honest disk = ⊥
 
-abbrev pub pooled_faults : PooledView → ℕ
-pooled_faults disk = disk.failed
+abbrev pub device_faults : DeviceView → ℕ
+device_faults disk = disk.failed

@@ -122,8 +122,7 @@ fn serve_one<D: Disk + Drop, H: NodeHash, N: Net>(
         engine,
         reception.listener,
         idle,
-        reception.torrent,
-        reception.padding,
+        reception.passage,
     )?;
     Ok(end)
 }

@@ -6,33 +6,40 @@ ghost use Rattle.bt_check.specs.Fault.{device, out_of_memory};
 ghost use Rattle.bt_transfer.specs.DataFiles.{new_device, new_devices};
 ghost use Rattle.bt_transfer.specs.DataFilesSteps.{IsOpenedFor, IsPushed};
 
+use bt_ahead::{DigestCache, ReadAheadDisk};
 use bt_check::{Fault, OPEN_FILES, data_path, fault_name, told};
 use bt_disk::{FileDisk, HandlePool, PooledDisk};
 use bt_meta::FileEntry;
 use bt_progress::{FileCall, Watch, Watched};
 use std::alloc::{AllocError, Global};
+use std::cell::RefCell;
 use std::fs;
 use std::path::{Path, PathBuf};
 use std::rt::Files;
 
+/// The device of a data file: one of a pool, which is read ahead, and tells of its calls.
+pub(crate) type DataDisk<'a, R, P> = Watched<'a, ReadAheadDisk<'a, PooledDisk<R>>, P>;
+
 /// Opens the data files of some entries, in turn, to read and write them, and gives the devices of those that
-/// have a byte. They share a few handles, and tell of their calls; their bytes are to be read.
+/// have a byte. They share a few handles, and what is read ahead, and tell of their calls; their bytes are to be
+/// read.
 ///
 /// Missing folders and files are made, also the files of empty entries. A file that is there keeps its bytes;
 /// what is there and is no regular file is a device fault, and is not opened.
 pub(crate) fn open_devices<'a, R: Files + AllocGlobal + Clone + Drop, P: Watch>(
     rt: &R,
     watch: &'a P,
+    digests: &'a RefCell<DigestCache>,
     dir: &str,
     entries: &[FileEntry],
-) -> Result<Vec<Watched<'a, PooledDisk<R>, P>>, Fault>
+) -> Result<Vec<DataDisk<'a, R, P>>, Fault>
     ensures devices { IfOk result (λ disks. disks.items ≡ new_devices dir.now (map file_of entries.now)) }
     ensures fault { IfErr result (λ fault. (fault ≡ device) ⊎ (fault ≡ out_of_memory)) }
 {
     let mut pool = HandlePool::new(rt.alloc(), rt.clone()?, OPEN_FILES)?;
     let mut disks = Vec::new(rt.alloc());
     for entry in entries {
-        let found = open_entry(rt, watch, &mut pool, dir, entry)?;
+        let found = open_entry(rt, watch, digests, &mut pool, dir, entry)?;
         push_some(&mut disks, found)?;
     }
     Ok(disks)
@@ -55,10 +62,11 @@ fn push_some<T: Drop>(items: &mut Vec<T>, item: Option<T>) -> Result<(), AllocEr
 fn open_entry<'a, R: Files + AllocGlobal + Drop, P: Watch>(
     rt: &R,
     watch: &'a P,
+    digests: &'a RefCell<DigestCache>,
     pool: &mut HandlePool<R>,
     dir: &str,
     entry: &FileEntry,
-) -> Result<Option<Watched<'a, PooledDisk<R>, P>>, Fault>
+) -> Result<Option<DataDisk<'a, R, P>>, Fault>
     ensures opened { IfOk result
         (λ found. IsOpenedFor dir.now (file_of entry.now) pool.old.made found pool.new.made) }
     ensures fault { IfErr result (λ fault. (fault ≡ device) ⊎ (fault ≡ out_of_memory)) }
@@ -70,24 +78,25 @@ fn open_entry<'a, R: Files + AllocGlobal + Drop, P: Watch>(
         return Ok(None);
     }
     watch.expect(entry.length);
-    let disk = open_device(rt.alloc(), watch, pool, path)?;
+    let disk = open_device(rt.alloc(), watch, digests, pool, path)?;
     Ok(Some(disk))
 }
 
-/// The next device of a pool, of a file that is read and written, which tells of its calls.
+/// The next device of a pool, of a file that is read and written, which is read ahead, and tells of its calls.
 fn open_device<'a, R: Files + Drop, P: Watch>(
     alloc: Global,
     watch: &'a P,
+    digests: &'a RefCell<DigestCache>,
     pool: &mut HandlePool<R>,
     path: PathBuf,
-) -> Result<Watched<'a, PooledDisk<R>, P>, Fault>
+) -> Result<DataDisk<'a, R, P>, Fault>
     ensures device { IfOk result (λ disk. disk ≡ new_device pool.new.made (path_buf_bytes path)) }
     ensures one_more { OnOk result (pool.new.made ≡ pool.old.made + 1) }
     ensures fault { IfErr result (λ fault. (fault ≡ device) ⊎ (fault ≡ out_of_memory)) }
 {
     let name = fault_name(alloc, watch, path.as_path().as_str())?;
     match pool.writing(path.into_string()) {
-        Ok(disk) => Ok(Watched::new(disk, watch, name)),
+        Ok(disk) => Ok(Watched::new(ReadAheadDisk::new(disk, digests), watch, name)),
         Err(_) => Err(opening_fault(watch, name)),
     }
 }

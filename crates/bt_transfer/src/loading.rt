@@ -4,14 +4,13 @@ ghost use Rattle.bt_check.specs.Fault.{device, out_of_memory};
 ghost use Rattle.bt_check.specs.TorrentFile.{HasText, IsLoadFault, IsTorrentOfText};
 ghost use Rattle.bt_transfer.specs.Loading.{IsLoaded};
 
-use crate::store::open_store;
+use crate::store::{Store, open_store};
+use bt_ahead::DigestCache;
 use bt_check::{BUFFER_LEN, Fault, Source, fault_name, read_text, told};
-use bt_disk::PooledDisk;
-use bt_engine::Engine;
-use bt_lanes::Lanes;
 use bt_meta::{Torrent, read_info, read_torrent};
 use bt_progress::{FileCall, Watch, Watched};
 use std::alloc::Global;
+use std::cell::RefCell;
 use std::fs;
 use std::rt::Files;
 
@@ -20,16 +19,17 @@ use std::rt::Files;
 pub(crate) fn load_store<'a, R: Files + AllocGlobal + Clone + Drop, P: Watch>(
     rt: &R,
     watch: &'a P,
+    digests: &'a RefCell<DigestCache>,
     source: Source<'_>,
     dir: &str,
-) -> Result<(Engine<Watched<'a, PooledDisk<R>, P>, Lanes>, Torrent), Fault>
+) -> Result<(Store<'a, R, P>, Torrent), Fault>
     ensures loaded { IfOk result (λ both. IsLoaded source.entry.is_info dir.now both.0) }
     ensures torrent { IfOk result (λ both. HasText source.entry.is_info both.1) }
     ensures fault { IfErr result (IsLoadFault source.entry.is_info) }
 {
     let (torrent, other) = load_twice(rt, watch, source)?;
     watch.begin(FileCall::Read);
-    let engine = open_store(rt, watch, torrent, dir)?;
+    let engine = open_store(rt, watch, digests, torrent, dir)?;
     Ok((engine, other))
 }
 

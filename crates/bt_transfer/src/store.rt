@@ -8,47 +8,53 @@ ghost use Rattle.bt_machine.specs.Start.{device_count};
 ghost use Rattle.bt_machine.specs.View.{StepsTo};
 ghost use Rattle.bt_check.specs.Fault.{device, out_of_memory};
 ghost use Rattle.bt_transfer.specs.DataFiles.{new_devices};
-ghost use Rattle.bt_transfer.specs.Store.{HasBegun, pooled_faults, pooled_history, pooled_honest};
+ghost use Rattle.bt_transfer.specs.Store.{HasBegun, device_faults, device_history, device_honest};
 
-use crate::data_files::open_devices;
+use crate::data_files::{DataDisk, open_devices};
+use bt_ahead::{CachedLanes, DigestCache};
 use bt_check::Fault;
-use bt_disk::{Disk, PooledDisk};
+use bt_disk::Disk;
 use bt_engine::{Engine, FlushError, StartError};
 use bt_intake::adopt_files;
-use bt_lanes::Lanes;
 use bt_meta::Torrent;
-use bt_progress::{Watch, Watched};
+use bt_progress::Watch;
 use bt_tree::NodeHash;
 use std::alloc::Global;
+use std::cell::RefCell;
 use std::rt::Files;
+
+/// The store of a torrent's data files, whose digests are looked up where they were made ahead.
+pub(crate) type Store<'a, R, P> = Engine<DataDisk<'a, R, P>, CachedLanes<'a>>;
 
 /// Opens the store of a torrent's files in a folder: missing folders and files are made, the files are opened
 /// in the order of the torrent, and then what they have is taken in. The first fault ends it.
 pub(crate) fn open_store<'a, R: Files + AllocGlobal + Clone + Drop, P: Watch>(
     rt: &R,
     watch: &'a P,
+    digests: &'a RefCell<DigestCache>,
     torrent: Torrent,
     dir: &str,
-) -> Result<Engine<Watched<'a, PooledDisk<R>, P>, Lanes>, Fault>
-    ensures opened { IfOk result (HasBegun pooled_history pooled_honest pooled_faults sha256
+) -> Result<Store<'a, R, P>, Fault>
+    ensures opened { IfOk result (HasBegun device_history device_honest device_faults sha256
         torrent (new_devices dir.now torrent.files)) }
     ensures fault { IfErr result (λ fault. (fault ≡ device) ⊎ (fault ≡ out_of_memory)) }
 {
-    let disks = open_devices(rt, watch, dir, torrent.files())?;
-    begin(rt.alloc(), torrent, disks)
+    let disks = open_devices(rt, watch, digests, dir, torrent.files())?;
+    begin(rt.alloc(), torrent, disks, CachedLanes::new(digests))
 }
 
 /// Starts an engine of a torrent over the devices of its files that have a byte, and takes in what they have.
-pub(crate) fn begin<D: Disk + Drop>(
+pub(crate) fn begin<'a, D: Disk + Drop>(
     alloc: Global,
     torrent: Torrent,
     disks: Vec<D>,
-) -> Result<Engine<D, Lanes>, Fault>
+    hash: CachedLanes<'a>,
+) -> Result<Engine<D, CachedLanes<'a>>, Fault>
     requires { length disks.items ≡ device_count torrent.files }
     ensures begun { IfOk result (HasBegun D.history D.honest D.faults sha256 torrent disks.items) }
     ensures fault { IfErr result (λ fault. (fault ≡ device) ⊎ (fault ≡ out_of_memory)) }
 {
-    match Engine::start(alloc, torrent, Lanes, disks) {
+    match Engine::start(alloc, torrent, hash, disks) {
         Ok(mut engine) => {
             adopt_files(&mut engine)?;
             Ok(engine)

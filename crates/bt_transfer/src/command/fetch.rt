@@ -11,15 +11,15 @@ use crate::lacking::begin_fetching;
 use crate::loading::load_store;
 use crate::peer::Peer;
 use crate::peer_lines::write_peers;
+use bt_ahead::DigestCache;
 use bt_check::{Fault, Source};
 use bt_disk::Disk;
 use bt_engine::Engine;
 use bt_intake::adopt_waiting;
-use bt_meta::Torrent;
 use bt_padding::Padding;
 use bt_peers::{Link, PeerEnd, run_peers};
 use bt_progress::Watch;
-use bt_sockets::{IDLE_SECONDS, SESSION_TURNS, TcpLink};
+use bt_sockets::{IDLE_SECONDS, Passage, SESSION_TURNS, TcpLink};
 use bt_tree::NodeHash;
 use std::alloc::{AllocError, Global};
 use std::cell::RefCell;
@@ -51,9 +51,16 @@ pub fn fetch<R: Files + AllocGlobal + Clone + Drop, N: Net, P: Watch, W: Write>(
     ensures refused { IfErr result
         (λ fault. status_of fault ≡ 2 → Keeps (W.contents writer.old) (W.contents writer.new)) }
 {
-    let (mut engine, torrent) = load_store(rt, watch, source, dir)?;
+    let digests = RefCell::new(DigestCache::new(rt.alloc())?);
+    let (mut engine, torrent) = load_store(rt, watch, &digests, source, dir)?;
     begin_fetching(watch, &engine);
-    let status = fetch_from(rt.alloc(), net, &mut engine, &torrent, peers, writer)?;
+    let padding = RefCell::new(Padding::new(rt.alloc())?);
+    let passage = Passage {
+        torrent: &torrent,
+        padding: &padding,
+        digests: &digests,
+    };
+    let status = fetch_from(rt.alloc(), net, &mut engine, passage, peers, writer)?;
     Ok(status)
 }
 
@@ -62,7 +69,7 @@ fn fetch_from<D: Disk + Drop, H: NodeHash, N: Net, W: Write>(
     alloc: Global,
     net: &N,
     engine: &mut Engine<D, H>,
-    torrent: &Torrent,
+    passage: Passage<'_>,
     peers: &[Peer<'_>],
     writer: &mut W,
 ) -> Result<u8, Fault>
@@ -71,19 +78,17 @@ fn fetch_from<D: Disk + Drop, H: NodeHash, N: Net, W: Write>(
         engine.old (W.contents writer.old) (W.contents writer.new) status engine.new) }
     ensures fault { IfErr result (λ fault. (fault ≡ device) ⊎ (fault ≡ out_of_memory)) }
 {
-    let padding = RefCell::new(Padding::new(alloc)?);
-    let mut links = links_to(alloc, net, peers, torrent, &padding)?;
+    let mut links = links_to(alloc, net, peers, passage)?;
     let status = fetch_over(alloc, engine, peers, &mut links, SESSION_TURNS, writer)?;
     Ok(status)
 }
 
-/// A link to each peer, in their order, which share what is remembered of their peers.
+/// A link to each peer, in their order, which share their passage.
 fn links_to<'a, N: Net>(
     alloc: Global,
     net: &'a N,
     peers: &'a [Peer<'a>],
-    torrent: &'a Torrent,
-    padding: &'a RefCell<Padding>,
+    passage: Passage<'a>,
 ) -> Result<Vec<TcpLink<'a, N>>, AllocError>
     ensures { IfOk result (λ links. links.items ≡ links_of peers.now) }
 {
@@ -91,7 +96,7 @@ fn links_to<'a, N: Net>(
     let mut links = Vec::new(alloc);
     for peer in peers {
         let Peer { host, port } = *peer;
-        links.push(TcpLink::new(alloc, net, host, port, idle, torrent, padding))?;
+        links.push(TcpLink::new(alloc, net, host, port, idle, passage))?;
     }
     Ok(links)
 }

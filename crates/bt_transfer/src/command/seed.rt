@@ -10,13 +10,13 @@ use crate::loading::load_store;
 use crate::peer::{Service, Serving};
 use crate::reception::Reception;
 use crate::store::finish;
+use bt_ahead::DigestCache;
 use bt_check::{Fault, Source, print};
 use bt_disk::Disk;
 use bt_engine::Engine;
-use bt_meta::Torrent;
 use bt_padding::Padding;
 use bt_progress::{FileCall, Watch};
-use bt_sockets::{listen, port_of};
+use bt_sockets::{Passage, listen, port_of};
 use bt_tree::NodeHash;
 use std::alloc::{AllocError, Global};
 use std::cell::RefCell;
@@ -49,9 +49,16 @@ pub fn seed<R: Files + AllocGlobal + Clone + Drop, N: Net, P: Watch, W: Write>(
     ensures refused { IfErr result
         (λ fault. status_of fault ≡ 2 → Keeps (W.contents writer.old) (W.contents writer.new)) }
 {
-    let (mut engine, torrent) = load_store(rt, watch, source, dir)?;
+    let digests = RefCell::new(DigestCache::new(rt.alloc())?);
+    let (mut engine, torrent) = load_store(rt, watch, &digests, source, dir)?;
     watch.begin(FileCall::Read);
-    listen_and_serve(rt.alloc(), net, &mut engine, &torrent, service, writer)?;
+    let padding = RefCell::new(Padding::new(rt.alloc())?);
+    let passage = Passage {
+        torrent: &torrent,
+        padding: &padding,
+        digests: &digests,
+    };
+    listen_and_serve(rt.alloc(), net, &mut engine, passage, service, writer)?;
     Ok(0)
 }
 
@@ -60,7 +67,7 @@ fn listen_and_serve<D: Disk + Drop, H: NodeHash, N: Net, W: Write>(
     alloc: Global,
     net: &N,
     engine: &mut Engine<D, H>,
-    torrent: &Torrent,
+    passage: Passage<'_>,
     service: Service<'_>,
     writer: &mut W,
 ) -> Result<(), Fault>
@@ -69,14 +76,12 @@ fn listen_and_serve<D: Disk + Drop, H: NodeHash, N: Net, W: Write>(
         engine.old (W.contents writer.old) (W.contents writer.new) engine.new) }
     ensures fault { IfErr result (λ fault. (fault ≡ device) ⊎ (fault ≡ out_of_memory)) }
 {
-    let padding = RefCell::new(Padding::new(alloc)?);
     let listener = listen(net, service.address, service.port)?;
     announce(alloc, &listener, writer)?;
     let reception = Reception {
         net,
         listener: &listener,
-        torrent,
-        padding: &padding,
+        passage,
     };
     serve_all(alloc, &reception, engine, service.serving, writer)
 }

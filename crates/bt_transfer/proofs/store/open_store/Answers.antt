@@ -4,7 +4,7 @@ use Rattle.sha2.specs.Sha256.{sha256}
 use Rattle.bt_meta.specs.Files.{file_of}
 use Rattle.bt_machine.specs.Start.{device_count}
 use Rattle.bt_transfer.specs.DataFiles.{new_devices}
-use Rattle.bt_transfer.specs.Store.{HasBegun, pooled_faults, pooled_history, pooled_honest}
+use Rattle.bt_transfer.specs.Store.{HasBegun, device_faults, device_history, device_honest}
 use Rattle.bt_transfer.proofs.Devices.{device_count_is}
 use Rattle.bt_transfer.proofs.store.open_store.Goals as goal
 
@@ -15,7 +15,7 @@ begin-requires g c =
 
 pub returns-clause-opened : goal.returns-clause-opened
 returns-clause-opened g c =
-    subst (λ given. IfOk c.begin.result (HasBegun pooled_history pooled_honest pooled_faults sha256 c.args.torrent given))
+    subst (λ given. IfOk c.begin.result (HasBegun device_history device_honest device_faults sha256 c.args.torrent given))
     (c.in_ok-disks.ensures.devices ∙ ap (new_devices c.args.dir.now) c.files.ensures.said) c.begin.ensures.begun
 
 pub returns-clause-fault : goal.returns-clause-fault

@@ -1,0 +1,9 @@
+-- eight blocks in a run of bytes
+pub mod Runs
+-- devices that are read ahead
+pub mod ReadRuns
+pub mod Ranges
+pub mod Readers
+pub mod Passages
+pub mod Lengths
+pub mod Orders

@@ -1,0 +1,16 @@
+-- What came so far; nothing where something may be given.
+use Rattle.std.proofs.Common.{◌≡◌, ℕ, ◌-◌, ◌<◌, List, length, take}
+use Rattle.bt_ahead.specs.Messages.{Leads}
+use Rattle.bt_ahead.specs.Room.{room_length}
+use Rattle.bt_ahead.specs.Reader.{Takes}
+use Rattle.bt_ahead.proofs.reader.ReadAhead.fill.Given as goal
+
+abbrev pub invariant-reading : goal.invariant-reading
+invariant-reading g l = record {
+  takes : (came : List ℕ) × Takes g.R.Read.remaining l.initial.self came l.self;
+  unasked : 0 < l.initial.self.ready → l.self ≡ l.initial.self;
+  leads : l.initial.self.ready ≡ 0 → Leads l.initial.self.owed (take l.self.ready l.self.waiting) l.self.owed;
+}
+
+abbrev pub decreases-reading : goal.decreases-reading
+decreases-reading g l = room_length - length l.self.waiting

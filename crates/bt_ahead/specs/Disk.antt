@@ -1,0 +1,31 @@
+-- A device that is read ahead.
+use Rattle.std.specs.Prelude.{ℕ, ◌≤◌, List, ◌∷◌, [], length, All, Result}
+use Rattle.bt_disk.specs.History.{History}
+use Rattle.bt_disk.specs.Calls.{Call, HasCalls, read_call}
+use Rattle.bt_ahead.specs.Cache.{IsRunRead}
+
+-- the device inside, and how many of its own calls have failed: a read ahead that fails is none of these
+pub record AheadView (D : Type 0) : Type 0 where
+  pub inner : D
+  pub failed : ℕ
+
+abbrev pub new_ahead : {D : Type 0} → D → AheadView D
+new_ahead inner = record { inner = inner; failed = 0 }
+
+-- nothing was called, or eight blocks were read from byte `at` on
+pub record MayReadRun
+    {D : Type 0} (history : D → History) (honest : D → Type 0) (faults : D → ℕ)
+    (old : D) (at : ℕ) (new : D) : Type 0 where
+  pub calls : List Call
+  pub once : length calls ≤ 1
+  pub run_read : All (IsRunRead at) calls
+  pub made : HasCalls history honest faults old calls new
+
+-- The device inside was read, and its answer is the answer; before, eight blocks may have been read from
+-- there on.
+pub record IsReadAfterRun
+    {D E : Type 0} (history : D → History) (honest : D → Type 0) (faults : D → ℕ)
+    (old : D) (at : ℕ) (out : List ℕ) (result : Result ℕ E) (new : D) : Type 0 where
+  pub between : D
+  pub ahead : MayReadRun history honest faults old at between
+  pub passed : HasCalls history honest faults between (read_call at out result ∷ []) new

@@ -1,0 +1,167 @@
+//! The messages in a run of bytes (BEP 3), and the whole blocks that they carry.
+ghost use Rattle.std.specs.Prelude.{◌≡◌, ◌<◌, ◌≤◌, length, take, drop, IfSome, IfNone};
+ghost use Rattle.bt_tree.specs.Limits.{full_block_length};
+ghost use Rattle.bt_ahead.specs.Messages.{message_length, AreMessages, HasNoMessage, Leads};
+ghost use Rattle.bt_ahead.specs.MessageSteps.{BeginsMessage, IsCut};
+
+use crate::cache::DigestCache;
+use crate::room::ROOM_LEN;
+use bt_tree::BLOCK_LEN;
+
+/// How many bytes spell a message's length.
+const LENGTH_LEN: usize = 4;
+
+/// The kind of a message that carries bytes of a file (BEP 3: piece).
+const PIECE: u8 = 7;
+
+/// How many bytes of such a message stand before those of the file: its length, its kind, the piece, and
+/// where in the piece they begin.
+const PIECE_HEAD_LEN: usize = 13;
+
+/// How many bytes the message has that begins so.
+fn message_len(bytes: &[u8]) -> usize
+    requires { 4 ≤ length bytes.now }
+    ensures { result ≡ message_length bytes.now }
+{
+    LENGTH_LEN + u32::from_be_bytes([bytes[0], bytes[1], bytes[2], bytes[3]]) as usize
+}
+
+/// How many bytes the first message has; None where it is not whole.
+fn first_message(bytes: &[u8]) -> Option<usize>
+    ensures whole { IfSome result (BeginsMessage bytes.now) }
+    ensures part { IfNone result (HasNoMessage bytes.now) }
+{
+    if bytes.len() < LENGTH_LEN {
+        return None;
+    }
+    let len = message_len(bytes);
+    if bytes.len() < len {
+        return None;
+    }
+    Some(len)
+}
+
+/// How many bytes the messages in front have that are whole.
+fn whole_messages(bytes: &[u8]) -> usize
+    ensures within { result ≤ length bytes.now }
+    ensures messages { AreMessages (take result bytes.now) }
+    ensures part { HasNoMessage (drop result bytes.now) }
+{
+    let mut at = 0;
+    'messages: while let Some(len) = first_message(&bytes[at..]) {
+        at += len;
+    }
+    at
+}
+
+/// Where bytes that wait are cut.
+#[derive(Clone, Copy)]
+pub(crate) struct Cut {
+    /// Behind so many bytes messages begin.
+    pub(crate) begin: usize,
+    /// So many bytes may be given.
+    pub(crate) ready: usize,
+    /// So many bytes are to come of a message that is given as it comes.
+    pub(crate) owed: usize,
+}
+
+/// Cuts bytes of which the first `owed` are the rest of a message that is given as it comes: these may be
+/// given, as far as they are there, and the whole messages behind them; and a message that fills the room, in
+/// which nothing more would come of it.
+fn cut_messages(owed: usize, bytes: &[u8]) -> Cut
+    ensures cut { IsCut bytes.now result }
+    ensures leads { Leads owed (take result.ready bytes.now) result.owed }
+{
+    let begin = owed.min(bytes.len());
+    let ready = begin + whole_messages(&bytes[begin..]);
+    if ready == 0 && bytes.len() >= ROOM_LEN {
+        return Cut {
+            begin: bytes.len(),
+            ready: bytes.len(),
+            owed: message_len(bytes) - bytes.len(),
+        };
+    }
+    Cut {
+        begin,
+        ready,
+        owed: owed - begin,
+    }
+}
+
+/// Cuts bytes that wait, of which `count` came by the last read. Where none came, all may be given, and so
+/// may whatever comes behind an end.
+pub(crate) fn cut_behind(count: usize, owed: usize, bytes: &[u8]) -> Cut
+    ensures cut { IsCut bytes.now result }
+    ensures leads { 0 < count → Leads owed (take result.ready bytes.now) result.owed }
+    ensures ended { count ≡ 0 → result.ready ≡ length bytes.now }
+{
+    if count == 0 {
+        return Cut {
+            begin: bytes.len(),
+            ready: bytes.len(),
+            owed: usize::MAX,
+        };
+    }
+    cut_messages(owed, bytes)
+}
+
+/// The block that a message carries; None where it carries no whole one.
+fn block_of(message: &[u8]) -> Option<&[u8]>
+    ensures { IfSome result (λ block. length block.now ≡ full_block_length) }
+{
+    if message.len() != PIECE_HEAD_LEN + BLOCK_LEN || message[LENGTH_LEN] != PIECE {
+        return None;
+    }
+    Some(&message[PIECE_HEAD_LEN..])
+}
+
+/// The first whole block that these messages carry, and what stands behind its message.
+fn next_block(messages: &[u8]) -> Option<(&[u8], &[u8])>
+    ensures { IfSome result (λ found. length found.0.now ≡ full_block_length) }
+{
+    let mut rest = messages;
+    'messages: while let Some(len) = first_message(rest) {
+        let (message, behind) = rest.split_at(len);
+        if let Some(block) = block_of(message) {
+            return Some((block, behind));
+        }
+        rest = behind;
+    }
+    None
+}
+
+/// The same, and the block before it where there is none.
+fn next_or_last<'a>(last: &'a [u8], messages: &'a [u8]) -> (&'a [u8], &'a [u8])
+    requires { length last.now ≡ full_block_length }
+    ensures { length result.0.now ≡ full_block_length }
+{
+    match next_block(messages) {
+        Some(found) => found,
+        None => (last, messages),
+    }
+}
+
+/// Gives the cache the first eight whole blocks that these messages carry. Of five to seven the last one
+/// stands also in the place of those that are missing; with fewer nothing is done, as the lanes of those that
+/// are missing cost as much as the others.
+pub(crate) fn fill_from(cache: &mut DigestCache, messages: &[u8]) {
+    let Some((first, rest)) = next_block(messages) else {
+        return;
+    };
+    let Some((second, rest)) = next_block(rest) else {
+        return;
+    };
+    let Some((third, rest)) = next_block(rest) else {
+        return;
+    };
+    let Some((fourth, rest)) = next_block(rest) else {
+        return;
+    };
+    let Some((fifth, rest)) = next_block(rest) else {
+        return;
+    };
+    let (sixth, rest) = next_or_last(fifth, rest);
+    let (seventh, rest) = next_or_last(sixth, rest);
+    let (eighth, _) = next_or_last(seventh, rest);
+    cache.fill(&[first, second, third, fourth, fifth, sixth, seventh, eighth]);
+}

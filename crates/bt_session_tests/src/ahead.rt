@@ -1,0 +1,205 @@
+//! Blocks that are read ahead, of what a peer sends and of a device.
+
+use crate::bytes::tell_given;
+use crate::words::{RowError, Words, tell_answer};
+use bt_ahead::{DigestCache, ReadAhead, ReadAheadDisk};
+use bt_disk::{Disk, FaultDisk, MemoryDisk};
+use bt_tree::BLOCK_LEN;
+use std::alloc::{AllocError, Global};
+use std::cell::RefCell;
+use std::fmt::Write;
+use std::io::{self, Read};
+
+/// So many bytes are read at once at most.
+const MOST_READ: usize = 0x1_0000;
+
+/// Adds what a row answers. What is no row says so.
+pub fn ahead_row(alloc: Global, row: &str, out: &mut String) -> Result<(), AllocError> {
+    let mut words = Words::new(row);
+    let answer = answer_of(alloc, &mut words);
+    tell_answer(answer, words.is_at_end(), row, out)
+}
+
+fn answer_of(alloc: Global, words: &mut Words) -> Result<String, RowError> {
+    match words.word() {
+        "read" => read_row(alloc, words),
+        "device" => device_row(alloc, words),
+        _ => Err(RowError::Unread),
+    }
+}
+
+/// Bytes of which a read gives so many at most.
+#[derive(Drop)]
+struct Parts<'a> {
+    rest: &'a [u8],
+    most: usize,
+}
+
+impl Read for Parts<'_> {
+    fn read(&mut self, buffer: &mut [u8]) -> io::Result<usize> {
+        let count = buffer.len().min(self.most);
+        self.rest.read(&mut buffer[..count])
+    }
+}
+
+/// What a reader gives that reads ahead, and for which bytes a block of them alone has a digest at the end.
+fn read_row(alloc: Global, words: &mut Words) -> Result<String, RowError> {
+    let most = words.number()? as usize;
+    let room = words.number()? as usize;
+    let bytes = words.bytes(alloc)?;
+    told_read(alloc, most, room, &bytes)
+}
+
+fn told_read(alloc: Global, most: usize, room: usize, bytes: &[u8]) -> Result<String, RowError> {
+    let digests = RefCell::new(DigestCache::new(alloc)?);
+    let mut given = Vec::new(alloc);
+    read_all(
+        alloc,
+        &digests,
+        Parts { rest: bytes, most },
+        room,
+        &mut given,
+    )?;
+    let mut text = String::new(alloc);
+    tell_given(alloc, &mut text, &given)?;
+    tell_found(&digests, &mut text)?;
+    Ok(text)
+}
+
+/// Reads all, by reads of so many bytes at most.
+fn read_all<'a>(
+    alloc: Global,
+    digests: &'a RefCell<DigestCache>,
+    parts: Parts<'a>,
+    room: usize,
+    given: &mut Vec<u8>,
+) -> Result<(), RowError> {
+    let mut reader = ReadAhead::new(alloc, parts, digests)?;
+    let mut buffer = [0; MOST_READ];
+    let end = room.min(buffer.len());
+    for _ in 0..u64::MAX {
+        if read_once(&mut reader, &mut buffer[..end], given)? == 0 {
+            break;
+        }
+    }
+    Ok(())
+}
+
+/// Reads once, and says how many bytes that gave.
+fn read_once<R: Read>(
+    reader: &mut R,
+    buffer: &mut [u8],
+    given: &mut Vec<u8>,
+) -> Result<usize, RowError> {
+    let count = reader.read(buffer)?;
+    given.extend_from_slice(&buffer[..count])?;
+    Ok(count)
+}
+
+/// Adds for which bytes, from 1 to 9, a block of them alone has a digest.
+fn tell_found(digests: &RefCell<DigestCache>, text: &mut String) -> Result<(), AllocError> {
+    text.push_str(" ahead ")?;
+    let len = text.len();
+    for byte in 1..=9u8 {
+        if is_found(digests, &[byte; BLOCK_LEN]) {
+            write!(text, "{byte}")?;
+        }
+    }
+    if text.len() == len {
+        text.push_str("-")?;
+    }
+    Ok(())
+}
+
+/// Whether a block has a digest that was made ahead.
+fn is_found(digests: &RefCell<DigestCache>, block: &[u8]) -> bool {
+    match digests.try_borrow() {
+        Ok(cache) => cache.find(block).is_some(),
+        Err(_) => false,
+    }
+}
+
+/// A device that is read ahead, and where the digests are put.
+#[derive(Drop)]
+struct Device<'a> {
+    disk: ReadAheadDisk<'a, FaultDisk<MemoryDisk>>,
+    digests: &'a RefCell<DigestCache>,
+}
+
+/// What comes of each read of a device of so many blocks, a call of which fails.
+fn device_row(alloc: Global, words: &mut Words) -> Result<String, RowError> {
+    let blocks = words.number()?.min(0xff) as u8;
+    let failing = words.number()?.min(0xff) as u8;
+    let digests = RefCell::new(DigestCache::new(alloc)?);
+    let disk = failing_disk(alloc, blocks, failing)?;
+    let mut device = Device {
+        disk: ReadAheadDisk::new(disk, &digests),
+        digests: &digests,
+    };
+    let mut text = String::new(alloc);
+    device.steps(words, &mut text)?;
+    Ok(text)
+}
+
+/// A device of so many blocks, the first of them all ones, the next all twos; the k-th call of it fails, or none where that is 0.
+fn failing_disk(
+    alloc: Global,
+    blocks: u8,
+    failing: u8,
+) -> Result<FaultDisk<MemoryDisk>, AllocError> {
+    let mut bytes = Vec::new(alloc);
+    for block in 0..blocks {
+        bytes.extend_from_slice(&[block.wrapping_add(1); BLOCK_LEN])?;
+    }
+    let disk = FaultDisk::new(MemoryDisk::new(alloc, bytes));
+    if failing == 0 {
+        return Ok(disk);
+    }
+    Ok(disk.failing_once(failing as u64))
+}
+
+impl Device<'_> {
+    fn steps(&mut self, words: &mut Words, text: &mut String) -> Result<(), RowError> {
+        for _ in 0..u64::MAX {
+            if words.is_at_end() {
+                break;
+            }
+            let letter = self.step(words)?;
+            text.push(letter)?;
+        }
+        Ok(())
+    }
+
+    fn step(&mut self, words: &mut Words) -> Result<char, RowError> {
+        match words.word() {
+            "write" => Ok(self.write()),
+            "read" => {
+                let block = words.number()?.min(0xff) as u8;
+                let len = words.number()? as usize;
+                Ok(self.read(block, len))
+            }
+            _ => Err(RowError::Unread),
+        }
+    }
+
+    /// Writes no byte.
+    fn write(&mut self) -> char {
+        match self.disk.write_at(0, &[]) {
+            Ok(()) => 'w',
+            Err(_) => 'x',
+        }
+    }
+
+    /// Reads so many bytes from a block's begin on: `a` where its digest was made ahead, `-` where it was not.
+    fn read(&mut self, block: u8, len: usize) -> char {
+        let mut bytes = [0; MOST_READ];
+        let end = len.min(bytes.len());
+        let part = &mut bytes[..end];
+        let at = block as u64 * BLOCK_LEN as u64;
+        match self.disk.read_at(at, part) {
+            Ok(count) if is_found(self.digests, &part[..count]) => 'a',
+            Ok(_) => '-',
+            Err(_) => 'x',
+        }
+    }
+}
