@@ -25,6 +25,8 @@ pub struct DigestCache {
     /// The digest of each, where it is full.
     digests: [Hash32; RUN_BLOCKS],
     is_full: bool,
+    /// Whether a digest was wanted since the last blocks were taken.
+    is_wanted: bool,
 }
 
 impl Model for DigestCache {
@@ -48,7 +50,25 @@ impl DigestCache {
             run: vec![in alloc; 0; RUN_LEN]?,
             digests: [[0; 32]; RUN_BLOCKS],
             is_full: false,
+            is_wanted: false,
         })
+    }
+
+    /// Notes that the digest of a block is wanted.
+    pub fn want(&mut self)
+        ensures { self.new ≡ self.old }
+    {
+        self.is_wanted = true;
+    }
+
+    /// Whether blocks are to be taken: a digest was wanted since this was asked last. Where none is, as blocks
+    /// are digested by eights already or wait for their hashes, it is work for nothing.
+    pub(crate) fn is_due(&mut self) -> bool
+        ensures { self.new ≡ self.old }
+    {
+        let due = self.is_wanted;
+        self.is_wanted = false;
+        due
     }
 
     /// Takes eight whole blocks in the place of what it had, and makes their digests.

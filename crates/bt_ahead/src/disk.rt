@@ -85,7 +85,9 @@ fn take_shared<D: Disk>(cache: &RefCell<DigestCache>, disk: &mut D, at: u64)
         return;
     };
     let cache = &mut *guard;
-    cache.take_run(disk, at);
+    if cache.is_due() {
+        cache.take_run(disk, at);
+    }
 }
 
 /// Where a read ended, if it succeeded.

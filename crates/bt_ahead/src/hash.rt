@@ -25,10 +25,12 @@ impl<'a> CachedLanes<'a> {
 fn look_up(cache: &RefCell<DigestCache>, block: &[u8]) -> Option<Hash32>
     ensures { IfSome result (λ digest. digest ≡ sha256 block.now) }
 {
-    match cache.try_borrow() {
-        Ok(cache) => cache.find(block),
-        Err(_) => None,
-    }
+    let Ok(mut guard) = cache.try_borrow_mut() else {
+        return None;
+    };
+    let cache = &mut *guard;
+    cache.want();
+    cache.find(block)
 }
 
 impl<'a> NodeHash for CachedLanes<'a> {

@@ -163,5 +163,7 @@ pub(crate) fn fill_from(cache: &mut DigestCache, messages: &[u8]) {
     let (sixth, rest) = next_or_last(fifth, rest);
     let (seventh, rest) = next_or_last(sixth, rest);
     let (eighth, _) = next_or_last(seventh, rest);
-    cache.fill(&[first, second, third, fourth, fifth, sixth, seventh, eighth]);
+    if cache.is_due() {
+        cache.fill(&[first, second, third, fourth, fifth, sixth, seventh, eighth]);
+    }
 }

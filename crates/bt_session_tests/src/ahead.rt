@@ -22,7 +22,8 @@ pub fn ahead_row(alloc: Global, row: &str, out: &mut String) -> Result<(), Alloc
 
 fn answer_of(alloc: Global, words: &mut Words) -> Result<String, RowError> {
     match words.word() {
-        "read" => read_row(alloc, words),
+        "read" => read_row(alloc, words, true),
+        "unwanted" => read_row(alloc, words, false),
         "device" => device_row(alloc, words),
         _ => Err(RowError::Unread),
     }
@@ -42,16 +43,26 @@ impl Read for Parts<'_> {
     }
 }
 
-/// What a reader gives that reads ahead, and for which bytes a block of them alone has a digest at the end.
-fn read_row(alloc: Global, words: &mut Words) -> Result<String, RowError> {
+/// What a reader gives that reads ahead, and for which bytes a block of them alone has a digest at the end. A digest is wanted before,
+/// or none is.
+fn read_row(alloc: Global, words: &mut Words, wanted: bool) -> Result<String, RowError> {
     let most = words.number()? as usize;
     let room = words.number()? as usize;
     let bytes = words.bytes(alloc)?;
-    told_read(alloc, most, room, &bytes)
+    told_read(alloc, most, room, &bytes, wanted)
 }
 
-fn told_read(alloc: Global, most: usize, room: usize, bytes: &[u8]) -> Result<String, RowError> {
+fn told_read(
+    alloc: Global,
+    most: usize,
+    room: usize,
+    bytes: &[u8],
+    wanted: bool,
+) -> Result<String, RowError> {
     let digests = RefCell::new(DigestCache::new(alloc)?);
+    if wanted {
+        let _ = is_found(&digests, &[]);
+    }
     let mut given = Vec::new(alloc);
     read_all(
         alloc,
@@ -111,12 +122,14 @@ fn tell_found(digests: &RefCell<DigestCache>, text: &mut String) -> Result<(), A
     Ok(())
 }
 
-/// Whether a block has a digest that was made ahead.
+/// Whether a block has a digest that was made ahead, which is wanted.
 fn is_found(digests: &RefCell<DigestCache>, block: &[u8]) -> bool {
-    match digests.try_borrow() {
-        Ok(cache) => cache.find(block).is_some(),
-        Err(_) => false,
-    }
+    let Ok(mut guard) = digests.try_borrow_mut() else {
+        return false;
+    };
+    let cache = &mut *guard;
+    cache.want();
+    cache.find(block).is_some()
 }
 
 /// A device that is read ahead, and where the digests are put.
