@@ -5,5 +5,6 @@ pub mod ReadRuns
 pub mod Ranges
 pub mod Readers
 pub mod Passages
+pub mod Comparisons
 pub mod Lengths
 pub mod Orders

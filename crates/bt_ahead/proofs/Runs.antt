@@ -1,7 +1,7 @@
 -- Eight blocks in a run of bytes.
 use Rattle.std.proofs.Common.{◌≡◌, ℕ, zero, suc, ◌+◌, ◌-◌, ◌*◌, ◌<◌, ◌≤◌, Bool, true, false, List, [], length, take, drop, get_or, refl, sym, ap, ◌∙◌, arith}
 use Rattle.std.specs.Prelude.{Contains, nat_eq}
-use Rattle.std.proofs.lemmas.List.{drop-take, ext_get_or, take_all, length-take-le}
+use Rattle.std.proofs.lemmas.List.{drop-take, ext_get_or, take_all, length-take-le, length-drop}
 use Rattle.std.proofs.lemmas.Bool.Decides.{Decides-eqb}
 use Rattle.std.proofs.lemmas.Slice.{take-put_mid_below, between-put_mid}
 use borrow.Rule.Slice.PartMut.{put_mid}
@@ -35,6 +35,9 @@ contains_block run block j below same = (j, below, get_or-blocks_of run block j 
 
 pub contained_block : (run block : List ℕ) → Contains (blocks_of run) block → (j : ℕ) × (j < 8) × (block_at run j ≡ block)
 contained_block run block (j, below, same) = (j, below, sym (get_or-blocks_of run block j below) ∙ same)
+
+pub length_block : (run : List ℕ) (j : ℕ) → length run ≡ 131072 → j < 8 → length (block_at run j) ≡ 16384
+length_block run j room below = length-take-le 16384 (drop (16384 * j) run) (omega (arith, length-drop (16384 * j) run))
 
 -- a block as code cuts it out
 pub block_is : (j : ℕ) (run : List ℕ) → take ((j + 1) * 16384 - j * 16384) (drop (j * 16384) run) ≡ block_at run j

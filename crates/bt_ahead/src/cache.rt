@@ -5,6 +5,7 @@ ghost use Rattle.bt_tree.specs.Limits.{full_block_length};
 ghost use Rattle.bt_tree.specs.Blocks.{block_at};
 ghost use Rattle.bt_ahead.specs.Cache.{run_length, blocks_of, TakesRun};
 
+use crate::comparison::are_same;
 use bt_disk::Disk;
 use bt_lanes::Lanes;
 use bt_tree::{BLOCK_LEN, Hash32, NodeHash};
@@ -128,9 +129,11 @@ fn place_of(run: &[u8], block: &[u8]) -> Option<usize>
     ensures { MatchOption result ((j : ℕ) → j < 8 → block_at run.now j ≢ block.now)
         (λ j. (j < 8) × (block_at run.now j ≡ block.now)) }
 {
+    if block.len() != BLOCK_LEN {
+        return None;
+    }
     for j in 0..RUN_BLOCKS {
-        let other = &run[j * BLOCK_LEN..(j + 1) * BLOCK_LEN];
-        if other == block {
+        if are_same(&run[j * BLOCK_LEN..(j + 1) * BLOCK_LEN], block) {
             return Some(j);
         }
     }

@@ -3,6 +3,7 @@
 #![tactic(auto)]
 
 mod cache;
+mod comparison;
 mod disk;
 mod hash;
 mod messages;
