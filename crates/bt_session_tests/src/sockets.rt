@@ -3,13 +3,11 @@ ghost use Rattle.std.specs.Prelude.{◌≡◌};
 
 use crate::engine::TestEngine;
 use crate::sessions::tell_end;
-use bt_ahead::{DigestCache, ReadAhead};
 use bt_meta::Torrent;
-use bt_padding::{PaddedReader, PaddedWriter, Padding};
+use bt_padding::PaddedWriter;
 use bt_peers::{Link, PeerEnd, end_text};
-use bt_sockets::{IDLE_SECONDS, Passage, TcpLink, listen, port_of, serve};
+use bt_sockets::{IDLE_SECONDS, Passage, Shared, StreamReader, TcpLink, listen, port_of, serve};
 use std::alloc::{AllocError, Global};
-use std::cell::RefCell;
 use std::fmt::Write;
 use std::io::{self, Read};
 use std::net::{Net, OpenListener};
@@ -44,12 +42,10 @@ pub fn socket_row<'a>(
     row: &str,
     out: &mut String,
 ) -> Result<(), AllocError> {
-    let padding = RefCell::new(Padding::new(alloc)?);
-    let digests = RefCell::new(DigestCache::new(alloc)?);
+    let shared = Shared::new(alloc)?;
     let passage = Passage {
         torrent,
-        padding: &padding,
-        digests: &digests,
+        shared: &shared,
     };
     let site = Site {
         net,
@@ -87,12 +83,7 @@ fn dialled<'a>(
     site: &Site<'a>,
     port: u16,
     idle: Duration,
-) -> Option<
-    (
-        PaddedReader<'a, ReadAhead<'a, Stream>>,
-        PaddedWriter<'a, Stream>,
-    ),
-> {
+) -> Option<(StreamReader<'a, Stream>, PaddedWriter<'a, Stream>)> {
     link(site, port, idle).dial()
 }
 

@@ -1,12 +1,14 @@
 //! Peers over TCP.
 #![tactic(auto)]
 
+mod alarm;
 mod link;
 mod listener;
 mod passage;
 mod stream;
 
+pub use alarm::{Alarm, AlarmDisk, AlarmReader};
 pub use link::TcpLink;
 pub use listener::{SESSION_TURNS, listen, port_of, serve};
-pub use passage::Passage;
-pub use stream::{CONNECT_SECONDS, IDLE_SECONDS};
+pub use passage::{Passage, Shared};
+pub use stream::{CONNECT_SECONDS, IDLE_SECONDS, StreamReader};

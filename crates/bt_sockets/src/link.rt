@@ -5,9 +5,8 @@ ghost use Rattle.bt_sockets.specs.Link.{LeadToSamePeer, undialled};
 ghost use Rattle.bt_sockets.specs.StreamSteps.{IsAddressOf};
 
 use crate::passage::Passage;
-use crate::stream::{both_ways, connected};
-use bt_ahead::ReadAhead;
-use bt_padding::{PaddedReader, PaddedWriter};
+use crate::stream::{StreamReader, both_ways, connected};
+use bt_padding::PaddedWriter;
 use bt_peers::Link;
 use std::alloc::Global;
 use std::io;
@@ -31,7 +30,7 @@ pub struct TcpLink<'a, R: Net> {
 /// A connection to a peer: what is read from it, what is written to it, and the address that was dialled.
 #[derive(Drop)]
 struct Connection<'a, S> {
-    reader: PaddedReader<'a, ReadAhead<'a, S>>,
+    reader: StreamReader<'a, S>,
     writer: PaddedWriter<'a, S>,
     address: SocketAddr,
 }
@@ -110,7 +109,7 @@ impl<'a, R: Net> TcpLink<'a, R> {
 
 // Nothing is said of what a socket gives.
 impl<'a, R: Net> Link for TcpLink<'a, R> {
-    type R = PaddedReader<'a, ReadAhead<'a, R::Stream>>;
+    type R = StreamReader<'a, R::Stream>;
 
     type W = PaddedWriter<'a, R::Stream>;
 
@@ -120,14 +119,7 @@ impl<'a, R: Net> Link for TcpLink<'a, R> {
 
     ghost gives = { λ link reader writer. ⊤ };
 
-    fn dial(
-        &mut self,
-    ) -> Option<
-        (
-            PaddedReader<'a, ReadAhead<'a, R::Stream>>,
-            PaddedWriter<'a, R::Stream>,
-        ),
-    > {
+    fn dial(&mut self) -> Option<(StreamReader<'a, R::Stream>, PaddedWriter<'a, R::Stream>)> {
         let Connection { reader, writer, .. } = self.reach()?;
         Some((reader, writer))
     }

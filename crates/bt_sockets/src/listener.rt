@@ -4,12 +4,11 @@ ghost use Rattle.bt_check.specs.Fault.{device};
 ghost use Rattle.bt_sockets.specs.Listener.{IsServed};
 
 use crate::passage::Passage;
-use crate::stream::both_ways;
-use bt_ahead::ReadAhead;
+use crate::stream::{StreamReader, both_ways};
 use bt_check::Fault;
 use bt_disk::Disk;
 use bt_engine::Engine;
-use bt_padding::{PaddedReader, PaddedWriter};
+use bt_padding::PaddedWriter;
 use bt_peers::{PeerEnd, meet_peer};
 use bt_tree::NodeHash;
 use std::alloc::Global;
@@ -52,7 +51,7 @@ pub fn serve<D: Disk + Drop, H: NodeHash, R: Net>(
 ) -> Result<PeerEnd, Fault>
     requires no_peer { engine.old.state.peers ≡ [] }
     ensures served { IfOk result (λ end. IsServed D.history D.honest D.faults H.digest
-        ⟦<PaddedReader<'static, ReadAhead<'static, R::Stream>> as Read>⟧.remaining
+        ⟦<StreamReader<'static, R::Stream> as Read>⟧.remaining
         ⟦<PaddedWriter<'static, R::Stream> as Write>⟧.contents SESSION_TURNS engine.old end engine.new) }
     ensures gone { engine.new.state.peers ≡ [] }
     ensures refused { IfErr result (λ fault. fault ≡ device) }

@@ -1,17 +1,40 @@
 //! What stands between a connection and its engine.
 
+use crate::alarm::Alarm;
 use bt_ahead::DigestCache;
 use bt_meta::Torrent;
 use bt_padding::Padding;
+use std::alloc::{AllocError, Global};
 use std::cell::RefCell;
+
+/// What the connections that follow one another share, with each other and with the devices of their engine.
+#[derive(Drop)]
+pub struct Shared {
+    /// Where the digests are put that are made ahead, as blocks come or are read.
+    pub digests: RefCell<DigestCache>,
+    /// What is remembered of a peer that pads last blocks.
+    pub padding: RefCell<Padding>,
+    /// Rung where a device refuses a write.
+    pub alarm: Alarm,
+}
+
+impl Shared {
+    /// Nothing is digested ahead or remembered, and the alarm does not ring. Errors: out of memory.
+    pub fn new(alloc: Global) -> Result<Self, AllocError> {
+        let digests = RefCell::new(DigestCache::new(alloc)?);
+        let padding = RefCell::new(Padding::new(alloc)?);
+        Ok(Shared {
+            digests,
+            padding,
+            alarm: Alarm::new(),
+        })
+    }
+}
 
 /// What stands between a connection and its engine. Connections that follow one another share it.
 #[derive(Clone, Copy)]
 pub struct Passage<'a> {
     /// Which last blocks are short.
     pub torrent: &'a Torrent,
-    /// What is remembered of a peer that pads them.
-    pub padding: &'a RefCell<Padding>,
-    /// Where the digests are put that are made ahead, as blocks come.
-    pub digests: &'a RefCell<DigestCache>,
+    pub shared: &'a Shared,
 }

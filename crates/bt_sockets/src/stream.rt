@@ -2,6 +2,7 @@
 ghost use Rattle.std.specs.Prelude.{◌≡◌, ◌≢◌, List, ℕ, IfOk, MatchOption};
 ghost use Rattle.bt_sockets.specs.StreamSteps.{IsAddressOf, IsTextOf, bracketed};
 
+use crate::alarm::AlarmReader;
 use crate::passage::Passage;
 use bt_ahead::ReadAhead;
 use bt_padding::{PaddedReader, PaddedWriter, Padding};
@@ -17,6 +18,9 @@ pub const CONNECT_SECONDS: u64 = 20;
 
 /// For how many seconds a peer may send nothing at all, or take nothing, before a program gives it up.
 pub const IDLE_SECONDS: u64 = 120;
+
+/// What is read from a connection, as its engine gets it.
+pub type StreamReader<'a, S> = PaddedReader<'a, ReadAhead<'a, AlarmReader<'a, S>>>;
 
 /// Connects to the first address of a host that answers, and gives that address too. Errors: none does.
 pub(crate) fn connected<R: Net>(
@@ -61,27 +65,25 @@ fn in_brackets(host: &str) -> Option<&str>
 
 /// Makes a connection ready for a session: what is read from it, ahead of its engine, and what is written to
 /// it, which are one socket. Each write leaves at once, and a read or a write fails where the peer was idle
-/// for so long. What was remembered of the peer of another connection is forgotten. Errors: the system refuses
-/// this; out of memory.
+/// for so long; a read also where a device has refused a write since. What was remembered of the peer of
+/// another connection is forgotten. Errors: the system refuses this; out of memory.
 pub(crate) fn both_ways<'a, S: OpenStream + Drop>(
     alloc: Global,
     stream: S,
     idle: Duration,
     passage: Passage<'a>,
-) -> io::Result<(PaddedReader<'a, ReadAhead<'a, S>>, PaddedWriter<'a, S>)> {
-    let Passage {
-        torrent,
-        padding,
-        digests,
-    } = passage;
-    forget(padding)?;
+) -> io::Result<(StreamReader<'a, S>, PaddedWriter<'a, S>)> {
+    let Passage { torrent, shared } = passage;
+    forget(&shared.padding)?;
+    shared.alarm.stop();
     stream.set_nodelay(true)?;
     stream.set_read_timeout(Some(idle))?;
     stream.set_write_timeout(Some(idle))?;
     let clone = stream.try_clone()?;
-    let ahead = ReadAhead::new(alloc, stream, digests)?;
-    let reader = PaddedReader::new(alloc, ahead, torrent, padding);
-    let writer = PaddedWriter::new(alloc, clone, torrent, padding);
+    let heard = AlarmReader::new(stream, &shared.alarm);
+    let ahead = ReadAhead::new(alloc, heard, &shared.digests)?;
+    let reader = PaddedReader::new(alloc, ahead, torrent, &shared.padding);
+    let writer = PaddedWriter::new(alloc, clone, torrent, &shared.padding);
     Ok((reader, writer))
 }
 

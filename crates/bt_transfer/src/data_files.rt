@@ -6,19 +6,24 @@ ghost use Rattle.bt_check.specs.Fault.{device, out_of_memory};
 ghost use Rattle.bt_transfer.specs.DataFiles.{new_device, new_devices};
 ghost use Rattle.bt_transfer.specs.DataFilesSteps.{IsOpenedFor, IsPushed};
 
-use bt_ahead::{DigestCache, ReadAheadDisk};
+use bt_ahead::ReadAheadDisk;
 use bt_check::{Fault, OPEN_FILES, data_path, fault_name, told};
 use bt_disk::{FileDisk, HandlePool, PooledDisk};
 use bt_meta::FileEntry;
 use bt_progress::{FileCall, Watch, Watched};
+use bt_sockets::{AlarmDisk, Shared};
 use std::alloc::{AllocError, Global};
-use std::cell::RefCell;
 use std::fs;
 use std::path::{Path, PathBuf};
 use std::rt::Files;
 
-/// The device of a data file: one of a pool, which is read ahead, and tells of its calls.
-pub(crate) type DataDisk<'a, R, P> = Watched<'a, ReadAheadDisk<'a, PooledDisk<R>>, P>;
+/// The device of a data file: one of a pool, which is read ahead, rings where a write fails, and tells of its
+/// calls.
+pub(crate) type DataDisk<'a, R, P> = Watched<
+    'a,
+    AlarmDisk<'a, ReadAheadDisk<'a, PooledDisk<R>>>,
+    P,
+>;
 
 /// Opens the data files of some entries, in turn, to read and write them, and gives the devices of those that
 /// have a byte. They share a few handles, and what is read ahead, and tell of their calls; their bytes are to be
@@ -29,7 +34,7 @@ pub(crate) type DataDisk<'a, R, P> = Watched<'a, ReadAheadDisk<'a, PooledDisk<R>
 pub(crate) fn open_devices<'a, R: Files + AllocGlobal + Clone + Drop, P: Watch>(
     rt: &R,
     watch: &'a P,
-    digests: &'a RefCell<DigestCache>,
+    shared: &'a Shared,
     dir: &str,
     entries: &[FileEntry],
 ) -> Result<Vec<DataDisk<'a, R, P>>, Fault>
@@ -39,7 +44,7 @@ pub(crate) fn open_devices<'a, R: Files + AllocGlobal + Clone + Drop, P: Watch>(
     let mut pool = HandlePool::new(rt.alloc(), rt.clone()?, OPEN_FILES)?;
     let mut disks = Vec::new(rt.alloc());
     for entry in entries {
-        let found = open_entry(rt, watch, digests, &mut pool, dir, entry)?;
+        let found = open_entry(rt, watch, shared, &mut pool, dir, entry)?;
         push_some(&mut disks, found)?;
     }
     Ok(disks)
@@ -62,7 +67,7 @@ fn push_some<T: Drop>(items: &mut Vec<T>, item: Option<T>) -> Result<(), AllocEr
 fn open_entry<'a, R: Files + AllocGlobal + Drop, P: Watch>(
     rt: &R,
     watch: &'a P,
-    digests: &'a RefCell<DigestCache>,
+    shared: &'a Shared,
     pool: &mut HandlePool<R>,
     dir: &str,
     entry: &FileEntry,
@@ -78,7 +83,7 @@ fn open_entry<'a, R: Files + AllocGlobal + Drop, P: Watch>(
         return Ok(None);
     }
     watch.expect(entry.length);
-    let disk = open_device(rt.alloc(), watch, digests, pool, path)?;
+    let disk = open_device(rt.alloc(), watch, shared, pool, path)?;
     Ok(Some(disk))
 }
 
@@ -86,7 +91,7 @@ fn open_entry<'a, R: Files + AllocGlobal + Drop, P: Watch>(
 fn open_device<'a, R: Files + Drop, P: Watch>(
     alloc: Global,
     watch: &'a P,
-    digests: &'a RefCell<DigestCache>,
+    shared: &'a Shared,
     pool: &mut HandlePool<R>,
     path: PathBuf,
 ) -> Result<DataDisk<'a, R, P>, Fault>
@@ -96,7 +101,10 @@ fn open_device<'a, R: Files + Drop, P: Watch>(
 {
     let name = fault_name(alloc, watch, path.as_path().as_str())?;
     match pool.writing(path.into_string()) {
-        Ok(disk) => Ok(Watched::new(ReadAheadDisk::new(disk, digests), watch, name)),
+        Ok(disk) => {
+            let ahead = ReadAheadDisk::new(disk, &shared.digests);
+            Ok(Watched::new(AlarmDisk::new(ahead, &shared.alarm), watch, name))
+        }
         Err(_) => Err(opening_fault(watch, name)),
     }
 }

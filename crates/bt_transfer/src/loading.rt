@@ -5,12 +5,11 @@ ghost use Rattle.bt_check.specs.TorrentFile.{HasText, IsLoadFault, IsTorrentOfTe
 ghost use Rattle.bt_transfer.specs.Loading.{IsLoaded};
 
 use crate::store::{Store, open_store};
-use bt_ahead::DigestCache;
 use bt_check::{BUFFER_LEN, Fault, Source, fault_name, read_text, told};
 use bt_meta::{Torrent, read_info, read_torrent};
 use bt_progress::{FileCall, Watch, Watched};
+use bt_sockets::Shared;
 use std::alloc::Global;
-use std::cell::RefCell;
 use std::fs;
 use std::rt::Files;
 
@@ -19,7 +18,7 @@ use std::rt::Files;
 pub(crate) fn load_store<'a, R: Files + AllocGlobal + Clone + Drop, P: Watch>(
     rt: &R,
     watch: &'a P,
-    digests: &'a RefCell<DigestCache>,
+    shared: &'a Shared,
     source: Source<'_>,
     dir: &str,
 ) -> Result<(Store<'a, R, P>, Torrent), Fault>
@@ -29,7 +28,7 @@ pub(crate) fn load_store<'a, R: Files + AllocGlobal + Clone + Drop, P: Watch>(
 {
     let (torrent, other) = load_twice(rt, watch, source)?;
     watch.begin(FileCall::Read);
-    let engine = open_store(rt, watch, digests, torrent, dir)?;
+    let engine = open_store(rt, watch, shared, torrent, dir)?;
     Ok((engine, other))
 }
 

@@ -11,16 +11,16 @@ ghost use Rattle.bt_transfer.specs.DataFiles.{new_devices};
 ghost use Rattle.bt_transfer.specs.Store.{HasBegun, device_faults, device_history, device_honest};
 
 use crate::data_files::{DataDisk, open_devices};
-use bt_ahead::{CachedLanes, DigestCache};
+use bt_ahead::CachedLanes;
 use bt_check::Fault;
 use bt_disk::Disk;
 use bt_engine::{Engine, FlushError, StartError};
 use bt_intake::adopt_files;
 use bt_meta::Torrent;
 use bt_progress::Watch;
+use bt_sockets::Shared;
 use bt_tree::NodeHash;
 use std::alloc::Global;
-use std::cell::RefCell;
 use std::rt::Files;
 
 /// The store of a torrent's data files, whose digests are looked up where they were made ahead.
@@ -31,7 +31,7 @@ pub(crate) type Store<'a, R, P> = Engine<DataDisk<'a, R, P>, CachedLanes<'a>>;
 pub(crate) fn open_store<'a, R: Files + AllocGlobal + Clone + Drop, P: Watch>(
     rt: &R,
     watch: &'a P,
-    digests: &'a RefCell<DigestCache>,
+    shared: &'a Shared,
     torrent: Torrent,
     dir: &str,
 ) -> Result<Store<'a, R, P>, Fault>
@@ -39,8 +39,13 @@ pub(crate) fn open_store<'a, R: Files + AllocGlobal + Clone + Drop, P: Watch>(
         torrent (new_devices dir.now torrent.files)) }
     ensures fault { IfErr result (λ fault. (fault ≡ device) ⊎ (fault ≡ out_of_memory)) }
 {
-    let disks = open_devices(rt, watch, digests, dir, torrent.files())?;
-    begin(rt.alloc(), torrent, disks, CachedLanes::new(digests))
+    let disks = open_devices(rt, watch, shared, dir, torrent.files())?;
+    begin(
+        rt.alloc(),
+        torrent,
+        disks,
+        CachedLanes::new(&shared.digests),
+    )
 }
 
 /// Starts an engine of a torrent over the devices of its files that have a byte, and takes in what they have.

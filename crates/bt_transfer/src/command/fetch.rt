@@ -1,5 +1,5 @@
 //! The command `fetch`: peers are tried in turn, and what came of it is told.
-ghost use Rattle.std.specs.Prelude.{[], ◌≡◌, ◌⊎◌, All, length, IfErr, IfOk};
+ghost use Rattle.std.specs.Prelude.{[], ◌≡◌, ◌⊎◌, All, Ok, length, IfErr, IfOk};
 ghost use Rattle.std.specs.Io.KnownBytes.{Keeps};
 ghost use Rattle.bt_check.specs.Fault.{device, out_of_memory, status_of};
 ghost use Rattle.bt_check.specs.TorrentFile.{IsLoadFault};
@@ -11,18 +11,15 @@ use crate::lacking::begin_fetching;
 use crate::loading::load_store;
 use crate::peer::Peer;
 use crate::peer_lines::write_peers;
-use bt_ahead::DigestCache;
 use bt_check::{Fault, Source};
 use bt_disk::Disk;
 use bt_engine::Engine;
 use bt_intake::adopt_waiting;
-use bt_padding::Padding;
 use bt_peers::{Link, PeerEnd, run_peers};
 use bt_progress::Watch;
-use bt_sockets::{IDLE_SECONDS, Passage, SESSION_TURNS, TcpLink};
+use bt_sockets::{Alarm, IDLE_SECONDS, Passage, SESSION_TURNS, Shared, TcpLink};
 use bt_tree::NodeHash;
 use std::alloc::{AllocError, Global};
-use std::cell::RefCell;
 use std::io::Write;
 use std::net::Net;
 use std::rt::Files;
@@ -34,6 +31,9 @@ use std::time::Duration;
 /// program: 0 where all files are complete, else 1.
 ///
 /// It is told how much is read of what the files have, and then how much is written of what they lack.
+///
+/// A session ends where a device refuses a write. Where that was the last one, and files are not complete, the
+/// device's fault comes behind the report.
 ///
 /// Errors: the torrent is refused, and then nothing is written; a device or the writer failed; out of memory.
 pub fn fetch<R: Files + AllocGlobal + Clone + Drop, N: Net, P: Watch, W: Write>(
@@ -51,16 +51,26 @@ pub fn fetch<R: Files + AllocGlobal + Clone + Drop, N: Net, P: Watch, W: Write>(
     ensures refused { IfErr result
         (λ fault. status_of fault ≡ 2 → Keeps (W.contents writer.old) (W.contents writer.new)) }
 {
-    let digests = RefCell::new(DigestCache::new(rt.alloc())?);
-    let (mut engine, torrent) = load_store(rt, watch, &digests, source, dir)?;
+    let shared = Shared::new(rt.alloc())?;
+    let (mut engine, torrent) = load_store(rt, watch, &shared, source, dir)?;
     begin_fetching(watch, &engine);
-    let padding = RefCell::new(Padding::new(rt.alloc())?);
     let passage = Passage {
         torrent: &torrent,
-        padding: &padding,
-        digests: &digests,
+        shared: &shared,
     };
     let status = fetch_from(rt.alloc(), net, &mut engine, passage, peers, writer)?;
+    heard(status, &shared.alarm)
+}
+
+/// The status, if no alarm rings. A device's fault where one does and files are not complete.
+fn heard(status: u8, alarm: &Alarm) -> Result<u8, Fault>
+    ensures same { IfOk result (λ told. told ≡ status) }
+    ensures complete { status ≡ 0 → result ≡ Ok status }
+    ensures fault { IfErr result (λ fault. fault ≡ device) }
+{
+    if status != 0 && alarm.is_ringing() {
+        return Err(Fault::Device);
+    }
     Ok(status)
 }
 

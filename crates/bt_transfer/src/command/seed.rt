@@ -10,16 +10,13 @@ use crate::loading::load_store;
 use crate::peer::{Service, Serving};
 use crate::reception::Reception;
 use crate::store::finish;
-use bt_ahead::DigestCache;
 use bt_check::{Fault, Source, print};
 use bt_disk::Disk;
 use bt_engine::Engine;
-use bt_padding::Padding;
 use bt_progress::{FileCall, Watch};
-use bt_sockets::{Passage, listen, port_of};
+use bt_sockets::{Passage, Shared, listen, port_of};
 use bt_tree::NodeHash;
 use std::alloc::{AllocError, Global};
-use std::cell::RefCell;
 use std::io::Write;
 use std::net::{Net, OpenListener};
 use std::rt::Files;
@@ -49,14 +46,12 @@ pub fn seed<R: Files + AllocGlobal + Clone + Drop, N: Net, P: Watch, W: Write>(
     ensures refused { IfErr result
         (λ fault. status_of fault ≡ 2 → Keeps (W.contents writer.old) (W.contents writer.new)) }
 {
-    let digests = RefCell::new(DigestCache::new(rt.alloc())?);
-    let (mut engine, torrent) = load_store(rt, watch, &digests, source, dir)?;
+    let shared = Shared::new(rt.alloc())?;
+    let (mut engine, torrent) = load_store(rt, watch, &shared, source, dir)?;
     watch.begin(FileCall::Read);
-    let padding = RefCell::new(Padding::new(rt.alloc())?);
     let passage = Passage {
         torrent: &torrent,
-        padding: &padding,
-        digests: &digests,
+        shared: &shared,
     };
     listen_and_serve(rt.alloc(), net, &mut engine, passage, service, writer)?;
     Ok(0)
