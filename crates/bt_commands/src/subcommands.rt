@@ -55,7 +55,7 @@ const INFO: Word<'static> = Word {
 const VERBOSE: Word<'static> = Word {
     id: "verbose",
     kind: Kind::Flag,
-    help: "On a device fault, tell first of which file it is, and which call on it failed",
+    help: "On a device fault, tell first which file it was, and which call on it failed",
 };
 
 const MAKE_DIR: Word<'static> = Word {
@@ -91,25 +91,25 @@ const DIR: Word<'static> = Word {
 const SERVE: Word<'static> = Word {
     id: "serve",
     kind: Kind::Value("N"),
-    help: "How many connections are served",
+    help: "How many connections are served: this or --forever is needed",
 };
 
 const FOREVER: Word<'static> = Word {
     id: "forever",
     kind: Kind::Flag,
-    help: "Serve all connections that come, until the program is ended, in place of --serve",
+    help: "In place of --serve: all connections that come are served, until the program is ended",
 };
 
 const LISTEN: Word<'static> = Word {
     id: "listen",
     kind: Kind::ValueOr("ADDRESS", "127.0.0.1"),
-    help: "The address of this machine at which it listens, IPv4 or IPv6: at 127.0.0.1 this machine alone can connect",
+    help: "The address of this machine to listen at, IPv4 or IPv6: at 127.0.0.1 this machine alone can connect",
 };
 
 const PORT: Word<'static> = Word {
     id: "port",
     kind: Kind::ValueOr("P", "0"),
-    help: "The port at which it listens, from 0 to 65535: at 0 the system chooses one",
+    help: "The port to listen at, from 0 to 65535: at 0 the system chooses one",
 };
 
 const FETCH_DIR: Word<'static> = Word {
