@@ -1,5 +1,6 @@
 //! A session ends where a device of its engine refuses a write: the block stays wanted, so its peer would be
 //! asked for it again and again.
+ghost use Rattle.std.specs.Prelude.{◌≡◌};
 
 use bt_disk::{DeviceFault, Disk};
 use std::cell::Cell;
