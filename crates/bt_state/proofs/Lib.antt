@@ -2,6 +2,7 @@ pub mod Lists
 -- pieces
 pub mod Bits
 pub mod Wholes
+pub mod Comparisons
 pub mod NextPieces
 pub mod OutsidePieces
 -- leaves that are known

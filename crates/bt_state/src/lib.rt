@@ -4,6 +4,7 @@
 #![tactic(auto)]
 
 mod block_change;
+mod comparison;
 mod connection;
 mod greeting;
 mod parts;

@@ -1,10 +1,12 @@
 ghost use Rattle.std.specs.List.{All};
-ghost use Rattle.std.specs.Prelude.{◌≡◌, ℕ, ◌+◌, ◌-◌, ◌*◌, ◌<◌, ◌≤◌, true, false, length, replicate, slice_index_or, slice_set, take, IfOk, IfSome, IfNone};
+ghost use Rattle.std.specs.Prelude.{◌≡◌, ◌↔◌, ℕ, ◌+◌, ◌-◌, ◌*◌, ◌<◌, ◌≤◌, true, false, length, replicate, slice_index_or, slice_set, take, IfOk, IfSome, IfNone, IsTrue};
 ghost use Rattle.std.specs.Int.{div_ceil, bit_at};
 ghost use Rattle.bt_book.specs.BitSet.{IsNext, HasNoneFrom};
 ghost use Rattle.bt_machine.specs.WireEvents.{bits_in};
 ghost use Rattle.bt_state.specs.PieceSets.{without};
+ghost use Rattle.bt_state.specs.PieceSetSteps.{IsEmptyAt, IsWithinAt};
 
+use crate::comparison::{PART_LEN, adds_nothing, has_no_bit};
 use std::alloc::{AllocError, Global};
 use std::marker::Model;
 
@@ -51,7 +53,8 @@ impl PieceSet {
         piece < self.pieces && bit(&self.bytes, piece as usize)
     }
 
-    /// The first piece of the set from one on. A byte without one is passed at once.
+    /// The first piece of the set from one on. Where none of them is in the set, 512 are passed at once, or
+    /// eight.
     pub fn next(&self, from: u32) -> Option<u32>
         ensures some { IfSome result (IsNext self.now from) }
         ensures none { IfNone result (HasNoneFrom self.now from) }
@@ -59,7 +62,9 @@ impl PieceSet {
         let pieces = self.pieces() as usize;
         let mut piece = from as usize;
         while piece < pieces {
-            if self.bytes[piece / 8] == 0 {
+            if piece % (8 * PART_LEN) == 0 && self.is_empty_at(piece / 8) {
+                piece += 8 * PART_LEN;
+            } else if self.bytes[piece / 8] == 0 {
                 piece = (piece / 8 + 1) * 8;
             } else if bit(&self.bytes, piece) {
                 return Some(piece as u32);
@@ -70,8 +75,8 @@ impl PieceSet {
         None
     }
 
-    /// The first piece of the set from one on that is not in the other. Eight are passed at once where none of
-    /// them is such a piece.
+    /// The first piece of the set from one on that is not in the other. Where none of them is such a piece,
+    /// 512 are passed at once, or eight.
     pub fn next_outside(&self, other: &PieceSet, from: u32) -> Option<u32>
         ensures some { IfSome result (IsNext (without self.now other.now) from) }
         ensures none { IfNone result (HasNoneFrom (without self.now other.now) from) }
@@ -80,7 +85,9 @@ impl PieceSet {
         let mut piece = from as usize;
         while piece < pieces {
             let eight = self.bytes[piece / 8];
-            if eight & other.eight(piece / 8) == eight {
+            if piece % (8 * PART_LEN) == 0 && self.is_within_at(other, piece / 8) {
+                piece += 8 * PART_LEN;
+            } else if eight & other.eight(piece / 8) == eight {
                 piece = 8 * (piece / 8 + 1);
             } else if bit(&self.bytes, piece) && !other.contains(piece as u32) {
                 return Some(piece as u32);
@@ -89,6 +96,23 @@ impl PieceSet {
             }
         }
         None
+    }
+
+    /// Whether 64 bytes from a place on are bytes of pieces alone, and no piece there is in the set.
+    fn is_empty_at(&self, place: usize) -> bool
+        ensures { IsTrue result ↔ IsEmptyAt place PART_LEN self.now }
+    {
+        let whole = self.pieces as usize / 8;
+        PART_LEN <= whole.saturating_sub(place) && has_no_bit(&self.bytes, place)
+    }
+
+    /// Whether 64 bytes from a place on are bytes of pieces alone in both sets, since the bits behind a last
+    /// piece say nothing, and each piece of the set there is in the other.
+    fn is_within_at(&self, other: &PieceSet, place: usize) -> bool
+        ensures { IsTrue result ↔ IsWithinAt place PART_LEN self.now other.now }
+    {
+        let whole = self.pieces.min(other.pieces) as usize / 8;
+        PART_LEN <= whole.saturating_sub(place) && adds_nothing(&self.bytes, &other.bytes, place)
     }
 
     /// A byte of which each bit that is set says that a piece is in the set. It is 0 where there are not eight

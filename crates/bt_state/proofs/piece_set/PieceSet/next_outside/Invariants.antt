@@ -1,6 +1,6 @@
 use Rattle.std.proofs.Common.{◌-◌, ◌≤◌}
 use Rattle.bt_state.specs.PieceSets.{without}
-use Rattle.bt_state.proofs.NextPieces.{HasNoneTo}
+use Rattle.bt_state.specs.PieceSetSteps.{HasNoneTo}
 use Rattle.bt_state.proofs.piece_set.PieceSet.next_outside.Given as goal
 
 abbrev pub invariant-loop-piece : goal.invariant-loop-piece
