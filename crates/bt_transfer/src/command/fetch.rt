@@ -59,22 +59,22 @@ pub fn fetch<R: Files + AllocGlobal + Clone + Drop, N: Net, P: Watch, W: Write>(
         shared: &shared,
     };
     let status = fetch_from(rt.alloc(), net, &mut engine, passage, peers, writer)?;
-    heard(status, &shared.alarm)
+    Ok(status)
 }
 
-/// The status, if no alarm rings. A device's fault where one does and files are not complete.
-fn heard(status: u8, alarm: &Alarm) -> Result<u8, Fault>
-    ensures same { IfOk result (λ told. told ≡ status) }
-    ensures complete { status ≡ 0 → result ≡ Ok status }
+/// Hears the alarm. Errors: it rings, and the status is that of files that are not complete.
+fn hear(alarm: &Alarm, status: u8) -> Result<(), Fault>
+    ensures complete { status ≡ 0 → result ≡ Ok tt }
     ensures fault { IfErr result (λ fault. fault ≡ device) }
 {
     if status != 0 && alarm.is_ringing() {
         return Err(Fault::Device);
     }
-    Ok(status)
+    Ok(())
 }
 
 /// Takes peers in turn, over TCP, until an engine of a torrent is complete, and tells of it as `fetch_over` does.
+/// Errors: also where the last session ended because a device refused a write, and files are not complete.
 fn fetch_from<D: Disk + Drop, H: NodeHash, N: Net, W: Write>(
     alloc: Global,
     net: &N,
@@ -90,6 +90,7 @@ fn fetch_from<D: Disk + Drop, H: NodeHash, N: Net, W: Write>(
 {
     let mut links = links_to(alloc, net, peers, passage)?;
     let status = fetch_over(alloc, engine, peers, &mut links, SESSION_TURNS, writer)?;
+    hear(&passage.shared.alarm, status)?;
     Ok(status)
 }
 
