@@ -23,10 +23,10 @@ pub enum Device<'a> {
     SystemPooled(PooledDisk<System<'a>>),
 }
 
-/// Puts a device in the place of another. Only here is one dropped that was there, so that no other proof has
-/// to do with it.
-pub fn put<'a>(place: &mut Device<'a>, device: Device<'a>) {
-    *place = device;
+/// Puts a value in the place of another. Only here is one dropped that was there, so that no other proof has to
+/// do with it.
+pub fn put<T: Drop>(place: &mut T, value: T) {
+    *place = value;
 }
 
 /// A new device, or a call of the one that is there.
@@ -52,8 +52,8 @@ fn memory_device_row(
     out: &mut String,
 ) -> Result<(), RowError> {
     match name {
-        "memory" => memory_row(alloc, device, words, out),
-        "faulty" => faulty_row(alloc, device, words, out),
+        "memory" => memory_row(alloc, device, false, words, out),
+        "faulty" => memory_row(alloc, device, true, words, out),
         "crash" => crash_row(device, words, out),
         "set" => setting_row(device, words, out),
         "bytes" => bytes_row(alloc, device, out),
@@ -61,39 +61,26 @@ fn memory_device_row(
     }
 }
 
-/// A device in memory, with these bytes.
+/// A device in memory, with these bytes, as it is or inside of a device of faults.
 fn memory_row(
     alloc: Global,
     device: &mut Device<'_>,
+    is_faulty: bool,
     words: &mut Words,
     out: &mut String,
 ) -> Result<(), RowError> {
     let bytes = words.bytes(alloc)?;
-    put(device, Device::Memory(memory_disk(alloc, bytes)));
+    put(device, in_memory(alloc, bytes, is_faulty));
     tell(out, "a device")
 }
 
-/// The same inside of a device of faults.
-fn faulty_row(
-    alloc: Global,
-    device: &mut Device<'_>,
-    words: &mut Words,
-    out: &mut String,
-) -> Result<(), RowError> {
-    let bytes = words.bytes(alloc)?;
-    put(
-        device,
-        Device::Faulty(faulty_disk(memory_disk(alloc, bytes))),
-    );
-    tell(out, "a device")
-}
-
-fn memory_disk(alloc: Global, bytes: Vec<u8>) -> MemoryDisk {
-    MemoryDisk::new(alloc, bytes)
-}
-
-fn faulty_disk(disk: MemoryDisk) -> FaultDisk<MemoryDisk> {
-    FaultDisk::new(disk)
+fn in_memory<'a>(alloc: Global, bytes: Vec<u8>, is_faulty: bool) -> Device<'a> {
+    let disk = MemoryDisk::new(alloc, bytes);
+    if is_faulty {
+        Device::Faulty(FaultDisk::new(disk))
+    } else {
+        Device::Memory(disk)
+    }
 }
 
 /// A file that is opened. The device that was there is gone before.
@@ -130,21 +117,39 @@ fn put_made<'a>(
     tell_whether(out, is_empty, "fault", "a device")
 }
 
-/// What a crash leaves of a device in memory, which keeps what was not synced, or fills it with a byte.
-fn crash_row(device: &mut Device<'_>, words: &mut Words, out: &mut String) -> Result<(), RowError> {
-    let loss = loss_from(words)?;
-    match taken(device) {
-        Device::Memory(disk) => {
-            put(device, crashed(disk, loss));
-            tell(out, "crashed")
-        }
-        _ => Err(RowError::Unread),
-    }
-}
-
 /// The device, of which the place is empty then.
 pub fn taken<'a>(place: &mut Device<'a>) -> Device<'a> {
     mem::replace(place, Device::Empty)
+}
+
+/// The device in memory, of which the place is empty then. Another one stays.
+fn taken_memory(place: &mut Device<'_>) -> Result<MemoryDisk, RowError> {
+    match taken(place) {
+        Device::Memory(disk) => Ok(disk),
+        other => {
+            put(place, other);
+            Err(RowError::Unread)
+        }
+    }
+}
+
+/// The device of faults, of which the place is empty then. Another one stays.
+pub fn taken_faulty(place: &mut Device<'_>) -> Result<FaultDisk<MemoryDisk>, RowError> {
+    match taken(place) {
+        Device::Faulty(disk) => Ok(disk),
+        other => {
+            put(place, other);
+            Err(RowError::Unread)
+        }
+    }
+}
+
+/// What a crash leaves of a device in memory, which keeps what was not synced, or fills it with a byte.
+fn crash_row(device: &mut Device<'_>, words: &mut Words, out: &mut String) -> Result<(), RowError> {
+    let loss = loss_from(words)?;
+    let disk = taken_memory(device)?;
+    put(device, crashed(disk, loss));
+    tell(out, "crashed")
 }
 
 fn crashed<'a>(disk: MemoryDisk, loss: Loss) -> Device<'a> {
@@ -188,13 +193,17 @@ fn setting_row(
     let name = words.word();
     let call = words.long()?;
     let kind = kind_of(name, words)?;
-    match taken(device) {
-        Device::Faulty(disk) if is_call(call) => {
-            put(device, Device::Faulty(with_setting(disk, kind, call)));
-            tell(out, "set")
-        }
-        _ => Err(RowError::Unread),
+    set_fault(device, kind, call)?;
+    tell(out, "set")
+}
+
+fn set_fault(device: &mut Device<'_>, kind: Kind, call: u64) -> Result<(), RowError> {
+    if !is_call(call) {
+        return Err(RowError::Unread);
     }
+    let disk = taken_faulty(device)?;
+    put(device, with_setting(disk, kind, call));
+    Ok(())
 }
 
 /// Whether a call may have this number: from 1 to 2^64 - 2.
@@ -205,15 +214,15 @@ fn is_call(call: u64) -> bool
     0 < call && call < u64::MAX
 }
 
-fn with_setting(disk: FaultDisk<MemoryDisk>, kind: Kind, call: u64) -> FaultDisk<MemoryDisk>
+fn with_setting<'a>(disk: FaultDisk<MemoryDisk>, kind: Kind, call: u64) -> Device<'a>
     requires some { 0 < call }
     requires within { call < 2 ^ 64 - 1 }
 {
-    match kind {
+    Device::Faulty(match kind {
         Kind::Once => disk.failing_once(call),
         Kind::From => disk.failing_from(call),
         Kind::Flip(place) => disk.flipping(call, place),
-    }
+    })
 }
 
 /// The bytes of a device in memory, also inside of one of faults.

@@ -1,9 +1,8 @@
 //! Files of the system that rows make, and what the system itself says of them.
 
 use crate::bytes::tell_bytes;
-use crate::shop::Shop;
+use crate::shop::{Shop, is_opened};
 use crate::words::{RowError, Words, tell, tell_whether};
-use bt_disk::FileDisk;
 use std::alloc::{AllocError, Global};
 use std::fs::{self, Permissions};
 use std::io::{self, PipeReader, PipeWriter};
@@ -44,13 +43,9 @@ pub fn disk_row(shop: &Shop, words: &mut Words, out: &mut String) -> Result<(), 
     match words.word() {
         "file" => write_row(shop, words, out),
         "bytes" => found_row(shop, words, out),
-        "remove" => remove_row(shop, words, out),
-        "folder" => folder_row(shop, words, out),
-        "link" => link_row(shop, words, out),
-        "close" => close_row(shop, words, out),
         "alike" => alike_row(shop, words, out),
         "pipe" => pipe_row(shop, out),
-        _ => Err(RowError::Unread),
+        name => change_row(shop, name, words, out),
     }
 }
 
@@ -79,51 +74,52 @@ fn tell_found(shop: &Shop, path: &str, out: &mut String) -> Result<(), RowError>
     }
 }
 
-fn remove_row(shop: &Shop, words: &mut Words, out: &mut String) -> Result<(), RowError> {
+fn change_row(
+    shop: &Shop,
+    name: &str,
+    words: &mut Words,
+    out: &mut String,
+) -> Result<(), RowError> {
     let path = shop.path(words)?;
-    tell_asked(out, fs::remove_file(shop.host, path.as_str()))
+    tell_changed(shop, name, path.as_str(), words, out)
 }
 
-fn folder_row(shop: &Shop, words: &mut Words, out: &mut String) -> Result<(), RowError> {
-    let path = shop.path(words)?;
-    tell_asked(out, fs::create_dir(shop.host, path.as_str()))
+/// Whether the system removes the file at a path, makes a folder or a link there, or takes all rights from it.
+fn tell_changed(
+    shop: &Shop,
+    name: &str,
+    path: &str,
+    words: &mut Words,
+    out: &mut String,
+) -> Result<(), RowError> {
+    match name {
+        "remove" => tell_asked(out, fs::remove_file(shop.host, path)),
+        "folder" => tell_asked(out, fs::create_dir(shop.host, path)),
+        "link" => link_row(shop, path, words, out),
+        "close" => tell_asked(out, without_rights(shop.host, path)),
+        _ => Err(RowError::Unread),
+    }
 }
 
-/// A symbolic link that leads to a path.
-fn link_row(shop: &Shop, words: &mut Words, out: &mut String) -> Result<(), RowError> {
-    let link = shop.path(words)?;
+/// A symbolic link that leads to the path of the next word.
+fn link_row(shop: &Shop, link: &str, words: &mut Words, out: &mut String) -> Result<(), RowError> {
     let path = shop.path(words)?;
-    tell_asked(
-        out,
-        unix::fs::symlink(shop.host, path.as_str(), link.as_str()),
-    )
+    tell_asked(out, unix::fs::symlink(shop.host, path.as_str(), link))
 }
 
-/// Takes all rights from a file.
-fn close_row(shop: &Shop, words: &mut Words, out: &mut String) -> Result<(), RowError> {
-    let path = shop.path(words)?;
-    tell_asked(
-        out,
-        fs::set_permissions(shop.host, path.as_str(), Permissions::from_mode(0)),
-    )
+fn without_rights(host: &HostRuntime, path: &str) -> io::Result<()> {
+    fs::set_permissions(host, path, Permissions::from_mode(0))
 }
 
 /// Whether a device reads a file just where the system does.
 fn alike_row(shop: &Shop, words: &mut Words, out: &mut String) -> Result<(), RowError> {
     let path = shop.path(words)?;
-    let is_read = can_read(shop.host, path.as_str());
-    let is_alike = is_read == fs::read(shop.host, path.as_str()).is_ok();
+    let is_alike = is_alike(shop.host, path.as_str());
     tell_whether(out, is_alike, "alike", "other than the system")
 }
 
-/// Whether a file is opened to be read.
-fn can_read(rt: &HostRuntime, path: &str) -> bool {
-    FileDisk::reading(rt, path).is_ok()
-}
-
-/// Whether a file is opened to be written.
-fn can_write(rt: &HostRuntime, path: &str) -> bool {
-    FileDisk::writing(rt, path).is_ok()
+fn is_alike(host: &HostRuntime, path: &str) -> bool {
+    is_opened(host, false, path) == fs::read(host, path).is_ok()
 }
 
 /// A pipe that has no bytes and a writer, so that opening or reading it may wait: whether each of its open ends
@@ -148,6 +144,7 @@ fn tell_ends(
 
 fn tell_end(shop: &Shop, end: RawFd, out: &mut String) -> Result<(), RowError> {
     let path = format!(in shop.alloc(); "/proc/self/fd/{end}")?;
-    let is_opened = can_read(shop.host, path.as_str()) || can_write(shop.host, path.as_str());
+    let path = path.as_str();
+    let is_opened = is_opened(shop.host, false, path) || is_opened(shop.host, true, path);
     tell_whether(out, is_opened, "opened", "fault")
 }

@@ -4,7 +4,7 @@ ghost use Rattle.std.specs.Prelude.{◌≡◌};
 ghost use Rattle.std.specs.Bool.{OnTrue};
 
 use crate::words::RowError;
-use bt_disk::{DeviceFault, FaultDisk, MemoryDisk};
+use bt_disk::{FaultDisk, MemoryDisk};
 use bt_sparse::{AnswerError, Claim, SparseTree};
 use bt_store::{Adopted, BlockState, FileStore, Put, ReadError, Rechecked, Settled, StoreError};
 use bt_tree::{BLOCK_LEN, Hash32, NodeHash};
@@ -12,7 +12,7 @@ use std::alloc::{AllocError, Global};
 
 #[derive(Drop)]
 pub struct Fixture<H: NodeHash> {
-    store: FileStore<FaultDisk<MemoryDisk>, H>,
+    pub store: FileStore<FaultDisk<MemoryDisk>, H>,
     tree: SparseTree<H>,
 }
 
@@ -103,16 +103,8 @@ impl<H: NodeHash> Fixture<H> {
         self.store.is_complete()
     }
 
-    pub fn clear(&mut self) {
-        self.store.clear();
-    }
-
     pub fn leaf(&self, block: u32) -> Option<Hash32> {
         self.tree.known(0, block)
-    }
-
-    pub fn sync(&mut self) -> Result<(), DeviceFault> {
-        self.store.sync()
     }
 
     /// The bytes of the device.

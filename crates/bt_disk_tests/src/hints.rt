@@ -3,8 +3,7 @@
 use crate::bytes::tell_bytes;
 use crate::words::{RowError, Words, tell};
 use bt_hashreq::HashKey;
-use bt_resume::{Hint, Hints, LentHint};
-use bt_sparse::Digests;
+use bt_resume::{Hints, LentHint};
 use bt_tree::Hash32;
 use std::alloc::Global;
 use std::fmt::Write;
@@ -27,10 +26,6 @@ fn numbered_key(root: Hash32, words: &mut Words) -> Result<HashKey, RowError> {
         length,
         layers,
     })
-}
-
-pub fn proof_of(key: HashKey, digests: Vec<Hash32>) -> Hint {
-    Hint::Proof(key, Digests::new(digests))
 }
 
 /// Tells how many hints there are.

@@ -2,11 +2,12 @@
 
 use crate::calls::tell_done;
 use crate::device::{Device, put, taken};
-use crate::hints::{key_from, proof_of, tell_count, tell_hints};
+use crate::hints::{key_from, tell_count, tell_hints};
 use crate::unreadable::Unreadable;
 use crate::words::{RowError, Words, tell};
 use bt_disk::{DeviceFault, Disk, FaultDisk, MemoryDisk};
 use bt_resume::{AppendError, Hint, Hints, LogError, Refused, ResumeLog};
+use bt_sparse::Digests;
 use bt_tree::Hash32;
 use std::alloc::Global;
 use std::fmt::Write;
@@ -45,14 +46,25 @@ fn open_row(
     out: &mut String,
 ) -> Result<(), RowError> {
     let infohash = words.digest(alloc)?;
+    match opened_on(alloc, device, infohash) {
+        Some(opened) => put_opened(log, device, opened, out),
+        None => Err(RowError::Unread),
+    }
+}
+
+/// The log on a device in memory or of faults, of which the place is empty then. Another device stays.
+fn opened_on<'a>(
+    alloc: Global,
+    device: &mut Device<'a>,
+    infohash: Hash32,
+) -> Option<Result<Log, Refused<Device<'a>, LogError>>> {
     match taken(device) {
-        Device::Memory(disk) => {
-            put_opened(log, device, in_memory(opened(alloc, disk, infohash)), out)
+        Device::Memory(disk) => Some(in_memory(opened(alloc, disk, infohash))),
+        Device::Faulty(disk) => Some(with_faults(opened(alloc, disk, infohash))),
+        other => {
+            put(device, other);
+            None
         }
-        Device::Faulty(disk) => {
-            put_opened(log, device, with_faults(opened(alloc, disk, infohash)), out)
-        }
-        _ => Err(RowError::Unread),
     }
 }
 
@@ -115,7 +127,7 @@ fn put_opened<'a>(
 ) -> Result<(), RowError> {
     match opened {
         Ok(opened) => {
-            set(log, opened);
+            put(log, opened);
             tell_opened(log, out)
         }
         Err(refused) => {
@@ -124,11 +136,6 @@ fn put_opened<'a>(
             tell_cause(out, cause)
         }
     }
-}
-
-/// Puts a log in the place of the one that is there.
-fn set(place: &mut Log, log: Log) {
-    *place = log;
 }
 
 fn tell_opened(log: &Log, out: &mut String) -> Result<(), RowError> {
@@ -213,7 +220,8 @@ fn proof_row<D: Disk + Drop>(
 ) -> Result<(), RowError> {
     let key = key_from(alloc, words)?;
     let digests = words.digests(alloc)?;
-    tell_appended(out, appended(log, &proof_of(key, digests)))
+    let hint = Hint::Proof(key, Digests::new(digests));
+    tell_appended(out, appended(log, &hint))
 }
 
 /// None where the hint could not be read back.

@@ -29,10 +29,13 @@ fn main(rt: HostRuntime) -> anyhow::Result<()> {
     printed
 }
 
-/// Answers the rows, whose files lie in a folder.
+/// Answers the rows, whose files lie in a folder. The stage is dropped by a call, since a drop at the end of the
+/// body is proved there, with all that a stage may hold.
 fn print_answers(rt: &HostRuntime, counts: &Counts, top: &str) -> anyhow::Result<()> {
     let mut stage = Stage::new(rt, counts, top);
-    print_lines(rt, &mut stage)
+    let printed = print_lines(rt, &mut stage);
+    drop(stage);
+    printed
 }
 
 fn print_lines(rt: &HostRuntime, stage: &mut Stage<'_>) -> anyhow::Result<()> {

@@ -2,7 +2,7 @@
 //! of the files.
 ghost use Rattle.std.specs.Prelude.{◌<◌};
 
-use crate::device::Device;
+use crate::device::{Device, put};
 use crate::files::{disk_row, path_of};
 use crate::many::many_row;
 use crate::system::{Counts, System, manner_of};
@@ -53,7 +53,7 @@ impl<'a> Shop<'a> {
 
     /// From here on files are those of the host, or of a system of this manner whose counts begin anew.
     pub fn system_row(&mut self, words: &mut Words, out: &mut String) -> Result<(), RowError> {
-        self.set_pool(Pool::Empty);
+        put(&mut self.pool, Pool::Empty);
         let name = words.word();
         self.is_host = name == "host";
         if !self.is_host {
@@ -69,7 +69,7 @@ impl<'a> Shop<'a> {
             return Err(RowError::Unread);
         }
         let pool = self.new_pool(limit)?;
-        self.set_pool(pool);
+        put(&mut self.pool, pool);
         tell(out, "a pool")
     }
 
@@ -89,11 +89,6 @@ impl<'a> Shop<'a> {
         let host = self.host.clone()?;
         let pool = HandlePool::new(self.alloc(), host, limit)?;
         Ok(Pool::Host(pool))
-    }
-
-    /// Puts a pool in the place of the one that is there.
-    fn set_pool(&mut self, pool: Pool<'a>) {
-        self.pool = pool;
     }
 
     /// The path of the next word.
@@ -198,6 +193,11 @@ fn system_device<'a>(
         Ok(disk) => Device::SystemPooled(disk),
         Err(_) => Device::Empty,
     }
+}
+
+/// Whether a file is opened, to be read or to be written.
+pub fn is_opened<R: Files>(rt: &R, is_written: bool, path: &str) -> bool {
+    opened(rt, is_written, path).is_ok()
 }
 
 fn opened<R: Files>(

@@ -23,10 +23,7 @@ pub fn bodies_row(
 ) -> Result<(), AllocError> {
     match words.word() {
         "new" => new_row(alloc, bodies, words, out),
-        "accept" => match bodies {
-            Some(bodies) => accept_row(alloc, bodies, words, out),
-            None => out.push_str("no trees"),
-        },
+        "accept" => accept_row(alloc, bodies, words, out),
         _ => {
             words.are_wrong();
             Ok(())
@@ -43,10 +40,15 @@ fn new_row(
     let geometry = Geometry::new(words.long());
     let root = words.array(alloc)?;
     match geometry {
-        Some(geometry) => *bodies = Some(new_bodies(alloc, geometry, &root)?),
+        Some(geometry) => put(bodies, new_bodies(alloc, geometry, &root)?),
         None => words.are_wrong(),
     }
     out.push_str("two trees")
+}
+
+/// Only here is dropped what was there.
+fn put(place: &mut Option<Bodies>, bodies: Bodies) {
+    *place = Some(bodies);
 }
 
 fn new_bodies(alloc: Global, geometry: Geometry, root: &Hash32) -> Result<Bodies, AllocError> {
@@ -58,12 +60,24 @@ fn new_bodies(alloc: Global, geometry: Geometry, root: &Hash32) -> Result<Bodies
 /// What the pages answer, and whether the map answers the same, and then knows the same of each node.
 fn accept_row(
     alloc: Global,
-    bodies: &mut Bodies,
+    bodies: &mut Option<Bodies>,
     words: &mut Words,
     out: &mut String,
 ) -> Result<(), AllocError> {
     let claim = claim_from(alloc, words)?;
-    push_both(alloc, bodies, &claim, out)
+    push_any(alloc, bodies, &claim, out)
+}
+
+fn push_any(
+    alloc: Global,
+    bodies: &mut Option<Bodies>,
+    claim: &Claim,
+    out: &mut String,
+) -> Result<(), AllocError> {
+    match bodies {
+        Some(bodies) => push_both(alloc, bodies, claim, out),
+        None => out.push_str("no trees"),
+    }
 }
 
 fn push_both(

@@ -60,7 +60,11 @@ fn feed_row(
     out: &mut String,
 ) -> Result<(), AllocError> {
     let bytes = words.bytes(alloc)?;
-    match feed(stream, &bytes) {
+    push_fed(out, feed(stream, &bytes))
+}
+
+fn push_fed(out: &mut String, fed: Result<(), WireError>) -> Result<(), AllocError> {
+    match fed {
         Ok(()) => out.push_str("fed"),
         Err(error) => write!(out, "{error}"),
     }

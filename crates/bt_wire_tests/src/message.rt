@@ -36,10 +36,7 @@ fn push_message(alloc: Global, out: &mut String, message: &Message) -> Result<()
         Message::Interested => out.push_str("interested"),
         Message::NotInterested => out.push_str("not_interested"),
         Message::Have(piece) => write!(out, "have {piece}"),
-        Message::Bitfield(bits) => {
-            out.push_str("bitfield ")?;
-            push_shown(alloc, out, bits.as_slice())
-        }
+        Message::Bitfield(bits) => push_bitfield(alloc, out, bits.as_slice()),
         Message::Request(ask) => push_ask(out, "request", ask),
         Message::Piece {
             piece,
@@ -51,6 +48,11 @@ fn push_message(alloc: Global, out: &mut String, message: &Message) -> Result<()
         Message::Hashes(key, digests) => push_hashes(alloc, out, key, digests.as_slice()),
         Message::HashReject(key) => push_keyed(alloc, out, "hash_reject ", key),
     }
+}
+
+fn push_bitfield(alloc: Global, out: &mut String, bits: &[u8]) -> Result<(), AllocError> {
+    out.push_str("bitfield ")?;
+    push_shown(alloc, out, bits)
 }
 
 fn push_ask(out: &mut String, name: &str, ask: &Ask) -> Result<(), AllocError> {

@@ -49,11 +49,18 @@ fn push_standings(standings: &mut Vec<Standing>, words: &mut Words) -> Result<()
 fn standing_of(word: &str) -> Option<Standing> {
     let (peer, rest) = word.split_once(':')?;
     let (interested, bytes) = rest.split_once(':')?;
-    let interested = match interested {
-        "yes" => true,
-        "no" => false,
-        _ => return None,
-    };
+    standing_from(peer, is_yes(interested)?, bytes)
+}
+
+fn is_yes(word: &str) -> Option<bool> {
+    match word {
+        "yes" => Some(true),
+        "no" => Some(false),
+        _ => None,
+    }
+}
+
+fn standing_from(peer: &str, interested: bool, bytes: &str) -> Option<Standing> {
     match (peer.parse::<u64>(), bytes.parse::<u64>()) {
         (Ok(peer), Ok(bytes)) => Some(Standing {
             peer: PeerKey(peer),

@@ -134,13 +134,25 @@ fn call_row<H: NodeHash>(
     match name {
         "accept" => accept_row(alloc, tree, words, out),
         "take" => take_row(alloc, tree, words, out),
+        "plan" => plan_row(alloc, tree, words, out),
+        "answer" => answer_row(alloc, tree, words, out),
+        "room" => answer_room_row(alloc, tree, words, out),
+        _ => look_row(alloc, tree, name, words, out),
+    }
+}
+
+fn look_row<H: NodeHash>(
+    alloc: Global,
+    tree: &SparseTree<H>,
+    name: &str,
+    words: &mut Words,
+    out: &mut String,
+) -> Result<(), AllocError> {
+    match name {
         "known" => known_row(alloc, tree, words, out),
         "nodes" => nodes_row(alloc, tree, out),
         "unknown" => unknown_row(tree, words, out),
-        "plan" => plan_row(alloc, tree, words, out),
-        "answer" => answer_row(alloc, tree, words, out),
         "length" => length_row(tree, words, out),
-        "room" => answer_room_row(alloc, tree, words, out),
         _ => {
             words.are_wrong();
             Ok(())
@@ -191,13 +203,23 @@ fn push_refusal(alloc: Global, out: &mut String, error: &ProofError) -> Result<(
             ours,
             theirs,
         } => {
-            write!(out, " {layer} {index} ")?;
-            push_hex(alloc, out, ours)?;
-            out.push_str(" ")?;
-            push_hex(alloc, out, theirs)
+            write!(out, " {layer} {index}")?;
+            push_clash(alloc, out, ours, theirs)
         }
         _ => Ok(()),
     }
+}
+
+fn push_clash(
+    alloc: Global,
+    out: &mut String,
+    ours: &[u8],
+    theirs: &[u8],
+) -> Result<(), AllocError> {
+    out.push_str(" ")?;
+    push_hex(alloc, out, ours)?;
+    out.push_str(" ")?;
+    push_hex(alloc, out, theirs)
 }
 
 fn accept_row<H: NodeHash>(

@@ -76,13 +76,13 @@ impl<'a> Words<'a> {
     /// As many bytes as are wanted; zeros where the next word spells another number of them.
     pub fn array<const N: usize>(&mut self, alloc: Global) -> Result<[u8; N], AllocError> {
         let bytes = self.bytes(alloc)?;
-        let mut array = [0; N];
-        if bytes.len() == N {
-            array.copy_from_slice(&bytes);
-        } else {
-            self.wrong = true;
+        match array_of(&bytes) {
+            Some(array) => Ok(array),
+            None => {
+                self.wrong = true;
+                Ok([0; N])
+            }
         }
-        Ok(array)
     }
 
     /// Digests, one after the other.
@@ -94,4 +94,14 @@ impl<'a> Words<'a> {
         }
         Vec::from_slice(alloc, digests)
     }
+}
+
+/// These bytes, where they are as many as are wanted.
+fn array_of<const N: usize>(bytes: &[u8]) -> Option<[u8; N]> {
+    if bytes.len() != N {
+        return None;
+    }
+    let mut array = [0; N];
+    array.copy_from_slice(bytes);
+    Some(array)
 }
