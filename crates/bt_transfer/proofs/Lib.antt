@@ -3,3 +3,4 @@ pub mod ReportLines
 pub mod PeerLines
 pub mod OverTcp
 pub mod ConnectionLines
+pub mod Faults

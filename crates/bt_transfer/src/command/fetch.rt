@@ -87,8 +87,6 @@ fn fetch_from<D: Disk + Drop, H: NodeHash, N: Net, W: Write>(
     ensures fetched { IfOk result (λ status. HasFetchedOverTcp D.history D.honest D.faults H.digest peers.now
         engine.old (W.contents writer.old) (W.contents writer.new) status engine.new) }
     ensures fault { IfErr result (λ fault. (fault ≡ device) ⊎ (fault ≡ out_of_memory)) }
-    ensures refused { IfErr result
-        (λ fault. status_of fault ≡ 2 → Keeps (W.contents writer.old) (W.contents writer.new)) }
 {
     let mut links = links_to(alloc, net, peers, passage)?;
     let status = fetch_over(alloc, engine, peers, &mut links, SESSION_TURNS, writer)?;

@@ -70,8 +70,6 @@ fn listen_and_serve<D: Disk + Drop, H: NodeHash, N: Net, W: Write>(
     ensures served { OnOk result (HasListened D.history D.honest D.faults H.digest service.entry.serving
         engine.old (W.contents writer.old) (W.contents writer.new) engine.new) }
     ensures fault { IfErr result (λ fault. (fault ≡ device) ⊎ (fault ≡ out_of_memory)) }
-    ensures refused { IfErr result
-        (λ fault. status_of fault ≡ 2 → Keeps (W.contents writer.old) (W.contents writer.new)) }
 {
     let listener = listen(net, service.address, service.port)?;
     announce(alloc, &listener, writer)?;

@@ -1,0 +1,21 @@
+-- What is said of a fault that is passed on.
+use Rattle.std.proofs.Common.{◌≡◌, ◌⊎◌, inl, inr, ℕ, Bool, Result, Ok, Err, IfErr, sym, subst, ap, ◌∙◌}
+use Rattle.std.specs.Prelude.{IsErrAnd}
+use Rattle.bt_check.specs.Fault.{device, out_of_memory, status_of}
+use Rattle.bt_check.specs.TorrentFile.{IsLoadFault}
+use Rattle.bt_check.specs.declared.fault.Fault.{Fault}
+
+-- what holds of a fault holds where it is passed on
+pub passed_on : {T : Type 0} (r : Result T Fault) (fault : Fault) (P : Fault → Type 0) → IsErrAnd r (λ told. told ≡ fault) → P fault → IfErr r P
+passed_on (Ok x) fault P told holds = tt
+passed_on (Err it) fault P told holds = subst P (sym told) holds
+
+-- a device's fault, and want of memory, are no refusal
+pub not_refused : (fault : Fault) → (fault ≡ device) ⊎ (fault ≡ out_of_memory) → status_of fault ≡ 2 → ⊥
+not_refused fault (inl at_device) two = let bad : 3 ≡ 2 = ap status_of (sym at_device) ∙ two in cc
+not_refused fault (inr short) two = let bad : 4 ≡ 2 = ap status_of (sym short) ∙ two in cc
+
+-- and each may come as a torrent is loaded
+pub while_loading : (is_info : Bool) (fault : Fault) → (fault ≡ device) ⊎ (fault ≡ out_of_memory) → IsLoadFault is_info fault
+while_loading is_info fault (inl at_device) = inl at_device
+while_loading is_info fault (inr short) = inr (inl short)
