@@ -3,7 +3,7 @@
 use crate::bytes::{push_digests, push_each, push_hex, push_shown};
 use crate::words::Words;
 use bt_hashreq::{HashKey, read_key, to_claim, write_key};
-use bt_sparse::{Claim, ProofError};
+use bt_sparse::Claim;
 use std::alloc::{AllocError, Global};
 use std::fmt::Write;
 
@@ -58,16 +58,8 @@ fn write_row(alloc: Global, words: &mut Words, out: &mut String) -> Result<(), A
 fn claim_row(alloc: Global, words: &mut Words, out: &mut String) -> Result<(), AllocError> {
     let key = key_from(alloc, words)?;
     let digests = words.bytes(alloc)?;
-    push_claimed(alloc, out, &to_claim(alloc, &key, &digests))
-}
-
-fn push_claimed(
-    alloc: Global,
-    out: &mut String,
-    claimed: &Result<Claim, ProofError>,
-) -> Result<(), AllocError> {
-    match claimed {
-        Ok(claim) => push_claim(alloc, out, claim),
+    match to_claim(alloc, &key, &digests) {
+        Ok(claim) => push_claim(alloc, out, &claim),
         Err(error) => write!(out, "{error}"),
     }
 }

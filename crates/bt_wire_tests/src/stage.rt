@@ -57,34 +57,22 @@ impl Stage {
     ) -> Result<(), AllocError> {
         match words.word() {
             "cutter" => cutter_row(alloc, &mut self.stream, words, out),
+            "stream" => stream_row(alloc, words, out),
+            "cuts" => cuts_row(alloc, words, out),
+            "write" => write_row(alloc, words, out),
+            "hello" => hello_row(alloc, words, out),
+            "list" => list_row(alloc, words, out),
+            "texts" => texts_row(out),
             "book" => book_row(alloc, &mut self.requests, words, out),
             "random" => random_row(&mut self.random, &mut self.requests, words, out),
+            "serve" => serve_row(alloc, words, out),
+            "key" => key_row(alloc, words, out),
             "tree" => tree_row(alloc, &mut self.tree, words, out),
             "bodies" => bodies_row(alloc, &mut self.bodies, words, out),
-            name => free_row(alloc, name, words, out),
-        }
-    }
-}
-
-/// A row that needs nothing of what others have made.
-fn free_row(
-    alloc: Global,
-    name: &str,
-    words: &mut Words,
-    out: &mut String,
-) -> Result<(), AllocError> {
-    match name {
-        "write" => write_row(alloc, words, out),
-        "hello" => hello_row(alloc, words, out),
-        "list" => list_row(alloc, words, out),
-        "texts" => texts_row(out),
-        "serve" => serve_row(alloc, words, out),
-        "key" => key_row(alloc, words, out),
-        "stream" => stream_row(alloc, words, out),
-        "cuts" => cuts_row(alloc, words, out),
-        _ => {
-            words.are_wrong();
-            Ok(())
+            _ => {
+                words.are_wrong();
+                Ok(())
+            }
         }
     }
 }

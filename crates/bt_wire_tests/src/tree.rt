@@ -134,25 +134,13 @@ fn call_row<H: NodeHash>(
     match name {
         "accept" => accept_row(alloc, tree, words, out),
         "take" => take_row(alloc, tree, words, out),
-        "plan" => plan_row(alloc, tree, words, out),
-        "answer" => answer_row(alloc, tree, words, out),
-        "room" => answer_room_row(alloc, tree, words, out),
-        _ => look_row(alloc, tree, name, words, out),
-    }
-}
-
-fn look_row<H: NodeHash>(
-    alloc: Global,
-    tree: &SparseTree<H>,
-    name: &str,
-    words: &mut Words,
-    out: &mut String,
-) -> Result<(), AllocError> {
-    match name {
         "known" => known_row(alloc, tree, words, out),
         "nodes" => nodes_row(alloc, tree, out),
         "unknown" => unknown_row(tree, words, out),
+        "plan" => plan_row(alloc, tree, words, out),
+        "answer" => answer_row(alloc, tree, words, out),
         "length" => length_row(tree, words, out),
+        "room" => answer_room_row(alloc, tree, words, out),
         _ => {
             words.are_wrong();
             Ok(())
