@@ -18,11 +18,16 @@ use stage::Stage;
 use std::io;
 
 fn main(rt: HostRuntime) -> io::Result<()> {
-    let alloc = rt.alloc();
-    let mut stage = Stage::new(alloc);
-    for line in rt.lines(alloc) {
+    let mut stage = Stage::new(rt.alloc());
+    let printed = print_answers(&rt, &mut stage);
+    drop(stage);
+    printed
+}
+
+fn print_answers(rt: &HostRuntime, stage: &mut Stage) -> io::Result<()> {
+    for line in rt.lines(rt.alloc()) {
         let line = line?;
-        let answer = stage.answer(alloc, line.as_str())?;
+        let answer = stage.answer(rt.alloc(), line.as_str())?;
         println!(rt; "{answer}")?;
     }
     Ok(())

@@ -16,8 +16,14 @@ use std::io;
 
 fn main(rt: HostRuntime) -> io::Result<()> {
     let mut lists = Lists::Empty;
-    print_lines(&rt, &mut lists)?;
-    let answer = last_answer(rt.alloc(), &mut lists)?;
+    let printed = print_answers(&rt, &mut lists);
+    drop(lists);
+    printed
+}
+
+fn print_answers(rt: &HostRuntime, lists: &mut Lists) -> io::Result<()> {
+    print_lines(rt, lists)?;
+    let answer = last_answer(rt.alloc(), lists)?;
     print!(rt; "{answer}")?;
     Ok(())
 }

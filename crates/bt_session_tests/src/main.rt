@@ -23,7 +23,9 @@ use std::io;
 
 fn main(rt: HostRuntime) -> io::Result<()> {
     let mut stage = Stage::new(&rt);
-    print_lines(&rt, &mut stage)
+    let printed = print_lines(&rt, &mut stage);
+    drop(stage);
+    printed
 }
 
 fn print_lines(rt: &HostRuntime, stage: &mut Stage<'_>) -> io::Result<()> {
