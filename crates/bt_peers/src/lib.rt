@@ -7,6 +7,7 @@ mod link;
 mod peer;
 mod peers;
 
+pub use bt_session::Engine;
 pub use end::{PeerEnd, end_text};
 pub use link::Link;
 pub use peer::meet_peer;

@@ -4,8 +4,7 @@ ghost use Rattle.bt_peers.specs.Peer.{EndsAs};
 
 use crate::end::PeerEnd;
 use bt_disk::Disk;
-use bt_engine::Engine;
-use bt_session::run_session;
+use bt_session::{Engine, run_session};
 use bt_tree::NodeHash;
 use std::alloc::Global;
 use std::io::{Read, Write};

@@ -6,7 +6,7 @@ use crate::end::PeerEnd;
 use crate::link::Link;
 use crate::peer::meet_peer;
 use bt_disk::Disk;
-use bt_engine::Engine;
+use bt_session::Engine;
 use bt_tree::NodeHash;
 use std::alloc::Global;
 

@@ -10,6 +10,7 @@ mod room;
 mod session;
 mod turn;
 
+pub use bt_engine::Engine;
 pub use end::SessionEnd;
 pub use law::sessions_are_runs;
 pub use session::run_session;
