@@ -1,4 +1,4 @@
-use Rattle.std.proofs.Common.{arith}
+use Rattle.std.proofs.Common.{rules, arith}
 use Rattle.bt_ahead.proofs.Lengths.{four_up}
 use Rattle.bt_ahead.proofs.messages.first_message.Goals as goal
 
@@ -8,3 +8,6 @@ returns-clause-whole c = record {
   within = omega arith;
   spelled = c.message_len-len.ensures;
 }
+
+pub returns-then-bytes-len-clause-part : goal.returns-then-bytes-len-clause-part
+returns-then-bytes-len-clause-part c = search rules

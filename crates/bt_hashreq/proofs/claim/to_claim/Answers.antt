@@ -1,4 +1,4 @@
-use Rattle.std.proofs.Common.{◌*◌, ap, refl, ◌∙◌}
+use Rattle.std.proofs.Common.{rules, ◌*◌, ap, refl, ◌∙◌}
 use Rattle.std.proofs.lemmas.Result.{err_from_is_err_and}
 use Rattle.bt_hashreq.specs.Claim.{shape, count, no_memory}
 use Rattle.bt_hashreq.proofs.claim.to_claim.Goals as goal
@@ -21,3 +21,6 @@ returns-in_err-collected-2-clause-refused c =
     let e = err_from_is_err_and c.from_residual-in_err-collected-2.result c.from_residual-in_err-collected-2.ensures.1 in
     let size = c.if-digests-count.false ∙ ap (λ n. 32 * n) c.in-Some.ensures.count in
     rw (e.1, e.2, c.in_err-collected-2.ensures.memory) (no_memory (c.in-Some.ensures.some.0 refl) size)
+
+pub returns-clause-claim : goal.returns-clause-claim
+returns-clause-claim c = search rules

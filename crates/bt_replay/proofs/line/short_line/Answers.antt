@@ -1,4 +1,4 @@
-use Rattle.std.proofs.Common.{sym, subst}
+use Rattle.std.proofs.Common.{rules, sym, subst}
 use Rattle.bt_replay.specs.Field.{fields_in}
 use Rattle.bt_replay.specs.Line.{Makes}
 use Rattle.bt_replay.specs.declared.line.Line.{Line}
@@ -39,3 +39,6 @@ returns-in_err-file-in-Flip-clause-none c =
     none_always c.from_residual-in_err-file-in-Flip.result
     (subst (λ w. (line : Line) → ¬ Makes w (fields_in c.args.rest) line) (sym c.in-Flip.is)
     (λ line m. c.in_err-file-in-Flip.ensures.none m.0 m.1 m.2 m.3))
+
+pub returns-in_ok-peer_in-in-Lost-clause-some : goal.returns-in_ok-peer_in-in-Lost-clause-some
+returns-in_ok-peer_in-in-Lost-clause-some c = search rules

@@ -13,3 +13,12 @@ returns-then-is_some-clause-why g c =
     let leaf : c.known-leaf.result ≡ Some (g.H.NodeHash.digest c.args.bytes.now) =
     right_leaf g.H.NodeHash.digest c.known-leaf.result c.args.bytes.now c.if-is_some.ensures c.if-is_wrong.ensures.no in
     (search rules, search rules, sym c.known-leaf.ensures ∙ leaf)
+
+pub returns-clause-states : goal.returns-clause-states
+returns-clause-states g c = search rules
+
+pub returns-then-is_wrong-clause-why : goal.returns-then-is_wrong-clause-why
+returns-then-is_wrong-clause-why g c = search rules
+
+pub returns-then-is_wrong-clause-calls : goal.returns-then-is_wrong-clause-calls
+returns-then-is_wrong-clause-calls g c = search rules

@@ -1,4 +1,4 @@
-use Rattle.std.proofs.Common.{◌∙◌, [], refl, sym}
+use Rattle.std.proofs.Common.{rules, ◌∙◌, [], refl, sym}
 use Rattle.bt_disk.proofs.CallLists.{has_none}
 use Rattle.bt_store.proofs.Reviews.{nothing_waits}
 use Rattle.bt_store.proofs.file_store.FileStore.settle.Goals as goal
@@ -18,3 +18,6 @@ returns-then-waiting-eq0-clause-settled g c =
       refl,
       refl,
     )
+
+pub returns-clause-settled : goal.returns-clause-settled
+returns-clause-settled g c = search rules

@@ -1,4 +1,5 @@
-use Rattle.std.proofs.Common.{refl}
+use Rattle.std.proofs.Common.{arith, refl}
+use Rattle.std.proofs.lemmas.Grind.{common_steps}
 use Rattle.bt_wire.proofs.Takings.{takes_front, awaits_memory, front_of}
 use Rattle.bt_wire.proofs.cutter.Cutter.next.Goals as goal
 
@@ -16,3 +17,9 @@ returns-in-Err-OutOfMemory-clause-refused c =
     let a = c.self.inside in
     let front = front_of a.greeted _ _ c.in-Err-OutOfMemory.field-0-is c.in-Err-OutOfMemory.ensures.refused in
     rw (← c.self.view_is) (awaits_memory a.bytes.items a.start a.greeted a.failed c.if-self.false (rw c.deref.ensures.value at front), refl)
+
+pub returns-in-Ok-None-clause-answer : goal.returns-in-Ok-None-clause-answer
+returns-in-Ok-None-clause-answer c = grind (arith, common_steps)
+
+pub returns-in-Err : goal.returns-in-Err
+returns-in-Err c = grind (arith, common_steps)

@@ -1,0 +1,5 @@
+use Rattle.std.proofs.Common.{rules}
+use Rattle.bt_tree.proofs.node_hash.PlainNodeHash.pair.Goals as goal
+
+pub returns : goal.returns
+returns c = search rules
