@@ -1,3 +1,5 @@
+use Rattle.std.proofs.Common.{arith}
+use Rattle.std.proofs.lemmas.Grind.{common_steps}
 use Rattle.bt_intake.proofs.Adoptions.{keeps_torrent, taking_more}
 use Rattle.bt_intake.proofs.adoption.adopt_files.Goals as goal
 
@@ -13,3 +15,6 @@ loop-file-preserved g c = (
       c.in_ok-adopt_file.ensures.step.2 c.in_ok-adopt_file.ensures.no_peer,
   c.loop-file.invariant.1,
 )
+
+pub loop-file-init : goal.loop-file-init
+loop-file-init g c = grind (arith, common_steps)
