@@ -1,6 +1,6 @@
 -- What is left of bytes that wait, once some of them are given.
 use Rattle.std.proofs.Common.{◌≡◌, ◌≤◌, ◌<◌, ℕ, ◌+◌, ◌-◌, List, ◌++◌, drop, length, sym, ◌∙◌, ap, subst, arith, length-append, drop-drop, drop_at, eq-zero-or-pos, ⊎_elim}
-use Rattle.bt_ahead.specs.Messages.{HasNoMessage}
+use Rattle.bt_ahead.specs.Messages.{IsHeld}
 use Rattle.bt_ahead.specs.Room.{room_length}
 use Rattle.bt_ahead.specs.Reader.{IsOrderly}
 
@@ -22,7 +22,7 @@ orderly_after all front new ready count order parts size within fits =
     = ap (λ (l : List ℕ). length l) parts ∙ length-append front new ∙ ap (λ (n : ℕ). n + length new) size in
     record {
       within = omega (arith, order.within, long);
-      part = subst HasNoMessage (same_behind all front new ready count parts size within) order.part;
+      held = subst IsHeld (same_behind all front new ready count parts size within) order.held;
       some = λ none. ⊎_elim
           (λ (zero : count ≡ 0). let first : length all < room_length = order.some (omega (arith, none, zero)) in omega (arith, first, long))
           (λ (more : 0 < count). omega (arith, more, long, fits))

@@ -1,6 +1,6 @@
 -- Messages one behind the other, and what their bytes lead to.
-use Rattle.std.proofs.Common.{◌≡◌, ◌≤◌, ◌<◌, ℕ, ◌+◌, ◌-◌, min, List, [], ◌++◌, take, drop, length, ⊎_elim, length-drop, sym, ◌∙◌, subst, arith, zero-add, length-append, take_all}
-use Rattle.std.proofs.lemmas.List.{get_or-take, length-take-le}
+use Rattle.std.proofs.Common.{◌≡◌, ◌≤◌, ◌<◌, ℕ, ◌+◌, ◌-◌, min, List, [], ◌++◌, take, drop, length, ⊎_elim, length-drop, sym, ◌∙◌, ap, subst, arith, zero-add, length-append, take_all}
+use Rattle.std.proofs.lemmas.List.{get_or-take, length-take-le, take-append-drop}
 use Rattle.std.proofs.lemmas.Bool.{cases_lt}
 use lib.Seq.{take-add}
 use Rattle.bt_ahead.specs.Messages.{message_length, IsMessage, AreMessages, one_more, Leads, in_message, to_message, into_message}
@@ -48,13 +48,23 @@ leads_to bytes owed count within all =
     subst (λ (b : List ℕ). Leads owed b 0) (sym (take-add owed count bytes))
     (subst (λ (n : ℕ). Leads n (rest ++ behind) 0) (length-take-le owed bytes within) (to_message rest behind all))
 
--- a message begins that is not whole
-pub leads_into : (bytes : List ℕ) → 4 ≤ length bytes → length bytes ≤ message_length bytes
-    → Leads 0 (take (length bytes) bytes) (message_length bytes - length bytes)
-leads_into bytes four long =
-    let left : ℕ = message_length bytes - length bytes in
-    let whole : message_length bytes ≡ length bytes + left = omega arith in
-    subst (λ (b : List ℕ). Leads 0 b left) (sym (take_all (length bytes) bytes (omega arith))) (into_message bytes left four whole)
+-- they are, and then a message begins that is not whole
+pub leads_into : (bytes : List ℕ) (owed count : ℕ) → owed ≤ length bytes → AreMessages (take count (drop owed bytes))
+    → 4 ≤ length (drop (owed + count) bytes) → length (drop (owed + count) bytes) ≤ message_length (drop (owed + count) bytes)
+    → Leads owed (take (length bytes) bytes) (message_length (drop (owed + count) bytes) - length (drop (owed + count) bytes))
+leads_into bytes owed count within all four long =
+    let rest = take owed bytes in
+    let messages = take count (drop owed bytes) in
+    let begin = drop (owed + count) bytes in
+    let left : ℕ = message_length begin - length begin in
+    let whole : message_length begin ≡ length begin + left = omega arith in
+    let parts : (rest ++ messages) ++ begin ≡ take (length bytes) bytes
+    = ap (λ (b : List ℕ). b ++ begin) (sym (take-add owed count bytes))
+    ∙ take-append-drop (owed + count) bytes
+    ∙ sym (take_all (length bytes) bytes (omega arith)) in
+    subst (λ (b : List ℕ). Leads owed b left) parts
+    (subst (λ (n : ℕ). Leads n ((rest ++ messages) ++ begin) left) (length-take-le owed bytes within)
+    (into_message rest messages begin left all four whole))
 
 -- no bytes lead nowhere
 pub leads_none : (owed : ℕ) → Leads owed [] owed
@@ -64,7 +74,7 @@ leads_none owed = subst (λ (n : ℕ). Leads n [] owed) (zero-add owed) (in_mess
 pub stays : {owed left : ℕ} {bytes : List ℕ} → Leads owed bytes left → length bytes ≡ 0 → owed ≡ left
 stays (in_message part left) none = omega (arith, none)
 stays (to_message rest messages all) none = omega (arith, none, length-append rest messages)
-stays (into_message begin left four whole) none = absurd (omega (arith, four, none))
+stays (into_message rest messages begin left all four whole) none = absurd (omega (arith, four, none, length-append (rest ++ messages) begin))
 
 -- one more step, behind none
 pub leads_more : (first owed left : ℕ) (none bytes : List ℕ) → Leads first none owed → length none ≡ 0 → Leads owed bytes left

@@ -1,6 +1,6 @@
 -- What is found in bytes that wait.
 use Rattle.std.specs.Prelude.{◌≡◌, ℕ, ◌<◌, ◌≤◌, List, length, drop}
-use Rattle.bt_ahead.specs.Messages.{message_length, HasNoMessage}
+use Rattle.bt_ahead.specs.Messages.{message_length, IsHeld}
 use Rattle.bt_ahead.specs.Room.{room_length}
 use Rattle.bt_ahead.specs.declared.messages.Cut.{Cut}
 
@@ -10,9 +10,9 @@ pub record BeginsMessage (bytes : List ℕ) (count : ℕ) : Type 0 where
   pub within : count ≤ length bytes
   pub spelled : count ≡ message_length bytes
 
--- behind the bytes that may be given no message is whole, and of bytes that fill the room some may be given
+-- what is held back may carry a whole block and is not whole, and of bytes that fill the room some may be given
 pub record IsCut (bytes : List ℕ) (c : Cut) : Type 0 where
   pub order : c.begin ≤ c.ready
   pub within : c.ready ≤ length bytes
-  pub part : HasNoMessage (drop c.ready bytes)
+  pub held : IsHeld (drop c.ready bytes)
   pub some : room_length ≤ length bytes → 0 < c.ready

@@ -1,7 +1,7 @@
 -- What a peer sends, read ahead of its engine.
 use Rattle.std.specs.Prelude.{◌≡◌, ℕ, ◌-◌, ◌<◌, ◌≤◌, ◌⊎◌, min, List, [], ◌++◌, Option, length, take, drop}
 use Rattle.std.specs.Io.KnownBytes.{Consumes, IsAtEnd, prepend_known}
-use Rattle.bt_ahead.specs.Messages.{HasNoMessage, Leads}
+use Rattle.bt_ahead.specs.Messages.{IsHeld, Leads}
 use Rattle.bt_ahead.specs.Room.{room_length}
 
 -- the reader behind it, what was read and is not given, how many of these bytes may be given, and how many
@@ -24,15 +24,16 @@ new_reader inner = record { inner = inner; waiting = []; ready = 0; owed = hands
 abbrev pub reader_remaining : {R : Type 0} → (R → Option (List ℕ)) → ReaderState R → Option (List ℕ)
 reader_remaining remaining s = prepend_known s.waiting (remaining s.inner)
 
--- so many of the bytes that wait may be given, some where the room is full; behind them no message is whole
+-- so many of the bytes that wait may be given, some where the room is full; what is behind them is held back
 pub record IsOrderly (waiting : List ℕ) (ready : ℕ) : Type 0 where
   pub within : ready ≤ length waiting
-  pub part : HasNoMessage (drop ready waiting)
+  pub held : IsHeld (drop ready waiting)
   pub some : ready ≡ 0 → length waiting < room_length
 
--- no whole message is held back behind the bytes that may be given
-abbrev pub HoldsNoMessage : {R : Type 0} → ReaderState R → Type 0
-HoldsNoMessage s = HasNoMessage (drop s.ready s.waiting)
+-- Behind the bytes that may be given nothing is held back but the begin of a message that may carry a whole
+-- block: what shows a fault is given as it comes.
+abbrev pub HoldsBlockAlone : {R : Type 0} → ReaderState R → Type 0
+HoldsBlockAlone s = IsHeld (drop s.ready s.waiting)
 
 -- the reader behind gave these bytes, and they wait behind the others
 pub record Takes {R : Type 0} (remaining : R → Option (List ℕ)) (old : ReaderState R) (came : List ℕ)

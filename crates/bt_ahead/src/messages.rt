@@ -1,11 +1,11 @@
 //! The messages in a run of bytes (BEP 3), and the whole blocks that they carry.
-ghost use Rattle.std.specs.Prelude.{◌≡◌, ◌<◌, ◌≤◌, length, take, drop, IfSome, IfNone};
+ghost use Rattle.std.specs.Prelude.{◌≡◌, ◌↔◌, ◌<◌, ◌≤◌, length, take, drop, IfSome, IfNone, IsTrue};
+ghost use Rattle.std.specs.Bool.{OnFalse};
 ghost use Rattle.bt_tree.specs.Limits.{full_block_length};
-ghost use Rattle.bt_ahead.specs.Messages.{message_length, AreMessages, HasNoMessage, Leads};
+ghost use Rattle.bt_ahead.specs.Messages.{message_length, AreMessages, HasNoMessage, MayCarryBlock, Leads};
 ghost use Rattle.bt_ahead.specs.MessageSteps.{BeginsMessage, IsCut};
 
 use crate::cache::DigestCache;
-use crate::room::ROOM_LEN;
 use bt_tree::BLOCK_LEN;
 
 /// How many bytes spell a message's length.
@@ -54,6 +54,20 @@ fn whole_messages(bytes: &[u8]) -> usize
     at
 }
 
+/// Whether the message that begins so may carry a whole block.
+fn may_carry_block(part: &[u8]) -> bool
+    ensures answer { IsTrue result ↔ MayCarryBlock part.now }
+    ensures begun { OnFalse result (4 ≤ length part.now) }
+{
+    if part.len() < LENGTH_LEN {
+        return true;
+    }
+    if message_len(part) != PIECE_HEAD_LEN + BLOCK_LEN {
+        return false;
+    }
+    part.len() == LENGTH_LEN || part[LENGTH_LEN] == PIECE
+}
+
 /// Where bytes that wait are cut.
 #[derive(Clone, Copy)]
 pub(crate) struct Cut {
@@ -66,25 +80,26 @@ pub(crate) struct Cut {
 }
 
 /// Cuts bytes of which the first `owed` are the rest of a message that is given as it comes: these may be
-/// given, as far as they are there, and the whole messages behind them; and a message that fills the room, in
-/// which nothing more would come of it.
+/// given, as far as they are there, and the whole messages behind them, and what there is of one that can't carry
+/// a whole block.
 fn cut_messages(owed: usize, bytes: &[u8]) -> Cut
     ensures cut { IsCut bytes.now result }
     ensures leads { Leads owed (take result.ready bytes.now) result.owed }
 {
     let begin = owed.min(bytes.len());
-    let ready = begin + whole_messages(&bytes[begin..]);
-    if ready == 0 && bytes.len() >= ROOM_LEN {
+    let whole = begin + whole_messages(&bytes[begin..]);
+    let part = &bytes[whole..];
+    if may_carry_block(part) {
         return Cut {
-            begin: bytes.len(),
-            ready: bytes.len(),
-            owed: message_len(bytes) - bytes.len(),
+            begin,
+            ready: whole,
+            owed: owed - begin,
         };
     }
     Cut {
         begin,
-        ready,
-        owed: owed - begin,
+        ready: bytes.len(),
+        owed: message_len(part) - part.len(),
     }
 }
 

@@ -2,7 +2,7 @@
 ghost use Rattle.std.specs.Prelude.{◌≡◌, ◌↔◌, ◌<◌, IsTrue, IfOk, OnOk, OnErr};
 ghost use Rattle.std.specs.Io.{ReadsAtMost};
 ghost use Rattle.std.specs.Io.KnownBytes.{ReadConsumes};
-ghost use Rattle.bt_ahead.specs.Reader.{new_reader, reader_remaining, HoldsNoMessage, IsFilled, IsGiven, IsRead, LosesNothing};
+ghost use Rattle.bt_ahead.specs.Reader.{new_reader, reader_remaining, HoldsBlockAlone, IsFilled, IsGiven, IsRead, LosesNothing};
 ghost use Rattle.bt_ahead.specs.ReaderSteps.{IsRefilled, KeepsAll};
 
 use crate::cache::DigestCache;
@@ -20,9 +20,10 @@ const HANDSHAKE_LEN: usize = 68;
 /// A reader of what a peer sends, which reads ahead of its engine, and has the blocks in it digested eight at
 /// a time, before the engine asks for their digests one by one.
 ///
-/// It gives just the bytes of the reader behind, in order, whatever they are. They come to be given message
-/// by message: one that is not whole waits, unless it is longer than the room or the reader behind has ended.
-/// While something may be given, that reader is not asked, since it could wait for ever.
+/// It gives just the bytes of the reader behind, in order, whatever they are. Those of a message that may carry
+/// a whole block wait until it is whole or the reader behind has ended; all others may be given as they come,
+/// since they may show a fault. While something may be given, that reader is not asked, since it could wait for
+/// ever.
 #[derive(Drop)]
 pub struct ReadAhead<'a, R> {
     inner: R,
@@ -76,7 +77,7 @@ impl<'a, R> ReadAhead<'a, R> {
     /// Gives the first of the bytes that may be given, as many as there is room for, and says how many.
     fn give(&mut self, buffer: &mut [u8]) -> usize
         ensures given { IsGiven self.old result buffer.new self.new }
-        ensures held { HoldsNoMessage self.new }
+        ensures held { HoldsBlockAlone self.new }
     {
         let count = self.room.give(self.ready, buffer);
         self.ready -= count;
@@ -91,7 +92,7 @@ impl<'a, R: Read> ReadAhead<'a, R> {
         requires { self.old.ready ≡ 0 }
         ensures refilled { IfOk result (λ count. IsRefilled R.remaining self.old count self.new) }
         ensures kept { OnErr result (KeepsAll R.remaining self.old self.new) }
-        ensures held { HoldsNoMessage self.new }
+        ensures held { HoldsBlockAlone self.new }
     {
         let count = self.room.read_from(&mut self.inner)?;
         let waiting = self.room.as_slice();
@@ -106,7 +107,7 @@ impl<'a, R: Read> ReadAhead<'a, R> {
     fn fill(&mut self) -> io::Result<()>
         ensures filled { OnOk result (IsFilled R.remaining self.old self.new) }
         ensures kept { OnErr result (LosesNothing R.remaining self.old self.new) }
-        ensures held { OnErr result (HoldsNoMessage self.new) }
+        ensures held { OnErr result (HoldsBlockAlone self.new) }
     {
         'reading: while !self.is_ready() {
             if self.refill()? == 0 {
@@ -128,7 +129,7 @@ impl<'a, R: Read> Read for ReadAhead<'a, R> {
             (reader_remaining R.remaining self.new) result buffer.new }
         ensures given { IfOk result (λ count. IsRead R.remaining self.old count buffer.new self.new) }
         ensures kept { OnErr result (LosesNothing R.remaining self.old self.new) }
-        ensures held { HoldsNoMessage self.new }
+        ensures held { HoldsBlockAlone self.new }
     {
         self.fill()?;
         Ok(self.give(buffer))

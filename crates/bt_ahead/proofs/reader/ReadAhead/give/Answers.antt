@@ -14,4 +14,4 @@ invariant_of-self g c =
 
 pub returns-clause-held : goal.returns-clause-held
 returns-clause-held g c =
-    let order : IsOrderly c.give-count.new.self (c.self.inside.ready - c.give-count.result) = invariant_of-self g c in order.part
+    let order : IsOrderly c.give-count.new.self (c.self.inside.ready - c.give-count.result) = invariant_of-self g c in order.held
