@@ -83,10 +83,12 @@ fetched_by : {D L : Type 0} (Try To : Trial D L)
 fetched_by Try To carry history honest faults dig peers old links before now status rest new f = record {
   ends = f.ends;
   met = f.met;
+  kept = f.kept;
   told = f.told;
   taken = f.taken;
   in_turn = in_turn_by Try To carry f.in_turn;
   lines = f.lines;
+  flushed = f.flushed;
   taken_in = f.taken_in;
   end = f.end;
 }

@@ -6,6 +6,7 @@ use Rattle.std.specs.List.{enumerate_from, flat_map}
 use Rattle.bt_check.specs.Display.{line_text}
 use Rattle.bt_disk.specs.History.{History}
 use Rattle.bt_machine.specs.declared.event.Event.TheVariants.{Flush}
+use Rattle.bt_machine.specs.declared.event.Answer.{Answer}
 use Rattle.bt_machine.specs.declared.event.Answer.TheVariants.{Flushed}
 use Rattle.bt_machine.specs.State.{EngineView}
 use Rattle.bt_machine.specs.View.{StepsTo}
@@ -18,6 +19,11 @@ pub data InSeries {D : Type 0} (Meet : Meeting D) : EngineView D → List PeerEn
   none_yet : (engine : EngineView D) → InSeries Meet engine [] engine
   one_more : (old mid new : EngineView D) (ends : List PeerEnd) (end : PeerEnd)
       → InSeries Meet old ends mid → Meet mid end new → InSeries Meet old (ends ++ end ∷ []) new
+
+-- the last step was a flush, whatever it answered
+abbrev pub IsFlushed : {D : Type 0} → (D → History) → (D → Type 0) → (D → ℕ) → (List ℕ → List ℕ) → EngineView D → Type 0
+IsFlushed {D} history honest faults dig new =
+    (old : EngineView D) × (answer : Answer) × StepsTo history honest faults dig old Flush answer new
 
 -- ---- lines
 

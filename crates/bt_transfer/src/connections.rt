@@ -1,8 +1,8 @@
 //! Connections that are served one after the other, each with its line.
-ghost use Rattle.std.specs.Prelude.{[], ◌≡◌, ◌⊎◌, ◌++◌, ◌-◌, ◌^◌, IfErr, IfOk, OnOk, string_bytes};
+ghost use Rattle.std.specs.Prelude.{[], ◌≡◌, ◌⊎◌, ◌++◌, ◌-◌, ◌^◌, IfErr, IfOk, OnErr, OnOk, string_bytes};
 ghost use Rattle.std.specs.Io.KnownBytes.{Appends};
 ghost use Rattle.bt_check.specs.Fault.{device, out_of_memory};
-ghost use Rattle.bt_transfer.specs.Connections.{HasServed, MeetsAndSyncs, served_line};
+ghost use Rattle.bt_transfer.specs.Connections.{HasServed, IsFlushed, MeetsAndSyncs, served_line};
 ghost use Rattle.bt_transfer.specs.OverTcp.{MeetsOverTcp};
 
 use crate::reception::Reception;
@@ -49,6 +49,7 @@ pub(crate) fn serve_forever<D: Disk + Drop, H: NodeHash, N: Net, W: Write>(
     requires no_peer { engine.old.state.peers ≡ [] }
     ensures served { OnOk result (HasServed (MeetsAndSyncs D.history D.honest D.faults H.digest) (2 ^ 64 - 1)
         engine.old (W.contents writer.old) (W.contents writer.new) engine.new) }
+    ensures kept { OnErr result (IsFlushed D.history D.honest D.faults H.digest engine.new) }
     ensures fault { IfErr result (λ fault. (fault ≡ device) ⊎ (fault ≡ out_of_memory)) }
 {
     for number in 0..u64::MAX {
@@ -74,10 +75,13 @@ fn serve_and_sync<D: Disk + Drop, H: NodeHash, N: Net, W: Write>(
     ensures told { IfOk result
         (λ end. Appends (W.contents writer.old) (W.contents writer.new) (served_line number end)) }
     ensures gone { OnOk result (engine.new.state.peers ≡ []) }
+    ensures kept { IsFlushed D.history D.honest D.faults H.digest engine.new }
     ensures fault { IfErr result (λ fault. (fault ≡ device) ⊎ (fault ≡ out_of_memory)) }
 {
-    let end = serve_next(alloc, reception, engine, number, writer)?;
-    finish(engine)?;
+    let served = serve_next(alloc, reception, engine, number, writer);
+    let kept = finish(engine);
+    let end = served?;
+    kept?;
     Ok(end)
 }
 

@@ -11,6 +11,7 @@ use crate::lacking::begin_fetching;
 use crate::loading::load_store;
 use crate::peer::Peer;
 use crate::peer_lines::write_peers;
+use crate::store::finish;
 use bt_check::{Fault, Source};
 use bt_disk::Disk;
 use bt_engine::Engine;
@@ -112,9 +113,11 @@ fn links_to<'a, N: Net>(
     Ok(links)
 }
 
-/// Takes peers in turn, each by its link, until the engine is complete; writes how it ended with each that
-/// was tried; takes in the files whose blocks came without their hashes; and then has all put on the devices,
-/// and reports. A peer's session has so many turns at most.
+/// Takes peers in turn, each by its link, until the engine is complete; has all put on the devices; writes how
+/// it ended with each peer that was tried; takes in the files whose blocks came without their hashes; and then
+/// concludes. A peer's session has so many turns at most. Errors: also where a device failed behind the peers,
+/// which is told of behind their lines.
+#[tactic(auto, using(crate::proofs::ConnectionLines::flush_keeps_peers))]
 fn fetch_over<D: Disk + Drop, H: NodeHash, L: Link, W: Write>(
     alloc: Global,
     engine: &mut Engine<D, H>,
@@ -133,7 +136,10 @@ fn fetch_over<D: Disk + Drop, H: NodeHash, L: Link, W: Write>(
 {
     let mut ends = vec![in alloc; PeerEnd::Untried; peers.len()]?;
     run_peers(alloc, engine, links, &mut ends, turns);
+    // before the rest, of which each may fail, so that what the peers brought is not lost by it
+    let kept = finish(engine);
     write_peers(alloc, peers, &ends, writer)?;
+    kept?;
     adopt_waiting(engine)?;
     conclude(alloc, engine, writer)
 }

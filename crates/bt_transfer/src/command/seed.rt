@@ -1,8 +1,9 @@
 //! The command `seed`: connections are waited for and served, and what came of each is told.
-ghost use Rattle.std.specs.Prelude.{[], ℕ, ◌≡◌, ◌⊎◌, ◌++◌, IfErr, IfOk, OnOk, string_bytes};
+ghost use Rattle.std.specs.Prelude.{[], ℕ, ◌≡◌, ◌⊎◌, ◌++◌, IfErr, IfOk, OnErr, OnOk, string_bytes};
 ghost use Rattle.std.specs.Io.KnownBytes.{Appends, Keeps};
 ghost use Rattle.bt_check.specs.Fault.{device, out_of_memory, status_of};
 ghost use Rattle.bt_check.specs.TorrentFile.{IsLoadFault};
+ghost use Rattle.bt_transfer.specs.Connections.{IsFlushed};
 ghost use Rattle.bt_transfer.specs.Seed.{HasListened, HasServedAll, IsSeed, listening_line};
 
 use crate::connections::{serve_count, serve_forever};
@@ -125,12 +126,16 @@ fn serve_all<D: Disk + Drop, H: NodeHash, N: Net, W: Write>(
     requires no_peer { engine.old.state.peers ≡ [] }
     ensures served { OnOk result (HasServedAll D.history D.honest D.faults H.digest serving
         engine.old (W.contents writer.old) (W.contents writer.new) engine.new) }
+    ensures kept { OnErr result (IsFlushed D.history D.honest D.faults H.digest engine.new) }
     ensures fault { IfErr result (λ fault. (fault ≡ device) ⊎ (fault ≡ out_of_memory)) }
 {
     match serving {
         Serving::Count(count) => {
-            serve_count(alloc, reception, engine, count, writer)?;
-            finish(engine)
+            let served = serve_count(alloc, reception, engine, count, writer);
+            // also where a connection or the writer failed, so that what came before is not lost by it
+            let kept = finish(engine);
+            served?;
+            kept
         }
         Serving::Forever => serve_forever(alloc, reception, engine, writer),
     }

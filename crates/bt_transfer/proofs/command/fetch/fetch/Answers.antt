@@ -12,3 +12,11 @@ returns-in_err-status-clause-refused g c =
     let fault = c.in_err-status.field-0.0 in
     passed_on c.from_residual-in_err-status.result fault _ c.from_residual-in_err-status.ensures.1
     (λ two. absurd (not_refused fault c.in_err-status.ensures.fault two))
+
+pub returns-clause-done : goal.returns-clause-done
+returns-clause-done g c = record {
+  store = c.in_ok-engine.engine;
+  loaded = c.in_ok-engine.ensures.loaded;
+  last = c.fetch_from.new.engine;
+  fetched = c.in_ok-status.ensures.fetched;
+}
