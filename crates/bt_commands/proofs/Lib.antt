@@ -5,6 +5,7 @@ pub mod FolderFiles
 pub mod MakeFault
 pub mod AtomicFilePath
 -- the program
+pub mod FaultStatus
 pub mod PeerWords
 pub mod CommandWords
 pub mod CommandLineTask
