@@ -21,7 +21,8 @@ pub data InSeries {D : Type 0} (Meet : Meeting D) : EngineView D → List PeerEn
       → InSeries Meet old ends mid → Meet mid end new → InSeries Meet old (ends ++ end ∷ []) new
 
 -- the last step was a flush, whatever it answered
-abbrev pub IsFlushed : {D : Type 0} → (D → History) → (D → Type 0) → (D → ℕ) → (List ℕ → List ℕ) → EngineView D → Type 0
+abbrev pub IsFlushed : {D : Type 0} → (D → History) → (D → Type 0) → (D → ℕ) → (List ℕ → List ℕ)
+    → EngineView D → Type 0
 IsFlushed {D} history honest faults dig new =
     (old : EngineView D) × (answer : Answer) × StepsTo history honest faults dig old Flush answer new
 
