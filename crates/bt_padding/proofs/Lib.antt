@@ -5,3 +5,4 @@ pub mod Sendable
 pub mod Halves
 pub mod Streams
 pub mod Readers
+pub mod PlainBlocks

@@ -3,6 +3,7 @@ pub mod Padding
 pub mod PaddingSteps
 pub mod Law
 pub mod Half
+pub mod PlainSteps
 pub mod Translation
 pub mod TranslationSteps
 pub mod TranslationLaw

@@ -17,9 +17,10 @@ abbrev pub new_reader : {R : Type 0} → R → Metainfo → ReaderState R
 new_reader inner torrent =
     record { inner = inner; torrent = torrent; stream = new_stream; waiting = [] }
 
--- how many bytes the reader behind gives at most at a time: fewer requests of 17 bytes than are remembered
+-- how many bytes the reader behind gives at most at a time: a message with a whole block, and fewer requests
+-- of 17 bytes than are remembered
 abbrev pub read_length : ℕ
-read_length = 16384
+read_length = 16397
 
 -- the reader behind gave these bytes, and what is given on of them waits
 pub record TakesPart {R : Type 0} (remaining : R → Option (List ℕ)) (old : ReaderState R) (part : List ℕ)

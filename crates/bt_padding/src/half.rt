@@ -2,7 +2,9 @@
 ghost use Rattle.std.specs.Prelude.{◌≡◌, ◌+◌, ◌-◌, ◌≤◌, ℕ, Bool, false, List, ◌++◌, length, take, drop, IfOk, IfErr, OnOk, OnErr};
 ghost use Rattle.bt_wire.specs.Event.{IsEvent};
 ghost use Rattle.bt_wire.specs.Cutter.{new_stream, fed, IsRefusal, IsFeedRefusal};
+ghost use Rattle.std.specs.Bool.{OnTrue};
 ghost use Rattle.bt_padding.specs.Half.{new_half, IsTold};
+ghost use Rattle.bt_padding.specs.PlainSteps.{IsBetween};
 
 use bt_hashreq::number_at;
 use bt_wire::{Cutter, HANDSHAKE_LEN, WireError, WireEvent};
@@ -18,6 +20,8 @@ pub struct Half {
     start: usize,
     /// How many bytes the last event has.
     last: usize,
+    /// Whether a handshake was taken.
+    greeted: bool,
     /// Whether the cutter returned a fault.
     failed: bool,
 }
@@ -34,7 +38,8 @@ impl Model for Half {
     } };
 
     ghost invariant = { λ h. (h.last ≤ h.start) × (h.start ≤ length h.bytes.items)
-        × (drop h.start h.bytes.items ≡ h.cutter.unread) × (h.failed ≡ h.cutter.failed) };
+        × (drop h.start h.bytes.items ≡ h.cutter.unread) × (h.failed ≡ h.cutter.failed)
+        × (h.greeted ≡ h.cutter.greeted) };
 }
 
 impl Half {
@@ -47,6 +52,7 @@ impl Half {
             bytes: Vec::new(alloc),
             start: 0,
             last: 0,
+            greeted: false,
             failed: false,
         }
     }
@@ -92,6 +98,7 @@ impl Half {
         };
         self.last = event_len(&event, &self.bytes[self.start..]);
         self.start += self.last;
+        self.greeted = true;
         Ok(Some(event))
     }
 
@@ -100,6 +107,13 @@ impl Half {
         ensures { result ≡ self.now.stream.failed }
     {
         self.failed
+    }
+
+    /// Whether a message may begin here: a handshake has come, no fault has shown, and every event is taken.
+    pub(crate) fn is_between(&self) -> bool
+        ensures { OnTrue result (IsBetween self.now.stream) }
+    {
+        self.greeted && !self.failed && self.start == self.bytes.len()
     }
 
     /// The bytes of the event that was taken last.

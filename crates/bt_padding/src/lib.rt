@@ -5,19 +5,18 @@
 mod half;
 mod law;
 mod padding;
+mod plain;
 mod reader;
 mod shared;
 mod short_block;
 mod translation;
 mod writer;
 
-pub use half::Half;
 pub use law::{
     given_on_can_be_sent, gives_streams, pads_what_was_asked, plain_passes_through,
     remembers_short_blocks, zeros_lie_behind_the_end,
 };
 pub use padding::Padding;
 pub use reader::PaddedReader;
-pub use short_block::{is_short_block, short_length};
-pub use translation::{Side, translate};
+pub use translation::Side;
 pub use writer::PaddedWriter;

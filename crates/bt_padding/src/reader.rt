@@ -8,6 +8,7 @@ ghost use Rattle.bt_padding.specs.ReaderSteps.{IsRefilled};
 
 use crate::half::Half;
 use crate::padding::Padding;
+use crate::plain::BLOCK_MESSAGE_LEN;
 use crate::shared::translate_shared;
 use crate::translation::Side;
 use bt_meta::Torrent;
@@ -17,9 +18,10 @@ use std::io;
 use std::io::{ErrorKind, Read};
 use std::marker::Model;
 
-/// The reader behind is asked for so many bytes at a time (`read_length`). These hold fewer requests than are
-/// remembered, so none is forgotten before its engine gets it.
-const READ_LEN: usize = 16384;
+/// The reader behind is asked for so many bytes at a time (`read_length`): a message with a whole block, so that
+/// those which come one behind the other are found whole. These hold fewer requests than are remembered, so none
+/// is forgotten before its engine gets it.
+const READ_LEN: usize = BLOCK_MESSAGE_LEN;
 
 /// A reader of what a peer sends, which gives what its engine is to get of it. What it remembers of the peer
 /// it shares with the writer of the same connection.

@@ -1,13 +1,16 @@
 //! Bytes between a peer and an engine, in any parts.
-ghost use Rattle.std.specs.Prelude.{◌≡◌, ◌++◌, ℕ, Bool, true, List, IfOk, OnOk};
+ghost use Rattle.std.specs.Prelude.{◌≡◌, ◌≤◌, ◌++◌, ℕ, Bool, true, List, length, take, IfOk, OnOk};
+ghost use Rattle.bt_wire.specs.Cutter.{fed};
 ghost use Rattle.bt_wire.specs.Event.{IsEvent};
 ghost use Rattle.bt_padding.specs.Law.{CanBeSent};
 ghost use Rattle.bt_padding.specs.Translation.{Gives, place, IsStep, Receives};
-ghost use Rattle.bt_padding.specs.TranslationSteps.{IsEventOf, GivesMessage};
+ghost use Rattle.bt_padding.specs.TranslationSteps.{IsEventOf, GivesMessage, GivesEvents};
+ghost use Rattle.bt_padding.specs.PlainSteps.{PassAsTheyAre};
 
 use crate::half::Half;
 use crate::law::given_on_can_be_sent;
 use crate::padding::Padding;
+use crate::plain::plain_blocks;
 use bt_meta::Torrent;
 use bt_wire::{Message, WireError, WireEvent, write_message};
 use std::alloc::{AllocError, Global};
@@ -42,6 +45,38 @@ pub fn translate(
         out.extend_from_slice(bytes)?;
         return Ok(());
     }
+    let passed = passing(half, torrent, bytes);
+    out.extend_from_slice(&bytes[..passed])?;
+    translate_events(alloc, padding, half, torrent, side, &bytes[passed..], out)
+}
+
+/// How many bytes in front are given on as they are, without a look at what is remembered: whole blocks, where
+/// a message may begin. So they are copied once.
+fn passing(half: &Half, torrent: &Torrent, bytes: &[u8]) -> usize
+    ensures within { result ≤ length bytes.now }
+    ensures pass { PassAsTheyAre torrent.now half.now.stream (take result bytes.now) }
+{
+    if half.is_between() {
+        plain_blocks(torrent, bytes)
+    } else {
+        0
+    }
+}
+
+/// Takes bytes of a side that has shown no fault, and gives on each event as soon as it is whole, or what is
+/// left where a fault shows. Errors: out of memory.
+fn translate_events(
+    alloc: Global,
+    padding: &mut Padding,
+    half: &mut Half,
+    torrent: &Torrent,
+    side: Side,
+    bytes: &[u8],
+    out: &mut Vec<u8>,
+) -> Result<(), AllocError>
+    ensures { OnOk result (GivesEvents torrent.now side (place padding.old (fed half.old.stream bytes.now))
+        (place padding.new half.new.stream) out.old.items out.new.items) }
+{
     // The stream has not failed, so it is memory that is refused.
     let Ok(()) = half.feed(bytes) else {
         return Err(AllocError);

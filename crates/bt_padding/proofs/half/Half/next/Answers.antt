@@ -12,7 +12,7 @@ invariant_of-self-2 c =
     let size : n ≡ length t.bytes
     = c.event_len-self-inside.ensures _ t.bytes c.next.new.self.unread t.event (rw c.deref.ensures.value (whole_rest c.self.inside.start bytes ∙ front)) in
     let at = at_front bytes t.bytes c.next.new.self.unread c.self.inside.start n c.self.invariant.1 front size in
-    (omega arith, at.inside, at.behind, c.self.invariant.3 ∙ t.running ∙ sym t.not_failed)
+    (omega arith, at.inside, at.behind, c.self.invariant.3 ∙ t.running ∙ sym t.not_failed, sym t.greeted)
 
 pub returns-clause-answer : goal.returns-clause-answer
 returns-clause-answer c =

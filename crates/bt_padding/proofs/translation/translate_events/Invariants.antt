@@ -1,7 +1,7 @@
 -- Some events are given on so far.
 use Rattle.std.proofs.Common.{◌≡◌, ◌++◌, ℕ, List, length}
 use Rattle.bt_padding.specs.Translation.{place, Translates}
-use Rattle.bt_padding.proofs.translation.translate.Given as goal
+use Rattle.bt_padding.proofs.translation.translate_events.Given as goal
 
 abbrev pub invariant-loop : goal.invariant-loop
 invariant-loop l = (given : List ℕ) × (l.out.items ≡ l.initial.out.items ++ given)
