@@ -4,13 +4,14 @@ ghost use Rattle.std.specs.Prelude.{◌≡◌};
 use crate::engine::TestEngine;
 use crate::sessions::tell_end;
 use bt_meta::Torrent;
-use bt_padding::PaddedWriter;
 use bt_peers::{Link, PeerEnd, end_text};
-use bt_sockets::{IDLE_SECONDS, Passage, Shared, StreamReader, TcpLink, listen, port_of, serve};
+use bt_sockets::{
+    IDLE_SECONDS, Passage, Shared, StreamReader, StreamWriter, TcpLink, listen, port_of, serve,
+};
 use std::alloc::{AllocError, Global};
 use std::fmt::Write;
 use std::io::{self, Read};
-use std::net::{Net, OpenListener};
+use std::net::{Net, OpenListener, OpenStream};
 use std::time::Duration;
 
 const HOST: &str = "127.0.0.1";
@@ -32,8 +33,8 @@ fn patience() -> Duration {
     Duration::from_secs(IDLE_SECONDS)
 }
 
-/// Adds what a row answers: whether a closed port is reached, a byte that goes there and back, or what comes of so many milliseconds
-/// of silence.
+/// Adds what a row answers: whether a closed port is reached, a byte that goes there and back, whether requests wait to be sent, or what
+/// comes of so many milliseconds of silence.
 pub fn socket_row<'a>(
     net: &'a HostRuntime,
     alloc: Global,
@@ -62,6 +63,11 @@ pub fn socket_row<'a>(
             "not reached\n"
         }),
         "echo" => tell_echo(out, echo(&site, number)),
+        "held" => out.push_str(if is_held(&site, idle) {
+            "held\n"
+        } else {
+            "not held\n"
+        }),
         "silent" => out.push_str(if is_given_up(&site, idle) {
             "given up\n"
         } else {
@@ -83,7 +89,7 @@ fn dialled<'a>(
     site: &Site<'a>,
     port: u16,
     idle: Duration,
-) -> Option<(StreamReader<'a, Stream>, PaddedWriter<'a, Stream>)> {
+) -> Option<(StreamReader<'a, Stream>, StreamWriter<'a, Stream>)> {
     link(site, port, idle).dial()
 }
 
@@ -127,6 +133,65 @@ fn tell_echo(out: &mut String, byte: Option<u8>) -> Result<(), AllocError> {
         Some(byte) => writeln!(out, "{byte}"),
         None => out.push_str("no connection\n"),
     }
+}
+
+/// Two requests, one behind the other, of which each has so many bytes.
+const REQUESTS: [u8; 2 * REQUEST_LEN] = [
+    0, 0, 0, 13, 6, 0, 0, 0, 1, 0, 0, 0, 0, 0, 0, 64, 0, 0, 0, 0, 13, 6, 0, 0, 0, 2, 0, 0, 0, 0, 0,
+    0, 64, 0,
+];
+
+const REQUEST_LEN: usize = 17;
+
+/// Whether requests that are written to a link stay here for so long, leave before it is read, and leave before
+/// something else that is written.
+fn is_held(site: &Site<'_>, idle: Duration) -> bool {
+    match listen(site.net, HOST, 0) {
+        Ok(listener) => is_held_by(site, &listener, idle).unwrap_or(false),
+        Err(_) => false,
+    }
+}
+
+fn is_held_by(site: &Site<'_>, listener: &Listener, idle: Duration) -> Option<bool> {
+    let port = port_of(listener).ok()?;
+    let (mut reader, mut writer) = dialled(site, port, patience())?;
+    let (mut stream, _) = listener.accept().ok()?;
+    leaves_before_a_read(&mut writer, &mut reader, &mut stream, idle).ok()
+}
+
+fn leaves_before_a_read<W: io::Write, R: Read>(
+    writer: &mut W,
+    reader: &mut R,
+    stream: &mut Stream,
+    idle: Duration,
+) -> io::Result<bool> {
+    writer.write_all(&REQUESTS[..REQUEST_LEN])?;
+    writer.write_all(&REQUESTS[REQUEST_LEN..])?;
+    stream.set_read_timeout(Some(idle))?;
+    if stream.read(&mut [0]).is_ok() {
+        return Ok(false);
+    }
+    stream.set_read_timeout(Some(patience()))?;
+    pass(stream, reader, 7)?;
+    Ok(arrive(stream, &REQUESTS)? && leaves_before_a_write(writer, stream)?)
+}
+
+fn leaves_before_a_write<W: io::Write>(writer: &mut W, stream: &mut Stream) -> io::Result<bool> {
+    writer.write_all(&REQUESTS[..REQUEST_LEN])?;
+    writer.write_all(&[9])?;
+    Ok(arrive(stream, &REQUESTS[..REQUEST_LEN])? && arrive(stream, &[9])?)
+}
+
+/// Whether these bytes come next.
+fn arrive<R: Read>(reader: &mut R, bytes: &[u8]) -> io::Result<bool> {
+    for byte in bytes {
+        let mut room = [0];
+        reader.read_exact(&mut room)?;
+        if room[0] != *byte {
+            return Ok(false);
+        }
+    }
+    Ok(true)
 }
 
 /// Whether a peer that is reached over a link, and sends nothing for so long, is given up.

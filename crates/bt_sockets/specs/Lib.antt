@@ -1,3 +1,4 @@
 pub mod Link
 pub mod StreamSteps
 pub mod Listener
+pub mod Requests

@@ -5,10 +5,12 @@ mod alarm;
 mod link;
 mod listener;
 mod passage;
+mod requests;
 mod stream;
 
 pub use alarm::{Alarm, AlarmDisk, AlarmReader};
 pub use link::TcpLink;
 pub use listener::{SESSION_TURNS, listen, port_of, serve};
 pub use passage::{Passage, Shared};
-pub use stream::{CONNECT_SECONDS, IDLE_SECONDS, StreamReader};
+pub use requests::{HoldingWriter, SendingReader};
+pub use stream::{CONNECT_SECONDS, IDLE_SECONDS, StreamReader, StreamWriter};

@@ -5,8 +5,7 @@ ghost use Rattle.bt_sockets.specs.Link.{LeadToSamePeer, undialled};
 ghost use Rattle.bt_sockets.specs.StreamSteps.{IsAddressOf};
 
 use crate::passage::Passage;
-use crate::stream::{StreamReader, both_ways, connected};
-use bt_padding::PaddedWriter;
+use crate::stream::{StreamReader, StreamWriter, both_ways, connected};
 use bt_peers::Link;
 use std::alloc::Global;
 use std::io;
@@ -31,7 +30,7 @@ pub struct TcpLink<'a, R: Net> {
 #[derive(Drop)]
 struct Connection<'a, S> {
     reader: StreamReader<'a, S>,
-    writer: PaddedWriter<'a, S>,
+    writer: StreamWriter<'a, S>,
     address: SocketAddr,
 }
 
@@ -111,7 +110,7 @@ impl<'a, R: Net> TcpLink<'a, R> {
 impl<'a, R: Net> Link for TcpLink<'a, R> {
     type R = StreamReader<'a, R::Stream>;
 
-    type W = PaddedWriter<'a, R::Stream>;
+    type W = StreamWriter<'a, R::Stream>;
 
     ghost dials = { λ link. link.all };
 
@@ -119,7 +118,7 @@ impl<'a, R: Net> Link for TcpLink<'a, R> {
 
     ghost gives = { λ link reader writer. ⊤ };
 
-    fn dial(&mut self) -> Option<(StreamReader<'a, R::Stream>, PaddedWriter<'a, R::Stream>)> {
+    fn dial(&mut self) -> Option<(StreamReader<'a, R::Stream>, StreamWriter<'a, R::Stream>)> {
         let Connection { reader, writer, .. } = self.reach()?;
         Some((reader, writer))
     }

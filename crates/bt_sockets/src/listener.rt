@@ -4,10 +4,9 @@ ghost use Rattle.bt_check.specs.Fault.{device};
 ghost use Rattle.bt_sockets.specs.Listener.{IsServed};
 
 use crate::passage::Passage;
-use crate::stream::{StreamReader, both_ways};
+use crate::stream::{StreamReader, StreamWriter, both_ways};
 use bt_check::Fault;
 use bt_disk::Disk;
-use bt_padding::PaddedWriter;
 use bt_peers::{Engine, PeerEnd, meet_peer};
 use bt_tree::NodeHash;
 use std::alloc::Global;
@@ -51,7 +50,7 @@ pub fn serve<D: Disk + Drop, H: NodeHash, R: Net>(
     requires no_peer { engine.old.state.peers ≡ [] }
     ensures served { IfOk result (λ end. IsServed D.history D.honest D.faults H.digest
         ⟦<StreamReader<'static, R::Stream> as Read>⟧.remaining
-        ⟦<PaddedWriter<'static, R::Stream> as Write>⟧.contents SESSION_TURNS engine.old end engine.new) }
+        ⟦<StreamWriter<'static, R::Stream> as Write>⟧.contents SESSION_TURNS engine.old end engine.new) }
     ensures gone { engine.new.state.peers ≡ [] }
     ensures refused { IfErr result (λ fault. fault ≡ device) }
     ensures kept { OnErr result (engine.new ≡ engine.old) }

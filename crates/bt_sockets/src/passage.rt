@@ -1,6 +1,7 @@
 //! What stands between a connection and its engine.
 
 use crate::alarm::Alarm;
+use crate::requests::Requests;
 use bt_ahead::DigestCache;
 use bt_meta::Torrent;
 use bt_padding::Padding;
@@ -14,18 +15,22 @@ pub struct Shared {
     pub digests: RefCell<DigestCache>,
     /// What is remembered of a peer that pads last blocks.
     pub padding: RefCell<Padding>,
+    /// What is sent right before the connection is read.
+    pub(crate) requests: RefCell<Requests>,
     /// Rung where a device refuses a write.
     pub alarm: Alarm,
 }
 
 impl Shared {
-    /// Nothing is digested ahead or remembered, and the alarm does not ring. Errors: out of memory.
+    /// Nothing is digested ahead, remembered or held back, and the alarm does not ring. Errors: out of memory.
     pub fn new(alloc: Global) -> Result<Self, AllocError> {
         let digests = RefCell::new(DigestCache::new(alloc)?);
         let padding = RefCell::new(Padding::new(alloc)?);
+        let requests = RefCell::new(Requests::new(alloc)?);
         Ok(Shared {
             digests,
             padding,
+            requests,
             alarm: Alarm::new(),
         })
     }

@@ -4,6 +4,7 @@ ghost use Rattle.bt_sockets.specs.StreamSteps.{IsAddressOf, IsTextOf, bracketed}
 
 use crate::alarm::AlarmReader;
 use crate::passage::Passage;
+use crate::requests::{HoldingWriter, Requests, SendingReader};
 use bt_ahead::ReadAhead;
 use bt_padding::{PaddedReader, PaddedWriter, Padding};
 use std::alloc::Global;
@@ -20,7 +21,13 @@ pub const CONNECT_SECONDS: u64 = 20;
 pub const IDLE_SECONDS: u64 = 120;
 
 /// What is read from a connection, as its engine gets it.
-pub type StreamReader<'a, S> = PaddedReader<'a, ReadAhead<'a, AlarmReader<'a, S>>>;
+pub type StreamReader<'a, S> = PaddedReader<
+    'a,
+    ReadAhead<'a, AlarmReader<'a, SendingReader<'a, S>>>,
+>;
+
+/// What is written to a connection, as its peer gets it.
+pub type StreamWriter<'a, S> = PaddedWriter<'a, HoldingWriter<'a, S>>;
 
 /// Connects to the first address of a host that answers, and gives that address too. Errors: none does.
 pub(crate) fn connected<R: Net>(
@@ -64,26 +71,30 @@ fn in_brackets(host: &str) -> Option<&str>
 }
 
 /// Makes a connection ready for a session: what is read from it, ahead of its engine, and what is written to
-/// it, which are one socket. Each write leaves at once, and a read or a write fails where the peer was idle
-/// for so long; a read also where a device has refused a write since. What was remembered of the peer of
-/// another connection is forgotten. Errors: the system refuses this; out of memory.
+/// it, which are one socket. Each write leaves at once, but for requests, which leave before the next read or
+/// write. A read or a write fails where the peer was idle for so long; a read also where a device has refused a
+/// write since. What was remembered of the peer of another connection, or held back for it, is forgotten.
+/// Errors: the system refuses this; out of memory.
 pub(crate) fn both_ways<'a, S: OpenStream + Drop>(
     alloc: Global,
     stream: S,
     idle: Duration,
     passage: Passage<'a>,
-) -> io::Result<(StreamReader<'a, S>, PaddedWriter<'a, S>)> {
+) -> io::Result<(StreamReader<'a, S>, StreamWriter<'a, S>)> {
     let Passage { torrent, shared } = passage;
     forget(&shared.padding)?;
+    forget_requests(&shared.requests)?;
     shared.alarm.stop();
     stream.set_nodelay(true)?;
     stream.set_read_timeout(Some(idle))?;
     stream.set_write_timeout(Some(idle))?;
     let clone = stream.try_clone()?;
-    let heard = AlarmReader::new(stream, &shared.alarm);
+    let sending = SendingReader::new(stream, &shared.requests);
+    let heard = AlarmReader::new(sending, &shared.alarm);
     let ahead = ReadAhead::new(alloc, heard, &shared.digests)?;
     let reader = PaddedReader::new(alloc, ahead, torrent, &shared.padding);
-    let writer = PaddedWriter::new(alloc, clone, torrent, &shared.padding);
+    let holding = HoldingWriter::new(clone, &shared.requests);
+    let writer = PaddedWriter::new(alloc, holding, torrent, &shared.padding);
     Ok((reader, writer))
 }
 
@@ -92,5 +103,14 @@ fn forget(padding: &RefCell<Padding>) -> io::Result<()> {
     let mut guard = padding.try_borrow_mut()?;
     let memory = &mut *guard;
     memory.forget();
+    Ok(())
+}
+
+/// Forgets the requests of another connection. Errors: they are in use, which no call of this crate brings
+/// about.
+fn forget_requests(requests: &RefCell<Requests>) -> io::Result<()> {
+    let mut guard = requests.try_borrow_mut()?;
+    let requests = &mut *guard;
+    requests.forget();
     Ok(())
 }

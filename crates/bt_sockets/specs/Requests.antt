@@ -1,0 +1,40 @@
+-- Requests, one behind the other (BEP 3), that are held back until their connection is read or something else
+-- is written to it. Each has 17 bytes, of which the first four spell that 13 follow, and the fifth is the kind
+-- of a request.
+use Rattle.std.specs.Prelude.{◌≡◌, ℕ, ◌<◌, Option, List, [], ◌∷◌, ◌++◌, length, take}
+use Rattle.std.specs.Io.KnownBytes.{Appends, Consumes, IsAtEnd}
+
+abbrev pub request_length : ℕ
+request_length = 17
+
+-- how each begins
+abbrev pub request_head : List ℕ
+request_head = 0 ∷ 0 ∷ 0 ∷ 13 ∷ 6 ∷ []
+
+pub record IsRequest (bytes : List ℕ) : Type 0 where
+  pub whole : length bytes ≡ request_length
+  pub begins : take 5 bytes ≡ request_head
+
+pub data AreRequests : List ℕ → Type 0 where
+  no_request : AreRequests []
+  one_more : (before request : List ℕ) → AreRequests before → IsRequest request
+      → AreRequests (before ++ request)
+
+-- What a write comes to: all bytes are requests, which are held back; or the writer behind gets what was held,
+-- and then so many of the bytes.
+pub data IsHeldOrWritten {W : Type 0} (contents : W → Option (List ℕ)) (old : W) (bytes : List ℕ) (count : ℕ)
+    (new : W) : Type 0 where
+  held : AreRequests bytes → count ≡ length bytes → new ≡ old
+      → IsHeldOrWritten contents old bytes count new
+  written : (before : List ℕ) (mid : W) → Appends (contents old) (contents mid) before
+      → Appends (contents mid) (contents new) (take count bytes)
+      → IsHeldOrWritten contents old bytes count new
+
+-- what a read comes to: what was held is written, and then the connection gives so many bytes
+pub record IsReadBehind {S : Type 0} (contents remaining : S → Option (List ℕ)) (old : S) (count : ℕ)
+    (buffer : List ℕ) (new : S) : Type 0 where
+  pub before : List ℕ
+  pub mid : S
+  pub sent : Appends (contents old) (contents mid) before
+  pub lost : Consumes (remaining mid) (remaining new) (take count buffer)
+  pub ended : count ≡ 0 → 0 < length buffer → IsAtEnd (remaining new)
