@@ -11,8 +11,6 @@ mod program;
 mod subcommands;
 mod values;
 
-pub use atomic_file::{InfohashLine, publish};
 pub use command_line::{FetchTask, MakeTask, SeedTask, Task};
-pub use folder::files_in;
-pub use make::{FolderFile, NewTorrent, open_file};
+pub use make::{FolderFile, NewTorrent};
 pub use program::{run, start};

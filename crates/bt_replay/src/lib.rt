@@ -19,7 +19,5 @@ mod word;
 pub use answer::push_answer;
 pub use command::replay;
 pub use fault::ReplayFault;
-pub use line::{Line, line_in};
+pub use line::Line;
 pub use reader::MAX_SCRIPT_LENGTH;
-pub use run::run_lines;
-pub use script::run_script;
