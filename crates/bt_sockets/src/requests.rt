@@ -150,7 +150,7 @@ impl<'a, W: Write> Write for HoldingWriter<'a, W> {
     fn write(&mut self, bytes: &[u8]) -> io::Result<usize>
         ensures bound { WritesAtMost result bytes.now }
         ensures bytes { WriteAppends None None result bytes.now }
-        ensures written { IfOk result (λ count. IsHeldOrWritten W.contents self.old bytes.now count self.new) }
+        ensures written { IfOk result (λ len. IsHeldOrWritten W.contents self.old bytes.now len self.new) }
     {
         if hold_shared(self.requests, bytes) {
             return Ok(bytes.len());
