@@ -21,6 +21,8 @@ pub enum Manner {
     Full,
     /// It opens no file, for want of rights.
     NoRights,
+    /// It tells nothing of what is at a path, for want of rights.
+    Hidden,
     /// A file that it finds at a path is gone before it is opened.
     Gone,
     /// The first file that it opens is the one at the path; each later one is a device, which took the file's
@@ -39,6 +41,7 @@ pub fn manner_of(name: &str) -> Result<Manner, RowError> {
         "read-faults" => Ok(Manner::ReadFaults),
         "full" => Ok(Manner::Full),
         "no-rights" => Ok(Manner::NoRights),
+        "hidden" => Ok(Manner::Hidden),
         "gone" => Ok(Manner::Gone),
         "swapped" => Ok(Manner::Swapped),
         "broken" => Ok(Manner::Broken),
@@ -183,6 +186,15 @@ impl System<'_> {
         }
     }
 
+    /// Counts a look at a path, and refuses it, where the system does.
+    fn looks(&self) -> io::Result<()> {
+        count(&self.counts.looks);
+        if self.counts.manner() == Manner::Hidden {
+            return Err(io::Error::from(ErrorKind::PermissionDenied));
+        }
+        Ok(())
+    }
+
     /// The path of the host that is opened in place of a path.
     fn opened_path<'p>(&self, path: &'p str) -> &'p str {
         if self.counts.manner() == Manner::Swapped && self.counts.most_open.get() > 0 {
@@ -202,7 +214,7 @@ impl<'a> Files for System<'a> {
         self.opens()?;
         let file = self.host.open_file(how, self.opened_path(path))?;
         let full = OpenOptions::new().write(true).open(self.host, "/dev/full")?;
-        self.counts.open_one(how.asks_write());
+        self.counts.open_one(how.asks_write() || how.asks_append());
         Ok(SystemFile {
             file,
             full,
@@ -215,7 +227,7 @@ impl<'a> Files for System<'a> {
     }
 
     fn metadata(&self, path: &str) -> io::Result<Metadata> {
-        count(&self.counts.looks);
+        self.looks()?;
         self.host.metadata(path)
     }
 
