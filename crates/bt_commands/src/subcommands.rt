@@ -150,7 +150,7 @@ const SUBCOMMANDS: &[Subcommand<'static>] = &[
     },
     Subcommand {
         name: "seed",
-        about: "Serves the files of a folder to peers that connect, one after the other",
+        about: "Serves the files of a folder to peers that connect, one after the other, and takes what is missing from them",
         words: &[TORRENT, DIR, SERVE, FOREVER, LISTEN, PORT, INFO, VERBOSE],
     },
     Subcommand {

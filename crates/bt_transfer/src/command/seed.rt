@@ -28,7 +28,7 @@ use std::rt::Files;
 /// the status of the program, 0.
 ///
 /// It is told how much is read: first of what the files have, and then for peers, where it is not known how much
-/// that will be.
+/// that will be. Between the two a hint tells where files are not complete.
 ///
 /// Errors: the torrent is refused, or the port can't be had, and then nothing is written; a device, the writer
 /// or the socket failed; out of memory.
@@ -49,6 +49,7 @@ pub fn seed<R: Files + AllocGlobal + Clone + Drop, N: Net, P: Watch, W: Write>(
 {
     let shared = Shared::new(rt.alloc())?;
     let (mut engine, torrent) = load_store(rt, watch, &shared, source, dir)?;
+    hint_at_lack(watch, &engine);
     watch.begin(FileCall::Read);
     let passage = Passage {
         torrent: &torrent,
@@ -56,6 +57,15 @@ pub fn seed<R: Files + AllocGlobal + Clone + Drop, N: Net, P: Watch, W: Write>(
     };
     listen_and_serve(rt.alloc(), net, &mut engine, passage, service, writer)?;
     Ok(0)
+}
+
+/// At a terminal tells that blocks are missing, since a folder may be another than was meant.
+fn hint_at_lack<P: Watch, D: Disk + Drop, H: NodeHash>(watch: &P, engine: &Engine<D, H>) {
+    if watch.is_terminal() && !engine.is_complete() {
+        watch.hint(
+            "not all of the torrent's files are complete here, and what is missing can't be served",
+        );
+    }
 }
 
 /// Listens, writes at which port, and serves connections to an engine of a torrent.
