@@ -4,12 +4,14 @@ to another and beside `check` of the same file.
 
     python3 bench/net.py [MIB] [PIECE_LENGTH]
 
-A file of 256 MiB, or of so many, is made in a temporary folder, with its torrent. In three rounds a `seed` is started and a `fetch` takes
+A file of 256 MiB, or of so many, is made in a temporary folder, with its torrent. In twelve rounds a `seed` is started and a `fetch` takes
 the file into an empty folder, which ends with all devices synced; the bytes are copied by two sockets of this script, into a file that is
-synced; and `check` looks at the file. The best time of each is told. A seed takes in its file before it listens: that time is told by
-itself. The program is the one that `./btseed` has built.
+synced; and `check` looks at the file. The best time of each is told. A fetch needs two processors, and where these are two halves of one core, as on a host
+that many share, each does half as much: so two checks at once are timed too. Each round has another pair of processors than the one before,
+where there are more. A seed takes in its file before it listens: that time is told by itself. The program is the one that `./btseed` has built.
 """
 
+import itertools
 import os
 import pathlib
 import shutil
@@ -22,7 +24,7 @@ import time
 
 from measure import PROGRAM
 
-ROUNDS = 3
+ROUNDS = 12
 PART = 1 << 20
 
 
@@ -69,6 +71,20 @@ def copied(path, copy):
         sender.join()
 
 
+def checked_twice(torrent, files):
+    """Checks the files by two processes at once."""
+    both = [subprocess.Popen([PROGRAM, "check", torrent, files], stdout=subprocess.DEVNULL) for _ in range(2)]
+    if any([process.wait() for process in both]):
+        sys.exit("a check failed")
+
+
+def pairs():
+    """Pairs of the processors that this script may use, as many as there are rounds: all of them, again and again."""
+    processors = sorted(os.sched_getaffinity(0))
+    found = list(itertools.combinations(processors, 2)) or [processors]
+    return itertools.islice(itertools.cycle(found), ROUNDS)
+
+
 def main():
     mib = int(sys.argv[1]) if len(sys.argv) > 1 else 256
     piece_length = sys.argv[2] if len(sys.argv) > 2 else "262144"
@@ -85,7 +101,9 @@ def main():
             for _ in range(mib):
                 file.write(os.urandom(1 << 20))
         run("make", files, torrent, "--name", "f", "--piece-length", piece_length)
-        for _ in range(ROUNDS):
+        for pair in pairs():
+            # the processes that are started have the same two
+            os.sched_setaffinity(0, pair)
             seconds, (process, port) = timed(lambda: seeded(torrent, files))
             note("seed, until it listens", seconds)
             seconds, told = timed(lambda: fetched(torrent, port, room / "here"))
@@ -94,6 +112,7 @@ def main():
                 sys.exit(f"the fetch was not complete: {told}")
             note("copy by two sockets", timed(lambda: copied(path, room / "copy"))[0])
             note("check", timed(lambda: run("check", torrent, files))[0])
+            note("two checks at once", timed(lambda: checked_twice(torrent, files))[0])
         if path.read_bytes() != (room / "here" / "f").read_bytes():
             sys.exit("what was fetched differs")
     slower = max(best["check"], best["copy by two sockets"])
