@@ -78,6 +78,8 @@ def look(parts, seconds, top):
 
 def measured(words):
     """Runs a command, and returns its status, the processor seconds by crate and part, and all that it took."""
+    # as .ci/run has it
+    os.environ.setdefault("RT_JOBS", str(len(os.sched_getaffinity(0))))
     started = subprocess.Popen(words, cwd=TOP, stdout=sys.stderr)
     parts, seconds = {}, {}
     while started.poll() is None:
