@@ -116,6 +116,7 @@ impl<R: Files + Drop> HandlePool<R> {
             number,
             path,
             usage,
+            is_synced: false,
             failed: 0,
         })
     }
@@ -132,13 +133,16 @@ enum Use {
 /// A device that is a file of the system, whose handle is shared with the other devices of its pool.
 ///
 /// It is as [`FileDisk`](crate::FileDisk) is, but a call may have to open the file, which then has to be
-/// there, or the call fails.
+/// there, or the call fails. A sync behind another, with no write and no new length between them, makes no call
+/// of the system: of many files few are written.
 #[derive(Drop)]
 pub struct PooledDisk<R: Files + Drop> {
     shared: Rc<Shared<R>>,
     number: u64,
     path: String,
     usage: Use,
+    /// After a sync, until a write or a new length: there is nothing to sync then.
+    is_synced: bool,
     failed: u64,
 }
 
@@ -287,6 +291,7 @@ impl<R: Files + Drop> Disk for PooledDisk<R> {
         ensures as_honest { ⊥ ↔ ⊥ }
         ensures answered { ⊥ → IsAnswered (new_history []) (write_call at bytes.now result) (new_history []) }
     {
+        self.is_synced = false;
         if self.usage == Use::Writing && self.write_file(at, bytes).is_ok() {
             return Ok(());
         }
@@ -302,6 +307,7 @@ impl<R: Files + Drop> Disk for PooledDisk<R> {
         ensures as_honest { ⊥ ↔ ⊥ }
         ensures answered { ⊥ → IsAnswered (new_history []) (set_len_call len result) (new_history []) }
     {
+        self.is_synced = false;
         if self.usage == Use::Writing && self.set_file_len(len).is_ok() {
             return Ok(());
         }
@@ -317,7 +323,8 @@ impl<R: Files + Drop> Disk for PooledDisk<R> {
         ensures as_honest { ⊥ ↔ ⊥ }
         ensures answered { ⊥ → IsAnswered (new_history []) (sync_call result) (new_history []) }
     {
-        if self.usage == Use::Writing && self.sync_file().is_ok() {
+        if self.usage == Use::Writing && (self.is_synced || self.sync_file().is_ok()) {
+            self.is_synced = true;
             return Ok(());
         }
         Err(counted_fault(&mut self.failed))
