@@ -1,5 +1,5 @@
 -- Whether all blocks of a file are marked, and all files complete.
-use Rattle.bt_machine.proofs.Base.{[], ◌≡◌, ℕ, suc, ◌+◌, Bool, true, false, List, ◌∷◌, length, Some, refl, sym, ap, ◌∙◌, arith, All, slice_get, option_map_or, range_with_len, BlockState, Missing, Waiting, Marked, ◌&&◌, Option}
+use Rattle.bt_machine.proofs.Base.{[], ◌≡◌, ℕ, zero, suc, ◌+◌, ◌<◌, drop, get_or, Bool, true, false, List, ◌∷◌, length, Some, refl, sym, ap, ◌∙◌, arith, All, slice_get, option_map_or, range_with_len, BlockState, Missing, Waiting, Marked, ◌&&◌, Option}
 use Rattle.std.specs.Prelude.{◌↔◌, IsTrue}
 use Rattle.std.specs.List.{list_all, count_by}
 use Rattle.std.proofs.lemmas.List.Elements.{All-nil, All-cons, All-head, All-tail}
@@ -39,6 +39,13 @@ not_all xs none false e = sym e
 pub is_all : (xs : List BlockState) (t : Bool) → IsTrue t ↔ All (λ x. x ≡ Marked) xs → t ≡ list_all is_marked xs
 is_all xs true same = sym (all_to xs (same.0 refl))
 is_all xs false same = not_all xs same.1 (list_all is_marked xs) refl
+
+-- of a list's end, one element longer
+pub passes_from : {X : Type 0} (test : X → Bool) (xs : List X) (k : ℕ) (d : X) → k < length xs → test (get_or xs k d) ≡ true
+    → list_all test (drop (suc k) xs) ≡ true → list_all test (drop k xs) ≡ true
+passes_from test [] k d lt e rest = absurd (omega (arith, lt))
+passes_from test (x ∷ xs) zero d lt e rest = rw e rest
+passes_from test (x ∷ xs) (suc k) d lt e rest = passes_from test xs k d (omega (arith, lt)) e rest
 
 -- a test of the elements, by their indices
 by_index : {X : Type 0} (test : X → Bool) (g : ℕ → Bool) (xs : List X) (a : ℕ) → ((i : ℕ) (x : X) → slice_get xs i ≡ Some x → g (a + i) ≡ test x)

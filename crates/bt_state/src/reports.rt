@@ -46,13 +46,14 @@ fn report_slot<D: Disk + Drop, H: NodeHash>(slot: &Slot<D, H>) -> FileReport
     }
 }
 
-/// Whether all files are complete. It looks at one number for each file.
+/// Whether all files are complete. It looks at one number for each file, from the last on: while they are fetched, the
+/// last are missing longest.
 pub fn is_complete<D: Disk + Drop, H: NodeHash>(parts: &Parts<D, H>) -> bool
     ensures { result ≡ all_complete (state_of parts.now) }
 {
     let slots = parts.slots.as_slice();
-    for slot in slots {
-        if !is_slot_complete(slot) {
+    for index in (0..slots.len()).rev() {
+        if !is_slot_complete(&slots[index]) {
             return false;
         }
     }
