@@ -1,5 +1,5 @@
 -- What is said of a fault that is passed on.
-use Rattle.std.proofs.Common.{◌≡◌, ◌⊎◌, inl, inr, ℕ, Bool, Result, Ok, Err, IfErr, sym, subst, ap, ◌∙◌}
+use Rattle.std.proofs.Common.{◌≡◌, ◌⊎◌, inl, inr, Bool, Result, Ok, Err, IfErr, sym, subst, ap, ◌∙◌}
 use Rattle.std.specs.Prelude.{IsErrAnd}
 use Rattle.bt_check.specs.Fault.{device, out_of_memory, status_of}
 use Rattle.bt_check.specs.TorrentFile.{IsLoadFault}

@@ -7,5 +7,7 @@ pub mod Loading
 pub mod PeerLines
 pub mod OverTcp
 pub mod Fetch
+pub mod FetchSteps
 pub mod Connections
 pub mod Seed
+pub mod SeedSteps

@@ -5,6 +5,7 @@ ghost use Rattle.bt_check.specs.Fault.{device, out_of_memory, status_of};
 ghost use Rattle.bt_check.specs.TorrentFile.{IsLoadFault};
 ghost use Rattle.bt_peers.specs.Peers.{IsTried};
 ghost use Rattle.bt_transfer.specs.Fetch.{HasFetched, HasFetchedOverTcp, IsFetch, links_of};
+ghost use Rattle.bt_transfer.specs.FetchSteps.{EndsFetch};
 
 use crate::ending::conclude;
 use crate::lacking::begin_fetching;
@@ -53,13 +54,33 @@ pub fn fetch<R: Files + AllocGlobal + Clone + Drop, N: Net, P: Watch, W: Write>(
         (λ fault. status_of fault ≡ 2 → Keeps (W.contents writer.old) (W.contents writer.new)) }
 {
     let shared = Shared::new(rt.alloc())?;
-    let (mut engine, torrent) = load_store(rt, watch, &shared, source, dir)?;
-    begin_fetching(watch, &engine);
+    let (engine, torrent) = load_store(rt, watch, &shared, source, dir)?;
     let passage = Passage {
         torrent: &torrent,
         shared: &shared,
     };
-    let status = fetch_from(rt.alloc(), net, &mut engine, passage, peers, writer)?;
+    let status = fetch_store(rt.alloc(), net, watch, engine, passage, peers, writer)?;
+    Ok(status)
+}
+
+/// Takes peers in turn, over TCP, for an engine of a torrent, which it takes, and tells of it as `fetch_over` does.
+fn fetch_store<D: Disk + Drop, H: NodeHash, N: Net, P: Watch, W: Write>(
+    alloc: Global,
+    net: &N,
+    watch: &P,
+    engine: Engine<D, H>,
+    passage: Passage<'_>,
+    peers: &[Peer<'_>],
+    writer: &mut W,
+) -> Result<u8, Fault>
+    requires no_peer { engine.state.peers ≡ [] }
+    ensures fetched { IfOk result (λ status. EndsFetch D.history D.honest D.faults H.digest peers.now
+        engine (W.contents writer.old) (W.contents writer.new) status) }
+    ensures fault { IfErr result (λ fault. (fault ≡ device) ⊎ (fault ≡ out_of_memory)) }
+{
+    let mut engine = engine;
+    begin_fetching(watch, &engine);
+    let status = fetch_from(alloc, net, &mut engine, passage, peers, writer)?;
     Ok(status)
 }
 

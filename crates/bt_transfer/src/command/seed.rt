@@ -5,6 +5,7 @@ ghost use Rattle.bt_check.specs.Fault.{device, out_of_memory, status_of};
 ghost use Rattle.bt_check.specs.TorrentFile.{IsLoadFault};
 ghost use Rattle.bt_transfer.specs.Connections.{IsFlushed};
 ghost use Rattle.bt_transfer.specs.Seed.{HasListened, HasServedAll, IsSeed, listening_line};
+ghost use Rattle.bt_transfer.specs.SeedSteps.{EndsSeed};
 
 use crate::connections::{serve_count, serve_forever};
 use crate::loading::load_store;
@@ -48,14 +49,34 @@ pub fn seed<R: Files + AllocGlobal + Clone + Drop, N: Net, P: Watch, W: Write>(
         (λ fault. status_of fault ≡ 2 → Keeps (W.contents writer.old) (W.contents writer.new)) }
 {
     let shared = Shared::new(rt.alloc())?;
-    let (mut engine, torrent) = load_store(rt, watch, &shared, source, dir)?;
-    hint_at_lack(watch, &engine);
-    watch.begin(FileCall::Read);
+    let (engine, torrent) = load_store(rt, watch, &shared, source, dir)?;
     let passage = Passage {
         torrent: &torrent,
         shared: &shared,
     };
-    listen_and_serve(rt.alloc(), net, &mut engine, passage, service, writer)?;
+    let status = seed_store(rt.alloc(), net, watch, engine, passage, service, writer)?;
+    Ok(status)
+}
+
+/// Tells what is lacking, listens, and serves connections to an engine of a torrent, which it takes. The answer is 0.
+fn seed_store<D: Disk + Drop, H: NodeHash, N: Net, P: Watch, W: Write>(
+    alloc: Global,
+    net: &N,
+    watch: &P,
+    engine: Engine<D, H>,
+    passage: Passage<'_>,
+    service: Service<'_>,
+    writer: &mut W,
+) -> Result<u8, Fault>
+    requires no_peer { engine.state.peers ≡ [] }
+    ensures listened { IfOk result (λ status. EndsSeed D.history D.honest D.faults H.digest
+        service.entry.serving engine (W.contents writer.old) (W.contents writer.new) status) }
+    ensures fault { IfErr result (λ fault. (fault ≡ device) ⊎ (fault ≡ out_of_memory)) }
+{
+    let mut engine = engine;
+    hint_at_lack(watch, &engine);
+    watch.begin(FileCall::Read);
+    listen_and_serve(alloc, net, &mut engine, passage, service, writer)?;
     Ok(0)
 }
 

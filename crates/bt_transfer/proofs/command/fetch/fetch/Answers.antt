@@ -17,6 +17,6 @@ pub returns-clause-done : goal.returns-clause-done
 returns-clause-done g c = record {
   store = c.in_ok-engine.engine;
   loaded = c.in_ok-engine.ensures.loaded;
-  last = c.fetch_from.new.engine;
-  fetched = c.in_ok-status.ensures.fetched;
+  last = c.in_ok-status.ensures.fetched.0;
+  fetched = c.in_ok-status.ensures.fetched.1;
 }
