@@ -7,6 +7,7 @@ pub mod Subcommands
 pub mod Values
 pub mod CommandLine
 pub mod Program
+pub mod System
 -- what private steps cite
 pub mod CommandLineSteps
 pub mod SubcommandsSteps

@@ -9,8 +9,10 @@ mod limits;
 mod make;
 mod program;
 mod subcommands;
+mod system;
 mod values;
 
 pub use command_line::{FetchTask, MakeTask, SeedTask, Task};
 pub use make::{FolderFile, NewTorrent};
 pub use program::{run, start};
+pub use system::launch;
