@@ -10,7 +10,7 @@ use std::time::Duration;
 
 const HOST: &str = "127.0.0.1";
 
-/// How many milliseconds a read waits, and the other side of a connection is waited for.
+/// How many milliseconds a read waits, a peer rests, and the other side of a connection is waited for.
 const PATIENCE: u64 = 20_000;
 
 /// How many milliseconds pass between two looks for a connection.
@@ -20,7 +20,8 @@ const PAUSE: u64 = 20;
 const MOST_SHOWN: usize = 256;
 
 /// Connects to the port that the first word names, or waits for a connection where it is `listen`, and does what each word behind it says:
-/// bytes are sent, `get:N` takes N bytes and prints them, and `end` takes and prints those that come until the other side ends.
+/// bytes are sent, `get:N` takes N bytes and prints them, `end` takes and prints those that come until the other side ends, and `rest` takes
+/// nothing for 20 seconds.
 /// Errors: there is no connection, a word that is none of these, or the other side takes or gives less.
 pub fn meet(rt: &HostRuntime, words: &[String]) -> io::Result<()> {
     let Some((place, steps)) = words.split_first() else {
@@ -53,9 +54,18 @@ fn awaited(rt: &HostRuntime) -> io::Result<TcpStream> {
 }
 
 fn take_step(rt: &HostRuntime, stream: &mut TcpStream, step: &str) -> io::Result<()> {
-    if step == "end" {
-        return take_rest(rt, stream);
+    match step {
+        "end" => take_all(rt, stream),
+        "rest" => {
+            sleep(rt, Duration::from_millis(PATIENCE));
+            Ok(())
+        }
+        _ => exchange(rt, stream, step),
     }
+}
+
+/// Takes as many bytes as a word says, or sends those that it stands for.
+fn exchange(rt: &HostRuntime, stream: &mut TcpStream, step: &str) -> io::Result<()> {
     match step.strip_prefix("get:") {
         Some(count) => take(rt, stream, count.parse::<u16>().unwrap_or(0)),
         None => send(rt.alloc(), stream, step),
@@ -68,7 +78,7 @@ fn take(rt: &HostRuntime, stream: &mut TcpStream, count: u16) -> io::Result<()> 
     show(rt, &bytes)
 }
 
-fn take_rest(rt: &HostRuntime, stream: &mut TcpStream) -> io::Result<()> {
+fn take_all(rt: &HostRuntime, stream: &mut TcpStream) -> io::Result<()> {
     let mut bytes = Vec::new(rt.alloc());
     stream.read_to_end(&mut bytes)?;
     show(rt, &bytes)

@@ -1,0 +1,127 @@
+//! Runs of the program over the system's network, in which who waits for a peer has two seconds where it asks for two minutes.
+
+use bt_commands::run;
+use bt_progress::Unwatched;
+use std::io::{self, Read, Write};
+use std::net::{Net, OpenListener, OpenStream, SocketAddr, TcpListener, TcpStream};
+use std::os::fd::{AsRawFd, RawFd};
+use std::time::Duration;
+
+/// How many times as short the time is for which a connection waits.
+const HASTE: u32 = 60;
+
+/// Runs the program in haste, and gives its status.
+pub fn status_of(rt: &HostRuntime, words: &[String]) -> u8 {
+    let net = Hasty { host: rt };
+    let mut writer = rt.stdout();
+    let mut faults = rt.stderr();
+    run(
+        rt,
+        &net,
+        &Unwatched,
+        words,
+        &mut rt.stdin(),
+        &mut writer,
+        &mut faults,
+    )
+}
+
+/// The host's network, in haste.
+#[derive(Clone, Copy)]
+struct Hasty<'a> {
+    host: &'a HostRuntime,
+}
+
+impl Net for Hasty<'_> {
+    type Stream = HastyStream;
+
+    type Listener = HastyListener;
+
+    fn bind(&self, address: SocketAddr) -> io::Result<HastyListener> {
+        Ok(HastyListener(self.host.bind(address)?))
+    }
+
+    fn connect(&self, address: SocketAddr) -> io::Result<HastyStream> {
+        Ok(HastyStream(self.host.connect(address)?))
+    }
+
+    fn connect_timeout(&self, address: SocketAddr, limit: Duration) -> io::Result<HastyStream> {
+        Ok(HastyStream(self.host.connect_timeout(address, limit)?))
+    }
+
+    fn lookup_host(&self, host: &str, port: u16, found: &mut [SocketAddr]) -> io::Result<usize> {
+        self.host.lookup_host(host, port, found)
+    }
+}
+
+/// A connection that waits in haste.
+#[derive(Drop)]
+struct HastyStream(TcpStream);
+
+impl Read for HastyStream {
+    fn read(&mut self, buf: &mut [u8]) -> io::Result<usize> {
+        self.0.read(buf)
+    }
+}
+
+impl Write for HastyStream {
+    fn write(&mut self, buf: &[u8]) -> io::Result<usize> {
+        self.0.write(buf)
+    }
+
+    fn flush(&mut self) -> io::Result<()> {
+        self.0.flush()
+    }
+}
+
+/// The time in haste.
+fn hastened(limit: Option<Duration>) -> Option<Duration> {
+    Some(limit? / HASTE)
+}
+
+impl OpenStream for HastyStream {
+    fn set_nodelay(&self, nodelay: bool) -> io::Result<()> {
+        self.0.set_nodelay(nodelay)
+    }
+
+    fn set_read_timeout(&self, limit: Option<Duration>) -> io::Result<()> {
+        self.0.set_read_timeout(hastened(limit))
+    }
+
+    fn set_write_timeout(&self, limit: Option<Duration>) -> io::Result<()> {
+        self.0.set_write_timeout(hastened(limit))
+    }
+
+    fn try_clone(&self) -> io::Result<HastyStream> {
+        Ok(HastyStream(self.0.try_clone()?))
+    }
+}
+
+impl AsRawFd for HastyStream {
+    fn as_raw_fd(&self) -> RawFd {
+        self.0.as_raw_fd()
+    }
+}
+
+/// A listener whose connections wait in haste.
+#[derive(Drop)]
+struct HastyListener(TcpListener);
+
+impl OpenListener for HastyListener {
+    type Stream = HastyStream;
+
+    fn accept(&self) -> io::Result<(HastyStream, SocketAddr)> {
+        let (stream, address) = self.0.accept()?;
+        Ok((HastyStream(stream), address))
+    }
+
+    fn local_addr(&self) -> io::Result<SocketAddr> {
+        self.0.local_addr()
+    }
+}
+
+impl AsRawFd for HastyListener {
+    fn as_raw_fd(&self) -> RawFd {
+        self.0.as_raw_fd()
+    }
+}
