@@ -1,5 +1,5 @@
 -- A pool, and how a device of it uses its file.
-use Rattle.std.specs.Prelude.{ℕ, List}
+use Rattle.std.specs.Prelude.{ℕ, Bool, List}
 use Rattle.bt_disk.specs.FileDisk.{Access, absent, reading, writing}
 use Rattle.bt_disk.specs.declared.pool.Use.{Use}
 use Rattle.bt_disk.specs.declared.pool.Use.TheVariants.{Absent, Reading, Writing}
@@ -17,9 +17,11 @@ abbrev pub new_pool : PoolView
 new_pool = record { made = 0 }
 
 -- A device that a pool made: its number, by which the pool knows its handle, the bytes of its file's path,
--- whether that file may be written, and how many of its calls failed.
+-- whether that file may be written, whether it was synced and since then neither written nor given a new
+-- length, and how many of its calls failed.
 pub record PooledView : Type 0 where
   pub number : ℕ
   pub path : List ℕ
   pub access : Access
+  pub is_synced : Bool
   pub failed : ℕ

@@ -1,5 +1,5 @@
 //! Files of the system that share a few open handles.
-ghost use Rattle.std.specs.Prelude.{◌≡◌, ◌≢◌, ◌+◌, ◌<◌, ◌≤◌, IfOk, IfErr, OnOk, length, take, string_bytes};
+ghost use Rattle.std.specs.Prelude.{◌≡◌, ◌≢◌, ◌+◌, ◌<◌, ◌≤◌, IfOk, IfErr, OnOk, false, length, take, string_bytes};
 ghost use Rattle.bt_disk.specs.FileDisk.{writing};
 ghost use Rattle.bt_disk.specs.Handle.{IsReadOfFile, IsWrittenToFile};
 ghost use Rattle.bt_disk.specs.Pool.{access_of_use, new_pool};
@@ -61,6 +61,7 @@ impl<R: Files + Drop> HandlePool<R> {
     pub fn reading(&mut self, path: String) -> Result<PooledDisk<R>, DeviceFault>
         ensures failed { IfOk result (λ disk. disk.failed ≡ 0) }
         ensures access { IfOk result (λ disk. disk.access ≢ writing) }
+        ensures is_synced { IfOk result (λ disk. disk.is_synced ≡ false) }
         ensures number { IfOk result (λ disk. disk.number ≡ self.new.made) }
         ensures path { IfOk result (λ disk. disk.path ≡ string_bytes path) }
         ensures one_more { IfOk result (λ _. self.new.made ≡ self.old.made + 1) }
@@ -81,6 +82,7 @@ impl<R: Files + Drop> HandlePool<R> {
     pub fn writing(&mut self, path: String) -> Result<PooledDisk<R>, DeviceFault>
         ensures failed { IfOk result (λ disk. disk.failed ≡ 0) }
         ensures access { IfOk result (λ disk. disk.access ≡ writing) }
+        ensures is_synced { IfOk result (λ disk. disk.is_synced ≡ false) }
         ensures number { IfOk result (λ disk. disk.number ≡ self.new.made) }
         ensures path { IfOk result (λ disk. disk.path ≡ string_bytes path) }
         ensures one_more { IfOk result (λ _. self.new.made ≡ self.old.made + 1) }
@@ -99,6 +101,7 @@ impl<R: Files + Drop> HandlePool<R> {
           number = self.new.made;
           path = string_bytes path;
           access = access_of_use usage;
+          is_synced = false;
           failed = 0;
         }) }
         ensures one_more { IfOk result (λ _. self.new.made ≡ self.old.made + 1) }
@@ -156,6 +159,7 @@ impl<R: Files + Drop> Model for PooledDisk<R> {
       number = d.number;
       path = string_bytes d.path;
       access = access_of_use d.usage;
+      is_synced = d.is_synced;
       failed = d.failed;
     } };
 }
@@ -226,7 +230,7 @@ impl<R: Files + Drop> PooledDisk<R> {
 }
 
 impl<R: Files + Drop> Disk for PooledDisk<R> {
-    ghost use Rattle.std.specs.Prelude.{◌≡◌, ◌≢◌, ◌↔◌, ◌≤◌, [], IsErr, IfOk, OnOk, length, take};
+    ghost use Rattle.std.specs.Prelude.{◌≡◌, ◌≢◌, ◌↔◌, ◌≤◌, [], IsErr, IsOk, IfOk, IfErr, OnOk, true, false, length, take};
     ghost use Rattle.bt_disk.specs.Limits.{count_after};
     ghost use Rattle.bt_disk.specs.History.{new_history};
     ghost use Rattle.bt_disk.specs.Calls.{IsAnswered, len_call, read_call, write_call, set_len_call, sync_call};
@@ -246,6 +250,7 @@ impl<R: Files + Drop> Disk for PooledDisk<R> {
         ensures number { self.new.number ≡ self.old.number }
         ensures path { self.new.path ≡ self.old.path }
         ensures access { self.new.access ≡ self.old.access }
+        ensures is_synced { self.new.is_synced ≡ self.old.is_synced }
         ensures counted { self.new.failed ≡ count_after self.old.failed result }
         ensures as_honest { ⊥ ↔ ⊥ }
         ensures answered { ⊥ → IsAnswered (new_history []) (len_call result) (new_history []) }
@@ -264,6 +269,7 @@ impl<R: Files + Drop> Disk for PooledDisk<R> {
         ensures number { self.new.number ≡ self.old.number }
         ensures path { self.new.path ≡ self.old.path }
         ensures access { self.new.access ≡ self.old.access }
+        ensures is_synced { self.new.is_synced ≡ self.old.is_synced }
         ensures within { IfOk result (λ count. count ≤ length out.new) }
         ensures gives { self.old.access ≢ absent → IfOk result (λ count.
             IsReadOfFile R.File.stream_position R.File.stream_bytes R.File.remaining
@@ -287,6 +293,7 @@ impl<R: Files + Drop> Disk for PooledDisk<R> {
         ensures number { self.new.number ≡ self.old.number }
         ensures path { self.new.path ≡ self.old.path }
         ensures access { self.new.access ≡ self.old.access }
+        ensures is_synced { self.new.is_synced ≡ false }
         ensures counted { self.new.failed ≡ count_after self.old.failed result }
         ensures as_honest { ⊥ ↔ ⊥ }
         ensures answered { ⊥ → IsAnswered (new_history []) (write_call at bytes.now result) (new_history []) }
@@ -303,6 +310,7 @@ impl<R: Files + Drop> Disk for PooledDisk<R> {
         ensures number { self.new.number ≡ self.old.number }
         ensures path { self.new.path ≡ self.old.path }
         ensures access { self.new.access ≡ self.old.access }
+        ensures is_synced { self.new.is_synced ≡ false }
         ensures counted { self.new.failed ≡ count_after self.old.failed result }
         ensures as_honest { ⊥ ↔ ⊥ }
         ensures answered { ⊥ → IsAnswered (new_history []) (set_len_call len result) (new_history []) }
@@ -319,6 +327,9 @@ impl<R: Files + Drop> Disk for PooledDisk<R> {
         ensures number { self.new.number ≡ self.old.number }
         ensures path { self.new.path ≡ self.old.path }
         ensures access { self.new.access ≡ self.old.access }
+        ensures is_synced { OnOk result (self.new.is_synced ≡ true) }
+        ensures as_before { IfErr result (λ _. self.new.is_synced ≡ self.old.is_synced) }
+        ensures again { self.old.access ≡ writing → self.old.is_synced ≡ true → IsOk result }
         ensures counted { self.new.failed ≡ count_after self.old.failed result }
         ensures as_honest { ⊥ ↔ ⊥ }
         ensures answered { ⊥ → IsAnswered (new_history []) (sync_call result) (new_history []) }
