@@ -1,5 +1,5 @@
 -- What tells of events and of files.
-use Rattle.std.proofs.Common.{[], ◌≡◌, ℕ, zero, suc, ◌+◌, ◌≤◌, List, ◌∷◌, ◌++◌, length, Option, Some, None, refl, sym, ap, subst, ◌∙◌, append-nil, arith}
+use Rattle.std.proofs.Common.{[], ◌≡◌, ℕ, zero, suc, ◌+◌, ◌≤◌, List, ◌∷◌, ◌++◌, length, Option, Some, None, refl, sym, ap, subst, ◌∙◌, append-nil, append_assoc, arith}
 use Rattle.std.specs.Prelude.{flat_map, IfSome, slice_get, option_map}
 use Rattle.std.specs.List.{range_with_len}
 use Rattle.std.proofs.lemmas.Grind.{flat_map-append}
@@ -27,18 +27,22 @@ range_more a (suc n) =
     let shift : a + 1 + n ≡ a + suc n = omega arith in
     ap (λ rest. a ∷ rest) (range_more (a + 1) n ∙ ap (λ k. range_with_len (a + 1) n ++ k ∷ []) shift)
 
-pub told_more : (s : EngineState) (file : ℕ) (told : FileReport) (text new : List ℕ)
-    → text ≡ flat_map (line_of s) (range_with_len 0 file) → report s file ≡ Some told
-    → new ≡ text ++ file_line file (Some told) → new ≡ flat_map (line_of s) (range_with_len 0 (file + 1))
-told_more s file told text new before here is =
+pub told_more : (s : EngineState) (file : ℕ) (told : FileReport) (before text new : List ℕ)
+    → text ≡ before ++ flat_map (line_of s) (range_with_len 0 file) → report s file ≡ Some told
+    → new ≡ text ++ file_line file (Some told)
+    → new ≡ before ++ flat_map (line_of s) (range_with_len 0 (file + 1))
+told_more s file told before text new so_far here is =
     let count : file + 1 ≡ suc file = omega arith in
     let last : 0 + file ≡ file = omega arith in
     let next = ap (range_with_len 0) count ∙ range_more 0 file ∙ ap (λ k. range_with_len 0 file ++ k ∷ []) last in
-    is ∙ ap (λ l. l ++ file_line file (Some told)) before
-    ∙ ap (λ r. flat_map (line_of s) (range_with_len 0 file) ++ file_line file r) (sym here)
-    ∙ ap (λ l. flat_map (line_of s) (range_with_len 0 file) ++ l) (sym (append-nil (line_of s file)))
+    let lines = flat_map (line_of s) (range_with_len 0 file) in
+    let more : lines ++ file_line file (Some told) ≡ flat_map (line_of s) (range_with_len 0 (file + 1)) =
+    ap (λ r. lines ++ file_line file r) (sym here)
+    ∙ ap (λ l. lines ++ l) (sym (append-nil (line_of s file)))
     ∙ sym (flat_map-append (line_of s) (range_with_len 0 file) (file ∷ []))
-    ∙ ap (flat_map (line_of s)) (sym next)
+    ∙ ap (flat_map (line_of s)) (sym next) in
+    is ∙ ap (λ l. l ++ file_line file (Some told)) so_far
+    ∙ append_assoc before lines (file_line file (Some told)) ∙ ap (λ l. before ++ l) more
 
 none_some : (told : FileReport) → option_map report_of None ≡ Some told → ⊥
 none_some told e = cc

@@ -1,5 +1,5 @@
 //! The events that lines ask for, and the text that tells of them.
-ghost use Rattle.std.specs.Prelude.{◌≡◌, ◌++◌, IfOk, IfSome, IfNone, None, string_bytes};
+ghost use Rattle.std.specs.Prelude.{◌≡◌, ◌++◌, IfOk, IfSome, IfNone, None, OnOk, string_bytes};
 ghost use Rattle.bt_machine.specs.Law.{sent_by};
 ghost use Rattle.bt_replay.specs.Answer.{AllFit, answer_text, report_text};
 ghost use Rattle.bt_replay.specs.Event.{Does, IsIdle, event_of};
@@ -53,10 +53,21 @@ fn report<D: Disk + Drop, H: NodeHash>(
     ensures { IfOk result (λ text. string_bytes text ≡ report_text engine.now.state) }
 {
     let mut text = String::new(alloc);
+    push_files(&mut text, engine)?;
+    Ok(text)
+}
+
+/// Tells behind a text how far each file is.
+fn push_files<D: Disk + Drop, H: NodeHash>(
+    text: &mut String,
+    engine: &Engine<D, H>,
+) -> Result<(), AllocError>
+    ensures { OnOk result (string_bytes text.new ≡ string_bytes text.old ++ report_text engine.now.state) }
+{
     for file in 0..u32::MAX {
         match engine.report(file) {
-            Some(told) => push_file(&mut text, file, told)?,
-            None => return Ok(text),
+            Some(told) => push_file(text, file, told)?,
+            None => return Ok(()),
         }
     }
     // A torrent has far fewer files.

@@ -46,10 +46,9 @@ pub fn run_script<W: Write>(alloc: Global, script: &[u8], writer: &mut W) -> Res
 fn without_last_feed(text: &[u8]) -> &[u8]
     ensures { result.now ≡ without_last_feed text.now }
 {
-    if !text.is_empty() && text[text.len() - 1] == b'\n' {
-        &text[..text.len() - 1]
-    } else {
-        text
+    match text {
+        [front @ .., b'\n'] => front,
+        _ => text,
     }
 }
 
