@@ -4,4 +4,5 @@ pub mod Telling
 pub mod LinesRun
 pub mod DeviceSettings
 pub mod ScriptLines
+pub mod ScriptEnd
 pub mod ReaderScript

@@ -13,9 +13,33 @@ use bt_tree::NodeHash;
 use std::alloc::Global;
 use std::io::Write;
 
+/// Does what the lines ask for, one after the other, and writes what tells of each as it is done; at the end the
+/// writer passes on all that it holds. The first of them has this number.
+pub fn run_all<D: Disk + Drop, H: NodeHash, W: Write>(
+    alloc: Global,
+    engine: &mut Engine<D, H>,
+    hash: H,
+    handshake: &[u8],
+    lines: Option<&[u8]>,
+    number: u64,
+    writer: &mut W,
+) -> Result<(), ReplayFault>
+    requires { number + length (lines_in lines) < 2 ^ 64 }
+    ensures done { OnOk result (HasRun D.history D.honest D.faults H.digest handshake.now engine.old
+        (lines_in lines.entry) (W.contents writer.old) (W.contents writer.new) engine.new) }
+    ensures ended { IfErr result (EndsEarly D.history D.honest D.faults H.digest handshake.now engine.old
+        number (lines_in lines.entry) (W.contents writer.old) (W.contents writer.new)) }
+{
+    run_lines(alloc, engine, hash, handshake, lines, number, writer)?;
+    match writer.flush() {
+        Ok(()) => Ok(()),
+        Err(_) => Err(ReplayFault::Write),
+    }
+}
+
 /// Does what the lines ask for, one after the other, and writes what tells of each as it is done. The first
 /// of them has this number.
-pub fn run_lines<D: Disk + Drop, H: NodeHash, W: Write>(
+fn run_lines<D: Disk + Drop, H: NodeHash, W: Write>(
     alloc: Global,
     engine: &mut Engine<D, H>,
     hash: H,

@@ -8,7 +8,7 @@ use crate::devices::{Device, first_devices};
 use crate::fault::ReplayFault;
 use crate::field::cut;
 use crate::line::{Line, line_in};
-use crate::run::run_lines;
+use crate::run::run_all;
 use crate::settings::set_devices;
 use bt_engine::Engine;
 use bt_lanes::Lanes;
@@ -27,7 +27,7 @@ pub fn run_script<W: Write>(alloc: Global, script: &[u8], writer: &mut W) -> Res
     let torrent = torrent_in(alloc, first)?;
     let handshake = peer_handshake(&torrent);
     let (mut engine, rest, count) = begin(alloc, torrent, rest)?;
-    run_lines(
+    run_all(
         alloc,
         &mut engine,
         Lanes,
@@ -35,11 +35,7 @@ pub fn run_script<W: Write>(alloc: Global, script: &[u8], writer: &mut W) -> Res
         rest,
         count + 2,
         writer,
-    )?;
-    match writer.flush() {
-        Ok(()) => Ok(()),
-        Err(_) => Err(ReplayFault::Write),
-    }
+    )
 }
 
 /// A text without the line feed at its end, where there is one.
