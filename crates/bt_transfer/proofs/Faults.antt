@@ -1,9 +1,18 @@
 -- What is said of a fault that is passed on.
-use Rattle.std.proofs.Common.{◌≡◌, ◌⊎◌, inl, inr, Bool, Result, Ok, Err, IfErr, sym, subst, ap, ◌∙◌}
+use Rattle.std.proofs.Common.{◌≡◌, ◌⊎◌, inl, inr, Bool, Result, Ok, Err, IfOk, IfErr, sym, subst, ap, ◌∙◌}
 use Rattle.std.specs.Prelude.{IsErrAnd}
 use Rattle.bt_check.specs.Fault.{device, out_of_memory, status_of}
 use Rattle.bt_check.specs.TorrentFile.{IsLoadFault}
 use Rattle.bt_check.specs.declared.fault.Fault.{Fault}
+
+-- what follows from all that is known of a result that is passed on
+pub ok_weaker : {T E : Type 0} (r : Result T E) (P Q : T → Type 0) → ((x : T) → P x → Q x) → IfOk r P → IfOk r Q
+ok_weaker (Ok x) P Q follows holds = follows x holds
+ok_weaker (Err e) P Q follows holds = tt
+
+pub err_weaker : {T E : Type 0} (r : Result T E) (P Q : E → Type 0) → ((e : E) → P e → Q e) → IfErr r P → IfErr r Q
+err_weaker (Ok x) P Q follows holds = tt
+err_weaker (Err e) P Q follows holds = follows e holds
 
 -- what holds of a fault holds where it is passed on
 pub passed_on : {T : Type 0} (r : Result T Fault) (fault : Fault) (P : Fault → Type 0) → IsErrAnd r (λ told. told ≡ fault) → P fault → IfErr r P

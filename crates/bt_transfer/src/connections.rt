@@ -120,15 +120,14 @@ fn serve_one<D: Disk + Drop, H: NodeHash, N: Net>(
     ensures fault { IfErr result (λ fault. fault ≡ device) }
 {
     let idle = Duration::from_secs(IDLE_SECONDS);
-    let end = serve(
+    serve(
         reception.net,
         alloc,
         engine,
         reception.listener,
         idle,
         reception.passage,
-    )?;
-    Ok(end)
+    )
 }
 
 /// Writes how it ended with the connection of a number.

@@ -1,6 +1,7 @@
 //! The data files of a torrent, opened to be read and written.
-ghost use Rattle.std.specs.Prelude.{◌≡◌, ◌⊎◌, ◌+◌, map, IfOk, IfErr, OnOk};
+ghost use Rattle.std.specs.Prelude.{[], ◌≡◌, ◌⊎◌, ◌+◌, map, IfOk, IfErr, OnOk};
 ghost use Rattle.std.specs.Path.{path_buf_bytes};
+ghost use Rattle.bt_disk.specs.Pool.{new_pool};
 ghost use Rattle.bt_meta.specs.Files.{file_of};
 ghost use Rattle.bt_check.specs.Fault.{device, out_of_memory};
 ghost use Rattle.bt_transfer.specs.DataFiles.{new_device, new_devices};
@@ -43,11 +44,30 @@ pub(crate) fn open_devices<'a, R: Files + AllocGlobal + Clone + Drop, P: Watch>(
 {
     let mut pool = HandlePool::new(rt.alloc(), rt.clone()?, OPEN_FILES)?;
     let mut disks = Vec::new(rt.alloc());
-    for entry in entries {
-        let found = open_entry(rt, watch, shared, &mut pool, dir, entry)?;
-        push_some(&mut disks, found)?;
-    }
+    push_devices(rt, watch, shared, &mut pool, dir, entries, &mut disks)?;
     Ok(disks)
+}
+
+/// Opens the data files of some entries by a new pool, and gives the devices of those that have a byte.
+fn push_devices<'a, R: Files + AllocGlobal + Drop, P: Watch>(
+    rt: &R,
+    watch: &'a P,
+    shared: &'a Shared,
+    pool: &mut HandlePool<R>,
+    dir: &str,
+    entries: &[FileEntry],
+    disks: &mut Vec<DataDisk<'a, R, P>>,
+) -> Result<(), Fault>
+    requires no_device { pool.old ≡ new_pool }
+    requires no_disk { disks.old.items ≡ [] }
+    ensures devices { OnOk result (disks.new.items ≡ new_devices dir.now (map file_of entries.now)) }
+    ensures fault { IfErr result (λ fault. (fault ≡ device) ⊎ (fault ≡ out_of_memory)) }
+{
+    for entry in entries {
+        let found = open_entry(rt, watch, shared, pool, dir, entry)?;
+        push_some(disks, found)?;
+    }
+    Ok(())
 }
 
 /// Puts an item, if there is one, behind others.

@@ -21,9 +21,12 @@ pub(crate) fn begin_fetching<D: Disk + Drop, H: NodeHash, P: Watch>(
 /// How many bytes the blocks of a file have that are not marked, if each is whole.
 fn lacking<D: Disk + Drop, H: NodeHash>(engine: &Engine<D, H>, file: u32) -> u64 {
     match engine.report(file) {
-        Some(report) => {
-            u64::from(report.blocks.saturating_sub(report.marked)) * BLOCK_LEN as u64
-        }
+        Some(report) => length_of(report.blocks.saturating_sub(report.marked)),
         None => 0,
     }
+}
+
+/// How many bytes so many whole blocks have.
+fn length_of(blocks: u32) -> u64 {
+    u64::from(blocks) * BLOCK_LEN as u64
 }

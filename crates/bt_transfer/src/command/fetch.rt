@@ -59,8 +59,7 @@ pub fn fetch<R: Files + AllocGlobal + Clone + Drop, N: Net, P: Watch, W: Write>(
         torrent: &torrent,
         shared: &shared,
     };
-    let status = fetch_store(rt.alloc(), net, watch, engine, passage, peers, writer)?;
-    Ok(status)
+    fetch_store(rt.alloc(), net, watch, engine, passage, peers, writer)
 }
 
 /// Takes peers in turn, over TCP, for an engine of a torrent, which it takes, and tells of it as `fetch_over` does.
@@ -80,8 +79,7 @@ fn fetch_store<D: Disk + Drop, H: NodeHash, N: Net, P: Watch, W: Write>(
 {
     let mut engine = engine;
     begin_fetching(watch, &engine);
-    let status = fetch_from(alloc, net, &mut engine, passage, peers, writer)?;
-    Ok(status)
+    fetch_from(alloc, net, &mut engine, passage, peers, writer)
 }
 
 /// Hears the alarm. Errors: it rings, and the status is that of files that are not complete.

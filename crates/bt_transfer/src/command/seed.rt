@@ -54,8 +54,7 @@ pub fn seed<R: Files + AllocGlobal + Clone + Drop, N: Net, P: Watch, W: Write>(
         torrent: &torrent,
         shared: &shared,
     };
-    let status = seed_store(rt.alloc(), net, watch, engine, passage, service, writer)?;
-    Ok(status)
+    seed_store(rt.alloc(), net, watch, engine, passage, service, writer)
 }
 
 /// Tells what is lacking, listens, and serves connections to an engine of a torrent, which it takes. The answer is 0.

@@ -1,7 +1,9 @@
+use Rattle.bt_transfer.proofs.Faults.{ok_weaker}
 use Rattle.bt_transfer.proofs.OverTcp.{served_by_bytes}
 use Rattle.bt_transfer.proofs.connections.serve_one.Goals as goal
 
 pub returns-clause-served : goal.returns-clause-served
-returns-clause-served g c =
-    served_by_bytes g.D.Disk.history g.D.Disk.honest g.D.Disk.faults g.H.NodeHash.digest _ _ c.args.engine.now c.in_ok-end.end c.serve.new.engine
-    c.in_ok-end.ensures.served
+returns-clause-served g c = ok_weaker c.serve.result _ _
+    (λ end served. served_by_bytes g.D.Disk.history g.D.Disk.honest g.D.Disk.faults g.H.NodeHash.digest _ _
+    c.args.engine.now end c.serve.new.engine served)
+    c.serve.ensures.served

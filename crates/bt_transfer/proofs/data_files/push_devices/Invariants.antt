@@ -2,7 +2,7 @@
 use Rattle.std.proofs.Common.{◌≡◌, length, map, take}
 use Rattle.bt_meta.specs.Files.{file_of}
 use Rattle.bt_transfer.specs.DataFiles.{new_devices}
-use Rattle.bt_transfer.proofs.data_files.open_devices.Given as goal
+use Rattle.bt_transfer.proofs.data_files.push_devices.Given as goal
 
 abbrev pub invariant-loop-entry : goal.invariant-loop-entry
 invariant-loop-entry g l =

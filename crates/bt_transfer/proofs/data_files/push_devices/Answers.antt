@@ -1,5 +1,5 @@
 use Rattle.bt_transfer.proofs.Devices.{opened_more}
-use Rattle.bt_transfer.proofs.data_files.open_devices.Goals as goal
+use Rattle.bt_transfer.proofs.data_files.push_devices.Goals as goal
 
 pub loop-entry-preserved : goal.loop-entry-preserved
 loop-entry-preserved g c =
