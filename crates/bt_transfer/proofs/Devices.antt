@@ -6,9 +6,6 @@ use Rattle.std.proofs.lemmas.List.{length-map, map-append, take_more}
 use Rattle.std.proofs.lemmas.List.Elements.{filter-append}
 use Rattle.std.proofs.lemmas.List.FromFn.{length-enumerate_from}
 use Rattle.std.proofs.lemmas.List.Sums.{length-filter}
-use Rattle.bt_disk.specs.FileDisk.{writing}
-use Rattle.bt_disk.specs.Pool.{PooledView}
-use Rattle.bt_ahead.specs.Disk.{new_ahead}
 use Rattle.bt_meta.specs.Files.{File, file_of}
 use Rattle.bt_meta.specs.declared.torrent.FileEntry.{FileEntry}
 use Rattle.bt_machine.specs.Start.{device_count}
@@ -77,11 +74,6 @@ files_more entries i entry lt at =
 
 zero_below : (n : ℕ) → n ≢ 0 → nat_lt 0 n ≡ true
 zero_below n some = lt-ltb 0 n (omega (arith, some))
-
--- the device that a pool opened, which is read ahead
-pub device_is : (disk : PooledView) (number : ℕ) (path : List ℕ) → disk.number ≡ number → disk.path ≡ path → disk.access ≡ writing
-    → disk.failed ≡ 0 → new_ahead disk ≡ new_device number path
-device_is disk number path a b c d = λ k. record { inner = record { number = a k; path = b k; access = c k; failed = d k }; failed = 0 }
 
 -- An entry was passed: an empty one has no device, and that of another was put behind those before.
 pub opened_more : (dir : List ℕ) (entries : List FileEntry) (i : ℕ) (entry : FileEntry) (disks after : List DeviceView) (made now : ℕ)

@@ -1,5 +1,5 @@
 -- The data files of a torrent, as devices that are read and written, and read ahead.
-use Rattle.std.specs.Prelude.{ℕ, List, map, filter, nat_lt}
+use Rattle.std.specs.Prelude.{ℕ, List, false, map, filter, nat_lt}
 use Rattle.std.specs.List.{enumerate_from}
 use Rattle.bt_disk.specs.FileDisk.{writing}
 use Rattle.bt_disk.specs.Pool.{PooledView}
@@ -19,10 +19,11 @@ device_paths dir files = map (λ file. path_below dir file.path) (files_with_byt
 abbrev pub DeviceView : Type 0
 DeviceView = AheadView PooledView
 
--- that of a file that is read and written, no call of which failed yet
+-- that of a file that is read and written, which was not synced, and no call of which failed yet
 abbrev pub new_device : ℕ → List ℕ → DeviceView
 new_device number path =
-    record { inner = record { number = number; path = path; access = writing; failed = 0 }; failed = 0 }
+    let file = record { number = number; path = path; access = writing; is_synced = false; failed = 0 } in
+    record { inner = file; failed = 0 }
 
 -- One for each file that has a byte, as one pool gives them: their numbers are 1, 2 and so on.
 abbrev pub new_devices : List ℕ → List File → List DeviceView
