@@ -1,7 +1,7 @@
 //! An engine on devices in memory, over eight lanes.
 
 use crate::bytes::bytes_of;
-use bt_disk::MemoryDisk;
+use bt_disk::{FaultDisk, MemoryDisk};
 use bt_engine::{Engine, StartError};
 use bt_lanes::Lanes;
 use bt_machine::FileReport;
@@ -9,10 +9,12 @@ use bt_meta::{Torrent, read_torrent};
 use std::alloc::{AllocError, Global};
 use std::fmt::Write;
 
-pub type TestEngine = Engine<MemoryDisk, Lanes>;
+pub type TestDisk = FaultDisk<MemoryDisk>;
 
-pub fn memory_disk(alloc: Global, bytes: Vec<u8>) -> MemoryDisk {
-    MemoryDisk::new(alloc, bytes)
+pub type TestEngine = Engine<TestDisk, Lanes>;
+
+pub fn memory_disk(alloc: Global, bytes: Vec<u8>) -> TestDisk {
+    FaultDisk::new(MemoryDisk::new(alloc, bytes))
 }
 
 /// The torrent whose bytes a word spells; or it is told why there is none.
@@ -47,7 +49,7 @@ fn torrent_from(
 pub fn start(
     alloc: Global,
     torrent: Torrent,
-    disks: Vec<MemoryDisk>,
+    disks: Vec<TestDisk>,
 ) -> Result<TestEngine, StartError> {
     match Engine::start(alloc, torrent, Lanes, disks) {
         Ok(engine) => Ok(engine),

@@ -1,15 +1,20 @@
-//! Runs sessions with peers whose bytes lie in memory, on engines whose files lie in memory, tries peers in turn, opens sockets of
-//! this machine with itself, and passes conversations through a reader and a writer of `bt_padding`, and reads ahead by `bt_ahead`, as the rows of `stdin` say.
-//! `stdout` has what they are to answer. README.md tells the rows.
+//! Runs lists of events and sessions with peers on engines whose files lie in memory, the peers' bytes too; tries peers in turn, opens
+//! sockets of this machine with itself, passes conversations through a reader and a writer of `bt_padding`, and reads ahead by
+//! `bt_ahead`, as the rows of `stdin` say. `stdout` has what they are to answer. README.md tells the rows.
 #![tactic(auto)]
 
 mod ahead;
+mod answers;
 mod bytes;
+mod device;
 mod ends;
 mod engine;
+mod event;
 mod links;
+mod lists;
 mod partner;
 mod row;
+mod run;
 mod sessions;
 mod sockets;
 mod stage;
@@ -23,9 +28,16 @@ use std::io;
 
 fn main(rt: HostRuntime) -> io::Result<()> {
     let mut stage = Stage::new(&rt);
-    let printed = print_lines(&rt, &mut stage);
+    let printed = print_answers(&rt, &mut stage);
     drop(stage);
     printed
+}
+
+fn print_answers(rt: &HostRuntime, stage: &mut Stage<'_>) -> io::Result<()> {
+    print_lines(rt, stage)?;
+    let answer = last_answer(rt.alloc(), stage)?;
+    print!(rt; "{answer}")?;
+    Ok(())
 }
 
 fn print_lines(rt: &HostRuntime, stage: &mut Stage<'_>) -> io::Result<()> {
@@ -45,5 +57,11 @@ fn print_line(rt: &HostRuntime, stage: &mut Stage<'_>, row: &str) -> io::Result<
 fn answer_of(alloc: Global, stage: &mut Stage<'_>, row: &str) -> Result<String, AllocError> {
     let mut out = String::new(alloc);
     stage.answer(alloc, row, &mut out)?;
+    Ok(out)
+}
+
+fn last_answer(alloc: Global, stage: &mut Stage<'_>) -> Result<String, AllocError> {
+    let mut out = String::new(alloc);
+    stage.finish(alloc, &mut out)?;
     Ok(out)
 }

@@ -1,11 +1,10 @@
 //! Sessions, and the engine that they run on.
 
 use crate::bytes::{bytes_of, tell_digest, tell_hex};
-use crate::engine::{TestEngine, memory_disk, start, tell_reports, torrent_of};
+use crate::engine::{TestDisk, TestEngine, memory_disk, start, tell_reports, torrent_of};
 use crate::links::peers_row;
 use crate::partner::{TestReader, TestWriter};
 use crate::row::{Row, row_of};
-use bt_disk::MemoryDisk;
 use bt_machine::{ConnectError, Why};
 use bt_meta::Torrent;
 use bt_session::{SessionEnd, run_session};
@@ -61,7 +60,7 @@ impl Sessions {
     fn begin_on(
         &mut self,
         alloc: Global,
-        disks: Vec<MemoryDisk>,
+        disks: Vec<TestDisk>,
         text: &str,
         out: &mut String,
     ) -> Result<(), AllocError> {
@@ -75,7 +74,7 @@ impl Sessions {
         &mut self,
         alloc: Global,
         torrent: Torrent,
-        disks: Vec<MemoryDisk>,
+        disks: Vec<TestDisk>,
         out: &mut String,
     ) -> Result<(), AllocError> {
         match start(alloc, torrent, disks) {
@@ -89,7 +88,7 @@ impl Sessions {
 }
 
 /// The devices of files, of which each word has the bytes. None where a word has none.
-fn disks_of(alloc: Global, words: &str) -> Result<Option<Vec<MemoryDisk>>, AllocError> {
+fn disks_of(alloc: Global, words: &str) -> Result<Option<Vec<TestDisk>>, AllocError> {
     let mut disks = Vec::new(alloc);
     if push_disks(alloc, &mut disks, words)? {
         return Ok(Some(disks));
@@ -97,7 +96,7 @@ fn disks_of(alloc: Global, words: &str) -> Result<Option<Vec<MemoryDisk>>, Alloc
     Ok(None)
 }
 
-fn push_disks(alloc: Global, disks: &mut Vec<MemoryDisk>, words: &str) -> Result<bool, AllocError> {
+fn push_disks(alloc: Global, disks: &mut Vec<TestDisk>, words: &str) -> Result<bool, AllocError> {
     for word in words.split_whitespace() {
         if !push_disk(alloc, disks, word)? {
             return Ok(false);
@@ -106,7 +105,7 @@ fn push_disks(alloc: Global, disks: &mut Vec<MemoryDisk>, words: &str) -> Result
     Ok(true)
 }
 
-fn push_disk(alloc: Global, disks: &mut Vec<MemoryDisk>, word: &str) -> Result<bool, AllocError> {
+fn push_disk(alloc: Global, disks: &mut Vec<TestDisk>, word: &str) -> Result<bool, AllocError> {
     match bytes_of(alloc, word)? {
         Some(bytes) => {
             disks.push(memory_disk(alloc, bytes))?;

@@ -1,6 +1,7 @@
 //! What the rows so far have made, and whose row one is.
 
 use crate::ahead::ahead_row;
+use crate::lists::Lists;
 use crate::sessions::Sessions;
 use crate::sockets::socket_row;
 use crate::talks::Talks;
@@ -11,6 +12,7 @@ use std::fmt::Write;
 #[derive(Drop)]
 pub struct Stage<'a> {
     net: &'a HostRuntime,
+    lists: Lists,
     sessions: Sessions,
     talks: Talks,
 }
@@ -19,6 +21,7 @@ impl<'a> Stage<'a> {
     pub fn new(net: &'a HostRuntime) -> Self {
         Stage {
             net,
+            lists: Lists::Empty,
             sessions: Sessions::new(),
             talks: Talks::new(),
         }
@@ -26,9 +29,23 @@ impl<'a> Stage<'a> {
 
     /// Adds what a row answers. One that begins with `#` is told as it is.
     pub fn answer(&mut self, alloc: Global, row: &str, out: &mut String) -> Result<(), AllocError> {
+        if let Some(event) = row.strip_prefix("event ") {
+            return self.lists.answer(alloc, event, out);
+        }
+        self.finish(alloc, out)?;
         if row.is_empty() || row.starts_with('#') {
             return writeln!(out, "{row}");
         }
+        self.other_row(alloc, row, out)
+    }
+
+    /// Runs the events that have not run, and adds what they answer.
+    pub fn finish(&mut self, alloc: Global, out: &mut String) -> Result<(), AllocError> {
+        self.lists.finish(alloc, out)
+    }
+
+    /// A row that is no event.
+    fn other_row(&mut self, alloc: Global, row: &str, out: &mut String) -> Result<(), AllocError> {
         let (name, rest) = row.split_once(' ').unwrap_or((row, ""));
         match name {
             "ahead" => ahead_row(alloc, rest, out),

@@ -26,15 +26,15 @@ pub enum Lists {
 }
 
 impl Lists {
-    /// Takes a row, and adds what is answered by then: events are run as one list when a row comes that is none. One that begins
-    /// with `#` is told as it is, and what is no row says so.
+    /// Takes a row, and adds what is answered by then: events are run as one list when a row comes that is none. What is no row
+    /// says so.
     pub fn answer(&mut self, alloc: Global, row: &str, out: &mut String) -> Result<(), AllocError> {
         let (name, rest) = row.split_once(' ').unwrap_or((row, ""));
         match event_of(alloc, name, rest)? {
             Some(event) => self.take_event(alloc, event, out),
             None => {
                 self.finish(alloc, out)?;
-                self.other_row(alloc, row, name, rest, out)
+                self.other_row(alloc, name, rest, out)
             }
         }
     }
@@ -64,7 +64,6 @@ impl Lists {
     fn other_row(
         &mut self,
         alloc: Global,
-        row: &str,
         name: &str,
         rest: &str,
         out: &mut String,
@@ -72,7 +71,6 @@ impl Lists {
         match name {
             "torrent" => self.take_torrent(alloc, rest, out),
             "bytes" | "fault" | "flip" => self.set_device(alloc, name, rest, out),
-            _ if row.starts_with('#') || row.is_empty() => writeln!(out, "{row}"),
             _ => self.tell(alloc, name, rest, out),
         }
     }
