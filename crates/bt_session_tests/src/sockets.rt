@@ -115,9 +115,29 @@ fn echo(site: &Site<'_>, byte: u8) -> Option<u8> {
 fn echo_by(site: &Site<'_>, listener: &Listener, byte: u8) -> Option<u8> {
     let port = port_of(listener).ok()?;
     let (mut reader, mut writer) = dialled(site, port, patience())?;
+    echo_over(listener, &mut writer, &mut reader, byte)
+}
+
+// Each socket is owned by a function of its own, which lends it: a body that lets go of several at each `?` is proved with all
+// their parts each time.
+fn echo_over<W: io::Write, R: Read>(
+    listener: &Listener,
+    writer: &mut W,
+    reader: &mut R,
+    byte: u8,
+) -> Option<u8> {
     let (mut stream, _) = listener.accept().ok()?;
-    let there = pass(&mut writer, &mut stream, byte).ok()?;
-    pass(&mut stream, &mut reader, there).ok()
+    echo_from(&mut stream, writer, reader, byte).ok()
+}
+
+fn echo_from<S: Read + io::Write, W: io::Write, R: Read>(
+    stream: &mut S,
+    writer: &mut W,
+    reader: &mut R,
+    byte: u8,
+) -> io::Result<u8> {
+    let there = pass(writer, stream, byte)?;
+    pass(stream, reader, there)
 }
 
 /// Writes a byte at one end, and gives the one that is read at the other.
@@ -155,8 +175,17 @@ fn is_held(site: &Site<'_>, idle: Duration) -> bool {
 fn is_held_by(site: &Site<'_>, listener: &Listener, idle: Duration) -> Option<bool> {
     let port = port_of(listener).ok()?;
     let (mut reader, mut writer) = dialled(site, port, patience())?;
+    is_held_over(listener, &mut writer, &mut reader, idle)
+}
+
+fn is_held_over<W: io::Write, R: Read>(
+    listener: &Listener,
+    writer: &mut W,
+    reader: &mut R,
+    idle: Duration,
+) -> Option<bool> {
     let (mut stream, _) = listener.accept().ok()?;
-    leaves_before_a_read(&mut writer, &mut reader, &mut stream, idle).ok()
+    leaves_before_a_read(writer, reader, &mut stream, idle).ok()
 }
 
 fn leaves_before_a_read<W: io::Write, R: Read>(
