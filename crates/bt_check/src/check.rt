@@ -1,11 +1,12 @@
 //! The command `check`.
-ghost use Rattle.std.specs.Prelude.{◌≡◌, ◌⊎◌, List, map, IfOk, IfErr};
+ghost use Rattle.std.specs.Prelude.{◌≡◌, ◌⊎◌, List, [], map, IfOk, IfErr};
 ghost use Rattle.std.specs.List.{All};
 ghost use Rattle.std.specs.Io.KnownBytes.{Appends};
 ghost use Rattle.bt_check.specs.EntryCheck.{IsCheckable};
 ghost use Rattle.bt_check.specs.DataFile.{file_at};
 ghost use Rattle.bt_check.specs.Fault.{device, out_of_memory};
 ghost use Rattle.bt_check.specs.Report.{IsReportOf, IsReportOn, lines_text, report_text};
+ghost use Rattle.bt_check.specs.TreeSteps.{KeepsTrees};
 ghost use Rattle.bt_check.specs.declared.report.FileFinding.{FileFinding};
 
 use crate::data_file::{DataFile, open_data_files};
@@ -73,6 +74,24 @@ fn check_files<D: Disk + Drop, W: Write>(
     ensures fault { IfErr result (λ fault. (fault ≡ device) ⊎ (fault ≡ out_of_memory)) }
 {
     let mut trees = SharedTrees::new(alloc, &files)?;
+    check_each(alloc, files, size, &mut trees, writer)
+}
+
+/// Checks some data files, in turn, by trees that were made for them.
+fn check_each<D: Disk + Drop, W: Write>(
+    alloc: Global,
+    files: Vec<DataFile<'_, D>>,
+    size: PieceSize,
+    trees: &mut SharedTrees,
+    writer: &mut W,
+) -> Result<Summary, Fault>
+    requires checkable { All (IsCheckable size.layer) (map file_at files.items) }
+    requires trees { KeepsTrees size.layer [] (map file_at files.items) trees.old }
+    ensures report { IfOk result (λ summary. (found : List FileFinding)
+        × IsReportOf size.layer (map file_at files.entry.items) found summary
+        × Appends (W.contents writer.old) (W.contents writer.new) (lines_text found)) }
+    ensures fault { IfErr result (λ fault. (fault ≡ device) ⊎ (fault ≡ out_of_memory)) }
+{
     let mut summary = Summary {
         complete: true,
         faulty: false,

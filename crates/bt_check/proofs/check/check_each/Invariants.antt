@@ -3,7 +3,7 @@ use Rattle.std.proofs.Common.{map}
 use Rattle.std.specs.Vec.Iter.{into_iter_items}
 use Rattle.bt_check.specs.DataFile.{file_at}
 use Rattle.bt_check.proofs.ReportLines.{IsReporting}
-use Rattle.bt_check.proofs.check.check_files.Given as goal
+use Rattle.bt_check.proofs.check.check_each.Given as goal
 
 abbrev pub invariant-loop-file : goal.invariant-loop-file
 invariant-loop-file g l =
