@@ -97,12 +97,15 @@ impl<'a, R: Net> TcpLink<'a, R> {
         ensures address { IfSome result
             (λ connection. IsAddressOf self.old.host self.old.port connection.address) }
     {
-        let reached = self.connect().ok();
+        let reached = self.connect();
         self.dials += 1;
-        if reached.is_none() {
-            self.failures += 1;
+        match reached {
+            Ok(connection) => Some(connection),
+            Err(_) => {
+                self.failures += 1;
+                None
+            }
         }
-        reached
     }
 }
 

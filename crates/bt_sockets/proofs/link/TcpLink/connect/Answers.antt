@@ -1,5 +1,7 @@
-use Rattle.std.proofs.Common.{rules}
+use Rattle.std.proofs.Common.{subst}
+use Rattle.bt_sockets.specs.Link.{Dials}
+use Rattle.bt_sockets.specs.StreamSteps.{IsAddressOf}
 use Rattle.bt_sockets.proofs.link.TcpLink.connect.Goals as goal
 
 pub returns : goal.returns
-returns g c = search rules
+returns g c = subst (λ (d : Dials). IsAddressOf d.host d.port c.in_ok-stream.address) c.self.view_is c.in_ok-stream.ensures
