@@ -1,5 +1,5 @@
 -- The lemmas that close the steps of each function.
-use Rattle.bt_bencode.proofs.Base.{append_assoc, length-append, inl, inr, drop-length, append-nil, drop_more, take_all, behind_the_value}
+use Rattle.bt_bencode.proofs.Base.{length-append, inl, inr, drop-length, drop_more, behind_the_value}
 use Rattle.std.proofs.lemmas.Fmt.{IsAscii-from_digits}
 use Rattle.std.proofs.lemmas.Str.{IsUtf8-from_ascii}
 use Rattle.bt_bencode.proofs.SpellingEnds.{one_digit, digit_more, few_digits, item_next, entry_next, entry_at, entry_fits}
@@ -22,7 +22,7 @@ pub ruleset end_steps = (one_digit, digit_more, few_digits, length-append)
 
 pub ruleset value_end_steps = (data_of-Int, data_of-Bytes, data_of-List, data_of-Dict, length-append, drop-length, item_next, entry_next)
 
-pub ruleset put_value_steps = (data_of-Int, data_of-Bytes, data_of-List, data_of-Dict, take_all, append-nil, append_assoc)
+pub ruleset put_value_steps = (data_of-Int, data_of-Bytes)
 
 pub ruleset list_at_steps = (inl, too_deep_at)
 

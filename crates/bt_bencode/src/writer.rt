@@ -1,5 +1,7 @@
 //! Writing bencoding.
-ghost use Rattle.std.specs.Prelude.{◌≡◌, ◌++◌, IfOk, OnOk};
+ghost use Rattle.std.specs.Prelude.{◌≡◌, ◌++◌, ◌∷◌, [], IfOk, OnOk};
+ghost use Rattle.std.specs.Fmt.{signed_decimal};
+ghost use Rattle.bt_bencode.specs.Letters.{letter_i, letter_e};
 ghost use Rattle.bt_bencode.specs.Value.{data_of};
 ghost use Rattle.bt_bencode.specs.Spelling.{spelling_of, string_spelling};
 
@@ -16,15 +18,12 @@ pub fn write(alloc: Global, value: &Value) -> Result<Vec<u8>, AllocError>
 }
 
 /// Puts the value's spelling behind `out`.
-#[tactic(auto, using(crate::proofs::Steps::put_value_steps), unfolding(crate::specs::Spelling::spelling_of, crate::specs::Spelling::items_spelling, crate::specs::Spelling::entries_spelling))]
+#[tactic(auto, using(crate::proofs::Steps::put_value_steps), unfolding(crate::specs::Spelling::spelling_of))]
 fn put_value(alloc: Global, out: &mut Vec<u8>, value: &Value) -> Result<(), AllocError>
     ensures { OnOk result (out.new.items ≡ out.old.items ++ spelling_of (data_of value.now)) }
 {
     match value {
-        Value::Int(integer) => {
-            let digits = format!(in alloc; "i{integer}e")?;
-            out.extend_from_slice(digits.as_bytes())?;
-        }
+        Value::Int(integer) => put_integer(alloc, out, *integer)?,
         Value::Bytes(bytes) => put_string(alloc, out, bytes)?,
         Value::List(items) => {
             out.push(b'l')?;
@@ -43,6 +42,15 @@ fn put_value(alloc: Global, out: &mut Vec<u8>, value: &Value) -> Result<(), Allo
         }
     }
     Ok(())
+}
+
+/// Puts the integer's spelling behind `out`.
+fn put_integer(alloc: Global, out: &mut Vec<u8>, integer: i64) -> Result<(), AllocError>
+    ensures { OnOk result (out.new.items
+        ≡ out.old.items ++ letter_i ∷ (signed_decimal integer ++ letter_e ∷ [])) }
+{
+    let digits = format!(in alloc; "i{integer}e")?;
+    out.extend_from_slice(digits.as_bytes())
 }
 
 /// Puts the string's spelling behind `out`.
