@@ -6,7 +6,7 @@ use Rattle.bt_bencode.proofs.SpellingEnds.{one_digit, digit_more, few_digits, it
 use Rattle.bt_bencode.proofs.ReadParts.{last_decides, too_deep_at}
 use Rattle.bt_bencode.proofs.ReadingLaws.{none_spells}
 use Rattle.bt_bencode.proofs.ReadRanges.{digits_one_more}
-use Rattle.bt_bencode.proofs.ValueData.{data_of-Int, data_of-Bytes, data_of-List, data_of-Dict}
+use Rattle.bt_bencode.proofs.ValueData.{data_of-Int, data_of-Bytes, data_of-Dict}
 
 pub ruleset text_steps = (IsAscii-from_digits, IsUtf8-from_ascii)
 
@@ -20,7 +20,7 @@ pub ruleset field_text_steps = (data_of-Dict, drop-length, entry_at, entry_fits)
 
 pub ruleset end_steps = (one_digit, digit_more, few_digits, length-append)
 
-pub ruleset value_end_steps = (data_of-Int, data_of-Bytes, data_of-List, data_of-Dict, length-append, drop-length, item_next, entry_next)
+pub ruleset value_end_steps = (data_of-Int, data_of-Bytes, length-append, item_next, entry_next)
 
 pub ruleset put_value_steps = (data_of-Int, data_of-Bytes)
 

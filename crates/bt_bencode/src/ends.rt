@@ -7,7 +7,7 @@ ghost use Rattle.bt_bencode.specs.Spelling.{spelling_of, string_spelling};
 use crate::value::Value;
 
 /// Where the spelling of a value ends that begins at `at`.
-#[tactic(auto, using(crate::proofs::Steps::value_end_steps), unfolding(crate::specs::Spelling::spelling_of, crate::specs::Spelling::items_spelling, crate::specs::Spelling::entries_spelling))]
+#[tactic(auto, using(crate::proofs::Steps::value_end_steps), unfolding(crate::specs::Spelling::spelling_of))]
 pub(crate) fn value_end(at: usize, value: &Value) -> usize
     requires { at + length (spelling_of (data_of value.now)) < 2 ^ 64 }
     ensures { result ≡ at + length (spelling_of (data_of value.now)) }
