@@ -2,6 +2,7 @@ pub mod BlockStates
 pub mod FileStore
 pub mod BlockReads
 pub mod Arrival
+pub mod ArrivalSteps
 pub mod BatchesSteps
 pub mod Review
 pub mod ReviewSteps

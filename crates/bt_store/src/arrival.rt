@@ -1,8 +1,10 @@
 ghost use Rattle.std.specs.Prelude.{◌≡◌, ◌<◌, ◌*◌, ◌≢◌, Some, length, slice_get};
 ghost use Rattle.std.specs.Bool.{OnTrue, OnFalse};
 ghost use Rattle.bt_tree.specs.Limits.{full_block_length};
+ghost use Rattle.bt_tree.specs.Blocks.{block_count};
 ghost use Rattle.bt_disk.specs.Calls.{HasCalls};
 ghost use Rattle.bt_store.specs.Arrival.{IsBlock, IsWrong, IsNotWrong, calls_of_put, states_after_put, PutIsDue};
+ghost use Rattle.bt_store.specs.ArrivalSteps.{IsWritten};
 
 use crate::block_states::BlockState;
 use crate::error::StoreError;
@@ -48,10 +50,22 @@ impl<D: Disk + Drop, H: NodeHash> FileStore<D, H> {
         if is_wrong(self.hash, leaf, bytes) {
             return Ok(Put::Wrong);
         }
+        self.write(block, bytes, leaf.is_some())
+    }
+
+    /// Writes a block, which is marked then where its leaf is known, and else waits.
+    fn write(&mut self, block: u32, bytes: &[u8], is_known: bool) -> Result<Put, StoreError>
+        requires { block < block_count self.old.file_length }
+        ensures written { IsWritten is_known result }
+        ensures calls { HasCalls D.history D.honest D.faults
+            self.old.disk (calls_of_put block bytes.now result) self.new.disk }
+        ensures states { self.new.states ≡ states_after_put block result self.old.states }
+        ensures same_file { self.new.file_length ≡ self.old.file_length }
+    {
         if let Err(_) = self.disk.write_at(offset_of(block), bytes) {
             return Err(StoreError::Device);
         }
-        if leaf.is_some() {
+        if is_known {
             self.states.set(block, BlockState::Marked);
             return Ok(Put::Marked);
         }
