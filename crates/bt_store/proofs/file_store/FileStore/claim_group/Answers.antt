@@ -1,4 +1,4 @@
-use Rattle.std.proofs.Common.{◌≡◌, ◌≢◌, ◌+◌, ◌≤◌, Bool, sym, ap, ◌∙◌, subst, arith}
+use Rattle.std.proofs.Common.{◌≡◌, ◌≢◌, ◌+◌, ◌≤◌, Bool, sym, ap, ◌∙◌, subst, arith, refl}
 use Rattle.std.specs.Bool.{OnTrue, OnFalse}
 use Rattle.bt_sparse.specs.Acceptance.{Accepts, IsRefused}
 use Rattle.bt_sparse.specs.declared.claim.ProofError.{ProofError}
@@ -49,3 +49,6 @@ returns-clause-ok g c = λ from reads group are.
     (sym marks)
     (adopts_accepted dig a.self.now.file_length k from a.anchor a.group.first a.group.count a.self.now.states reads a.reads a.leaves.items
     (sym c.requires.geometry) group are grown none some accepts)
+
+pub returns-clause-faults : goal.returns-clause-faults
+returns-clause-faults g c = refl
