@@ -1,4 +1,5 @@
 use Rattle.std.proofs.Common.{arith}
+use Rattle.std.proofs.lemmas.List.{take_all}
 use Rattle.bt_engine.proofs.EventRuns.{one_more_ran}
 use Rattle.bt_engine.proofs.run.run_events.Goals as goal
 
@@ -14,3 +15,9 @@ loop-event-preserved g c =
           lt c.event-item.is items so_far.0 c.run_event.ensures,
       omega (arith, so_far.1, len, c.push.ensures.capacity),
     )
+
+pub returns-clause-runs : goal.returns-clause-runs
+returns-clause-runs g c =
+    let all = take_all c.loop-event.event-index c.args.events.now c.loop-event-test.false in
+    let ran = rw all at c.loop-event.invariant.0 in
+    rw c.reserve.ensures.items at ran
