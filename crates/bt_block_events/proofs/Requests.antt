@@ -1,5 +1,5 @@
 -- A request for a range of a piece, in the parts of an engine.
-use Rattle.bt_machine.proofs.Base.{[], ◌≡◌, ◌≢◌, ℕ, ◌+◌, ◌-◌, ◌^◌, min, Bool, true, false, List, ◌∷◌, ◌++◌, map, Some, refl, sym, ap, ◌∙◌, subst, slice_get, slice_set, option_and_then, Contains, Contains-append_right, Span, Facts, BlockRead, given, failed, call_of, IsRight, BlockState, Missing, Marked, History, Ask, Piece, PeerKey}
+use Rattle.bt_machine.proofs.Base.{[], ◌≡◌, ◌≢◌, ℕ, ◌+◌, ◌-◌, ◌^◌, min, Bool, true, false, List, ◌∷◌, ◌++◌, map, Some, refl, sym, ap, ◌∙◌, subst, slice_get, slice_set, option_and_then, option_map_or, Option, None, Contains, Contains-append_right, Span, Facts, BlockRead, given, failed, call_of, IsRight, BlockState, Missing, Marked, History, Ask, Piece, PeerKey}
 use Rattle.std.specs.Global.{Vec}
 use Rattle.std.specs.Vec.{with_item}
 use Rattle.std.specs.Bool.{OnFalse}
@@ -14,9 +14,10 @@ use Rattle.bt_machine.specs.Devices.{DeviceCalls, calls_at, reads_at}
 use Rattle.bt_machine.specs.Output.{noting, sending}
 use Rattle.bt_machine.specs.Request.{AreMarked, HandlesRequest, FindsFault, served, stopped, damaged as machine_damaged, fault as machine_fault}
 use Rattle.bt_machine.specs.Spans.{first_block, last_block, spanned_blocks}
-use Rattle.bt_state.specs.Parts.{state_of, peer_of}
+use Rattle.bt_state.specs.Parts.{state_of, peer_of, file_of}
 use Rattle.bt_state.specs.Ties.{IsTied}
 use Rattle.bt_state.specs.declared.peer.Peer.{Peer}
+use Rattle.bt_state.specs.declared.slot.Slot.{Slot}
 use Rattle.bt_state.specs.declared.parts.Parts.{Parts}
 use Rattle.bt_state.proofs.Lists.{get_mapped}
 use Rattle.bt_state.proofs.SlotChanges.{file_here}
@@ -50,6 +51,17 @@ module _ {D H : Type 0} (parts : Parts D H) (span : Span) (short : IsShortSpan s
       → OnFalse yes (¬ AreMarked (state_of parts) span)
   unmarked_last is not_it =
       unmarked_by (state_of parts) span i (subst (λ i. Contains (spanned_blocks span) i) (sym is) (spans_last short)) yes not_it
+
+-- the state of a block is that in the store of its slot, if there is one
+module _ {D H : Type 0} (parts : Parts D H) (file block : ℕ) {slot : Slot D H} (here : slice_get parts.slots.items file ≡ Some slot) where
+  in_slot : state_at (state_of parts) (block_id file block) ≡ slice_get (file_of slot).states block
+  in_slot = ap (option_and_then (λ (f : FileState). slice_get f.states block)) (get_mapped file_of parts.slots.items file here)
+
+  pub state_in_store : {store : StoreView D} → slot.store ≡ Some store → state_at (state_of parts) (block_id file block) ≡ slice_get store.states block
+  state_in_store has = in_slot ∙ ap (λ (s : Option (StoreView D)). slice_get (option_map_or (λ (store : StoreView D). store.states) s []) block) has
+
+  pub no_state_in_store : slot.store ≡ None → state_at (state_of parts) (block_id file block) ≡ None
+  no_state_in_store none = in_slot ∙ ap (λ (s : Option (StoreView D)). slice_get (option_map_or (λ (store : StoreView D). store.states) s []) block) none
 
 -- the blocks can be read
 pub can_read : {D H : Type 0} (parts : Parts D H) (span : Span) → IsTied parts → IsShortSpan span → AreMarked (state_of parts) span
