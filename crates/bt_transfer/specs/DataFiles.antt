@@ -22,8 +22,13 @@ DeviceView = AheadView PooledView
 -- that of a file that is read and written, which was not synced, and no call of which failed yet
 abbrev pub new_device : ℕ → List ℕ → DeviceView
 new_device number path =
-    let file = record { number = number; path = path; access = writing; is_synced = false; failed = 0 } in
-    record { inner = file; failed = 0 }
+    let file : PooledView = record {
+      number = number;
+      path = path;
+      access = writing;
+      is_synced = false;
+      failed = 0;
+    } in record { inner = file; failed = 0 }
 
 -- One for each file that has a byte, as one pool gives them: their numbers are 1, 2 and so on.
 abbrev pub new_devices : List ℕ → List File → List DeviceView
