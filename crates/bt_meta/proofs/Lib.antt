@@ -25,7 +25,8 @@ pub mod EncodeValue
 -- what is made: a canonical value, in which no check finds a fault, and which gives the files back
 pub mod MadeTree
 pub mod MadeText
--- the law by which it is read back
+-- the laws by which it is read back, and is made from files
 pub mod LawReadBack
+pub mod LawMadeFrom
 -- what closes the steps of each function
 pub mod Steps

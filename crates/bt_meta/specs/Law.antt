@@ -1,10 +1,13 @@
--- Laws of torrents (BEP 52): what is read of bytes that spell one, layers of files, and blocks of pieces.
-use Rattle.std.specs.Prelude.{◌≡◌, ◌≢◌, ℕ, ◌-◌, ◌*◌, ◌^◌, ◌<◌, ◌↔◌, List, []}
+-- Laws of torrents (BEP 52): what is read of bytes that spell one, the files that one is made from, layers of
+-- files, and blocks of pieces.
+use Rattle.std.specs.Prelude.{◌≡◌, ◌≢◌, ℕ, ◌-◌, ◌*◌, ◌^◌, ◌<◌, ◌⊎◌, ◌↔◌, List, [], Some, slice_get}
+use Rattle.std.specs.List.{AllZip}
 use Rattle.sha2.specs.Sha256.{sha256}
 use Rattle.bt_tree.specs.Limits.{full_block_length}
 use Rattle.bt_tree.specs.Blocks.{block_count, block_length}
 use Rattle.bt_tree.specs.TreeShape.{IsPieceLength}
 use Rattle.bt_tree.specs.Layers.{IsLayer}
+use Rattle.bt_tree.specs.Clash.{IsClash}
 use Rattle.bt_meta.specs.Faults.{first_fault}
 use Rattle.bt_meta.specs.Files.{File}
 use Rattle.bt_meta.specs.Torrent.{Metainfo, IsTorrent, IsLawfulFile, IsLaidOut, total_pieces}
@@ -14,6 +17,9 @@ use Rattle.bt_meta.specs.declared.torrent.Span.{Span}
 use Rattle.bt_meta.specs.declared.piece_blocks.BlockRun.{BlockRun}
 use Rattle.bt_meta.specs.declared.piece_blocks.PieceRange.{PieceRange}
 use Rattle.bt_meta.specs.Reader.{IsRefused}
+use Rattle.bt_meta.specs.GivenFiles.{Given}
+use Rattle.bt_meta.specs.Writer.{IsMade}
+use Rattle.bt_meta.specs.MadeFrom.{Describe, IsMadeFrom, NamedFile, IsGivenOf, IsMadeFromNamed}
 use Rattle.bt_meta.specs.declared.error.MetaError.{MetaError}
 use Rattle.bt_meta.specs.declared.error.MetaError.TheVariants.{OutOfMemory}
 
@@ -30,6 +36,24 @@ abbrev pub IsRefusedForMemoryAlone : Type 0
 IsRefusedForMemoryAlone = (bytes : List ℕ) (torrent : Metainfo) (e : MetaError)
     → IsTorrent bytes torrent → IsRefused first_fault bytes e
     → e ≡ OutOfMemory
+
+-- ---- the files that a torrent is made from
+
+-- the torrent that `make` spells is made from the files that it was given
+abbrev pub IsMadeFromGivenFiles : Type 0
+IsMadeFromGivenFiles = (name : List ℕ) (piece_length : ℕ) (given : List Given) (files : List NamedFile)
+    (bytes : List ℕ) (torrent : Metainfo)
+    → AllZip IsGivenOf files given → IsMade name piece_length given bytes → IsTorrent bytes torrent
+    → IsMadeFromNamed torrent files
+
+-- Bytes that the length and the root of the torrent's file j describe are file j of those that it is made
+-- from, or at one node of the two trees two different inputs have one digest.
+abbrev pub DescribesNoOther : Type 0
+DescribesNoOther = (torrent : Metainfo) (files : List (List ℕ)) (j : ℕ) (entry : File) (bytes : List ℕ)
+    → IsMadeFrom torrent files → slice_get torrent.files j ≡ Some entry
+    → Describe entry.length entry.root bytes
+    → (file : List ℕ) × (slice_get files j ≡ Some file)
+    × ((bytes ≡ file) ⊎ ((layer : ℕ) × (index : ℕ) × IsClash sha256 bytes file layer index))
 
 -- ---- the layer of a file
 

@@ -12,12 +12,14 @@ pub mod Torrent
 pub mod Place
 pub mod PieceBlocks
 pub mod Reader
-pub mod Law
 -- a torrent that is made
 pub mod GivenFiles
 pub mod WriterRefusals
 pub mod Encode
 pub mod Writer
+pub mod MadeFrom
+-- the laws of both
+pub mod Law
 -- what private steps cite
 pub mod ReaderSteps
 pub mod PropertySteps

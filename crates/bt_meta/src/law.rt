@@ -1,4 +1,6 @@
-ghost use Rattle.bt_meta.specs.Law.{SpellsOneTorrent, IsRefusedForMemoryAlone, IsTreeLayer, LiesInItsPiece, BeginsBehindBlocks, RunHasBlocks, RangeHasPiece, RangeIsPlace, PlaceIsRange};
+ghost use Rattle.bt_meta.specs.Law.{SpellsOneTorrent, IsRefusedForMemoryAlone, IsMadeFromGivenFiles, DescribesNoOther, IsTreeLayer, LiesInItsPiece, BeginsBehindBlocks, RunHasBlocks, RangeHasPiece, RangeIsPlace, PlaceIsRange};
+
+use bt_tree::{Plain, roots_tell_files};
 
 /// The law by which a torrent that was made is read back: no bytes spell two torrents, and bytes that spell
 /// one are refused with `OutOfMemory` alone. It does nothing when it runs.
@@ -6,6 +8,22 @@ pub fn torrents_are_read_back()
     ensures one_torrent { SpellsOneTorrent }
     ensures refused_for_memory { IsRefusedForMemoryAlone }
 {}
+
+/// The law by which `make` makes torrents of files: where what it is given of each file is the file's path,
+/// its length and, unless it is empty, its root, the torrent that its text spells is made from these files.
+/// It does nothing when it runs.
+pub fn torrents_are_made_from_files()
+    ensures { IsMadeFromGivenFiles }
+{}
+
+/// The law by which a torrent tells the files that it is made from: bytes that have the length and the root
+/// of one of them are that file, or at one node of their trees two different inputs have one digest. It does
+/// nothing when it runs.
+pub fn torrents_tell_files()
+    ensures { DescribesNoOther }
+{
+    roots_tell_files(Plain);
+}
 
 /// The law by which a file's layer serves as a layer of its tree: the layer that a lawful file has is the one
 /// whose nodes have the blocks of a piece, below the file's root. It does nothing when it runs.

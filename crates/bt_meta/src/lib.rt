@@ -17,7 +17,8 @@ mod writer;
 pub use error::MetaError;
 pub use file_path::{FilePath, MAX_PATH_LENGTH};
 pub use law::{
-    block_ranges_are_places, blocks_and_ranges_agree, layers_are_of_trees, torrents_are_read_back,
+    block_ranges_are_places, blocks_and_ranges_agree, layers_are_of_trees,
+    torrents_are_made_from_files, torrents_are_read_back, torrents_tell_files,
 };
 pub use piece_blocks::{BlockRun, PieceRange};
 pub use properties::MAX_FILE_LENGTH;
