@@ -1,5 +1,6 @@
 -- What a user is told of a call that failed.
 use Rattle.std.specs.Prelude.{ℕ, List, ◌++◌, codes}
+use Rattle.bt_progress.specs.Escape.{escaped_text}
 use Rattle.bt_progress.specs.declared.file_call.FileCall.{FileCall}
 use Rattle.bt_progress.specs.declared.file_call.FileCall.TheVariants.{Look, List as list, Open, Create, Length, Read, Write, Resize, Sync, Rename}
 
@@ -18,4 +19,5 @@ call_text Rename = codes "rename"
 
 -- the line on a call that failed, of what has this name
 abbrev pub fault_text : FileCall → List ℕ → List ℕ
-fault_text call name = codes "btseed: " ++ name ++ codes ": " ++ call_text call ++ codes " failed\n"
+fault_text call name =
+    codes "btseed: " ++ escaped_text name ++ codes ": " ++ call_text call ++ codes " failed\n"

@@ -1,4 +1,6 @@
+pub mod Escape
 pub mod FileCall
+pub mod Hint
 pub mod Meter
 pub mod Line
 pub mod Due

@@ -1,6 +1,7 @@
 //! What a program tells beside its results, on standard error.
 
 use crate::file_call::{FileCall, fault_line};
+use crate::hint::hint_line;
 use crate::screen::Screen;
 use crate::watch::Watch;
 use std::alloc::Global;
@@ -62,7 +63,7 @@ impl<'a, C: Clock, W: Write> Watch for Console<'a, C, W> {
 
     fn hint(&self, text: &str) {
         if self.is_terminal {
-            if let Ok(line) = format!(in self.alloc; "btseed: {text}\n") {
+            if let Ok(line) = hint_line(self.alloc, text) {
                 self.say(line.as_str());
             }
         }

@@ -2,6 +2,7 @@
 ghost use Rattle.std.specs.Prelude.{◌≡◌, IfOk, string_bytes};
 ghost use Rattle.bt_progress.specs.FileCall.{call_text, fault_text};
 
+use crate::escape::escaped;
 use std::alloc::{AllocError, Global};
 
 /// A call on a file or a folder.
@@ -41,10 +42,11 @@ fn call_text(call: FileCall) -> &'static str
     }
 }
 
-/// The line that tells of a call that failed, of what has this name.
+/// The line that tells of a call that failed, of what has this name, which is escaped.
 pub fn fault_line(alloc: Global, call: FileCall, name: &str) -> Result<String, AllocError>
     ensures { IfOk result (λ line. string_bytes line ≡ fault_text call name.now) }
 {
+    let name = escaped(alloc, name)?;
     let call = call_text(call);
     format!(in alloc; "btseed: {name}: {call} failed\n")
 }

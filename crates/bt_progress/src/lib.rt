@@ -5,7 +5,9 @@
 #![tactic(auto)]
 
 mod console;
+mod escape;
 mod file_call;
+mod hint;
 mod line;
 mod meter;
 mod screen;
@@ -13,7 +15,9 @@ mod watch;
 mod watched;
 
 pub use console::Console;
+pub use escape::escaped;
 pub use file_call::{FileCall, fault_line};
+pub use hint::hint_line;
 pub use line::progress_line;
 pub use meter::Meter;
 pub use screen::is_due;

@@ -10,13 +10,13 @@ pub trait Watch {
 
     fn set_verbose(&self, verbose: bool);
 
-    /// Tells that a call failed, of what has this name, which has no control characters.
+    /// Tells that a call failed, of what has this name.
     fn tell_fault(&self, call: FileCall, name: &str);
 
     /// Whether somebody may look on at a terminal.
     fn is_terminal(&self) -> bool;
 
-    /// Gives a hint in a line of its own, where somebody may look on. It has no control characters.
+    /// Gives a hint in a line of its own, where somebody may look on.
     fn hint(&self, text: &str);
 
     /// Work begins whose bytes are those that go through such calls.

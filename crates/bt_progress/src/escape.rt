@@ -1,0 +1,54 @@
+//! Text that may come from a stranger, as it is told on standard error.
+ghost use Rattle.std.specs.Prelude.{◌≡◌, ◌++◌, IfOk, OnOk, string_bytes};
+ghost use Rattle.bt_progress.specs.Escape.{escaped_char, escaped_text, is_direction, is_escaped, is_separator};
+
+use std::alloc::{AllocError, Global};
+use std::fmt::Write;
+
+/// A text as it is told: a control character, a separator of lines and a character that sets the direction of
+/// text by its number, as `\u{202e}`, and all others as they are.
+pub fn escaped(alloc: Global, text: &str) -> Result<String, AllocError>
+    ensures { IfOk result (λ told. string_bytes told ≡ escaped_text text.now) }
+{
+    let mut told = String::new(alloc);
+    for letter in text.chars() {
+        push_escaped(&mut told, letter)?;
+    }
+    Ok(told)
+}
+
+/// Adds a character as it is told.
+#[tactic(auto, unfolding(crate::specs::Escape::escaped_char))]
+fn push_escaped(told: &mut String, letter: char) -> Result<(), AllocError>
+    ensures { OnOk result (string_bytes told.new ≡ string_bytes told.old ++ escaped_char letter) }
+{
+    if is_escaped(letter) {
+        write!(told, "\\u{{{:x}}}", letter as u32)
+    } else {
+        told.push(letter)
+    }
+}
+
+/// Whether a character is told by its number.
+fn is_escaped(letter: char) -> bool
+    ensures { result ≡ is_escaped letter }
+{
+    letter.is_control() || is_separator(letter) || is_direction(letter)
+}
+
+/// Whether a character ends a line or a paragraph.
+fn is_separator(letter: char) -> bool
+    ensures { result ≡ is_separator letter }
+{
+    matches!(letter, '\u{2028}'..='\u{2029}')
+}
+
+/// Whether a character sets the direction in which text is read.
+fn is_direction(letter: char) -> bool
+    ensures { result ≡ is_direction letter }
+{
+    matches!(
+        letter,
+        '\u{61c}' | '\u{200e}'..='\u{200f}' | '\u{202a}'..='\u{202e}' | '\u{2066}'..='\u{2069}'
+    )
+}
