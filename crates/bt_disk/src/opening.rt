@@ -7,7 +7,7 @@ use std::os::unix::fs::MetadataExt;
 
 /// By what the system tells files apart: the number of the device that a file lies on, and that of its inode
 /// there. Two paths with one identity are one file.
-#[derive(Clone, Copy, Debug, PartialEq, Eq, PartialOrd, Ord)]
+#[derive(Clone, Copy, Debug, PartialEq, Eq)]
 pub struct FileIdentity {
     pub device: u64,
     pub inode: u64,
