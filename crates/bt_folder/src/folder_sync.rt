@@ -1,5 +1,5 @@
 //! Folders that are made, and kept with what was made in them.
-ghost use Rattle.std.specs.Prelude.{◌≡◌, ◌↔◌, ◌⊎◌, IsTrue};
+ghost use Rattle.std.specs.Prelude.{◌≡◌, ◌<◌, ◌↔◌, ◌⊎◌, IsTrue, length};
 
 use bt_disk::DeviceFault;
 use std::fs::{Files, OpenFile, OpenOptions};
@@ -44,17 +44,31 @@ pub fn make_folders<R: Files>(rt: &R, folder: &str) -> Result<(), DeviceFault> {
     if folder.is_empty() || is_folder(rt, folder) {
         return Ok(());
     }
-    for end in 1..folder.len() {
-        make_prefix(rt, folder, end)?;
+    for end in present_len(rt, folder) + 1..folder.len() {
+        if let Some(above) = before_slash(folder, end) {
+            make_folder(rt, above)?;
+        }
     }
     make_folder(rt, folder)
 }
 
-/// Makes the folder that a path names before a slash at a byte, if there is one.
-fn make_prefix<R: Files>(rt: &R, path: &str, end: usize) -> Result<(), DeviceFault> {
+/// How long the longest part of a path before a slash is that is a folder; none is 0.
+fn present_len<R: Files>(rt: &R, path: &str) -> usize
+    ensures { result < length path.now ⊎ (result ≡ 0) }
+{
+    for end in (1..path.len()).rev() {
+        if before_slash(path, end).is_some_and(|above| is_folder(rt, above)) {
+            return end;
+        }
+    }
+    0
+}
+
+/// The part of a path before a byte, which is a slash.
+fn before_slash(path: &str, end: usize) -> Option<&str> {
     match path.split_at_checked(end) {
-        Some((folder, rest)) if rest.starts_with('/') => make_folder(rt, folder),
-        _ => Ok(()),
+        Some((above, rest)) if rest.starts_with('/') => Some(above),
+        _ => None,
     }
 }
 
