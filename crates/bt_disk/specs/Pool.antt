@@ -18,10 +18,11 @@ new_pool = record { made = 0 }
 
 -- A device that a pool made: its number, by which the pool knows its handle, the bytes of its file's path,
 -- whether that file may be written, whether it was synced and since then neither written nor given a new
--- length, and how many of its calls failed.
+-- length, whether it was ever written or given one, and how many of its calls failed.
 pub record PooledView : Type 0 where
   pub number : ℕ
   pub path : List ℕ
   pub access : Access
   pub is_synced : Bool
+  pub is_written : Bool
   pub failed : ℕ

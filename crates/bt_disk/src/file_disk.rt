@@ -3,7 +3,10 @@ ghost use Rattle.std.specs.Prelude.{◌≡◌, ◌≢◌, IfOk};
 ghost use Rattle.bt_disk.specs.FileDisk.{writing};
 
 use crate::disk::{DeviceFault, Disk, counted_fault};
-use crate::handle::{Handle, file_len, open_to_read, open_to_write, read_handle, write_file};
+use crate::handle::{
+    Handle, Opened, file_len, open_to_read, open_to_write, read_handle, write_file,
+};
+use crate::opening::Opening;
 use std::fs::{Files, OpenFile};
 use std::io::{Read, Seek, Write};
 use std::marker::Model;
@@ -18,6 +21,7 @@ use std::marker::Model;
 #[derive(Drop)]
 pub struct FileDisk<F: Read + Write + Seek + OpenFile + Drop> {
     handle: Handle<F>,
+    opening: Opening,
     failed: u64,
 }
 
@@ -39,11 +43,15 @@ impl<F: Read + Write + Seek + OpenFile + Drop> FileDisk<F> {
         ensures failed { IfOk result (λ disk. disk.failed ≡ 0) }
         ensures access { IfOk result (λ disk. disk.access ≢ writing) }
     {
-        let handle = match open_to_read(rt, path)? {
-            Some(file) => Handle::Reading(file),
-            None => Handle::Absent,
+        let (handle, opening) = match open_to_read(rt, path)? {
+            Some(opened) => (Handle::Reading(opened.file), opened.opening),
+            None => (Handle::Absent, Opening::absent()),
         };
-        Ok(FileDisk { handle, failed: 0 })
+        Ok(FileDisk {
+            handle,
+            opening,
+            failed: 0,
+        })
     }
 
     /// A file that is read and written. An absent one is made, with no bytes; one that is there keeps its
@@ -53,11 +61,17 @@ impl<F: Read + Write + Seek + OpenFile + Drop> FileDisk<F> {
     pub fn writing<R: Files<File = F>>(rt: &R, path: &str) -> Result<Self, DeviceFault>
         ensures { IfOk result (λ disk. disk ≡ record { access = writing; failed = 0 }) }
     {
-        let file = open_to_write(rt, path)?;
+        let Opened { file, opening } = open_to_write(rt, path)?;
         Ok(FileDisk {
             handle: Handle::Writing(file),
+            opening,
             failed: 0,
         })
+    }
+
+    /// What the system told of the file when it was opened.
+    pub fn opening(&self) -> Opening {
+        self.opening
     }
 }
 

@@ -5,6 +5,7 @@ ghost use Rattle.bt_disk.specs.FileDisk.{absent, access_of};
 ghost use Rattle.bt_disk.specs.Handle.{EndsBy, IsReadAt, IsReadOfFile, IsWrittenAt};
 
 use crate::disk::DeviceFault;
+use crate::opening::Opening;
 use std::fs::{Files, OpenFile, OpenOptions};
 use std::io::{self, ErrorKind, Read, Seek, SeekFrom, Write};
 
@@ -16,39 +17,47 @@ pub(crate) enum Handle<F> {
     Writing(F),
 }
 
+/// A regular file that was opened, and what the system told of it then.
+#[derive(Drop)]
+pub(crate) struct Opened<F> {
+    pub file: F,
+    pub opening: Opening,
+}
+
 /// Opens a file to read it: none, where there is no file.
-pub(crate) fn open_to_read<R: Files>(rt: &R, path: &str) -> Result<Option<R::File>, DeviceFault> {
-    if !is_present(rt, path)? {
-        return Ok(None);
-    }
-    match OpenOptions::new().read(true).open(rt, path) {
-        Ok(file) => Ok(Some(regular(file)?)),
-        Err(error) if is_absence(error.kind()) => Ok(None),
-        Err(_) => Err(DeviceFault),
-    }
+pub(crate) fn open_to_read<R: Files>(
+    rt: &R,
+    path: &str,
+) -> Result<Option<Opened<R::File>>, DeviceFault> {
+    open_present(rt, path, false)
 }
 
 /// Opens a file to read and write it, and makes one with no bytes where there is none.
-pub(crate) fn open_to_write<R: Files>(rt: &R, path: &str) -> Result<R::File, DeviceFault> {
-    is_present(rt, path)?;
+pub(crate) fn open_to_write<R: Files>(rt: &R, path: &str) -> Result<Opened<R::File>, DeviceFault> {
+    let is_present = is_present(rt, path)?;
     match OpenOptions::new()
         .read(true)
         .write(true)
         .create(true)
         .open(rt, path)
     {
-        Ok(file) => regular(file),
+        Ok(file) => regular(file, !is_present),
         Err(_) => Err(DeviceFault),
     }
 }
 
-/// Opens a file that was opened before, and so has to be there, to read it, or to read and write it.
-pub(crate) fn reopen<R: Files>(rt: &R, path: &str, to_write: bool) -> Result<R::File, DeviceFault> {
+/// Opens a file that is there, to read it, or to read and write it: none, where there is no file.
+pub(crate) fn open_present<R: Files>(
+    rt: &R,
+    path: &str,
+    to_write: bool,
+) -> Result<Option<Opened<R::File>>, DeviceFault> {
     if !is_present(rt, path)? {
-        return Err(DeviceFault);
+        return Ok(None);
     }
     match OpenOptions::new().read(true).write(to_write).open(rt, path) {
-        Ok(file) => regular(file),
+        Ok(file) => Ok(Some(regular(file, false)?)),
+        Err(error) if is_absence(error.kind()) => Ok(None),
         Err(_) => Err(DeviceFault),
     }
 }
@@ -75,10 +84,13 @@ pub fn is_absence(kind: ErrorKind) -> bool
     )
 }
 
-/// An open file, if it is a regular one.
-fn regular<F: OpenFile + Drop>(file: F) -> Result<F, DeviceFault> {
+/// An open file, if it is a regular one, with what the system tells of it.
+fn regular<F: OpenFile + Drop>(file: F, was_made: bool) -> Result<Opened<F>, DeviceFault> {
     match file.metadata() {
-        Ok(metadata) if metadata.is_file() => Ok(file),
+        Ok(metadata) if metadata.is_file() => {
+            let opening = Opening::of_open(&metadata, was_made);
+            Ok(Opened { file, opening })
+        }
         _ => Err(DeviceFault),
     }
 }

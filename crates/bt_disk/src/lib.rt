@@ -10,6 +10,7 @@ mod loss;
 mod medium;
 mod memory_disk;
 mod open_handles;
+mod opening;
 mod pool;
 
 pub use disk::{DeviceFault, Disk};
@@ -22,4 +23,5 @@ pub use law::{
 };
 pub use loss::Loss;
 pub use memory_disk::MemoryDisk;
+pub use opening::{FileIdentity, Opening};
 pub use pool::{HandlePool, PooledDisk};

@@ -1,12 +1,15 @@
 //! Files of the system that share a few open handles.
-ghost use Rattle.std.specs.Prelude.{◌≡◌, ◌≢◌, ◌+◌, ◌<◌, ◌≤◌, IfOk, IfErr, OnOk, false, length, take, string_bytes};
+ghost use Rattle.std.specs.Prelude.{◌≡◌, ◌≢◌, ◌+◌, ◌<◌, ◌≤◌, IfOk, IfErr, OnOk, true, false, length, take, string_bytes};
 ghost use Rattle.bt_disk.specs.FileDisk.{writing};
 ghost use Rattle.bt_disk.specs.Handle.{IsReadOfFile, IsWrittenToFile};
 ghost use Rattle.bt_disk.specs.Pool.{access_of_use, new_pool};
 
 use crate::disk::{DeviceFault, Disk, counted_fault};
-use crate::handle::{file_len, open_to_read, open_to_write, read_file, reopen, write_file};
+use crate::handle::{
+    Opened, file_len, open_present, open_to_read, open_to_write, read_file, write_file,
+};
 use crate::open_handles::OpenHandles;
+use crate::opening::Opening;
 use std::alloc::{AllocError, Global};
 use std::cell::RefCell;
 use std::fs::{Files, OpenFile};
@@ -62,16 +65,17 @@ impl<R: Files + Drop> HandlePool<R> {
         ensures failed { IfOk result (λ disk. disk.failed ≡ 0) }
         ensures access { IfOk result (λ disk. disk.access ≢ writing) }
         ensures is_synced { IfOk result (λ disk. disk.is_synced ≡ false) }
+        ensures is_written { IfOk result (λ disk. disk.is_written ≡ false) }
         ensures number { IfOk result (λ disk. disk.number ≡ self.new.made) }
         ensures path { IfOk result (λ disk. disk.path ≡ string_bytes path) }
         ensures one_more { IfOk result (λ _. self.new.made ≡ self.old.made + 1) }
         ensures no_more { IfErr result (λ _. self.new ≡ self.old) }
     {
         make_room(&self.shared);
-        let Some(file) = open_to_read(&self.shared.rt, path.as_str())? else {
-            return self.device(path, Use::Absent);
+        let Some(Opened { file, opening }) = open_to_read(&self.shared.rt, path.as_str())? else {
+            return self.device(path, Use::Absent, Opening::absent());
         };
-        let disk = self.device(path, Use::Reading)?;
+        let disk = self.device(path, Use::Reading, opening)?;
         put_back(&disk.shared, disk.number, file);
         Ok(disk)
     }
@@ -83,25 +87,32 @@ impl<R: Files + Drop> HandlePool<R> {
         ensures failed { IfOk result (λ disk. disk.failed ≡ 0) }
         ensures access { IfOk result (λ disk. disk.access ≡ writing) }
         ensures is_synced { IfOk result (λ disk. disk.is_synced ≡ false) }
+        ensures is_written { IfOk result (λ disk. disk.is_written ≡ false) }
         ensures number { IfOk result (λ disk. disk.number ≡ self.new.made) }
         ensures path { IfOk result (λ disk. disk.path ≡ string_bytes path) }
         ensures one_more { IfOk result (λ _. self.new.made ≡ self.old.made + 1) }
         ensures no_more { IfErr result (λ _. self.new ≡ self.old) }
     {
         make_room(&self.shared);
-        let file = open_to_write(&self.shared.rt, path.as_str())?;
-        let disk = self.device(path, Use::Writing)?;
+        let Opened { file, opening } = open_to_write(&self.shared.rt, path.as_str())?;
+        let disk = self.device(path, Use::Writing, opening)?;
         put_back(&disk.shared, disk.number, file);
         Ok(disk)
     }
 
     /// The next device, with a number that no other of this pool has.
-    fn device(&mut self, path: String, usage: Use) -> Result<PooledDisk<R>, DeviceFault>
+    fn device(
+        &mut self,
+        path: String,
+        usage: Use,
+        opening: Opening,
+    ) -> Result<PooledDisk<R>, DeviceFault>
         ensures device { IfOk result (λ disk. disk ≡ record {
           number = self.new.made;
           path = string_bytes path;
           access = access_of_use usage;
           is_synced = false;
+          is_written = false;
           failed = 0;
         }) }
         ensures one_more { IfOk result (λ _. self.new.made ≡ self.old.made + 1) }
@@ -119,7 +130,9 @@ impl<R: Files + Drop> HandlePool<R> {
             number,
             path,
             usage,
+            opening,
             is_synced: false,
+            is_written: false,
             failed: 0,
         })
     }
@@ -136,16 +149,20 @@ enum Use {
 /// A device that is a file of the system, whose handle is shared with the other devices of its pool.
 ///
 /// It is as [`FileDisk`](crate::FileDisk) is, but a call may have to open the file, which then has to be
-/// there, or the call fails. A sync behind another, with no write and no new length between them, makes no call
-/// of the system: of many files few are written.
+/// there, or the call fails. A sync makes no call of the system where there is nothing to sync: of a file that is
+/// only read, and behind another sync, with no write and no new length between them. Of many files few are
+/// written. A file that is gone is no fault to a sync where it was never written.
 #[derive(Drop)]
 pub struct PooledDisk<R: Files + Drop> {
     shared: Rc<Shared<R>>,
     number: u64,
     path: String,
     usage: Use,
+    opening: Opening,
     /// After a sync, until a write or a new length: there is nothing to sync then.
     is_synced: bool,
+    /// From the first write or new length on.
+    is_written: bool,
     failed: u64,
 }
 
@@ -160,22 +177,41 @@ impl<R: Files + Drop> Model for PooledDisk<R> {
       path = string_bytes d.path;
       access = access_of_use d.usage;
       is_synced = d.is_synced;
+      is_written = d.is_written;
       failed = d.failed;
     } };
 }
 
 impl<R: Files + Drop> PooledDisk<R> {
-    /// The open file: the pool's handle, or a new one.
-    fn file(&self) -> Result<R::File, DeviceFault> {
+    /// What the system told of the file when it was opened first.
+    pub fn opening(&self) -> Opening {
+        self.opening
+    }
+
+    /// Counts as synced from here on, until a write or a new length: what the file has is as the one who opened
+    /// it found it, and is none of what is to be kept.
+    pub fn assume_synced(mut self) -> Self
+        ensures { result ≡ record self { is_synced = true } }
+    {
+        // No call is made: there is nothing of ours to sync.
+        self.is_synced = true;
+        self
+    }
+
+    /// The open file: the pool's handle, or a new one. None, where the file is gone.
+    fn found_file(&self) -> Result<Option<R::File>, DeviceFault> {
         if let Some(file) = take(&self.shared, self.number) {
-            return Ok(file);
+            return Ok(Some(file));
         }
         make_room(&self.shared);
-        reopen(
-            &self.shared.rt,
-            self.path.as_str(),
-            self.usage == Use::Writing,
-        )
+        let to_write = self.usage == Use::Writing;
+        let found = open_present(&self.shared.rt, self.path.as_str(), to_write)?;
+        Ok(found.map(|opened| opened.file))
+    }
+
+    /// The open file, which has to be there.
+    fn file(&self) -> Result<R::File, DeviceFault> {
+        self.found_file()?.ok_or(DeviceFault)
     }
 
     fn file_len(&self) -> Result<u64, DeviceFault> {
@@ -217,8 +253,15 @@ impl<R: Files + Drop> PooledDisk<R> {
         }
     }
 
+    /// Has the file synced. One that is gone has nothing to sync where it was never written.
     fn sync_file(&self) -> Result<(), DeviceFault> {
-        let file = self.file()?;
+        let Some(file) = self.found_file()? else {
+            return if self.is_written {
+                Err(DeviceFault)
+            } else {
+                Ok(())
+            };
+        };
         let answer = file.sync_all();
         put_back(&self.shared, self.number, file);
         if answer.is_ok() {
@@ -251,6 +294,7 @@ impl<R: Files + Drop> Disk for PooledDisk<R> {
         ensures path { self.new.path ≡ self.old.path }
         ensures access { self.new.access ≡ self.old.access }
         ensures is_synced { self.new.is_synced ≡ self.old.is_synced }
+        ensures is_written { self.new.is_written ≡ self.old.is_written }
         ensures counted { self.new.failed ≡ count_after self.old.failed result }
         ensures as_honest { ⊥ ↔ ⊥ }
         ensures answered { ⊥ → IsAnswered (new_history []) (len_call result) (new_history []) }
@@ -270,6 +314,7 @@ impl<R: Files + Drop> Disk for PooledDisk<R> {
         ensures path { self.new.path ≡ self.old.path }
         ensures access { self.new.access ≡ self.old.access }
         ensures is_synced { self.new.is_synced ≡ self.old.is_synced }
+        ensures is_written { self.new.is_written ≡ self.old.is_written }
         ensures within { IfOk result (λ count. count ≤ length out.new) }
         ensures gives { self.old.access ≢ absent → IfOk result (λ count.
             IsReadOfFile R.File.stream_position R.File.stream_bytes R.File.remaining
@@ -294,11 +339,13 @@ impl<R: Files + Drop> Disk for PooledDisk<R> {
         ensures path { self.new.path ≡ self.old.path }
         ensures access { self.new.access ≡ self.old.access }
         ensures is_synced { self.new.is_synced ≡ false }
+        ensures is_written { self.new.is_written ≡ true }
         ensures counted { self.new.failed ≡ count_after self.old.failed result }
         ensures as_honest { ⊥ ↔ ⊥ }
         ensures answered { ⊥ → IsAnswered (new_history []) (write_call at bytes.now result) (new_history []) }
     {
         self.is_synced = false;
+        self.is_written = true;
         if self.usage == Use::Writing && self.write_file(at, bytes).is_ok() {
             return Ok(());
         }
@@ -311,11 +358,13 @@ impl<R: Files + Drop> Disk for PooledDisk<R> {
         ensures path { self.new.path ≡ self.old.path }
         ensures access { self.new.access ≡ self.old.access }
         ensures is_synced { self.new.is_synced ≡ false }
+        ensures is_written { self.new.is_written ≡ true }
         ensures counted { self.new.failed ≡ count_after self.old.failed result }
         ensures as_honest { ⊥ ↔ ⊥ }
         ensures answered { ⊥ → IsAnswered (new_history []) (set_len_call len result) (new_history []) }
     {
         self.is_synced = false;
+        self.is_written = true;
         if self.usage == Use::Writing && self.set_file_len(len).is_ok() {
             return Ok(());
         }
@@ -323,18 +372,19 @@ impl<R: Files + Drop> Disk for PooledDisk<R> {
     }
 
     fn sync(&mut self) -> Result<(), DeviceFault>
-        ensures refused { self.old.access ≢ writing → IsErr result }
+        ensures unwritten { self.old.access ≢ writing → IsOk result }
         ensures number { self.new.number ≡ self.old.number }
         ensures path { self.new.path ≡ self.old.path }
         ensures access { self.new.access ≡ self.old.access }
         ensures is_synced { OnOk result (self.new.is_synced ≡ true) }
+        ensures is_written { self.new.is_written ≡ self.old.is_written }
         ensures as_before { IfErr result (λ _. self.new.is_synced ≡ self.old.is_synced) }
-        ensures again { self.old.access ≡ writing → self.old.is_synced ≡ true → IsOk result }
+        ensures again { self.old.is_synced ≡ true → IsOk result }
         ensures counted { self.new.failed ≡ count_after self.old.failed result }
         ensures as_honest { ⊥ ↔ ⊥ }
         ensures answered { ⊥ → IsAnswered (new_history []) (sync_call result) (new_history []) }
     {
-        if self.usage == Use::Writing && (self.is_synced || self.sync_file().is_ok()) {
+        if self.usage != Use::Writing || self.is_synced || self.sync_file().is_ok() {
             self.is_synced = true;
             return Ok(());
         }

@@ -7,8 +7,10 @@ use crate::calls::call_row;
 use crate::shop::Shop;
 use crate::system::{System, SystemFile};
 use crate::words::{RowError, Words, tell, tell_whether};
-use bt_disk::{FaultDisk, FileDisk, Loss, MemoryDisk, PooledDisk};
+use bt_disk::{FaultDisk, FileDisk, Loss, MemoryDisk, Opening, PooledDisk};
+use bt_folder::{Seal, SealedDisk};
 use std::alloc::Global;
+use std::fmt::Write;
 use std::fs::File;
 use std::mem;
 
@@ -17,6 +19,7 @@ pub enum Device<'a> {
     Empty,
     Memory(MemoryDisk),
     Faulty(FaultDisk<MemoryDisk>),
+    Sealed(SealedDisk<'a, FaultDisk<MemoryDisk>>),
     File(FileDisk<File>),
     Pooled(PooledDisk<HostRuntime>),
     SystemFile(FileDisk<SystemFile<'a>>),
@@ -39,6 +42,8 @@ pub fn device_row<'a>(
     match words.word() {
         "file" => file_row(device, shop, words, out),
         "pooled" => pooled_row(device, shop, words, out),
+        "sealed" => sealed_row(device, shop.seal, false, out),
+        "closed" => sealed_row(device, shop.seal, true, out),
         name => memory_device_row(shop.alloc(), device, name, words, out),
     }
 }
@@ -57,6 +62,8 @@ fn memory_device_row(
         "crash" => crash_row(device, words, out),
         "set" => setting_row(device, words, out),
         "bytes" => bytes_row(alloc, device, out),
+        "opening" => opening_row(device, out),
+        "assume" => assume_row(device, out),
         _ => any_call_row(alloc, device, name, words, out),
     }
 }
@@ -234,6 +241,60 @@ fn bytes_row(alloc: Global, device: &Device<'_>, out: &mut String) -> Result<(),
     }
 }
 
+/// Puts a device of faults inside of one that is closed to writes with the seal, or from its making on.
+fn sealed_row<'a>(
+    device: &mut Device<'a>,
+    seal: &'a Seal,
+    is_closed: bool,
+    out: &mut String,
+) -> Result<(), RowError> {
+    let disk = taken_faulty(device)?;
+    put(device, sealed(disk, seal, is_closed));
+    tell(out, "a device")
+}
+
+fn sealed<'a>(disk: FaultDisk<MemoryDisk>, seal: &'a Seal, is_closed: bool) -> Device<'a> {
+    if is_closed {
+        Device::Sealed(SealedDisk::closed(disk, seal))
+    } else {
+        Device::Sealed(SealedDisk::new(disk, seal))
+    }
+}
+
+/// What the system told of a file when it was opened.
+fn opening_row(device: &Device<'_>, out: &mut String) -> Result<(), RowError> {
+    match device {
+        Device::File(disk) => tell_opening(disk.opening(), out),
+        Device::SystemFile(disk) => tell_opening(disk.opening(), out),
+        Device::Pooled(disk) => tell_opening(disk.opening(), out),
+        Device::SystemPooled(disk) => tell_opening(disk.opening(), out),
+        _ => Err(RowError::Unread),
+    }
+}
+
+fn tell_opening(opening: Opening, out: &mut String) -> Result<(), RowError> {
+    let len = opening.len;
+    write!(out, "{len} bytes, ")?;
+    tell_whether(out, opening.was_made, "made, ", "not made, ")?;
+    tell_whether(
+        out,
+        opening.identity.is_some(),
+        "known apart",
+        "not known apart",
+    )
+}
+
+/// A file of a pool counts as synced from here on.
+fn assume_row(device: &mut Device<'_>, out: &mut String) -> Result<(), RowError> {
+    let assumed = match taken(device) {
+        Device::Pooled(disk) => Device::Pooled(disk.assume_synced()),
+        Device::SystemPooled(disk) => Device::SystemPooled(disk.assume_synced()),
+        other => other,
+    };
+    put(device, assumed);
+    tell(out, "assumed")
+}
+
 fn any_call_row(
     alloc: Global,
     device: &mut Device<'_>,
@@ -245,6 +306,7 @@ fn any_call_row(
         Device::Empty => Err(RowError::Unread),
         Device::Memory(disk) => call_row(alloc, disk, name, words, out),
         Device::Faulty(disk) => call_row(alloc, disk, name, words, out),
+        Device::Sealed(disk) => call_row(alloc, disk, name, words, out),
         Device::File(disk) => call_row(alloc, disk, name, words, out),
         Device::Pooled(disk) => call_row(alloc, disk, name, words, out),
         Device::SystemFile(disk) => call_row(alloc, disk, name, words, out),

@@ -7,6 +7,7 @@ mod calls;
 mod device;
 mod files;
 mod fixture;
+mod folders;
 mod hints;
 mod logs;
 mod many;
@@ -17,6 +18,7 @@ mod system;
 mod unreadable;
 mod words;
 
+use bt_folder::Seal;
 use files::{clear_folder, new_folder};
 use stage::Stage;
 use system::Counts;
@@ -32,7 +34,8 @@ fn main(rt: HostRuntime) -> anyhow::Result<()> {
 /// Answers the rows, whose files lie in a folder. The stage is dropped by a call, since a drop at the end of the
 /// body is proved there, with all that a stage may hold.
 fn print_answers(rt: &HostRuntime, counts: &Counts, top: &str) -> anyhow::Result<()> {
-    let mut stage = Stage::new(rt, counts, top);
+    let seal = Seal::new();
+    let mut stage = Stage::new(rt, counts, &seal, top);
     let printed = print_lines(rt, &mut stage);
     drop(stage);
     printed

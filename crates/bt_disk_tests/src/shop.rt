@@ -4,10 +4,12 @@ ghost use Rattle.std.specs.Prelude.{◌<◌};
 
 use crate::device::{Device, put};
 use crate::files::{disk_row, path_of};
+use crate::folders::folder_row;
 use crate::many::many_row;
 use crate::system::{Counts, System, manner_of};
 use crate::words::{RowError, Words, tell};
 use bt_disk::{DeviceFault, FileDisk, HandlePool, PooledDisk};
+use bt_folder::{CaseNames, KnownFiles, Seal};
 use std::alloc::{AllocError, Global};
 use std::fs::Files;
 
@@ -27,16 +29,22 @@ pub struct Shop<'a> {
     /// Whether files are those of the host, and not of the system that stands in for it.
     is_host: bool,
     pool: Pool<'a>,
+    pub seal: &'a Seal,
+    pub known: KnownFiles,
+    pub names: CaseNames,
 }
 
 impl<'a> Shop<'a> {
-    pub fn new(host: &'a HostRuntime, counts: &'a Counts, top: &'a str) -> Self {
+    pub fn new(host: &'a HostRuntime, counts: &'a Counts, seal: &'a Seal, top: &'a str) -> Self {
         Shop {
             host,
             counts,
             top,
             is_host: true,
             pool: Pool::Empty,
+            seal,
+            known: KnownFiles::new(host.alloc()),
+            names: CaseNames::new(host.alloc()),
         }
     }
 
@@ -44,7 +52,7 @@ impl<'a> Shop<'a> {
         self.host.alloc()
     }
 
-    fn system(&self) -> System<'a> {
+    pub fn system(&self) -> System<'a> {
         System {
             host: self.host,
             counts: self.counts,
@@ -146,7 +154,7 @@ pub fn shop_row(
         "most" => shop.counts.tell_most(out),
         "disk" => disk_row(shop, words, out),
         "many" => many_row(shop, words, out),
-        _ => Err(RowError::Unread),
+        _ => folder_row(shop, name, words, out),
     }
 }
 

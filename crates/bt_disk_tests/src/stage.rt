@@ -6,6 +6,7 @@ use crate::shop::{Shop, shop_row};
 use crate::store::{Store, store_row};
 use crate::system::Counts;
 use crate::words::{RowError, Words};
+use bt_folder::Seal;
 use std::alloc::{AllocError, Global};
 
 /// What the rows work on: three devices, and a store and a log, which take the first of them.
@@ -20,14 +21,14 @@ pub struct Stage<'a> {
 }
 
 impl<'a> Stage<'a> {
-    pub fn new(rt: &'a HostRuntime, counts: &'a Counts, top: &'a str) -> Self {
+    pub fn new(rt: &'a HostRuntime, counts: &'a Counts, seal: &'a Seal, top: &'a str) -> Self {
         Stage {
             first: Device::Empty,
             second: Device::Empty,
             third: Device::Empty,
             store: Store::Empty,
             log: Log::Empty,
-            shop: Shop::new(rt, counts, top),
+            shop: Shop::new(rt, counts, seal, top),
         }
     }
 

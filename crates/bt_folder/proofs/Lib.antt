@@ -1,0 +1,4 @@
+-- Names of a folder.
+pub mod Names
+-- Files that were opened.
+pub mod Identities

@@ -1,0 +1,4 @@
+pub mod SealedDisk
+pub mod CaseNames
+pub mod FolderNames
+pub mod KnownFiles

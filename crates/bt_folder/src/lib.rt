@@ -1,0 +1,15 @@
+//! What a folder of data files needs beside their devices: that they can be closed to writes, that two paths of
+//! one file are seen, and that what was made stays after a crash.
+#![tactic(auto)]
+
+mod case_names;
+mod folder_names;
+mod folder_sync;
+mod known_files;
+mod sealed_disk;
+
+pub use case_names::CaseNames;
+pub use folder_names::{FolderNames, ListingError};
+pub use folder_sync::{make_folders, sync_folder};
+pub use known_files::KnownFiles;
+pub use sealed_disk::{Seal, SealedDisk};
