@@ -5,7 +5,7 @@ use Rattle.std.proofs.lemmas.Bool.{cases_eq}
 use Rattle.std.proofs.lemmas.List.{map-append}
 use Rattle.std.specs.Vec.{with_item}
 use Rattle.bt_disk.specs.Calls.{HasCalls}
-use Rattle.bt_disk.proofs.CallLists.{has_then}
+use Rattle.bt_disk.specs.Law.{CallsCompose}
 use Rattle.bt_store.specs.FileStore.{StoreView}
 use Rattle.bt_machine.proofs.Lists.{set_cases, set_same, set_other, some_is, some_below}
 use Rattle.bt_machine.specs.State.{FileState}
@@ -220,8 +220,9 @@ module _ {D H : Type 0} {old : Parts D H} {file : ℕ} {slot : Slot D H} {store 
       all = all ∙ sym (length_is old file at.here at.has);
     }
 
-    pub stops_in : 0 < length (states_of (state_of old) file) → StopsTaking history honest faults dig k store grown after → StopsIn history honest faults dig file old (parts_with old file slot after grown)
-    stops_in some s =
+    pub stops_in : CallsCompose history honest faults → 0 < length (states_of (state_of old) file) → StopsTaking history honest faults dig k store grown after
+        → StopsIn history honest faults dig file old (parts_with old file slot after grown)
+    stops_in compose some s =
         let call = call_of store.file_length in
         let states = ap (λ (v : StoreView D). v.states) s.others in
         let last = subst (λ m. HasCalls history honest faults s.before.disk (map (call_of m) s.last) after.disk) s.takes.same_file s.calls in
@@ -233,7 +234,7 @@ module _ {D H : Type 0} {old : Parts D H} {file : ℕ} {slot : Slot D H} {store 
         record {
           made = flat_map (λ c. c) (map (reads_at file k.file_length) s.groups) ++ reads_at file grown.file_length s.last;
           calls = rw calls (have_changed old.slots.items file at.here at.has after history honest faults (map call (all_reads s.groups) ++ map call s.last)
-              (has_then history honest faults store.disk s.before.disk after.disk (map call (all_reads s.groups)) (map call s.last) s.takes.calls last));
+              (compose store.disk s.before.disk after.disk (map call (all_reads s.groups)) (map call s.last) s.takes.calls last));
           stops = record {
             state = file_with slot.tree after.states;
             tree = grown;

@@ -5,21 +5,18 @@ use Rattle.std.specs.List.{AllZip}
 use Rattle.std.proofs.lemmas.List.{map-append}
 use Rattle.std.proofs.lemmas.Grind.{flat_map-append}
 use Rattle.std.proofs.Common.{set-set}
-use Rattle.bt_tree.proofs.TreeShape.{height_is}
 use Rattle.bt_disk.specs.Calls.{HasCalls}
-use Rattle.bt_disk.proofs.CallLists.{has_none, has_then}
+use Rattle.bt_disk.specs.Law.{NoCallsLead, CallsCompose}
 use Rattle.bt_store.specs.FileStore.{StoreView}
 use Rattle.bt_store.specs.Adoption.{IsAdopted, StopsAdopting, marked_group}
-use Rattle.bt_store.proofs.AdoptionMarks.{adopt_extends}
 use Rattle.bt_machine.proofs.Lists.{here, later, set_same, set_id}
-use Rattle.bt_machine.proofs.ProofKeys.{proof_keys_answered}
 use Rattle.bt_machine.specs.State.{EngineState, Hint, proof_of, mark_of}
 use Rattle.bt_machine.specs.Devices.{DeviceCalls, reads_at}
 use Rattle.bt_machine.specs.Blocks.{with_file, with_tree, new_marked_blocks}
 use Rattle.bt_machine.specs.Next.{with_pending}
 use Rattle.bt_machine.specs.Request.{IsFile}
 use Rattle.bt_machine.specs.Shape.{HasNoLog}
-use Rattle.bt_machine.specs.ProofKeys.{HasAnswer}
+use Rattle.bt_machine.specs.ProofKeys.{HasAnswer, ProofKeysAreAnswered}
 use Rattle.bt_machine.specs.Adopting.{IsProof, AdoptsGroup, AdoptsGroups, nothing_adopted, adopted_together, unread, read}
 use Rattle.bt_state.specs.Ties.{StillKnows}
 use Rattle.bt_state.proofs.Leaves.{still, still_then, still_joined}
@@ -97,11 +94,12 @@ module _ {dig : List ℕ → List ℕ} where
     ap (λ t. adopted_together t one) g.5 ∙ same_sums one.next (omega arith) (omega arith),
   )
 
-  group_in : {k grown : Facts} {from : ℕ} {old new : List BlockState} {reads : List BlockRead} {adopted : Adopted} {s : EngineState} {file tree : ℕ} → HasNoLog s
+  group_in : {k grown : Facts} {from : ℕ} {old new : List BlockState} {reads : List BlockRead} {adopted : Adopted} {s : EngineState} {file tree : ℕ}
+      → ProofKeysAreAnswered dig → HasNoLog s
       → IsFile s file (file_with tree old) k → from < blocks_of k → Adopts dig k from old reads adopted grown new
       → AdoptsGroup dig s file from (reads_at file k.file_length reads) adopted (with_tree (with_file s file (file_with tree new)) tree grown)
-  group_in {k} {grown} {from} {old} {new} {reads} {adopted} {s} {file} {tree} no_log is left adopts =
-      let hints = listed dig grown _ (λ key c. proof_keys_answered dig height_is k grown from old new reads adopted key adopts c) in
+  group_in {k} {grown} {from} {old} {new} {reads} {adopted} {s} {file} {tree} answered no_log is left adopts =
+      let hints = listed dig grown _ (λ key c. answered k grown from old new reads adopted key adopts c) in
       record {
         state = file_with tree old;
         tree = k;
@@ -118,12 +116,12 @@ module _ {dig : List ℕ → List ℕ} where
       }
 
   taken_more : (k : Facts) {mid grown : Facts} (old : List BlockState) {states new : List BlockState} (groups : List (List BlockRead)) {reads : List BlockRead} (total : Adopted) {one : Adopted}
-      → AreTaken dig k old groups total mid states → mid.file_length ≡ k.file_length → total.next < blocks_of mid
+      → ProofKeysAreAnswered dig → AreTaken dig k old groups total mid states → mid.file_length ≡ k.file_length → total.next < blocks_of mid
       → Adopts dig mid total.next states reads one grown new → AreTaken dig k old (groups ++ reads ∷ []) (adopted_together total one) grown new
-  taken_more k {mid} {grown} old {states} {new} groups {reads} total {one} taken same left adopts = λ s file tree no_log is.
+  taken_more k {mid} {grown} old {states} {new} groups {reads} total {one} answered taken same left adopts = λ s file tree no_log is.
       let before = with_tree (with_file s file (file_with tree states)) tree mid in
       let unlogged : HasNoLog before = record { none = no_log.none; read = no_log.read; written = no_log.written } in
-      let group = group_in unlogged (record { here = set_same s.files file is.here; has_tree = set_same s.trees tree is.has_tree }) left adopts in
+      let group = group_in answered unlogged (record { here = set_same s.files file is.here; has_tree = set_same s.trees tree is.has_tree }) left adopts in
       let after : with_tree (with_file before file (file_with tree new)) tree grown ≡ with_tree (with_file s file (file_with tree new)) tree grown =
       ap (λ fs. record s { files = fs; trees = slice_set (slice_set s.trees tree mid) tree grown }) (set-set s.files file (file_with tree states) (file_with tree new))
       ∙ ap (λ ts. record s { files = slice_set s.files file (file_with tree new); trees = ts }) (set-set s.trees tree mid grown) in
@@ -145,19 +143,19 @@ if_err_by (Err e) t = t
 
 module _ {D : Type 0} {history : D → History} {honest : D → Type 0} {faults : D → ℕ} {dig : List ℕ → List ℕ} {k : Facts} {old : StoreView D} where
   takes_more : {mid grown : Facts} {before new : StoreView D} {groups : List (List BlockRead)} {reads : List BlockRead} {total one : Adopted}
-      → TakesGroups history honest faults dig k old groups total mid before → total.next < blocks_of mid
+      → CallsCompose history honest faults → ProofKeysAreAnswered dig → TakesGroups history honest faults dig k old groups total mid before → total.next < blocks_of mid
       → IsAdopted history honest faults dig mid total.next before reads one grown new
       → TakesGroups history honest faults dig k old (groups ++ reads ∷ []) (adopted_together total one) grown new
-  takes_more {mid} {grown} {before} {new} {groups} {reads} {total} {one} takes left adopted =
+  takes_more {mid} {grown} {before} {new} {groups} {reads} {total} {one} compose answered takes left adopted =
       let call = call_of old.file_length in
       let list : map (call_of old.file_length) (all_reads (groups ++ reads ∷ [])) ≡ map (call_of old.file_length) (all_reads groups) ++ map (call_of old.file_length) reads =
       ap (map (call_of old.file_length)) (flat_map-append (λ rs. rs) groups (reads ∷ []) ∙ ap (λ rs. all_reads groups ++ rs) (append-nil reads))
       ∙ map-append (call_of old.file_length) (all_reads groups) reads in
       record {
         calls = rw list
-            (has_then history honest faults old.disk before.disk new.disk (map call (all_reads groups)) (map call reads) takes.calls
+            (compose old.disk before.disk new.disk (map call (all_reads groups)) (map call reads) takes.calls
             (subst (λ n. HasCalls history honest faults before.disk (map (call_of n) reads) new.disk) takes.same_file adopted.calls));
-        taken = taken_more k old.states groups total takes.taken takes.still.long left adopted.adopts;
+        taken = taken_more k old.states groups total answered takes.taken takes.still.long left adopted.adopts;
         same_file = adopted.same_file ∙ takes.same_file;
         same_size = length_adopted adopted.adopts ∙ takes.same_size;
         still = still_then takes.still (still_adopted adopted.adopts);
@@ -168,34 +166,31 @@ pub record AreTaking {D : Type 0} (history : D → History) (honest : D → Type
     (total : Adopted) (grown : Facts) (new : StoreView D) : Type 0 where
   pub groups : List (List BlockRead)
   pub takes : TakesGroups history honest faults dig k old groups total grown new
-  pub rooted : IsRooted dig grown
   pub border : IsBorder grown total.next
   pub marked : total.marked ≤ total.next
   pub faulty : total.faults ≤ total.next
   pub inside : total.next ≤ blocks_of k
 
 module _ {D : Type 0} {history : D → History} {honest : D → Type 0} {faults : D → ℕ} {dig : List ℕ → List ℕ} {k : Facts} {old : StoreView D} where
-  pub taking_begun : IsRooted dig k → AreTaking history honest faults dig k old (nothing_adopted 0) k old
-  taking_begun rooted = record {
+  pub taking_begun : NoCallsLead history honest faults → AreTaking history honest faults dig k old (nothing_adopted 0) k old
+  taking_begun none = record {
     groups = [];
-    takes = record { calls = has_none history honest faults old.disk; taken = taken_none dig k old.states; same_file = refl; same_size = refl; still = still k };
-    rooted = rooted;
+    takes = record { calls = none old.disk; taken = taken_none dig k old.states; same_file = refl; same_size = refl; still = still k };
     border = at_start refl;
     marked = omega arith;
     faulty = omega arith;
     inside = omega arith;
   }
 
-  pub taking_more : {mid grown : Facts} {before new : StoreView D} {reads : List BlockRead} {total one : Adopted} → AreTaking history honest faults dig k old total mid before
-      → total.next < blocks_of k → IsAdopted history honest faults dig mid total.next before reads one grown new → one.next ≤ blocks_of k
+  pub taking_more : CallsCompose history honest faults → ProofKeysAreAnswered dig → {mid grown : Facts} {before new : StoreView D} {reads : List BlockRead} {total one : Adopted} → IsRooted dig mid
+      → AreTaking history honest faults dig k old total mid before → total.next < blocks_of k → IsAdopted history honest faults dig mid total.next before reads one grown new → one.next ≤ blocks_of k
       → AreTaking history honest faults dig k old (adopted_together total one) grown new
-  taking_more {mid} {grown} {before} {new} {reads} {total} {one} a left adopted within =
+  taking_more compose answered {mid} {grown} {before} {new} {reads} {total} {one} rooted a left adopted within =
       let here : total.next < blocks_of mid = subst (λ n. total.next < block_count n) (sym a.takes.still.long) left in
-      let more = behind_group_of a.rooted here a.border adopted.adopts in
+      let more = behind_group_of rooted here a.border adopted.adopts in
       record {
         groups = a.groups ++ reads ∷ [];
-        takes = takes_more a.takes here adopted;
-        rooted = (adopt_extends dig mid grown total.next before.states new.states reads one adopted.adopts).rooted a.rooted;
+        takes = takes_more compose answered a.takes here adopted;
         border = more.border;
         marked = (let own = more.marked in let ones = a.marked in omega arith);
         faulty = (let own = more.faults in let ones = a.faulty in omega arith);

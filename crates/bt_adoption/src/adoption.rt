@@ -11,7 +11,7 @@ ghost use Rattle.bt_adoption.specs.AdoptionSteps.{AdoptsIn, StopsIn};
 use crate::groups::adopt_groups;
 use crate::recount::{block_count, count_in, leave_out};
 use crate::settling::settle_others;
-use bt_disk::Disk;
+use bt_disk::{Disk, calls_compose};
 use bt_machine::AdoptError;
 use bt_state::Parts;
 use bt_store::Adopted;
@@ -102,6 +102,7 @@ fn adopt_slot<D: Disk + Drop, H: NodeHash>(
         parts.old parts.new) }
     ensures changes { ChangesFile file parts.old parts.new }
 {
+    calls_compose::<D>();
     let slot = &mut parts.slots[file as usize];
     let Some(store) = &mut slot.store else {
         unreachable!();

@@ -3,7 +3,8 @@ ghost use Rattle.bt_store.specs.BlockReads.{BlockRead};
 ghost use Rattle.bt_machine.specs.Adopting.{adopted_together};
 ghost use Rattle.bt_adoption.specs.GroupsSteps.{TakesGroups, StopsTaking};
 
-use bt_disk::Disk;
+use bt_disk::{Disk, calls_compose};
+use bt_machine::proof_keys_are_answered;
 use bt_sparse::SparseTree;
 use bt_store::{Adopted, FileStore};
 use bt_tree::NodeHash;
@@ -24,8 +25,8 @@ pub(crate) fn adopt_groups<D: Disk + Drop, H: NodeHash>(
         H.digest tree.old store.old tree.new store.new) }
 {
     let blocks = store.geometry().blocks();
-    // A clause of the root says that the tree is rooted.
-    let _ = tree.root();
+    calls_compose::<D>();
+    proof_keys_are_answered::<H>();
     let mut total = Adopted {
         next: 0,
         anchor: 0,
@@ -33,6 +34,8 @@ pub(crate) fn adopt_groups<D: Disk + Drop, H: NodeHash>(
         faults: 0,
     };
     while total.next < blocks {
+        // A clause of the root says that the tree is rooted.
+        let _ = tree.root();
         let group = store.adopt(tree, total.next)?;
         total = together(total, group);
     }

@@ -1,11 +1,14 @@
 -- What a request for a range of a piece does to the parts of an engine.
-use Rattle.std.specs.Prelude.{◌≡◌, ℕ, List, Some, slice_get}
+use Rattle.std.specs.Prelude.{◌≡◌, ℕ, false, List, Some, slice_get}
 use Rattle.bt_disk.specs.History.{History}
+use Rattle.bt_meta.specs.Place.{IsPlace}
+use Rattle.bt_meta.specs.declared.torrent.Span.{Span}
 use Rattle.bt_wire.specs.declared.message.Ask.{Ask}
 use Rattle.bt_wire.specs.declared.message.Message.TheVariants.{Piece, Request}
-use Rattle.bt_machine.specs.State.{PeerState}
+use Rattle.bt_machine.specs.State.{PeerState, EngineState}
 use Rattle.bt_machine.specs.Devices.{DeviceCalls, HaveCalls}
 use Rattle.bt_machine.specs.Output.{Effect, no_effect, noting, closing, sending}
+use Rattle.bt_machine.specs.Request.{AreMarked}
 use Rattle.bt_machine.specs.WireEvents.{HandlesMessage}
 use Rattle.bt_state.specs.Parts.{state_of, disks_of}
 use Rattle.bt_state.specs.declared.parts.Parts.{Parts}
@@ -27,3 +30,11 @@ TakesRequest history honest faults dig old i ask served new =
     (calls : DeviceCalls) × HaveCalls history honest faults (disks_of old) calls (disks_of new)
     × ((p : PeerState) → slice_get (state_of old).peers i ≡ Some p
     → HandlesMessage dig (state_of old) i p (Request ask) calls (effect_of p ask served) (state_of new))
+
+-- The request of the peer at i is one to serve, and not one that is ignored or closes the peer (BEP 3): we do
+-- not choke the peer, the range lies in one file, and its blocks are marked.
+pub record IsToServe (s : EngineState) (i : ℕ) (ask : Ask) : Type 0 where
+  pub open_to : (p : PeerState) → slice_get s.peers i ≡ Some p → p.am_choking ≡ false
+  pub span : Span
+  pub place : IsPlace s.torrent ask.piece ask.begin ask.length span
+  pub marked : AreMarked s span

@@ -5,7 +5,7 @@ ghost use Rattle.bt_machine.specs.Request.{AreMarked};
 ghost use Rattle.bt_machine.specs.Shape.{IsShaped};
 ghost use Rattle.bt_state.specs.Parts.{state_of};
 ghost use Rattle.bt_state.specs.Ties.{IsTied};
-ghost use Rattle.bt_block_events.specs.Request.{TakesRequest};
+ghost use Rattle.bt_block_events.specs.Request.{IsToServe, TakesRequest};
 ghost use Rattle.bt_block_events.specs.RequestSteps.{CanRead, IsLookedAt, SendsFromSlot, StopsInSlot};
 ghost use Rattle.bt_block_events.specs.ServingSteps.{IsRoomFor};
 ghost use Rattle.bt_block_events.specs.SpansSteps.{IsShortSpan};
@@ -37,7 +37,8 @@ pub enum Served {
 }
 
 /// Serves a request of the peer at `index` for a range of a piece: it is ignored while we choke the peer and
-/// where a block of the range is not marked. Where memory is refused, no block is read and nothing changes.
+/// where a block of the range is not marked. Where memory is refused, no block is read and nothing changes;
+/// none is asked for but to serve.
 pub fn take_request<D: Disk + Drop, H: NodeHash>(
     alloc: Global,
     parts: &mut Parts<D, H>,
@@ -51,6 +52,7 @@ pub fn take_request<D: Disk + Drop, H: NodeHash>(
     ensures takes { IfOk result (λ served.
         TakesRequest D.history D.honest D.faults H.digest parts.old index ask served parts.new) }
     ensures kept { IfErr result (λ _. parts.new ≡ parts.old) }
+    ensures needed { IfErr result (λ _. IsToServe (state_of parts.old) index ask) }
     ensures torrent { parts.new.torrent ≡ parts.old.torrent }
     ensures peers { map (λ p. p.key) parts.new.peers.items ≡ map (λ p. p.key) parts.old.peers.items }
     ensures len { vec_len parts.new.peers ≡ vec_len parts.old.peers }

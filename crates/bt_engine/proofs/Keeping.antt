@@ -1,22 +1,19 @@
 -- What holds of the parts of an engine holds after an event.
-use Rattle.std.proofs.Common.{[], ◌≡◌, List, ℕ, Option, ◌∷◌, Ok, refl, subst, sym}
+use Rattle.std.proofs.Common.{[], ◌≡◌, List, ℕ, Option, Ok, subst, sym}
 use Rattle.bt_disk.specs.History.{History}
-use Rattle.bt_tree.specs.NodeHash.{IsDigest}
-use Rattle.bt_sparse.proofs.Joins.{keeps_rooted}
-use Rattle.bt_store.proofs.AdoptionMarks.{adopt_marks}
 use Rattle.bt_meta.specs.Torrent.{Metainfo}
 use Rattle.bt_machine.specs.declared.event.Event.{Event}
 use Rattle.bt_machine.specs.declared.event.Answer.{Answer}
 use Rattle.bt_machine.specs.Devices.{HaveCalls}
-use Rattle.bt_machine.specs.Shape.{IsShaped}
+use Rattle.bt_machine.specs.Frames.{StepKeepsSparse}
+use Rattle.bt_machine.specs.Law.{StepKeepsRooted}
+use Rattle.bt_machine.specs.Orderly.{StepKeepsOrder}
+use Rattle.bt_machine.specs.Shape.{IsShaped, StepKeepsShape}
+use Rattle.bt_machine.specs.Sound.{StepKeepsSound}
 use Rattle.bt_machine.specs.Start.{Starts, AnswersStart, starts, other_count, no_memory}
 use Rattle.bt_machine.specs.State.{EngineView}
 use Rattle.bt_machine.specs.Step.{Step}
 use Rattle.bt_machine.specs.View.{StepsTo}
-use Rattle.bt_machine.proofs.Orderly.{order_kept}
-use Rattle.bt_machine.proofs.Shape.{step_shape}
-use Rattle.bt_machine.proofs.Rooted.{step_rooted, run_sparse}
-use Rattle.bt_machine.proofs.Sound.{step_sound}
 use Rattle.bt_state.specs.Parts.{state_of, disks_of}
 use Rattle.bt_state.specs.Ties.{IsTied}
 use Rattle.bt_state.specs.declared.parts.Parts.{Parts}
@@ -34,15 +31,16 @@ module _ {D H : Type 0} (history : D → History) (honest : D → Type 0) (fault
     made = subst (λ (ds : List (Option D)). HaveCalls history honest faults (disks_of old) [] ds) (sym devices) (have_none history honest faults (disks_of old));
   }
 
-  pub kept_after : IsDigest dig → IsKept history honest dig old → StepsTo history honest faults dig (view_of old) event answer (view_of new)
+  pub kept_after : StepKeepsShape dig → StepKeepsOrder dig → StepKeepsSparse dig → StepKeepsRooted dig → StepKeepsSound history honest faults dig
+      → IsKept history honest dig old → StepsTo history honest faults dig (view_of old) event answer (view_of new)
       → new.torrent ≡ old.torrent → IsTied new → IsKept history honest dig new
-  kept_after sizes kept s same tied = record {
+  kept_after shape order sparse rooted sound kept s same tied = record {
     tied = tied;
-    shaped = subst (λ (t : Metainfo). IsShaped t (state_of new)) (sym same) (step_shape dig event s.calls answer kept.shaped s.step);
-    orderly = order_kept dig (state_of old) (state_of new) event s.calls answer s.step kept.orderly;
-    sparse = run_sparse dig sizes (keeps_rooted dig) (state_of old) (state_of new) (event ∷ []) (s.calls ∷ []) (answer ∷ []) (state_of new, s.step, refl) kept.sparse;
-    rooted = step_rooted dig (keeps_rooted dig) (state_of old) (state_of new) event s.calls answer s.step kept.rooted;
-    sound = step_sound history honest faults dig (adopt_marks dig) (state_of old) (state_of new) event s.calls answer (disks_of old) (disks_of new) s.step s.made kept.sound;
+    shaped = subst (λ (t : Metainfo). IsShaped t (state_of new)) (sym same) (shape old.torrent (state_of old) (state_of new) event s.calls answer kept.shaped s.step);
+    orderly = order (state_of old) (state_of new) event s.calls answer s.step kept.orderly;
+    sparse = sparse (state_of old) (state_of new) event s.calls answer s.step kept.sparse;
+    rooted = rooted (state_of old) (state_of new) event s.calls answer s.step kept.rooted;
+    sound = sound (state_of old) (state_of new) event s.calls answer (disks_of old) (disks_of new) s.step s.made kept.sound;
   }
 
 -- an engine that was started begins as the machine does

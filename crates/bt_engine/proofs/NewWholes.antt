@@ -14,7 +14,7 @@ use Rattle.bt_machine.specs.declared.answer.Note.{Note}
 use Rattle.bt_machine.specs.declared.answer.Note.TheVariants.{Marked as NowMarked}
 use Rattle.bt_machine.proofs.Lists.{here, later, contains_none, contains_cases, contains_filter, filter_contains, contains_map, contains_flat_map, range_limits, range_contains, and_true, some_below, get_some, some_is}
 use Rattle.bt_machine.proofs.Pairs.{Pairs, to_pairs, from_pairs, some_at, contains_some}
-use Rattle.bt_machine.proofs.Changes.{piece_is_whole}
+use Rattle.bt_machine.specs.Changes.{PieceIsWhole}
 use Rattle.bt_follow_up.proofs.Blocks.{stands}
 use Rattle.bt_follow_up.proofs.PieceOrder.{rises, in_torrent}
 use Rattle.bt_engine.specs.NewsSteps.{IsNotedBefore, TellMarks, marked_piece, marked_file, unless_last}
@@ -318,8 +318,8 @@ module _ {old new : EngineState} {notes : List Note} (t : TellMarks old new note
           let h = has_block b.0 (subst (Contains notes) b.1 c) in
           in_torrent new.torrent size lay b.0 k (record { has = h; is = lies b.0 h b.2 })
 
-      pub whole_news : new_whole_pieces old new ≡ filter (is_whole new) (numbers_after (marked_piece new.torrent) None notes)
-      whole_news =
+      pub whole_news : PieceIsWhole → new_whole_pieces old new ≡ filter (is_whole new) (numbers_after (marked_piece new.torrent) None notes)
+      whole_news piece_is_whole =
           become is_whole old new (marked_piece new.torrent) (total_pieces new.torrent) notes
           (rising (marked_piece new.torrent) notes (λ n c. c) (λ m n k l own theirs before e f.
           let b = piece_of_note new.torrent m e in

@@ -1,5 +1,5 @@
 -- Room for what a wire event sends and notes.
-use Rattle.std.specs.Prelude.{[], ◌≡◌, ℕ, ◌+◌, ◌*◌, ◌≤◌, vec_capacity}
+use Rattle.std.specs.Prelude.{[], ◌≡◌, ℕ, ◌+◌, ◌*◌, vec_capacity}
 use Rattle.bt_wire.specs.declared.message.Message.{Message as Sent}
 use Rattle.bt_wire.specs.declared.message.Message.TheVariants.{Request, Piece, Hashes}
 use Rattle.bt_wire.specs.declared.event.WireEvent.{WireEvent}
@@ -21,9 +21,10 @@ abbrev pub IsNoteBound : {D H : Type 0} → Parts D H → WireEvent → ℕ → 
 IsNoteBound parts (Message message) bound = IsMessageBound parts message bound
 IsNoteBound parts _ bound = bound ≡ 0
 
--- nothing is sent or noted yet, and there is room for an event of so many notes, with so many peers
+-- nothing is sent or noted yet, and there is room for an event of so many notes, with so many peers, and for
+-- no more
 pub record HasRoom (bound peers : ℕ) (room : Room) : Type 0 where
   pub nothing_sent : room.send.items ≡ []
   pub nothing_noted : room.notes.items ≡ []
-  pub send_room : bound * peers + 1 + max_frames ≤ vec_capacity room.send
-  pub note_room : bound + bound ≤ vec_capacity room.notes
+  pub send_room : vec_capacity room.send ≡ bound * peers + 1 + max_frames
+  pub note_room : vec_capacity room.notes ≡ bound + bound

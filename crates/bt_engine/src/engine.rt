@@ -17,7 +17,7 @@ use bt_book::PeerKey;
 use bt_disk::Disk;
 use bt_machine::{
     AdoptError, Answer, ConnectError, EngineError, Event, FileReport, FlushError, Output,
-    StartRefused,
+    StartRefused, starts_keep_laws, steps_keep_laws,
 };
 use bt_meta::Torrent;
 use bt_state::Parts;
@@ -31,6 +31,8 @@ use std::marker::Model;
 pub struct Engine<D: Disk + Drop, H: NodeHash> {
     alloc: Global,
     parts: Parts<D, H>,
+    /// The digest of its trees, by which laws are called.
+    hash: H,
 }
 
 impl<D: Disk + Drop, H: NodeHash> Model for Engine<D, H> {
@@ -65,8 +67,9 @@ impl<D: Disk + Drop, H: NodeHash> Engine<D, H> {
         ensures { AnswersStart H.digest torrent disks.items result }
     {
         torrent.keeps_laws();
+        starts_keep_laws::<D, H>(hash);
         match bt_start::start(alloc, torrent, hash, disks) {
-            Ok(parts) => Ok(Engine { alloc, parts }),
+            Ok(parts) => Ok(Engine { alloc, parts, hash }),
             Err(refused) => Err(refused),
         }
     }
@@ -78,6 +81,7 @@ impl<D: Disk + Drop, H: NodeHash> Engine<D, H> {
             self.old Event.Connect (Answer.Connected result) self.new }
         ensures devices { self.new.disks ≡ self.old.disks }
     {
+        steps_keep_laws::<D, H>(self.hash);
         connect(self.alloc, &mut self.parts)
     }
 
@@ -87,6 +91,7 @@ impl<D: Disk + Drop, H: NodeHash> Engine<D, H> {
             self.old (Event.Feed peer bytes.now) (Answer.Fed result) self.new }
         ensures devices { self.new.disks ≡ self.old.disks }
     {
+        steps_keep_laws::<D, H>(self.hash);
         bt_state::feed(&mut self.parts, peer, bytes)
     }
 
@@ -99,6 +104,7 @@ impl<D: Disk + Drop, H: NodeHash> Engine<D, H> {
         ensures { StepsTo D.history D.honest D.faults H.digest
             self.old (Event.Next peer) (Answer.Stepped result) self.new }
     {
+        steps_keep_laws::<D, H>(self.hash);
         next(self.alloc, &mut self.parts, peer)
     }
 
@@ -108,6 +114,7 @@ impl<D: Disk + Drop, H: NodeHash> Engine<D, H> {
             self.old (Event.Lost peer) (Answer.Lost result) self.new }
         ensures devices { self.new.disks ≡ self.old.disks }
     {
+        steps_keep_laws::<D, H>(self.hash);
         bt_state::lost(&mut self.parts, peer)
     }
 
@@ -118,6 +125,7 @@ impl<D: Disk + Drop, H: NodeHash> Engine<D, H> {
             self.old Event.Rechoke (Answer.Rechoked result) self.new }
         ensures devices { self.new.disks ≡ self.old.disks }
     {
+        steps_keep_laws::<D, H>(self.hash);
         bt_upkeep::rechoke(self.alloc, &mut self.parts)
     }
 
@@ -129,6 +137,7 @@ impl<D: Disk + Drop, H: NodeHash> Engine<D, H> {
         ensures { StepsTo D.history D.honest D.faults H.digest
             self.old (Event.Adopt file) (Answer.Adopted result) self.new }
     {
+        steps_keep_laws::<D, H>(self.hash);
         bt_adoption::adopt(&mut self.parts, file)
     }
 
@@ -137,7 +146,13 @@ impl<D: Disk + Drop, H: NodeHash> Engine<D, H> {
         ensures { StepsTo D.history D.honest D.faults H.digest
             self.old Event.Flush (Answer.Flushed result) self.new }
     {
+        steps_keep_laws::<D, H>(self.hash);
         bt_upkeep::flush(&mut self.parts)
+    }
+
+    /// The digest of its trees. A law of digests is called with it.
+    pub fn hash(&self) -> H {
+        self.hash
     }
 
     /// The torrent that it was started with.

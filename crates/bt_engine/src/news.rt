@@ -14,7 +14,7 @@ ghost use Rattle.bt_engine.specs.NewsSteps.{TellMarks, marked_piece, marked_file
 
 use bt_book::PeerKey;
 use bt_disk::Disk;
-use bt_machine::{Frame, Note};
+use bt_machine::{Frame, Note, whole_pieces_are_marked};
 use bt_meta::Torrent;
 use bt_state::Parts;
 use bt_tree::NodeHash;
@@ -37,9 +37,10 @@ pub(crate) fn announce_pieces<D: Disk + Drop, H: NodeHash>(
     ensures few { vec_len send.new ≤ vec_len send.old + length notes.now * length parts.now.peers.items }
     ensures capacity { vec_capacity send.old ≤ vec_capacity send.new }
 {
-    // What every torrent keeps to is said by these two calls.
+    // What every torrent keeps to is said by these two calls, and which pieces are whole by the third.
     let _ = parts.torrent.piece_length();
     let _ = parts.torrent.files();
+    whole_pieces_are_marked();
     let mut last = None;
     for note in notes {
         let Some(piece) = unless_last(marked_piece(&parts.torrent, note), last) else {

@@ -23,8 +23,8 @@ pub(crate) struct Room {
     pub notes: Vec<Note>,
 }
 
-/// Makes room for whatever the event sends and notes: an answer, a have to each peer for each note, and what
-/// follows; its notes, and for each a complete file.
+/// Makes room for whatever the event sends and notes, and no more: an answer, a have to each peer that is
+/// there for each note, and what follows; its notes, and for each a complete file.
 pub(crate) fn reserve<D: Disk + Drop, H: NodeHash>(
     alloc: Global,
     parts: &Parts<D, H>,

@@ -5,7 +5,7 @@ ghost use Rattle.bt_engine.specs.Run.{RunsEvents};
 
 use crate::engine::Engine;
 use bt_disk::Disk;
-use bt_machine::{Answer, Event};
+use bt_machine::{Answer, Event, runs_compose};
 use bt_tree::NodeHash;
 use std::alloc::AllocError;
 
@@ -21,6 +21,7 @@ pub fn run_events<D: Disk + Drop, H: NodeHash>(
     ensures kept { OnErr result (engine.new ≡ engine.old) }
     ensures unanswered { OnErr result (answers.new.items ≡ answers.old.items) }
 {
+    runs_compose::<D, H>();
     answers.reserve(events.len())?;
     for event in events {
         answers.push(run_event(engine, event)).unwrap();

@@ -13,7 +13,7 @@ use Rattle.bt_sparse.specs.Unknown.{HoldsLeaves, IsNextUnknown}
 use Rattle.bt_sparse.proofs.Anchors.{known_above}
 use Rattle.bt_machine.proofs.Lists.{get_some, some_below, some_is, some_not_none, and_then_some, and_true}
 use Rattle.bt_machine.specs.State.{EngineState, PeerState, FileState}
-use Rattle.bt_machine.specs.Blocks.{state_at, tree_of, leaf_at, is_marked_in}
+use Rattle.bt_machine.specs.Blocks.{block_id, state_at, tree_of, leaf_at, is_marked_in}
 use Rattle.bt_machine.specs.Shape.{IsShaped}
 use Rattle.bt_machine.specs.FollowUp.{NeedsLeaf, IsLeastNeed}
 use Rattle.bt_state.specs.Parts.{state_of, file_of}
@@ -63,6 +63,12 @@ module _ (s : EngineState) (shaped : IsShaped s.torrent s) (b : BlockId) (h : Ha
   pub file_tree : (f : FileState) → slice_get s.files b.file ≡ Some f → (k : Facts) × (slice_get s.trees f.tree ≡ Some k) × (k.file_length ≡ h.entry.length)
   file_tree f at = let t = (shaped.each b.file h.entry f h.found at).has_tree some_bytes in (t.0, t.1, t.3)
 
+  pub has_tree : (k : Facts) × (tree_of s b.file ≡ Some k)
+  has_tree =
+      let f = get_some s.files b.file below in
+      let t = file_tree f.0 f.1 in
+      (t.0, ap (option_and_then (λ (g : FileState). slice_get s.trees g.tree)) f.1 ∙ t.1)
+
   pub leaf_inside : {k : Facts} → tree_of s b.file ≡ Some k → b.block < blocks_of k
   leaf_inside {k} tree =
       let f = and_then_some (λ (g : FileState). slice_get s.trees g.tree) (slice_get s.files b.file) tree in
@@ -96,8 +102,8 @@ module _ (dig : List ℕ → List ℕ) (s : EngineState) (shaped : IsShaped s.to
     after = omega (arith, is, some.after);
     known = λ c same from lt gone. some_not_none (some.nearest c.block from (omega (arith, lt, is)))
         (sym (leaf_is c (ap (tree_of s) same ∙ tree) (omega (arith, lt, is, some.block))) ∙ gone);
-    unknown = λ at.
-        leaf_is b tree (leaf_inside s shaped b h tree) ∙ ap (λ n. held_at k 0 n) (sym (sym is ∙ at)) ∙ some.unknown;
+    unknown = λ here.
+        leaf_is (block_id b.file next) tree (leaf_inside s shaped (block_id b.file next) here tree) ∙ ap (λ n. held_at k 0 n) is ∙ some.unknown;
   }
   unknown_by b {k} h tree None next is some none =
       let inside = leaf_inside s shaped b h tree in
@@ -105,7 +111,7 @@ module _ (dig : List ℕ → List ℕ) (s : EngineState) (shaped : IsShaped s.to
         after = omega (arith, is, inside);
         known = λ c same from lt gone. (let below : c.block < blocks_of k = omega (arith, lt, is) in
             some_not_none (none c.block from below) (sym (leaf_is c (ap (tree_of s) same ∙ tree) below) ∙ gone));
-        unknown = λ at. absurd (omega (arith, is, at, inside));
+        unknown = λ here. absurd (let past = leaf_inside s shaped (block_id b.file next) here tree in omega (arith, is, past));
       }
 
   -- ---- the key of the least leaf
@@ -133,11 +139,9 @@ module _ (dig : List ℕ → List ℕ) (s : EngineState) (shaped : IsShaped s.to
     not_known : (c : BlockId) {q : ℕ} → LiesIn s.torrent c q → NeedsLeaf dig s p c → slice_index_or known q false ≡ true → ⊥
     not_known c l n is =
         let among : LiesAmong s known c = has_of_held s shaped (record p { has = known }) c (lies_held s.torrent known c l is) in
-        let f = get_some s.files c.file (below s shaped c l.has) in
-        let t = file_tree s shaped c l.has f.0 f.1 in
-        let tree : tree_of s c.file ≡ Some t.0 = ap (option_and_then (λ (g : FileState). slice_get s.trees g.tree)) f.1 ∙ t.1 in
-        let inside = leaf_inside s shaped c l.has tree in
-        some_not_none (knows.each c t.0 l.has among tree) (sym (leaf_is c tree inside) ∙ n.unknown)
+        let tree = has_tree s shaped c l.has in
+        let inside = leaf_inside s shaped c l.has tree.1 in
+        some_not_none (knows.each c tree.0 l.has among tree.1) (sym (leaf_is c tree.1 inside) ∙ n.unknown)
 
     needs_held : (c : BlockId) → NeedsLeaf dig s p c → is_held s.torrent (without p.has known) c ≡ true
     needs_held c n =
@@ -172,7 +176,8 @@ module _ (dig : List ℕ → List ℕ) (s : EngineState) (shaped : IsShaped s.to
               needs = record {
                 has = has_of_held s shaped p held (held_by_peer held first.held);
                 not_marked = not_marked (state_at s held) state.1 unmarked;
-                unknown = unknown.unknown here;
+                unknown = subst (λ n. leaf_at dig s (block_id held.file n) ≡ None) here
+                    (unknown.unknown (subst (λ n. HasBlock s.torrent held.file n) (sym here) (held_lies s.torrent (without p.has known) held first.held).1.has));
               };
               least = λ c n before. none_before c before n;
             }

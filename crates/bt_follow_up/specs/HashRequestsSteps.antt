@@ -1,12 +1,13 @@
 -- The hash request that is sent to the peer at a place, and the search for the leaf that it asks for.
 use Rattle.std.specs.Prelude.{◌≡◌, ◌≢◌, ℕ, ◌<◌, ◌≤◌, List, Option, Some, None, slice_get}
+use Rattle.bt_meta.specs.PieceBlocks.{HasBlock}
 use Rattle.bt_sparse.specs.SparseTree.{Facts}
 use Rattle.bt_hashreq.specs.Request.{IsPlan}
 use Rattle.bt_hashreq.specs.declared.key.HashKey.{HashKey}
 use Rattle.bt_book.specs.declared.names.BlockId.{BlockId}
 use Rattle.bt_wire.specs.declared.message.Message.{Message}
 use Rattle.bt_machine.specs.State.{PeerState, EngineState}
-use Rattle.bt_machine.specs.Blocks.{tree_of, leaf_at, with_peer}
+use Rattle.bt_machine.specs.Blocks.{block_id, tree_of, leaf_at, with_peer}
 use Rattle.bt_machine.specs.FollowUp.{NeedsLeaf, IsLeastNeed, RequestsHashes}
 use Rattle.bt_follow_up.specs.SendingSteps.{frames_of}
 
@@ -31,9 +32,9 @@ pub record AsksForLeast (dig : List ℕ → List ℕ) (s : EngineState) (p : Pee
 abbrev pub NeedsNoLeaf : (List ℕ → List ℕ) → EngineState → PeerState → Type 0
 NeedsNoLeaf dig s p = (b : BlockId) → ¬ NeedsLeaf dig s p b
 
--- in the block's file the leaves from the block on are known up to this one, which is the block where its
--- own leaf is unknown
+-- in the block's file the leaves from the block on are known up to this one, which is not, unless the file
+-- ends there
 pub record IsUnknownFrom (dig : List ℕ → List ℕ) (s : EngineState) (b : BlockId) (next : ℕ) : Type 0 where
   pub after : b.block ≤ next
   pub known : (c : BlockId) → c.file ≡ b.file → b.block ≤ c.block → c.block < next → leaf_at dig s c ≢ None
-  pub unknown : next ≡ b.block → leaf_at dig s b ≡ None
+  pub unknown : HasBlock s.torrent b.file next → leaf_at dig s (block_id b.file next) ≡ None

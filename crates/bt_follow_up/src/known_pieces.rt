@@ -1,11 +1,12 @@
 //! Pieces of whose blocks each leaf is known, so that the search for a leaf that is needed passes them at
 //! once.
-ghost use Rattle.std.specs.Prelude.{◌≡◌, ◌<◌, ◌≤◌, length, vec_len};
+ghost use Rattle.std.specs.Prelude.{◌≡◌, ◌<◌, ◌≤◌, Some, length, slice_get, vec_len};
 ghost use Rattle.bt_meta.specs.Torrent.{total_pieces};
 ghost use Rattle.bt_machine.specs.Shape.{IsShaped};
 ghost use Rattle.bt_state.specs.Parts.{state_of};
 ghost use Rattle.bt_state.specs.Ties.{IsTied};
-ghost use Rattle.bt_follow_up.specs.KnownPiecesSteps.{AreKnownTo};
+ghost use Rattle.bt_state.specs.declared.peer.Peer.{Peer};
+ghost use Rattle.bt_follow_up.specs.KnownPiecesSteps.{AreAllNoted, AreKnownTo, AreNoted, IsKnown};
 
 use crate::hash_requests::next_unknown;
 use crate::held::first_piece;
@@ -21,6 +22,8 @@ pub(crate) fn note_known_pieces<D: Disk + Drop, H: NodeHash>(parts: &mut Parts<D
     requires shaped { IsShaped parts.old.torrent (state_of parts.old) }
     requires here { index < vec_len parts.old.peers }
     requires there { index < length parts.old.peers.items }
+    ensures noted { (peer : Peer) → slice_get parts.old.peers.items index ≡ Some peer
+        → AreAllNoted (state_of parts.old) peer.has parts.new.known }
     ensures others { parts.new ≡ record parts.old { known = parts.new.known } }
     ensures tied { IsTied parts.new }
 {
@@ -40,6 +43,8 @@ fn known_to<D: Disk + Drop, H: NodeHash>(parts: &Parts<D, H>, piece: u32) -> u32
     requires tied { IsTied parts.now }
     requires shaped { IsShaped parts.now.torrent (state_of parts.now) }
     ensures known { AreKnownTo (state_of parts.now) piece result }
+    ensures unknown { piece < total_pieces parts.now.torrent → result ≤ piece
+        → ¬ IsKnown (state_of parts.now) piece }
     ensures inside { piece < result → result ≤ total_pieces parts.now.torrent }
 {
     let torrent = &parts.torrent;
@@ -64,6 +69,7 @@ fn note_pieces<D: Disk + Drop, H: NodeHash>(parts: &mut Parts<D, H>, from: u32, 
     requires tied { IsTied parts.old }
     requires known { AreKnownTo (state_of parts.old) from to }
     requires inside { to ≤ total_pieces parts.old.torrent }
+    ensures noted { AreNoted parts.old.known parts.new.known from to }
     ensures others { parts.new ≡ record parts.old { known = parts.new.known } }
     ensures tied { IsTied parts.new }
 {

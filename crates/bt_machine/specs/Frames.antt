@@ -24,6 +24,15 @@ CanBeWritten (Message m) = Fits m
 abbrev pub AreSparseTrees : (List ℕ → List ℕ) → EngineState → Type 0
 AreSparseTrees dig s = (t : ℕ) (k : Facts) → slice_get s.trees t ≡ Some k → IsSound dig k
 
+-- so are those of a lawful torrent's beginning
+abbrev pub StartsSparse : (List ℕ → List ℕ) → Type 0
+StartsSparse dig = (torrent : Metainfo) (first : EngineState)
+    → IsLawful torrent.piece_length torrent.files → Starts dig torrent first → AreSparseTrees dig first
+
+abbrev pub StepKeepsSparse : (List ℕ → List ℕ) → Type 0
+StepKeepsSparse dig = (old new : EngineState) (event : Event) (calls : DeviceCalls) (answer : Answer)
+    → Step dig old event calls answer new → AreSparseTrees dig old → AreSparseTrees dig new
+
 abbrev pub StepSendsWhatFits : (List ℕ → List ℕ) → Type 0
 StepSendsWhatFits dig = (torrent : Metainfo) (old new : EngineState) (event : Event) (calls : DeviceCalls)
     (answer : Answer) → IsLawful torrent.piece_length torrent.files → IsShaped torrent old

@@ -38,6 +38,11 @@ use Rattle.bt_machine.specs.Step.{Step, Run}
 abbrev pub AreRooted : (List ℕ → List ℕ) → EngineState → Type 0
 AreRooted dig s = (t : ℕ) (k : Facts) → slice_get s.trees t ≡ Some k → IsRooted dig k
 
+-- so are those of a lawful torrent's beginning
+abbrev pub StartsRooted : (List ℕ → List ℕ) → Type 0
+StartsRooted dig = (torrent : Metainfo) (first : EngineState)
+    → IsLawful torrent.piece_length torrent.files → Starts dig torrent first → AreRooted dig first
+
 abbrev pub StepKeepsRooted : (List ℕ → List ℕ) → Type 0
 StepKeepsRooted dig = (old new : EngineState) (event : Event) (calls : DeviceCalls) (answer : Answer)
     → Step dig old event calls answer new → AreRooted dig old → AreRooted dig new

@@ -33,6 +33,9 @@ pub record IsOrderly (s : EngineState) : Type 0 where
   pub apart : AllPairs AskedApart s.peers
   pub each : (p : PeerState) → Contains s.peers p → IsOrderlyPeer s p
 
+abbrev pub StartsInOrder : (List ℕ → List ℕ) → Type 0
+StartsInOrder dig = (torrent : Metainfo) (first : EngineState) → Starts dig torrent first → IsOrderly first
+
 abbrev pub StepKeepsOrder : (List ℕ → List ℕ) → Type 0
 StepKeepsOrder dig = (old new : EngineState) (event : Event) (calls : DeviceCalls) (answer : Answer)
     → Step dig old event calls answer new → IsOrderly old → IsOrderly new

@@ -10,7 +10,7 @@ use Rattle.bt_machine.specs.State.{FileState, EngineState}
 use Rattle.bt_machine.specs.Devices.{DeviceCalls}
 use Rattle.bt_machine.specs.Start.{Starts}
 use Rattle.bt_machine.specs.declared.event.Answer.{Answer}
-use Rattle.bt_machine.specs.Step.{Run}
+use Rattle.bt_machine.specs.Step.{Step, Run}
 
 -- it has a state for each of the file's blocks, and where there is one, the tree of its root
 pub record HasShapeOf (file : File) (trees : List Facts) (f : FileState) : Type 0 where
@@ -25,6 +25,35 @@ pub record IsShaped (torrent : Metainfo) (s : EngineState) : Type 0 where
   pub count : length s.files ≡ length torrent.files
   pub each : (i : ℕ) (file : File) (f : FileState) → slice_get torrent.files i ≡ Some file
       → slice_get s.files i ≡ Some f → HasShapeOf file s.trees f
+
+abbrev pub StartsInShape : (List ℕ → List ℕ) → Type 0
+StartsInShape dig =
+    (torrent : Metainfo) (first : EngineState) → Starts dig torrent first → IsShaped torrent first
+
+abbrev pub StepKeepsShape : (List ℕ → List ℕ) → Type 0
+StepKeepsShape dig = (torrent : Metainfo) (old new : EngineState) (event : Event) (calls : DeviceCalls)
+    (answer : Answer) → IsShaped torrent old → Step dig old event calls answer new → IsShaped torrent new
+
+-- a file of the new engine is one of the old, with the tree that it had
+pub record HasOldTree (old : EngineState) (i : ℕ) (f : FileState) : Type 0 where
+  pub before : FileState
+  pub here : slice_get old.files i ≡ Some before
+  pub tree : f.tree ≡ before.tree
+
+-- a tree of the old engine is one of the new, of a file as long as it was
+pub record HasNewTree (new : EngineState) (t : ℕ) (k : Facts) : Type 0 where
+  pub after : Facts
+  pub here : slice_get new.trees t ≡ Some after
+  pub length : after.file_length ≡ k.file_length
+
+-- So it is over each event, of any engine.
+pub record StepKeepsFiles (dig : List ℕ → List ℕ) : Type 0 where
+  pub files : (old new : EngineState) (event : Event) (calls : DeviceCalls) (answer : Answer)
+      → Step dig old event calls answer new
+      → (i : ℕ) (f : FileState) → slice_get new.files i ≡ Some f → HasOldTree old i f
+  pub trees : (old new : EngineState) (event : Event) (calls : DeviceCalls) (answer : Answer)
+      → Step dig old event calls answer new
+      → (t : ℕ) (k : Facts) → slice_get old.trees t ≡ Some k → HasNewTree new t k
 
 -- there is no log, no hint from one, and none that is to be written
 pub record HasNoLog (s : EngineState) : Type 0 where

@@ -8,7 +8,9 @@ use Rattle.bt_machine.specs.State.{FileState, EngineState}
 use Rattle.bt_machine.specs.Devices.{DeviceCalls, HaveCalls}
 use Rattle.bt_machine.specs.Request.{IsFile}
 use Rattle.bt_machine.specs.Stored.{AreRight, HasFile}
+use Rattle.bt_meta.specs.Torrent.{Metainfo}
 use Rattle.bt_machine.specs.Law.{AreRooted}
+use Rattle.bt_machine.specs.Start.{Starts}
 use Rattle.bt_machine.specs.declared.event.Answer.{Answer}
 use Rattle.bt_machine.specs.Step.{Step}
 
@@ -18,7 +20,12 @@ abbrev pub IsSound : {D : Type 0} → (D → History) → (D → Type 0) → (Li
 IsSound {D} history honest dig s disks = (file : ℕ) (f : FileState) (k : Facts) (d : D) → IsFile s file f k
     → slice_get disks file ≡ Some (Some d) → honest d → AreRight dig k (history d).now.bytes f.states
 
--- Each event keeps it so, whatever the devices answer.
+-- It is so at the beginning, since no block is marked,
+abbrev pub StartsSound : {D : Type 0} → (D → History) → (D → Type 0) → (List ℕ → List ℕ) → Type 0
+StartsSound {D} history honest dig = (torrent : Metainfo) (first : EngineState) (disks : List (Option D))
+    → Starts dig torrent first → IsSound history honest dig first disks
+
+-- and each event keeps it so, whatever the devices answer.
 abbrev pub StepKeepsSound : {D : Type 0} → (D → History) → (D → Type 0) → (D → ℕ) → (List ℕ → List ℕ) → Type 0
 StepKeepsSound {D} history honest faults dig = (old new : EngineState) (event : Event) (calls : DeviceCalls)
     (answer : Answer) (disks after : List (Option D))
@@ -35,6 +42,15 @@ RunOn {D} history honest faults dig old disks (event ∷ events) (calls ∷ more
     × Step dig old event calls answer next × HaveCalls history honest faults disks calls between
     × RunOn history honest faults dig next between events more answers new after
 RunOn {D} history honest faults dig old disks _ _ _ new after = ⊥
+
+-- A device that is honest after a list of events was there before it, and honest.
+abbrev pub HonestDevicesWereSo : {D : Type 0} → (D → History) → (D → Type 0) → (D → ℕ) → (List ℕ → List ℕ)
+    → Type 0
+HonestDevicesWereSo {D} history honest faults dig = (old new : EngineState) (events : List Event)
+    (calls : List DeviceCalls) (answers : List Answer) (disks after : List (Option D)) (file : ℕ) (e : D)
+    → RunOn history honest faults dig old disks events calls answers new after
+    → slice_get after file ≡ Some (Some e) → honest e
+    → (d : D) × (slice_get disks file ≡ Some (Some d)) × honest d
 
 -- So where all blocks of a file are marked and its device is honest, the file stands there with its tree's
 -- root.

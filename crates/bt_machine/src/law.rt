@@ -1,12 +1,13 @@
-ghost use Rattle.bt_machine.specs.Law.{RunsAreChecked, RightIsChecked, RunMarksByBytes, RunSendsReadBytes};
+ghost use Rattle.bt_machine.specs.Law.{StartsRooted, StepKeepsRooted, RunsAreChecked, RightIsChecked, RunMarksByBytes, StepMarksByBytes, RunSendsReadBytes};
+ghost use Rattle.bt_machine.specs.Sound.{StartsSound, StepKeepsSound, HonestDevicesWereSo, CompleteFilesStand};
 ghost use Rattle.bt_machine.specs.Writes.{StepWritesMissing};
 ghost use Rattle.bt_machine.specs.Unmarks.{StepUnmarksByBytes, RunKeepsMarks};
 ghost use Rattle.bt_machine.specs.Headline.{CompleteFilesArePublished};
-ghost use Rattle.bt_machine.specs.Survival.{RunsKeepFlushedBlocks, RunKeepsImages};
-ghost use Rattle.bt_machine.specs.Orderly.{RunsAreOrderly};
-ghost use Rattle.bt_machine.specs.Shape.{RunsKeepShape};
+ghost use Rattle.bt_machine.specs.Survival.{FlushKeepsBlocks, RunsKeepFlushedBlocks, RunKeepsImages};
+ghost use Rattle.bt_machine.specs.Orderly.{StartsInOrder, StepKeepsOrder, RunsAreOrderly};
+ghost use Rattle.bt_machine.specs.Shape.{StartsInShape, StepKeepsShape, StepKeepsFiles, RunsKeepShape};
 ghost use Rattle.bt_machine.specs.ProofKeys.{ProofKeysAreAnswered};
-ghost use Rattle.bt_machine.specs.Frames.{StepSendsWhatFits, RunsSendWhatFits};
+ghost use Rattle.bt_machine.specs.Frames.{StartsSparse, StepKeepsSparse, StepSendsWhatFits, RunsSendWhatFits};
 ghost use Rattle.bt_machine.specs.Changes.{NewMarkedBlocksAreOfChanges, NewWholePiecesAreOfChanges, HavesAreOfChanges, NewCompleteFilesAreOfChanges, PieceIsWhole, RunIsWhole};
 ghost use Rattle.bt_machine.specs.DeviceLaw.{NoCallsLead, CallsOfOneLead, CallsCompose};
 ghost use Rattle.bt_machine.specs.View.{NoEventsRun, OneMoreEventRuns, RunsCompose, RunsAreRuns};
@@ -16,6 +17,34 @@ use bt_meta::blocks_and_ranges_agree;
 use bt_sparse::{held_is_checked, keeps_rooted, layers_are_sound, roots_are_sound};
 use bt_store::adopt_marks_by_bytes;
 use bt_tree::{NodeHash, heights_are_least, roots_tell_files};
+
+/// What holds of every engine holds of one that begins with a lawful torrent: it has the torrent's shape, its
+/// peers are in order, its trees are rooted and have digests of 32 bytes, and the marked blocks of honest
+/// devices are right, since there are none.
+pub fn starts_keep_laws<D: Disk, H: NodeHash>(hash: H)
+    ensures shaped { StartsInShape H.digest }
+    ensures orderly { StartsInOrder H.digest }
+    ensures rooted { StartsRooted H.digest }
+    ensures sparse { StartsSparse H.digest }
+    ensures sound { StartsSound D.history D.honest H.digest }
+{
+    layers_are_sound(hash);
+    roots_are_sound(hash);
+}
+
+/// And it goes on to hold over each event, whatever peers send and devices answer. A file keeps its tree, and
+/// a tree the length of its file.
+pub fn steps_keep_laws<D: Disk, H: NodeHash>(hash: H)
+    ensures shaped { StepKeepsShape H.digest }
+    ensures files { StepKeepsFiles H.digest }
+    ensures orderly { StepKeepsOrder H.digest }
+    ensures rooted { StepKeepsRooted H.digest }
+    ensures sparse { StepKeepsSparse H.digest }
+    ensures sound { StepKeepsSound D.history D.honest D.faults H.digest }
+{
+    keeps_rooted(hash);
+    adopt_marks_by_bytes(hash);
+}
 
 /// After any list of events from the start of a lawful torrent every tree is rooted, and every digest that
 /// one holds lies on a checked path to its root.
@@ -45,9 +74,16 @@ pub fn run_marks_by_bytes<H: NodeHash>(hash: H)
     adopt_marks_by_bytes(hash);
 }
 
+/// So it is of a block that one event has marked.
+pub fn step_marks_by_bytes<H: NodeHash>(hash: H)
+    ensures { StepMarksByBytes H.digest }
+{
+    adopt_marks_by_bytes(hash);
+}
+
 /// What an answer of a list of events sends of data was asked for in that answer's own event, and is cut from
 /// blocks that were read in it with the digests of their leaves.
-pub fn run_sends_read_bytes<H: NodeHash>(_hash: H)
+pub fn run_sends_read_bytes<H: NodeHash>()
     ensures { RunSendsReadBytes H.digest }
 {}
 
@@ -55,7 +91,7 @@ pub fn run_sends_read_bytes<H: NodeHash>(_hash: H)
 /// blocks of a file are marked and its device is honest, the file that stands there has the torrent's length
 /// and root. So it equals every file of that length and root, or at one place of their trees two different
 /// inputs have one digest.
-pub fn complete_files_are_published<D: Disk, H: NodeHash>(_disk: &D, hash: H)
+pub fn complete_files_are_published<D: Disk, H: NodeHash>(hash: H)
     ensures { CompleteFilesArePublished D.history D.honest D.faults H.digest }
 {
     layers_are_sound(hash);
@@ -65,10 +101,29 @@ pub fn complete_files_are_published<D: Disk, H: NodeHash>(_disk: &D, hash: H)
     roots_tell_files(hash);
 }
 
+/// Where an engine's trees are rooted and the marked blocks of honest devices are right, a file of which all
+/// blocks are marked stands whole on an honest device, with its tree's root.
+pub fn complete_files_stand<D: Disk, H: NodeHash>()
+    ensures { CompleteFilesStand D.history D.honest H.digest }
+{}
+
+/// A device that is honest after a list of events was there before it, and honest.
+pub fn honest_devices_were_so<D: Disk, H: NodeHash>()
+    ensures { HonestDevicesWereSo D.history D.honest D.faults H.digest }
+{}
+
+/// When a flush answers Ok, every marked block of an honest device is kept as it stands, by every image from
+/// that moment on.
+pub fn flush_keeps_blocks<D: Disk, H: NodeHash>()
+    ensures { FlushKeepsBlocks D.history D.honest D.faults H.digest }
+{
+    calls_keep_bytes();
+}
+
 /// After any list of events from the start of a torrent, whatever peers send and devices answer: a crash at
 /// any moment after a flush that answered Ok, also within an event, leaves each block right on an honest
 /// device that was marked at the flush.
-pub fn runs_keep_flushed_blocks<D: Disk, H: NodeHash>(_disk: &D, hash: H)
+pub fn runs_keep_flushed_blocks<D: Disk, H: NodeHash>(hash: H)
     ensures { RunsKeepFlushedBlocks D.history D.honest D.faults H.digest }
 {
     calls_keep_bytes();
@@ -77,7 +132,7 @@ pub fn runs_keep_flushed_blocks<D: Disk, H: NodeHash>(_disk: &D, hash: H)
 
 /// Where marked blocks are right on honest devices: what every image since a moment has of a marked block,
 /// every image goes on to have over a list of events, also those of a crash within one.
-pub fn run_keeps_images<D: Disk, H: NodeHash>(_disk: &D, hash: H)
+pub fn run_keeps_images<D: Disk, H: NodeHash>(hash: H)
     ensures { RunKeepsImages D.history D.honest D.faults H.digest }
 {
     calls_keep_bytes();
@@ -85,7 +140,7 @@ pub fn run_keeps_images<D: Disk, H: NodeHash>(_disk: &D, hash: H)
 }
 
 /// Where marked blocks are right on honest devices, a marked block on one stays marked over a list of events.
-pub fn run_keeps_marks<D: Disk, H: NodeHash>(_disk: &D, hash: H)
+pub fn run_keeps_marks<D: Disk, H: NodeHash>(hash: H)
     ensures { RunKeepsMarks D.history D.honest D.faults H.digest }
 {
     adopt_marks_by_bytes(hash);
@@ -93,32 +148,32 @@ pub fn run_keeps_marks<D: Disk, H: NodeHash>(_disk: &D, hash: H)
 
 /// Whatever devices do, a marked block ceases to be so in one way only: it was read in this event, and its
 /// device gave other bytes than those of its leaf.
-pub fn step_unmarks_by_bytes<H: NodeHash>(_hash: H)
+pub fn step_unmarks_by_bytes<H: NodeHash>()
     ensures { StepUnmarksByBytes H.digest }
 {}
 
 /// An event changes a device by one write at most, of a block that is missing: all of it, at its place. What
 /// waits or is marked is never written.
-pub fn step_writes_missing<H: NodeHash>(_hash: H)
+pub fn step_writes_missing<H: NodeHash>()
     ensures { StepWritesMissing H.digest }
 {}
 
 /// After any list of events from the start of a torrent at most 64 peers are connected, in the order of
 /// their keys, and to none of them was a fault of its stream answered. Each is asked for at most 16 blocks,
 /// which are missing, and no block is asked twice.
-pub fn runs_are_orderly<H: NodeHash>(_hash: H)
+pub fn runs_are_orderly<H: NodeHash>()
     ensures { RunsAreOrderly H.digest }
 {}
 
 /// After any list of events from the start of a torrent there are its files, each with a state for each block
 /// and, where it has one, the tree of its root, one tree for each root, and no hint for a log.
-pub fn runs_keep_shape<H: NodeHash>(_hash: H)
+pub fn runs_keep_shape<H: NodeHash>()
     ensures { RunsKeepShape H.digest }
 {}
 
 /// Where the blocks of a group were claimed together and found right, the tree answers the keys of the proofs
 /// that are left for a log, and they are of the right shape.
-pub fn proof_keys_are_answered<H: NodeHash>(_hash: H)
+pub fn proof_keys_are_answered<H: NodeHash>()
     ensures { ProofKeysAreAnswered H.digest }
 {
     heights_are_least();
@@ -144,7 +199,7 @@ pub fn whole_pieces_are_marked()
 
 /// No call leads from devices to themselves, calls of one file's device are calls of all devices, and calls
 /// and then others, as those of two events, are these calls one after the other.
-pub fn device_calls_compose<D: Disk>(_disk: &D)
+pub fn device_calls_compose<D: Disk>()
     ensures none { NoCallsLead D.history D.honest D.faults }
     ensures one { CallsOfOneLead D.history D.honest D.faults }
     ensures both { CallsCompose D.history D.honest D.faults }
@@ -152,7 +207,7 @@ pub fn device_calls_compose<D: Disk>(_disk: &D)
 
 /// Lists of events of an engine with its devices are put together, event by event or list by list; and what
 /// is said of lists of events whatever the devices are, is said of them.
-pub fn runs_compose<D: Disk, H: NodeHash>(_disk: &D, _hash: H)
+pub fn runs_compose<D: Disk, H: NodeHash>()
     ensures none { NoEventsRun D.history D.honest D.faults H.digest }
     ensures one_more { OneMoreEventRuns D.history D.honest D.faults H.digest }
     ensures both { RunsCompose D.history D.honest D.faults H.digest }

@@ -1,5 +1,6 @@
 //! A seed store of BitTorrent v2 (BEP 3, BEP 52) as a machine over events: what one event answers and leaves,
-//! and what follows for lists of events. There are definitions and laws, and no engine yet.
+//! and what follows for lists of events. There are definitions and laws, and the types that
+//! code shares with them; the engine that runs as the machine does is in crates above.
 #![tactic(auto)]
 
 mod answer;
@@ -14,10 +15,11 @@ pub use error::{AdoptError, ConnectError, EngineError, FlushError, StartError, S
 pub use event::{Answer, Event};
 pub use hash_state::HashState;
 pub use law::{
-    complete_files_are_published, device_calls_compose, events_send_what_fits, news_is_of_changes,
+    complete_files_are_published, complete_files_stand, device_calls_compose,
+    events_send_what_fits, flush_keeps_blocks, honest_devices_were_so, news_is_of_changes,
     proof_keys_are_answered, right_is_checked, run_keeps_images, run_keeps_marks,
     run_marks_by_bytes, run_sends_read_bytes, runs_are_checked, runs_are_orderly, runs_compose,
-    runs_keep_flushed_blocks, runs_keep_shape, step_unmarks_by_bytes, step_writes_missing,
-    whole_pieces_are_marked,
+    runs_keep_flushed_blocks, runs_keep_shape, starts_keep_laws, step_marks_by_bytes,
+    step_unmarks_by_bytes, step_writes_missing, steps_keep_laws, whole_pieces_are_marked,
 };
 pub use report::FileReport;

@@ -1,11 +1,11 @@
 -- What a flush that answered Ok has kept, no later stop loses.
-use Rattle.bt_disk.proofs.Histories.{kept_from_now, calls_keep_bytes}
-use Rattle.bt_store.proofs.AdoptionMarks.{adopt_marks}
 use Rattle.bt_machine.proofs.Base.{[], ◌≡◌, ℕ, List, ◌∷◌, ◌++◌, Option, Some, Ok, refl, sym, ap, ◌∙◌, subst, slice_get, History, Facts, block_length}
-use Rattle.bt_disk.specs.State.{IsImage}
 use Rattle.bt_disk.specs.History.{moment_of}
 use Rattle.bt_machine.specs.Crash.{IsBlockKept}
-use Rattle.bt_machine.specs.Sound.{IsSound}
+use Rattle.bt_machine.specs.Shape.{StepKeepsFiles}
+use Rattle.bt_machine.specs.Sound.{IsSound, StepKeepsSound, HonestDevicesWereSo}
+use Rattle.bt_machine.specs.Survival.{FlushKeepsBlocks, RunKeepsImages}
+use Rattle.bt_machine.specs.Unmarks.{RunKeepsMarks}
 use Rattle.bt_machine.specs.State.{EngineView}
 use Rattle.bt_machine.specs.View.{StepsTo}
 use Rattle.bt_machine.specs.declared.event.Event.{Event}
@@ -14,10 +14,6 @@ use Rattle.bt_machine.specs.declared.event.Answer.{Answer}
 use Rattle.bt_machine.specs.declared.event.Answer.TheVariants.{Flushed}
 use Rattle.bt_machine.proofs.Machine.{Digest, FileState, EngineState, DeviceCalls, Step, RunOn, IsFile, stored_block}
 use Rattle.bt_machine.proofs.Lists.{and_then_some, same_some}
-use Rattle.bt_machine.proofs.Shape.{step_keeps}
-use Rattle.bt_machine.proofs.Sound.{step_sound}
-use Rattle.bt_machine.proofs.Survival.{flush_kept, images_run}
-use Rattle.bt_machine.proofs.Unmarks.{device_before, run_marks_kept}
 use Rattle.bt_runs.specs.Flushes.{LosesNoBlock, IsFlushedAt, FlushesLoseNoBlock, KeepsFlushed, FlushedBlocksStay}
 
 -- this is the answer of a flush
@@ -30,14 +26,14 @@ is_flush dig Rechoke s new calls step = let is = step.1 in absurd cc
 is_flush dig (Adopt file) s new calls step = let is = step.1 in absurd cc
 is_flush dig Flush s new calls step = refl
 
-module _ {D : Type 0} (history : D → History) (honest : D → Type 0) (faults : D → ℕ) (dig : Digest) where
+module _ {D : Type 0} (history : D → History) (honest : D → Type 0) (faults : D → ℕ) (dig : Digest) (kept : StepKeepsFiles dig) where
   -- a file has the tree that it had
   file_stays : (s new : EngineState) (events : List Event) (calls : List DeviceCalls) (answers : List Answer) (disks after : List (Option D)) (i : ℕ) (f : FileState)
       → RunOn history honest faults dig s disks events calls answers new after → slice_get new.files i ≡ Some f → (old : FileState) × (slice_get s.files i ≡ Some old) × (f.tree ≡ old.tree)
   file_stays s new [] [] [] disks after i f run at = (f, ap (λ z. slice_get z.files i) (sym run.0) ∙ at, refl)
   file_stays s new (e ∷ es) (c ∷ calls) (a ∷ answers) disks after i f run at =
       let mid = file_stays run.0 new es calls answers run.1 after i f run.4 at in
-      let first = (step_keeps dig e c a run.2).files i mid.0 mid.1 in
+      let first = kept.files s run.0 e c a run.2 i mid.0 mid.1 in
       (first.before, first.here, mid.2 ∙ first.tree)
   file_stays s new _ _ _ disks after i f run at = absurd run
 
@@ -46,38 +42,39 @@ module _ {D : Type 0} (history : D → History) (honest : D → Type 0) (faults 
       → RunOn history honest faults dig s disks events calls answers new after → slice_get s.trees t ≡ Some k → (now : Facts) × (slice_get new.trees t ≡ Some now) × (now.file_length ≡ k.file_length)
   tree_stays s new [] [] [] disks after t k run at = (k, ap (λ z. slice_get z.trees t) run.0 ∙ at, refl)
   tree_stays s new (e ∷ es) (c ∷ calls) (a ∷ answers) disks after t k run at =
-      let first = (step_keeps dig e c a run.2).trees t k at in
+      let first = kept.trees s run.0 e c a run.2 t k at in
       let rest = tree_stays run.0 new es calls answers run.1 after t first.after run.4 first.here in
       (rest.0, rest.1, rest.2 ∙ first.length)
   tree_stays s new _ _ _ disks after t k run at = absurd run
 
-module _ {D : Type 0} (history : D → History) (honest : D → Type 0) (faults : D → ℕ) (dig : Digest) (reads : (d : D) → honest d → IsImage (history d).now (history d).now.bytes) where
+module _ {D : Type 0} (history : D → History) (honest : D → Type 0) (faults : D → ℕ) (dig : Digest) (were_so : HonestDevicesWereSo history honest faults dig)
+    (run_keeps_images : RunKeepsImages history honest faults dig) (run_keeps_marks : RunKeepsMarks history honest faults dig) where
   -- what is marked at a flush, no stop after it loses
-  pub none_lost : (old flushed new : EngineView D) (events : List Event) (calls : List DeviceCalls) (answers : List Answer)
+  pub none_lost : FlushKeepsBlocks history honest faults dig → (old flushed new : EngineView D) (events : List Event) (calls : List DeviceCalls) (answers : List Answer)
       → IsSound history honest dig flushed.state flushed.disks → StepsTo history honest faults dig old Flush (Flushed (Ok tt)) flushed
       → RunOn history honest faults dig flushed.state flushed.disks events calls answers new.state new.disks → LosesNoBlock history honest dig flushed new
-  none_lost old flushed new events calls answers sound step run b k d e marked hung there_then there honest_now =
+  none_lost flush_keeps old flushed new events calls answers sound step run b k d e marked hung there_then there honest_now =
       let f = and_then_some (λ (q : FileState). slice_get q.states b.block) (slice_get flushed.state.files b.file) marked in
       let g = and_then_some (λ (q : FileState). slice_get flushed.state.trees q.tree) (slice_get flushed.state.files b.file) hung in
       let same : g.0 ≡ f.0 = same_some g.1 f.1 in
       let is : IsFile flushed.state b.file f.0 k = record { here = f.1; has_tree = ap (λ (q : FileState). slice_get flushed.state.trees q.tree) (sym same) ∙ g.2 } in
-      let back = device_before history honest faults dig flushed.state new.state events calls answers flushed.disks new.disks b.file run there honest_now in
+      let back = were_so flushed.state new.state events calls answers flushed.disks new.disks b.file e run there honest_now in
       let one : d ≡ back.0 = cc in
       let honest_then : honest d = rw one back.2 in
       let right = sound b.file f.0 k d is there_then honest_then b.block f.2 in
-      let kept = flush_kept history honest faults dig kept_from_now old.state flushed.state step.calls old.disks flushed.disks b.file b.block f.0 k d step.step step.made is f.2 there_then honest_then in
+      let kept = flush_keeps old.state flushed.state step.calls old.disks flushed.disks b.file b.block f.0 k d step.step step.made is f.2 there_then honest_then in
       let each : (x : D) → slice_get flushed.disks b.file ≡ Some (Some x) → IsBlockKept (history x) (moment_of (history d)) b.block (stored_block k.file_length (history d).now.bytes b.block) = λ x at.
       (let same : x ≡ d = cc in rw same kept) in
       record {
         right = right;
-        kept = images_run history honest faults dig (adopt_marks dig) calls_keep_bytes reads flushed.state new.state events calls answers flushed.disks new.disks b.file b.block (moment_of (history d)) f.0 k _ e run sound is f.2 right.whole there honest_now each;
-        marked = run_marks_kept history honest faults dig (adopt_marks dig) flushed.state new.state events calls answers flushed.disks new.disks b e run sound there honest_now marked;
+        kept = run_keeps_images flushed.state new.state events calls answers flushed.disks new.disks b.file b.block (moment_of (history d)) f.0 k _ e run sound is f.2 right.whole there honest_now each;
+        marked = run_keeps_marks flushed.state new.state events calls answers flushed.disks new.disks b e run sound there honest_now marked;
       }
 
-  at_flush : (first last : EngineView D) (events : List Event) (calls : List DeviceCalls) (before after : List Answer) → IsSound history honest dig first.state first.disks
+  at_flush : FlushKeepsBlocks history honest faults dig → StepKeepsSound history honest faults dig → (first last : EngineView D) (events : List Event) (calls : List DeviceCalls) (before after : List Answer) → IsSound history honest dig first.state first.disks
       → RunOn history honest faults dig first.state first.disks events calls (before ++ Flushed (Ok tt) ∷ after) last.state last.disks
       → IsFlushedAt history honest faults dig first events calls before after last
-  at_flush first last (e ∷ es) (c ∷ calls) [] after sound run =
+  at_flush flush_keeps keeps_sound first last (e ∷ es) (c ∷ calls) [] after sound run =
       let is = is_flush dig e first.state run.0 c run.2 in
       let step : Step dig first.state Flush c (Flushed (Ok tt)) run.0 = subst (λ x. Step dig first.state x c (Flushed (Ok tt)) run.0) is run.2 in
       let flushed : EngineView D = record { state = run.0; disks = run.1 } in
@@ -95,12 +92,12 @@ module _ {D : Type 0} (history : D → History) (honest : D → Type 0) (faults 
         step = step;
         made = run.3;
         goes_on = run.4;
-        none_lost = none_lost first flushed last es calls after (step_sound history honest faults dig (adopt_marks dig) first.state run.0 e c _ first.disks run.1 run.2 run.3 sound)
+        none_lost = none_lost flush_keeps first flushed last es calls after (keeps_sound first.state run.0 e c _ first.disks run.1 run.2 run.3 sound)
             (record { calls = c; step = step; made = run.3 }) run.4;
       }
-  at_flush first last (e ∷ es) (c ∷ calls) (a ∷ before) after sound run =
+  at_flush flush_keeps keeps_sound first last (e ∷ es) (c ∷ calls) (a ∷ before) after sound run =
       let mid : EngineView D = record { state = run.0; disks = run.1 } in
-      let rest = at_flush mid last es calls before after (step_sound history honest faults dig (adopt_marks dig) first.state run.0 e c a first.disks run.1 run.2 run.3 sound) run.4 in
+      let rest = at_flush flush_keeps keeps_sound mid last es calls before after (keeps_sound first.state run.0 e c a first.disks run.1 run.2 run.3 sound) run.4 in
       record {
         events_before = e ∷ rest.events_before;
         calls_before = c ∷ rest.calls_before;
@@ -117,36 +114,36 @@ module _ {D : Type 0} (history : D → History) (honest : D → Type 0) (faults 
         goes_on = rest.goes_on;
         none_lost = rest.none_lost;
       }
-  at_flush first last [] [] [] after sound run = absurd run
-  at_flush first last [] [] (a ∷ before) after sound run = absurd run
-  at_flush first last [] (c ∷ calls) before after sound run = absurd run
-  at_flush first last (e ∷ es) [] before after sound run = absurd run
+  at_flush flush_keeps keeps_sound first last [] [] [] after sound run = absurd run
+  at_flush flush_keeps keeps_sound first last [] [] (a ∷ before) after sound run = absurd run
+  at_flush flush_keeps keeps_sound first last [] (c ∷ calls) before after sound run = absurd run
+  at_flush flush_keeps keeps_sound first last (e ∷ es) [] before after sound run = absurd run
 
-  pub flushes : (old new : EngineView D) (events : List Event) (calls : List DeviceCalls) (answers : List Answer) → IsSound history honest dig old.state old.disks
+  pub flushes : FlushKeepsBlocks history honest faults dig → StepKeepsSound history honest faults dig → (old new : EngineView D) (events : List Event) (calls : List DeviceCalls) (answers : List Answer) → IsSound history honest dig old.state old.disks
       → RunOn history honest faults dig old.state old.disks events calls answers new.state new.disks → FlushesLoseNoBlock history honest faults dig old events calls answers new
-  flushes old new events calls answers sound run before after is =
-      at_flush old new events calls before after sound (subst (λ l. RunOn history honest faults dig old.state old.disks events calls l new.state new.disks) is run)
+  flushes flush_keeps keeps_sound old new events calls answers sound run before after is =
+      at_flush flush_keeps keeps_sound old new events calls before after sound (subst (λ l. RunOn history honest faults dig old.state old.disks events calls l new.state new.disks) is run)
 
   -- what was not lost until a run, no stop in it loses
-  pub none_lost_then : (old new : EngineView D) (events : List Event) (calls : List DeviceCalls) (answers : List Answer) → IsSound history honest dig old.state old.disks
+  pub none_lost_then : StepKeepsFiles dig → (old new : EngineView D) (events : List Event) (calls : List DeviceCalls) (answers : List Answer) → IsSound history honest dig old.state old.disks
       → RunOn history honest faults dig old.state old.disks events calls answers new.state new.disks → KeepsFlushed history honest faults dig old new
-  none_lost_then old new events calls answers sound run flushed before said came none b k d e marked hung there_then there honest_now =
-      let was = device_before history honest faults dig old.state new.state events calls answers old.disks new.disks b.file run there honest_now in
+  none_lost_then keeps_files old new events calls answers sound run flushed before said came none b k d e marked hung there_then there honest_now =
+      let was = were_so old.state new.state events calls answers old.disks new.disks b.file e run there honest_now in
       let then = none b k d was.0 marked hung there_then was.1 was.2 in
       let f = and_then_some (λ (q : FileState). slice_get q.states b.block) (slice_get old.state.files b.file) then.marked in
       let g = and_then_some (λ (q : FileState). slice_get flushed.state.trees q.tree) (slice_get flushed.state.files b.file) hung in
-      let first = file_stays history honest faults dig flushed.state old.state before came.calls said flushed.disks old.disks b.file f.0 came.run f.1 in
+      let first = file_stays history honest faults dig keeps_files flushed.state old.state before came.calls said flushed.disks old.disks b.file f.0 came.run f.1 in
       let same : first.0 ≡ g.0 = same_some first.1 g.1 in
-      let tree = tree_stays history honest faults dig flushed.state old.state before came.calls said flushed.disks old.disks g.0.tree k came.run g.2 in
+      let tree = tree_stays history honest faults dig keeps_files flushed.state old.state before came.calls said flushed.disks old.disks g.0.tree k came.run g.2 in
       let is : IsFile old.state b.file f.0 tree.0 = record { here = f.1; has_tree = ap (λ t. slice_get old.state.trees t) (first.2 ∙ ap (λ (q : FileState). q.tree) same) ∙ tree.1 } in
       let each : (x : D) → slice_get old.disks b.file ≡ Some (Some x) → IsBlockKept (history x) (moment_of (history d)) b.block (stored_block k.file_length (history d).now.bytes b.block) = λ x at.
       (let one : x ≡ was.0 = cc in rw one then.kept) in
       record {
         right = then.right;
-        kept = images_run history honest faults dig (adopt_marks dig) calls_keep_bytes reads old.state new.state events calls answers old.disks new.disks b.file b.block (moment_of (history d)) f.0 tree.0 _ e run sound is f.2
+        kept = run_keeps_images old.state new.state events calls answers old.disks new.disks b.file b.block (moment_of (history d)) f.0 tree.0 _ e run sound is f.2
             (then.right.whole ∙ ap (λ n. block_length n b.block) (sym tree.2)) there honest_now each;
-        marked = run_marks_kept history honest faults dig (adopt_marks dig) old.state new.state events calls answers old.disks new.disks b e run sound there honest_now then.marked;
+        marked = run_keeps_marks old.state new.state events calls answers old.disks new.disks b e run sound there honest_now then.marked;
       }
 
-  pub flushed_stay : (flushed : EngineView D) → IsSound history honest dig flushed.state flushed.disks → FlushedBlocksStay history honest faults dig flushed
-  flushed_stay flushed sound old new events answers step run = none_lost old flushed new events run.calls answers sound step run.run
+  pub flushed_stay : FlushKeepsBlocks history honest faults dig → (flushed : EngineView D) → IsSound history honest dig flushed.state flushed.disks → FlushedBlocksStay history honest faults dig flushed
+  flushed_stay flush_keeps flushed sound old new events answers step run = none_lost flush_keeps old flushed new events run.calls answers sound step run.run

@@ -1,24 +1,16 @@
 -- A block that becomes marked, and one that is served, lie on checked paths.
 use Rattle.std.specs.Prelude.{Contains, ◌/◌}
 use Rattle.std.specs.List.{range_with_len}
-use Rattle.bt_machine.proofs.Base.{[], ◌≡◌, ℕ, zero, suc, ◌+◌, ◌-◌, ◌<◌, ◌≤◌, ◌⊎◌, inl, inr, List, ◌∷◌, Some, refl, sym, ap, ◌∙◌, subst, arith, get_or, slice_get, block_count, File, Metainfo, Facts, IsRight, Marked, BlockId, PeerKey}
-use Rattle.bt_sparse.specs.SparseTree.{height}
-use Rattle.bt_sparse.specs.Law.{HeldIsChecked}
-use Rattle.bt_sparse.proofs.Joins.{keeps_rooted}
-use Rattle.bt_sparse.proofs.Paths.{held_is_checked}
-use Rattle.bt_store.proofs.AdoptionMarks.{adopt_marks}
+use Rattle.bt_machine.proofs.Base.{[], ◌≡◌, ◌≢◌, Option, None, Missing, Waiting, BlockState, ℕ, zero, suc, ◌+◌, ◌-◌, ◌<◌, ◌≤◌, ◌⊎◌, inl, inr, List, ◌∷◌, Some, refl, sym, ap, ◌∙◌, subst, arith, get_or, slice_get, block_count, File, Metainfo, Facts, IsRight, Marked, BlockId, PeerKey}
 use Rattle.bt_meta.specs.Place.{IsPlace}
-use Rattle.bt_machine.specs.Law.{AreRooted, IsSoAt, IsServed, found}
-use Rattle.bt_machine.specs.Shape.{IsShaped}
+use Rattle.bt_machine.specs.Law.{AreRooted, StepKeepsRooted, RightIsChecked, StepMarksByBytes, IsSoAt, IsServed, found}
+use Rattle.bt_machine.specs.Shape.{IsShaped, StepKeepsShape}
 use Rattle.bt_machine.specs.Spans.{spanned_blocks}
 use Rattle.bt_machine.specs.Blocks.{block_id}
 use Rattle.bt_machine.specs.declared.event.Event.{Event}
 use Rattle.bt_machine.specs.declared.event.Answer.{Answer}
-use Rattle.bt_machine.proofs.Machine.{Digest, EngineState, DeviceCalls, state_at, tree_of, Run, IsMarkedBy, brought, read_back}
+use Rattle.bt_machine.proofs.Machine.{Digest, EngineState, DeviceCalls, state_at, tree_of, Step, Run, IsMarkedBy, brought, read_back}
 use Rattle.bt_machine.proofs.Lists.{and_then_some, some_below, some_is, get_some, same_some, range_limits}
-use Rattle.bt_machine.proofs.Marking.{step_cases, at_first, after_step}
-use Rattle.bt_machine.proofs.Rooted.{run_rooted, step_rooted, right_checked}
-use Rattle.bt_machine.proofs.Shape.{step_shape}
 use Rattle.bt_runs.specs.Promises.{marking_bytes, IsOnCheckedPath, IsMarkedOnPath, IsServedOnPath, MarksByBytes}
 
 -- a file with a block has a byte
@@ -38,11 +30,57 @@ get_is [] i e = refl
 get_is (y ∷ xs) zero e = some_is e
 get_is (y ∷ xs) (suc i) e = get_is xs i e
 
-is_checked : (dig : Digest) → HeldIsChecked dig
-is_checked dig k rooted layer i d held =
-    held_is_checked dig k rooted (height k - layer) layer i d (omega (arith, (rooted.covers layer i d held).inside.in_height)) held
+is_or_not : (o : Option BlockState) → (o ≡ Some Marked) ⊎ (o ≢ Some Marked)
+is_or_not None = inr (λ is. absurd cc)
+is_or_not (Some Missing) = inr (λ is. absurd cc)
+is_or_not (Some Waiting) = inr (λ is. absurd cc)
+is_or_not (Some Marked) = inl refl
 
-module _ (dig : Digest) (torrent : Metainfo) where
+-- ---- places in a list of events
+
+-- one event further on
+after_step : {dig : Digest} {P : EngineState → Event → DeviceCalls → EngineState → Type 0} {s mid last : EngineState} {e : Event} {es : List Event}
+    {c : DeviceCalls} {calls : List DeviceCalls} {a : Answer} {before : List Answer} {answer : Answer} {after : List Answer}
+    → Step dig s e c a mid → IsSoAt dig mid es calls before answer after last P → IsSoAt dig s (e ∷ es) (c ∷ calls) (a ∷ before) answer after last P
+after_step {mid = mid} {e = e} {c = c} step i = record {
+  events_before = e ∷ i.events_before;
+  calls_before = c ∷ i.calls_before;
+  old = i.old;
+  event = i.event;
+  calls_then = i.calls_then;
+  new = i.new;
+  events_after = i.events_after;
+  calls_after = i.calls_after;
+  events_are = ap (λ l. e ∷ l) i.events_are;
+  calls_are = ap (λ l. c ∷ l) i.calls_are;
+  run = (mid, step, i.run);
+  step = i.step;
+  goes_on = i.goes_on;
+  is_so = i.is_so;
+}
+
+-- at the first event
+at_first : {dig : Digest} {P : EngineState → Event → DeviceCalls → EngineState → Type 0} {s : EngineState} (mid : EngineState) {last : EngineState}
+    {e : Event} {es : List Event} {c : DeviceCalls} {calls : List DeviceCalls} {a : Answer} {after : List Answer}
+    → Step dig s e c a mid → Run dig mid es calls after last → P s e c mid → IsSoAt dig s (e ∷ es) (c ∷ calls) [] a after last P
+at_first {s = s} mid {e = e} {es = es} {c = c} {calls = calls} step rest is_so = record {
+  events_before = [];
+  calls_before = [];
+  old = s;
+  event = e;
+  calls_then = c;
+  new = mid;
+  events_after = es;
+  calls_after = calls;
+  events_are = refl;
+  calls_are = refl;
+  run = refl;
+  step = step;
+  goes_on = rest;
+  is_so = is_so;
+}
+
+module _ (dig : Digest) (torrent : Metainfo) (right_is_checked : RightIsChecked dig) where
   -- right bytes of a block that the file has
   right_path : (s : EngineState) (file : File) (b : BlockId) (tree : Facts) (bytes : List ℕ) → IsShaped torrent s → AreRooted dig s
       → slice_get torrent.files b.file ≡ Some file → b.block < block_count file.length
@@ -55,14 +93,8 @@ module _ (dig : Digest) (torrent : Metainfo) where
       record {
         tree = tree;
         has_tree = has;
-        path = right_checked (is_checked dig) tree b.block bytes (rooted g.0.tree tree g.2) (subst (λ n. b.block < block_count n) long below) right;
+        path = right_is_checked tree b.block bytes (rooted g.0.tree tree g.2) (subst (λ n. b.block < block_count n) long below) right;
       }
-
-  run_shape : {new : EngineState} (s : EngineState) (es : List Event) (calls : List DeviceCalls) (answers : List Answer) → IsShaped torrent s
-      → Run dig s es calls answers new → IsShaped torrent new
-  run_shape s [] [] [] shaped run = rw run shaped
-  run_shape s (e ∷ es) (c ∷ calls) (a ∷ answers) shaped run = run_shape run.0 es calls answers (step_shape dig e c a shaped run.1) run.2
-  run_shape s _ _ _ shaped run = absurd run
 
   -- the blocks that served bytes lie in
   pub served_paths : {s : EngineState} {event : Event} {calls : DeviceCalls} {key : PeerKey} {piece begin : ℕ} {bytes : List ℕ} → IsShaped torrent s → AreRooted dig s
@@ -77,32 +109,39 @@ module _ (dig : Digest) (torrent : Metainfo) where
       right_path s place.file (block_id served.span.file i) served.tree (served.blocks i) shaped rooted
       (file.1 ∙ ap (λ x. Some x) is) below served.has_tree (served.right i c)
 
-  pub sends_on_path : {first last : EngineState} (events : List Event) (calls : List DeviceCalls) (before : List Answer) (answer : Answer) (after : List Answer)
-      (key : PeerKey) (piece begin : ℕ) (bytes : List ℕ) → IsShaped torrent first → AreRooted dig first
-      → IsSoAt dig first events calls before answer after last (λ s event calls_then next. IsServed dig s event calls_then key piece begin bytes)
-      → IsSoAt dig first events calls before answer after last (λ s event calls_then next. IsServedOnPath dig s event calls_then key piece begin bytes)
-  sends_on_path {first} events calls before answer after key piece begin bytes shaped rooted i = record {
-    events_before = i.events_before;
-    calls_before = i.calls_before;
-    old = i.old;
-    event = i.event;
-    calls_then = i.calls_then;
-    new = i.new;
-    events_after = i.events_after;
-    calls_after = i.calls_after;
-    events_are = i.events_are;
-    calls_are = i.calls_are;
-    run = i.run;
-    step = i.step;
-    goes_on = i.goes_on;
-    is_so = record {
-      served = i.is_so;
-      paths = served_paths (run_shape first i.events_before i.calls_before before shaped i.run)
-          (run_rooted dig (keeps_rooted dig) first i.old i.events_before i.calls_before before i.run rooted) i.is_so;
-    };
-  }
+  module _ (keeps_shape : StepKeepsShape dig) (keeps_rooted : StepKeepsRooted dig) where
+    run_keeps : {new : EngineState} (s : EngineState) (es : List Event) (calls : List DeviceCalls) (answers : List Answer) → IsShaped torrent s → AreRooted dig s
+        → Run dig s es calls answers new → IsShaped torrent new × AreRooted dig new
+    run_keeps s [] [] [] shaped rooted run = (rw run shaped, rw run rooted)
+    run_keeps s (e ∷ es) (c ∷ calls) (a ∷ answers) shaped rooted run =
+        run_keeps run.0 es calls answers (keeps_shape torrent s run.0 e c a shaped run.1) (keeps_rooted s run.0 e c a run.1 rooted) run.2
+    run_keeps s _ _ _ shaped rooted run = absurd run
 
-module _ (dig : Digest) (torrent : Metainfo) (b : BlockId) where
+    pub sends_on_path : {first last : EngineState} (events : List Event) (calls : List DeviceCalls) (before : List Answer) (answer : Answer) (after : List Answer)
+        (key : PeerKey) (piece begin : ℕ) (bytes : List ℕ) → IsShaped torrent first → AreRooted dig first
+        → IsSoAt dig first events calls before answer after last (λ s event calls_then next. IsServed dig s event calls_then key piece begin bytes)
+        → IsSoAt dig first events calls before answer after last (λ s event calls_then next. IsServedOnPath dig s event calls_then key piece begin bytes)
+    sends_on_path {first} events calls before answer after key piece begin bytes shaped rooted i = record {
+      events_before = i.events_before;
+      calls_before = i.calls_before;
+      old = i.old;
+      event = i.event;
+      calls_then = i.calls_then;
+      new = i.new;
+      events_after = i.events_after;
+      calls_after = i.calls_after;
+      events_are = i.events_are;
+      calls_are = i.calls_are;
+      run = i.run;
+      step = i.step;
+      goes_on = i.goes_on;
+      is_so = record {
+        served = i.is_so;
+        paths = let kept = run_keeps first i.events_before i.calls_before before shaped rooted i.run in served_paths kept.0 kept.1 i.is_so;
+      };
+    }
+
+module _ (dig : Digest) (torrent : Metainfo) (right_is_checked : RightIsChecked dig) (b : BlockId) where
   -- right bytes of a block that has a state
   path_of : (s : EngineState) (tree : Facts) (bytes : List ℕ) → IsShaped torrent s → AreRooted dig s → state_at s b ≡ Some Marked
       → tree_of s b.file ≡ Some tree → IsRight dig tree b.block bytes → IsOnCheckedPath dig s b bytes
@@ -110,7 +149,7 @@ module _ (dig : Digest) (torrent : Metainfo) (b : BlockId) where
       let f = and_then_some (λ f. slice_get f.states b.block) (slice_get s.files b.file) marked in
       let file = get_some torrent.files b.file (subst (λ n. b.file < n) shaped.count (some_below s.files b.file f.1)) in
       let shape = shaped.each b.file file.0 f.0 file.1 f.1 in
-      right_path dig torrent s file.0 b tree bytes shaped rooted file.1
+      right_path dig torrent right_is_checked s file.0 b tree bytes shaped rooted file.1
       (subst (λ n. b.block < n) shape.blocks (some_below f.0.states b.block f.2)) has right
 
   on_path : {old : EngineState} {e : Event} {calls : DeviceCalls} (s : EngineState) → IsShaped torrent s → AreRooted dig s → state_at s b ≡ Some Marked
@@ -120,22 +159,23 @@ module _ (dig : Digest) (torrent : Metainfo) (b : BlockId) where
   on_path s shaped rooted marked (found by) = path_of s by.tree by.bytes shaped rooted marked by.has_tree by.right
 
   -- a block that is marked after a run was so before it, or became so within it
-  run_cases : {new : EngineState} (s : EngineState) (es : List Event) (calls : List DeviceCalls) (answers : List Answer) → IsShaped torrent s → AreRooted dig s
-      → Run dig s es calls answers new → state_at new b ≡ Some Marked
+  run_cases : StepKeepsShape dig → StepKeepsRooted dig → StepMarksByBytes dig → {new : EngineState} (s : EngineState) (es : List Event) (calls : List DeviceCalls)
+      (answers : List Answer) → IsShaped torrent s → AreRooted dig s → Run dig s es calls answers new → state_at new b ≡ Some Marked
       → (state_at s b ≡ Some Marked) ⊎ IsMarkedOnPath dig s es calls answers new b
-  run_cases s [] [] [] shaped rooted run m = inl (rw (← run) m)
-  run_cases s (e ∷ es) (c ∷ calls) (a ∷ answers) shaped rooted run m =
-      let shape = step_shape dig e c a shaped run.1 in
-      let trees = step_rooted dig (keeps_rooted dig) s run.0 e c a run.1 rooted in
-      elim (run_cases run.0 es calls answers shape trees run.2 m) [
-        | inl mid ↦ elim (step_cases dig (adopt_marks dig) b s run.0 e c a run.1 mid) [
+  run_cases keeps_shape keeps_rooted marks s [] [] [] shaped rooted run m = inl (rw (← run) m)
+  run_cases keeps_shape keeps_rooted marks s (e ∷ es) (c ∷ calls) (a ∷ answers) shaped rooted run m =
+      let shape = keeps_shape torrent s run.0 e c a shaped run.1 in
+      let trees = keeps_rooted s run.0 e c a run.1 rooted in
+      elim (run_cases keeps_shape keeps_rooted marks run.0 es calls answers shape trees run.2 m) [
+        | inl mid ↦ elim (is_or_not (state_at s b)) [
           | inl old ↦ inl old
-          | inr now ↦ inr (record {
+          | inr unmarked ↦ inr (record {
             before = [];
             answer = a;
             after = answers;
             answers_are = refl;
-            marked = at_first run.0 run.1 run.2 (now, on_path run.0 shape trees mid now);
+            marked = at_first run.0 run.1 run.2
+                (let now = marks s run.0 e c a run.1 b mid unmarked in (now, on_path run.0 shape trees mid now));
           })
         ]
         | inr i ↦ inr (record {
@@ -146,9 +186,10 @@ module _ (dig : Digest) (torrent : Metainfo) (b : BlockId) where
           marked = after_step run.1 i.marked;
         })
       ]
-  run_cases s _ _ _ shaped rooted run m = absurd run
+  run_cases keeps_shape keeps_rooted marks s _ _ _ shaped rooted run m = absurd run
 
-pub run_marks : (dig : Digest) (torrent : Metainfo) (s new : EngineState) (es : List Event) (calls : List DeviceCalls) (answers : List Answer) → IsShaped torrent s
+pub run_marks : (dig : Digest) (torrent : Metainfo) → RightIsChecked dig → StepKeepsShape dig → StepKeepsRooted dig → StepMarksByBytes dig
+    → (s new : EngineState) (es : List Event) (calls : List DeviceCalls) (answers : List Answer) → IsShaped torrent s
     → AreRooted dig s → Run dig s es calls answers new → MarksByBytes dig s es calls answers new
-run_marks dig torrent s new es calls answers shaped rooted run b m before =
-    elim (run_cases dig torrent b s es calls answers shaped rooted run m) [ inl old ↦ absurd (before old) | inr now ↦ now ]
+run_marks dig torrent right_is_checked keeps_shape keeps_rooted marks s new es calls answers shaped rooted run b m before =
+    elim (run_cases dig torrent right_is_checked b keeps_shape keeps_rooted marks s es calls answers shaped rooted run m) [ inl old ↦ absurd (before old) | inr now ↦ now ]

@@ -5,8 +5,12 @@ ghost use Rattle.bt_runs.specs.Promises.{RunsAsPromised, ArePublished, KeepsMark
 
 use bt_disk::Disk;
 use bt_engine::{Engine, run_events};
-use bt_machine::{Answer, Event};
-use bt_tree::NodeHash;
+use bt_machine::{
+    Answer, Event, complete_files_stand, flush_keeps_blocks, honest_devices_were_so,
+    right_is_checked, run_keeps_images, run_keeps_marks, run_sends_read_bytes, runs_compose,
+    step_marks_by_bytes, steps_keep_laws,
+};
+use bt_tree::{NodeHash, roots_tell_files};
 use std::alloc::AllocError;
 
 /// Lets the events happen to the engine, one after the other, and puts the answer of each behind those that
@@ -26,7 +30,19 @@ pub fn run_as_promised<D: Disk + Drop, H: NodeHash>(
     ensures images { KeepsImages D.history D.honest engine.old engine.new }
     ensures flushed { KeepsFlushed D.history D.honest D.faults H.digest engine.old engine.new }
 {
-    // These calls say what holds of an engine before the events and after them.
+    // The laws of a run, and what holds of an engine before the events and after them.
+    let hash = engine.hash();
+    roots_tell_files(hash);
+    right_is_checked(hash);
+    steps_keep_laws::<D, H>(hash);
+    step_marks_by_bytes(hash);
+    run_sends_read_bytes::<H>();
+    runs_compose::<D, H>();
+    complete_files_stand::<D, H>();
+    run_keeps_marks::<D, H>(hash);
+    run_keeps_images::<D, H>(hash);
+    flush_keeps_blocks::<D, H>();
+    honest_devices_were_so::<D, H>();
     engine.keeps_laws();
     let result = run_events(engine, events, answers);
     engine.keeps_laws();
@@ -39,5 +55,10 @@ pub fn run_as_promised<D: Disk + Drop, H: NodeHash>(
 pub fn flushed_blocks_stay<D: Disk + Drop, H: NodeHash>(engine: &Engine<D, H>)
     ensures { FlushedBlocksStay D.history D.honest D.faults H.digest engine.now }
 {
+    let hash = engine.hash();
+    run_keeps_marks::<D, H>(hash);
+    run_keeps_images::<D, H>(hash);
+    flush_keeps_blocks::<D, H>();
+    honest_devices_were_so::<D, H>();
     engine.keeps_laws();
 }

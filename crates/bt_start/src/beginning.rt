@@ -16,7 +16,7 @@ use crate::new_book::new_book;
 use crate::piece_sizes::piece_sizes;
 use crate::trees::bare_slots;
 use bt_disk::Disk;
-use bt_machine::{StartError, StartRefused};
+use bt_machine::{StartError, StartRefused, starts_keep_laws};
 use bt_meta::Torrent;
 use bt_state::{MAX_PEERS, Parts, PieceSet};
 use bt_tree::NodeHash;
@@ -43,6 +43,7 @@ pub fn start<D: Disk + Drop, H: NodeHash>(
     ensures sound { IfOk result (λ parts.
         IsSound D.history D.honest H.digest (state_of parts) (disks_of parts)) }
 {
+    starts_keep_laws::<D, H>(hash);
     if disks.len() != device_count(torrent.files()) {
         return Err(StartRefused {
             disks,
@@ -104,6 +105,7 @@ fn give_devices<D: Disk + Drop, H: NodeHash>(
     ensures begun { OnOk result (HaveBegun H.digest disks.old.items parts.new) }
     ensures refused { OnErr result (disks.new.items ≡ disks.old.items) }
 {
+    starts_keep_laws::<D, H>(hash);
     let files = parts.torrent.files();
     hand_out(alloc, hash, files, &mut parts.slots, disks)
 }

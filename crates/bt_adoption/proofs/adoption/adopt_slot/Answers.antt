@@ -24,7 +24,7 @@ pub returns-clause-stop : goal.returns-clause-stop
 returns-clause-stop g c =
     let here = here_at c.args.parts.now c.requires.inside c.index_mut-slot.ensures.value in
     let at = stands_at c.args.parts.now c.args.file here c.requires.fits c.in-Some.is c.index_mut.ensures.value in
-    if_err_then c.adopt_groups.result c.adopt_groups.ensures.stop (λ stops. stops_in at c.requires.some stops)
+    if_err_then c.adopt_groups.result c.adopt_groups.ensures.stop (λ stops. stops_in at c.calls_compose.ensures.both c.requires.some stops)
 
 pub returns-clause-changes : goal.returns-clause-changes
 returns-clause-changes g c =

@@ -1,4 +1,5 @@
-use Rattle.std.proofs.Common.{refl, ◌∙◌}
+use Rattle.std.proofs.Common.{refl, ◌∙◌, rules, Result, Ok, Err}
+use Rattle.std.specs.Prelude.{IfErr}
 use Rattle.bt_machine.specs.Request.{ignored, no_place, not_marked}
 use Rattle.bt_state.specs.Parts.{disks_of}
 use Rattle.bt_state.proofs.Lists.{get_read}
@@ -23,6 +24,22 @@ returns-then-not-are_marked-clause-takes g c =
     let old = c.args.parts.now in
     let here = get_read old.peers.items c.args.index c.index.result.now c.requires.there c.index.ensures in
     (_, have_none g.D.Disk.history g.D.Disk.honest g.D.Disk.faults (disks_of old), λ x at. not_marked c.in-Some.span (choking_is old c.args.index here x at ∙ c.if-index.false) c.in-Some.ensures.some c.if-not-are_marked.ensures.no refl refl refl)
+
+if_err : {X E T : Type 0} (r : Result X E) → T → IfErr r (λ e. T)
+if_err (Ok x) t = tt
+if_err (Err e) t = t
+
+-- the blocks are found marked before room is made: a fact that an answer by name could not show to be missed
+pub returns-in_err-room-clause-needed : goal.returns-in_err-room-clause-needed
+returns-in_err-room-clause-needed g c =
+    let old = c.args.parts.now in
+    let here = get_read old.peers.items c.args.index c.index.result.now c.requires.there c.index.ensures in
+    if_err c.from_residual.result (record {
+      open_to = λ x at. choking_is old c.args.index here x at ∙ c.if-index.false;
+      span = c.in-Some.span;
+      place = c.in-Some.ensures.some;
+      marked = search rules;
+    })
 
 pub serve-requires-clause-looked : goal.serve-requires-clause-looked
 serve-requires-clause-looked g c =

@@ -78,7 +78,7 @@ returns-clause-sent g c = λ old told_so.
     subst (λ (fs : List File). IsLaidOut c.args.parts.now.torrent.piece_length fs) c.files.ensures.said c.files.ensures.laid_out in
     finished (is_whole s) (λ piece. map (λ p. sent_to p (Have piece)) s.peers)
     (marked_piece c.args.parts.now.torrent) c.loop-note.last c.args.notes.now c.loop-note.note-index c.loop-note.send.items _ c.loop-note-test.false c.loop-note.invariant.0
-    ∙ ap (λ ks. c.args.send.now.items ++ flat_map (λ piece. map (λ p. sent_to p (Have piece)) s.peers) ks) (sym (whole_news told_so c.requires.shaped size lay))
+    ∙ ap (λ ks. c.args.send.now.items ++ flat_map (λ piece. map (λ p. sent_to p (Have piece)) s.peers) ks) (sym (whole_news told_so c.requires.shaped size lay c.whole_pieces_are_marked.ensures.blocks))
 
 pub returns-clause-few : goal.returns-clause-few
 returns-clause-few g c =

@@ -1,34 +1,48 @@
-use Rattle.bt_runs.proofs.Kept.{as_promised, some_run, files_published, marks_kept, images_kept, flushed_kept}
+use Rattle.bt_runs.proofs.Kept.{as_promised, some_run, files_published, marks_kept, images_kept}
+use Rattle.bt_runs.proofs.Flushes.{flushes, none_lost_then}
 use Rattle.bt_runs.proofs.promises.run_as_promised.Goals as goal
 
 pub returns-clause-run : goal.returns-clause-run
 returns-clause-run g c =
-    as_promised g.D.Disk.history g.D.Disk.honest g.D.Disk.faults g.H.NodeHash.digest g.met.D.Disk.reads_image c.args.engine.now c.run_events-result.new.engine
-    c.args.events.now c.args.answers.now.items c.run_events-result.new.answers.items c.keeps_laws.ensures.shaped c.keeps_laws.ensures.rooted c.keeps_laws.ensures.sound
+    let laws = c.keeps_laws.ensures in
+    let steps = c.steps_keep_laws.ensures in
+    let old = c.args.engine.now in
+    let new = c.run_events-result.new.engine in
+    as_promised g.D.Disk.history g.D.Disk.honest g.D.Disk.faults g.H.NodeHash.digest old new c.args.events.now c.args.answers.now.items
+    c.run_events-result.new.answers.items laws.shaped laws.rooted c.runs_compose.ensures.are_runs c.right_is_checked.ensures steps.shaped steps.rooted
+    c.step_marks_by_bytes.ensures c.run_sends_read_bytes.ensures
+    (λ events calls answers run. flushes g.D.Disk.history g.D.Disk.honest g.D.Disk.faults g.H.NodeHash.digest c.honest_devices_were_so.ensures
+    c.run_keeps_images.ensures c.run_keeps_marks.ensures c.flush_keeps_blocks.ensures steps.sound old new events calls answers laws.sound run)
     c.run_events-result.result c.run_events-result.ensures.runs
 
 pub returns-clause-published : goal.returns-clause-published
 returns-clause-published g c =
     let after = c.keeps_laws-2.ensures in
-    files_published g.D.Disk.history g.D.Disk.honest g.D.Disk.faults g.H.NodeHash.digest g.met.H.NodeHash.has_32_bytes c.run_events-result.new.engine
-    after.shaped after.rooted after.sound
+    files_published g.D.Disk.history g.D.Disk.honest g.D.Disk.faults g.H.NodeHash.digest c.roots_tell_files.ensures c.complete_files_stand.ensures
+    c.run_events-result.new.engine after.shaped after.rooted after.sound
 
 pub returns-clause-marks : goal.returns-clause-marks
 returns-clause-marks g c =
-    marks_kept g.D.Disk.history g.D.Disk.honest g.D.Disk.faults g.H.NodeHash.digest c.args.engine.now c.run_events-result.new.engine c.keeps_laws.ensures.sound
-    (some_run g.D.Disk.history g.D.Disk.honest g.D.Disk.faults g.H.NodeHash.digest c.args.engine.now c.run_events-result.new.engine c.args.events.now
-    c.args.answers.now.items c.run_events-result.new.answers.items c.run_events-result.result c.run_events-result.ensures.runs c.run_events-result.ensures.kept)
+    marks_kept g.D.Disk.history g.D.Disk.honest g.D.Disk.faults g.H.NodeHash.digest c.run_keeps_marks.ensures c.args.engine.now c.run_events-result.new.engine
+    c.keeps_laws.ensures.sound
+    (some_run g.D.Disk.history g.D.Disk.honest g.D.Disk.faults g.H.NodeHash.digest c.runs_compose.ensures.none c.args.engine.now c.run_events-result.new.engine
+    c.args.events.now c.args.answers.now.items c.run_events-result.new.answers.items c.run_events-result.result c.run_events-result.ensures.runs
+    c.run_events-result.ensures.kept)
 
 pub returns-clause-images : goal.returns-clause-images
 returns-clause-images g c =
-    images_kept g.D.Disk.history g.D.Disk.honest g.D.Disk.faults g.H.NodeHash.digest g.met.D.Disk.reads_image c.args.engine.now c.run_events-result.new.engine
-    c.keeps_laws.ensures.sound
-    (some_run g.D.Disk.history g.D.Disk.honest g.D.Disk.faults g.H.NodeHash.digest c.args.engine.now c.run_events-result.new.engine c.args.events.now
-    c.args.answers.now.items c.run_events-result.new.answers.items c.run_events-result.result c.run_events-result.ensures.runs c.run_events-result.ensures.kept)
+    images_kept g.D.Disk.history g.D.Disk.honest g.D.Disk.faults g.H.NodeHash.digest c.run_keeps_images.ensures c.args.engine.now
+    c.run_events-result.new.engine c.keeps_laws.ensures.sound
+    (some_run g.D.Disk.history g.D.Disk.honest g.D.Disk.faults g.H.NodeHash.digest c.runs_compose.ensures.none c.args.engine.now c.run_events-result.new.engine
+    c.args.events.now c.args.answers.now.items c.run_events-result.new.answers.items c.run_events-result.result c.run_events-result.ensures.runs
+    c.run_events-result.ensures.kept)
 
 pub returns-clause-flushed : goal.returns-clause-flushed
 returns-clause-flushed g c =
-    flushed_kept g.D.Disk.history g.D.Disk.honest g.D.Disk.faults g.H.NodeHash.digest g.met.D.Disk.reads_image c.args.engine.now c.run_events-result.new.engine
-    c.keeps_laws.ensures.sound
-    (some_run g.D.Disk.history g.D.Disk.honest g.D.Disk.faults g.H.NodeHash.digest c.args.engine.now c.run_events-result.new.engine c.args.events.now
-    c.args.answers.now.items c.run_events-result.new.answers.items c.run_events-result.result c.run_events-result.ensures.runs c.run_events-result.ensures.kept)
+    let ran = some_run g.D.Disk.history g.D.Disk.honest g.D.Disk.faults g.H.NodeHash.digest c.runs_compose.ensures.none c.args.engine.now
+    c.run_events-result.new.engine c.args.events.now c.args.answers.now.items c.run_events-result.new.answers.items c.run_events-result.result
+    c.run_events-result.ensures.runs c.run_events-result.ensures.kept in
+    λ flushed events answers came none.
+    none_lost_then g.D.Disk.history g.D.Disk.honest g.D.Disk.faults g.H.NodeHash.digest c.honest_devices_were_so.ensures c.run_keeps_images.ensures
+    c.run_keeps_marks.ensures c.steps_keep_laws.ensures.files c.args.engine.now c.run_events-result.new.engine ran.0 ran.2.calls ran.1
+    c.keeps_laws.ensures.sound ran.2.run flushed events answers came none

@@ -1,12 +1,5 @@
-use Rattle.std.proofs.Common.{[], refl, sym, ap, ◌∙◌, subst}
-use Rattle.bt_tree.specs.NodeHash.{IsDigest, length-sha256}
-use Rattle.bt_sparse.proofs.LayerTrees.{layers_are_sound}
-use Rattle.bt_sparse.proofs.Values.{root_sound}
+use Rattle.std.proofs.Common.{refl, sym, ap, ◌∙◌, subst}
 use Rattle.bt_meta.specs.Torrent.{Metainfo, IsLawful}
-use Rattle.bt_machine.proofs.Headline.{start_sound}
-use Rattle.bt_machine.proofs.Orderly.{order_of_runs}
-use Rattle.bt_machine.proofs.Shape.{shape_at_first}
-use Rattle.bt_machine.proofs.Start.{start_rooted}
 use Rattle.bt_machine.specs.Start.{Starts, AreDevicesOf, device_count, starts, other_count, no_memory}
 use Rattle.bt_state.specs.Parts.{state_of, disks_of}
 use Rattle.bt_start.proofs.beginning.start.Goals as goal
@@ -35,19 +28,25 @@ returns-in-Ok-give_devices-clause-answer g c =
     (subst (λ (torrent : Metainfo). AreDevicesOf torrent.files c.args.disks.items (disks_of parts)) same begun.devices) refl
 
 pub returns-in-Ok-give_devices-clause-shaped : goal.returns-in-Ok-give_devices-clause-shaped
-returns-in-Ok-give_devices-clause-shaped g c = shape_at_first g.H.NodeHash.digest c.in-Ok-give_devices.ensures.begun.starts
+returns-in-Ok-give_devices-clause-shaped g c =
+    let parts = c.give_devices.new.parts in
+    c.starts_keep_laws.ensures.shaped parts.torrent (state_of parts) c.in-Ok-give_devices.ensures.begun.starts
 
 pub returns-in-Ok-give_devices-clause-orderly : goal.returns-in-Ok-give_devices-clause-orderly
-returns-in-Ok-give_devices-clause-orderly g c = order_of_runs g.H.NodeHash.digest _ _ _ [] [] [] c.in-Ok-give_devices.ensures.begun.starts refl
+returns-in-Ok-give_devices-clause-orderly g c =
+    let parts = c.give_devices.new.parts in
+    c.starts_keep_laws.ensures.orderly parts.torrent (state_of parts) c.in-Ok-give_devices.ensures.begun.starts
 
 pub returns-in-Ok-give_devices-clause-rooted : goal.returns-in-Ok-give_devices-clause-rooted
 returns-in-Ok-give_devices-clause-rooted g c =
-    let sizes = subst IsDigest (sym c.requires.digest) length-sha256 in
+    let parts = c.give_devices.new.parts in
     let lawful = subst (λ (torrent : Metainfo). IsLawful torrent.piece_length torrent.files) (sym c.give_devices.ensures.torrent) c.in-Ok.ensures.bare.lawful in
-    start_rooted (layers_are_sound sizes) (root_sound g.H.NodeHash.digest) lawful c.in-Ok-give_devices.ensures.begun.starts
+    c.starts_keep_laws.ensures.rooted parts.torrent (state_of parts) lawful c.in-Ok-give_devices.ensures.begun.starts
 
 pub returns-in-Ok-give_devices-clause-sound : goal.returns-in-Ok-give_devices-clause-sound
-returns-in-Ok-give_devices-clause-sound g c = start_sound g.D.Disk.history g.D.Disk.honest g.D.Disk.faults g.H.NodeHash.digest _ c.in-Ok-give_devices.ensures.begun.starts
+returns-in-Ok-give_devices-clause-sound g c =
+    let parts = c.give_devices.new.parts in
+    c.starts_keep_laws.ensures.sound parts.torrent (state_of parts) (disks_of parts) c.in-Ok-give_devices.ensures.begun.starts
 
 pub returns-in-Err-clause-answer : goal.returns-in-Err-clause-answer
 returns-in-Err-clause-answer g c =

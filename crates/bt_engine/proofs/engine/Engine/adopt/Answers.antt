@@ -6,9 +6,10 @@ use Rattle.bt_engine.proofs.engine.Engine.adopt.Goals as goal
 
 pub invariant_of-self : goal.invariant_of-self
 invariant_of-self g c =
+    let laws = c.steps_keep_laws.ensures in
     let step = c.adopt.ensures.step in
     kept_after g.D.Disk.history g.D.Disk.honest g.D.Disk.faults g.H.NodeHash.digest c.self.inside.parts c.adopt.new.parts (Adopt c.args.file) (Adopted c.adopt.result)
-    g.met.H.NodeHash.has_32_bytes c.self.invariant (record { calls = step.0; step = (c.adopt.result, refl, step.2); made = step.1 })
+    laws.shaped laws.orderly laws.sparse laws.rooted laws.sound c.self.invariant (record { calls = step.0; step = (c.adopt.result, refl, step.2); made = step.1 })
     c.adopt.ensures.torrent c.adopt.ensures.tied
 
 pub returns : goal.returns

@@ -6,8 +6,9 @@ use Rattle.bt_engine.proofs.engine.Engine.feed.Goals as goal
 
 pub invariant_of-self : goal.invariant_of-self
 invariant_of-self g c =
+    let laws = c.steps_keep_laws.ensures in
     kept_after g.D.Disk.history g.D.Disk.honest g.D.Disk.faults g.H.NodeHash.digest c.self.inside.parts c.feed.new.parts (Feed c.args.peer c.args.bytes.now) (Fed c.feed.result)
-    g.met.H.NodeHash.has_32_bytes c.self.invariant
+    laws.shaped laws.orderly laws.sparse laws.rooted laws.sound c.self.invariant
     (steps_without g.D.Disk.history g.D.Disk.honest g.D.Disk.faults g.H.NodeHash.digest c.self.inside.parts c.feed.new.parts (Feed c.args.peer c.args.bytes.now) (Fed c.feed.result)
     (c.feed.result, refl, refl, c.feed.ensures.step) c.feed.ensures.devices)
     c.feed.ensures.torrent c.feed.ensures.tied

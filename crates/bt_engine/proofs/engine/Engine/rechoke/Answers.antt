@@ -6,8 +6,9 @@ use Rattle.bt_engine.proofs.engine.Engine.rechoke.Goals as goal
 
 pub invariant_of-self : goal.invariant_of-self
 invariant_of-self g c =
+    let laws = c.steps_keep_laws.ensures in
     kept_after g.D.Disk.history g.D.Disk.honest g.D.Disk.faults g.H.NodeHash.digest c.self.inside.parts c.rechoke.new.parts Rechoke (Rechoked c.rechoke.result)
-    g.met.H.NodeHash.has_32_bytes c.self.invariant
+    laws.shaped laws.orderly laws.sparse laws.rooted laws.sound c.self.invariant
     (steps_without g.D.Disk.history g.D.Disk.honest g.D.Disk.faults g.H.NodeHash.digest c.self.inside.parts c.rechoke.new.parts Rechoke (Rechoked c.rechoke.result)
     (c.rechoke.result, refl, refl, c.rechoke.ensures.step) c.rechoke.ensures.devices)
     c.rechoke.ensures.torrent c.rechoke.ensures.tied

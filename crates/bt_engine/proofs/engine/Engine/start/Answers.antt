@@ -1,9 +1,6 @@
 use Rattle.std.proofs.Common.{sym, subst}
-use Rattle.bt_sparse.proofs.LayerTrees.{layers_are_sound}
-use Rattle.bt_sparse.proofs.Values.{root_sound}
 use Rattle.bt_meta.specs.Torrent.{Metainfo}
 use Rattle.bt_machine.specs.Shape.{IsShaped}
-use Rattle.bt_machine.proofs.Start.{start_sparse}
 use Rattle.bt_state.specs.Parts.{state_of}
 use Rattle.bt_engine.specs.Kept.{view_of}
 use Rattle.bt_engine.proofs.Keeping.{begun}
@@ -16,7 +13,7 @@ invariant_of-result g c =
       tied = c.in-Ok.ensures.tied;
       shaped = subst (λ (t : Metainfo). IsShaped t (state_of c.in-Ok.parts)) (sym shaped.same) shaped;
       orderly = c.in-Ok.ensures.orderly;
-      sparse = start_sparse (layers_are_sound g.met.H.NodeHash.has_32_bytes) (root_sound g.H.NodeHash.digest) c.keeps_laws.ensures.lawful (begun (view_of c.in-Ok.parts) c.in-Ok.ensures.answer);
+      sparse = c.starts_keep_laws.ensures.sparse c.args.torrent (state_of c.in-Ok.parts) c.keeps_laws.ensures.lawful (begun (view_of c.in-Ok.parts) c.in-Ok.ensures.answer);
       rooted = c.in-Ok.ensures.rooted;
       sound = c.in-Ok.ensures.sound;
     }
