@@ -4,8 +4,13 @@ ghost use Rattle.bt_commands.specs.System.{IsLaunch};
 
 use crate::program::start;
 use bt_progress::{Console, Watched};
+use std::fs::OpenOptions;
 use std::io::IsTerminal;
+use std::os::fd::{AsRawFd, IntoRawFd, RawFd};
 use std::process::ExitCode;
+
+/// The standard streams have the descriptors 0 (input), 1 (output) and 2 (errors).
+const STREAMS: RawFd = 3;
 
 /// All that a `main` does: runs the program on the words of its environment, over the system's files and network and
 /// its standard streams, and gives the status that it exits with. While standard error is a terminal, a line there
@@ -13,6 +18,7 @@ use std::process::ExitCode;
 pub fn launch(rt: &HostRuntime) -> ExitCode
     ensures { IsLaunch (exit_status result) }
 {
+    occupy_streams(rt);
     let errors = rt.stderr();
     let console = Console::new(rt.alloc(), rt, errors, errors.is_terminal());
     let name = String::from_str(rt.alloc(), "standard output").ok();
@@ -25,4 +31,29 @@ pub fn launch(rt: &HostRuntime) -> ExitCode
         &mut output,
         &mut rt.stderr(),
     )
+}
+
+/// Occupies the descriptors of standard streams that the program was started without, until it ends. Else the next
+/// file that is opened would get one, and what is told on that stream would be written into it.
+fn occupy_streams(rt: &HostRuntime) {
+    for stream in 0..STREAMS {
+        occupy(rt, stream);
+    }
+}
+
+/// Occupies the descriptor of a standard stream, where it is the least that is free: the system gives a file that is
+/// opened the least. The stream is a device that is opened the wrong way round, to write what is read and to read what
+/// is written, so each call on it fails, as on a stream that is closed.
+fn occupy(rt: &HostRuntime, stream: RawFd) {
+    let is_input = stream == 0;
+    let opened = OpenOptions::new()
+        .read(!is_input)
+        .write(is_input)
+        .open(rt, "/dev/null");
+    if let Ok(file) = opened {
+        if file.as_raw_fd() == stream {
+            // it stays open
+            file.into_raw_fd();
+        }
+    }
 }
