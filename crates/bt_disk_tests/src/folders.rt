@@ -3,8 +3,8 @@
 use crate::shop::Shop;
 use crate::words::{RowError, Words, tell, tell_whether};
 use bt_disk::{FileDisk, FileIdentity, Opening};
-use bt_folder::{FolderNames, KnownFiles, ListingError, make_folders, sync_folder};
-use std::alloc::AllocError;
+use bt_folder::{CasePaths, FolderNames, KnownFiles, ListingError, make_folders, sync_folder};
+use std::alloc::{AllocError, Global};
 use std::fs;
 
 pub fn folder_row(
@@ -18,6 +18,7 @@ pub fn folder_row(
         "known" => known_row(shop, words, out),
         "case" => case_row(shop, words, out),
         "listed" => listed_row(shop, words, out),
+        "paths" => paths_row(shop, words, out),
         "hard" => hard_row(shop, words, out),
         _ => sync_row(shop, name, words, out),
     }
@@ -83,6 +84,33 @@ fn listed(host: &HostRuntime, folder: &str, name: &str) -> &'static str {
         Err(ListingError::Device) => "fault",
         Err(ListingError::OutOfMemory) => "out of memory",
     }
+}
+
+/// Looks at paths below a folder, in turn, until one has a name that is not its own.
+fn paths_row(shop: &Shop, words: &mut Words, out: &mut String) -> Result<(), RowError> {
+    let folder = shop.path(words)?;
+    let mut paths = CasePaths::new(shop.alloc());
+    for _ in 0..16 {
+        let path = words.word();
+        if path.is_empty() {
+            return tell(out, "all their own");
+        }
+        let elements = elements_of(shop.alloc(), path)?;
+        match paths.is_own(shop.host, folder.as_str(), &elements) {
+            Ok(true) => {}
+            Ok(false) => return tell(out, path),
+            Err(_) => return tell(out, "fault"),
+        }
+    }
+    Err(RowError::Unread)
+}
+
+fn elements_of<'p>(alloc: Global, path: &'p str) -> Result<Vec<&'p str>, AllocError> {
+    let mut elements = Vec::new(alloc);
+    for element in path.split('/') {
+        elements.push(element)?;
+    }
+    Ok(elements)
 }
 
 /// A second name of a file: the path of the next word is the new one.

@@ -3,12 +3,14 @@
 #![tactic(auto)]
 
 mod case_names;
+mod case_paths;
 mod folder_names;
 mod folder_sync;
 mod known_files;
 mod sealed_disk;
 
 pub use case_names::CaseNames;
+pub use case_paths::CasePaths;
 pub use folder_names::{FolderNames, ListingError};
 pub use folder_sync::{make_folders, sync_folder};
 pub use known_files::KnownFiles;

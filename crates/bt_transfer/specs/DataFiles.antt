@@ -19,7 +19,7 @@ device_paths dir files = map (λ file. path_below dir file.path) (files_with_byt
 abbrev pub DeviceView : Type 0
 DeviceView = AheadView PooledView
 
--- that of a file that is read and written, which was not synced, and no call of which failed yet
+-- that of a file that is read and written, which was neither synced nor written, and no call of which failed yet
 abbrev pub new_device : ℕ → List ℕ → DeviceView
 new_device number path =
     let file : PooledView = record {
@@ -27,6 +27,7 @@ new_device number path =
       path = path;
       access = writing;
       is_synced = false;
+      is_written = false;
       failed = 0;
     } in record { inner = file; failed = 0 }
 
