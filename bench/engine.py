@@ -1,7 +1,8 @@
 #!/usr/bin/env python3
 """Times the events of an engine: each kind of message at files of 2^10, 2^16 and 2^22 blocks, whose time is not to grow with the file
 (a bitfield's does), the fetch of a file of 1 GiB into a device in memory, of which the events' own time is told by kind, and beside it the
-adoption of the same file by the engine.
+adoption of the same file, and of one of 16 MiB, by the engine; and at each of these the answer that all is complete, whose time is not to
+grow with the file either.
 
     python3 bench/engine.py [FOLDER]
 

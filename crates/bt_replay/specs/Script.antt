@@ -17,7 +17,7 @@ use Rattle.bt_replay.specs.Field.{parts_of}
 use Rattle.bt_replay.specs.Line.{Spells, SpellsNone}
 use Rattle.bt_replay.specs.Run.{EndsEarly, HasRun}
 use Rattle.bt_replay.specs.declared.fault.ReplayFault.{ReplayFault}
-use Rattle.bt_replay.specs.declared.fault.ReplayFault.TheVariants.{Line as bad_line_at, Torrent as refused_torrent, Write, OutOfMemory}
+use Rattle.bt_replay.specs.declared.fault.ReplayFault.TheVariants.{Line as bad_line_at, Torrent as refused_torrent, OutOfMemory}
 use Rattle.bt_replay.specs.declared.line.Line.{Line}
 use Rattle.bt_replay.specs.declared.line.Line.TheVariants.{Torrent}
 
@@ -77,8 +77,8 @@ device_faults device = fault_count (λ disk. disk.failed) device
 
 -- ---- the whole
 
--- All lines ran; or they ended early; or nothing was begun, and nothing written; or the writer failed at the
--- end.
+-- All lines ran; or they ended early, which a writer that fails makes them do; or nothing was begun, and
+-- nothing written.
 pub data Replays (script : List ℕ) (old new : Option (List ℕ)) (outcome : Result (Unit {0}) ReplayFault)
     : Type 0 where
   whole : (first : List ℕ) (lines rest : List (List ℕ)) (torrent : Metainfo) (engine now : EngineView Device)
@@ -97,4 +97,3 @@ pub data Replays (script : List ℕ) (old new : Option (List ℕ)) (outcome : Re
       → script_lines script ≡ first ∷ lines → NamesNone first fault → Keeps old new → outcome ≡ Err fault
       → Replays script old new outcome
   without_memory : Keeps old new → outcome ≡ Err OutOfMemory → Replays script old new outcome
-  unwritten : outcome ≡ Err Write → Replays script old new outcome

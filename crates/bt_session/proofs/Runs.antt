@@ -2,14 +2,15 @@
 use Rattle.std.proofs.Common.{[], ℕ, List}
 use Rattle.bt_disk.specs.History.{History}
 use Rattle.bt_machine.specs.declared.event.Event.TheVariants.{Connect}
-use Rattle.bt_machine.proofs.View.{none_run, one_more_runs}
+use Rattle.bt_machine.specs.View.{NoEventsRun, OneMoreEventRuns}
 use Rattle.bt_session.specs.Session.{SessionsAreRuns, begins, goes_on}
 
-module _ {D : Type 0} (history : D → History) (honest : D → Type 0) (faults : D → ℕ) (dig : List ℕ → List ℕ) where
+module _ {D : Type 0} (history : D → History) (honest : D → Type 0) (faults : D → ℕ) (dig : List ℕ → List ℕ) (none : NoEventsRun history honest faults dig)
+    (one_more : OneMoreEventRuns history honest faults dig) where
   -- a session is a run of its events
   pub session_runs : SessionsAreRuns history honest faults dig
   session_runs key until first _ _ _ _ (begins out answer now is step) =
-      one_more_runs history honest faults dig first first now [] [] Connect answer (none_run history honest faults dig first) step
+      one_more first first now [] [] Connect answer (none first) step
   session_runs key until first _ _ _ _ (goes_on events answers last answer event mid now session follows step) =
-      one_more_runs history honest faults dig first mid now events answers event answer
+      one_more first mid now events answers event answer
       (session_runs key until first events answers last mid session) step

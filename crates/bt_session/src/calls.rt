@@ -11,7 +11,7 @@ ghost use Rattle.bt_session.specs.PeerSteps.{IsAlone, HasNoOther, LeavesPeer};
 use bt_book::PeerKey;
 use bt_disk::Disk;
 use bt_engine::Engine;
-use bt_machine::{ConnectError, EngineError, Output};
+use bt_machine::{ConnectError, EngineError, Output, events_send_what_fits};
 use bt_tree::NodeHash;
 use std::alloc::AllocError;
 
@@ -27,6 +27,7 @@ pub(crate) fn connect<D: Disk + Drop, H: NodeHash>(
     ensures kept { OnErr result (engine.new ≡ engine.old) }
 {
     engine.keeps_laws();
+    events_send_what_fits(engine.hash());
     engine.connect()
 }
 
@@ -57,6 +58,7 @@ pub(crate) fn next<D: Disk + Drop, H: NodeHash>(
     ensures fit { AllFit (sent_by (Stepped result)) }
 {
     engine.keeps_laws();
+    events_send_what_fits(engine.hash());
     engine.next(key)
 }
 
@@ -72,6 +74,7 @@ pub(crate) fn rechoke<D: Disk + Drop, H: NodeHash>(
     ensures fit { AllFit (sent_by (Rechoked result)) }
 {
     engine.keeps_laws();
+    events_send_what_fits(engine.hash());
     engine.rechoke()
 }
 

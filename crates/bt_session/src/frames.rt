@@ -1,5 +1,5 @@
 //! What an engine sends to one peer, written.
-ghost use Rattle.std.specs.Prelude.{◌≡◌, ◌++◌, IfOk};
+ghost use Rattle.std.specs.Prelude.{◌≡◌, ◌≤◌, ◌++◌, IfOk, vec_capacity};
 ghost use Rattle.bt_machine.specs.Frames.{CanBeWritten};
 ghost use Rattle.bt_session.specs.Frames.{spelling, spellings, frames_to, AllFit, AreWritten};
 
@@ -11,7 +11,7 @@ use std::alloc::{AllocError, Global};
 use std::io::Write;
 
 /// Writes those frames that are sent to a peer, by one write where the writer takes all, and flushes it. The
-/// buffer is one that is used again. Errors: Memory, with nothing written; WriteFault.
+/// buffer is one that is used again, and keeps its room. Errors: Memory, with nothing written; WriteFault.
 pub(crate) fn write_frames<W: Write>(
     alloc: Global,
     writer: &mut W,
@@ -20,7 +20,9 @@ pub(crate) fn write_frames<W: Write>(
     buffer: &mut Vec<u8>,
 ) -> Result<(), SessionEnd>
     requires fit { AllFit send.now }
-    ensures { AreWritten (W.contents writer.old) (W.contents writer.new) (frames_to key send.now) result }
+    ensures written { AreWritten (W.contents writer.old) (W.contents writer.new) (frames_to key send.now)
+        result }
+    ensures capacity { vec_capacity buffer.old ≤ vec_capacity buffer.new }
 {
     if spell_frames(alloc, key, send, buffer).is_err() {
         return Err(SessionEnd::Memory);
@@ -34,8 +36,8 @@ pub(crate) fn write_frames<W: Write>(
     }
 }
 
-/// Spells those frames that are sent to a peer, one after the other, in place of what the buffer held.
-/// Errors: out of memory.
+/// Spells those frames that are sent to a peer, one after the other, in place of what the buffer held, and in
+/// the room that it has. Errors: out of memory.
 fn spell_frames(
     alloc: Global,
     key: PeerKey,
@@ -43,7 +45,8 @@ fn spell_frames(
     buffer: &mut Vec<u8>,
 ) -> Result<(), AllocError>
     requires fit { AllFit send.now }
-    ensures { IfOk result (λ _. buffer.new.items ≡ spellings (frames_to key send.now)) }
+    ensures spelled { IfOk result (λ _. buffer.new.items ≡ spellings (frames_to key send.now)) }
+    ensures capacity { vec_capacity buffer.old ≤ vec_capacity buffer.new }
 {
     buffer.clear();
     for (to, frame) in send {
@@ -57,7 +60,8 @@ fn spell_frames(
 /// Spells a frame behind what the buffer holds. Errors: out of memory.
 fn spell(alloc: Global, frame: &Frame, buffer: &mut Vec<u8>) -> Result<(), AllocError>
     requires fits { CanBeWritten frame.now }
-    ensures { IfOk result (λ _. buffer.new.items ≡ buffer.old.items ++ spelling frame.now) }
+    ensures spelled { IfOk result (λ _. buffer.new.items ≡ buffer.old.items ++ spelling frame.now) }
+    ensures capacity { vec_capacity buffer.old ≤ vec_capacity buffer.new }
 {
     match frame {
         Frame::Hello(handshake) => buffer.extend_from_slice(&write_handshake(handshake)),

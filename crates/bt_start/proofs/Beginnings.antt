@@ -12,6 +12,7 @@ use Rattle.bt_book.specs.Book.{PeerRequests}
 use Rattle.bt_meta.specs.Files.{file_of as entry_of}
 use Rattle.bt_meta.specs.declared.torrent.FileEntry.{FileEntry}
 use Rattle.bt_machine.proofs.Lists.{some_is, some_below, get_some, get_map, and_then_some}
+use Rattle.bt_meta.specs.Law.{LiesInItsPiece}
 use Rattle.bt_machine.specs.Shape.{StartsInShape}
 use Rattle.bt_machine.specs.State.{EngineState, FileState}
 use Rattle.bt_machine.specs.Blocks.{state_at, piece_of, is_marked_in}
@@ -205,8 +206,8 @@ module _ {D H : Type 0} {dig : List ℕ → List ℕ} (bare next : Parts D H) (i
   missing : (i : ℕ) (file : File) (f : FileState) → slice_get bare.torrent.files i ≡ Some file → slice_get (state_of begun).files i ≡ Some f → f.states ≡ new_states file.length
   missing i file f listed at = (new_file i file f listed at).missing
 
-  tied : StartsInShape dig → IsTied begun
-  tied in_shape = record {
+  tied : LiesInItsPiece → StartsInShape dig → IsTied begun
+  tied lies in_shape = record {
     joined = ap (λ (ps : List Peer). map (λ p. p.key) ps) is.peers ∙ sym (ap (λ (rs : List PeerRequests). map (λ r. r.peer) rs) is.book);
     in_order = λ i j d lt within. absurd (omega (arith, within, ap (λ (ps : List Peer). length ps) is.peers));
     room = is.room;
@@ -224,17 +225,17 @@ module _ {D H : Type 0} {dig : List ℕ → List ℕ} (bare next : Parts D H) (i
           absurd (none_among (total_pieces bare.torrent) (piece_of bare.torrent b)
           (ap (λ (bs : List Bool). option_and_then (λ q. slice_get bs q) (piece_of bare.torrent b)) (sym is.known) ∙ among));
     };
-    unmarked = sizes_unmarked (state_of begun) (in_shape bare.torrent (state_of begun) begins) is.lawful.piece is.lawful.laid_out
+    unmarked = sizes_unmarked lies (state_of begun) (in_shape bare.torrent (state_of begun) begins) is.lawful.piece is.lawful.laid_out
         (not_marked (state_of begun) bare.book.wanted bare.torrent.files is.wanted (length-map next.slots.items file_of ∙ as_many) missing) is.sizes;
   }
 
 -- ---- the same, where the slots were lent and made
 
 pub have_begun : {D H : Type 0} {dig : List ℕ → List ℕ} (bare : Parts D H) (lent made : List (Slot D H)) {files : List File} {given : List D}
-    → StartsInShape dig → AreBareParts dig bare → files ≡ bare.torrent.files → lent ≡ bare.slots.items → AreNewSlots files made
+    → LiesInItsPiece → StartsInShape dig → AreBareParts dig bare → files ≡ bare.torrent.files → lent ≡ bare.slots.items → AreNewSlots files made
     → map (λ slot. slot.tree) made ≡ map (λ slot. slot.tree) lent → devices_in made ≡ given
     → HaveBegun dig given (record bare { slots = with_items bare.slots made })
-have_begun {D} {H} {dig} bare lent made {files} {given} in_shape is listed lends new trees in_order =
+have_begun {D} {H} {dig} bare lent made {files} {given} lies in_shape is listed lends new trees in_order =
     let Slots : Type 0 = List (Slot D H) in
     let next : Parts D H = record bare { slots = with_items bare.slots made } in
     let alike : map (λ slot. slot.tree) made ≡ map (λ slot. slot.tree) bare.slots.items = trees ∙ ap (λ (slots : Slots). map (λ slot. slot.tree) slots) lends in
@@ -246,7 +247,7 @@ have_begun {D} {H} {dig} bare lent made {files} {given} in_shape is listed lends
     record {
       starts = begins bare next is own own_trees;
       devices = are_devices bare next is own own_trees (ap (λ (slots : Slots). devices_in slots) are ∙ in_order);
-      tied = tied bare next is own own_trees in_shape;
+      tied = tied bare next is own own_trees lies in_shape;
     }
 
 -- what follows of three clauses on success

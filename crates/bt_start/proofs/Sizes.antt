@@ -8,7 +8,7 @@ use Rattle.bt_tree.specs.TreeShape.{IsPieceLength}
 use Rattle.bt_book.proofs.Once.{count_cons}
 use Rattle.bt_meta.specs.PieceBlocks.{HasBlock, ArePieceBlocks, IsOfRun}
 use Rattle.bt_meta.specs.declared.piece_blocks.BlockRun.{BlockRun}
-use Rattle.bt_meta.proofs.PieceBlocks.{lies_in_piece}
+use Rattle.bt_meta.specs.Law.{LiesInItsPiece}
 use Rattle.bt_machine.proofs.Lists.{some_below, get_some}
 use Rattle.bt_machine.specs.State.{EngineState, FileState}
 use Rattle.bt_machine.specs.Blocks.{block_id, states_of, is_marked_in, is_in_piece, all_blocks}
@@ -102,7 +102,7 @@ module _ {X : Type 0} (p : X → Bool) (h : ℕ → List X) (at : ℕ) (others :
 
 -- ---- the blocks of a piece
 
-module _ (s : EngineState) (shaped : IsShaped s.torrent s) (size : IsPieceLength s.torrent.piece_length)
+module _ (lies_in_piece : LiesInItsPiece) (s : EngineState) (shaped : IsShaped s.torrent s) (size : IsPieceLength s.torrent.piece_length)
     (lay : IsLaidOut s.torrent.piece_length s.torrent.files) where
   state_sizes : (i : ℕ) {file : File} → slice_get s.torrent.files i ≡ Some file → length (states_of s i) ≡ block_count file.length
   state_sizes i {file} listed =

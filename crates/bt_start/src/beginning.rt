@@ -17,7 +17,7 @@ use crate::piece_sizes::piece_sizes;
 use crate::trees::bare_slots;
 use bt_disk::Disk;
 use bt_machine::{StartError, StartRefused, starts_keep_laws};
-use bt_meta::Torrent;
+use bt_meta::{Torrent, blocks_and_ranges_agree};
 use bt_state::{MAX_PEERS, Parts, PieceSet};
 use bt_tree::NodeHash;
 use std::alloc::{AllocError, Global};
@@ -105,6 +105,7 @@ fn give_devices<D: Disk + Drop, H: NodeHash>(
     ensures begun { OnOk result (HaveBegun H.digest disks.old.items parts.new) }
     ensures refused { OnErr result (disks.new.items ≡ disks.old.items) }
 {
+    blocks_and_ranges_agree();
     starts_keep_laws::<D, H>(hash);
     let files = parts.torrent.files();
     hand_out(alloc, hash, files, &mut parts.slots, disks)

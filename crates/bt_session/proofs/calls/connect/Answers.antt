@@ -1,7 +1,5 @@
 use Rattle.bt_machine.specs.declared.event.Event.TheVariants.{Connect}
 use Rattle.bt_machine.specs.declared.event.Answer.TheVariants.{Connected}
-use Rattle.bt_tree.proofs.TreeShape.{height_is}
-use Rattle.bt_machine.proofs.Frames.{step_fits}
 use Rattle.bt_session.proofs.OnePeer.{connect_alone, refused_same}
 use Rattle.bt_session.proofs.OwnSteps.{own_connect}
 use Rattle.bt_session.proofs.calls.connect.Goals as goal
@@ -15,7 +13,7 @@ returns-clause-alone g c = connect_alone c.connect.result (own_connect g.H.NodeH
 pub returns-clause-fit : goal.returns-clause-fit
 returns-clause-fit g c =
     let laws = c.keeps_laws.ensures in
-    step_fits g.H.NodeHash.digest g.met.H.NodeHash.has_32_bytes height_is c.args.engine.now.state.torrent c.args.engine.now.state c.connect.new.self.state Connect
+    c.events_send_what_fits.ensures.step c.args.engine.now.state.torrent c.args.engine.now.state c.connect.new.self.state Connect
     c.connect.ensures.step.calls (Connected c.connect.result) laws.lawful laws.shaped laws.sparse c.connect.ensures.step.step
 
 pub returns-clause-kept : goal.returns-clause-kept

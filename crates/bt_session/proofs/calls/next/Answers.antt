@@ -1,7 +1,5 @@
 use Rattle.bt_machine.specs.declared.event.Event.TheVariants.{Next}
 use Rattle.bt_machine.specs.declared.event.Answer.TheVariants.{Stepped}
-use Rattle.bt_tree.proofs.TreeShape.{height_is}
-use Rattle.bt_machine.proofs.Frames.{step_fits}
 use Rattle.bt_session.proofs.OnePeer.{next_leaves}
 use Rattle.bt_session.proofs.OwnSteps.{own_next}
 use Rattle.bt_session.proofs.calls.next.Goals as goal
@@ -15,5 +13,5 @@ returns-clause-leaves g c = next_leaves g.H.NodeHash.digest c.next.result (own_n
 pub returns-clause-fit : goal.returns-clause-fit
 returns-clause-fit g c =
     let laws = c.keeps_laws.ensures in
-    step_fits g.H.NodeHash.digest g.met.H.NodeHash.has_32_bytes height_is c.args.engine.now.state.torrent c.args.engine.now.state c.next.new.self.state (Next c.args.key)
+    c.events_send_what_fits.ensures.step c.args.engine.now.state.torrent c.args.engine.now.state c.next.new.self.state (Next c.args.key)
     c.next.ensures.calls (Stepped c.next.result) laws.lawful laws.shaped laws.sparse c.next.ensures.step

@@ -1,7 +1,5 @@
 use Rattle.bt_machine.specs.declared.event.Event.TheVariants.{Rechoke}
 use Rattle.bt_machine.specs.declared.event.Answer.TheVariants.{Rechoked}
-use Rattle.bt_tree.proofs.TreeShape.{height_is}
-use Rattle.bt_machine.proofs.Frames.{step_fits}
 use Rattle.bt_session.proofs.OnePeer.{rechoke_stays}
 use Rattle.bt_session.proofs.OwnSteps.{own_rechoke}
 use Rattle.bt_session.proofs.calls.rechoke.Goals as goal
@@ -15,5 +13,5 @@ returns-clause-alone g c = rechoke_stays g.H.NodeHash.digest (own_rechoke g.H.No
 pub returns-clause-fit : goal.returns-clause-fit
 returns-clause-fit g c =
     let laws = c.keeps_laws.ensures in
-    step_fits g.H.NodeHash.digest g.met.H.NodeHash.has_32_bytes height_is c.args.engine.now.state.torrent c.args.engine.now.state c.rechoke.new.self.state Rechoke
+    c.events_send_what_fits.ensures.step c.args.engine.now.state.torrent c.args.engine.now.state c.rechoke.new.self.state Rechoke
     c.rechoke.ensures.step.calls (Rechoked c.rechoke.result) laws.lawful laws.shaped laws.sparse c.rechoke.ensures.step.step

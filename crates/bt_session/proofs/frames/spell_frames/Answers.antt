@@ -14,12 +14,17 @@ loop-to-preserved c =
     take_more c.args.send.now c.loop-to.to-index c.loop-to-item.result c.loop-to-test.true
     ∙ ap (λ s. take c.loop-to.to-index c.args.send.now ++ s ∷ []) (sym c.loop-to-item.is) in
     elim c.if-eq.branch [
-      | then-eq+in_ok-spell w ↦ rw w.buffer-is
-          (spelled_more c.args.key _ _ c.loop-to-item.result _ _ c.loop-to.invariant more (sym c.eq.ensures ∙ w.if-eq.true) w.in_ok-spell.ensures)
-      | else-eq w ↦ rw w.buffer-is (spelled_other c.args.key _ _ c.loop-to-item.result _ c.loop-to.invariant more (sym c.eq.ensures ∙ w.if-eq.false))
+      | then-eq+in_ok-spell w ↦ rw w.buffer-is record {
+        spelled = spelled_more c.args.key _ _ c.loop-to-item.result _ _ c.loop-to.invariant.spelled more (sym c.eq.ensures ∙ w.if-eq.true) w.in_ok-spell.ensures.spelled;
+        capacity = omega (arith, c.loop-to.invariant.capacity, w.in_ok-spell.ensures.capacity);
+      }
+      | else-eq w ↦ rw w.buffer-is record {
+        spelled = spelled_other c.args.key _ _ c.loop-to-item.result _ c.loop-to.invariant.spelled more (sym c.eq.ensures ∙ w.if-eq.false);
+        capacity = c.loop-to.invariant.capacity;
+      }
     ]
 
-pub returns : goal.returns
-returns c =
+pub returns-clause-spelled : goal.returns-clause-spelled
+returns-clause-spelled c =
     let all = take_all c.loop-to.to-index c.args.send.now (omega (arith, c.loop-to-test.false)) in
-    c.loop-to.invariant ∙ ap (λ s. spellings (frames_to c.args.key s)) all
+    c.loop-to.invariant.spelled ∙ ap (λ s. spellings (frames_to c.args.key s)) all

@@ -10,21 +10,21 @@ returns-in_err-write_frames-in-Ok-Some-clause-part g c remaining given taken fir
     let sent : c.deref.result.now ≡ c.in-Ok-Some.output.send = cc (ap (λ (o : Output). o.send) c.output.view_is, c.deref.ensures.value) in
     rw (p.1, p.2)
     (not_sent g.D.Disk.history g.D.Disk.honest g.D.Disk.faults g.H.NodeHash.digest _ _ given taken first _ _ remaining _ _ c.in-Ok-Some.output _ _
-    (rw c.in-Ok-Some.field-0-is at c.in-Ok-Some.ensures.step) sent c.in_err-write_frames-in-Ok-Some.ensures h few)
+    (rw c.in-Ok-Some.field-0-is at c.in-Ok-Some.ensures.step) sent c.in_err-write_frames-in-Ok-Some.ensures.written h few)
 
 pub returns-in-Some-clause-part : goal.returns-in-Some-clause-part
 returns-in-Some-clause-part g c remaining given taken first h few =
     let sent : c.deref.result.now ≡ c.in-Ok-Some.output.send = cc (ap (λ (o : Output). o.send) c.output.view_is, c.deref.ensures.value) in
     let closed : c.output.inside.close ≡ c.in-Ok-Some.output.close = cc (ap (λ (o : Output). o.close) c.output.view_is) in
     output_sent g.D.Disk.history g.D.Disk.honest g.D.Disk.faults g.H.NodeHash.digest _ _ given taken first _ _ remaining _ _ c.in-Ok-Some.output _ _ _
-    (rw c.in-Ok-Some.field-0-is at c.in-Ok-Some.ensures.step) sent closed c.in_ok-write_frames-in-Ok-Some.ensures c.in-Some.ensures h few
+    (rw c.in-Ok-Some.field-0-is at c.in-Ok-Some.ensures.step) sent closed c.in_ok-write_frames-in-Ok-Some.ensures.written c.in-Some.ensures h few
 
 pub returns-in-Ok-Some-clause-part : goal.returns-in-Ok-Some-clause-part
 returns-in-Ok-Some-clause-part g c remaining given taken first h few =
     let sent : c.deref.result.now ≡ c.in-Ok-Some.output.send = cc (ap (λ (o : Output). o.send) c.output.view_is, c.deref.ensures.value) in
     let closed : c.output.inside.close ≡ c.in-Ok-Some.output.close = cc (ap (λ (o : Output). o.close) c.output.view_is) in
     output_sent g.D.Disk.history g.D.Disk.honest g.D.Disk.faults g.H.NodeHash.digest _ _ given taken first _ _ remaining _ _ c.in-Ok-Some.output _ _ _
-    (rw c.in-Ok-Some.field-0-is at c.in-Ok-Some.ensures.step) sent closed c.in_ok-write_frames-in-Ok-Some.ensures c.in-None.ensures h few
+    (rw c.in-Ok-Some.field-0-is at c.in-Ok-Some.ensures.step) sent closed c.in_ok-write_frames-in-Ok-Some.ensures.written c.in-None.ensures h few
 
 pub returns-in-Ok-None-clause-part : goal.returns-in-Ok-None-clause-part
 returns-in-Ok-None-clause-part g c remaining given taken first h few =
