@@ -60,7 +60,7 @@ pub fn publish<R: Files + AllocGlobal, P: Watch, O: Write>(
 }
 
 /// Writes a file: wholly, or it stays as it was. The bytes go into a new file beside it, which then takes its
-/// name, and the mode of the one that was there.
+/// name, and the mode of the one that was there. At the end its folder is synced, so that the name is kept.
 ///
 /// Where the path is a symbolic link, that is the file that it names, and the link stays. Where there is
 /// something that is no regular file, that is a device fault, and nothing is changed.
@@ -87,6 +87,8 @@ fn replace_target<R: Files + AllocGlobal, P: Watch>(
 ) -> Result<(), Fault>
     ensures { IfErr result (λ fault. (fault ≡ device) ⊎ (fault ≡ out_of_memory)) }
 {
+    // before anything is changed, since it takes memory
+    let folder = sibling(rt.alloc(), path, ".")?;
     let part = told(
         rt.alloc(),
         watch,
@@ -96,11 +98,16 @@ fn replace_target<R: Files + AllocGlobal, P: Watch>(
     );
     let (part, mut file) = part?;
     let written = write_part(&mut file, permissions, bytes);
-    let outcome = put_in_place(rt, watch, part.as_str(), path, written);
-    if outcome.is_err() {
-        let _ = fs::remove_file(rt, part.as_str());
+    match put_in_place(rt, watch, part.as_str(), path, written) {
+        Ok(()) => {
+            let outcome = sync_folder(rt, folder.as_str());
+            told(rt.alloc(), watch, FileCall::Sync, path, outcome)
+        }
+        Err(fault) => {
+            let _ = fs::remove_file(rt, part.as_str());
+            Err(fault)
+        }
     }
-    outcome
 }
 
 /// Gives a part file the name of the file whose place it takes, where it was written. A fault is told of.
@@ -117,6 +124,30 @@ fn put_in_place<R: Files + AllocGlobal, P: Watch>(
     told(rt.alloc(), watch, FileCall::Write, path, outcome)?;
     let outcome = of_device(fs::rename(rt, part, path));
     told(rt.alloc(), watch, FileCall::Rename, path, outcome)
+}
+
+/// Has the names in a folder kept by its device, where that can be: else nothing more can be done for them.
+fn sync_folder<R: Files>(rt: &R, folder: &str) -> Result<(), Fault>
+    ensures { IfErr result (λ fault. fault ≡ device) }
+{
+    match open_and_sync(rt, folder) {
+        Ok(()) => Ok(()),
+        Err(error) if cannot_sync(error.kind()) => Ok(()),
+        Err(_) => Err(Fault::Device),
+    }
+}
+
+/// Whether an error says that a folder may not be read, or that its file system does not sync folders.
+fn cannot_sync(kind: ErrorKind) -> bool {
+    match kind {
+        ErrorKind::PermissionDenied | ErrorKind::InvalidInput | ErrorKind::Unsupported => true,
+        _ => false,
+    }
+}
+
+/// Syncs the folder at a path.
+fn open_and_sync<R: Files>(rt: &R, folder: &str) -> io::Result<()> {
+    fs::open(rt, folder)?.sync_all()
 }
 
 /// The path of a file that is replaced, at which is a regular file with these permissions, or nothing.
