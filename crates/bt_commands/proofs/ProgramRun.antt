@@ -1,27 +1,27 @@
 -- Lemmas on what a run does.
-use Rattle.std.proofs.Common.{◌≡◌, ℕ, [], ◌∷◌, ◌++◌, codes, Bool, true, false, ap, append_assoc, List, Option, Result, Ok, Err, IfOk, IfErr, IsErrAnd, refl, sym, subst, ◌∙◌}
+use Rattle.std.proofs.Common.{◌≡◌, ℕ, Bool, true, false, ap, List, Option, Result, Ok, Err, IfOk, IfErr, IsErrAnd, refl, sym, subst, ◌∙◌}
 use Rattle.std.specs.Prelude.{◌⊎◌, if◌then◌else◌}
 use Rattle.std.specs.Io.KnownBytes.{Appends, Keeps}
 use Rattle.std.proofs.KnownBytes.{Keeps-refl}
 use Rattle.clap.specs.Words.{Text}
 use Rattle.bt_tree.specs.TreeShape.{IsPieceLength}
 use Rattle.bt_meta.specs.declared.writer.MakeError.TheVariants.{PieceLength}
-use Rattle.bt_commands.specs.CommandLine.{IsTaskOf}
+use Rattle.bt_words.specs.CommandLine.{IsTaskOf}
 use Rattle.bt_meta.specs.Torrent.{Metainfo}
 use Rattle.bt_check.specs.Report.{IsReportOn, check_outcome, report_text}
 use Rattle.bt_check.specs.TorrentFile.{HasText}
-use Rattle.bt_commands.specs.Make.{IsMakeFault, IsMakeTorrent}
-use Rattle.bt_commands.specs.Program.{IsCheckResult, IsDone, IsMakeResult, IsTaskEnd, IsRun, IsStart, Writes, infohash_line, no_words, on_words, task_result, task_end}
+use Rattle.bt_make.specs.AtomicFile.{infohash_line}
+use Rattle.bt_make.specs.Command.{IsMakeFault, IsMakeTorrent}
+use Rattle.bt_commands.specs.Program.{IsCheckResult, IsDone, IsMakeResult, IsTaskEnd, IsRun, IsStart, Writes, no_words, on_words, task_result, task_end}
 use Rattle.bt_commands.specs.ProgramSteps.{status_after}
-use Rattle.hex.specs.Hex.{encode_lower}
 use Rattle.bt_check.specs.Fault.{device, make_fault, out_of_memory, status_of, words_fault}
-use Rattle.bt_commands.specs.declared.make.NewTorrent.{NewTorrent}
+use Rattle.bt_make.specs.declared.command.NewTorrent.{NewTorrent}
 use Rattle.bt_check.specs.declared.report.FileFinding.{FileFinding}
 use Rattle.bt_check.specs.declared.report.Summary.{Summary}
-use Rattle.bt_commands.specs.declared.command_line.MakeTask.{MakeTask}
+use Rattle.bt_words.specs.declared.command_line.MakeTask.{MakeTask}
 use Rattle.bt_check.specs.declared.torrent_file.Source.{Source}
-use Rattle.bt_commands.specs.declared.command_line.Task.{Task}
-use Rattle.bt_commands.specs.declared.command_line.Task.TheVariants.{Make}
+use Rattle.bt_words.specs.declared.command_line.Task.{Task}
+use Rattle.bt_words.specs.declared.command_line.Task.TheVariants.{Make}
 use Rattle.bt_check.specs.declared.fault.Fault.{Fault}
 
 -- nothing was made, and nothing written yet
@@ -72,23 +72,11 @@ pub performed : (words : List Text) (task : Task) (given left old new : Option (
 performed words task given left old new (Ok status) asked written ended = task_result task asked written
 performed words task given left old new (Err fault) asked written ended = task_end task fault asked ended refl
 
--- how the line is put together
-pub line_spelled : (text digits infohash : List ℕ) → text ≡ codes "infohash " ++ (digits ++ 10 ∷ []) → digits ≡ encode_lower infohash
-    → text ≡ infohash_line infohash
-line_spelled text digits infohash printed hash =
-    printed ∙ ap (λ d. codes "infohash " ++ (d ++ 10 ∷ [])) hash ∙ sym (append_assoc (codes "infohash ") (encode_lower infohash) (10 ∷ []))
-
 pub made : (request : MakeTask) (new : NewTorrent) (old now : Option (List ℕ)) (infohash : List ℕ)
     → IsMakeTorrent request.name.now request.piece_length new → infohash ≡ new.infohash → Appends old now (infohash_line infohash)
     → Writes (IsMakeResult request) old now 0
 made request new old now infohash is same put =
     record { text = infohash_line infohash; written = put; is = record { new = new; made = is; line = ap infohash_line same; answer = refl } }
-
--- a device that fails is not memory that is short
-pub told_by_device : {T : Type 0} (r : Result T Fault) (old new : Option (List ℕ)) → IfErr r (λ fault. fault ≡ device)
-    → IfErr r (λ fault. fault ≡ out_of_memory → Keeps old new)
-told_by_device (Ok x) old new failed = tt
-told_by_device (Err fault) old new failed = λ memory. let bad : device ≡ out_of_memory = sym failed ∙ memory in cc
 
 pub start_on_words : (given left rest old new ran : Option (List ℕ)) (status run_status exit : ℕ) (words : List Text) → left ≡ rest → new ≡ ran
     → status ≡ run_status → exit ≡ status → IsRun words given rest old ran run_status → IsStart given left old new exit

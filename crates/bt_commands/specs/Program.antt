@@ -1,39 +1,34 @@
 -- What the program does with its words: the status that it exits with, the text that it writes, and what it reads.
-use Rattle.std.specs.Prelude.{◌≡◌, ℕ, ◌++◌, ◌⊎◌, false, List, Option, codes, if◌then◌else◌}
+use Rattle.std.specs.Prelude.{◌≡◌, ℕ, ◌⊎◌, false, List, Option, if◌then◌else◌}
 use Rattle.std.specs.Io.KnownBytes.{Appends, Keeps}
 use Rattle.clap.specs.Words.{Text}
 use Rattle.clap.specs.declared.error.kind.ErrorKind.{ErrorKind}
 use Rattle.clap.specs.declared.error.kind.ErrorKind.TheVariants.{DisplayHelp, DisplayVersion, OutOfMemory}
-use Rattle.hex.specs.Hex.{encode_lower}
 use Rattle.bt_tree.specs.TreeShape.{IsPieceLength}
 use Rattle.bt_meta.specs.Torrent.{Metainfo}
 use Rattle.bt_meta.specs.declared.writer.MakeError.TheVariants.{PieceLength}
 use Rattle.bt_replay.specs.Command.{IsReplay}
 use Rattle.bt_transfer.specs.Fetch.{IsFetch}
 use Rattle.bt_transfer.specs.Seed.{IsSeed}
-use Rattle.bt_commands.specs.CommandLine.{IsTaskOf, IsNoTaskOf}
-use Rattle.bt_check.specs.Display.{line_text}
+use Rattle.bt_words.specs.CommandLine.{IsTaskOf, IsNoTaskOf}
 use Rattle.bt_check.specs.Fault.{make_fault, out_of_memory, status_of, words_fault}
-use Rattle.bt_commands.specs.Make.{IsMakeFault, IsMakeTorrent}
+use Rattle.bt_make.specs.AtomicFile.{infohash_line}
+use Rattle.bt_make.specs.Command.{IsMakeFault, IsMakeTorrent}
 use Rattle.bt_check.specs.Report.{IsReportOn, is_complete_report, is_faulty_report, report_text}
 use Rattle.bt_check.specs.Show.{show_text}
 use Rattle.bt_check.specs.TorrentFile.{HasText, IsLoadFault}
-use Rattle.bt_commands.specs.declared.command_line.FetchTask.{FetchTask}
-use Rattle.bt_commands.specs.declared.command_line.MakeTask.{MakeTask}
-use Rattle.bt_commands.specs.declared.command_line.SeedTask.{SeedTask}
+use Rattle.bt_words.specs.declared.command_line.FetchTask.{FetchTask}
+use Rattle.bt_words.specs.declared.command_line.MakeTask.{MakeTask}
+use Rattle.bt_words.specs.declared.command_line.SeedTask.{SeedTask}
 use Rattle.bt_check.specs.declared.torrent_file.Source.{Source}
-use Rattle.bt_commands.specs.declared.command_line.Task.{Task}
-use Rattle.bt_commands.specs.declared.command_line.Task.TheVariants.{Make, Show, Check, Seed, Fetch, Replay}
+use Rattle.bt_words.specs.declared.command_line.Task.{Task}
+use Rattle.bt_words.specs.declared.command_line.Task.TheVariants.{Make, Show, Check, Seed, Fetch, Replay}
 use Rattle.bt_check.specs.declared.fault.Fault.{Fault}
-use Rattle.bt_commands.specs.declared.make.NewTorrent.{NewTorrent}
+use Rattle.bt_make.specs.declared.command.NewTorrent.{NewTorrent}
 use Rattle.bt_check.specs.declared.report.FileFinding.{FileFinding}
 use Rattle.bt_check.specs.declared.report.Summary.{Summary}
 
 -- ---- a task that is done
-
--- the line that tells the infohash of a torrent
-abbrev pub infohash_line : List ℕ → List ℕ
-infohash_line infohash = line_text (codes "infohash " ++ encode_lower infohash)
 
 -- a torrent was made, and the text is a line with its infohash
 pub record IsMakeResult (request : MakeTask) (status : ℕ) (text : List ℕ) : Type 0 where

@@ -17,6 +17,7 @@ pub enum Failing {
     Writes,
     Flushes,
     Syncs,
+    Folders,
     Renames,
     Modes,
     Links,
@@ -39,7 +40,7 @@ impl Failing {
 /// The host's file system, of which some calls fail, in which every folder lists these names, each with a zero behind it, and in which a
 /// path that ends in `pipe` is a device, which neither a read nor a write is to reach. Of looks and opens those
 /// of a path that ends in `last` fail, and of reads the third of each file. A file that has bytes takes no mode
-/// any more, and one that has none is not synced. What lies at `proc` and at `sys` is a folder to a look that follows
+/// any more, and one that has none is not synced. Folders are synced apart from files. What lies at `proc` and at `sys` is a folder to a look that follows
 /// links, of the number 1, each on a device of its own, and what lies at `null` is a device. What lies at `gone` is not there
 /// to such a look while it has bytes, and has none from then on.
 #[derive(Clone, Copy)]
@@ -234,6 +235,10 @@ impl OpenFile for DeviceFile {
     }
 
     fn sync_all(&self) -> io::Result<()> {
+        if self.file.metadata()?.is_dir() {
+            self.failing.at(Failing::Folders)?;
+            return self.file.sync_all();
+        }
         self.failing.at(Failing::Syncs)?;
         if !self.has_bytes {
             return Err(io::Error::from(ErrorKind::Other));

@@ -16,6 +16,7 @@ const CALLS: &[(&str, Failing)] = &[
     ("writes", Failing::Writes),
     ("flushes", Failing::Flushes),
     ("syncs", Failing::Syncs),
+    ("folders", Failing::Folders),
     ("renames", Failing::Renames),
     ("modes", Failing::Modes),
     ("links", Failing::Links),

@@ -13,7 +13,7 @@ use Rattle.bt_sockets.specs.Link.{Dials, undialled}
 use Rattle.bt_sockets.specs.Listener.{IsServed}
 use Rattle.bt_transfer.specs.Fetch.{HasFetched, links_of}
 use Rattle.bt_transfer.specs.OverTcp.{MeetsOverTcp, TriesOverTcp, session_turns}
-use Rattle.bt_transfer.specs.declared.peer.Peer.{Peer}
+use Rattle.bt_words.specs.declared.peer.Peer.{Peer}
 
 -- the bytes of a reader and a writer
 abbrev by_bytes : {R W : Type 0} → (R → Option (List ℕ)) → (W → Option (List ℕ)) → Option (R × W)

@@ -17,7 +17,7 @@ use Rattle.bt_transfer.specs.Loading.{IsLoaded}
 use Rattle.bt_transfer.specs.OverTcp.{TriesOverTcp}
 use Rattle.bt_transfer.specs.PeerLines.{peer_lines}
 use Rattle.bt_transfer.specs.Store.{device_faults, device_history, device_honest}
-use Rattle.bt_transfer.specs.declared.peer.Peer.{Peer}
+use Rattle.bt_words.specs.declared.peer.Peer.{Peer}
 
 -- The peers were tried in turn, all devices were synced, a line tells of each peer that was tried, the files
 -- whose blocks came without their hashes were taken in, and then it is concluded.

@@ -6,7 +6,7 @@ use Rattle.bt_check.specs.Display.{line_text}
 use Rattle.bt_peers.specs.End.{end_text}
 use Rattle.bt_peers.specs.declared.end.PeerEnd.{PeerEnd}
 use Rattle.bt_peers.specs.declared.end.PeerEnd.TheVariants.{Untried}
-use Rattle.bt_transfer.specs.declared.peer.Peer.{Peer}
+use Rattle.bt_words.specs.declared.peer.Peer.{Peer}
 
 abbrev pub is_tried : PeerEnd → Bool
 is_tried Untried = false

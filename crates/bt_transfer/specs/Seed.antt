@@ -14,8 +14,8 @@ use Rattle.bt_transfer.specs.Connections.{HasServed, MeetsAndSyncs}
 use Rattle.bt_transfer.specs.Loading.{IsLoaded}
 use Rattle.bt_transfer.specs.OverTcp.{MeetsOverTcp}
 use Rattle.bt_transfer.specs.Store.{device_faults, device_history, device_honest}
-use Rattle.bt_transfer.specs.declared.peer.Serving.{Serving}
-use Rattle.bt_transfer.specs.declared.peer.Serving.TheVariants.{Count, Forever}
+use Rattle.bt_words.specs.declared.peer.Serving.{Serving}
+use Rattle.bt_words.specs.declared.peer.Serving.TheVariants.{Count, Forever}
 
 -- so many connections were served, and then all devices were synced
 pub record HasServedCount {D : Type 0} (history : D → History) (honest : D → Type 0) (faults : D → ℕ)

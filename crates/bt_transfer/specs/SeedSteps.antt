@@ -3,7 +3,7 @@ use Rattle.std.specs.Prelude.{◌≡◌, ℕ, List, Option}
 use Rattle.bt_disk.specs.History.{History}
 use Rattle.bt_machine.specs.State.{EngineView}
 use Rattle.bt_transfer.specs.Seed.{HasListened}
-use Rattle.bt_transfer.specs.declared.peer.Serving.{Serving}
+use Rattle.bt_words.specs.declared.peer.Serving.{Serving}
 
 -- some engine was left behind, and the status is 0
 abbrev pub EndsSeed : {D : Type 0} → (D → History) → (D → Type 0) → (D → ℕ) → (List ℕ → List ℕ) → Serving

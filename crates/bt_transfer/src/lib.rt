@@ -8,12 +8,11 @@ mod data_files;
 mod ending;
 mod lacking;
 mod loading;
-mod peer;
 mod peer_lines;
 mod reception;
 mod report;
 mod store;
 
+pub use bt_words::{Peer, Service, Serving};
 pub use command::fetch::fetch;
 pub use command::seed::seed;
-pub use peer::{Peer, Service, Serving};

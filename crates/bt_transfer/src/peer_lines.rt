@@ -4,9 +4,9 @@ ghost use Rattle.std.specs.Io.KnownBytes.{Appends};
 ghost use Rattle.bt_check.specs.Fault.{device, out_of_memory};
 ghost use Rattle.bt_transfer.specs.PeerLines.{is_tried, peer_line, peer_lines, peer_text};
 
-use crate::peer::Peer;
 use bt_check::{Fault, print};
 use bt_peers::{PeerEnd, end_text};
+use bt_words::Peer;
 use std::alloc::{AllocError, Global};
 use std::io::Write;
 

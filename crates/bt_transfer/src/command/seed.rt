@@ -9,7 +9,6 @@ ghost use Rattle.bt_transfer.specs.SeedSteps.{EndsSeed};
 
 use crate::connections::{serve_count, serve_forever};
 use crate::loading::load_store;
-use crate::peer::{Service, Serving};
 use crate::reception::Reception;
 use crate::store::finish;
 use bt_check::{Fault, Source, print};
@@ -18,6 +17,7 @@ use bt_engine::Engine;
 use bt_progress::{FileCall, Watch};
 use bt_sockets::{Passage, Shared, listen, port_of};
 use bt_tree::NodeHash;
+use bt_words::{Service, Serving};
 use std::alloc::{AllocError, Global};
 use std::io::Write;
 use std::net::{Net, OpenListener};

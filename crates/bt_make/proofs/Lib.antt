@@ -1,0 +1,6 @@
+pub mod FolderWalk
+pub mod FolderOrder
+pub mod FolderFiles
+pub mod MakeFault
+pub mod AtomicFile
+pub mod AtomicFilePath

@@ -1,0 +1,3 @@
+pub mod PeerWords
+pub mod CommandWords
+pub mod CommandLineTask

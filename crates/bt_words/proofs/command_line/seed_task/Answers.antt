@@ -1,0 +1,40 @@
+use Rattle.std.proofs.Common.{◌≡◌, ℕ, List, Some, codes, refl}
+use Rattle.clap.specs.Words.{first_of, found_of, rows_of}
+use Rattle.bt_check.specs.declared.torrent_file.Source.{Source}
+use Rattle.bt_words.specs.declared.peer.Service.{Service}
+use Rattle.bt_words.specs.CommandLine.{AsksFor, IsServiceIn, IsSourceIn}
+use Rattle.bt_words.specs.declared.command_line.Task.{Task}
+use Rattle.bt_words.proofs.CommandLineTask.{no_seed, passed_on}
+use Rattle.bt_words.proofs.command_line.seed_task.Goals as goal
+
+pub returns-in_err-torrent-clause-refused : goal.returns-in_err-torrent-clause-refused
+returns-in_err-torrent-clause-refused c =
+    let rows = rows_of (found_of c.args.matches.now) in
+    passed_on c.from_residual.result c.in_err-torrent.field-0.0 ((source : Source) → ¬ IsSourceIn rows source)
+    ((task : Task) → ¬ AsksFor (codes "seed") rows task) c.in_err-torrent.ensures.refused
+    (λ none. no_seed rows (λ task is. none task.torrent is.torrent)) c.from_residual.ensures.1
+
+pub returns-in_err-dir-clause-refused : goal.returns-in_err-dir-clause-refused
+returns-in_err-dir-clause-refused c =
+    let rows = rows_of (found_of c.args.matches.now) in
+    passed_on c.from_residual-in_err-dir.result c.in_err-dir.field-0.0 ((text : List ℕ) → ¬ (first_of (codes "DIR") rows ≡ Some text))
+    ((task : Task) → ¬ AsksFor (codes "seed") rows task) c.in_err-dir.ensures.refused
+    (λ none. no_seed rows (λ task is. none task.dir.now is.dir)) c.from_residual-in_err-dir.ensures.1
+
+pub returns-in_err-service-clause-refused : goal.returns-in_err-service-clause-refused
+returns-in_err-service-clause-refused c =
+    let rows = rows_of (found_of c.args.matches.now) in
+    passed_on c.from_residual-in_err-service.result c.in_err-service.field-0.0 ((service : Service) → ¬ IsServiceIn rows service)
+    ((task : Task) → ¬ AsksFor (codes "seed") rows task) c.in_err-service.ensures.refused
+    (λ none. no_seed rows (λ task is. none task.service is.service)) c.from_residual-in_err-service.ensures.1
+
+pub returns-clause-task : goal.returns-clause-task
+returns-clause-task c = (
+  refl,
+  record {
+    torrent = c.in_ok-torrent.ensures.source;
+    dir = c.in_ok-dir.ensures.word;
+    service = c.in_ok-service.ensures.service;
+    verbose = c.has_flag-verbose.ensures;
+  },
+)

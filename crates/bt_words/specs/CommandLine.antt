@@ -1,0 +1,105 @@
+-- What the words of the command line ask for. How words are read is the kit's: `subcommand_of` gives the
+-- subcommand with its matches, a row for each word or option; `fault_of` lists the kinds of error, and is
+-- empty where there is none.
+use Rattle.std.specs.Prelude.{◌≡◌, ℕ, ◌⊎◌, true, false, Bool, List, [], Option, None, Some, codes}
+use Rattle.std.specs.List.{AllZip}
+use Rattle.clap.specs.Words.{IsAmong, Row, Text, all_of, fault_of, first_of, one_of, subcommand_of}
+use Rattle.clap.specs.declared.error.kind.ErrorKind.{ErrorKind}
+use Rattle.clap.specs.declared.error.kind.ErrorKind.TheVariants.{OutOfMemory, ValueValidation}
+use Rattle.bt_check.specs.declared.torrent_file.Source.{Source}
+use Rattle.bt_words.specs.declared.peer.Service.{Service}
+use Rattle.bt_words.specs.declared.peer.Serving.{Serving}
+use Rattle.bt_words.specs.declared.peer.Serving.TheVariants.{Count, Forever}
+use Rattle.bt_words.specs.Subcommands.{program_app}
+use Rattle.bt_words.specs.Values.{IsAddress, IsNumber, IsPeerWord}
+use Rattle.bt_words.specs.declared.command_line.FetchTask.{FetchTask}
+use Rattle.bt_words.specs.declared.command_line.MakeTask.{MakeTask}
+use Rattle.bt_words.specs.declared.command_line.SeedTask.{SeedTask}
+use Rattle.bt_words.specs.declared.command_line.Task.{Task}
+use Rattle.bt_words.specs.declared.command_line.Task.TheVariants.{Make, Show, Check, Seed, Fetch, Replay}
+
+-- ---- words
+
+-- the value of an option is a number of so many bits
+pub record HasNumber (bits : ℕ) (rows : List Row) (id : Text) (n : ℕ) : Type 0 where
+  pub text : List ℕ
+  pub given : first_of id rows ≡ Some text
+  pub number : IsNumber bits text n
+
+-- a flag is given or not
+pub record IsFlagIn (id : Text) (given : Bool) (rows : List Row) : Type 0 where
+  pub set : one_of id rows ≡ Some (codes "true") → given ≡ true
+  pub unset : one_of id rows ≡ Some (codes "false") → given ≡ false
+
+-- a flag is given: it has the value of a flag that is
+abbrev pub IsGiven : Text → List Row → Type 0
+IsGiven id rows = first_of id rows ≡ Some (codes "true")
+
+-- ---- tasks
+
+pub record IsMakeTaskIn (rows : List Row) (request : MakeTask) : Type 0 where
+  pub dir : first_of (codes "DIR") rows ≡ Some request.dir.now
+  pub out : first_of (codes "OUT") rows ≡ Some request.out.now
+  pub name : first_of (codes "name") rows ≡ Some request.name.now
+  pub piece_length : HasNumber 32 rows (codes "piece-length") request.piece_length
+  pub verbose : IsFlagIn (codes "verbose") request.verbose rows
+
+pub record IsSourceIn (rows : List Row) (source : Source) : Type 0 where
+  pub path : first_of (codes "TORRENT") rows ≡ Some source.path.now
+  pub info : IsFlagIn (codes "info") source.is_info rows
+
+-- so many connections, or all that come: one of the two is said, and not both
+abbrev pub IsServingIn : List Row → Serving → Type 0
+IsServingIn rows (Count n) = HasNumber 32 rows (codes "serve") n × ¬ IsGiven (codes "forever") rows
+IsServingIn rows Forever = (first_of (codes "serve") rows ≡ None) × IsGiven (codes "forever") rows
+
+pub record IsServiceIn (rows : List Row) (service : Service) : Type 0 where
+  pub serving : IsServingIn rows service.serving
+  pub listen : first_of (codes "listen") rows ≡ Some service.address.now
+  pub address : IsAddress service.address.now
+  pub port : HasNumber 16 rows (codes "port") service.port
+
+pub record IsSeedTaskIn (rows : List Row) (task : SeedTask) : Type 0 where
+  pub torrent : IsSourceIn rows task.torrent
+  pub dir : first_of (codes "DIR") rows ≡ Some task.dir.now
+  pub service : IsServiceIn rows task.service
+  pub verbose : IsFlagIn (codes "verbose") task.verbose rows
+
+-- each word in a peer's place names one, in turn
+pub record IsFetchTaskIn (rows : List Row) (task : FetchTask) : Type 0 where
+  pub torrent : IsSourceIn rows task.torrent
+  pub dir : first_of (codes "DIR") rows ≡ Some task.dir.now
+  pub words : List Text
+  pub given : all_of (codes "PEER") rows ≡ Some words
+  pub peers : AllZip IsPeerWord words task.peers.items
+  pub verbose : IsFlagIn (codes "verbose") task.verbose rows
+
+-- a subcommand of this name with these rows asks for the task
+abbrev pub AsksFor : Text → List Row → Task → Type 0
+AsksFor name rows (Make request) = (name ≡ codes "make") × IsMakeTaskIn rows request
+AsksFor name rows (Show torrent) = (name ≡ codes "show") × IsSourceIn rows torrent
+AsksFor name rows (Check torrent dir verbose) =
+    (name ≡ codes "check") × IsSourceIn rows torrent × (first_of (codes "DIR") rows ≡ Some dir.now)
+    × IsFlagIn (codes "verbose") verbose rows
+AsksFor name rows (Seed task) = (name ≡ codes "seed") × IsSeedTaskIn rows task
+AsksFor name rows (Fetch task) = (name ≡ codes "fetch") × IsFetchTaskIn rows task
+AsksFor name rows Replay = name ≡ codes "replay"
+
+-- the subcommand that was met asks for the task
+abbrev pub IsTaskIn : Option (Text × List Row) → Task → Type 0
+IsTaskIn None task = ⊥
+IsTaskIn (Some met) task = AsksFor met.0 met.1 task
+
+-- the words have no fault, and ask for the task
+pub record IsTaskOf (words : List Text) (task : Task) : Type 0 where
+  pub faultless : fault_of program_app words ≡ []
+  pub asked : IsTaskIn (subcommand_of program_app words) task
+
+-- out of memory; a fault of the words, help among these; or words without a fault that ask for no task,
+-- because what stands in the place of a number, an address or a peer is none, or of the two ways to say how
+-- many connections are served not one is there
+abbrev pub IsNoTaskOf : List Text → ErrorKind → Type 0
+IsNoTaskOf words kind =
+    (kind ≡ OutOfMemory)
+    ⊎ IsAmong kind (fault_of program_app words)
+    ⊎ ((kind ≡ ValueValidation) × ((task : Task) → ¬ IsTaskOf words task))

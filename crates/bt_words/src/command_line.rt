@@ -1,0 +1,400 @@
+//! What the words of the command line ask for.
+ghost use Rattle.std.specs.Prelude.{◌≡◌, ℕ, Some, List, map, codes, string_bytes, IfOk, IfErr};
+ghost use Rattle.std.specs.Bool.{Decides};
+ghost use Rattle.std.specs.List.{AllZip};
+ghost use Rattle.clap.specs.Words.{all_of, app_of, first_of, found_of, kind_of, rows_of, subcommand_rows_of};
+ghost use Rattle.bt_words.specs.CommandLine.{AsksFor, IsTaskOf, IsNoTaskOf, IsTaskIn, IsMakeTaskIn, IsSeedTaskIn, IsServiceIn, IsServingIn, IsFetchTaskIn, IsSourceIn, IsFlagIn, IsGiven};
+ghost use Rattle.bt_words.specs.CommandLineSteps.{AreWordsOf, IsRefusalFor, TellsOf};
+ghost use Rattle.bt_words.specs.Subcommands.{program_app};
+ghost use Rattle.bt_words.specs.Values.{IsPeerWord};
+ghost use Rattle.bt_words.specs.declared.command_line.Refusal.TheVariants.{OutOfMemory};
+
+use crate::peer::{Peer, Service, Serving};
+use crate::subcommands::commands;
+use crate::values::{is_address, number_in, peer_in, port_in};
+use bt_check::Source;
+use clap::error::ErrorKind;
+use clap::{ArgMatches, Command, Error};
+use std::alloc::{AllocError, AllocFailed, Global};
+
+/// What the program is asked to do.
+#[derive(Drop)]
+pub enum Task<'a> {
+    /// Write the torrent of a folder.
+    Make(MakeTask<'a>),
+    /// Print what a torrent says.
+    Show {
+        torrent: Source<'a>,
+    },
+    /// Check the data files in a folder against a torrent.
+    Check {
+        torrent: Source<'a>,
+        dir: &'a str,
+        /// Whether a call that fails is told of.
+        verbose: bool,
+    },
+    /// Serve the data files in a folder to peers.
+    Seed(SeedTask<'a>),
+    /// Fetch the data files of a torrent from peers.
+    Fetch(FetchTask<'a>),
+    /// Run the script of events that standard input has.
+    Replay,
+}
+
+/// The folder that a torrent is made of, the file that it is written to, and what it says beside the files.
+#[derive(Clone, Copy)]
+pub struct MakeTask<'a> {
+    pub dir: &'a str,
+    pub out: &'a str,
+    pub name: &'a str,
+    pub piece_length: u32,
+    /// Whether a call that fails is told of.
+    pub verbose: bool,
+}
+
+/// The torrent whose files are served, the folder in which they lie, and where peers connect.
+#[derive(Clone, Copy)]
+pub struct SeedTask<'a> {
+    pub torrent: Source<'a>,
+    pub dir: &'a str,
+    pub service: Service<'a>,
+    /// Whether a call that fails is told of.
+    pub verbose: bool,
+}
+
+/// The torrent whose files are fetched, the folder that they are put in, and the peers, to be tried in turn: one
+/// at least.
+#[derive(Drop)]
+pub struct FetchTask<'a> {
+    pub torrent: Source<'a>,
+    pub dir: &'a str,
+    pub peers: Vec<Peer<'a>>,
+    /// Whether a call that fails is told of.
+    pub verbose: bool,
+}
+
+/// Why words that are well formed ask for no task.
+#[derive(Drop)]
+enum Refusal {
+    OutOfMemory,
+    /// A value is missing, or what stands in its place is none: the text says what is wanted.
+    Value(&'static str),
+}
+
+impl From<AllocError> for Refusal {
+    ghost from_gives = { λ _ refusal. refusal ≡ OutOfMemory };
+
+    fn from(_error: AllocError) -> Self {
+        Refusal::OutOfMemory
+    }
+}
+
+impl<T: Drop> From<AllocFailed<T>> for Refusal {
+    ghost from_gives = { λ _ refusal. refusal ≡ OutOfMemory };
+
+    fn from(_error: AllocFailed<T>) -> Self {
+        Refusal::OutOfMemory
+    }
+}
+
+const COMMAND_WANTED: &str = "a command is wanted";
+
+const WORD_WANTED: &str = "a word is missing";
+
+const PIECE_LENGTH_WANTED: &str =
+    "--piece-length takes decimal digits: a power of two from 16384 to 268435456";
+
+const SERVING_WANTED: &str = "one of --serve N and --forever is wanted, and not both";
+
+const COUNT_WANTED: &str = "--serve takes decimal digits: a number from 0 to 4294967295";
+
+const ADDRESS_WANTED: &str = "--listen takes an IPv4 or IPv6 address";
+
+const PORT_WANTED: &str = "--port takes decimal digits: a number from 0 to 65535";
+
+const PEER_WANTED: &str =
+    "a peer is HOST:PORT, with a port in decimal digits: a number from 0 to 65535";
+
+/// Reads the words that follow the program's name. Where they ask for help, or are refused, the error has the
+/// text.
+pub fn parse<'a>(alloc: Global, words: &'a [String]) -> Result<Task<'a>, Error>
+    ensures task { IfOk result (IsTaskOf (map string_bytes words.now)) }
+    ensures error { IfErr result (λ error. IsNoTaskOf (map string_bytes words.now) (kind_of error)) }
+{
+    let mut command = commands(alloc)?;
+    task_by(alloc, &mut command, words)
+}
+
+/// Reads the words by the program's commands.
+fn task_by<'a>(
+    alloc: Global,
+    command: &mut Command<'a>,
+    words: &'a [String],
+) -> Result<Task<'a>, Error>
+    requires { app_of command.old ≡ program_app }
+    ensures task { IfOk result (IsTaskOf (map string_bytes words.now)) }
+    ensures error { IfErr result (λ error. IsNoTaskOf (map string_bytes words.now) (kind_of error)) }
+{
+    let matches = matches_of(command, words)?;
+    match task_of(alloc, &matches) {
+        Ok(task) => Ok(task),
+        Err(refusal) => Err(error_of(command, refusal)),
+    }
+}
+
+/// The words, as the program's commands have them.
+fn matches_of<'a>(command: &mut Command<'a>, words: &'a [String]) -> Result<ArgMatches<'a>, Error>
+    requires { app_of command.old ≡ program_app }
+    ensures matches { IfOk result (AreWordsOf (map string_bytes words.now)) }
+    ensures error { IfErr result (λ error. IsNoTaskOf (map string_bytes words.now) (kind_of error)) }
+{
+    command.try_get_matches_from_mut(words)
+}
+
+/// The error that tells of a refusal.
+fn error_of(command: &mut Command<'_>, refusal: Refusal) -> Error
+    ensures { TellsOf refusal (kind_of result) }
+{
+    match refusal {
+        Refusal::OutOfMemory => Error::from(AllocError),
+        Refusal::Value(wanted) => match command.error(ErrorKind::ValueValidation, wanted) {
+            Ok(error) => error,
+            Err(memory) => Error::from(memory),
+        },
+    }
+}
+
+/// The task that the words ask for.
+fn task_of<'a>(alloc: Global, matches: &ArgMatches<'a>) -> Result<Task<'a>, Refusal>
+    ensures task { IfOk result (IsTaskIn (subcommand_rows_of matches.now)) }
+    ensures refused { IfErr result
+        (IsRefusalFor ((task : Task) → ¬ IsTaskIn (subcommand_rows_of matches.now) task)) }
+{
+    match matches.subcommand() {
+        Some((name, found)) => task_named(alloc, name, found),
+        None => Err(Refusal::Value(COMMAND_WANTED)),
+    }
+}
+
+/// The task of a subcommand.
+fn task_named<'a>(alloc: Global, name: &str, matches: &ArgMatches<'a>) -> Result<Task<'a>, Refusal>
+    ensures task { IfOk result (AsksFor name.now (rows_of (found_of matches.now))) }
+    ensures refused { IfErr result
+        (IsRefusalFor ((task : Task) → ¬ AsksFor name.now (rows_of (found_of matches.now)) task)) }
+{
+    match name {
+        "make" => make_task(matches),
+        "show" => show_task(matches),
+        "check" => check_task(matches),
+        "seed" => seed_task(matches),
+        "fetch" => fetch_task(alloc, matches),
+        "replay" => Ok(Task::Replay),
+        _ => Err(Refusal::Value(COMMAND_WANTED)),
+    }
+}
+
+fn make_task<'a>(matches: &ArgMatches<'a>) -> Result<Task<'a>, Refusal>
+    ensures task { IfOk result (AsksFor (codes "make") (rows_of (found_of matches.now))) }
+    ensures refused { IfErr result (IsRefusalFor
+        ((task : Task) → ¬ AsksFor (codes "make") (rows_of (found_of matches.now)) task)) }
+{
+    let request = make_task_of(matches)?;
+    Ok(Task::Make(request))
+}
+
+fn show_task<'a>(matches: &ArgMatches<'a>) -> Result<Task<'a>, Refusal>
+    ensures task { IfOk result (AsksFor (codes "show") (rows_of (found_of matches.now))) }
+    ensures refused { IfErr result (IsRefusalFor
+        ((task : Task) → ¬ AsksFor (codes "show") (rows_of (found_of matches.now)) task)) }
+{
+    let torrent = source_of(matches)?;
+    Ok(Task::Show { torrent })
+}
+
+fn check_task<'a>(matches: &ArgMatches<'a>) -> Result<Task<'a>, Refusal>
+    ensures task { IfOk result (AsksFor (codes "check") (rows_of (found_of matches.now))) }
+    ensures refused { IfErr result (IsRefusalFor
+        ((task : Task) → ¬ AsksFor (codes "check") (rows_of (found_of matches.now)) task)) }
+{
+    let torrent = source_of(matches)?;
+    let dir = word_of(matches, "DIR")?;
+    let verbose = has_flag(matches, "verbose");
+    Ok(Task::Check {
+        torrent,
+        dir,
+        verbose,
+    })
+}
+
+fn seed_task<'a>(matches: &ArgMatches<'a>) -> Result<Task<'a>, Refusal>
+    ensures task { IfOk result (AsksFor (codes "seed") (rows_of (found_of matches.now))) }
+    ensures refused { IfErr result (IsRefusalFor
+        ((task : Task) → ¬ AsksFor (codes "seed") (rows_of (found_of matches.now)) task)) }
+{
+    let torrent = source_of(matches)?;
+    let dir = word_of(matches, "DIR")?;
+    let service = service_of(matches)?;
+    let verbose = has_flag(matches, "verbose");
+    Ok(Task::Seed(SeedTask {
+        torrent,
+        dir,
+        service,
+        verbose,
+    }))
+}
+
+fn fetch_task<'a>(alloc: Global, matches: &ArgMatches<'a>) -> Result<Task<'a>, Refusal>
+    ensures task { IfOk result (AsksFor (codes "fetch") (rows_of (found_of matches.now))) }
+    ensures refused { IfErr result (IsRefusalFor
+        ((task : Task) → ¬ AsksFor (codes "fetch") (rows_of (found_of matches.now)) task)) }
+{
+    let torrent = source_of(matches)?;
+    let dir = word_of(matches, "DIR")?;
+    let verbose = has_flag(matches, "verbose");
+    let words = words_of(matches, "PEER")?;
+    let peers = peers_of(alloc, words)?;
+    Ok(Task::Fetch(FetchTask {
+        torrent,
+        dir,
+        peers,
+        verbose,
+    }))
+}
+
+fn make_task_of<'a>(matches: &ArgMatches<'a>) -> Result<MakeTask<'a>, Refusal>
+    ensures task { IfOk result (IsMakeTaskIn (rows_of (found_of matches.now))) }
+    ensures refused { IfErr result (IsRefusalFor
+        ((request : MakeTask) → ¬ IsMakeTaskIn (rows_of (found_of matches.now)) request)) }
+{
+    let dir = word_of(matches, "DIR")?;
+    let out = word_of(matches, "OUT")?;
+    let name = word_of(matches, "name")?;
+    let text = word_of(matches, "piece-length")?;
+    let verbose = has_flag(matches, "verbose");
+    match number_in(text) {
+        Some(piece_length) => Ok(MakeTask {
+            dir,
+            out,
+            name,
+            piece_length,
+            verbose,
+        }),
+        None => Err(Refusal::Value(PIECE_LENGTH_WANTED)),
+    }
+}
+
+/// Where a seed listens, and how many connections it serves.
+fn service_of<'a>(matches: &ArgMatches<'a>) -> Result<Service<'a>, Refusal>
+    ensures service { IfOk result (IsServiceIn (rows_of (found_of matches.now))) }
+    ensures refused { IfErr result (IsRefusalFor
+        ((service : Service) → ¬ IsServiceIn (rows_of (found_of matches.now)) service)) }
+{
+    let serving = serving_of(matches)?;
+    let address = word_of(matches, "listen")?;
+    if !is_address(address) {
+        return Err(Refusal::Value(ADDRESS_WANTED));
+    }
+    let digits = word_of(matches, "port")?;
+    match port_in(digits) {
+        Some(port) => Ok(Service {
+            address,
+            port,
+            serving,
+        }),
+        None => Err(Refusal::Value(PORT_WANTED)),
+    }
+}
+
+/// How many connections are served: one of the two words that say it must be there, and not both.
+fn serving_of(matches: &ArgMatches<'_>) -> Result<Serving, Refusal>
+    ensures serving { IfOk result (IsServingIn (rows_of (found_of matches.now))) }
+    ensures refused { IfErr result (IsRefusalFor
+        ((serving : Serving) → ¬ IsServingIn (rows_of (found_of matches.now)) serving)) }
+{
+    let is_forever = is_given(matches, "forever");
+    match matches.get_str("serve") {
+        Some(digits) => {
+            if is_forever {
+                return Err(Refusal::Value(SERVING_WANTED));
+            }
+            match number_in(digits) {
+                Some(count) => Ok(Serving::Count(count)),
+                None => Err(Refusal::Value(COUNT_WANTED)),
+            }
+        }
+        None => {
+            if is_forever {
+                return Ok(Serving::Forever);
+            }
+            Err(Refusal::Value(SERVING_WANTED))
+        }
+    }
+}
+
+/// Whether a flag is among the words.
+fn is_given(matches: &ArgMatches<'_>, id: &str) -> bool
+    ensures { Decides result (IsGiven id.now (rows_of (found_of matches.now))) }
+{
+    match matches.get_str(id) {
+        Some(text) => text == "true",
+        None => false,
+    }
+}
+
+/// The peers that words name, in turn.
+fn peers_of<'a>(alloc: Global, words: &[&'a str]) -> Result<Vec<Peer<'a>>, Refusal>
+    ensures peers { IfOk result (λ peers. AllZip IsPeerWord (map (λ word. word.now) words.now) peers.items) }
+    ensures refused { IfErr result (IsRefusalFor
+        ((peers : List Peer) → ¬ AllZip IsPeerWord (map (λ word. word.now) words.now) peers)) }
+{
+    let mut peers = Vec::new(alloc);
+    for word in words {
+        let Some(peer) = peer_in(word) else {
+            return Err(Refusal::Value(PEER_WANTED));
+        };
+        peers.push(peer)?;
+    }
+    Ok(peers)
+}
+
+fn source_of<'a>(matches: &ArgMatches<'a>) -> Result<Source<'a>, Refusal>
+    ensures source { IfOk result (IsSourceIn (rows_of (found_of matches.now))) }
+    ensures refused { IfErr result (IsRefusalFor
+        ((source : Source) → ¬ IsSourceIn (rows_of (found_of matches.now)) source)) }
+{
+    let is_info = has_flag(matches, "info");
+    let path = word_of(matches, "TORRENT")?;
+    Ok(Source { path, is_info })
+}
+
+/// Whether the flag of this id is among the words.
+fn has_flag(matches: &ArgMatches<'_>, id: &str) -> bool
+    ensures { IsFlagIn id.now result (rows_of (found_of matches.now)) }
+{
+    matches.get_flag(id)
+}
+
+/// The word of this id.
+fn word_of<'a>(matches: &ArgMatches<'a>, id: &str) -> Result<&'a str, Refusal>
+    ensures word { IfOk result (λ word. first_of id.now (rows_of (found_of matches.now)) ≡ Some word.now) }
+    ensures refused { IfErr result (IsRefusalFor
+        ((text : List ℕ) → ¬ (first_of id.now (rows_of (found_of matches.now)) ≡ Some text))) }
+{
+    match matches.get_str(id) {
+        Some(word) => Ok(word),
+        None => Err(Refusal::Value(WORD_WANTED)),
+    }
+}
+
+/// All words of this id.
+fn words_of<'b, 'a>(matches: &'b ArgMatches<'a>, id: &str) -> Result<&'b [&'a str], Refusal>
+    ensures words { IfOk result (λ words. all_of id.now (rows_of (found_of matches.now))
+        ≡ Some (map (λ word. word.now) words.now)) }
+    ensures refused { IfErr result (IsRefusalFor
+        ((texts : List (List ℕ)) → ¬ (all_of id.now (rows_of (found_of matches.now)) ≡ Some texts))) }
+{
+    match matches.get_strs(id) {
+        Some(words) => Ok(words),
+        None => Err(Refusal::Value(WORD_WANTED)),
+    }
+}
