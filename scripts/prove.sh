@@ -34,6 +34,8 @@ prove_all() {
 prove_for() {
     room=$(mktemp -d "${proved%/*}/room.XXXXXX") || exit 70
     trap 'rm -rf "$room"' EXIT
+    # It waits for those who prove, and they end at an interrupt too.
+    trap 'exit 130' INT
     touch "$room/started"
     rm -f "$proved_for"
     if ! prove_all "$1" "$room/copies" 2>&1 | tee "$room/log" | tell; then
@@ -44,7 +46,7 @@ prove_for() {
     touch -r "$room/started" "$room/level"
     mv "$room/level" "$proved_for"
     rm -rf "$room"
-    trap - EXIT
+    trap - EXIT INT
 }
 
 # Proves and builds the program for a level, where that is not done yet, and once where two runs do it at a time. Then the one
