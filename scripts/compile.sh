@@ -40,7 +40,7 @@ compile_for() {
     in_group "$room" || status=$?
     if [[ -e $room/unknown ]]; then
         word=$(<"$room/unknown")
-        echo "what the kit compiles has no line like $word, so the program is proved and built by it" >&2
+        echo "what this kit compiles has no line like $word, so ./prove is done instead, some 35 minutes" >&2
     elif ((status)); then
         cat "$room/log" >&2
         stop 'the program was not compiled: see above'
@@ -58,7 +58,7 @@ compile() {
     local kit status=0
     kit=$(rt version)
     if [[ $kit != "$tried_with" ]]; then
-        echo "compiling without proof was tried with $tried_with, and this is $kit, so the program is proved and built by it" >&2
+        echo "compiling without proof was tried with $tried_with, and this is $kit, so ./prove is done instead, some 35 minutes" >&2
         return 1
     fi
     mkdir -p "${unproved%/*}" || exit 70
