@@ -69,12 +69,12 @@ def main(words):
         for _ in range(ROUNDS):
             for program in programs:
                 for command, taken in rounds_of(program, torrent, files, room / "here"):
-                    runs.setdefault((command, program.name), []).append(taken)
-            runs.setdefault(("sha256sum", ""), []).append(timed("sha256sum", files / "f", stdout=subprocess.DEVNULL))
+                    runs.setdefault((command, program), []).append(taken)
+            runs.setdefault(("sha256sum", pathlib.Path()), []).append(timed("sha256sum", files / "f", stdout=subprocess.DEVNULL))
     print(f"{mib} MiB, {ROUNDS} rounds; {os.cpu_count()} processors, load {os.getloadavg()[0]:.1f}")
-    for (command, name), its in sorted(runs.items(), reverse=True):
+    for (command, program), its in sorted(runs.items(), key=lambda run: run[0][0]):
         processor, clock = (min(run[what] for run in its) for what in (0, 1))
-        print(f"{command:10}{name:18}{processor:7.2f} s of a processor {mib / processor:6.0f} MiB/s   {clock:7.2f} s")
+        print(f"{command:10}{program.name:18}{processor:7.2f} s of a processor {mib / processor:6.0f} MiB/s   {clock:7.2f} s")
 
 
 if __name__ == "__main__":
