@@ -23,6 +23,9 @@ from measure import TOP, proved, unproved
 ROWS = TOP / "crates" / "bt_program_tests"
 DRIVERS = pathlib.Path(__file__).resolve().parent / "drivers.py"
 
+# How many seconds all rows have; on a busy machine they take a minute and a half.
+PATIENCE = 900
+
 # A row that runs the program over stand-ins: where a command stands, a function for that, or the program in such a role.
 STAND_IN = re.compile(r"(?:^|&& |; |do |\| |\$\()(?:(?:listens|background) \w+ )?"
                       r"(?:stands|mute|failing|lost|hasty|\"\$program\" (?:failing|hasty|text|digest|entry|entry-info)) ")
@@ -58,7 +61,8 @@ def printed(program, rows, folder):
     stand_in.chmod(0o755)
     (folder / "stdin").write_text(rows)
     with open(folder / "stdin", encoding="utf-8") as script:
-        run = subprocess.run(["/bin/sh", "-su", stand_in], stdin=script, stdout=subprocess.PIPE, check=False)
+        words = ["timeout", str(PATIENCE), "/bin/sh", "-su", stand_in]
+        run = subprocess.run(words, stdin=script, stdout=subprocess.PIPE, check=False)
     return run.stdout.decode(errors="backslashreplace")
 
 
