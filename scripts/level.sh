@@ -3,9 +3,10 @@
 
 # Whether the processor has all of these flags.
 has_flags() {
-    local flag
+    local flag found
+    found=" $(grep -m 1 '^flags' /proc/cpuinfo) "
     for flag in "$@"; do
-        grep -m 1 '^flags' /proc/cpuinfo | grep -qw "$flag" || return 1
+        [[ $found == *" $flag "* ]] || return 1
     done
 }
 
