@@ -23,6 +23,19 @@ need_kit() {
     command -v rt >/dev/null || stop 'the command rt of the Rattle kit is not on the PATH: it compiles and proves the program'
 }
 
+# Runs a command in a process group of its own, and gives its status. An interrupt is passed on to all that work for it.
+in_group() {
+    local job status=0
+    set -m
+    "$@" &
+    job=$!
+    set +m
+    trap 'kill -TERM -- "-$job" 2>/dev/null; wait; exit 130' HUP INT TERM
+    wait "$job" || status=$?
+    trap - HUP INT TERM
+    return "$status"
+}
+
 # The crates of the repository that a crate stands on, each below those that stand on it, and the crate, by crates.txt:
 # a crate a line, with what it stands on behind a colon. Here a name a line.
 crates() {

@@ -7,20 +7,6 @@
 # The kit with which this was tried: it does what no command of the kit does.
 tried_with='rattle-kit-13f logic dac8208d650f15bf'
 
-# Has `without_proof` compile in a folder, and gives its status. It is a process group of its own, so that an interrupt can be
-# passed on to all that work for it.
-in_group() {
-    local job status=0
-    set -m
-    "$top/scripts/without_proof" "$1" </dev/null >"$1/log" 2>&1 &
-    job=$!
-    set +m
-    trap 'kill -TERM -- "-$job" 2>/dev/null; wait; exit 130' HUP INT TERM
-    wait "$job" || status=$?
-    trap - HUP INT TERM
-    return "$status"
-}
-
 # Puts what was compiled in its place: the file that tells its level comes last, so that it is never told of another program.
 put_in_place() {
     rm -f "$unproved_for"
@@ -37,7 +23,7 @@ compile_for() {
     echo "$1" >"$room/level"
     ln -s "$(dirname -- "$(rt doc)")" "$room/kit"
     echo 'compiling without proof, some two minutes; ./prove proves and builds it, some 35 minutes' >&2
-    in_group "$room" || status=$?
+    in_group "$top/scripts/without_proof" "$room" </dev/null >"$room/log" 2>&1 || status=$?
     if [[ -e $room/unknown ]]; then
         word=$(<"$room/unknown")
         echo "what this kit compiles has no line like $word, so ./prove is done instead, some 35 minutes" >&2

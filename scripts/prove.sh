@@ -29,16 +29,20 @@ prove_all() {
     echo '== btseed'
 }
 
-# The same, in a folder that is removed afterwards. What the toolchain says is kept until it is done. The file that tells the
-# program's level comes last.
+# The same, with lines of progress. What the toolchain says is kept in the folder.
+prove_told() {
+    # At an interrupt it waits for those who prove, and they end.
+    trap 'exit 130' TERM
+    prove_all "$1" "$2/copies" 2>&1 | tee "$2/log" | tell
+}
+
+# The same, in a folder that is removed afterwards. The file that tells the program's level comes last.
 prove_for() {
     room=$(mktemp -d "${proved%/*}/room.XXXXXX") || exit 70
     trap 'rm -rf "$room"' EXIT
-    # It waits for those who prove, and they end at an interrupt too.
-    trap 'exit 130' INT
     touch "$room/started"
     rm -f "$proved_for"
-    if ! prove_all "$1" "$room/copies" 2>&1 | tee "$room/log" | tell; then
+    if ! in_group prove_told "$1" "$room"; then
         cat "$room/log" >&2
         stop 'the program was not proved and built: see above'
     fi
@@ -46,7 +50,7 @@ prove_for() {
     touch -r "$room/started" "$room/level"
     mv "$room/level" "$proved_for"
     rm -rf "$room"
-    trap - EXIT INT
+    trap - EXIT
 }
 
 # Proves and builds the program for a level, where that is not done yet, and once where two runs do it at a time. Then the one

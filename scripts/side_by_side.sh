@@ -16,7 +16,7 @@ is_ready() {
 end_groups() {
     local group
     for group in "$@"; do
-        kill -INT -- "-$group" 2>/dev/null || true
+        kill -TERM -- "-$group" 2>/dev/null || true
     done
     wait
 }
@@ -30,13 +30,13 @@ prove_below() {
     mapfile -t names < <(crates btseed)
     # Each crate is a process group of its own, so that an interrupt can be passed on to all that work for it.
     set -m
-    trap 'end_groups "${!worker[@]}"; exit 130' INT TERM
+    trap 'end_groups "${!worker[@]}"; exit 130' TERM
     while :; do
         ready=()
         for name in "${names[@]}"; do
             [[ -n ${state[$name]:-} ]] || ! is_ready "$name" || ready+=("$name")
         done
-        ((running + ${#ready[@]} > 0)) || return 0
+        ((running + ${#ready[@]} > 0)) || break
         jobs=$((2 * lanes / (running + ${#ready[@]})))
         jobs=$((jobs < 2 ? 2 : jobs > lanes ? lanes : jobs))
         for name in "${ready[@]:0:lanes-running}"; do
@@ -55,4 +55,6 @@ prove_below() {
         running=$((running - 1))
         echo "== $name"
     done
+    trap - TERM
+    set +m
 }
