@@ -10,10 +10,12 @@ lines_of() {
 }
 
 # Tells of each crate that it is proved, as the toolchain does in a line that has its name behind two equal signs; on a
-# terminal also how long the rest will take if it goes on as it went so far, once a tenth is done.
+# terminal also how long the rest will take if it goes on as it went so far, once a tenth is done. All lines are kept in a file.
 tell() {
-    local word name names left=0 done=0 count=0 rest
+    local log=$1 line name names left=0 done=0 count=0 rest
     local -A lines=()
+    # At an interrupt it ends with those whose lines these are.
+    trap '' TERM
     mapfile -t names < <(crates btseed)
     for name in "${names[@]}"; do
         lines[$name]=$(lines_of "$name")
@@ -21,8 +23,10 @@ tell() {
     done
     echo "proving ${#names[@]} crates" >&2
     SECONDS=0
-    while read -r word name; do
-        [[ $word == '==' && -n ${lines[$name]:-} ]] || continue
+    while IFS= read -r line; do
+        echo "$line" >>"$log"
+        name=${line#== }
+        [[ $name != "$line" && -n ${lines[$name]:-} ]] || continue
         count=$((count + 1))
         done=$((done + lines[$name]))
         left=$((left - lines[$name]))

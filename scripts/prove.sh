@@ -33,7 +33,7 @@ prove_all() {
 prove_told() {
     # At an interrupt it waits for those who prove, and they end.
     trap 'exit 130' TERM
-    prove_all "$1" "$2/copies" 2>&1 | tee "$2/log" | tell
+    prove_all "$1" "$2/copies" 2>&1 | tell "$2/log"
 }
 
 # The same, in a folder that is removed afterwards. The file that tells the program's level comes last.
