@@ -3,11 +3,11 @@
 
     python3 bench/check.py COMMIT [FOLDER]
 
-The other commit's program is proved and built in FOLDER (a new temporary folder by default), which takes some minutes; this one's
-is the one that `./btseed` has built: call it once before. The file is checked with the digests of its pieces, and by its info
-dictionary alone, as one piece. The commands take turns, fourteen times. Printed are the least processor time of each, which other
-work on the machine disturbs less than the time on the clock, the median, and the greatest peak memory. How fast a run is hangs on
-where the system puts its stack, by a tenth and more, so few runs say little.
+Both programs are proved: the other commit's is proved and built in FOLDER (a new temporary folder by default), which takes half an hour;
+this one's where `./prove` has not built it yet. The file is checked with the digests of its pieces, and by its info dictionary alone, as
+one piece. The commands take turns, fourteen times. Printed are the least processor time of each, which other work on the machine disturbs
+less than the time on the clock, the median, and the greatest peak memory. How fast a run is hangs on where the system puts its stack, by
+a tenth and more, so few runs say little.
 """
 
 import pathlib
@@ -17,7 +17,7 @@ import subprocess
 import sys
 import tempfile
 
-from measure import PROGRAM, TOP, apart, measured_once
+from measure import TOP, apart, measured_once, proved
 from speed import SIZE, write_data
 
 ROUNDS = 14
@@ -31,7 +31,9 @@ def program_of(commit, folder):
         top.mkdir(parents=True, exist_ok=True)
         archive = subprocess.run(["git", "-C", TOP, "archive", commit], check=True, capture_output=True).stdout
         subprocess.run(["tar", "-x", "-C", top], input=archive, check=True)
-        subprocess.run([top / "btseed", "--version"], check=True, stdout=subprocess.DEVNULL)
+        # an older commit has no `prove`: its `btseed` does that
+        prove = [top / "prove"] if (top / "prove").exists() else [top / "btseed", "--version"]
+        subprocess.run(prove, check=True, stdout=subprocess.DEVNULL)
     copy = folder / "btseed-other"
     shutil.copy2(program, copy)
     return copy
@@ -62,14 +64,14 @@ def main():
         sys.exit(__doc__)
     folder = pathlib.Path(sys.argv[2] if len(sys.argv) > 2 else tempfile.mkdtemp())
     folder.mkdir(parents=True, exist_ok=True)
-    programs = {"here": PROGRAM, sys.argv[1]: program_of(sys.argv[1], folder)}
+    programs = {"here": proved(), sys.argv[1]: program_of(sys.argv[1], folder)}
     data = folder / "data"
     data.mkdir(exist_ok=True)
     path = data / "large.bin"
     if not path.exists() or path.stat().st_size != SIZE:
         apart(write_data, path)
     torrent, info = folder / "large.torrent", folder / "large.info"
-    measured_once([PROGRAM, "make", data, torrent, "--name", "large"])
+    measured_once([programs["here"], "make", data, torrent, "--name", "large"])
     write_info(torrent, info)
     ways = {"by pieces": [torrent, data], "--info": [info, data, "--info"]}
     runs = {(way, name): [] for way in ways for name in programs}

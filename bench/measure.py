@@ -30,6 +30,23 @@ def below(names):
     return found
 
 
+def proved():
+    """The proved program, which is proved and built where it is not yet."""
+    subprocess.run([TOP / "prove"], check=True)
+    return PROGRAM
+
+
+def unproved(folder):
+    """The program compiled without proof from the same sources, in a copy of them in a folder: in their own place it would be removed."""
+    folder.mkdir(parents=True, exist_ok=True)
+    for name in ("btseed", "crates.txt"):
+        shutil.copy2(TOP / name, folder)
+    for part in ("scripts", *(f"crates/{crate}/src" for crate in below(["btseed"]))):
+        shutil.copytree(TOP / part, folder / part, dirs_exist_ok=True)
+    subprocess.run([folder / "btseed", "--version"], check=True, stdout=subprocess.DEVNULL)
+    return folder / "out" / "unproved" / "btseed-unproved"
+
+
 def built(folder, name, stands_on):
     """The program `bench/NAME/main.rt.in`, proved and built in a repository of its own in a folder, beside copies of the crates that it
     stands on."""

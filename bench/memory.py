@@ -4,7 +4,7 @@
     python3 bench/memory.py [FOLDER]
 
 The torrents are made in FOLDER (a new temporary folder by default). From each peak the memory of `show` on a torrent of one small
-file is taken away. `./btseed` has to be built: call it once before.
+file is taken away. The program is the proved one; where `./prove` has not built it yet, that is done first.
 """
 
 import hashlib
@@ -13,7 +13,7 @@ import pathlib
 import sys
 import tempfile
 
-from measure import PROGRAM, apart, measured_once
+from measure import PROGRAM, apart, measured_once, proved
 
 FILES = 65_536
 EMPTY_FILE = b"d0:d6:lengthi0eee"
@@ -115,6 +115,7 @@ def write(path, make):
 def main():
     folder = pathlib.Path(sys.argv[1] if len(sys.argv) > 1 else tempfile.mkdtemp())
     folder.mkdir(parents=True, exist_ok=True)
+    proved()
     shapes = (files, short_names, long_folder, longer_folder, deep_files, own_folders, empty_folders, unknown_lists, unknown_texts,
               shared_layer)
     paths = {}

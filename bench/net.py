@@ -8,7 +8,8 @@ A file of 256 MiB, or of so many, is made in a temporary folder, with its torren
 the file into an empty folder, which ends with all devices synced; the bytes are copied by two sockets of this script, into a file that is
 synced; and `check` looks at the file. The best time of each is told. A fetch needs two processors, and where these are two halves of one core, as on a host
 that many share, each does half as much: so two checks at once are timed too. Each round has another pair of processors than the one before,
-where there are more. A seed takes in its file before it listens: that time is told by itself. The program is the one that `./btseed` has built.
+where there are more. A seed takes in its file before it listens: that time is told by itself. The program is the proved one; where
+`./prove` has not built it yet, that is done first.
 """
 
 import itertools
@@ -22,7 +23,7 @@ import tempfile
 import threading
 import time
 
-from measure import PROGRAM
+from measure import PROGRAM, proved
 
 ROUNDS = 12
 PART = 1 << 20
@@ -89,6 +90,7 @@ def main():
     mib = int(sys.argv[1]) if len(sys.argv) > 1 else 256
     piece_length = sys.argv[2] if len(sys.argv) > 2 else "262144"
     best = {}
+    proved()
 
     def note(what, seconds):
         best[what] = min(best.get(what, seconds), seconds)

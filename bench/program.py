@@ -4,7 +4,8 @@
     python3 bench/program.py [FOLDER]
 
 The inputs are made in FOLDER (a new temporary folder by default), which needs some 2 GiB. Each command runs three
-times; the best wall time and the greatest peak memory are printed. `./btseed` has to be built: call it once before.
+times; the best wall time and the greatest peak memory are printed. The program is the proved one; where `./prove` has
+not built it yet, that is done first.
 """
 
 import hashlib
@@ -13,7 +14,7 @@ import pathlib
 import sys
 import tempfile
 
-from measure import PROGRAM, apart, measured
+from measure import PROGRAM, apart, measured, proved
 
 BLOCK = 16_384
 GIB = 1 << 30
@@ -92,6 +93,7 @@ def compare(what, words, path):
 def main():
     folder = pathlib.Path(sys.argv[1] if len(sys.argv) > 1 else tempfile.mkdtemp())
     folder.mkdir(parents=True, exist_ok=True)
+    proved()
     for what, make, counts in (("files", many_files, (32_768, 65_536)), ("pieces", many_pieces, (1 << 20, 1 << 21))):
         times = []
         for count in counts:

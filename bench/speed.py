@@ -3,10 +3,10 @@
 
     python3 bench/speed.py [FOLDER]
 
-The file is made in FOLDER (a new temporary folder by default). The program is built by the script `btseed` for each level of
-x86-64 that the processor has; `rt ci` builds it for v2. The commands take turns, five times; the best time of each counts, and
-its greatest peak memory. The ratios are of processor time, which other work on the machine disturbs less than the time on the clock:
-each command is one thread that waits for nothing.
+The file is made in FOLDER (a new temporary folder by default). The program is proved, and built by the script `prove` for each
+level of x86-64 that the processor has; `rt ci` builds it for v2. The commands take turns, five times; the best time of each counts,
+and its greatest peak memory. The ratios are of processor time, which other work on the machine disturbs less than the time on the
+clock: each command is one thread that waits for nothing.
 """
 
 import os
@@ -16,7 +16,7 @@ import subprocess
 import sys
 import tempfile
 
-from measure import TOP, apart, measured_once
+from measure import PROGRAM, TOP, apart, measured_once
 
 SIZE = 2 << 30
 ROUNDS = 5
@@ -43,11 +43,11 @@ def levels():
 
 
 def program_for(level, folder):
-    """The program that the script builds for a level."""
+    """The program that the script proves and builds for a level."""
     environment = dict(os.environ, BTSEED_CPU=level)
-    subprocess.run([TOP / "btseed", "--version"], env=environment, check=True, stdout=subprocess.DEVNULL)
+    subprocess.run([TOP / "prove"], env=environment, check=True)
     copy = folder / f"btseed-{level}"
-    shutil.copy2(TOP / "crates" / "btseed" / "out" / "btseed", copy)
+    shutil.copy2(PROGRAM, copy)
     return copy
 
 
