@@ -82,8 +82,7 @@ fn push_act(alloc: Global, acts: &mut Vec<Act>, words: &mut Words) -> Result<(),
         "send" => Act::Sends(words.bytes(alloc)?),
         _ => return Err(RowError::Unread),
     };
-    acts.push(act)?;
-    Ok(())
+    Ok(acts.push(act).map_err(AllocError::from)?)
 }
 
 fn told_play(

@@ -89,19 +89,19 @@ fn accepted<L: OpenListener, C: Clock>(clock: &C, listener: &L) -> io::Result<L:
 /// Waits for a connection and serves it, as long as its peer is not idle for so long, and does not take too long
 /// otherwise: Unreachable where it was gone already. Errors: none could be taken, though it was tried again and
 /// again.
-pub fn serve<D: Disk + Drop, H: NodeHash, R: Net + Clock>(
-    net: &R,
+pub fn serve<'a, D: Disk + Drop, H: NodeHash, R: Net + Clock>(
+    net: &'a R,
     alloc: Global,
     engine: &mut Engine<D, H>,
     listener: &R::Listener,
     idle: Duration,
-    passage: Passage<'_>,
+    passage: Passage<'a>,
 ) -> Result<PeerEnd, Fault>
     requires no_peer { engine.old.state.peers ≡ [] }
     ensures served { IfOk result (λ end. IsServed D.history D.honest D.faults H.digest
         (AreNew passage.entry.short_blocks.now)
-        ⟦<StreamReader<'static, R::Stream, R> as Read>⟧.remaining
-        ⟦<StreamWriter<'static, R::Stream, R> as Write>⟧.contents SESSION_TURNS engine.old end engine.new) }
+        ⟦<StreamReader<'a, R::Stream, R> as Read>⟧.remaining
+        ⟦<StreamWriter<'a, R::Stream, R> as Write>⟧.contents SESSION_TURNS engine.old end engine.new) }
     ensures gone { engine.new.state.peers ≡ [] }
     ensures refused { IfErr result (λ fault. fault ≡ device) }
     ensures kept { OnErr result (engine.new ≡ engine.old) }
