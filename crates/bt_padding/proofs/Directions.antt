@@ -1,16 +1,17 @@
 -- What a direction gives on, as it is seen from outside.
-use Rattle.std.proofs.Common.{◌≡◌, ◌≤◌, ◌+◌, ◌-◌, ◌++◌, ℕ, List, [], take, drop, length, Result, Ok, Err, refl, inl, sym, ◌∙◌, ap, arith, subst, is_ok, length-drop}
-use Rattle.std.proofs.lemmas.List.{append_assoc, append-nil, take-append-drop, take_rest, drop-drop}
-use Rattle.std.specs.Prelude.{if◌then◌else◌, OnOk}
+use Rattle.std.proofs.Common.{◌≡◌, ◌≤◌, ◌+◌, ◌-◌, ◌++◌, ℕ, List, [], take, drop, length, Result, Ok, Err, refl, inl, inr, sym, ◌∙◌, ap, arith, subst, is_ok, length-drop, length-take}
+use Rattle.std.proofs.lemmas.List.{append_assoc, append-nil, take-append-drop, take_rest, drop-drop, take_all, drop_all}
+use Rattle.std.proofs.lemmas.Bool.{cases_lt}
+use Rattle.std.specs.Prelude.{min, if◌then◌else◌, OnOk}
 use Rattle.bt_wire.specs.declared.message.Ask.{Ask}
 use Rattle.bt_padding.specs.declared.translation.Side.{Side}
 use Rattle.bt_padding.specs.Padding.{Memory}
-use Rattle.bt_padding.specs.Flow.{Flow, flow, Waits}
+use Rattle.bt_padding.specs.Flow.{Flow, flow, fed, Waits}
 use Rattle.bt_padding.specs.FrameSteps.{BeginsFrame, IsFront}
 use Rattle.bt_padding.specs.declared.frame.Front.{Front}
 use Rattle.bt_padding.specs.declared.frame.Front.TheVariants.{Frame, Part, TooLong}
 use Rattle.bt_padding.proofs.Frames.{too_long}
-use Rattle.bt_padding.specs.Translation.{Place, place, Gives, Translates, done, one_more}
+use Rattle.bt_padding.specs.Translation.{Place, place, Gives, Translates, done, one_more, Ends, Receives}
 use Rattle.bt_padding.specs.TranslationSteps.{DirectionState, GivesBehind, GivesFrames, HasNoFrameAt, IsKept}
 
 -- the fields are those of the direction
@@ -92,3 +93,46 @@ rest_kept old new taken held seen f same front unlike none is =
 -- the bytes that are seen are those that are not given on
 pub unread_seen : (d inside : DirectionState) (seen : List ℕ) → inside ≡ d → seen ≡ inside.flow.unread → seen ≡ d.flow.unread
 unread_seen d inside seen view same = same ∙ ap (λ (e : DirectionState). e.flow.unread) view
+
+-- ---- bytes that come
+
+take_min : (n : ℕ) (xs : List ℕ) → take (min n (length xs)) xs ≡ take n xs
+take_min n xs = elim (cases_lt n (length xs)) [
+  | inl lt ↦ let same : min n (length xs) ≡ n = omega (arith, lt) in ap (λ k. take k xs) same
+  | inr from ↦
+      let same : min n (length xs) ≡ length xs = omega (arith, from) in
+      ap (λ k. take k xs) same ∙ take_all (length xs) xs (omega arith) ∙ sym (take_all n xs from)
+]
+
+drop_min : (n : ℕ) (xs : List ℕ) → drop (min n (length xs)) xs ≡ drop n xs
+drop_min n xs = elim (cases_lt n (length xs)) [
+  | inl lt ↦ let same : min n (length xs) ≡ n = omega (arith, lt) in ap (λ k. drop k xs) same
+  | inr from ↦
+      let same : min n (length xs) ≡ length xs = omega (arith, from) in
+      ap (λ k. drop k xs) same ∙ drop_all (length xs) xs (omega arith) ∙ sym (drop_all n xs from)
+]
+
+-- the first of them pass, and the frames that are whole are given on
+pub received : (d left : DirectionState) (come : Flow) (found kept : Memory) (bytes front back held mid now : List ℕ) (m taken : ℕ)
+    → m ≡ min come.passing (length bytes) → front ≡ take m bytes → back ≡ drop m bytes
+    → d.flow ≡ flow (come.passing - length front) (come.unread ++ back)
+    → GivesFrames d found taken kept (held ++ front) mid → IsKept d taken left mid now
+    → Receives d.blocks d.side come bytes left.flow held now
+received d left come found kept bytes front back held mid now m taken least first second fed-is g k =
+    let front-is : front ≡ take come.passing bytes = first ∙ ap (λ n. take n bytes) least ∙ take_min come.passing bytes in
+    let back-is : back ≡ drop come.passing bytes = second ∙ ap (λ n. drop n bytes) least ∙ drop_min come.passing bytes in
+    let less : come.passing - length front ≡ come.passing - length bytes
+    = omega (arith, ap length first, length-take m bytes, least) in
+    let same : d.flow ≡ fed come bytes
+    = fed-is ∙ ap (λ n. flow n (come.unread ++ back)) less ∙ ap (λ (xs : List ℕ). flow (come.passing - length bytes) (come.unread ++ xs)) back-is in
+    record {
+      found = found;
+      kept = kept;
+      frames = g.frames;
+      rest = drop taken d.flow.unread;
+      behind = k.behind;
+      translates = subst (λ (f : Flow). Translates d.blocks d.side (place kept (drop taken d.flow.unread)) (place found f.unread) g.frames) same g.translates;
+      ends = subst (λ (f : Flow). Ends f.passing (drop taken d.flow.unread) k.behind left.flow) same k.ends;
+      appended = k.appended ∙ ap (λ (xs : List ℕ). xs ++ k.behind) g.appended
+          ∙ ap (λ (xs : List ℕ). held ++ xs ++ g.frames ++ k.behind) front-is;
+    }
