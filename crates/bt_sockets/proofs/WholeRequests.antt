@@ -2,7 +2,7 @@
 use Rattle.std.proofs.Common.{◌≡◌, List, ℕ, [], ◌++◌, Result, Ok, Err, if◌then◌else◌, sym, subst, append_assoc}
 use Rattle.std.proofs.lemmas.List.{append-nil}
 use Rattle.std.specs.Prelude.{is_ok}
-use Rattle.bt_sockets.specs.Requests.{AreRequests, IsRequest, no_request, one_more}
+use Rattle.bt_sockets.specs.Requests.{AreRequests, no_request, one_more}
 
 behind : (held : List ℕ) {bytes : List ℕ} → AreRequests held → AreRequests bytes → AreRequests (held ++ bytes)
 behind held are no_request = subst AreRequests (sym (append-nil held)) are

@@ -133,7 +133,14 @@ impl<'a, R: Net + Clock> Link for TcpLink<'a, R> {
 
     ghost gives = { λ link reader writer. AreNew link.short_blocks reader writer };
 
-    fn dial(&mut self) -> Option<(StreamReader<'a, R::Stream, R>, StreamWriter<'a, R::Stream, R>)> {
+    fn dial(
+        &mut self,
+    ) -> Option<
+        (
+            StreamReader<'a, R::Stream, R>,
+            StreamWriter<'a, R::Stream, R>,
+        ),
+    > {
         let Connection { reader, writer, .. } = self.reach()?;
         Some((reader, writer))
     }

@@ -35,8 +35,11 @@ const LONGEST_PAUSE_MILLIS: u64 = 1000;
 /// What accept(2) fails with where the socket is none that listens: EBADF, EINVAL, ENOTSOCK and EOPNOTSUPP of
 /// Linux.
 const BAD_DESCRIPTOR: i32 = 9;
+
 const INVALID: i32 = 22;
+
 const NO_SOCKET: i32 = 88;
+
 const UNSUPPORTED: i32 = 95;
 
 /// Listens at a port of an address; at port 0 the system chooses one. Errors: the port can't be had.

@@ -17,10 +17,15 @@ pub const BLOCK_SECONDS: u64 = 60;
 
 /// The kinds of messages that are looked at (BEP 3 and BEP 52).
 const CHOKE: u8 = 0;
+
 const REQUEST: u8 = 6;
+
 const PIECE: u8 = 7;
+
 const HASH_REQUEST: u8 = 21;
+
 const HASHES: u8 = 22;
+
 const HASH_REJECT: u8 = 23;
 
 /// What a connection is there for.
