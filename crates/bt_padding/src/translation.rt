@@ -132,7 +132,7 @@ impl<'a> Direction<'a> {
             out.extend_from_slice(rest)?;
             self.passing = usize::MAX;
             self.unread.clear();
-        } else {
+        } else if taken > 0 {
             self.unread = Vec::from_slice(self.alloc, rest)?;
         }
         Ok(())
