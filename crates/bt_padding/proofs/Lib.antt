@@ -1,8 +1,9 @@
-pub mod ShortBlocks
+pub mod LastBlocks
 pub mod Messages
-pub mod Passages
 pub mod Sendable
-pub mod Halves
+pub mod Frames
 pub mod Streams
+pub mod Giving
+pub mod Directions
+pub mod Passages
 pub mod Readers
-pub mod PlainBlocks

@@ -4,8 +4,7 @@ use Rattle.std.proofs.lemmas.List.Elements.{Contains-append_right}
 use Rattle.bt_wire.specs.declared.message.Ask.{Ask}
 use Rattle.bt_wire.specs.declared.message.Message.{Message}
 use Rattle.bt_wire.specs.declared.message.Message.TheVariants.{Request, Piece}
-use Rattle.bt_meta.specs.Torrent.{Metainfo}
-use Rattle.bt_padding.specs.Blocks.{ask_of, padded, IsShortBlock}
+use Rattle.bt_padding.specs.ShortBlocks.{ask_of}
 use Rattle.bt_padding.specs.Padding.{IsTaken}
 use Rattle.bt_padding.specs.PaddingSteps.{IsFirstAt}
 
@@ -21,27 +20,11 @@ abbrev pub bytes_in : Message → List ℕ
 bytes_in (Piece piece begin bytes) = bytes
 bytes_in _ = []
 
--- a padded request for a short block begins where it does
-pub asked_short : (torrent : Metainfo) (ask short : Ask) → Request ask ≡ Request (padded short) → IsShortBlock torrent short
-    → IsShortBlock torrent (ask_of ask.piece ask.begin short.length)
-asked_short torrent ask short same is =
-    subst (λ (a : Ask). IsShortBlock torrent (ask_of a.piece a.begin short.length)) (sym (ap ask_in same)) is
-
--- so does a piece
-pub brought_short : (torrent : Metainfo) (piece begin : ℕ) (bytes others : List ℕ) (short : Ask)
-    → Piece piece begin bytes ≡ Piece short.piece short.begin others → IsShortBlock torrent short
-    → IsShortBlock torrent (ask_of piece begin short.length)
-brought_short torrent piece begin bytes others short same is =
-    subst (λ (a : Ask). IsShortBlock torrent (ask_of a.piece a.begin short.length)) (sym (ap place_in same)) is
-
 -- an answer has the place and the length of its request
-pub answer_short : (torrent : Metainfo) (piece begin : ℕ) (bytes others : List ℕ) (ask : Ask)
-    → Piece piece begin bytes ≡ Piece ask.piece ask.begin others → length others ≡ ask.length → IsShortBlock torrent ask
-    → IsShortBlock torrent (ask_of piece begin (length bytes))
-answer_short torrent piece begin bytes others ask same whole is =
-    let place : ask_of piece begin (length bytes) ≡ ask
-    = ap (λ (m : Message). ask_of (place_in m).piece (place_in m).begin (length (bytes_in m))) same ∙ ap (λ n. ask_of ask.piece ask.begin n) whole in
-    subst (λ (a : Ask). IsShortBlock torrent a) (sym place) is
+pub answer_range : (piece begin : ℕ) (bytes others : List ℕ) (ask : Ask) → Piece piece begin bytes ≡ Piece ask.piece ask.begin others
+    → length others ≡ ask.length → ask_of piece begin (length bytes) ≡ ask
+answer_range piece begin bytes others ask same whole =
+    ap (λ (m : Message). ask_of (place_in m).piece (place_in m).begin (length (bytes_in m))) same ∙ ap (λ n. ask_of ask.piece ask.begin n) whole
 
 -- the request that stands first is there, and is taken out
 pub is_there : (asked : List Ask) (ask : Ask) (i : ℕ) → IsFirstAt asked ask i → Contains asked ask

@@ -8,10 +8,11 @@ use Rattle.bt_wire.specs.declared.message.Ask.{Ask}
 use Rattle.bt_wire.specs.declared.message.Message.{Message}
 use Rattle.bt_wire.specs.declared.message.Message.TheVariants.{Piece}
 use Rattle.bt_meta.specs.Torrent.{Metainfo}
-use Rattle.bt_padding.specs.Blocks.{IsShortBlock}
-use Rattle.bt_padding.specs.Padding.{Memory, new_memory, with_asked, filled, IsTaken, AsksPadded, BringsPadded, ComesIn, GoesOut, request, piece, other}
-use Rattle.bt_padding.proofs.Messages.{place_in, bytes_in, answer_short}
-use Rattle.bt_padding.specs.Law.{Passage, greets, comes, goes, Passes, Pass, AreShortBlocks, RemembersShortBlocks, IsFilledAtEnd, ZerosLieBehindTheEnd, is_at, is_padded_request, is_piece_at, data_length, asks_at, pads_at, PadsWhatWasAsked, IsPlain, IsSame, PlainPassesThrough}
+use Rattle.bt_padding.specs.ShortBlocks.{short_blocks_of, IsShortBlock, ask_of}
+use Rattle.bt_padding.specs.Padding.{Memory, new_memory, with_asked, filled, IsTaken, ComesIn, GoesOut, request, piece, other}
+use Rattle.bt_padding.proofs.Messages.{place_in, bytes_in, answer_range}
+use Rattle.bt_padding.proofs.LastBlocks.{short_blocks_are}
+use Rattle.bt_padding.specs.Law.{Passage, comes, goes, Passes, Pass, RemembersShortBlocks, IsFilledAtEnd, ZerosLieBehindTheEnd, is_at, is_padded_request, is_piece_at, data_length, asks_at, pads_at, PadsWhatWasAsked}
 
 -- ---- only requests for short blocks are remembered
 
@@ -24,15 +25,17 @@ in_one y x (k, inside, is) =
     let first : k ≡ 0 = omega arith in
     subst (λ (n : ℕ). get_or (y ∷ []) n x ≡ x) first is
 
-module _ (torrent : Metainfo) where
-  one_more : (xs : List Ask) (n : ℕ) (ask : Ask) → AreShortBlocks torrent xs → IsShortBlock torrent ask
-      → AreShortBlocks torrent (drop n xs ++ ask ∷ [])
+module _ (blocks : List Ask) where
+  abbrev AreThere : List Ask → Type 0
+  AreThere asked = (ask : Ask) → Contains asked ask → Contains blocks ask
+
+  one_more : (xs : List Ask) (n : ℕ) (ask : Ask) → AreThere xs → Contains blocks ask → AreThere (drop n xs ++ ask ∷ [])
   one_more xs n ask all is x there = elim (Contains-append_cases (drop n xs) (ask ∷ []) x there) [
     | inl old ↦ all x (in_drop n xs x old)
-    | inr new ↦ subst (λ (a : Ask). IsShortBlock torrent a) (in_one ask x new) is
+    | inr new ↦ subst (λ (a : Ask). Contains blocks a) (in_one ask x new) is
   ]
 
-  one_less : (xs ys : List Ask) (ask : Ask) → AreShortBlocks torrent xs → IsTaken xs ask ys → AreShortBlocks torrent ys
+  one_less : (xs ys : List Ask) (ask : Ask) → AreThere xs → IsTaken xs ask ys → AreThere ys
   one_less xs ys ask all t x there =
       let here : Contains (t.before ++ t.after) x = subst (λ (l : List Ask). Contains l x) t.now there in
       let was : Contains (t.before ++ ask ∷ t.after) x = elim (Contains-append_cases t.before t.after x here) [
@@ -41,40 +44,38 @@ module _ (torrent : Metainfo) where
       ] in
       all x (subst (λ (l : List Ask). Contains l x) (sym t.was) was)
 
-  kept : (old new : Memory) → new ≡ old → AreShortBlocks torrent old.asked → AreShortBlocks torrent new.asked
-  kept old new same all = subst (λ (m : Memory). AreShortBlocks torrent m.asked) (sym same) all
+  kept : (old new : Memory) → new ≡ old → AreThere old → AreThere new
+  kept old new same all = subst (λ (m : Memory). AreThere m) (sym same) all
 
-  step_in : (old new : Memory) (m given : Message) → AreShortBlocks torrent old.asked → ComesIn torrent old m given new → AreShortBlocks torrent new.asked
+  step_in : (old new : Memory) (m given : Message) → AreThere old → ComesIn blocks old m given new → AreThere new
   step_in old new m given all (request ask asks given-is new-is) =
-      subst (λ (xs : List Ask). AreShortBlocks torrent xs) (sym (ap (λ (n : Memory). n.asked) new-is)) (one_more old.asked _ ask all asks.0)
-  step_in old new m given all (piece ask bytes brings given-is new-is) = kept old new new-is all
-  step_in old new m given all (other _ _ given-is new-is) = kept old new new-is all
+      subst (λ (xs : List Ask). AreThere xs) (sym new-is) (one_more old _ ask all asks.0)
+  step_in old new m given all (other _ given-is new-is) = kept old new new-is all
 
-  step_out : (old new : Memory) (m given : Message) → AreShortBlocks torrent old.asked → GoesOut torrent old m given new → AreShortBlocks torrent new.asked
-  step_out old new m given all (piece ask bytes rest answers taken given-is new-is) =
-      subst (λ (xs : List Ask). AreShortBlocks torrent xs) (sym (ap (λ (n : Memory). n.asked) new-is)) (one_less old.asked rest ask all taken)
-  step_out old new m given all (request ask asks given-is new-is) = kept old new new-is all
-  step_out old new m given all (other _ _ given-is new-is) = kept old new new-is all
+  step_out : (old new : Memory) (m given : Message) → AreThere old → GoesOut blocks old m given new → AreThere new
+  step_out old new m given all (piece ask bytes answers taken given-is) = one_less old new ask all taken
+  step_out old new m given all (other _ given-is new-is) = kept old new new-is all
 
-  step : (p : Passage) (old new : Memory) → AreShortBlocks torrent old.asked → Passes torrent old p new → AreShortBlocks torrent new.asked
-  step (greets h) old new all g = subst (λ (xs : List Ask). AreShortBlocks torrent xs) (sym g.asked) all
+  step : (p : Passage) (old new : Memory) → AreThere old → Passes blocks old p new → AreThere new
   step (comes m given) old new all passes = step_in old new m given all passes
   step (goes m given) old new all passes = step_out old new m given all passes
 
-  steps : (passages : List Passage) (old new : Memory) → AreShortBlocks torrent old.asked → Pass torrent old passages new → AreShortBlocks torrent new.asked
+  steps : (passages : List Passage) (old new : Memory) → AreThere old → Pass blocks old passages new → AreThere new
   steps [] old new all same = kept old new same all
   steps (p ∷ passages) old new all (mid, first, others) = steps passages mid new (step p old mid all first) others
 
 pub remembers : RemembersShortBlocks
-remembers torrent passages now pass = steps torrent passages new_memory now (λ ask no. absurd (omega (arith, no.1))) pass
+remembers blocks passages now ask pass there = steps blocks passages new_memory now (λ other no. absurd (omega (arith, no.1))) pass ask there
 
 -- ---- a piece that is filled ends where its file ends
 
 zeros_at_end : (torrent : Metainfo) (old new : Memory) (p b : ℕ) (bytes : List ℕ) (given : Message)
-    → GoesOut torrent old (Piece p b bytes) given new → (given ≡ Piece p b bytes) ⊎ IsFilledAtEnd torrent p b bytes given
-zeros_at_end torrent old new p b bytes given (piece ask run rest answers taken given-is new-is) =
+    → GoesOut (short_blocks_of torrent) old (Piece p b bytes) given new → (given ≡ Piece p b bytes) ⊎ IsFilledAtEnd torrent p b bytes given
+zeros_at_end torrent old new p b bytes given (piece ask run answers taken given-is) =
     let same = answers.message in
-    let short = answer_short torrent p b bytes run ask same answers.whole answers.short in
+    let range = answer_range p b bytes run ask same answers.whole in
+    let short : IsShortBlock torrent (ask_of p b (length bytes))
+    = (short_blocks_are torrent _).0 (subst (λ (a : Ask). Contains (short_blocks_of torrent) a) (sym range) answers.short) in
     let whole = short.whole.length in
     let count = short.short in
     let inside = short.whole.has.inside in
@@ -83,8 +84,7 @@ zeros_at_end torrent old new p b bytes given (piece ask run rest answers taken g
       end = omega (arith, whole, count, inside);
       filled = given-is ∙ sym (ap (λ (m : Message). Piece (place_in m).piece (place_in m).begin (filled (bytes_in m))) same);
     })
-zeros_at_end torrent old new p b bytes given (request ask asks given-is new-is) = let same = asks.message in absurd (grind (arith, same))
-zeros_at_end torrent old new p b bytes given (other _ _ given-is new-is) = inl given-is
+zeros_at_end torrent old new p b bytes given (other _ given-is new-is) = inl given-is
 
 pub zeros_behind : ZerosLieBehindTheEnd
 zeros_behind torrent old new p b bytes given out = zeros_at_end torrent old new p b bytes given out
@@ -112,9 +112,6 @@ module _ (p b : ℕ) where
       let all : held xs ≡ held t.before + held (ask ∷ t.after) = ap held t.was ∙ held_append t.before (ask ∷ t.after) in
       omega (arith, one, all, held_cons ask t.after)
 
-  tally : Bool → ℕ
-  tally t = cond t 1 0
-
   and_less : (x y : Bool) → cond {A = ℕ} (x && y) 1 0 ≤ cond y 1 0
   and_less true y = omega arith
   and_less false y = omega arith
@@ -122,43 +119,34 @@ module _ (p b : ℕ) where
   not_less : (n : ℕ) (y : Bool) → cond {A = ℕ} (nat_lt n n && y) 1 0 ≡ 0
   not_less n y = grind (arith, nat_tests)
 
-  held_same : (old new : Memory) → new ≡ old → held new.asked ≡ held old.asked
-  held_same old new same = ap (λ (m : Memory). held m.asked) same
-
-  module _ (torrent : Metainfo) where
-    tally_in : (old new : Memory) (m given : Message) → ComesIn torrent old m given new
-        → held new.asked ≤ cond (is_padded_request p b m) 1 0 + held old.asked
+  module _ (blocks : List Ask) where
+    tally_in : (old new : Memory) (m given : Message) → ComesIn blocks old m given new
+        → held new ≤ cond (is_padded_request p b m) 1 0 + held old
     tally_in old new m given (request ask asks given-is new-is) =
-        let now : held new.asked ≡ held (with_asked old.asked ask) = ap (λ (n : Memory). held n.asked) new-is in
+        let now : held new ≡ held (with_asked old ask) = ap held new-is in
         let asked : cond {A = ℕ} (is_padded_request p b m) 1 0 ≡ cond (is_at p b ask) 1 0 = ap (λ (n : Message). cond {A = ℕ} (is_padded_request p b n) 1 0) asks.1 in
-        omega (arith, now, asked, held_more old.asked (length old.asked - 1023) ask)
-    tally_in old new m given (piece ask bytes brings given-is new-is) = omega (arith, held_same old new new-is)
-    tally_in old new m given (other _ _ given-is new-is) = omega (arith, held_same old new new-is)
+        omega (arith, now, asked, held_more old (length old - 1023) ask)
+    tally_in old new m given (other _ given-is new-is) = let same : held new ≡ held old = ap held new-is in omega (arith, same)
 
-    tally_out : (old new : Memory) (m given : Message) → GoesOut torrent old m given new
-        → cond (nat_lt (data_length m) (data_length given) && is_piece_at p b m) 1 0 + held new.asked ≤ held old.asked
-    tally_out old new m given (piece ask bytes rest answers taken given-is new-is) =
-        let now : held new.asked ≡ held rest = ap (λ (n : Memory). held n.asked) new-is in
+    tally_out : (old new : Memory) (m given : Message) → GoesOut blocks old m given new
+        → cond (nat_lt (data_length m) (data_length given) && is_piece_at p b m) 1 0 + held new ≤ held old
+    tally_out old new m given (piece ask bytes answers taken given-is) =
         let here : cond {A = ℕ} (is_piece_at p b m) 1 0 ≡ cond (is_at p b ask) 1 0 = ap (λ (n : Message). cond {A = ℕ} (is_piece_at p b n) 1 0) answers.message in
-        omega (arith, now, here, held_less old.asked rest ask taken, and_less (nat_lt (data_length m) (data_length given)) (is_piece_at p b m))
-    tally_out old new m given (request ask asks given-is new-is) =
-        let same = asks.message in
-        let none : cond {A = ℕ} (is_piece_at p b m) 1 0 ≡ 0 = ap (λ (n : Message). cond {A = ℕ} (is_piece_at p b n) 1 0) same in
-        omega (arith, held_same old new new-is, none, and_less (nat_lt (data_length m) (data_length given)) (is_piece_at p b m))
-    tally_out old new m given (other _ _ given-is new-is) =
+        omega (arith, here, held_less old new ask taken, and_less (nat_lt (data_length m) (data_length given)) (is_piece_at p b m))
+    tally_out old new m given (other _ given-is new-is) =
+        let same : held new ≡ held old = ap held new-is in
         let zero : cond {A = ℕ} (nat_lt (data_length m) (data_length given) && is_piece_at p b m) 1 0 ≡ 0
         = ap (λ (n : Message). cond {A = ℕ} (nat_lt (data_length m) (data_length n) && is_piece_at p b m) 1 0) given-is ∙ not_less (data_length m) (is_piece_at p b m) in
-        omega (arith, held_same old new new-is, zero)
+        omega (arith, same, zero)
 
-    tally_step : (x : Passage) (old new : Memory) → Passes torrent old x new
-        → cond (pads_at p b x) 1 0 + held new.asked ≤ cond (asks_at p b x) 1 0 + held old.asked
-    tally_step (greets h) old new g = let same : held new.asked ≡ held old.asked = ap held g.asked in omega (arith, same)
+    tally_step : (x : Passage) (old new : Memory) → Passes blocks old x new
+        → cond (pads_at p b x) 1 0 + held new ≤ cond (asks_at p b x) 1 0 + held old
     tally_step (comes m given) old new passes = omega (arith, tally_in old new m given passes)
     tally_step (goes m given) old new passes = omega (arith, tally_out old new m given passes)
 
-    tallies : (passages : List Passage) (old new : Memory) → Pass torrent old passages new
-        → count_by (pads_at p b) passages + held new.asked ≤ count_by (asks_at p b) passages + held old.asked
-    tallies [] old new same = omega (arith, held_same old new same)
+    tallies : (passages : List Passage) (old new : Memory) → Pass blocks old passages new
+        → count_by (pads_at p b) passages + held new ≤ count_by (asks_at p b) passages + held old
+    tallies [] old new same = let kept : held new ≡ held old = ap held same in omega (arith, kept)
     tallies (x ∷ passages) old new (mid, first, others) =
         omega (
           arith,
@@ -169,22 +157,4 @@ module _ (p b : ℕ) where
         )
 
 pub pads_asked : PadsWhatWasAsked
-pads_asked torrent passages now p b pass = omega (arith, tallies p b torrent passages new_memory now pass)
-
--- ---- where nothing is padded nothing changes
-
-plain_in : (torrent : Metainfo) (old new : Memory) (m given : Message) → ((ask : Ask) → ¬ AsksPadded torrent m ask)
-    → ((ask : Ask) (bytes : List ℕ) → ¬ BringsPadded torrent m ask bytes) → ComesIn torrent old m given new → IsSame old m given new
-plain_in torrent old new m given unasked unsent (request ask asks given-is new-is) = absurd (unasked ask asks)
-plain_in torrent old new m given unasked unsent (piece ask bytes brings given-is new-is) = absurd (unsent ask bytes brings)
-plain_in torrent old new m given unasked unsent (other _ _ given-is new-is) = record { message = given-is; memory = new-is }
-
-plain_out : (torrent : Metainfo) (old new : Memory) (m given : Message) → IsPlain old → GoesOut torrent old m given new → IsSame old m given new
-plain_out torrent old new m given plain (piece ask bytes rest answers taken given-is new-is) =
-    let there : Contains [] ask = subst (λ (xs : List Ask). Contains xs ask) plain.0 answers.remembered in absurd (omega (arith, there.1))
-plain_out torrent old new m given plain (request ask asks given-is new-is) =
-    let peer = asks.peer in absurd (grind (arith, sym plain.1 ∙ peer))
-plain_out torrent old new m given plain (other _ _ given-is new-is) = record { message = given-is; memory = new-is }
-
-pub plain : PlainPassesThrough
-plain = record { incoming = plain_in; outgoing = plain_out }
+pads_asked blocks passages now p b pass = omega (arith, tallies p b blocks passages new_memory now pass)

@@ -1,5 +1,12 @@
-ghost use Rattle.bt_padding.specs.Law.{RemembersShortBlocks, ZerosLieBehindTheEnd, PadsWhatWasAsked, PlainPassesThrough, GivenOnCanBeSent};
+ghost use Rattle.bt_padding.specs.Law.{ShortBlocksAreLast, RemembersShortBlocks, ZerosLieBehindTheEnd, PadsWhatWasAsked, PlainPassesThrough, GivenOnCanBeSent};
 ghost use Rattle.bt_padding.specs.TranslationLaw.{GivesStreams};
+
+use bt_wire::streams_have_one_reading;
+
+/// The short blocks of a torrent are just the last blocks of its files that are short.
+pub fn short_blocks_are_last()
+    ensures { ShortBlocksAreLast }
+{}
 
 /// What is remembered of a peer are requests for short blocks.
 pub fn remembers_short_blocks()
@@ -17,8 +24,7 @@ pub fn pads_what_was_asked()
     ensures { PadsWhatWasAsked }
 {}
 
-/// What comes of a peer without padding passes as it is, and so does all that goes to a peer that has asked
-/// for no padding and is asked for none.
+/// What a peer sends that asks for no padding passes as it is, and so does all that goes to it.
 pub fn plain_passes_through()
     ensures { PlainPassesThrough }
 {}
@@ -31,4 +37,6 @@ pub fn given_on_can_be_sent()
 /// Where whole events came, as many whole events are given on, and nothing else.
 pub fn gives_streams()
     ensures { GivesStreams }
-{}
+{
+    streams_have_one_reading();
+}

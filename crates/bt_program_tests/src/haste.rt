@@ -1,11 +1,12 @@
-//! Runs of the program over the system's network, in which who waits for a peer has two seconds where it asks for two minutes.
+//! Runs of the program over the system's network, in which who waits for a peer has two seconds where it asks for two minutes, and a
+//! minute passes in a second.
 
 use bt_commands::run;
 use bt_progress::Unwatched;
 use std::io::{self, Read, Write};
 use std::net::{Net, OpenListener, OpenStream, SocketAddr, TcpListener, TcpStream};
 use std::os::fd::{AsRawFd, RawFd};
-use std::time::Duration;
+use std::time::{Clock, Duration};
 
 /// How many times as short the time is for which a connection waits.
 const HASTE: u32 = 60;
@@ -51,6 +52,20 @@ impl Net for Hasty<'_> {
 
     fn lookup_host(&self, host: &str, port: u16, found: &mut [SocketAddr]) -> io::Result<usize> {
         self.host.lookup_host(host, port, found)
+    }
+}
+
+impl Clock for Hasty<'_> {
+    fn monotonic(&self) -> io::Result<Duration> {
+        Ok(self.host.monotonic()?.saturating_mul(HASTE))
+    }
+
+    fn since_1970(&self) -> io::Result<Duration> {
+        self.host.since_1970()
+    }
+
+    fn sleep(&self, time: Duration) {
+        self.host.sleep(time / HASTE)
     }
 }
 

@@ -4,7 +4,7 @@ use crate::bytes::tell_given;
 use crate::ends::{Queue, Sink, Source};
 use crate::words::{RowError, Words};
 use bt_meta::Torrent;
-use bt_padding::{PaddedReader, PaddedWriter, Padding};
+use bt_padding::{PaddedReader, PaddedWriter, Padding, ShortBlocks};
 use std::alloc::{AllocError, Global};
 use std::cell::RefCell;
 use std::collections::VecDeque;
@@ -50,16 +50,17 @@ fn talk(
     whole: bool,
 ) -> Result<String, RowError> {
     let padding = RefCell::new(Padding::new(alloc)?);
+    let blocks = ShortBlocks::new(alloc, torrent)?;
     let line = Line::new(alloc);
     let mut text = String::new(alloc);
-    let mut conversation = new_conversation(alloc, torrent, &line, &padding, whole);
+    let mut conversation = new_conversation(alloc, &blocks, &line, &padding, whole);
     conversation.steps(alloc, words, &mut text)?;
     Ok(text)
 }
 
 fn new_conversation<'a>(
     alloc: Global,
-    torrent: &'a Torrent,
+    blocks: &'a ShortBlocks,
     line: &'a Line,
     padding: &'a RefCell<Padding>,
     whole: bool,
@@ -72,8 +73,8 @@ fn new_conversation<'a>(
         queue: &line.to_peer,
     };
     Conversation {
-        reader: PaddedReader::new(alloc, source, torrent, padding),
-        writer: PaddedWriter::new(alloc, sink, torrent, padding),
+        reader: PaddedReader::new(alloc, source, blocks, padding),
+        writer: PaddedWriter::new(alloc, sink, blocks, padding),
         line,
         padding,
         whole,

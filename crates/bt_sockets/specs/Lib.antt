@@ -1,4 +1,7 @@
+pub mod EarlySteps
 pub mod Link
+pub mod Stream
 pub mod StreamSteps
 pub mod Listener
+pub mod ListenerSteps
 pub mod Requests

@@ -1,10 +1,14 @@
 //! A connection.
 ghost use Rattle.std.specs.Prelude.{◌≡◌, ◌≢◌, List, ℕ, IfOk, MatchOption};
+ghost use Rattle.bt_sockets.specs.Stream.{AreNewWays};
 ghost use Rattle.bt_sockets.specs.StreamSteps.{IsAddressOf, IsTextOf, bracketed};
 
 use crate::alarm::AlarmReader;
-use crate::passage::Passage;
+use crate::early::Early;
+use crate::passage::{Passage, Shared};
 use crate::requests::{HoldingWriter, Requests, SendingReader};
+use crate::timed_stream::{TimedStream, set_turns};
+use crate::timing::Role;
 use bt_ahead::ReadAhead;
 use bt_padding::{PaddedReader, PaddedWriter, Padding};
 use std::alloc::Global;
@@ -12,7 +16,7 @@ use std::cell::RefCell;
 use std::io;
 use std::io::ErrorKind;
 use std::net::{Ipv6Addr, Net, OpenStream, SocketAddr, TcpStream, ToSocketAddrs};
-use std::time::Duration;
+use std::time::{Clock, Duration, Instant};
 
 /// How many seconds each address of a host has to answer.
 pub const CONNECT_SECONDS: u64 = 20;
@@ -21,13 +25,13 @@ pub const CONNECT_SECONDS: u64 = 20;
 pub const IDLE_SECONDS: u64 = 120;
 
 /// What is read from a connection, as its engine gets it.
-pub type StreamReader<'a, S> = PaddedReader<
+pub type StreamReader<'a, S, C> = PaddedReader<
     'a,
-    ReadAhead<'a, AlarmReader<'a, SendingReader<'a, S>>>,
+    ReadAhead<'a, AlarmReader<'a, SendingReader<'a, TimedStream<'a, S, C>>>>,
 >;
 
 /// What is written to a connection, as its peer gets it.
-pub type StreamWriter<'a, S> = PaddedWriter<'a, HoldingWriter<'a, S>>;
+pub type StreamWriter<'a, S, C> = PaddedWriter<'a, HoldingWriter<'a, TimedStream<'a, S, C>>>;
 
 /// Connects to the first address of a host that answers, and gives that address too. Errors: none does.
 pub(crate) fn connected<R: Net>(
@@ -70,32 +74,57 @@ fn in_brackets(host: &str) -> Option<&str>
     }
 }
 
+/// What a connection is there for, and how long its peer may be idle.
+#[derive(Clone, Copy)]
+pub(crate) struct Terms {
+    pub(crate) role: Role,
+    pub(crate) idle: Duration,
+}
+
 /// Makes a connection ready for a session: what is read from it, ahead of its engine, and what is written to
 /// it, which are one socket. Each write leaves at once, but for requests, which leave before the next read or
-/// write. A read or a write fails where the peer was idle for so long; a read also where a device has refused a
-/// write since. What was remembered of the peer of another connection, or held back for it, is forgotten.
-/// Errors: the system refuses this; out of memory.
-pub(crate) fn both_ways<'a, S: OpenStream + Drop>(
+/// write. A read or a write fails where the peer was idle for so long, or has taken too long otherwise; a read
+/// also where a device has refused a write since. Both ways are new: nothing of another connection waits in them,
+/// and what was remembered of its peer, or held back for it, is forgotten. It takes no memory. Errors: the system
+/// refuses this; a connection for the same passage is there still.
+pub(crate) fn both_ways<'a, S: OpenStream + Drop, C: Clock>(
     alloc: Global,
+    clock: &'a C,
     stream: S,
-    idle: Duration,
+    terms: Terms,
     passage: Passage<'a>,
-) -> io::Result<(StreamReader<'a, S>, StreamWriter<'a, S>)> {
-    let Passage { torrent, shared } = passage;
+) -> io::Result<(StreamReader<'a, S, C>, StreamWriter<'a, S, C>)>
+    ensures { IfOk result (λ ways. AreNewWays passage.entry.short_blocks.now stream ways.0 ways.1) }
+{
+    let Passage {
+        short_blocks,
+        shared,
+    } = passage;
+    let room = shared.room.try_borrow_mut()?;
+    begin(shared, clock, terms.role)?;
+    stream.set_nodelay(true)?;
+    set_turns(&stream, terms.idle)?;
+    let clone = stream.try_clone()?;
+    let reading = TimedStream::new(stream, clock, terms.idle, shared);
+    let sending = SendingReader::new(reading, &shared.requests);
+    let heard = AlarmReader::new(sending, &shared.alarm);
+    let ahead = ReadAhead::new(heard, &shared.digests, room);
+    let reader = PaddedReader::new(alloc, ahead, short_blocks, &shared.padding);
+    let writing = TimedStream::new(clone, clock, terms.idle, shared);
+    let holding = HoldingWriter::new(writing, &shared.requests);
+    let writer = PaddedWriter::new(alloc, holding, short_blocks, &shared.padding);
+    Ok((reader, writer))
+}
+
+/// Forgets the connection before, and begins the time of this one. Errors: the clock fails; what is to be
+/// forgotten is in use, which no call of this crate brings about.
+fn begin<C: Clock>(shared: &Shared, clock: &C, role: Role) -> io::Result<()> {
     forget(&shared.padding)?;
     forget_requests(&shared.requests)?;
+    forget_early(&shared.early)?;
     shared.alarm.stop();
-    stream.set_nodelay(true)?;
-    stream.set_read_timeout(Some(idle))?;
-    stream.set_write_timeout(Some(idle))?;
-    let clone = stream.try_clone()?;
-    let sending = SendingReader::new(stream, &shared.requests);
-    let heard = AlarmReader::new(sending, &shared.alarm);
-    let ahead = ReadAhead::new(alloc, heard, &shared.digests)?;
-    let reader = PaddedReader::new(alloc, ahead, torrent, &shared.padding);
-    let holding = HoldingWriter::new(clone, &shared.requests);
-    let writer = PaddedWriter::new(alloc, holding, torrent, &shared.padding);
-    Ok((reader, writer))
+    shared.timing.begin(role, Instant::now(clock)?);
+    Ok(())
 }
 
 /// Forgets the peer. Errors: what is remembered of it is in use, which no call of this crate brings about.
@@ -112,5 +141,13 @@ fn forget_requests(requests: &RefCell<Requests>) -> io::Result<()> {
     let mut guard = requests.try_borrow_mut()?;
     let requests = &mut *guard;
     requests.forget();
+    Ok(())
+}
+
+/// Forgets what came early of another connection. Errors: it is in use, which no call of this crate brings about.
+fn forget_early(early: &RefCell<Early>) -> io::Result<()> {
+    let mut guard = early.try_borrow_mut()?;
+    let early = &mut *guard;
+    early.forget();
     Ok(())
 }

@@ -12,6 +12,6 @@ returns g c =
           sym waits ∙ all_given c.self.inside.given c.self.inside.outgoing.items all,
       λ none.
           let all : c.self.inside.given ≡ c.len.result
-          = omega (arith, none_left c.self.inside.given c.self.inside.outgoing.items c.self.invariant (waits ∙ none), c.len.ensures) in
+          = omega (arith, none_left c.self.inside.given c.self.inside.outgoing.items c.self.invariant.0 (waits ∙ none), c.len.ensures) in
           eq-eqb c.self.inside.given c.len.result all,
     )
