@@ -9,8 +9,8 @@ use Rattle.bt_padding.specs.Padding.{Memory}
 use Rattle.bt_padding.specs.Flow.{Flow, flow, fed, Waits}
 use Rattle.bt_padding.specs.FrameSteps.{BeginsFrame, IsFront}
 use Rattle.bt_padding.specs.declared.frame.Front.{Front}
-use Rattle.bt_padding.specs.declared.frame.Front.TheVariants.{Frame, Part, TooLong}
-use Rattle.bt_padding.proofs.Frames.{too_long}
+use Rattle.bt_padding.specs.declared.frame.Front.TheVariants.{Frame, Part, Other}
+use Rattle.bt_padding.proofs.Frames.{other_front}
 use Rattle.bt_padding.specs.Translation.{Place, place, Gives, Translates, done, one_more, Ends, Receives}
 use Rattle.bt_padding.specs.TranslationSteps.{DirectionState, GivesBehind, GivesFrames, HasNoFrameAt, IsKept}
 
@@ -54,7 +54,7 @@ more_frames d old memory new held before now taken len so begins g =
 no_front : (rest : List ℕ) (f : Front) → IsFront rest f → ((n : ℕ) → f ≡ Frame n → ⊥) → (n : ℕ) → ¬ BeginsFrame rest n
 no_front rest (Frame k) is unlike n b = unlike k refl
 no_front rest Part is unlike n b = is.no_frame (take n rest) (drop n rest) b.frame (sym (take-append-drop n rest))
-no_front rest TooLong is unlike n b = too_long rest n is b
+no_front rest (Other missing) is unlike n b = other_front rest missing n is b
 
 pub all_frames : (d : DirectionState) (old new : Memory) (held now seen : List ℕ) (taken : ℕ) (f : Front) → IsSoFar d old held taken new now
     → seen ≡ d.flow.unread → IsFront (take (length seen - taken) (drop taken seen)) f → ((n : ℕ) → f ≡ Frame n → ⊥) → GivesFrames d old taken new held now
@@ -69,13 +69,13 @@ all_frames d old new held now seen taken f so same front unlike = record {
 }
 
 -- and where it is no length field that is too long either, what is left waits
-waits : (rest : List ℕ) (f : Front) → IsFront rest f → (f ≡ TooLong → ⊥) → ((n : ℕ) → ¬ BeginsFrame rest n) → Waits rest
+waits : (rest : List ℕ) (f : Front) → IsFront rest f → ((m : ℕ) → f ≡ Other m → ⊥) → ((n : ℕ) → ¬ BeginsFrame rest n) → Waits rest
 waits rest (Frame n) is unlike none = absurd (none n is)
 waits rest Part is unlike none = is
-waits rest TooLong is unlike none = absurd (unlike refl)
+waits rest (Other missing) is unlike none = absurd (unlike missing refl)
 
 pub rest_kept : (old : DirectionState) (left : Flow) (taken : ℕ) (held seen : List ℕ) (f : Front) → seen ≡ old.flow.unread
-    → IsFront (take (length seen - taken) (drop taken seen)) f → (f ≡ TooLong → ⊥) → HasNoFrameAt old taken
+    → IsFront (take (length seen - taken) (drop taken seen)) f → ((m : ℕ) → f ≡ Other m → ⊥) → HasNoFrameAt old taken
     → left ≡ flow old.flow.passing (take (length seen - taken) (drop taken seen)) → IsKept old taken left held held
 rest_kept old left taken held seen f same front unlike none is =
     let rest : List ℕ = drop taken old.flow.unread in

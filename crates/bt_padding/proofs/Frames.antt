@@ -1,12 +1,10 @@
 -- Frames at the front of a list of bytes.
-use Rattle.std.proofs.Common.{◌≡◌, ◌≤◌, ◌<◌, ◌+◌, ◌^◌, ℕ, List, ◌++◌, take, drop, length, refl, sym, ◌∙◌, ap, arith, length-append, length-drop, length-take}
+use Rattle.std.proofs.Common.{◌≡◌, ◌≤◌, ◌<◌, ◌+◌, ◌^◌, ℕ, List, [], ◌++◌, take, drop, length, refl, sym, ◌∙◌, ap, arith, length-append, length-drop, length-take}
 use Rattle.std.specs.Int.{w32, to_be_bytes, from_be_bytes}
-use Rattle.std.proofs.lemmas.List.{append_assoc, take_at, drop_at, take-append-drop}
+use Rattle.std.proofs.lemmas.List.{append_assoc, append-nil, take_at, drop_at, take-append-drop}
 use Rattle.std.proofs.lemmas.Nat.{from_be_bytes-to_be_bytes_4}
 use lib.Seq.{take-add}
-use Rattle.bt_wire.specs.Limits.{max_length_field}
-use Rattle.bt_wire.specs.Event.{ShowsTooLong}
-use Rattle.bt_padding.specs.Flow.{IsFrame}
+use Rattle.bt_padding.specs.Flow.{IsFrame, IsOther}
 use Rattle.bt_padding.specs.FrameSteps.{BeginsFrame}
 
 -- the number that the first four bytes spell
@@ -50,7 +48,7 @@ one_frame p q r s p-is q-is same =
     }
 
 -- bytes that begin with a length field and have as many behind it begin with a frame
-pub begins_frame : (bytes : List ℕ) (n : ℕ) → to_be_bytes w32 n ≡ take 4 (drop 0 bytes) → n ≤ max_length_field → 4 + n ≤ length bytes
+pub begins_frame : (bytes : List ℕ) (n : ℕ) → to_be_bytes w32 n ≡ take 4 (drop 0 bytes) → n < 2 ^ 32 → 4 + n ≤ length bytes
     → BeginsFrame bytes (4 + n)
 begins_frame bytes n field few inside =
     let size : length (take n (drop 4 bytes)) ≡ n = omega (arith, length-take n (drop 4 bytes), length-drop 4 bytes) in
@@ -64,14 +62,17 @@ begins_frame bytes n field few inside =
       };
     }
 
--- none begins with a length field that is too long
-pub too_long : (bytes : List ℕ) (n : ℕ) → ShowsTooLong bytes → BeginsFrame bytes n → ⊥
-too_long bytes n t b =
+-- none stands where bytes of a message are missing
+pub other_front : (bytes : List ℕ) (missing n : ℕ) → IsOther bytes missing → BeginsFrame bytes n → ⊥
+other_front bytes missing n t b =
     let body : List ℕ = b.frame.body in
     let few = b.frame.limit in
-    let above = t.above in
-    let whole : to_be_bytes w32 (length body) ++ (body ++ drop n bytes) ≡ to_be_bytes w32 t.field ++ t.rest
-    = sym (append_assoc (to_be_bytes w32 (length body)) body (drop n bytes)) ∙ ap (λ (xs : List ℕ). xs ++ drop n bytes) (sym b.frame.spelled)
-    ∙ take-append-drop n bytes ∙ t.front in
-    let same = same_number (length body) t.field (body ++ drop n bytes) t.rest (omega (arith, few)) t.number whole in
-    omega (arith, same, few, above)
+    let whole : bytes ≡ to_be_bytes w32 (length body) ++ (body ++ drop n bytes)
+    = sym (take-append-drop n bytes) ∙ ap (λ (xs : List ℕ). xs ++ drop n bytes) b.frame.spelled
+    ∙ append_assoc (to_be_bytes w32 (length body)) body (drop n bytes) in
+    let front : to_be_bytes w32 t.field ++ [] ≡ to_be_bytes w32 (length body) ++ []
+    = append-nil (to_be_bytes w32 t.field) ∙ t.front ∙ ap (λ (xs : List ℕ). take 4 xs) whole ∙ sym (append-nil (to_be_bytes w32 (length body))) in
+    let same = same_number t.field (length body) [] [] t.number few front in
+    let some = t.some in
+    let size = t.whole in
+    omega (arith, same, some, size, ap length whole, length-append (to_be_bytes w32 (length body)) (body ++ drop n bytes), length-append body (drop n bytes))

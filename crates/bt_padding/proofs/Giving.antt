@@ -1,10 +1,9 @@
 -- What is given on in place of a frame.
-use Rattle.std.proofs.Common.{◌≡◌, ℕ, List, length, refl, sym, ◌∙◌, ap, subst, Contains, remove, Option, None, Some}
+use Rattle.std.proofs.Common.{◌≡◌, ℕ, List, length, refl, sym, ◌∙◌, ap, subst, Contains, remove}
 use Rattle.bt_wire.specs.Message.{message_spelling}
 use Rattle.bt_wire.specs.Event.{IsSent}
 use Rattle.bt_wire.specs.Law.{StreamsHaveOneReading}
 use Rattle.bt_wire.specs.declared.message.Ask.{Ask}
-use Rattle.bt_wire.specs.declared.message.Message.{Message}
 use Rattle.bt_wire.specs.declared.message.Message.TheVariants.{Request, Piece}
 use Rattle.bt_padding.specs.ShortBlocks.{ask_of, padded}
 use Rattle.bt_padding.specs.Padding.{Memory, with_asked, filled, request, piece, other}

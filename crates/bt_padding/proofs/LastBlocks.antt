@@ -20,7 +20,7 @@ use Rattle.bt_meta.specs.declared.piece_blocks.PieceRange.{PieceRange}
 use Rattle.bt_meta.specs.declared.torrent.FileEntry.{FileEntry}
 use Rattle.bt_meta.proofs.PieceBlocks.{found, listed}
 use Rattle.bt_meta.proofs.PlacePieces.{ends}
-use Rattle.bt_padding.specs.ShortBlocks.{ask_of, range_of, has_short_block, short_block, short_blocks_of, AreInTurn, IsShortBlock}
+use Rattle.bt_padding.specs.ShortBlocks.{ask_of, has_short_block, short_block, short_blocks_of, AreInTurn, IsShortBlock}
 use Rattle.bt_padding.specs.Law.{ShortBlocksAreLast}
 
 -- ---- which files they are of

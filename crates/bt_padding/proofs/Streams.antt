@@ -2,11 +2,10 @@
 use Rattle.std.proofs.Common.{◌≡◌, ◌≤◌, ◌+◌, ℕ, suc, true, Option, Some, None, List, [], ◌∷◌, ◌++◌, length, refl, sym, ◌∙◌, ap, subst, arith, length-append}
 use Rattle.std.proofs.lemmas.List.{append_assoc, append-nil}
 use Rattle.std.specs.Int.{w32, to_be_bytes}
-use Rattle.bt_wire.specs.Message.{Body, body, body_of, frame_spelling, length_field, message_spelling}
+use Rattle.bt_wire.specs.Message.{Body, body, body_of, frame_spelling, length_field}
 use Rattle.bt_wire.specs.Limits.{max_length_field}
 use Rattle.bt_wire.specs.Event.{IsEvent, IsSent, HasNoEvent}
 use Rattle.bt_wire.specs.Law.{IsStream, StreamsHaveOneReading}
-use Rattle.bt_wire.specs.declared.message.Ask.{Ask}
 use Rattle.bt_wire.specs.declared.message.Message.{Message as Sent}
 use Rattle.bt_wire.specs.declared.event.WireEvent.{WireEvent}
 use Rattle.bt_wire.specs.declared.event.WireEvent.TheVariants.{Hello, Message, Skipped}
@@ -25,7 +24,7 @@ use Rattle.bt_padding.proofs.Sendable.{sendable_in, sendable_out}
 -- ---- an event behind a handshake is a frame
 
 spelled_frame : (b : Option Body) → length_field b ≤ max_length_field → IsFrame (frame_spelling b)
-spelled_frame None few = record { body = []; limit = few; spelled = refl }
+spelled_frame None few = record { body = []; limit = omega arith; spelled = refl }
 spelled_frame (Some b) few = record {
   body = b.kind ∷ b.payload;
   limit = omega (arith, few);

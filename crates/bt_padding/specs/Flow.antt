@@ -1,13 +1,13 @@
 -- The bytes of one direction of a connection, in any parts: a handshake, and then frames (BEP 3).
-use Rattle.std.specs.Prelude.{◌≡◌, ◌≢◌, ℕ, ◌-◌, ◌≤◌, ◌^◌, List, [], ◌++◌, length, drop}
+use Rattle.std.specs.Prelude.{◌≡◌, ◌≢◌, ◌⊎◌, ℕ, ◌+◌, ◌-◌, ◌<◌, ◌≤◌, ◌^◌, List, [], ◌++◌, length, take, drop, slice_index}
 use Rattle.std.specs.Int.{w32, to_be_bytes}
-use Rattle.bt_wire.specs.Limits.{handshake_length, max_length_field}
-use Rattle.bt_wire.specs.Event.{ShowsTooLong}
+use Rattle.bt_tree.specs.Limits.{full_block_length}
+use Rattle.bt_wire.specs.Limits.{handshake_length}
 
--- a message's bytes, whatever stands in it: a length field within the limit, and as many bytes as it says
+-- a message's bytes, whatever stands in it: a length field, and as many bytes as it says
 pub record IsFrame (bytes : List ℕ) : Type 0 where
   pub body : List ℕ
-  pub limit : length body ≤ max_length_field
+  pub limit : length body < 2 ^ 32
   pub spelled : bytes ≡ to_be_bytes w32 (length body) ++ body
 
 -- how many bytes still pass as they come, and what of a frame has come behind them
@@ -26,11 +26,23 @@ new_flow = flow handshake_length []
 abbrev pub fed : Flow → List ℕ → Flow
 fed come bytes = flow (come.passing - length bytes) (come.unread ++ drop come.passing bytes)
 
--- no frame is whole, and no length field is above the limit
+-- the kind and the length field of a message that may be translated: a request, or a piece of a block at most
+abbrev pub IsOfInterest : (kind field : ℕ) → Type 0
+IsOfInterest kind field =
+    ((kind ≡ 6) × (field ≡ 13)) ⊎ ((kind ≡ 7) × (9 ≤ field) × (field ≤ 9 + full_block_length))
+
+-- no frame is whole; and what has come has no kind yet, or is the beginning of such a message
 pub record Waits (unread : List ℕ) : Type 0 where
   pub no_frame : (frame rest : List ℕ) → IsFrame frame → unread ≢ frame ++ rest
-  pub not_long : ¬ ShowsTooLong unread
+  pub kind : (length unread ≤ 4)
+      ⊎ ((field : ℕ) × (to_be_bytes w32 field ≡ take 4 unread) × IsOfInterest (slice_index unread 4) field)
 
--- so many bytes pass behind a length field that is above the limit: all that ever come
-abbrev pub endless : ℕ
-endless = 2 ^ 64 - 1
+-- the beginning of any other message, of which so many bytes are missing
+pub record IsOther (unread : List ℕ) (missing : ℕ) : Type 0 where
+  pub field : ℕ
+  pub number : field < 2 ^ 32
+  pub front : to_be_bytes w32 field ≡ take 4 unread
+  pub has_kind : 4 < length unread
+  pub other : ¬ IsOfInterest (slice_index unread 4) field
+  pub some : 0 < missing
+  pub whole : missing + length unread ≡ 4 + field

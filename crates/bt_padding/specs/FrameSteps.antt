@@ -1,11 +1,11 @@
 -- What bytes begin with. No public contract cites this.
 use Rattle.std.specs.Prelude.{ℕ, ◌≤◌, ◌≡◌, List, length, take}
-use Rattle.bt_wire.specs.Event.{IsSent, ShowsTooLong}
+use Rattle.bt_wire.specs.Event.{IsSent}
 use Rattle.bt_wire.specs.declared.message.Ask.{Ask}
 use Rattle.bt_wire.specs.declared.message.Message.TheVariants.{Piece}
-use Rattle.bt_padding.specs.Flow.{IsFrame, Waits}
+use Rattle.bt_padding.specs.Flow.{IsFrame, Waits, IsOther}
 use Rattle.bt_padding.specs.declared.frame.Front.{Front}
-use Rattle.bt_padding.specs.declared.frame.Front.TheVariants.{Frame, Part, TooLong}
+use Rattle.bt_padding.specs.declared.frame.Front.TheVariants.{Frame, Part, Other}
 
 -- the first so many bytes are a frame
 pub record BeginsFrame (bytes : List ℕ) (n : ℕ) : Type 0 where
@@ -15,7 +15,7 @@ pub record BeginsFrame (bytes : List ℕ) (n : ℕ) : Type 0 where
 abbrev pub IsFront : List ℕ → Front → Type 0
 IsFront bytes (Frame n) = BeginsFrame bytes n
 IsFront bytes Part = Waits bytes
-IsFront bytes TooLong = ShowsTooLong bytes
+IsFront bytes (Other missing) = IsOther bytes missing
 
 -- the frame is a piece, whose block lies there
 pub record IsPieceOf (frame : List ℕ) (ask : Ask) (block : List ℕ) : Type 0 where

@@ -1,11 +1,11 @@
 -- Bytes of one side in any parts, and what is given on of them to the other.
-use Rattle.std.specs.Prelude.{◌≡◌, ◌⊎◌, ℕ, ◌-◌, Option, Some, None, List, [], ◌++◌, length, take}
+use Rattle.std.specs.Prelude.{◌≡◌, ◌⊎◌, ℕ, Option, Some, None, List, [], ◌++◌, take}
 use Rattle.bt_wire.specs.Message.{message_spelling}
-use Rattle.bt_wire.specs.Event.{IsSent, ShowsTooLong}
+use Rattle.bt_wire.specs.Event.{IsSent}
 use Rattle.bt_wire.specs.declared.message.Ask.{Ask}
 use Rattle.bt_wire.specs.declared.message.Message.{Message}
 use Rattle.bt_padding.specs.Padding.{Memory, ComesIn, GoesOut}
-use Rattle.bt_padding.specs.Flow.{IsFrame, Flow, flow, fed, Waits, endless}
+use Rattle.bt_padding.specs.Flow.{IsFrame, Flow, flow, fed, Waits, IsOther}
 use Rattle.bt_padding.specs.declared.translation.Side.{Side}
 use Rattle.bt_padding.specs.declared.translation.Side.TheVariants.{Peer, Engine}
 
@@ -43,12 +43,12 @@ pub data Translates (blocks : List Ask) (side : Side) (last : Place) : Place →
       → first.unread ≡ frame ++ next.unread → Gives blocks side first.memory frame run next.memory
       → Translates blocks side last next given → Translates blocks side last first (run ++ given)
 
--- No frame is whole, and what has come of it is kept; or a length field is above the limit, and all that is
--- left passes, as all that comes will.
+-- No frame is whole: what has come of it is kept; or it is of no interest, and passes, as what is missing of
+-- it will.
 abbrev pub Ends : (passing : ℕ) → (rest behind : List ℕ) → Flow → Type 0
 Ends passing rest behind left =
     (Waits rest × (behind ≡ []) × (left ≡ flow passing rest))
-    ⊎ (ShowsTooLong rest × (behind ≡ rest) × (left ≡ flow endless []))
+    ⊎ ((missing : ℕ) × IsOther rest missing × (behind ≡ rest) × (left ≡ flow missing []))
 
 -- Bytes of a side come, and what is given on stands behind what the output held: what passes as it comes, and
 -- the frames that are whole then. The two directions of a connection share what is remembered: a call finds

@@ -1,15 +1,16 @@
 //! Frames of a stream, and those of them that are requests and pieces (BEP 3).
-ghost use Rattle.std.specs.Prelude.{ℕ, List, IfSome, IfNone};
+ghost use Rattle.std.specs.Prelude.{◌↔◌, ℕ, List, IsTrue, IfSome, IfNone};
 ghost use Rattle.bt_wire.specs.Event.{IsSent};
 ghost use Rattle.bt_wire.specs.declared.message.Ask.{Ask};
 ghost use Rattle.bt_wire.specs.declared.message.Message.TheVariants.{Request, Piece};
-ghost use Rattle.bt_padding.specs.Flow.{IsFrame};
+ghost use Rattle.bt_padding.specs.Flow.{IsFrame, IsOfInterest};
 ghost use Rattle.bt_padding.specs.FrameSteps.{IsFront, IsPieceOf};
 
 use bt_hashreq::number_at;
+use bt_tree::BLOCK_LEN;
 use bt_wire::Ask;
 
-/// The greatest length field of a frame that is kept until it is whole (`max_length_field` of `bt_wire`).
+/// The greatest length field of a message (`max_length_field` of `bt_wire`).
 const MAX_LENGTH_FIELD: usize = 1 << 20;
 
 /// How a request begins: 13 bytes follow its length, of which the first is its kind, 6.
@@ -18,7 +19,9 @@ const REQUEST_HEAD: [u8; 5] = [0, 0, 0, 13, 6];
 /// How many bytes a request has.
 const REQUEST_LEN: usize = 17;
 
-/// The kind of a piece.
+/// The kinds of a request and of a piece.
+const REQUEST: u8 = 6;
+
 const PIECE: u8 = 7;
 
 /// How many bytes of a piece stand before its block's: length field, kind, piece and begin.
@@ -29,10 +32,10 @@ const PIECE_HEAD_LEN: usize = 13;
 pub(crate) enum Front {
     /// A frame of so many bytes.
     Frame(usize),
-    /// No frame that is whole.
+    /// What may become a message that is translated.
     Part,
-    /// A length field above the limit.
-    TooLong,
+    /// Another message, of which so many bytes are missing.
+    Other(usize),
 }
 
 /// What the bytes begin with.
@@ -43,12 +46,23 @@ pub(crate) fn front_of(bytes: &[u8]) -> Front
         return Front::Part;
     }
     let field = number_at(bytes, 0) as usize;
-    if field > MAX_LENGTH_FIELD {
-        Front::TooLong
-    } else if field > bytes.len() - 4 {
-        Front::Part
-    } else {
-        Front::Frame(4 + field)
+    if field <= bytes.len() - 4 {
+        return Front::Frame(4 + field);
+    }
+    if bytes.len() == 4 || is_of_interest(bytes[4], field) {
+        return Front::Part;
+    }
+    Front::Other(4 + field - bytes.len())
+}
+
+/// Whether a message of this kind and length field may be translated: a request, or a piece of a block at most.
+fn is_of_interest(kind: u8, field: usize) -> bool
+    ensures { IsTrue result ↔ IsOfInterest kind field }
+{
+    match kind {
+        REQUEST => field == REQUEST_LEN - 4,
+        PIECE => field >= 9 && field <= 9 + BLOCK_LEN,
+        _ => false,
     }
 }
 
@@ -74,7 +88,8 @@ pub(crate) fn read_piece(frame: &[u8]) -> Option<(Ask, &[u8])>
     ensures none { IfNone result ((piece begin : ℕ) (bytes : List ℕ)
         → ¬ IsSent (Piece piece begin bytes) frame.now) }
 {
-    if frame.len() < PIECE_HEAD_LEN || frame[4] != PIECE {
+    let len = frame.len();
+    if len < PIECE_HEAD_LEN || len > 4 + MAX_LENGTH_FIELD || frame[4] != PIECE {
         return None;
     }
     let block = &frame[PIECE_HEAD_LEN..];

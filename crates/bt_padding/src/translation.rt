@@ -66,8 +66,8 @@ impl<'a> Direction<'a> {
         }
     }
 
-    /// Takes bytes, and puts behind `out` what is given on of them: a handshake's as they come, and each
-    /// message as soon as it is whole. Behind a length field that is too long all passes as it comes.
+    /// Takes bytes, and puts behind `out` what is given on of them: a handshake's as they come, each message
+    /// that may be translated as soon as it is whole, and any other as it comes.
     ///
     /// Errors: out of memory; what is remembered is in use, which no call of this crate brings about. Then the
     /// connection is to be closed.
@@ -120,7 +120,8 @@ impl<'a> Direction<'a> {
         }
     }
 
-    /// Keeps what is left behind the first so many bytes, or lets it pass. Errors: out of memory.
+    /// Keeps what is left behind the first so many bytes, or lets it pass where it is of no interest. Errors:
+    /// out of memory.
     fn keep(&mut self, taken: usize, out: &mut Vec<u8>) -> Result<(), AllocError>
         requires inside { taken ≤ length self.old.flow.unread }
         requires no_frame { HasNoFrameAt self.old taken }
@@ -128,9 +129,9 @@ impl<'a> Direction<'a> {
         ensures same { IsSameDirection self.old self.new }
     {
         let rest = &self.unread[taken..];
-        if let Front::TooLong = front_of(rest) {
+        if let Front::Other(missing) = front_of(rest) {
             out.extend_from_slice(rest)?;
-            self.passing = usize::MAX;
+            self.passing = missing;
             self.unread.clear();
         } else if taken > 0 {
             self.unread = Vec::from_slice(self.alloc, rest)?;
