@@ -14,3 +14,4 @@ pub use cache::DigestCache;
 pub use disk::ReadAheadDisk;
 pub use hash::CachedLanes;
 pub use reader::ReadAhead;
+pub use room::Room;

@@ -8,8 +8,7 @@ ghost use Rattle.bt_ahead.specs.ReaderSteps.{IsRefilled, KeepsAll};
 use crate::cache::DigestCache;
 use crate::messages::{cut_behind, fill_from};
 use crate::room::Room;
-use std::alloc::{AllocError, Global};
-use std::cell::RefCell;
+use std::cell::{RefCell, RefMut};
 use std::io;
 use std::io::Read;
 use std::marker::Model;
@@ -28,7 +27,7 @@ const HANDSHAKE_LEN: usize = 68;
 pub struct ReadAhead<'a, R> {
     inner: R,
     cache: &'a RefCell<DigestCache>,
-    room: Room,
+    room: RefMut<'a, Room>,
     /// So many of the bytes in the room may be given.
     ready: usize,
     /// So many bytes are to come of a message that is given as it comes; then all in the room may be given.
@@ -36,33 +35,34 @@ pub struct ReadAhead<'a, R> {
 }
 
 impl<'a, R> Model for ReadAhead<'a, R> {
+    ghost use Rattle.std.specs.RefCell.{ref_mut_value};
     ghost use Rattle.bt_ahead.specs.Reader.{ReaderState, IsOrderly};
 
     ghost Value = { ReaderState R };
 
     ghost view = { λ r. record {
       inner = r.inner;
-      waiting = r.room;
+      waiting = ref_mut_value r.room;
       ready = r.ready;
       owed = r.owed;
     } };
 
-    ghost invariant = { λ r. IsOrderly r.room r.ready };
+    ghost invariant = { λ r. IsOrderly (ref_mut_value r.room) r.ready };
 }
 
 impl<'a, R: Drop> ReadAhead<'a, R> {
-    /// A reader at a connection's begin. It takes all the memory that it ever takes.
-    pub fn new(alloc: Global, inner: R, cache: &'a RefCell<DigestCache>) -> Result<Self, AllocError>
-        ensures { IfOk result (λ reader. reader ≡ new_reader inner) }
+    /// A reader at a connection's begin. What is in the room is forgotten. It takes no memory.
+    pub fn new(inner: R, cache: &'a RefCell<DigestCache>, mut room: RefMut<'a, Room>) -> Self
+        ensures { result ≡ new_reader inner }
     {
-        let room = Room::new(alloc)?;
-        Ok(ReadAhead {
+        room.clear();
+        ReadAhead {
             inner,
             cache,
             room,
             ready: 0,
             owed: HANDSHAKE_LEN,
-        })
+        }
     }
 }
 

@@ -12,9 +12,10 @@ use std::marker::Model;
 /// For so many bytes there is room: eight messages of a whole block each, and a part of one more.
 pub(crate) const ROOM_LEN: usize = 135_168;
 
-/// Bytes that are read and not given yet, in room for so many.
+/// Room for bytes that are read and not given yet, and those that are. A reader borrows it for as long as it is
+/// there.
 #[derive(Drop)]
-pub(crate) struct Room {
+pub struct Room {
     bytes: Vec<u8>,
     start: usize,
     end: usize,
@@ -33,8 +34,8 @@ impl Model for Room {
 }
 
 impl Room {
-    /// Room with no bytes in it.
-    pub(crate) fn new(alloc: Global) -> Result<Self, AllocError>
+    /// Room with no bytes in it. It takes all the memory that it ever takes. Errors: out of memory.
+    pub fn new(alloc: Global) -> Result<Self, AllocError>
         ensures { IfOk result (λ room. room ≡ []) }
     {
         let bytes = vec![in alloc; 0; ROOM_LEN]?;
@@ -43,6 +44,14 @@ impl Room {
             start: 0,
             end: 0,
         })
+    }
+
+    /// Forgets the bytes, as for a connection that begins.
+    pub(crate) fn clear(&mut self)
+        ensures { self.new ≡ [] }
+    {
+        self.start = 0;
+        self.end = 0;
     }
 
     /// The bytes, lent.

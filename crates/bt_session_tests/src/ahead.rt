@@ -2,7 +2,7 @@
 
 use crate::bytes::tell_given;
 use crate::words::{RowError, Words, tell_answer};
-use bt_ahead::{DigestCache, ReadAhead, ReadAheadDisk};
+use bt_ahead::{DigestCache, ReadAhead, ReadAheadDisk, Room};
 use bt_disk::{Disk, FaultDisk, MemoryDisk};
 use bt_tree::BLOCK_LEN;
 use std::alloc::{AllocError, Global};
@@ -63,10 +63,11 @@ fn told_read(
     if wanted {
         let _ = is_found(&digests, &[]);
     }
+    let lent = RefCell::new(Room::new(alloc)?);
     let mut given = Vec::new(alloc);
     read_all(
-        alloc,
         &digests,
+        &lent,
         Parts { rest: bytes, most },
         room,
         &mut given,
@@ -79,13 +80,16 @@ fn told_read(
 
 /// Reads all, by reads of so many bytes at most.
 fn read_all<'a>(
-    alloc: Global,
     digests: &'a RefCell<DigestCache>,
+    lent: &'a RefCell<Room>,
     parts: Parts<'a>,
     room: usize,
     given: &mut Vec<u8>,
 ) -> Result<(), RowError> {
-    let mut reader = ReadAhead::new(alloc, parts, digests)?;
+    let Ok(waiting) = lent.try_borrow_mut() else {
+        return Err(RowError::Failed);
+    };
+    let mut reader = ReadAhead::new(parts, digests, waiting);
     let mut buffer = [0; MOST_READ];
     let end = room.min(buffer.len());
     for _ in 0..u64::MAX {

@@ -12,6 +12,7 @@ mod engine;
 mod event;
 mod links;
 mod lists;
+mod names;
 mod partner;
 mod row;
 mod run;

@@ -2,8 +2,10 @@
 ghost use Rattle.std.specs.Prelude.{◌≡◌};
 
 use crate::engine::TestEngine;
+use crate::names::is_name_reached;
 use crate::sessions::tell_end;
 use bt_meta::Torrent;
+use bt_padding::ShortBlocks;
 use bt_peers::{Link, PeerEnd, end_text};
 use bt_sockets::{
     IDLE_SECONDS, Passage, Shared, StreamReader, StreamWriter, TcpLink, listen, port_of, serve,
@@ -11,7 +13,7 @@ use bt_sockets::{
 use std::alloc::{AllocError, Global};
 use std::fmt::Write;
 use std::io::{self, Read};
-use std::net::{Net, OpenListener, OpenStream};
+use std::net::{Net, OpenListener, OpenStream, TcpStream};
 use std::time::Duration;
 
 const HOST: &str = "127.0.0.1";
@@ -33,7 +35,7 @@ fn patience() -> Duration {
     Duration::from_secs(IDLE_SECONDS)
 }
 
-/// Adds what a row answers: whether a closed port is reached, a byte that goes there and back, whether requests wait to be sent, or what
+/// Adds what a row answers: whether a closed port is reached, or a name of several addresses, a byte that goes there and back, whether requests wait to be sent, or what
 /// comes of so many milliseconds of silence.
 pub fn socket_row<'a>(
     net: &'a HostRuntime,
@@ -43,9 +45,10 @@ pub fn socket_row<'a>(
     row: &str,
     out: &mut String,
 ) -> Result<(), AllocError> {
+    let short_blocks = ShortBlocks::new(alloc, torrent)?;
     let shared = Shared::new(alloc)?;
     let passage = Passage {
-        torrent,
+        short_blocks: &short_blocks,
         shared: &shared,
     };
     let site = Site {
@@ -57,11 +60,8 @@ pub fn socket_row<'a>(
     let number = number.parse::<u8>().unwrap_or(0);
     let idle = Duration::from_millis(number as u64);
     match name {
-        "closed" => out.push_str(if is_closed_reached(&site) {
-            "reached\n"
-        } else {
-            "not reached\n"
-        }),
+        "closed" => tell_reached(out, is_closed_reached(&site)),
+        "name" => tell_reached(out, is_name_reached(net, alloc, passage, number)),
         "echo" => tell_echo(out, echo(&site, number)),
         "held" => out.push_str(if is_held(&site, idle) {
             "held\n"
@@ -76,6 +76,14 @@ pub fn socket_row<'a>(
         "serve" => tell_served(out, silent_end(&site, engine, idle)),
         _ => out.push_str("no socket\n"),
     }
+}
+
+fn tell_reached(out: &mut String, is_reached: bool) -> Result<(), AllocError> {
+    out.push_str(if is_reached {
+        "reached\n"
+    } else {
+        "not reached\n"
+    })
 }
 
 /// A link to a port of this machine.
@@ -245,7 +253,7 @@ fn is_given_up_by(site: &Site<'_>, listener: &Listener, idle: Duration) -> bool 
 fn silent_end(site: &Site<'_>, engine: &mut TestEngine, idle: Duration) -> Option<PeerEnd> {
     let listener = listen(site.net, HOST, 0).ok()?;
     let port = port_of(&listener).ok()?;
-    let _silent = dialled(site, port, patience())?;
+    let _silent = TcpStream::connect(site.net, (HOST, port)).ok()?;
     served(site, engine, &listener, idle)
 }
 

@@ -1,4 +1,5 @@
 pub mod Link
+pub mod Stream
 pub mod StreamSteps
 pub mod Listener
 pub mod Requests

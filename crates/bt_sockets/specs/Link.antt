@@ -1,18 +1,22 @@
 -- A link over TCP.
 use Rattle.std.specs.Prelude.{◌≡◌, ℕ, List}
+use Rattle.bt_wire.specs.declared.message.Ask.{Ask}
 
--- the peer that it leads to, by the bytes of its host and a port; how often it was dialled, and how often
--- that failed
+-- the peer that it leads to, by the bytes of its host and a port; the short last blocks of the torrent for
+-- which it is dialled; how often it was dialled, and how often that failed
 pub record Dials : Type 0 where
   pub host : List ℕ
   pub port : ℕ
+  pub short_blocks : List Ask
   pub all : ℕ
   pub failed : ℕ
 
 -- a link to a port of a host, which was not dialled
-abbrev pub undialled : List ℕ → ℕ → Dials
-undialled host port = record { host = host; port = port; all = 0; failed = 0 }
+abbrev pub undialled : List ℕ → ℕ → List Ask → Dials
+undialled host port short_blocks =
+    record { host = host; port = port; short_blocks = short_blocks; all = 0; failed = 0 }
 
--- both lead to the same peer
+-- both lead to the same peer, for the same torrent
 abbrev pub LeadToSamePeer : Dials → Dials → Type 0
-LeadToSamePeer one other = (one.host ≡ other.host) × (one.port ≡ other.port)
+LeadToSamePeer one other =
+    (one.host ≡ other.host) × (one.port ≡ other.port) × (one.short_blocks ≡ other.short_blocks)

@@ -1,7 +1,8 @@
 //! A peer that is reached over TCP.
-ghost use Rattle.std.specs.Prelude.{◌≡◌, ⊤, ◌+◌, ◌-◌, ◌<◌, ◌^◌, IfOk, IfSome};
+ghost use Rattle.std.specs.Prelude.{◌≡◌, ◌+◌, ◌-◌, ◌<◌, ◌^◌, IfOk, IfSome};
 ghost use Rattle.bt_peers.specs.Link.{failure_count};
 ghost use Rattle.bt_sockets.specs.Link.{LeadToSamePeer, undialled};
+ghost use Rattle.bt_sockets.specs.Stream.{AreNew};
 ghost use Rattle.bt_sockets.specs.StreamSteps.{IsAddressOf};
 
 use crate::passage::Passage;
@@ -43,6 +44,7 @@ impl<'a, R: Net> Model for TcpLink<'a, R> {
     ghost view = { λ a. record {
       host = a.host.now;
       port = a.port;
+      short_blocks = a.passage.short_blocks.now;
       all = a.dials;
       failed = a.failures;
     } };
@@ -61,7 +63,7 @@ impl<'a, R: Net> TcpLink<'a, R> {
         idle: Duration,
         passage: Passage<'a>,
     ) -> Self
-        ensures { result ≡ undialled host.now port }
+        ensures { result ≡ undialled host.now port passage.entry.short_blocks.now }
     {
         TcpLink {
             alloc,
@@ -77,7 +79,10 @@ impl<'a, R: Net> TcpLink<'a, R> {
 
     /// Connects to the peer. Errors: it is not reached.
     fn connect(&self) -> io::Result<Connection<'a, R::Stream>>
-        ensures { IfOk result (λ connection. IsAddressOf self.now.host self.now.port connection.address) }
+        ensures address { IfOk result
+            (λ connection. IsAddressOf self.now.host self.now.port connection.address) }
+        ensures new { IfOk result
+            (λ connection. AreNew self.now.short_blocks connection.reader connection.writer) }
     {
         let (stream, address) = connected(self.net, self.host, self.port)?;
         let (reader, writer) = both_ways(self.alloc, stream, self.idle, self.passage)?;
@@ -96,6 +101,8 @@ impl<'a, R: Net> TcpLink<'a, R> {
         ensures same_peer { LeadToSamePeer self.new self.old }
         ensures address { IfSome result
             (λ connection. IsAddressOf self.old.host self.old.port connection.address) }
+        ensures new { IfSome result
+            (λ connection. AreNew self.old.short_blocks connection.reader connection.writer) }
     {
         let reached = self.connect();
         self.dials += 1;
@@ -109,7 +116,7 @@ impl<'a, R: Net> TcpLink<'a, R> {
     }
 }
 
-// Nothing is said of what a socket gives.
+// Nothing is said of what a socket gives. Nothing has come of it yet where a dial gives it.
 impl<'a, R: Net> Link for TcpLink<'a, R> {
     type R = StreamReader<'a, R::Stream>;
 
@@ -119,7 +126,7 @@ impl<'a, R: Net> Link for TcpLink<'a, R> {
 
     ghost failures = { λ link. link.failed };
 
-    ghost gives = { λ link reader writer. ⊤ };
+    ghost gives = { λ link reader writer. AreNew link.short_blocks reader writer };
 
     fn dial(&mut self) -> Option<(StreamReader<'a, R::Stream>, StreamWriter<'a, R::Stream>)> {
         let Connection { reader, writer, .. } = self.reach()?;

@@ -1,7 +1,9 @@
 //! The socket at which peers are waited for.
 ghost use Rattle.std.specs.Prelude.{[], ◌≡◌, IfOk, IfErr, OnErr};
 ghost use Rattle.bt_check.specs.Fault.{device};
+ghost use Rattle.bt_runs.specs.Leads.{LeadsTo};
 ghost use Rattle.bt_sockets.specs.Listener.{IsServed};
+ghost use Rattle.bt_sockets.specs.Stream.{AreNew};
 
 use crate::passage::Passage;
 use crate::stream::{StreamReader, StreamWriter, both_ways};
@@ -49,9 +51,11 @@ pub fn serve<D: Disk + Drop, H: NodeHash, R: Net>(
 ) -> Result<PeerEnd, Fault>
     requires no_peer { engine.old.state.peers ≡ [] }
     ensures served { IfOk result (λ end. IsServed D.history D.honest D.faults H.digest
+        (AreNew passage.entry.short_blocks.now)
         ⟦<StreamReader<'static, R::Stream> as Read>⟧.remaining
         ⟦<StreamWriter<'static, R::Stream> as Write>⟧.contents SESSION_TURNS engine.old end engine.new) }
     ensures gone { engine.new.state.peers ≡ [] }
+    ensures run { LeadsTo D.history D.honest D.faults H.digest engine.old engine.new }
     ensures refused { IfErr result (λ fault. fault ≡ device) }
     ensures kept { OnErr result (engine.new ≡ engine.old) }
 {

@@ -2,9 +2,8 @@
 
 use crate::alarm::Alarm;
 use crate::requests::Requests;
-use bt_ahead::DigestCache;
-use bt_meta::Torrent;
-use bt_padding::Padding;
+use bt_ahead::{DigestCache, Room};
+use bt_padding::{Padding, ShortBlocks};
 use std::alloc::{AllocError, Global};
 use std::cell::RefCell;
 
@@ -17,20 +16,25 @@ pub struct Shared {
     pub padding: RefCell<Padding>,
     /// What is sent right before the connection is read.
     pub(crate) requests: RefCell<Requests>,
+    /// Where what is read ahead waits. A connection borrows it for as long as it is there.
+    pub(crate) room: RefCell<Room>,
     /// Rung where a device refuses a write.
     pub alarm: Alarm,
 }
 
 impl Shared {
-    /// Nothing is digested ahead, remembered or held back, and the alarm does not ring. Errors: out of memory.
+    /// Nothing is digested ahead, remembered or held back, and the alarm does not ring. All the memory that
+    /// connections need is taken here, so that none is refused for want of it. Errors: out of memory.
     pub fn new(alloc: Global) -> Result<Self, AllocError> {
         let digests = RefCell::new(DigestCache::new(alloc)?);
         let padding = RefCell::new(Padding::new(alloc)?);
         let requests = RefCell::new(Requests::new(alloc)?);
+        let room = RefCell::new(Room::new(alloc)?);
         Ok(Shared {
             digests,
             padding,
             requests,
+            room,
             alarm: Alarm::new(),
         })
     }
@@ -39,7 +43,7 @@ impl Shared {
 /// What stands between a connection and its engine. Connections that follow one another share it.
 #[derive(Clone, Copy)]
 pub struct Passage<'a> {
-    /// Which last blocks are short.
-    pub torrent: &'a Torrent,
+    /// The last blocks of the torrent that are short.
+    pub short_blocks: &'a ShortBlocks,
     pub shared: &'a Shared,
 }

@@ -4,7 +4,7 @@ ghost use Rattle.std.specs.Prelude.{◌≡◌, ◌≤◌, ℕ, List, [], ◌++�
 ghost use Rattle.std.specs.Bool.{OnTrue, OnFalse};
 ghost use Rattle.std.specs.Io.{ReadsAtMost, WritesAtMost};
 ghost use Rattle.std.specs.Io.KnownBytes.{Appends, Keeps, WriteAppends, ReadConsumes};
-ghost use Rattle.bt_sockets.specs.Requests.{request_length, request_head, AreRequests, IsHeldOrWritten, IsReadBehind};
+ghost use Rattle.bt_sockets.specs.Requests.{request_length, request_head, AreRequests, SendsRequests, IsHeldOrWritten, IsReadBehind};
 
 use std::alloc::{AllocError, Global};
 use std::cell::RefCell;
@@ -20,7 +20,8 @@ const REQUEST_LEN: usize = 17;
 /// For so many bytes there is room: 64 requests, four times as many as an engine asks one peer for.
 const ROOM_LEN: usize = 64 * REQUEST_LEN;
 
-/// Requests that were written and are not sent yet.
+/// Requests that were written and are not sent yet: whole ones, and nothing else. So whoever borrows them
+/// knows that they are, though no clause knows what lies in a cell.
 #[derive(Drop)]
 pub(crate) struct Requests {
     bytes: Vec<u8>,
@@ -28,10 +29,13 @@ pub(crate) struct Requests {
 
 impl Model for Requests {
     ghost use Rattle.std.specs.Prelude.{ℕ, List};
+    ghost use Rattle.bt_sockets.specs.Requests.{AreRequests};
 
     ghost Value = { List ℕ };
 
     ghost view = { λ r. r.bytes.items };
+
+    ghost invariant = { λ r. AreRequests r.bytes.items };
 }
 
 impl Requests {
@@ -67,6 +71,7 @@ impl Requests {
     /// Sends them all. None is held then, whatever came of it. Errors: those of the writer.
     fn send<W: Write>(&mut self, to: &mut W) -> io::Result<()>
         ensures sent { OnOk result (Appends (W.contents to.old) (W.contents to.new) self.old) }
+        ensures requests { AreRequests self.old }
         ensures none { self.new ≡ [] }
     {
         let answer = to.write_all(self.bytes.as_slice());
@@ -110,7 +115,7 @@ fn hold_shared(requests: &RefCell<Requests>, bytes: &[u8]) -> bool
 
 /// Sends what is held. Errors: those of the writer; the requests are in use.
 fn send_shared<W: Write>(requests: &RefCell<Requests>, to: &mut W) -> io::Result<()>
-    ensures { OnOk result ((held : List ℕ) × Appends (W.contents to.old) (W.contents to.new) held) }
+    ensures { OnOk result (SendsRequests (W.contents to.old) (W.contents to.new)) }
 {
     let mut guard = requests.try_borrow_mut()?;
     let requests = &mut *guard;

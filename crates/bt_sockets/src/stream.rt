@@ -1,5 +1,6 @@
 //! A connection.
 ghost use Rattle.std.specs.Prelude.{◌≡◌, ◌≢◌, List, ℕ, IfOk, MatchOption};
+ghost use Rattle.bt_sockets.specs.Stream.{AreNewWays};
 ghost use Rattle.bt_sockets.specs.StreamSteps.{IsAddressOf, IsTextOf, bracketed};
 
 use crate::alarm::AlarmReader;
@@ -73,15 +74,22 @@ fn in_brackets(host: &str) -> Option<&str>
 /// Makes a connection ready for a session: what is read from it, ahead of its engine, and what is written to
 /// it, which are one socket. Each write leaves at once, but for requests, which leave before the next read or
 /// write. A read or a write fails where the peer was idle for so long; a read also where a device has refused a
-/// write since. What was remembered of the peer of another connection, or held back for it, is forgotten.
-/// Errors: the system refuses this; out of memory.
+/// write since. Both ways are new: nothing of another connection waits in them, and what was remembered of its
+/// peer, or held back for it, is forgotten. It takes no memory. Errors: the system refuses this; a connection
+/// for the same passage is there still.
 pub(crate) fn both_ways<'a, S: OpenStream + Drop>(
     alloc: Global,
     stream: S,
     idle: Duration,
     passage: Passage<'a>,
-) -> io::Result<(StreamReader<'a, S>, StreamWriter<'a, S>)> {
-    let Passage { torrent, shared } = passage;
+) -> io::Result<(StreamReader<'a, S>, StreamWriter<'a, S>)>
+    ensures { IfOk result (λ ways. AreNewWays passage.entry.short_blocks.now stream ways.0 ways.1) }
+{
+    let Passage {
+        short_blocks,
+        shared,
+    } = passage;
+    let room = shared.room.try_borrow_mut()?;
     forget(&shared.padding)?;
     forget_requests(&shared.requests)?;
     shared.alarm.stop();
@@ -91,10 +99,10 @@ pub(crate) fn both_ways<'a, S: OpenStream + Drop>(
     let clone = stream.try_clone()?;
     let sending = SendingReader::new(stream, &shared.requests);
     let heard = AlarmReader::new(sending, &shared.alarm);
-    let ahead = ReadAhead::new(alloc, heard, &shared.digests)?;
-    let reader = PaddedReader::new(alloc, ahead, torrent, &shared.padding);
+    let ahead = ReadAhead::new(heard, &shared.digests, room);
+    let reader = PaddedReader::new(alloc, ahead, short_blocks, &shared.padding);
     let holding = HoldingWriter::new(clone, &shared.requests);
-    let writer = PaddedWriter::new(alloc, holding, torrent, &shared.padding);
+    let writer = PaddedWriter::new(alloc, holding, short_blocks, &shared.padding);
     Ok((reader, writer))
 }
 

@@ -3,5 +3,5 @@ use Rattle.bt_sockets.specs.Link.{Dials}
 use Rattle.bt_sockets.specs.StreamSteps.{IsAddressOf}
 use Rattle.bt_sockets.proofs.link.TcpLink.connect.Goals as goal
 
-pub returns : goal.returns
-returns g c = subst (λ (d : Dials). IsAddressOf d.host d.port c.in_ok-stream.address) c.self.view_is c.in_ok-stream.ensures
+pub returns-clause-address : goal.returns-clause-address
+returns-clause-address g c = subst (λ (d : Dials). IsAddressOf d.host d.port c.in_ok-stream.address) c.self.view_is c.in_ok-stream.ensures
