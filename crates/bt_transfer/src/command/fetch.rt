@@ -41,7 +41,7 @@ use std::time::Duration;
 ///
 /// It is told how much is read of what the files have, and then how much is written of what they lack.
 ///
-/// A session ends where a device refuses a write. Where that was the last one, and files are not complete, the
+/// A session ends where a device refuses a write. Where that was so of one of them, and files are not complete, the
 /// device's fault comes behind the report.
 ///
 /// Errors: the torrent is refused, and then nothing is written; a device or the writer failed; out of memory.
@@ -96,21 +96,21 @@ fn fetch_store<D: Disk + Drop, H: NodeHash, N: Net, P: Watch, W: Write>(
     fetch_from(alloc, net, &mut engine, passage, peers, writer)
 }
 
-/// What comes of an alarm that rings, or does not, where a fetch has this status. Errors: it rings, and files are
-/// not complete.
-fn hear(rings: bool, status: u8) -> Result<(), Fault>
+/// What comes of an alarm that rang, or did not, in a fetch of this status. Errors: it rang, and files are not
+/// complete.
+fn hear(rang: bool, status: u8) -> Result<(), Fault>
     ensures complete { status ≡ 0 → result ≡ Ok tt }
-    ensures quiet { rings ≡ false → result ≡ Ok tt }
-    ensures fault { rings ≡ true → status ≢ 0 → result ≡ Err device }
+    ensures quiet { rang ≡ false → result ≡ Ok tt }
+    ensures fault { rang ≡ true → status ≢ 0 → result ≡ Err device }
 {
-    if rings && status != 0 {
+    if rang && status != 0 {
         return Err(Fault::Device);
     }
     Ok(())
 }
 
 /// Takes peers in turn, over TCP, until an engine of a torrent is complete, and tells of it as `fetch_over` does.
-/// Errors: also where the last session ended because a device refused a write, and files are not complete.
+/// Errors: also where a session ended because a device refused a write, and files are not complete.
 fn fetch_from<D: Disk + Drop, H: NodeHash, N: Net, W: Write>(
     alloc: Global,
     net: &N,
@@ -128,7 +128,7 @@ fn fetch_from<D: Disk + Drop, H: NodeHash, N: Net, W: Write>(
 {
     let mut links = links_to(alloc, net, peers, passage)?;
     let status = fetch_over(alloc, engine, peers, &mut links, SESSION_TURNS, writer)?;
-    hear(passage.shared.alarm.is_ringing(), status)?;
+    hear(passage.shared.alarm.has_rung(), status)?;
     Ok(status)
 }
 
