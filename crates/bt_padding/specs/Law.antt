@@ -1,43 +1,44 @@
 -- What follows for whole conversations.
-use Rattle.std.specs.Prelude.{◌≡◌, ◌⊎◌, ℕ, ◌+◌, ◌*◌, ◌≤◌, Bool, false, ◌&&◌, ◌==◌, nat_lt, List, [], ◌∷◌, length, Contains, count_by}
+use Rattle.std.specs.Prelude.{◌≡◌, ◌↔◌, ◌⊎◌, ℕ, ◌+◌, ◌*◌, ◌≤◌, Bool, false, ◌&&◌, ◌==◌, nat_lt, List, [], ◌∷◌, length, Contains, count_by}
 use Rattle.bt_tree.specs.Limits.{full_block_length}
 use Rattle.bt_wire.specs.Message.{IsMessage, Fits}
-use Rattle.bt_wire.specs.declared.handshake.Handshake.{Handshake}
 use Rattle.bt_wire.specs.declared.message.Ask.{Ask}
 use Rattle.bt_wire.specs.declared.message.Message.{Message}
 use Rattle.bt_wire.specs.declared.message.Message.TheVariants.{Request, Piece}
 use Rattle.bt_meta.specs.Torrent.{Metainfo}
-use Rattle.bt_padding.specs.Blocks.{ask_of, IsShortBlock}
-use Rattle.bt_padding.specs.Padding.{Memory, new_memory, filled, Greets, AsksPadded, BringsPadded, ComesIn, GoesOut}
+use Rattle.bt_padding.specs.ShortBlocks.{ask_of, short_blocks_of, IsShortBlock}
+use Rattle.bt_padding.specs.Padding.{Memory, new_memory, filled, AsksPadded, ComesIn, GoesOut}
+
+-- ---- short blocks
+
+-- the short blocks of a torrent are just the last blocks of its files that are short
+abbrev pub ShortBlocksAreLast : Type 0
+ShortBlocksAreLast = (torrent : Metainfo) (ask : Ask)
+    → Contains (short_blocks_of torrent) ask ↔ IsShortBlock torrent ask
 
 -- ---- conversations
 
--- the peer's handshake, a message that comes in or one that goes out, each with what it is given on as
+-- a message that comes in or one that goes out, each with what it is given on as
 pub data Passage : Type 0 where
-  greets : Handshake → Passage
   comes : (m given : Message) → Passage
   goes : (m given : Message) → Passage
 
-abbrev pub Passes : Metainfo → Memory → Passage → Memory → Type 0
-Passes torrent old (greets handshake) new = Greets old handshake new
-Passes torrent old (comes m given) new = ComesIn torrent old m given new
-Passes torrent old (goes m given) new = GoesOut torrent old m given new
+abbrev pub Passes : (blocks : List Ask) → Memory → Passage → Memory → Type 0
+Passes blocks old (comes m given) new = ComesIn blocks old m given new
+Passes blocks old (goes m given) new = GoesOut blocks old m given new
 
 -- one after the other
-abbrev pub Pass : Metainfo → Memory → List Passage → Memory → Type 0
-Pass torrent old [] new = new ≡ old
-Pass torrent old (p ∷ passages) new =
-    (mid : Memory) × Passes torrent old p mid × Pass torrent mid passages new
+abbrev pub Pass : (blocks : List Ask) → Memory → List Passage → Memory → Type 0
+Pass blocks old [] new = new ≡ old
+Pass blocks old (p ∷ passages) new =
+    (mid : Memory) × Passes blocks old p mid × Pass blocks mid passages new
 
 -- ---- what is remembered
 
-abbrev pub AreShortBlocks : Metainfo → List Ask → Type 0
-AreShortBlocks torrent asked = (ask : Ask) → Contains asked ask → IsShortBlock torrent ask
-
 -- only requests for short blocks are
 abbrev pub RemembersShortBlocks : Type 0
-RemembersShortBlocks = (torrent : Metainfo) (passages : List Passage) (now : Memory)
-    → Pass torrent new_memory passages now → AreShortBlocks torrent now.asked
+RemembersShortBlocks = (blocks : List Ask) (passages : List Passage) (now : Memory) (ask : Ask)
+    → Pass blocks new_memory passages now → Contains now ask → Contains blocks ask
 
 -- ---- what a peer is served
 
@@ -52,7 +53,7 @@ pub record IsFilledAtEnd (torrent : Metainfo) (piece begin : ℕ) (bytes : List 
 abbrev pub ZerosLieBehindTheEnd : Type 0
 ZerosLieBehindTheEnd = (torrent : Metainfo) (old new : Memory) (piece begin : ℕ) (bytes : List ℕ)
     (given : Message)
-    → GoesOut torrent old (Piece piece begin bytes) given new
+    → GoesOut (short_blocks_of torrent) old (Piece piece begin bytes) given new
     → (given ≡ Piece piece begin bytes) ⊎ IsFilledAtEnd torrent piece begin bytes given
 
 abbrev pub is_at : ℕ → ℕ → Ask → Bool
@@ -83,29 +84,23 @@ pads_at piece begin _ = false
 
 -- Pieces are filled no more often than the peer has asked for all that length.
 abbrev pub PadsWhatWasAsked : Type 0
-PadsWhatWasAsked = (torrent : Metainfo) (passages : List Passage) (now : Memory) (piece begin : ℕ)
-    → Pass torrent new_memory passages now
+PadsWhatWasAsked = (blocks : List Ask) (passages : List Passage) (now : Memory) (piece begin : ℕ)
+    → Pass blocks new_memory passages now
     → count_by (pads_at piece begin) passages ≤ count_by (asks_at piece begin) passages
 
 -- ---- a peer that knows of no padding
-
--- it has not asked for padded blocks, and is not asked for them
-abbrev pub IsPlain : Memory → Type 0
-IsPlain memory = (memory.asked ≡ []) × (memory.pads ≡ false)
 
 -- nothing changes, and nothing is remembered
 pub record IsSame (old : Memory) (m given : Message) (new : Memory) : Type 0 where
   pub message : given ≡ m
   pub memory : new ≡ old
 
--- what comes of it without padding, and all that goes to it, passes as it is
+-- what comes of it, which asks for no padding, and all that goes to it passes as it is
 pub record PlainPassesThrough : Type 0 where
-  pub incoming : (torrent : Metainfo) (old new : Memory) (m given : Message)
-      → ((ask : Ask) → ¬ AsksPadded torrent m ask)
-      → ((ask : Ask) (bytes : List ℕ) → ¬ BringsPadded torrent m ask bytes)
-      → ComesIn torrent old m given new → IsSame old m given new
-  pub outgoing : (torrent : Metainfo) (old new : Memory) (m given : Message)
-      → IsPlain old → GoesOut torrent old m given new → IsSame old m given new
+  pub incoming : (blocks : List Ask) (old new : Memory) (m given : Message)
+      → ((ask : Ask) → ¬ AsksPadded blocks m ask) → ComesIn blocks old m given new → IsSame old m given new
+  pub outgoing : (blocks : List Ask) (new : Memory) (m given : Message)
+      → GoesOut blocks new_memory m given new → IsSame new_memory m given new
 
 -- ---- what is given on
 
@@ -116,6 +111,6 @@ pub record CanBeSent (m : Message) : Type 0 where
 -- can be sent where what came could be
 pub record GivenOnCanBeSent : Type 0 where
   pub incoming : (torrent : Metainfo) (old new : Memory) (m given : Message)
-      → CanBeSent m → ComesIn torrent old m given new → CanBeSent given
+      → CanBeSent m → ComesIn (short_blocks_of torrent) old m given new → CanBeSent given
   pub outgoing : (torrent : Metainfo) (old new : Memory) (m given : Message)
-      → CanBeSent m → GoesOut torrent old m given new → CanBeSent given
+      → CanBeSent m → GoesOut (short_blocks_of torrent) old m given new → CanBeSent given

@@ -1,13 +1,12 @@
-pub mod Blocks
+pub mod ShortBlocks
 pub mod Padding
 pub mod PaddingSteps
+pub mod Flow
 pub mod Law
-pub mod Half
-pub mod PlainSteps
 pub mod Translation
 pub mod TranslationSteps
 pub mod TranslationLaw
-pub mod Shared
+pub mod FrameSteps
 pub mod Reader
 pub mod ReaderSteps
 pub mod Writer

@@ -1,21 +1,20 @@
 -- What a peer sends, read as its engine is to get it.
 use Rattle.std.specs.Prelude.{◌≡◌, ℕ, ◌<◌, ◌≤◌, List, [], ◌++◌, Option, length, take}
 use Rattle.std.specs.Io.KnownBytes.{Consumes, IsAtEnd, Keeps}
-use Rattle.bt_wire.specs.Cutter.{Stream, new_stream}
-use Rattle.bt_meta.specs.Torrent.{Metainfo}
+use Rattle.bt_wire.specs.declared.message.Ask.{Ask}
 use Rattle.bt_padding.specs.declared.translation.Side.TheVariants.{Peer}
-use Rattle.bt_padding.specs.Shared.{ReceivesShared}
+use Rattle.bt_padding.specs.Flow.{Flow, new_flow}
+use Rattle.bt_padding.specs.Translation.{Receives}
 
--- the reader behind it, the torrent, what has come of the peer, and what of it is to be given yet
+-- the reader behind it, the short blocks, what has come of the peer, and what of it is to be given yet
 pub record ReaderState (R : Type 0) : Type 0 where
   pub inner : R
-  pub torrent : Metainfo
-  pub stream : Stream
+  pub blocks : List Ask
+  pub flow : Flow
   pub waiting : List ℕ
 
-abbrev pub new_reader : {R : Type 0} → R → Metainfo → ReaderState R
-new_reader inner torrent =
-    record { inner = inner; torrent = torrent; stream = new_stream; waiting = [] }
+abbrev pub new_reader : {R : Type 0} → R → (blocks : List Ask) → ReaderState R
+new_reader inner blocks = record { inner = inner; blocks = blocks; flow = new_flow; waiting = [] }
 
 -- how many bytes the reader behind gives at most at a time: a message with a whole block, and fewer requests
 -- of 17 bytes than are remembered
@@ -27,8 +26,8 @@ pub record TakesPart {R : Type 0} (remaining : R → Option (List ℕ)) (old : R
     (new : ReaderState R) : Type 0 where
   pub few : length part ≤ read_length
   pub lost : Consumes (remaining old.inner) (remaining new.inner) part
-  pub receives : ReceivesShared old.torrent Peer old.stream part new.stream old.waiting new.waiting
-  pub torrent : new.torrent ≡ old.torrent
+  pub receives : Receives old.blocks Peer old.flow part new.flow old.waiting new.waiting
+  pub blocks : new.blocks ≡ old.blocks
 
 -- these bytes, in parts
 pub data TakesParts {R : Type 0} (remaining : R → Option (List ℕ)) (first : ReaderState R)

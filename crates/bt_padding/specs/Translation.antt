@@ -1,76 +1,66 @@
 -- Bytes of one side in any parts, and what is given on of them to the other.
-use Rattle.std.specs.Prelude.{◌≡◌, ◌⊎◌, Bool, true, false, ℕ, List, [], ◌++◌}
+use Rattle.std.specs.Prelude.{◌≡◌, ◌⊎◌, ℕ, ◌-◌, Option, Some, None, List, [], ◌++◌, length, take}
 use Rattle.bt_wire.specs.Message.{message_spelling}
-use Rattle.bt_wire.specs.Cutter.{Stream, fed, Takes, Waits, Fails}
-use Rattle.bt_wire.specs.declared.message.Message.{Message as Sent}
-use Rattle.bt_wire.specs.declared.event.WireEvent.{WireEvent}
-use Rattle.bt_wire.specs.declared.event.WireEvent.TheVariants.{Hello, Message, Skipped}
-use Rattle.bt_wire.specs.declared.event.WireError.{WireError}
-use Rattle.bt_meta.specs.Torrent.{Metainfo}
-use Rattle.bt_padding.specs.Padding.{Memory, Greets, ComesIn, GoesOut}
+use Rattle.bt_wire.specs.Event.{IsSent, ShowsTooLong}
+use Rattle.bt_wire.specs.declared.message.Ask.{Ask}
+use Rattle.bt_wire.specs.declared.message.Message.{Message}
+use Rattle.bt_padding.specs.Padding.{Memory, ComesIn, GoesOut}
+use Rattle.bt_padding.specs.Flow.{IsFrame, Flow, flow, fed, Waits, endless}
 use Rattle.bt_padding.specs.declared.translation.Side.{Side}
 use Rattle.bt_padding.specs.declared.translation.Side.TheVariants.{Peer, Engine}
 
--- The bytes that are given on in place of an event's: those of the message that stands for it, or the same.
-abbrev pub Gives : Metainfo → Side → Memory → WireEvent → (bytes given : List ℕ) → Memory → Type 0
-Gives torrent Peer old (Message m) bytes given new =
-    (other : Sent) × ComesIn torrent old m other new × (given ≡ message_spelling other)
-Gives torrent Engine old (Message m) bytes given new =
-    (other : Sent) × GoesOut torrent old m other new × (given ≡ message_spelling other)
-Gives torrent Peer old (Hello handshake) bytes given new = Greets old handshake new × (given ≡ bytes)
-Gives torrent Engine old (Hello handshake) bytes given new = (new ≡ old) × (given ≡ bytes)
-Gives torrent Peer old (Skipped kind) bytes given new = (new ≡ old) × (given ≡ bytes)
-Gives torrent Engine old (Skipped kind) bytes given new = (new ≡ old) × (given ≡ bytes)
+-- the message that stands for one
+abbrev pub Stands : (blocks : List Ask) → Side → Memory → (m given : Message) → Memory → Type 0
+Stands blocks Peer old m given new = ComesIn blocks old m given new
+Stands blocks Engine old m given new = GoesOut blocks old m given new
 
--- what is remembered of the peer, and the bytes of one side that are not given on
+-- A frame that spells a message is given on as the spelling of the one that stands for it, and any other
+-- frame as it is.
+pub record Gives (blocks : List Ask) (side : Side) (old : Memory) (frame given : List ℕ) (new : Memory)
+    : Type 0 where
+  pub message : (m : Message) → IsSent m frame
+      → (other : Message) × Stands blocks side old m other new × (given ≡ message_spelling other)
+  pub bytes : ((m : Message) → ¬ IsSent m frame) → given ≡ frame
+  pub memory : ((m : Message) → ¬ IsSent m frame) → new ≡ old
+
+-- the spelling of the message that stands for a frame's, or the frame itself
+abbrev pub bytes_for : (frame : List ℕ) → Option Message → List ℕ
+bytes_for frame (Some m) = message_spelling m
+bytes_for frame None = frame
+
+-- what is remembered of the peer, and bytes that are not given on
 pub record Place : Type 0 where
   pub memory : Memory
-  pub stream : Stream
+  pub unread : List ℕ
 
-abbrev pub place : Memory → Stream → Place
-place memory stream = record { memory = memory; stream = stream }
+abbrev pub place : Memory → List ℕ → Place
+place memory unread = record { memory = memory; unread = unread }
 
--- Event by event these bytes are given on.
-pub data Translates (torrent : Metainfo) (side : Side) (first : Place) : List ℕ → Place → Type 0 where
-  begins : Translates torrent side first [] first
-  goes_on : (given run : List ℕ) (mid now : Place) (e : WireEvent) → Translates torrent side first given mid
-      → (takes : Takes mid.stream e now.stream) → Gives torrent side mid.memory e takes.bytes run now.memory
-      → Translates torrent side first (given ++ run) now
+-- From the first place to the last these bytes are given on, frame by frame.
+pub data Translates (blocks : List Ask) (side : Side) (last : Place) : Place → List ℕ → Type 0 where
+  done : Translates blocks side last last []
+  one_more : (first next : Place) (frame run given : List ℕ) → IsFrame frame
+      → first.unread ≡ frame ++ next.unread → Gives blocks side first.memory frame run next.memory
+      → Translates blocks side last next given → Translates blocks side last first (run ++ given)
 
--- no event is whole and no fault shows; or one does, and all bytes that are left are given on as they are
-abbrev pub Ends : Place → (behind : List ℕ) → Place → Type 0
-Ends old behind new =
-    (Waits old.stream × (behind ≡ []) × (new ≡ old))
-    ⊎ ((fault : WireError) × Fails old.stream fault new.stream × (behind ≡ old.stream.unread)
-    × (new.memory ≡ old.memory))
+-- No frame is whole, and what has come of it is kept; or a length field is above the limit, and all that is
+-- left passes, as all that comes will.
+abbrev pub Ends : (passing : ℕ) → (rest behind : List ℕ) → Flow → Type 0
+Ends passing rest behind left =
+    (Waits rest × (behind ≡ []) × (left ≡ flow passing rest))
+    ⊎ (ShowsTooLong rest × (behind ≡ rest) × (left ≡ flow endless []))
 
--- all events that are whole are given on, and at a fault what is left
-pub record IsTranslated (torrent : Metainfo) (side : Side) (old : Place) (given : List ℕ) (new : Place)
-    : Type 0 where
-  pub events : List ℕ
-  pub behind : List ℕ
-  pub last : Place
-  pub translates : Translates torrent side old events last
-  pub all : given ≡ events ++ behind
-  pub ends : Ends last behind new
-
--- after a fault all bytes are given on as they are
-abbrev pub GivesOn : Metainfo → Side → (failed : Bool) → Place → (bytes given : List ℕ) → Place → Type 0
-GivesOn torrent side true old bytes given new = (new ≡ old) × (given ≡ bytes)
-GivesOn torrent side false old bytes given new =
-    IsTranslated torrent side (record old { stream = fed old.stream bytes }) given new
-
--- bytes of a side come, and what is given on stands behind what the output held
-pub record Receives (torrent : Metainfo) (side : Side) (old : Place) (bytes : List ℕ) (new : Place)
+-- Bytes of a side come, and what is given on stands behind what the output held: what passes as it comes, and
+-- the frames that are whole then. The two directions of a connection share what is remembered: a call finds
+-- some memory and keeps some; of what becomes of it between two calls nothing is said, since no contract knows
+-- what a cell holds.
+pub record Receives (blocks : List Ask) (side : Side) (come : Flow) (bytes : List ℕ) (left : Flow)
     (held now : List ℕ) : Type 0 where
-  pub given : List ℕ
-  pub gives : GivesOn torrent side old.stream.failed old bytes given new
-  pub appended : now ≡ held ++ given
-
--- one event is given on, or there is none
-abbrev pub IsStep : Metainfo → Side → Place → (more : Bool) → Place → (held now : List ℕ) → Type 0
-IsStep torrent side old true new held now =
-    (e : WireEvent) × (run : List ℕ) × (takes : Takes old.stream e new.stream)
-    × Gives torrent side old.memory e takes.bytes run new.memory × (now ≡ held ++ run)
-IsStep torrent side old false new held now =
-    (behind : List ℕ) × Ends old behind new × (now ≡ held ++ behind)
+  pub found : Memory
+  pub kept : Memory
+  pub frames : List ℕ
+  pub rest : List ℕ
+  pub behind : List ℕ
+  pub translates : Translates blocks side (place kept rest) (place found (fed come bytes).unread) frames
+  pub ends : Ends (fed come bytes).passing rest behind left
+  pub appended : now ≡ held ++ take come.passing bytes ++ frames ++ behind

@@ -1,25 +1,37 @@
 -- What the steps of a translation say of each other. No public contract cites them.
-use Rattle.std.specs.Prelude.{◌≡◌, ◌++◌, Bool, List, ℕ}
-use Rattle.bt_wire.specs.Event.{IsEvent}
-use Rattle.bt_wire.specs.declared.message.Message.{Message as Sent}
-use Rattle.bt_wire.specs.declared.event.WireEvent.{WireEvent}
-use Rattle.bt_meta.specs.Torrent.{Metainfo}
-use Rattle.bt_padding.specs.Padding.{Memory, ComesIn, GoesOut}
-use Rattle.bt_padding.specs.Translation.{Place, IsTranslated}
+use Rattle.std.specs.Prelude.{◌≡◌, ℕ, ◌≤◌, List, ◌++◌, length, drop}
+use Rattle.bt_wire.specs.declared.message.Ask.{Ask}
 use Rattle.bt_padding.specs.declared.translation.Side.{Side}
-use Rattle.bt_padding.specs.declared.translation.Side.TheVariants.{Peer, Engine}
+use Rattle.bt_padding.specs.Padding.{Memory}
+use Rattle.bt_padding.specs.Flow.{Flow, new_flow}
+use Rattle.bt_padding.specs.Translation.{place, Gives, Translates, Ends}
 
--- the bytes are this event's
-abbrev pub IsEventOf : WireEvent → List ℕ → Type 0
-IsEventOf e bytes = (greeted : Bool) × IsEvent greeted e bytes
+-- where the bytes of a direction come from, the short blocks, and what has come
+pub record DirectionState : Type 0 where
+  pub side : Side
+  pub blocks : List Ask
+  pub flow : Flow
 
--- the message that stands for one
-abbrev pub GivesMessage : Metainfo → Side → Memory → (m given : Sent) → Memory → Type 0
-GivesMessage torrent Peer old m given new = ComesIn torrent old m given new
-GivesMessage torrent Engine old m given new = GoesOut torrent old m given new
+abbrev pub new_direction : Side → List Ask → DirectionState
+new_direction side blocks = record { side = side; blocks = blocks; flow = new_flow }
 
--- what is given on of the events of a place stands behind what the output held
-pub record GivesEvents (torrent : Metainfo) (side : Side) (old new : Place) (held now : List ℕ) : Type 0 where
-  pub given : List ℕ
-  pub translated : IsTranslated torrent side old given new
-  pub appended : now ≡ held ++ given
+-- what is given on in place of a frame stands behind what the output held
+abbrev pub GivesBehind : DirectionState → Memory → List ℕ → Memory → (held now : List ℕ) → Type 0
+GivesBehind d old frame new held now =
+    (run : List ℕ) × Gives d.blocks d.side old frame run new × (now ≡ held ++ run)
+
+-- the frames of the first so many bytes are given on
+pub record GivesFrames (d : DirectionState) (old : Memory) (taken : ℕ) (new : Memory) (held now : List ℕ)
+    : Type 0 where
+  pub inside : taken ≤ length d.flow.unread
+  pub frames : List ℕ
+  pub translates : Translates d.blocks d.side (place new (drop taken d.flow.unread)) (place old d.flow.unread)
+      frames
+  pub appended : now ≡ held ++ frames
+
+-- what is behind them is kept, or passes
+pub record IsKept (old : DirectionState) (taken : ℕ) (new : DirectionState) (held now : List ℕ) : Type 0 where
+  pub behind : List ℕ
+  pub ends : Ends old.flow.passing (drop taken old.flow.unread) behind new.flow
+  pub appended : now ≡ held ++ behind
+  pub others : new ≡ record old { flow = new.flow }

@@ -1,5 +1,10 @@
-ghost use Rattle.bt_padding.specs.Law.{RemembersShortBlocks, ZerosLieBehindTheEnd, PadsWhatWasAsked, PlainPassesThrough, GivenOnCanBeSent};
+ghost use Rattle.bt_padding.specs.Law.{ShortBlocksAreLast, RemembersShortBlocks, ZerosLieBehindTheEnd, PadsWhatWasAsked, PlainPassesThrough, GivenOnCanBeSent};
 ghost use Rattle.bt_padding.specs.TranslationLaw.{GivesStreams};
+
+/// The short blocks of a torrent are just the last blocks of its files that are short.
+pub fn short_blocks_are_last()
+    ensures { ShortBlocksAreLast }
+{}
 
 /// What is remembered of a peer are requests for short blocks.
 pub fn remembers_short_blocks()
@@ -17,8 +22,7 @@ pub fn pads_what_was_asked()
     ensures { PadsWhatWasAsked }
 {}
 
-/// What comes of a peer without padding passes as it is, and so does all that goes to a peer that has asked
-/// for no padding and is asked for none.
+/// What a peer sends that asks for no padding passes as it is, and so does all that goes to it.
 pub fn plain_passes_through()
     ensures { PlainPassesThrough }
 {}

@@ -6,22 +6,18 @@ ghost use Rattle.std.specs.IoError.{error_kind};
 ghost use Rattle.bt_padding.specs.Reader.{new_reader, IsFilled, IsGiven, IsRead, LosesNothing, IsInterrupted};
 ghost use Rattle.bt_padding.specs.ReaderSteps.{IsRefilled};
 
-use crate::half::Half;
 use crate::padding::Padding;
-use crate::plain::BLOCK_MESSAGE_LEN;
-use crate::shared::translate_shared;
-use crate::translation::Side;
-use bt_meta::Torrent;
+use crate::short_blocks::ShortBlocks;
+use crate::translation::{Direction, Side};
+use bt_tree::BLOCK_LEN;
 use std::alloc::Global;
 use std::cell::RefCell;
-use std::io;
-use std::io::{ErrorKind, Read};
+use std::io::{self, ErrorKind, Read};
 use std::marker::Model;
 
-/// The reader behind is asked for so many bytes at a time (`read_length`): a message with a whole block, so that
-/// those which come one behind the other are found whole. These hold fewer requests than are remembered, so none
-/// is forgotten before its engine gets it.
-const READ_LEN: usize = BLOCK_MESSAGE_LEN;
+/// The reader behind is asked for so many bytes at a time (`read_length`): a message with a whole block. These
+/// hold fewer requests than are remembered, so none is forgotten before its engine gets it.
+const READ_LEN: usize = 13 + BLOCK_LEN;
 
 /// A reader of what a peer sends, which gives what its engine is to get of it. What it remembers of the peer
 /// it shares with the writer of the same connection.
@@ -30,11 +26,8 @@ const READ_LEN: usize = BLOCK_MESSAGE_LEN;
 /// are no whole message when that reader ends are not given.
 #[derive(Drop)]
 pub struct PaddedReader<'a, R> {
-    alloc: Global,
     inner: R,
-    torrent: &'a Torrent,
-    padding: &'a RefCell<Padding>,
-    half: Half,
+    direction: Direction<'a>,
     incoming: [u8; READ_LEN],
     /// What was translated last; the first `given` bytes of it are given.
     outgoing: Vec<u8>,
@@ -42,32 +35,35 @@ pub struct PaddedReader<'a, R> {
 }
 
 impl<'a, R> Model for PaddedReader<'a, R> {
-    ghost use Rattle.std.specs.Prelude.{◌≤◌, drop, length};
+    ghost use Rattle.std.specs.Prelude.{◌≡◌, ◌≤◌, drop, length};
+    ghost use Rattle.bt_padding.specs.declared.translation.Side.TheVariants.{Peer};
     ghost use Rattle.bt_padding.specs.Reader.{ReaderState};
 
     ghost Value = { ReaderState R };
 
     ghost view = { λ r. record {
       inner = r.inner;
-      torrent = r.torrent.now;
-      stream = r.half.stream;
+      blocks = r.direction.blocks;
+      flow = r.direction.flow;
       waiting = drop r.given r.outgoing.items;
     } };
 
-    ghost invariant = { λ r. r.given ≤ length r.outgoing.items };
+    ghost invariant = { λ r. (r.given ≤ length r.outgoing.items) × (r.direction.side ≡ Peer) };
 }
 
 impl<'a, R> PaddedReader<'a, R> {
     /// A reader at a connection's begin. It takes no memory.
-    pub fn new(alloc: Global, inner: R, torrent: &'a Torrent, padding: &'a RefCell<Padding>) -> Self
-        ensures { result ≡ new_reader inner torrent.now }
+    pub fn new(
+        alloc: Global,
+        inner: R,
+        blocks: &'a ShortBlocks,
+        padding: &'a RefCell<Padding>,
+    ) -> Self
+        ensures { result ≡ new_reader inner blocks.now }
     {
         PaddedReader {
-            alloc,
             inner,
-            torrent,
-            padding,
-            half: Half::new(alloc),
+            direction: Direction::new(alloc, Side::Peer, blocks, padding),
             incoming: [0; READ_LEN],
             outgoing: Vec::new(alloc),
             given: 0,
@@ -106,15 +102,8 @@ impl<'a, R: Read> PaddedReader<'a, R> {
         self.outgoing.clear();
         self.given = 0;
         let count = self.inner.read(&mut self.incoming)?;
-        translate_shared(
-            self.alloc,
-            self.padding,
-            &mut self.half,
-            self.torrent,
-            Side::Peer,
-            &self.incoming[..count],
-            &mut self.outgoing,
-        )?;
+        let came = &self.incoming[..count];
+        self.direction.translate(came, &mut self.outgoing)?;
         Ok(count)
     }
 
@@ -126,10 +115,7 @@ impl<'a, R: Read> PaddedReader<'a, R> {
     {
         // A bound, so that it ends whatever the system gives.
         for _ in 0..u64::MAX {
-            if !self.is_empty() {
-                return Ok(());
-            }
-            if self.refill()? == 0 {
+            if !self.is_empty() || self.refill()? == 0 {
                 return Ok(());
             }
         }

@@ -1,19 +1,18 @@
 //! Bytes between a peer and an engine, in any parts.
-ghost use Rattle.std.specs.Prelude.{◌≡◌, ◌≤◌, ◌++◌, ℕ, Bool, true, List, length, take, IfOk, OnOk};
-ghost use Rattle.bt_wire.specs.Cutter.{fed};
-ghost use Rattle.bt_wire.specs.Event.{IsEvent};
-ghost use Rattle.bt_padding.specs.Law.{CanBeSent};
-ghost use Rattle.bt_padding.specs.Translation.{Gives, place, IsStep, Receives};
-ghost use Rattle.bt_padding.specs.TranslationSteps.{IsEventOf, GivesMessage, GivesEvents};
-ghost use Rattle.bt_padding.specs.PlainSteps.{PassAsTheyAre};
+ghost use Rattle.std.specs.Prelude.{◌≡◌, ◌≢◌, ◌≤◌, length, IfOk, IfErr, OnOk};
+ghost use Rattle.std.specs.IoError.{error_kind};
+ghost use Rattle.bt_padding.specs.Flow.{IsFrame};
+ghost use Rattle.bt_padding.specs.Translation.{Receives};
+ghost use Rattle.bt_padding.specs.TranslationSteps.{new_direction, GivesBehind, GivesFrames, IsKept};
 
-use crate::half::Half;
-use crate::law::given_on_can_be_sent;
+use crate::frame::{Front, front_of};
 use crate::padding::Padding;
-use crate::plain::plain_blocks;
-use bt_meta::Torrent;
-use bt_wire::{Message, WireError, WireEvent, write_message};
+use crate::short_blocks::ShortBlocks;
+use bt_wire::{HANDSHAKE_LEN, write_message};
 use std::alloc::{AllocError, Global};
+use std::cell::RefCell;
+use std::io::{self, ErrorKind};
+use std::marker::Model;
 
 /// Where bytes come from.
 #[derive(Clone, Copy, Debug, PartialEq, Eq)]
@@ -24,139 +23,116 @@ pub enum Side {
     Engine,
 }
 
-/// Takes bytes of a side, and puts behind `out` what is given on of them: each message as soon as it is
-/// whole. From a fault of the stream on all bytes go on as they are. `half` holds what the side has sent of a
-/// message that is not whole.
-///
-/// Errors: out of memory, and the connection is to be closed.
-pub fn translate(
+/// One direction of a connection. It shares what is remembered of the peer with the other.
+#[derive(Drop)]
+pub(crate) struct Direction<'a> {
     alloc: Global,
-    padding: &mut Padding,
-    half: &mut Half,
-    torrent: &Torrent,
     side: Side,
-    bytes: &[u8],
-    out: &mut Vec<u8>,
-) -> Result<(), AllocError>
-    ensures { OnOk result (Receives torrent.now side (place padding.old half.old.stream) bytes.now
-        (place padding.new half.new.stream) out.old.items out.new.items) }
-{
-    if half.has_failed() {
-        out.extend_from_slice(bytes)?;
-        return Ok(());
-    }
-    let passed = passing(half, torrent, bytes);
-    out.extend_from_slice(&bytes[..passed])?;
-    translate_events(alloc, padding, half, torrent, side, &bytes[passed..], out)
+    blocks: &'a ShortBlocks,
+    padding: &'a RefCell<Padding>,
+    /// How many bytes still pass as they come.
+    passing: usize,
+    /// What has come behind them of a frame that is not whole.
+    unread: Vec<u8>,
 }
 
-/// How many bytes in front are given on as they are, without a look at what is remembered: whole blocks, where
-/// a message may begin. So they are copied once.
-fn passing(half: &Half, torrent: &Torrent, bytes: &[u8]) -> usize
-    ensures within { result ≤ length bytes.now }
-    ensures pass { PassAsTheyAre torrent.now half.now.stream (take result bytes.now) }
-{
-    if half.is_between() {
-        plain_blocks(torrent, bytes)
-    } else {
-        0
-    }
+impl<'a> Model for Direction<'a> {
+    ghost use Rattle.bt_padding.specs.Flow.{flow};
+    ghost use Rattle.bt_padding.specs.TranslationSteps.{DirectionState};
+
+    ghost Value = { DirectionState };
+
+    ghost view = { λ d.
+        record { side = d.side; blocks = d.blocks.now; flow = flow d.passing d.unread.items } };
 }
 
-/// Takes bytes of a side that has shown no fault, and gives on each event as soon as it is whole, or what is
-/// left where a fault shows. Errors: out of memory.
-fn translate_events(
-    alloc: Global,
-    padding: &mut Padding,
-    half: &mut Half,
-    torrent: &Torrent,
-    side: Side,
-    bytes: &[u8],
-    out: &mut Vec<u8>,
-) -> Result<(), AllocError>
-    ensures { OnOk result (GivesEvents torrent.now side (place padding.old (fed half.old.stream bytes.now))
-        (place padding.new half.new.stream) out.old.items out.new.items) }
-{
-    // The stream has not failed, so it is memory that is refused.
-    let Ok(()) = half.feed(bytes) else {
-        return Err(AllocError);
-    };
-    while step(alloc, padding, half, torrent, side, out)? {}
-    Ok(())
-}
-
-/// Gives on one event: false where none is whole, or where a fault shows, behind which all goes on. Errors:
-/// out of memory; or the stream has failed before, which its caller looks at first.
-fn step(
-    alloc: Global,
-    padding: &mut Padding,
-    half: &mut Half,
-    torrent: &Torrent,
-    side: Side,
-    out: &mut Vec<u8>,
-) -> Result<bool, AllocError>
-    ensures { IfOk result (λ more. IsStep torrent.now side (place padding.old half.old.stream) more
-        (place padding.new half.new.stream) out.old.items out.new.items) }
-{
-    match half.next() {
-        Ok(Some(event)) => {
-            give_on(alloc, padding, torrent, side, event, half.last(), out)?;
-            Ok(true)
-        }
-        Ok(None) => Ok(false),
-        Err(WireError::OutOfMemory | WireError::Failed) => Err(AllocError),
-        Err(_) => {
-            out.extend_from_slice(half.unread())?;
-            Ok(false)
+impl<'a> Direction<'a> {
+    /// Nothing has come yet. It takes no memory.
+    pub(crate) fn new(
+        alloc: Global,
+        side: Side,
+        blocks: &'a ShortBlocks,
+        padding: &'a RefCell<Padding>,
+    ) -> Self
+        ensures { result ≡ new_direction side blocks.now }
+    {
+        Direction {
+            alloc,
+            side,
+            blocks,
+            padding,
+            passing: HANDSHAKE_LEN,
+            unread: Vec::new(alloc),
         }
     }
-}
 
-/// Gives on what stands for an event. Errors: out of memory.
-fn give_on(
-    alloc: Global,
-    padding: &mut Padding,
-    torrent: &Torrent,
-    side: Side,
-    event: WireEvent,
-    bytes: &[u8],
-    out: &mut Vec<u8>,
-) -> Result<(), AllocError>
-    requires { IsEventOf event bytes.now }
-    ensures { OnOk result ((run : List ℕ) × Gives torrent.now side padding.old event bytes.now run padding.new
-        × (out.new.items ≡ out.old.items ++ run)) }
-{
-    match event {
-        WireEvent::Message(message) => {
-            let given = message_for(padding, torrent, side, message)?;
-            let spelling = write_message(alloc, &given)?;
-            out.extend_from_slice(spelling.as_slice())
-        }
-        WireEvent::Hello(handshake) => {
-            if side == Side::Peer {
-                padding.greet(&handshake);
-            }
-            out.extend_from_slice(bytes)
-        }
-        WireEvent::Skipped(_) => out.extend_from_slice(bytes),
+    /// Takes bytes, and puts behind `out` what is given on of them: a handshake's as they come, and each
+    /// message as soon as it is whole. Behind a length field that is too long all passes as it comes.
+    ///
+    /// Errors: out of memory; what is remembered is in use, which no call of this crate brings about. Then the
+    /// connection is to be closed.
+    pub(crate) fn translate(&mut self, bytes: &[u8], out: &mut Vec<u8>) -> io::Result<()>
+        ensures receives { OnOk result (Receives self.old.blocks self.old.side self.old.flow bytes.now
+            self.new.flow out.old.items out.new.items) }
+        ensures others { OnOk result (self.new ≡ record self.old { flow = self.new.flow }) }
+        ensures not_again { IfErr result (λ error. error_kind error ≢ ErrorKind.Interrupted) }
+    {
+        let (front, behind) = bytes.split_at(self.passing.min(bytes.len()));
+        out.extend_from_slice(front)?;
+        self.passing -= front.len();
+        self.unread.extend_from_slice(behind)?;
+        let mut guard = self.padding.try_borrow_mut()?;
+        let taken = self.give_frames(&mut *guard, out)?;
+        self.keep(taken, out)?;
+        Ok(())
     }
-}
 
-/// The message that stands for one. Errors: out of memory.
-fn message_for(
-    padding: &mut Padding,
-    torrent: &Torrent,
-    side: Side,
-    message: Message,
-) -> Result<Message, AllocError>
-    requires { CanBeSent message }
-    ensures given { IfOk result (λ given.
-        GivesMessage torrent.now side padding.old message given padding.new) }
-    ensures can_be_sent { IfOk result (λ given. CanBeSent given) }
-{
-    given_on_can_be_sent();
-    match side {
-        Side::Peer => Ok(padding.incoming(torrent, message)),
-        Side::Engine => padding.outgoing(torrent, message),
+    /// Gives on the frames that are whole, and tells how many bytes they have. Errors: out of memory.
+    fn give_frames(&self, padding: &mut Padding, out: &mut Vec<u8>) -> Result<usize, AllocError>
+        ensures { IfOk result (λ taken.
+            GivesFrames self.now padding.old taken padding.new out.old.items out.new.items) }
+    {
+        let mut taken = 0;
+        'frames: while let Front::Frame(len) = front_of(&self.unread[taken..]) {
+            self.give_on(padding, &self.unread[taken..taken + len], out)?;
+            taken += len;
+        }
+        Ok(taken)
+    }
+
+    /// Gives on what stands for a frame. Errors: out of memory.
+    fn give_on(
+        &self,
+        padding: &mut Padding,
+        frame: &[u8],
+        out: &mut Vec<u8>,
+    ) -> Result<(), AllocError>
+        requires { IsFrame frame.now }
+        ensures { OnOk result (GivesBehind self.now padding.old frame.now padding.new out.old.items out.new.items) }
+    {
+        let other = match self.side {
+            Side::Peer => padding.incoming(self.blocks, frame),
+            Side::Engine => padding.outgoing(self.alloc, self.blocks, frame)?,
+        };
+        match other {
+            Some(message) => out.extend_from_slice(write_message(self.alloc, &message)?.as_slice()),
+            None => out.extend_from_slice(frame),
+        }
+    }
+
+    /// Keeps what is left behind the first so many bytes, or lets it pass. Errors: out of memory.
+    fn keep(&mut self, taken: usize, out: &mut Vec<u8>) -> Result<(), AllocError>
+        requires { taken ≤ length self.old.flow.unread }
+        ensures { OnOk result (IsKept self.old taken self.new out.old.items out.new.items) }
+    {
+        let rest = &self.unread[taken..];
+        if let Front::TooLong = front_of(rest) {
+            out.extend_from_slice(rest)?;
+            self.passing = usize::MAX;
+            self.unread.clear();
+        } else {
+            self.unread = Vec::from_slice(self.alloc, rest)?;
+        }
+        Ok(())
     }
 }

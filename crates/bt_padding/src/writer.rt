@@ -5,15 +5,12 @@ ghost use Rattle.std.specs.Io.KnownBytes.{Keeps, WriteAppends};
 ghost use Rattle.std.specs.IoError.{error_kind};
 ghost use Rattle.bt_padding.specs.Writer.{new_writer, IsFlushed, IsWritten};
 
-use crate::half::Half;
 use crate::padding::Padding;
-use crate::shared::translate_shared;
-use crate::translation::Side;
-use bt_meta::Torrent;
+use crate::short_blocks::ShortBlocks;
+use crate::translation::{Direction, Side};
 use std::alloc::Global;
 use std::cell::RefCell;
-use std::io;
-use std::io::{ErrorKind, Write};
+use std::io::{self, ErrorKind, Write};
 use std::marker::Model;
 
 /// A writer of what an engine sends, which writes what its peer is to get of it. What it remembers of the
@@ -23,34 +20,37 @@ use std::marker::Model;
 /// written to the writer behind.
 #[derive(Drop)]
 pub struct PaddedWriter<'a, W> {
-    alloc: Global,
     inner: W,
-    torrent: &'a Torrent,
-    padding: &'a RefCell<Padding>,
-    half: Half,
+    direction: Direction<'a>,
     /// What is given on of one write.
     outgoing: Vec<u8>,
 }
 
 impl<'a, W> Model for PaddedWriter<'a, W> {
+    ghost use Rattle.std.specs.Prelude.{◌≡◌};
+    ghost use Rattle.bt_padding.specs.declared.translation.Side.TheVariants.{Engine};
     ghost use Rattle.bt_padding.specs.Writer.{WriterState};
 
     ghost Value = { WriterState W };
 
-    ghost view = { λ w. record { inner = w.inner; torrent = w.torrent.now; stream = w.half.stream } };
+    ghost view = { λ w. record { inner = w.inner; blocks = w.direction.blocks; flow = w.direction.flow } };
+
+    ghost invariant = { λ w. w.direction.side ≡ Engine };
 }
 
 impl<'a, W> PaddedWriter<'a, W> {
     /// A writer at a connection's begin. It takes no memory.
-    pub fn new(alloc: Global, inner: W, torrent: &'a Torrent, padding: &'a RefCell<Padding>) -> Self
-        ensures { result ≡ new_writer inner torrent.now }
+    pub fn new(
+        alloc: Global,
+        inner: W,
+        blocks: &'a ShortBlocks,
+        padding: &'a RefCell<Padding>,
+    ) -> Self
+        ensures { result ≡ new_writer inner blocks.now }
     {
         PaddedWriter {
-            alloc,
             inner,
-            torrent,
-            padding,
-            half: Half::new(alloc),
+            direction: Direction::new(alloc, Side::Engine, blocks, padding),
             outgoing: Vec::new(alloc),
         }
     }
@@ -67,15 +67,7 @@ impl<'a, W: Write> Write for PaddedWriter<'a, W> {
         ensures not_again { IfErr result (λ error. error_kind error ≢ ErrorKind.Interrupted) }
     {
         self.outgoing.clear();
-        translate_shared(
-            self.alloc,
-            self.padding,
-            &mut self.half,
-            self.torrent,
-            Side::Engine,
-            bytes,
-            &mut self.outgoing,
-        )?;
+        self.direction.translate(bytes, &mut self.outgoing)?;
         match self.inner.write_all(self.outgoing.as_slice()) {
             Ok(()) => Ok(bytes.len()),
             Err(_) => Err(io::Error::from(ErrorKind::BrokenPipe)),

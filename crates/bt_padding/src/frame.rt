@@ -1,0 +1,87 @@
+//! Frames of a stream, and those of them that are requests and pieces (BEP 3).
+ghost use Rattle.std.specs.Prelude.{ℕ, List, IfSome, IfNone};
+ghost use Rattle.bt_wire.specs.Event.{IsSent};
+ghost use Rattle.bt_wire.specs.declared.message.Ask.{Ask};
+ghost use Rattle.bt_wire.specs.declared.message.Message.TheVariants.{Request, Piece};
+ghost use Rattle.bt_padding.specs.Flow.{IsFrame};
+ghost use Rattle.bt_padding.specs.FrameSteps.{IsFront, IsPieceOf};
+
+use bt_hashreq::number_at;
+use bt_wire::Ask;
+
+/// The greatest length field of a frame that is kept until it is whole (`max_length_field` of `bt_wire`).
+const MAX_LENGTH_FIELD: usize = 1 << 20;
+
+/// How a request begins: 13 bytes follow its length, of which the first is its kind, 6.
+const REQUEST_HEAD: [u8; 5] = [0, 0, 0, 13, 6];
+
+/// How many bytes a request has.
+const REQUEST_LEN: usize = 17;
+
+/// The kind of a piece.
+const PIECE: u8 = 7;
+
+/// How many bytes of a piece stand before its block's: length field, kind, piece and begin.
+const PIECE_HEAD_LEN: usize = 13;
+
+/// What bytes begin with.
+#[derive(Drop)]
+pub(crate) enum Front {
+    /// A frame of so many bytes.
+    Frame(usize),
+    /// No frame that is whole.
+    Part,
+    /// A length field above the limit.
+    TooLong,
+}
+
+/// What the bytes begin with.
+pub(crate) fn front_of(bytes: &[u8]) -> Front
+    ensures { IsFront bytes.now result }
+{
+    if bytes.len() < 4 {
+        return Front::Part;
+    }
+    let field = number_at(bytes, 0) as usize;
+    if field > MAX_LENGTH_FIELD {
+        Front::TooLong
+    } else if field > bytes.len() - 4 {
+        Front::Part
+    } else {
+        Front::Frame(4 + field)
+    }
+}
+
+/// The request that a frame is.
+pub(crate) fn read_request(frame: &[u8]) -> Option<Ask>
+    ensures some { IfSome result (λ ask. IsSent (Request ask) frame.now) }
+    ensures none { IfNone result ((ask : Ask) → ¬ IsSent (Request ask) frame.now) }
+{
+    if frame.len() != REQUEST_LEN || !frame.starts_with(&REQUEST_HEAD) {
+        return None;
+    }
+    Some(Ask {
+        piece: number_at(frame, 5),
+        begin: number_at(frame, 9),
+        length: number_at(frame, 13),
+    })
+}
+
+/// Where the block of the piece lies that a frame is, and the block.
+pub(crate) fn read_piece(frame: &[u8]) -> Option<(Ask, &[u8])>
+    requires { IsFrame frame.now }
+    ensures some { IfSome result (λ found. IsPieceOf frame.now found.0 found.1.now) }
+    ensures none { IfNone result ((piece begin : ℕ) (bytes : List ℕ)
+        → ¬ IsSent (Piece piece begin bytes) frame.now) }
+{
+    if frame.len() < PIECE_HEAD_LEN || frame[4] != PIECE {
+        return None;
+    }
+    let block = &frame[PIECE_HEAD_LEN..];
+    let ask = Ask {
+        piece: number_at(frame, 5),
+        begin: number_at(frame, 9),
+        length: block.len() as u32,
+    };
+    Some((ask, block))
+}
