@@ -113,7 +113,7 @@ module _ {D : Type 0} (history : D → History) (honest : D → Type 0) (faults 
       → slice_get last.disks number ≡ Some disk → IsPublishedOn history honest dig file disk
   published_on sizes torrent given first last events calls answers lawful starts devices run shaped number file None listed done there =
       (devices.empty number file listed).0 (none_before first.state last.state events calls answers first.disks last.disks number run there)
-  published_on sizes torrent given first last events calls answers lawful starts devices run shaped number file (Some d) listed done there honest_now =
+  published_on sizes torrent given first last events calls answers lawful starts devices run shaped number file (Some d) listed done there = λ honest_now.
       let some : 0 < file.length = positive file.length (λ empty. (let gone = none_after first.state last.state events calls answers first.disks last.disks number run
       ((devices.empty number file listed).1 empty) in absurd cc)) in
       let lt : number < length last.state.files = rw shaped.count (some_below torrent.files number listed) in
