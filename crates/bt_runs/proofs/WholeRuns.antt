@@ -7,7 +7,7 @@ use Rattle.bt_store.proofs.AdoptionMarks.{adopt_marks}
 use Rattle.std.specs.List.{list_all}
 use Rattle.bt_disk.specs.State.{IsImage}
 use Rattle.bt_store.specs.BlockStates.{is_marked}
-use Rattle.bt_machine.proofs.Base.{[], ◌≡◌, ℕ, zero, suc, ◌<◌, true, List, ◌∷◌, ◌++◌, length, replicate, Option, Some, None, refl, sym, ap, ◌∙◌, subst, arith, slice_get, History, IsDigest, File, Metainfo, IsLawful, BlockState, Missing, Waiting, Marked, BlockId, block_count}
+use Rattle.bt_machine.proofs.Base.{[], ◌≡◌, ℕ, zero, suc, ◌<◌, true, List, ◌∷◌, ◌++◌, length, replicate, Option, Some, None, refl, sym, ap, ◌∙◌, arith, slice_get, History, IsDigest, File, Metainfo, IsLawful, BlockState, Missing, Waiting, Marked, BlockId, block_count}
 use Rattle.bt_machine.specs.Blocks.{block_id, is_complete}
 use Rattle.bt_machine.specs.Shape.{IsShaped}
 use Rattle.bt_machine.specs.Start.{AreDevicesOf}
