@@ -1,0 +1,7 @@
+pub mod LastBlocks
+pub mod Messages
+pub mod Sendable
+pub mod Frames
+pub mod Streams
+pub mod Giving
+pub mod Passages

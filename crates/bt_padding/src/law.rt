@@ -1,6 +1,8 @@
 ghost use Rattle.bt_padding.specs.Law.{ShortBlocksAreLast, RemembersShortBlocks, ZerosLieBehindTheEnd, PadsWhatWasAsked, PlainPassesThrough, GivenOnCanBeSent};
 ghost use Rattle.bt_padding.specs.TranslationLaw.{GivesStreams};
 
+use bt_wire::streams_have_one_reading;
+
 /// The short blocks of a torrent are just the last blocks of its files that are short.
 pub fn short_blocks_are_last()
     ensures { ShortBlocksAreLast }
@@ -35,4 +37,6 @@ pub fn given_on_can_be_sent()
 /// Where whole events came, as many whole events are given on, and nothing else.
 pub fn gives_streams()
     ensures { GivesStreams }
-{}
+{
+    streams_have_one_reading();
+}

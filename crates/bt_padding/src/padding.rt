@@ -109,7 +109,7 @@ impl Padding {
         if short.length != ask.length {
             return None;
         }
-        self.asked.iter().position(|asked| *asked == ask)
+        first_index(&self.asked, ask)
     }
 
     /// Remembers a request; beyond the limit the oldest is forgotten.
@@ -122,6 +122,19 @@ impl Padding {
         // There is room.
         let _ = self.asked.push(ask);
     }
+}
+
+/// Where the request stands first.
+fn first_index(asked: &[Ask], ask: Ask) -> Option<usize>
+    ensures some { IfSome result (IsFirstAt asked.now ask) }
+    ensures none { IfNone result (¬ Contains asked.now ask) }
+{
+    for (index, other) in asked.iter().enumerate() {
+        if *other == ask {
+            return Some(index);
+        }
+    }
+    None
 }
 
 /// With zeros behind, up to the length of a block. Errors: out of memory.

@@ -34,6 +34,7 @@ impl ShortBlocks {
         ensures of_torrent { IfOk result (λ blocks. blocks ≡ short_blocks_of torrent.now) }
         ensures few { IfOk result (λ blocks. length blocks ≤ max_file_count) }
     {
+        torrent.keeps_laws();
         let files = torrent.files();
         let mut blocks = Vec::new(alloc);
         for file in 0..files.len() as u32 {
@@ -58,11 +59,9 @@ impl ShortBlocks {
             → result ≡ Some ask }
     {
         let index = self.blocks.partition_point(|ask| ask.piece < piece);
-        let ask = *self.blocks.get(index)?;
-        if ask.piece == piece && ask.begin == begin {
-            Some(ask)
-        } else {
-            None
+        match self.blocks.get(index) {
+            Some(ask) if ask.piece == piece && ask.begin == begin => Some(*ask),
+            _ => None,
         }
     }
 }

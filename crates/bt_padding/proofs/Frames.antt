@@ -1,0 +1,64 @@
+-- Frames at the front of a list of bytes.
+use Rattle.std.proofs.Common.{◌≡◌, ◌≤◌, ◌<◌, ◌+◌, ◌^◌, ℕ, List, ◌++◌, take, drop, length, refl, sym, ◌∙◌, ap, arith, length-append, length-drop, length-take}
+use Rattle.std.specs.Int.{w32, to_be_bytes, from_be_bytes}
+use Rattle.std.proofs.lemmas.List.{append_assoc, take_at, drop_at}
+use Rattle.std.proofs.lemmas.Nat.{from_be_bytes-to_be_bytes_4}
+use lib.Seq.{take-add}
+use Rattle.bt_wire.specs.Limits.{max_length_field}
+use Rattle.bt_padding.specs.Flow.{IsFrame}
+use Rattle.bt_padding.specs.FrameSteps.{BeginsFrame}
+
+-- the number that the first four bytes spell
+first_number : List ℕ → ℕ
+first_number bytes = from_be_bytes w32 (take 4 bytes)
+
+number_at_front : (n : ℕ) (rest : List ℕ) → n < 2 ^ 32 → first_number (to_be_bytes w32 n ++ rest) ≡ n
+unfolding first_number
+number_at_front n rest fits = from_be_bytes-to_be_bytes_4 n fits
+
+pub same_number : (n m : ℕ) (r s : List ℕ) → n < 2 ^ 32 → m < 2 ^ 32 → to_be_bytes w32 n ++ r ≡ to_be_bytes w32 m ++ s → n ≡ m
+same_number n m r s n-fits m-fits e = sym (number_at_front n r n-fits) ∙ ap first_number e ∙ number_at_front m s m-fits
+
+-- a frame has a length field at least
+pub frame_long : (frame : List ℕ) → IsFrame frame → 4 ≤ length frame
+frame_long frame is =
+    let size = ap length is.spelled ∙ length-append (to_be_bytes w32 (length is.body)) is.body in
+    omega (arith, size)
+
+-- two frames at the front of one list are one
+pub record AreOne (p q r s : List ℕ) : Type 0 where
+  pub frame : p ≡ q
+  pub rest : r ≡ s
+
+pub one_frame : (p q r s : List ℕ) → IsFrame p → IsFrame q → p ++ r ≡ q ++ s → AreOne p q r s
+one_frame p q r s p-is q-is same =
+    let left : p ++ r ≡ to_be_bytes w32 (length p-is.body) ++ (p-is.body ++ r)
+    = ap (λ (xs : List ℕ). xs ++ r) p-is.spelled ∙ append_assoc (to_be_bytes w32 (length p-is.body)) p-is.body r in
+    let right : q ++ s ≡ to_be_bytes w32 (length q-is.body) ++ (q-is.body ++ s)
+    = ap (λ (xs : List ℕ). xs ++ s) q-is.spelled ∙ append_assoc (to_be_bytes w32 (length q-is.body)) q-is.body s in
+    let p-fits : length p-is.body < 2 ^ 32 = let l = p-is.limit in omega arith in
+    let q-fits : length q-is.body < 2 ^ 32 = let l = q-is.limit in omega arith in
+    let size : length p-is.body ≡ length q-is.body
+    = same_number (length p-is.body) (length q-is.body) (p-is.body ++ r) (q-is.body ++ s) p-fits q-fits (sym left ∙ same ∙ right) in
+    let long : length p ≡ length q
+    = ap length p-is.spelled ∙ length-append (to_be_bytes w32 (length p-is.body)) p-is.body
+        ∙ ap (λ n. 4 + n) size ∙ sym (ap length q-is.spelled ∙ length-append (to_be_bytes w32 (length q-is.body)) q-is.body) in
+    record {
+      frame = sym (take_at p r (length p) refl) ∙ ap (λ (xs : List ℕ). take (length p) xs) same ∙ take_at q s (length p) (sym long);
+      rest = sym (drop_at p r (length p) refl) ∙ ap (λ (xs : List ℕ). drop (length p) xs) same ∙ drop_at q s (length p) (sym long);
+    }
+
+-- bytes that begin with a length field and have as many behind it begin with a frame
+pub begins_frame : (bytes : List ℕ) (n : ℕ) → to_be_bytes w32 n ≡ take 4 (drop 0 bytes) → n ≤ max_length_field → 4 + n ≤ length bytes
+    → BeginsFrame bytes (4 + n)
+begins_frame bytes n field few inside =
+    let size : length (take n (drop 4 bytes)) ≡ n = omega (arith, length-take n (drop 4 bytes), length-drop 4 bytes) in
+    record {
+      inside = inside;
+      frame = record {
+        body = take n (drop 4 bytes);
+        limit = omega (arith, size, few);
+        spelled = take-add 4 n bytes ∙ ap (λ (xs : List ℕ). xs ++ take n (drop 4 bytes)) (sym field)
+            ∙ ap (λ m. to_be_bytes w32 m ++ take n (drop 4 bytes)) (sym size);
+      };
+    }
