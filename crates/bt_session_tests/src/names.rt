@@ -5,7 +5,7 @@ use bt_sockets::{IDLE_SECONDS, Passage, TcpLink, listen, port_of};
 use std::alloc::Global;
 use std::io::{self, ErrorKind};
 use std::net::{Ipv4Addr, Net, OpenListener, SocketAddr};
-use std::time::Duration;
+use std::time::{Clock, Duration};
 
 const HOST: &str = "127.0.0.1";
 
@@ -48,6 +48,16 @@ impl Net for Names<'_> {
         let count = found.len().min(all.len());
         found[..count].copy_from_slice(&all[..count]);
         Ok(count)
+    }
+}
+
+impl Clock for Names<'_> {
+    fn monotonic(&self) -> io::Result<Duration> {
+        self.host.monotonic()
+    }
+
+    fn since_1970(&self) -> io::Result<Duration> {
+        self.host.since_1970()
     }
 }
 

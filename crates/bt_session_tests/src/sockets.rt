@@ -3,6 +3,7 @@ ghost use Rattle.std.specs.Prelude.{◌≡◌};
 
 use crate::engine::TestEngine;
 use crate::names::is_name_reached;
+use crate::plays::play_row;
 use crate::sessions::tell_end;
 use bt_meta::Torrent;
 use bt_padding::ShortBlocks;
@@ -22,6 +23,10 @@ type Listener = <HostRuntime as Net>::Listener;
 
 type Stream = <HostRuntime as Net>::Stream;
 
+type Reader<'a> = StreamReader<'a, Stream, HostRuntime>;
+
+type Writer<'a> = StreamWriter<'a, Stream, HostRuntime>;
+
 /// What stands between sockets and an engine.
 #[derive(Drop)]
 struct Site<'a> {
@@ -35,8 +40,8 @@ fn patience() -> Duration {
     Duration::from_secs(IDLE_SECONDS)
 }
 
-/// Adds what a row answers: whether a closed port is reached, or a name of several addresses, a byte that goes there and back, whether requests wait to be sent, or what
-/// comes of so many milliseconds of silence.
+/// Adds what a row answers: whether a closed port is reached, or a name of several addresses, a byte that goes there and back, whether
+/// requests wait to be sent, what comes of so many milliseconds of silence, or of a peer that takes its time.
 pub fn socket_row<'a>(
     net: &'a HostRuntime,
     alloc: Global,
@@ -56,8 +61,8 @@ pub fn socket_row<'a>(
         alloc,
         passage,
     };
-    let (name, number) = row.split_once(' ').unwrap_or((row, "0"));
-    let number = number.parse::<u8>().unwrap_or(0);
+    let (name, rest) = row.split_once(' ').unwrap_or((row, "0"));
+    let number = rest.parse::<u8>().unwrap_or(0);
     let idle = Duration::from_millis(number as u64);
     match name {
         "closed" => tell_reached(out, is_closed_reached(&site)),
@@ -73,6 +78,7 @@ pub fn socket_row<'a>(
         } else {
             "not given up\n"
         }),
+        "play" => play_row(alloc, passage, engine, rest, out),
         "serve" => tell_served(out, silent_end(&site, engine, idle)),
         _ => out.push_str("no socket\n"),
     }
@@ -97,7 +103,7 @@ fn dialled<'a>(
     site: &Site<'a>,
     port: u16,
     idle: Duration,
-) -> Option<(StreamReader<'a, Stream>, StreamWriter<'a, Stream>)> {
+) -> Option<(Reader<'a>, Writer<'a>)> {
     link(site, port, idle).dial()
 }
 

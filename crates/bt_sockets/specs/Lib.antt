@@ -2,4 +2,5 @@ pub mod Link
 pub mod Stream
 pub mod StreamSteps
 pub mod Listener
+pub mod ListenerSteps
 pub mod Requests

@@ -6,17 +6,18 @@ ghost use Rattle.bt_sockets.specs.Stream.{AreNew};
 ghost use Rattle.bt_sockets.specs.StreamSteps.{IsAddressOf};
 
 use crate::passage::Passage;
-use crate::stream::{StreamReader, StreamWriter, both_ways, connected};
+use crate::stream::{StreamReader, StreamWriter, Terms, both_ways, connected};
+use crate::timing::Role;
 use bt_peers::Link;
 use std::alloc::Global;
 use std::io;
 use std::marker::Model;
 use std::net::{Net, SocketAddr};
-use std::time::Duration;
+use std::time::{Clock, Duration};
 
 /// A peer at a port of a host, which is a name or an address.
 #[derive(Drop)]
-pub struct TcpLink<'a, R: Net> {
+pub struct TcpLink<'a, R: Net + Clock> {
     alloc: Global,
     net: &'a R,
     host: &'a str,
@@ -29,13 +30,13 @@ pub struct TcpLink<'a, R: Net> {
 
 /// A connection to a peer: what is read from it, what is written to it, and the address that was dialled.
 #[derive(Drop)]
-struct Connection<'a, S> {
-    reader: StreamReader<'a, S>,
-    writer: StreamWriter<'a, S>,
+struct Connection<'a, S, C> {
+    reader: StreamReader<'a, S, C>,
+    writer: StreamWriter<'a, S, C>,
     address: SocketAddr,
 }
 
-impl<'a, R: Net> Model for TcpLink<'a, R> {
+impl<'a, R: Net + Clock> Model for TcpLink<'a, R> {
     ghost use Rattle.std.specs.Prelude.{◌≤◌};
     ghost use Rattle.bt_sockets.specs.Link.{Dials};
 
@@ -52,7 +53,7 @@ impl<'a, R: Net> Model for TcpLink<'a, R> {
     ghost invariant = { λ a. a.failures ≤ a.dials };
 }
 
-impl<'a, R: Net> TcpLink<'a, R> {
+impl<'a, R: Net + Clock> TcpLink<'a, R> {
     /// A link that was not dialled yet. A peer that is idle for so long is given up; no time at all is
     /// refused at each dial. Links that are dialled in turn may share their passage.
     pub fn new(
@@ -78,14 +79,18 @@ impl<'a, R: Net> TcpLink<'a, R> {
     }
 
     /// Connects to the peer. Errors: it is not reached.
-    fn connect(&self) -> io::Result<Connection<'a, R::Stream>>
+    fn connect(&self) -> io::Result<Connection<'a, R::Stream, R>>
         ensures address { IfOk result
             (λ connection. IsAddressOf self.now.host self.now.port connection.address) }
         ensures new { IfOk result
             (λ connection. AreNew self.now.short_blocks connection.reader connection.writer) }
     {
         let (stream, address) = connected(self.net, self.host, self.port)?;
-        let (reader, writer) = both_ways(self.alloc, stream, self.idle, self.passage)?;
+        let terms = Terms {
+            role: Role::Fetch,
+            idle: self.idle,
+        };
+        let (reader, writer) = both_ways(self.alloc, self.net, stream, terms, self.passage)?;
         Ok(Connection {
             reader,
             writer,
@@ -94,7 +99,7 @@ impl<'a, R: Net> TcpLink<'a, R> {
     }
 
     /// Dials the peer, and counts that: None where it is not reached.
-    fn reach(&mut self) -> Option<Connection<'a, R::Stream>>
+    fn reach(&mut self) -> Option<Connection<'a, R::Stream, R>>
         requires few { self.old.all < 2 ^ 64 - 1 }
         ensures counted { self.new.all ≡ self.old.all + 1 }
         ensures failed { self.new.failed ≡ self.old.failed + failure_count result }
@@ -117,10 +122,10 @@ impl<'a, R: Net> TcpLink<'a, R> {
 }
 
 // Nothing is said of what a socket gives. Nothing has come of it yet where a dial gives it.
-impl<'a, R: Net> Link for TcpLink<'a, R> {
-    type R = StreamReader<'a, R::Stream>;
+impl<'a, R: Net + Clock> Link for TcpLink<'a, R> {
+    type R = StreamReader<'a, R::Stream, R>;
 
-    type W = StreamWriter<'a, R::Stream>;
+    type W = StreamWriter<'a, R::Stream, R>;
 
     ghost dials = { λ link. link.all };
 
@@ -128,7 +133,7 @@ impl<'a, R: Net> Link for TcpLink<'a, R> {
 
     ghost gives = { λ link reader writer. AreNew link.short_blocks reader writer };
 
-    fn dial(&mut self) -> Option<(StreamReader<'a, R::Stream>, StreamWriter<'a, R::Stream>)> {
+    fn dial(&mut self) -> Option<(StreamReader<'a, R::Stream, R>, StreamWriter<'a, R::Stream, R>)> {
         let Connection { reader, writer, .. } = self.reach()?;
         Some((reader, writer))
     }

@@ -1,23 +1,44 @@
 //! The socket at which peers are waited for.
-ghost use Rattle.std.specs.Prelude.{[], ◌≡◌, IfOk, IfErr, OnErr};
+ghost use Rattle.std.specs.Prelude.{[], ◌≡◌, ◌↔◌, IsTrue, IfOk, IfErr, OnErr};
+ghost use Rattle.std.specs.IoError.{raw_os_error};
 ghost use Rattle.bt_check.specs.Fault.{device};
 ghost use Rattle.bt_runs.specs.Leads.{LeadsTo};
 ghost use Rattle.bt_sockets.specs.Listener.{IsServed};
+ghost use Rattle.bt_sockets.specs.ListenerSteps.{IsNoListener};
 ghost use Rattle.bt_sockets.specs.Stream.{AreNew};
 
 use crate::passage::Passage;
-use crate::stream::{StreamReader, StreamWriter, both_ways};
+use crate::stream::{StreamReader, StreamWriter, Terms, both_ways};
+use crate::timing::Role;
 use bt_check::Fault;
 use bt_disk::Disk;
 use bt_peers::{Engine, PeerEnd, meet_peer};
 use bt_tree::NodeHash;
 use std::alloc::Global;
-use std::io::{Read, Write};
+use std::io::{self, ErrorKind, Read, Write};
 use std::net::{Net, OpenListener, TcpListener};
-use std::time::Duration;
+use std::thread;
+use std::time::{Clock, Duration};
 
 /// A session takes so many turns at most.
 pub const SESSION_TURNS: u64 = 0x1_0000_0000;
+
+/// A connection that can't be taken is waited for so many times at most, a minute and a half with the pauses in
+/// between.
+pub const ACCEPT_TRIES: u32 = 100;
+
+/// The first of these pauses has so many milliseconds, and each is twice as long as the one before,
+const FIRST_PAUSE_MILLIS: u64 = 10;
+
+/// up to so many.
+const LONGEST_PAUSE_MILLIS: u64 = 1000;
+
+/// What accept(2) fails with where the socket is none that listens: EBADF, EINVAL, ENOTSOCK and EOPNOTSUPP of
+/// Linux.
+const BAD_DESCRIPTOR: i32 = 9;
+const INVALID: i32 = 22;
+const NO_SOCKET: i32 = 88;
+const UNSUPPORTED: i32 = 95;
 
 /// Listens at a port of an address; at port 0 the system chooses one. Errors: the port can't be had.
 pub fn listen<R: Net>(net: &R, address: &str, port: u16) -> Result<R::Listener, Fault>
@@ -39,29 +60,61 @@ pub fn port_of<L: OpenListener>(listener: &L) -> Result<u16, Fault>
     }
 }
 
-/// Waits for a connection and serves it, as long as its peer is not idle for so long: Unreachable where it
-/// was gone already. Errors: none could be taken.
-pub fn serve<D: Disk + Drop, H: NodeHash, R: Net>(
-    _net: &R,
+/// Whether an error says that a socket is none at which connections can be taken. Behind any other the next one
+/// may be: its peer was gone already, or the system is out of descriptors or of memory for now.
+fn is_no_listener(error: &io::Error) -> bool
+    ensures { IsTrue result ↔ IsNoListener (raw_os_error error.now) }
+{
+    matches!(
+        error.raw_os_error(),
+        Some(BAD_DESCRIPTOR | INVALID | NO_SOCKET | UNSUPPORTED)
+    )
+}
+
+/// Waits for a connection. One that can't be taken is left, and the next one waited for, so many times at most.
+/// Errors: the socket is none that listens; none could be taken.
+fn accepted<L: OpenListener, C: Clock>(clock: &C, listener: &L) -> io::Result<L::Stream> {
+    let longest = Duration::from_millis(LONGEST_PAUSE_MILLIS);
+    let mut pause = Duration::from_millis(FIRST_PAUSE_MILLIS);
+    for _ in 0..ACCEPT_TRIES {
+        match listener.accept() {
+            Ok((stream, _)) => return Ok(stream),
+            Err(error) if is_no_listener(&error) => return Err(error),
+            Err(_) => thread::sleep(clock, pause),
+        }
+        pause = pause.saturating_add(pause).min(longest);
+    }
+    Err(io::Error::from(ErrorKind::NotConnected))
+}
+
+/// Waits for a connection and serves it, as long as its peer is not idle for so long, and does not take too long
+/// otherwise: Unreachable where it was gone already. Errors: none could be taken, though it was tried again and
+/// again.
+pub fn serve<'a, D: Disk + Drop, H: NodeHash, R: Net + Clock>(
+    net: &'a R,
     alloc: Global,
     engine: &mut Engine<D, H>,
     listener: &R::Listener,
     idle: Duration,
-    passage: Passage<'_>,
+    passage: Passage<'a>,
 ) -> Result<PeerEnd, Fault>
     requires no_peer { engine.old.state.peers ≡ [] }
     ensures served { IfOk result (λ end. IsServed D.history D.honest D.faults H.digest
         (AreNew passage.entry.short_blocks.now)
-        ⟦<StreamReader<'static, R::Stream> as Read>⟧.remaining
-        ⟦<StreamWriter<'static, R::Stream> as Write>⟧.contents SESSION_TURNS engine.old end engine.new) }
+        ⟦<StreamReader<'a, R::Stream, R> as Read>⟧.remaining
+        ⟦<StreamWriter<'a, R::Stream, R> as Write>⟧.contents SESSION_TURNS engine.old end engine.new) }
     ensures gone { engine.new.state.peers ≡ [] }
     ensures run { LeadsTo D.history D.honest D.faults H.digest engine.old engine.new }
     ensures refused { IfErr result (λ fault. fault ≡ device) }
     ensures kept { OnErr result (engine.new ≡ engine.old) }
 {
-    match listener.accept() {
-        Ok((stream, _)) => {
-            let reached = both_ways(alloc, stream, idle, passage).ok();
+    match accepted(net, listener) {
+        Ok(stream) => {
+            let terms = Terms {
+                role: Role::Serve,
+                idle,
+            };
+            let reached = both_ways(alloc, net, stream, terms, passage).ok();
             Ok(meet_peer(alloc, engine, reached, false, SESSION_TURNS))
         }
         Err(_) => Err(Fault::Device),

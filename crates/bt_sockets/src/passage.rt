@@ -2,6 +2,7 @@
 
 use crate::alarm::Alarm;
 use crate::requests::Requests;
+use crate::timing::Timing;
 use bt_ahead::{DigestCache, Room};
 use bt_padding::{Padding, ShortBlocks};
 use std::alloc::{AllocError, Global};
@@ -18,13 +19,15 @@ pub struct Shared {
     pub(crate) requests: RefCell<Requests>,
     /// Where what is read ahead waits. A connection borrows it for as long as it is there.
     pub(crate) room: RefCell<Room>,
+    /// How long the peer took for what it owes.
+    pub(crate) timing: Timing,
     /// Rung where a device refuses a write.
     pub alarm: Alarm,
 }
 
 impl Shared {
     /// Nothing is digested ahead, remembered or held back, and the alarm does not ring. All the memory that
-    /// connections need is taken here, so that none is refused for want of it. Errors: out of memory.
+    /// it takes to make a connection ready is taken here. Errors: out of memory.
     pub fn new(alloc: Global) -> Result<Self, AllocError> {
         let digests = RefCell::new(DigestCache::new(alloc)?);
         let padding = RefCell::new(Padding::new(alloc)?);
@@ -35,6 +38,7 @@ impl Shared {
             padding,
             requests,
             room,
+            timing: Timing::new(),
             alarm: Alarm::new(),
         })
     }

@@ -6,6 +6,8 @@ ghost use Rattle.bt_sockets.specs.StreamSteps.{IsAddressOf, IsTextOf, bracketed}
 use crate::alarm::AlarmReader;
 use crate::passage::Passage;
 use crate::requests::{HoldingWriter, Requests, SendingReader};
+use crate::timed_stream::TimedStream;
+use crate::timing::Role;
 use bt_ahead::ReadAhead;
 use bt_padding::{PaddedReader, PaddedWriter, Padding};
 use std::alloc::Global;
@@ -13,7 +15,7 @@ use std::cell::RefCell;
 use std::io;
 use std::io::ErrorKind;
 use std::net::{Ipv6Addr, Net, OpenStream, SocketAddr, TcpStream, ToSocketAddrs};
-use std::time::Duration;
+use std::time::{Clock, Duration, Instant};
 
 /// How many seconds each address of a host has to answer.
 pub const CONNECT_SECONDS: u64 = 20;
@@ -21,14 +23,17 @@ pub const CONNECT_SECONDS: u64 = 20;
 /// For how many seconds a peer may send nothing at all, or take nothing, before a program gives it up.
 pub const IDLE_SECONDS: u64 = 120;
 
+/// A socket waits for so many milliseconds at a time.
+const TURN_MILLIS: u64 = 1000;
+
 /// What is read from a connection, as its engine gets it.
-pub type StreamReader<'a, S> = PaddedReader<
+pub type StreamReader<'a, S, C> = PaddedReader<
     'a,
-    ReadAhead<'a, AlarmReader<'a, SendingReader<'a, S>>>,
+    ReadAhead<'a, AlarmReader<'a, SendingReader<'a, TimedStream<'a, S, C>>>>,
 >;
 
 /// What is written to a connection, as its peer gets it.
-pub type StreamWriter<'a, S> = PaddedWriter<'a, HoldingWriter<'a, S>>;
+pub type StreamWriter<'a, S, C> = PaddedWriter<'a, HoldingWriter<'a, TimedStream<'a, S, C>>>;
 
 /// Connects to the first address of a host that answers, and gives that address too. Errors: none does.
 pub(crate) fn connected<R: Net>(
@@ -71,18 +76,26 @@ fn in_brackets(host: &str) -> Option<&str>
     }
 }
 
+/// What a connection is there for, and how long its peer may be idle.
+#[derive(Clone, Copy)]
+pub(crate) struct Terms {
+    pub(crate) role: Role,
+    pub(crate) idle: Duration,
+}
+
 /// Makes a connection ready for a session: what is read from it, ahead of its engine, and what is written to
 /// it, which are one socket. Each write leaves at once, but for requests, which leave before the next read or
-/// write. A read or a write fails where the peer was idle for so long; a read also where a device has refused a
-/// write since. Both ways are new: nothing of another connection waits in them, and what was remembered of its
-/// peer, or held back for it, is forgotten. It takes no memory. Errors: the system refuses this; a connection
-/// for the same passage is there still.
-pub(crate) fn both_ways<'a, S: OpenStream + Drop>(
+/// write. A read or a write fails where the peer was idle for so long, or has taken too long otherwise; a read
+/// also where a device has refused a write since. Both ways are new: nothing of another connection waits in them,
+/// and what was remembered of its peer, or held back for it, is forgotten. It takes no memory. Errors: the system
+/// refuses this; a connection for the same passage is there still.
+pub(crate) fn both_ways<'a, S: OpenStream + Drop, C: Clock>(
     alloc: Global,
+    clock: &'a C,
     stream: S,
-    idle: Duration,
+    terms: Terms,
     passage: Passage<'a>,
-) -> io::Result<(StreamReader<'a, S>, StreamWriter<'a, S>)>
+) -> io::Result<(StreamReader<'a, S, C>, StreamWriter<'a, S, C>)>
     ensures { IfOk result (λ ways. AreNewWays passage.entry.short_blocks.now stream ways.0 ways.1) }
 {
     let Passage {
@@ -93,17 +106,27 @@ pub(crate) fn both_ways<'a, S: OpenStream + Drop>(
     forget(&shared.padding)?;
     forget_requests(&shared.requests)?;
     shared.alarm.stop();
-    stream.set_nodelay(true)?;
-    stream.set_read_timeout(Some(idle))?;
-    stream.set_write_timeout(Some(idle))?;
+    shared.timing.begin(terms.role, Instant::now(clock)?);
+    set_options(&stream, terms.idle)?;
     let clone = stream.try_clone()?;
-    let sending = SendingReader::new(stream, &shared.requests);
+    let reading = TimedStream::new(stream, clock, terms.idle, &shared.timing);
+    let sending = SendingReader::new(reading, &shared.requests);
     let heard = AlarmReader::new(sending, &shared.alarm);
     let ahead = ReadAhead::new(heard, &shared.digests, room);
     let reader = PaddedReader::new(alloc, ahead, short_blocks, &shared.padding);
-    let holding = HoldingWriter::new(clone, &shared.requests);
+    let writing = TimedStream::new(clone, clock, terms.idle, &shared.timing);
+    let holding = HoldingWriter::new(writing, &shared.requests);
     let writer = PaddedWriter::new(alloc, holding, short_blocks, &shared.padding);
     Ok((reader, writer))
+}
+
+/// Has each write of a socket leave at once, and its calls wait for a turn at most. Errors: the system refuses
+/// this, also where no time at all is to be waited.
+fn set_options<S: OpenStream>(stream: &S, idle: Duration) -> io::Result<()> {
+    let turn = idle.min(Duration::from_millis(TURN_MILLIS));
+    stream.set_nodelay(true)?;
+    stream.set_read_timeout(Some(turn))?;
+    stream.set_write_timeout(Some(turn))
 }
 
 /// Forgets the peer. Errors: what is remembered of it is in use, which no call of this crate brings about.

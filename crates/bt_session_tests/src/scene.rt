@@ -1,0 +1,233 @@
+//! A network that stands in for the host's, with a clock of its own: one peer, which does what a row says, when the row says it.
+
+use std::cell::Cell;
+use std::io::{self, ErrorKind, Read, Write};
+use std::net::{Ipv4Addr, Net, OpenListener, OpenStream, SocketAddr};
+use std::os::fd::{AsRawFd, RawFd};
+use std::time::{Clock, Duration};
+
+/// What the peer does next.
+#[derive(Drop)]
+pub enum Act {
+    Sends(Vec<u8>),
+    /// It does nothing for so long.
+    Waits(Duration),
+    /// From now on it takes so many bytes, and no more.
+    Takes(usize),
+}
+
+/// What the peer does, one behind the other, and how far it is. Behind the last it closes its connection.
+#[derive(Drop)]
+pub struct Scene {
+    acts: Vec<Act>,
+    /// Which act is next,
+    next: Cell<usize>,
+    /// and how much of it is done: bytes sent, or time waited.
+    sent: Cell<usize>,
+    waited: Cell<Duration>,
+    /// How many more bytes the peer takes.
+    takes: Cell<usize>,
+    /// How long a call of the socket waits.
+    turn: Cell<Duration>,
+    now: Cell<Duration>,
+    /// So many connections can't be taken before this one can, each with an error of this number.
+    refused: Cell<u32>,
+    code: i32,
+}
+
+impl Scene {
+    pub fn new(acts: Vec<Act>, refused: u32, code: i32) -> Self {
+        Scene {
+            acts,
+            next: Cell::new(0),
+            sent: Cell::new(0),
+            waited: Cell::new(Duration::ZERO),
+            takes: Cell::new(usize::MAX),
+            turn: Cell::new(Duration::ZERO),
+            now: Cell::new(Duration::ZERO),
+            refused: Cell::new(refused),
+            code,
+        }
+    }
+
+    /// How many milliseconds have passed.
+    pub fn millis(&self) -> u128 {
+        self.now.get().as_millis()
+    }
+
+    fn pass(&self, time: Duration) {
+        self.now.set(self.now.get().saturating_add(time));
+    }
+
+    fn skip(&self) {
+        self.next.set(self.next.get().saturating_add(1));
+        self.sent.set(0);
+        self.waited.set(Duration::ZERO);
+    }
+
+    /// Waits for a turn, or as long as is left of this time: whether that is over then.
+    fn wait(&self, time: Duration) -> bool {
+        let left = time.saturating_sub(self.waited.get());
+        let turn = self.turn.get();
+        if left <= turn {
+            self.pass(left);
+            self.skip();
+            return true;
+        }
+        self.pass(turn);
+        self.waited.set(self.waited.get().saturating_add(turn));
+        false
+    }
+
+    /// Gives what is left of these bytes, as much as there is room for.
+    fn send(&self, bytes: &[u8], buffer: &mut [u8]) -> usize {
+        let rest = &bytes[self.sent.get().min(bytes.len())..];
+        let count = rest.len().min(buffer.len());
+        buffer[..count].copy_from_slice(&rest[..count]);
+        if count < rest.len() {
+            self.sent.set(self.sent.get().saturating_add(count));
+        } else {
+            self.skip();
+        }
+        count
+    }
+}
+
+/// A handle of the peer's connection.
+#[derive(Clone, Copy)]
+pub struct SceneStream<'a>(&'a Scene);
+
+impl Read for SceneStream<'_> {
+    fn read(&mut self, buffer: &mut [u8]) -> io::Result<usize> {
+        let scene = self.0;
+        for _ in 0..u64::MAX {
+            match scene.acts.get(scene.next.get()) {
+                Some(Act::Sends(bytes)) => return Ok(scene.send(bytes, buffer)),
+                Some(Act::Waits(time)) => {
+                    if !scene.wait(*time) {
+                        return Err(io::Error::from(ErrorKind::WouldBlock));
+                    }
+                }
+                Some(Act::Takes(count)) => {
+                    scene.takes.set(*count);
+                    scene.skip();
+                }
+                None => return Ok(0),
+            }
+        }
+        Ok(0)
+    }
+}
+
+impl Write for SceneStream<'_> {
+    /// As a system does, waits for a turn where not all bytes are taken, and then tells how many were.
+    fn write(&mut self, bytes: &[u8]) -> io::Result<usize> {
+        let scene = self.0;
+        let takes = scene.takes.get();
+        let count = bytes.len().min(takes);
+        if count < bytes.len() {
+            scene.pass(scene.turn.get());
+        }
+        if count == 0 && !bytes.is_empty() {
+            return Err(io::Error::from(ErrorKind::WouldBlock));
+        }
+        if takes != usize::MAX {
+            scene.takes.set(takes - count);
+        }
+        Ok(count)
+    }
+
+    fn flush(&mut self) -> io::Result<()> {
+        Ok(())
+    }
+}
+
+impl OpenStream for SceneStream<'_> {
+    fn set_nodelay(&self, _nodelay: bool) -> io::Result<()> {
+        Ok(())
+    }
+
+    fn set_read_timeout(&self, limit: Option<Duration>) -> io::Result<()> {
+        self.0.turn.set(limit.unwrap_or(Duration::MAX));
+        Ok(())
+    }
+
+    fn set_write_timeout(&self, limit: Option<Duration>) -> io::Result<()> {
+        self.set_read_timeout(limit)
+    }
+
+    fn try_clone(&self) -> io::Result<Self> {
+        Ok(*self)
+    }
+}
+
+impl AsRawFd for SceneStream<'_> {
+    fn as_raw_fd(&self) -> RawFd {
+        -1
+    }
+}
+
+/// Where the peer is waited for.
+#[derive(Clone, Copy)]
+pub struct SceneListener<'a>(&'a Scene);
+
+impl<'a> OpenListener for SceneListener<'a> {
+    type Stream = SceneStream<'a>;
+
+    fn accept(&self) -> io::Result<(SceneStream<'a>, SocketAddr)> {
+        let scene = self.0;
+        let refused = scene.refused.get();
+        if refused > 0 {
+            scene.refused.set(refused - 1);
+            return Err(io::Error::from_raw_os_error(scene.code));
+        }
+        let address = SocketAddr::from((Ipv4Addr::LOCALHOST, 0));
+        Ok((SceneStream(scene), address))
+    }
+}
+
+impl AsRawFd for SceneListener<'_> {
+    fn as_raw_fd(&self) -> RawFd {
+        -1
+    }
+}
+
+/// The network in which that peer is reached by every address.
+#[derive(Clone, Copy)]
+pub struct SceneNet<'a>(pub &'a Scene);
+
+impl<'a> Net for SceneNet<'a> {
+    type Stream = SceneStream<'a>;
+
+    type Listener = SceneListener<'a>;
+
+    fn bind(&self, _address: SocketAddr) -> io::Result<SceneListener<'a>> {
+        Ok(SceneListener(self.0))
+    }
+
+    fn connect(&self, _address: SocketAddr) -> io::Result<SceneStream<'a>> {
+        Ok(SceneStream(self.0))
+    }
+
+    fn connect_timeout(
+        &self,
+        _address: SocketAddr,
+        _limit: Duration,
+    ) -> io::Result<SceneStream<'a>> {
+        Ok(SceneStream(self.0))
+    }
+}
+
+impl Clock for SceneNet<'_> {
+    fn monotonic(&self) -> io::Result<Duration> {
+        Ok(self.0.now.get())
+    }
+
+    fn since_1970(&self) -> io::Result<Duration> {
+        Ok(self.0.now.get())
+    }
+
+    fn sleep(&self, time: Duration) {
+        self.0.pass(time);
+    }
+}

@@ -1,0 +1,205 @@
+//! How long a peer may take for what it owes, so that those who wait behind it have their turn.
+
+use crate::passing::{Passed, Passing};
+use std::cell::Cell;
+use std::time::{Duration, Instant};
+
+/// A peer that is served, and is a stranger, has so many seconds for its handshake, in all.
+pub const HANDSHAKE_SECONDS: u64 = 15;
+
+/// A session has so many seconds from one message to the next that is of use: a block or hashes that were asked
+/// for; and, of a peer that is served, what was sent for a request of it.
+pub const USE_SECONDS: u64 = 600;
+
+/// A peer that is fetched from has so many seconds for the first block, and from one block to the next, while
+/// requests of blocks are open and it sends other messages.
+pub const BLOCK_SECONDS: u64 = 60;
+
+/// The kinds of messages that are looked at (BEP 3 and BEP 52).
+const CHOKE: u8 = 0;
+const REQUEST: u8 = 6;
+const PIECE: u8 = 7;
+const HASH_REQUEST: u8 = 21;
+const HASHES: u8 = 22;
+const HASH_REJECT: u8 = 23;
+
+/// What a connection is there for.
+#[derive(Clone, Copy, Debug, PartialEq, Eq)]
+pub(crate) enum Role {
+    /// Blocks are fetched from its peer.
+    Fetch,
+    /// Its peer is served.
+    Serve,
+}
+
+/// Which way bytes go.
+#[derive(Clone, Copy, Debug, PartialEq, Eq)]
+pub(crate) enum Way {
+    /// From the peer.
+    In,
+    /// To the peer.
+    Out,
+}
+
+/// What has passed over a connection, and when.
+#[derive(Clone, Copy)]
+struct Times {
+    role: Role,
+    begun: Instant,
+    /// When something passed last that is of use.
+    used: Instant,
+    /// So many requests of blocks are open,
+    open: u64,
+    /// the first of them since then; or else the last block came then.
+    asked: Instant,
+    /// So many requests of hashes are open.
+    open_hashes: u64,
+    /// Whether another message came when a block was overdue.
+    is_overdue: bool,
+    incoming: Passing,
+    outgoing: Passing,
+}
+
+impl Times {
+    fn new(role: Role, now: Instant) -> Self {
+        Times {
+            role,
+            begun: now,
+            used: now,
+            open: 0,
+            asked: now,
+            open_hashes: 0,
+            is_overdue: false,
+            incoming: Passing::new(),
+            outgoing: Passing::new(),
+        }
+    }
+
+    /// Whether the peer has taken too long.
+    fn is_late(&self, now: Instant) -> bool {
+        self.is_overdue
+            || has_passed(self.used, USE_SECONDS, now)
+            || self.is_stranger() && has_passed(self.begun, HANDSHAKE_SECONDS, now)
+    }
+
+    /// Whether the peer came by itself, and has not sent its handshake.
+    fn is_stranger(&self) -> bool {
+        self.role == Role::Serve && !self.incoming.is_greeted()
+    }
+
+    /// Notes bytes that have passed.
+    fn pass(&mut self, way: Way, bytes: &[u8], now: Instant) {
+        let mut rest = bytes;
+        'passing: while !rest.is_empty() {
+            let (count, passed) = self.passing(way).pass(rest);
+            self.note(way, passed, now);
+            rest = &rest[count..];
+        }
+    }
+
+    fn passing(&mut self, way: Way) -> &mut Passing {
+        match way {
+            Way::In => &mut self.incoming,
+            Way::Out => &mut self.outgoing,
+        }
+    }
+
+    fn note(&mut self, way: Way, passed: Passed, now: Instant) {
+        match (way, passed) {
+            (_, Passed::Part | Passed::Handshake) => {}
+            (Way::In, Passed::Message(PIECE)) => self.block_came(now),
+            (Way::In, Passed::Message(kind)) => self.other_came(kind, now),
+            (Way::In, Passed::KeepAlive) => self.look_for_block(now),
+            (Way::Out, Passed::Message(kind)) => self.went(kind, now),
+            (Way::Out, Passed::KeepAlive) => {}
+        }
+    }
+
+    /// A block came. It is of use where one was asked for.
+    fn block_came(&mut self, now: Instant) {
+        if self.open > 0 {
+            self.open -= 1;
+            self.used = now;
+            self.asked = now;
+        }
+    }
+
+    /// Another message came. Hashes are of use where some were asked for, and a choke closes all requests.
+    fn other_came(&mut self, kind: u8, now: Instant) {
+        match kind {
+            CHOKE => self.open = 0,
+            HASHES if self.open_hashes > 0 => {
+                self.open_hashes -= 1;
+                self.used = now;
+            }
+            HASH_REJECT => self.open_hashes = self.open_hashes.saturating_sub(1),
+            _ => {}
+        }
+        self.look_for_block(now);
+    }
+
+    /// Looks whether a block is overdue as another message comes.
+    fn look_for_block(&mut self, now: Instant) {
+        self.is_overdue = self.is_overdue
+            || self.role == Role::Fetch
+                && self.open > 0
+                && has_passed(self.asked, BLOCK_SECONDS, now);
+    }
+
+    /// A message went out.
+    fn went(&mut self, kind: u8, now: Instant) {
+        match kind {
+            REQUEST => {
+                if self.open == 0 {
+                    self.asked = now;
+                }
+                self.open = self.open.saturating_add(1);
+            }
+            HASH_REQUEST => self.open_hashes = self.open_hashes.saturating_add(1),
+            PIECE | HASHES if self.role == Role::Serve => self.used = now,
+            _ => {}
+        }
+    }
+}
+
+/// Whether so many seconds have passed since.
+fn has_passed(since: Instant, seconds: u64, now: Instant) -> bool {
+    now.duration_since(since) >= Duration::from_secs(seconds)
+}
+
+/// What has passed over the connection that is there, and when. Both its handles note it. What lies in a cell no
+/// clause knows.
+#[derive(Drop)]
+pub(crate) struct Timing {
+    times: Cell<Option<Times>>,
+}
+
+impl Timing {
+    /// No connection was there yet.
+    pub(crate) fn new() -> Self {
+        Timing {
+            times: Cell::new(None),
+        }
+    }
+
+    /// A connection begins.
+    pub(crate) fn begin(&self, role: Role, now: Instant) {
+        self.times.set(Some(Times::new(role, now)));
+    }
+
+    /// Whether the peer has taken too long.
+    pub(crate) fn is_late(&self, now: Instant) -> bool {
+        match self.times.get() {
+            Some(times) => times.is_late(now),
+            None => false,
+        }
+    }
+
+    /// Notes bytes that have passed.
+    pub(crate) fn pass(&self, way: Way, bytes: &[u8], now: Instant) {
+        if let Some(mut times) = self.times.get() {
+            times.pass(way, bytes, now);
+            self.times.set(Some(times));
+        }
+    }
+}
