@@ -17,10 +17,10 @@ use bt_tree::NodeHash;
 use std::alloc::{AllocError, Global};
 use std::io::Write;
 use std::net::Net;
-use std::time::Duration;
+use std::time::{Clock, Duration};
 
 /// Serves so many connections, one after the other, and writes how it ended with each.
-pub(crate) fn serve_count<D: Disk + Drop, H: NodeHash, N: Net, W: Write>(
+pub(crate) fn serve_count<D: Disk + Drop, H: NodeHash, N: Net + Clock, W: Write>(
     alloc: Global,
     reception: &Reception<'_, N>,
     engine: &mut Engine<D, H>,
@@ -42,7 +42,7 @@ pub(crate) fn serve_count<D: Disk + Drop, H: NodeHash, N: Net, W: Write>(
 
 /// Serves one connection after the other, whatever came of those before; writes how it ended with each, and
 /// then has all put on the devices.
-pub(crate) fn serve_forever<D: Disk + Drop, H: NodeHash, N: Net, W: Write>(
+pub(crate) fn serve_forever<D: Disk + Drop, H: NodeHash, N: Net + Clock, W: Write>(
     alloc: Global,
     reception: &Reception<'_, N>,
     engine: &mut Engine<D, H>,
@@ -64,7 +64,7 @@ pub(crate) fn serve_forever<D: Disk + Drop, H: NodeHash, N: Net, W: Write>(
 
 /// Serves a connection, as `serve_next` does, and then has all put on the devices. Errors: also where a device
 /// failed.
-fn serve_and_sync<D: Disk + Drop, H: NodeHash, N: Net, W: Write>(
+fn serve_and_sync<D: Disk + Drop, H: NodeHash, N: Net + Clock, W: Write>(
     alloc: Global,
     reception: &Reception<'_, N>,
     engine: &mut Engine<D, H>,
@@ -90,7 +90,7 @@ fn serve_and_sync<D: Disk + Drop, H: NodeHash, N: Net, W: Write>(
 
 /// Serves a connection, which has this number, and writes how it ended. Errors: none could be taken; the
 /// writer failed; out of memory.
-fn serve_next<D: Disk + Drop, H: NodeHash, N: Net, W: Write>(
+fn serve_next<D: Disk + Drop, H: NodeHash, N: Net + Clock, W: Write>(
     alloc: Global,
     reception: &Reception<'_, N>,
     engine: &mut Engine<D, H>,
@@ -112,7 +112,7 @@ fn serve_next<D: Disk + Drop, H: NodeHash, N: Net, W: Write>(
 }
 
 /// Serves a connection. Errors: none could be taken.
-fn serve_one<D: Disk + Drop, H: NodeHash, N: Net>(
+fn serve_one<D: Disk + Drop, H: NodeHash, N: Net + Clock>(
     alloc: Global,
     reception: &Reception<'_, N>,
     engine: &mut Engine<D, H>,

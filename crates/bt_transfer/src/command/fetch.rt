@@ -32,7 +32,7 @@ use std::alloc::{AllocError, Global};
 use std::io::Write;
 use std::net::Net;
 use std::rt::Files;
-use std::time::Duration;
+use std::time::{Clock, Duration};
 
 /// Opens the store of a torrent's files in a folder, as `load_store` does; takes peers in turn until all
 /// files are complete; writes how it ended with each that was tried; takes in the files whose blocks all came,
@@ -45,7 +45,7 @@ use std::time::Duration;
 /// device's fault comes behind the report.
 ///
 /// Errors: the torrent is refused, and then nothing is written; a device or the writer failed; out of memory.
-pub fn fetch<R: Files + AllocGlobal + Clone + Drop, N: Net, P: Watch, W: Write>(
+pub fn fetch<R: Files + AllocGlobal + Clone + Drop, N: Net + Clock, P: Watch, W: Write>(
     rt: &R,
     net: &N,
     watch: &P,
@@ -67,7 +67,7 @@ pub fn fetch<R: Files + AllocGlobal + Clone + Drop, N: Net, P: Watch, W: Write>(
 
 /// Takes peers in turn, over TCP, for an engine that began with a torrent, which it takes, and tells of it as
 /// `fetch_over` does. What stands before the sockets goes by that torrent.
-fn fetch_store<D: Disk + Drop, H: NodeHash, N: Net, P: Watch, W: Write>(
+fn fetch_store<D: Disk + Drop, H: NodeHash, N: Net + Clock, P: Watch, W: Write>(
     alloc: Global,
     net: &N,
     watch: &P,
@@ -111,7 +111,7 @@ fn hear(rang: bool, status: u8) -> Result<(), Fault>
 
 /// Takes peers in turn, over TCP, until an engine of a torrent is complete, and tells of it as `fetch_over` does.
 /// Errors: also where a session ended because a device refused a write, and files are not complete.
-fn fetch_from<D: Disk + Drop, H: NodeHash, N: Net, W: Write>(
+fn fetch_from<D: Disk + Drop, H: NodeHash, N: Net + Clock, W: Write>(
     alloc: Global,
     net: &N,
     engine: &mut Engine<D, H>,
@@ -133,7 +133,7 @@ fn fetch_from<D: Disk + Drop, H: NodeHash, N: Net, W: Write>(
 }
 
 /// A link to each peer, in their order, which share their passage.
-fn links_to<'a, N: Net>(
+fn links_to<'a, N: Net + Clock>(
     alloc: Global,
     net: &'a N,
     peers: &'a [Peer<'a>],

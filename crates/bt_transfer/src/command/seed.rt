@@ -27,6 +27,7 @@ use std::alloc::{AllocError, Global};
 use std::io::Write;
 use std::net::{Net, OpenListener};
 use std::rt::Files;
+use std::time::Clock;
 
 /// Opens the store of a torrent's files in a folder, as `load_store` does; listens, and writes at which port;
 /// and serves connections, one after the other, whatever came of those before, each with a line that tells how
@@ -38,7 +39,7 @@ use std::rt::Files;
 ///
 /// Errors: the torrent is refused, or the port can't be had, and then nothing is written; a device, the writer
 /// or the socket failed; out of memory.
-pub fn seed<R: Files + AllocGlobal + Clone + Drop, N: Net, P: Watch, W: Write>(
+pub fn seed<R: Files + AllocGlobal + Clone + Drop, N: Net + Clock, P: Watch, W: Write>(
     rt: &R,
     net: &N,
     watch: &P,
@@ -60,7 +61,7 @@ pub fn seed<R: Files + AllocGlobal + Clone + Drop, N: Net, P: Watch, W: Write>(
 
 /// Tells what is lacking, listens, and serves connections to an engine that began with a torrent, which it takes.
 /// What stands before the sockets goes by that torrent. The answer is 0.
-fn seed_store<D: Disk + Drop, H: NodeHash, N: Net, P: Watch, W: Write>(
+fn seed_store<D: Disk + Drop, H: NodeHash, N: Net + Clock, P: Watch, W: Write>(
     alloc: Global,
     net: &N,
     watch: &P,
@@ -101,7 +102,7 @@ fn hint_at_lack<P: Watch, D: Disk + Drop, H: NodeHash>(watch: &P, engine: &Engin
 }
 
 /// Listens, writes at which port, and serves connections to an engine of a torrent.
-fn listen_and_serve<D: Disk + Drop, H: NodeHash, N: Net, W: Write>(
+fn listen_and_serve<D: Disk + Drop, H: NodeHash, N: Net + Clock, W: Write>(
     alloc: Global,
     net: &N,
     engine: &mut Engine<D, H>,
@@ -160,7 +161,7 @@ fn push_line(line: &mut String, port: u16) -> Result<(), AllocError>
 }
 
 /// Serves as many connections as is said, and has all put on the devices.
-fn serve_all<D: Disk + Drop, H: NodeHash, N: Net, W: Write>(
+fn serve_all<D: Disk + Drop, H: NodeHash, N: Net + Clock, W: Write>(
     alloc: Global,
     reception: &Reception<'_, N>,
     engine: &mut Engine<D, H>,
