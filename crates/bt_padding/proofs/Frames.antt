@@ -1,10 +1,11 @@
 -- Frames at the front of a list of bytes.
 use Rattle.std.proofs.Common.{◌≡◌, ◌≤◌, ◌<◌, ◌+◌, ◌^◌, ℕ, List, ◌++◌, take, drop, length, refl, sym, ◌∙◌, ap, arith, length-append, length-drop, length-take}
 use Rattle.std.specs.Int.{w32, to_be_bytes, from_be_bytes}
-use Rattle.std.proofs.lemmas.List.{append_assoc, take_at, drop_at}
+use Rattle.std.proofs.lemmas.List.{append_assoc, take_at, drop_at, take-append-drop}
 use Rattle.std.proofs.lemmas.Nat.{from_be_bytes-to_be_bytes_4}
 use lib.Seq.{take-add}
 use Rattle.bt_wire.specs.Limits.{max_length_field}
+use Rattle.bt_wire.specs.Event.{ShowsTooLong}
 use Rattle.bt_padding.specs.Flow.{IsFrame}
 use Rattle.bt_padding.specs.FrameSteps.{BeginsFrame}
 
@@ -62,3 +63,15 @@ begins_frame bytes n field few inside =
             ∙ ap (λ m. to_be_bytes w32 m ++ take n (drop 4 bytes)) (sym size);
       };
     }
+
+-- none begins with a length field that is too long
+pub too_long : (bytes : List ℕ) (n : ℕ) → ShowsTooLong bytes → BeginsFrame bytes n → ⊥
+too_long bytes n t b =
+    let body : List ℕ = b.frame.body in
+    let few = b.frame.limit in
+    let above = t.above in
+    let whole : to_be_bytes w32 (length body) ++ (body ++ drop n bytes) ≡ to_be_bytes w32 t.field ++ t.rest
+    = sym (append_assoc (to_be_bytes w32 (length body)) body (drop n bytes)) ∙ ap (λ (xs : List ℕ). xs ++ drop n bytes) (sym b.frame.spelled)
+        ∙ take-append-drop n bytes ∙ t.front in
+    let same = same_number (length body) t.field (body ++ drop n bytes) t.rest (omega (arith, few)) t.number whole in
+    omega (arith, same, few, above)

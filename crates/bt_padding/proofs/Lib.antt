@@ -4,4 +4,5 @@ pub mod Sendable
 pub mod Frames
 pub mod Streams
 pub mod Giving
+pub mod Directions
 pub mod Passages

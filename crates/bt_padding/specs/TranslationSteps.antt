@@ -4,6 +4,7 @@ use Rattle.bt_wire.specs.declared.message.Ask.{Ask}
 use Rattle.bt_padding.specs.declared.translation.Side.{Side}
 use Rattle.bt_padding.specs.Padding.{Memory}
 use Rattle.bt_padding.specs.Flow.{Flow, new_flow}
+use Rattle.bt_padding.specs.FrameSteps.{BeginsFrame}
 use Rattle.bt_padding.specs.Translation.{place, Gives, Translates, Ends}
 
 -- where the bytes of a direction come from, the short blocks, and what has come
@@ -20,7 +21,11 @@ abbrev pub GivesBehind : DirectionState → Memory → List ℕ → Memory → (
 GivesBehind d old frame new held now =
     (run : List ℕ) × Gives d.blocks d.side old frame run new × (now ≡ held ++ run)
 
--- the frames of the first so many bytes are given on
+-- no frame stands in front of what is left behind the first so many bytes
+abbrev pub HasNoFrameAt : DirectionState → ℕ → Type 0
+HasNoFrameAt d taken = (n : ℕ) → ¬ BeginsFrame (drop taken d.flow.unread) n
+
+-- the frames of the first so many bytes are given on, and no other is whole
 pub record GivesFrames (d : DirectionState) (old : Memory) (taken : ℕ) (new : Memory) (held now : List ℕ)
     : Type 0 where
   pub inside : taken ≤ length d.flow.unread
@@ -28,6 +33,7 @@ pub record GivesFrames (d : DirectionState) (old : Memory) (taken : ℕ) (new : 
   pub translates : Translates d.blocks d.side (place new (drop taken d.flow.unread)) (place old d.flow.unread)
       frames
   pub appended : now ≡ held ++ frames
+  pub all : HasNoFrameAt d taken
 
 -- what is behind them is kept, or passes
 pub record IsKept (old : DirectionState) (taken : ℕ) (new : DirectionState) (held now : List ℕ) : Type 0 where

@@ -3,7 +3,7 @@ ghost use Rattle.std.specs.Prelude.{◌≡◌, ◌≢◌, ◌≤◌, length, IfO
 ghost use Rattle.std.specs.IoError.{error_kind};
 ghost use Rattle.bt_padding.specs.Flow.{IsFrame};
 ghost use Rattle.bt_padding.specs.Translation.{Receives};
-ghost use Rattle.bt_padding.specs.TranslationSteps.{new_direction, GivesBehind, GivesFrames, IsKept};
+ghost use Rattle.bt_padding.specs.TranslationSteps.{new_direction, GivesBehind, GivesFrames, HasNoFrameAt, IsKept};
 
 use crate::frame::{Front, front_of};
 use crate::padding::Padding;
@@ -122,7 +122,8 @@ impl<'a> Direction<'a> {
 
     /// Keeps what is left behind the first so many bytes, or lets it pass. Errors: out of memory.
     fn keep(&mut self, taken: usize, out: &mut Vec<u8>) -> Result<(), AllocError>
-        requires { taken ≤ length self.old.flow.unread }
+        requires inside { taken ≤ length self.old.flow.unread }
+        requires no_frame { HasNoFrameAt self.old taken }
         ensures { OnOk result (IsKept self.old taken self.new out.old.items out.new.items) }
     {
         let rest = &self.unread[taken..];
