@@ -15,5 +15,5 @@ returns-in-Ok-clause-run g c =
     session_leads g.D.Disk.history g.D.Disk.honest g.D.Disk.faults g.H.NodeHash.digest _ _ c.args.engine.now c.run_session.new.engine _ _ _ _ _
     c.in-Ok.ensures.session
 
-pub returns-in-Err-clause-run : goal.returns-in-Err-clause-run
-returns-in-Err-clause-run g c = one c.args.engine.now c.run_session.new.engine Connect _ c.in-Err.ensures.refused
+pub returns-clause-run : goal.returns-clause-run
+returns-clause-run g c = one c.args.engine.now c.run_session.new.engine Connect _ c.in-Err.ensures.refused
