@@ -41,14 +41,13 @@ pub more_frames : (d : DirectionState) (old memory new : Memory) (held before no
 more_frames d old memory new held before now taken len so begins g =
     let unread : List ℕ = d.flow.unread in
     let split : drop taken unread ≡ take len (drop taken unread) ++ drop (taken + len) unread
-    = sym (take-append-drop len (drop taken unread)) ∙ ap (λ (xs : List ℕ). take len (drop taken unread) ++ xs) (drop-drop len taken unread) in
-    (
+    = sym (take-append-drop len (drop taken unread)) ∙ ap (λ (xs : List ℕ). take len (drop taken unread) ++ xs) (drop-drop len taken unread) in (
       so.0 ++ g.0,
       omega (arith, so.1, begins.inside, length-drop taken unread),
       g.2 ∙ ap (λ (xs : List ℕ). xs ++ g.0) so.2 ∙ append_assoc held so.0 g.0,
       λ frames last t. subst (λ (xs : List ℕ). Translates d.blocks d.side last (place old unread) xs) (sym (append_assoc so.0 g.0 frames))
-      (so.3 (g.0 ++ frames) last
-      (one_more (place memory (drop taken unread)) (place new (drop (taken + len) unread)) (take len (drop taken unread)) g.0 frames begins.frame split g.1 t)),
+          (so.3 (g.0 ++ frames) last
+          (one_more (place memory (drop taken unread)) (place new (drop (taken + len) unread)) (take len (drop taken unread)) g.0 frames begins.frame split g.1 t)),
     )
 
 -- where the front is no frame none stands there
@@ -75,19 +74,16 @@ waits rest (Frame n) is unlike none = absurd (none n is)
 waits rest Part is unlike none = is
 waits rest TooLong is unlike none = absurd (unlike refl)
 
-pub rest_kept : (old new : DirectionState) (taken : ℕ) (held seen : List ℕ) (f : Front) → seen ≡ old.flow.unread
+pub rest_kept : (old : DirectionState) (left : Flow) (taken : ℕ) (held seen : List ℕ) (f : Front) → seen ≡ old.flow.unread
     → IsFront (take (length seen - taken) (drop taken seen)) f → (f ≡ TooLong → ⊥) → HasNoFrameAt old taken
-    → new ≡ record old { flow = flow old.flow.passing (take (length seen - taken) (drop taken seen)) } → IsKept old taken new held held
-rest_kept old new taken held seen f same front unlike none is =
+    → left ≡ flow old.flow.passing (take (length seen - taken) (drop taken seen)) → IsKept old taken left held held
+rest_kept old left taken held seen f same front unlike none is =
     let rest : List ℕ = drop taken old.flow.unread in
     let here : take (length seen - taken) (drop taken seen) ≡ rest = take_rest seen taken ∙ ap (λ (xs : List ℕ). drop taken xs) same in
-    let now : new ≡ record old { flow = flow old.flow.passing rest }
-    = is ∙ ap (λ (xs : List ℕ). let d : DirectionState = record old { flow = flow old.flow.passing xs } in d) here in
     record {
       behind = [];
-      ends = inl (waits rest f (subst (λ (xs : List ℕ). IsFront xs f) here front) unlike none, refl, ap (λ (d : DirectionState). d.flow) now);
+      ends = inl (waits rest f (subst (λ (xs : List ℕ). IsFront xs f) here front) unlike none, refl, is ∙ ap (λ (xs : List ℕ). flow old.flow.passing xs) here);
       appended = sym (append-nil held);
-      others = now ∙ ap (λ (x : Flow). let d : DirectionState = record old { flow = x } in d) (sym (ap (λ (d : DirectionState). d.flow) now));
     }
 
 -- the bytes that are seen are those that are not given on
@@ -113,12 +109,12 @@ drop_min n xs = elim (cases_lt n (length xs)) [
 ]
 
 -- the first of them pass, and the frames that are whole are given on
-pub received : (d left : DirectionState) (come : Flow) (found kept : Memory) (bytes front back held mid now : List ℕ) (m taken : ℕ)
+pub received : (d : DirectionState) (come left : Flow) (found kept : Memory) (bytes front back held mid now : List ℕ) (m taken : ℕ)
     → m ≡ min come.passing (length bytes) → front ≡ take m bytes → back ≡ drop m bytes
     → d.flow ≡ flow (come.passing - length front) (come.unread ++ back)
     → GivesFrames d found taken kept (held ++ front) mid → IsKept d taken left mid now
-    → Receives d.blocks d.side come bytes left.flow held now
-received d left come found kept bytes front back held mid now m taken least first second fed-is g k =
+    → Receives d.blocks d.side come bytes left held now
+received d come left found kept bytes front back held mid now m taken least first second fed-is g k =
     let front-is : front ≡ take come.passing bytes = first ∙ ap (λ n. take n bytes) least ∙ take_min come.passing bytes in
     let back-is : back ≡ drop come.passing bytes = second ∙ ap (λ n. drop n bytes) least ∙ drop_min come.passing bytes in
     let less : come.passing - length front ≡ come.passing - length bytes
@@ -132,7 +128,7 @@ received d left come found kept bytes front back held mid now m taken least firs
       rest = drop taken d.flow.unread;
       behind = k.behind;
       translates = subst (λ (f : Flow). Translates d.blocks d.side (place kept (drop taken d.flow.unread)) (place found f.unread) g.frames) same g.translates;
-      ends = subst (λ (f : Flow). Ends f.passing (drop taken d.flow.unread) k.behind left.flow) same k.ends;
+      ends = subst (λ (f : Flow). Ends f.passing (drop taken d.flow.unread) k.behind left) same k.ends;
       appended = k.appended ∙ ap (λ (xs : List ℕ). xs ++ k.behind) g.appended
           ∙ ap (λ (xs : List ℕ). held ++ xs ++ g.frames ++ k.behind) front-is;
     }

@@ -43,7 +43,7 @@ one_frame p q r s p-is q-is same =
     = same_number (length p-is.body) (length q-is.body) (p-is.body ++ r) (q-is.body ++ s) p-fits q-fits (sym left ∙ same ∙ right) in
     let long : length p ≡ length q
     = ap length p-is.spelled ∙ length-append (to_be_bytes w32 (length p-is.body)) p-is.body
-        ∙ ap (λ n. 4 + n) size ∙ sym (ap length q-is.spelled ∙ length-append (to_be_bytes w32 (length q-is.body)) q-is.body) in
+    ∙ ap (λ n. 4 + n) size ∙ sym (ap length q-is.spelled ∙ length-append (to_be_bytes w32 (length q-is.body)) q-is.body) in
     record {
       frame = sym (take_at p r (length p) refl) ∙ ap (λ (xs : List ℕ). take (length p) xs) same ∙ take_at q s (length p) (sym long);
       rest = sym (drop_at p r (length p) refl) ∙ ap (λ (xs : List ℕ). drop (length p) xs) same ∙ drop_at q s (length p) (sym long);
@@ -72,6 +72,6 @@ too_long bytes n t b =
     let above = t.above in
     let whole : to_be_bytes w32 (length body) ++ (body ++ drop n bytes) ≡ to_be_bytes w32 t.field ++ t.rest
     = sym (append_assoc (to_be_bytes w32 (length body)) body (drop n bytes)) ∙ ap (λ (xs : List ℕ). xs ++ drop n bytes) (sym b.frame.spelled)
-        ∙ take-append-drop n bytes ∙ t.front in
+    ∙ take-append-drop n bytes ∙ t.front in
     let same = same_number (length body) t.field (body ++ drop n bytes) t.rest (omega (arith, few)) t.number whole in
     omega (arith, same, few, above)

@@ -19,9 +19,11 @@ module _ (law : StreamsHaveOneReading) (blocks : List Ask) (memory : Memory) (fr
   pub request_passes : (ask : Ask) → IsSent (Request ask) frame → ((short : Ask) → Contains blocks short → ask ≡ padded short → ⊥)
       → Gives blocks Peer memory frame frame memory
   request_passes ask sent unfit = record {
-    message = λ m is. (m,
+    message = λ m is. (
+      m,
       other (λ short asks. unfit short asks.0 (ap ask_in (one_message law (Request ask) m frame sent is ∙ asks.1))) refl refl,
-      is.spelled);
+      is.spelled,
+    );
     bytes = λ none. refl;
     memory = λ none. refl;
   }
@@ -30,9 +32,11 @@ module _ (law : StreamsHaveOneReading) (blocks : List Ask) (memory : Memory) (fr
   pub request_shortened : (ask short : Ask) → IsSent (Request ask) frame → Contains blocks short → ask ≡ padded short
       → Gives blocks Peer memory frame (message_spelling (Request short)) (with_asked memory short)
   request_shortened ask short sent there same = record {
-    message = λ m is. (Request short,
+    message = λ m is. (
+      Request short,
       request short (there, one_message law m (Request ask) frame is sent ∙ ap Request same) refl refl,
-      refl);
+      refl,
+    );
     bytes = λ none. absurd (none (Request ask) sent);
     memory = λ none. absurd (none (Request ask) sent);
   }
@@ -41,14 +45,16 @@ module _ (law : StreamsHaveOneReading) (blocks : List Ask) (memory : Memory) (fr
   pub piece_passes : (ask : Ask) (block : List ℕ) → IsSent (Piece ask.piece ask.begin block) frame → length block ≡ ask.length
       → (Contains memory ask → ¬ Contains blocks ask) → Gives blocks Engine memory frame frame memory
   piece_passes ask block sent whole unfit = record {
-    message = λ m is. (m,
+    message = λ m is. (
+      m,
       other
-      (λ asked bytes answers.
+          (λ asked bytes answers.
           let same = one_message law (Piece ask.piece ask.begin block) m frame sent is ∙ answers.message in
           let range : ask_of ask.piece ask.begin (length block) ≡ asked = answer_range ask.piece ask.begin block bytes asked same answers.whole in
           let one : asked ≡ ask = sym range ∙ ap (λ n. ask_of ask.piece ask.begin n) whole in
           unfit (subst (λ (a : Ask). Contains memory a) one answers.remembered) (subst (λ (a : Ask). Contains blocks a) one answers.short)) refl refl,
-      is.spelled);
+      is.spelled,
+    );
     bytes = λ none. refl;
     memory = λ none. refl;
   }
@@ -58,11 +64,13 @@ module _ (law : StreamsHaveOneReading) (blocks : List Ask) (memory : Memory) (fr
       → IsFirstAt memory ask index → Contains blocks ask
       → Gives blocks Engine memory frame (message_spelling (Piece ask.piece ask.begin (filled block))) (remove memory index)
   piece_filled ask block index sent whole first there = record {
-    message = λ m is. (Piece ask.piece ask.begin (filled block),
+    message = λ m is. (
+      Piece ask.piece ask.begin (filled block),
       piece ask block
-      (record { remembered = is_there memory ask index first; short = there; whole = whole; message = one_message law m (Piece ask.piece ask.begin block) frame is sent })
-      (is_taken memory ask index first) refl,
-      refl);
+          (record { remembered = is_there memory ask index first; short = there; whole = whole; message = one_message law m (Piece ask.piece ask.begin block) frame is sent })
+          (is_taken memory ask index first) refl,
+      refl,
+    );
     bytes = λ none. absurd (none (Piece ask.piece ask.begin block) sent);
     memory = λ none. absurd (none (Piece ask.piece ask.begin block) sent);
   }

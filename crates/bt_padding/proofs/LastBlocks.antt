@@ -168,14 +168,14 @@ in_turn n files some lay i j d lt within has =
 pub are_in_turn : (n : ℕ) (files : List File) → 0 < n → IsLaidOut n files → AreInTurn (blocks_in n files)
 are_in_turn n files some lay =
     go (filter has_short_block files) (AllPairs-filter (StandsBefore n) has_short_block files (in_turn n files some lay)) (filter_passes has_short_block files) where
-  go : (ys : List File) → AllPairs (StandsBefore n) ys → All (λ f. has_short_block f ≡ true) ys → AreInTurn (map (short_block n) ys)
-  go [] pairs all i j d lt within = absurd (omega arith)
-  go (f ∷ ys) pairs all i j d lt within =
-      let long : length (map (short_block n) (f ∷ ys)) ≡ length (f ∷ ys) = length-map (f ∷ ys) (short_block n) in
-      let first = get_or-map (short_block n) (f ∷ ys) i f d (omega (arith, lt, within, long)) in
-      let second = get_or-map (short_block n) (f ∷ ys) j f d (omega (arith, within, long)) in
-      let has = All-get_or (λ g. has_short_block g ≡ true) (f ∷ ys) i f (omega (arith, lt, within, long)) all in
-      omega (arith, pairs i j f lt (omega (arith, within, long)) has, ap (λ (a : Ask). a.piece) first, ap (λ (a : Ask). a.piece) second)
+      go : (ys : List File) → AllPairs (StandsBefore n) ys → All (λ f. has_short_block f ≡ true) ys → AreInTurn (map (short_block n) ys)
+      go [] pairs all i j d lt within = absurd (omega arith)
+      go (f ∷ ys) pairs all i j d lt within =
+          let long : length (map (short_block n) (f ∷ ys)) ≡ length (f ∷ ys) = length-map (f ∷ ys) (short_block n) in
+          let first = get_or-map (short_block n) (f ∷ ys) i f d (omega (arith, lt, within, long)) in
+          let second = get_or-map (short_block n) (f ∷ ys) j f d (omega (arith, within, long)) in
+          let has = All-get_or (λ g. has_short_block g ≡ true) (f ∷ ys) i f (omega (arith, lt, within, long)) all in
+          omega (arith, pairs i j f lt (omega (arith, within, long)) has, ap (λ (a : Ask). a.piece) first, ap (λ (a : Ask). a.piece) second)
 
 -- ---- where one is looked for
 
@@ -249,7 +249,7 @@ module _ (torrent : Metainfo) (k : ℕ) (f : File) (inside : k < length torrent.
       = is.length ∙ ap (λ (g : File). min 16384 (g.length - 16384 * (f.length / 16384))) entry ∙ sym (last_length f.length) in
       let same : short_block n f ≡ ask_of range.piece range.begin range.length
       = sym (ap (λ p. ask_of p range.begin range.length) piece ∙ ap (λ b. ask_of (f.first_piece + 16384 * (f.length / 16384) / n) b range.length) is.begin
-          ∙ ap (λ m. ask_of (f.first_piece + 16384 * (f.length / 16384) / n) (16384 * (f.length / 16384) % n) m) behind) in
+      ∙ ap (λ m. ask_of (f.first_piece + 16384 * (f.length / 16384) / n) (16384 * (f.length / 16384) % n) m) behind) in
       more ∙ ap (λ (b : Bool). blocks_in n (take k torrent.files) ++ map (short_block n) (cond b (f ∷ []) [])) has
       ∙ ap (λ (a : Ask). blocks_in n (take k torrent.files) ++ a ∷ []) same
 
@@ -274,8 +274,12 @@ all_gathered torrent items k so all = so ∙ ap (blocks_in torrent.piece_length)
 pub blocks_few : (torrent : Metainfo) → length (short_blocks_of torrent) ≤ length torrent.files
 unfolding short_blocks_of
 blocks_few torrent =
-    omega (arith, length-map (filter has_short_block torrent.files) (short_block torrent.piece_length), length-filter has_short_block torrent.files,
-      count_by-le-length has_short_block torrent.files)
+    omega (
+      arith,
+      length-map (filter has_short_block torrent.files) (short_block torrent.piece_length),
+      length-filter has_short_block torrent.files,
+      count_by-le-length has_short_block torrent.files,
+    )
 
 pub gathered_in_turn : (torrent : Metainfo) → IsPieceLength torrent.piece_length → IsLaidOut torrent.piece_length torrent.files
     → AreInTurn (short_blocks_of torrent)

@@ -6,3 +6,4 @@ pub mod Streams
 pub mod Giving
 pub mod Directions
 pub mod Passages
+pub mod Readers

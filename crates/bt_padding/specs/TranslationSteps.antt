@@ -35,9 +35,12 @@ pub record GivesFrames (d : DirectionState) (old : Memory) (taken : ℕ) (new : 
   pub appended : now ≡ held ++ frames
   pub all : HasNoFrameAt d taken
 
--- what is behind them is kept, or passes
-pub record IsKept (old : DirectionState) (taken : ℕ) (new : DirectionState) (held now : List ℕ) : Type 0 where
+-- what is left behind them is kept, or passes
+pub record IsKept (old : DirectionState) (taken : ℕ) (left : Flow) (held now : List ℕ) : Type 0 where
   pub behind : List ℕ
-  pub ends : Ends old.flow.passing (drop taken old.flow.unread) behind new.flow
+  pub ends : Ends old.flow.passing (drop taken old.flow.unread) behind left
   pub appended : now ≡ held ++ behind
-  pub others : new ≡ record old { flow = new.flow }
+
+-- the bytes of it alone are others
+abbrev pub IsSameDirection : DirectionState → DirectionState → Type 0
+IsSameDirection old new = new ≡ record old { flow = new.flow }

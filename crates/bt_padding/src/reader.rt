@@ -115,7 +115,10 @@ impl<'a, R: Read> PaddedReader<'a, R> {
     {
         // A bound, so that it ends whatever the system gives.
         for _ in 0..u64::MAX {
-            if !self.is_empty() || self.refill()? == 0 {
+            if !self.is_empty() {
+                return Ok(());
+            }
+            if self.refill()? == 0 {
                 return Ok(());
             }
         }

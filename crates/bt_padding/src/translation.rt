@@ -3,7 +3,7 @@ ghost use Rattle.std.specs.Prelude.{◌≡◌, ◌≢◌, ◌≤◌, length, IfO
 ghost use Rattle.std.specs.IoError.{error_kind};
 ghost use Rattle.bt_padding.specs.Flow.{IsFrame};
 ghost use Rattle.bt_padding.specs.Translation.{Receives};
-ghost use Rattle.bt_padding.specs.TranslationSteps.{new_direction, GivesBehind, GivesFrames, HasNoFrameAt, IsKept};
+ghost use Rattle.bt_padding.specs.TranslationSteps.{new_direction, GivesBehind, GivesFrames, HasNoFrameAt, IsKept, IsSameDirection};
 
 use crate::frame::{Front, front_of};
 use crate::padding::Padding;
@@ -74,7 +74,7 @@ impl<'a> Direction<'a> {
     pub(crate) fn translate(&mut self, bytes: &[u8], out: &mut Vec<u8>) -> io::Result<()>
         ensures receives { OnOk result (Receives self.old.blocks self.old.side self.old.flow bytes.now
             self.new.flow out.old.items out.new.items) }
-        ensures others { OnOk result (self.new ≡ record self.old { flow = self.new.flow }) }
+        ensures same { IsSameDirection self.old self.new }
         ensures not_again { IfErr result (λ error. error_kind error ≢ ErrorKind.Interrupted) }
     {
         let (front, behind) = bytes.split_at(self.passing.min(bytes.len()));
@@ -124,7 +124,8 @@ impl<'a> Direction<'a> {
     fn keep(&mut self, taken: usize, out: &mut Vec<u8>) -> Result<(), AllocError>
         requires inside { taken ≤ length self.old.flow.unread }
         requires no_frame { HasNoFrameAt self.old taken }
-        ensures { OnOk result (IsKept self.old taken self.new out.old.items out.new.items) }
+        ensures kept { OnOk result (IsKept self.old taken self.new.flow out.old.items out.new.items) }
+        ensures same { IsSameDirection self.old self.new }
     {
         let rest = &self.unread[taken..];
         if let Front::TooLong = front_of(rest) {

@@ -1,4 +1,4 @@
-use Rattle.std.proofs.Common.{◌≡◌, Option, Some, None, refl, ap, subst, List, ℕ}
+use Rattle.std.proofs.Common.{◌≡◌, Option, Some, None, refl, ap, ℕ}
 use Rattle.std.specs.Prelude.{IfNone}
 use Rattle.bt_wire.specs.declared.message.Ask.{Ask}
 use Rattle.bt_padding.proofs.padding.Padding.answered.Goals as goal

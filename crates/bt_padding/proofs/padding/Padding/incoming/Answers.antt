@@ -1,4 +1,4 @@
-use Rattle.std.proofs.Common.{◌≡◌, Option, Some, None, refl, sym, ◌∙◌, ap, subst, List, ℕ}
+use Rattle.std.proofs.Common.{◌≡◌, Option, Some, None, sym, ◌∙◌, ap, subst}
 use Rattle.bt_wire.specs.declared.message.Ask.{Ask}
 use Rattle.bt_wire.specs.declared.message.Message.{Message}
 use Rattle.bt_wire.specs.declared.message.Message.TheVariants.{Request}
@@ -14,7 +14,6 @@ pub returns-then-ask-clause-given : goal.returns-then-ask-clause-given
 returns-then-ask-clause-given c =
     request_passes c.streams_have_one_reading.ensures c.args.blocks.now c.args.self.now c.args.frame.now c.in_ok-ask.ask c.in_ok-ask.ensures.some
     (λ short there same. c.if-ask.true (ap (λ (a : Ask). a.length) same))
-
 
 pub returns-in_err-short-clause-given : goal.returns-in_err-short-clause-given
 returns-in_err-short-clause-given c =
@@ -32,6 +31,6 @@ returns-clause-given c =
     let ask = c.in_ok-ask.ask in
     let same : ask_of ask.piece ask.begin ask.length ≡ ask_of short.piece short.begin 16384
     = ap (λ p. ask_of p ask.begin ask.length) (sym c.in_ok-short.ensures.piece) ∙ ap (λ b. ask_of short.piece b ask.length) (sym c.in_ok-short.ensures.begin)
-        ∙ ap (λ n. ask_of short.piece short.begin n) c.if-ask.false in
+    ∙ ap (λ n. ask_of short.piece short.begin n) c.if-ask.false in
     subst (λ (m : Memory). Gives c.args.blocks.now Peer c.args.self.now c.args.frame.now (message_spelling (Request short)) m) (sym c.remember.ensures)
     (request_shortened c.streams_have_one_reading.ensures c.args.blocks.now c.args.self.now c.args.frame.now ask short c.in_ok-ask.ensures.some c.in_ok-short.ensures.some same)

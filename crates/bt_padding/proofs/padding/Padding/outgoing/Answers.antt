@@ -1,11 +1,11 @@
-use Rattle.std.proofs.Common.{◌≡◌, refl, sym, ◌∙◌, ap, subst, List, ℕ, remove}
+use Rattle.std.proofs.Common.{◌≡◌, sym, ◌∙◌, ap, subst, List, ℕ, remove}
 use Rattle.bt_wire.specs.declared.message.Ask.{Ask}
 use Rattle.bt_wire.specs.declared.message.Message.TheVariants.{Piece}
 use Rattle.bt_wire.specs.Message.{message_spelling}
-use Rattle.bt_padding.specs.Padding.{Memory, filled}
+use Rattle.bt_padding.specs.Padding.{Memory}
 use Rattle.bt_padding.specs.Translation.{Gives}
 use Rattle.bt_padding.specs.declared.translation.Side.TheVariants.{Engine}
-use Rattle.bt_padding.proofs.Giving.{piece_passes, piece_filled}
+use Rattle.bt_padding.proofs.Giving.{piece_filled}
 use Rattle.bt_padding.proofs.padding.Padding.outgoing.Goals as goal
 
 pub returns-clause-given : goal.returns-clause-given

@@ -1,4 +1,4 @@
-use Rattle.std.proofs.Common.{◌≡◌, ltb, length, get_or, Some, None, sym, ◌∙◌, ap, rules, arith}
+use Rattle.std.proofs.Common.{ltb, Some, ◌∙◌, ap, rules, arith}
 use Rattle.std.proofs.lemmas.List.Sorted.{IsPartitionPoint-from_clause}
 use Rattle.bt_wire.specs.declared.message.Ask.{Ask}
 use Rattle.bt_padding.proofs.LastBlocks.{parted, is_found}

@@ -1,8 +1,8 @@
-use Rattle.std.proofs.Common.{◌≡◌, ◌+◌, ◌-◌, ℕ, List, take, drop, sym, ◌∙◌, ap, arith, subst}
+use Rattle.std.proofs.Common.{◌≡◌, ◌+◌, ◌-◌, ℕ, List, take, drop, ◌∙◌, ap, arith, subst}
 use Rattle.std.proofs.lemmas.List.{take_rest}
 use Rattle.bt_padding.specs.FrameSteps.{BeginsFrame}
 use Rattle.bt_padding.specs.TranslationSteps.{GivesBehind}
-use Rattle.bt_padding.proofs.Directions.{IsSoFar, more_frames, all_frames, unread_seen}
+use Rattle.bt_padding.proofs.Directions.{more_frames, all_frames, unread_seen}
 use Rattle.bt_padding.proofs.translation.Direction.give_frames.Goals as goal
 
 pub frames-preserved : goal.frames-preserved
@@ -16,7 +16,7 @@ frames-preserved c =
     let count : taken + len - taken ≡ len = omega arith in
     let frame : take (taken + len - taken) (drop taken c.deref-in-Frame.result.now) ≡ take len (drop taken unread)
     = ap (λ n. take n (drop taken c.deref-in-Frame.result.now)) count
-        ∙ ap (λ (xs : List ℕ). take len (drop taken xs)) (unread_seen c.args.self.now _ c.deref-in-Frame.result.now c.self.view_is c.deref-in-Frame.ensures.value) in
+    ∙ ap (λ (xs : List ℕ). take len (drop taken xs)) (unread_seen c.args.self.now _ c.deref-in-Frame.result.now c.self.view_is c.deref-in-Frame.ensures.value) in
     more_frames c.args.self.now c.args.padding.now c.frames.padding c.give_on.new.padding c.args.out.now.items c.frames.out.items c.give_on.new.out.items taken len
     c.frames.invariant begins
     (subst (λ (xs : List ℕ). GivesBehind c.args.self.now c.frames.padding xs c.give_on.new.padding c.frames.out.items c.give_on.new.out.items) frame c.in_ok-give_on.ensures)

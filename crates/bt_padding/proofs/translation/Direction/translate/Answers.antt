@@ -1,5 +1,5 @@
-use Rattle.std.proofs.Common.{◌≡◌, ◌-◌, ◌++◌, ℕ, List, length, sym, ◌∙◌, ap, subst}
-use Rattle.bt_padding.specs.Flow.{Flow, flow}
+use Rattle.std.proofs.Common.{◌-◌, ◌++◌, ℕ, List, length, ap, subst}
+use Rattle.bt_padding.specs.Flow.{flow}
 use Rattle.bt_padding.specs.Translation.{Receives}
 use Rattle.bt_padding.specs.TranslationSteps.{DirectionState, GivesFrames}
 use Rattle.bt_padding.proofs.Directions.{received}
@@ -15,6 +15,6 @@ returns-clause-receives c =
     = subst (λ (xs : List ℕ). GivesFrames d c.deref_mut.result.now c.in_ok-taken.taken c.give_frames.new.padding xs c.give_frames.new.out.items)
     c.in_ok-extend_from_slice.ensures.items c.in_ok-taken.ensures in
     subst (λ (e : DirectionState). Receives e.blocks e.side e.flow c.args.bytes.now c.keep.new.self.flow c.args.out.now.items c.keep.new.out.items) c.self.view_is
-    (received d c.keep.new.self (flow c.self.inside.passing c.self.inside.unread.items) c.deref_mut.result.now c.give_frames.new.padding c.args.bytes.now front back
+    (received d (flow c.self.inside.passing c.self.inside.unread.items) c.keep.new.self.flow c.deref_mut.result.now c.give_frames.new.padding c.args.bytes.now front back
     c.args.out.now.items c.give_frames.new.out.items c.keep.new.out.items c.min.result c.in_ok-taken.taken c.min.ensures c.split_at.ensures.front c.split_at.ensures.back
-    (ap (λ (xs : List ℕ). flow passing xs) c.in_ok-extend_from_slice-2.ensures.items) g c.in_ok-keep.ensures)
+    (ap (λ (xs : List ℕ). flow passing xs) c.in_ok-extend_from_slice-2.ensures.items) g c.in_ok-keep.ensures.kept)
