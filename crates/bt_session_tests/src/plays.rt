@@ -24,8 +24,8 @@ enum Part {
     Guest,
 }
 
-/// Adds what a row answers: how a session with a peer ended that does what the words say, and after how many milliseconds. What is no
-/// row says so.
+/// Adds what a row answers: how a session with a peer ended that does what the words say, and after how many seconds. What is no row
+/// says so.
 pub fn play_row(
     alloc: Global,
     passage: Passage<'_>,
@@ -95,7 +95,7 @@ fn told_play(
     let end = end_of(alloc, passage, engine, part, &SceneNet(scene));
     let mut text = String::new(alloc);
     push_end(&mut text, end)?;
-    write!(text, " after {} ms", scene.millis())?;
+    write!(text, " after {} s", scene.seconds())?;
     Ok(text)
 }
 

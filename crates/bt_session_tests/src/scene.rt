@@ -22,13 +22,14 @@ pub struct Scene {
     acts: Vec<Act>,
     /// Which act is next,
     next: Cell<usize>,
-    /// and how much of it is done: bytes sent, or time waited.
+    /// and how much of it is done: how many bytes are sent, or since when it waits.
     sent: Cell<usize>,
-    waited: Cell<Duration>,
+    since: Cell<Option<Duration>>,
     /// How many more bytes the peer takes.
     takes: Cell<usize>,
-    /// How long a call of the socket waits.
-    turn: Cell<Duration>,
+    /// How long a read of the socket waits, and a write.
+    read_turn: Cell<Duration>,
+    write_turn: Cell<Duration>,
     now: Cell<Duration>,
     /// So many connections can't be taken before this one can, each with an error of this number.
     refused: Cell<u32>,
@@ -41,18 +42,19 @@ impl Scene {
             acts,
             next: Cell::new(0),
             sent: Cell::new(0),
-            waited: Cell::new(Duration::ZERO),
+            since: Cell::new(None),
             takes: Cell::new(usize::MAX),
-            turn: Cell::new(Duration::ZERO),
+            read_turn: Cell::new(Duration::ZERO),
+            write_turn: Cell::new(Duration::ZERO),
             now: Cell::new(Duration::ZERO),
             refused: Cell::new(refused),
             code,
         }
     }
 
-    /// How many milliseconds have passed.
-    pub fn millis(&self) -> u128 {
-        self.now.get().as_millis()
+    /// How many whole seconds have passed.
+    pub fn seconds(&self) -> u64 {
+        self.now.get().as_secs()
     }
 
     fn pass(&self, time: Duration) {
@@ -62,21 +64,22 @@ impl Scene {
     fn skip(&self) {
         self.next.set(self.next.get().saturating_add(1));
         self.sent.set(0);
-        self.waited.set(Duration::ZERO);
+        self.since.set(None);
     }
 
-    /// Waits for a turn, or as long as is left of this time: whether that is over then.
+    /// Waits for a turn, or until this time has passed since it was begun: whether it has then.
     fn wait(&self, time: Duration) -> bool {
-        let left = time.saturating_sub(self.waited.get());
-        let turn = self.turn.get();
-        if left <= turn {
-            self.pass(left);
-            self.skip();
-            return true;
+        let now = self.now.get();
+        let since = self.since.get().unwrap_or(now);
+        self.since.set(Some(since));
+        let left = since.saturating_add(time).saturating_sub(now);
+        let turn = self.read_turn.get();
+        self.pass(left.min(turn));
+        if left > turn {
+            return false;
         }
-        self.pass(turn);
-        self.waited.set(self.waited.get().saturating_add(turn));
-        false
+        self.skip();
+        true
     }
 
     /// Gives what is left of these bytes, as much as there is room for.
@@ -126,7 +129,7 @@ impl Write for SceneStream<'_> {
         let takes = scene.takes.get();
         let count = bytes.len().min(takes);
         if count < bytes.len() {
-            scene.pass(scene.turn.get());
+            scene.pass(scene.write_turn.get());
         }
         if count == 0 && !bytes.is_empty() {
             return Err(io::Error::from(ErrorKind::WouldBlock));
@@ -148,12 +151,13 @@ impl OpenStream for SceneStream<'_> {
     }
 
     fn set_read_timeout(&self, limit: Option<Duration>) -> io::Result<()> {
-        self.0.turn.set(limit.unwrap_or(Duration::MAX));
+        self.0.read_turn.set(limit.unwrap_or(Duration::MAX));
         Ok(())
     }
 
     fn set_write_timeout(&self, limit: Option<Duration>) -> io::Result<()> {
-        self.set_read_timeout(limit)
+        self.0.write_turn.set(limit.unwrap_or(Duration::MAX));
+        Ok(())
     }
 
     fn try_clone(&self) -> io::Result<Self> {

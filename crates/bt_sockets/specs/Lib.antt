@@ -1,3 +1,4 @@
+pub mod EarlySteps
 pub mod Link
 pub mod Stream
 pub mod StreamSteps

@@ -2,6 +2,7 @@
 #![tactic(auto)]
 
 mod alarm;
+mod early;
 mod link;
 mod listener;
 mod passage;

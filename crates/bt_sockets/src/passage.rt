@@ -1,6 +1,7 @@
 //! What stands between a connection and its engine.
 
 use crate::alarm::Alarm;
+use crate::early::Early;
 use crate::requests::Requests;
 use crate::timing::Timing;
 use bt_ahead::{DigestCache, Room};
@@ -19,6 +20,8 @@ pub struct Shared {
     pub(crate) requests: RefCell<Requests>,
     /// Where what is read ahead waits. A connection borrows it for as long as it is there.
     pub(crate) room: RefCell<Room>,
+    /// What came of a peer that takes nothing.
+    pub(crate) early: RefCell<Early>,
     /// How long the peer took for what it owes.
     pub(crate) timing: Timing,
     /// Rung where a device refuses a write.
@@ -33,11 +36,13 @@ impl Shared {
         let padding = RefCell::new(Padding::new(alloc)?);
         let requests = RefCell::new(Requests::new(alloc)?);
         let room = RefCell::new(Room::new(alloc)?);
+        let early = RefCell::new(Early::new(alloc)?);
         Ok(Shared {
             digests,
             padding,
             requests,
             room,
+            early,
             timing: Timing::new(),
             alarm: Alarm::new(),
         })

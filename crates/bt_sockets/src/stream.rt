@@ -4,9 +4,10 @@ ghost use Rattle.bt_sockets.specs.Stream.{AreNewWays};
 ghost use Rattle.bt_sockets.specs.StreamSteps.{IsAddressOf, IsTextOf, bracketed};
 
 use crate::alarm::AlarmReader;
-use crate::passage::Passage;
+use crate::early::Early;
+use crate::passage::{Passage, Shared};
 use crate::requests::{HoldingWriter, Requests, SendingReader};
-use crate::timed_stream::TimedStream;
+use crate::timed_stream::{TimedStream, set_turns};
 use crate::timing::Role;
 use bt_ahead::ReadAhead;
 use bt_padding::{PaddedReader, PaddedWriter, Padding};
@@ -22,9 +23,6 @@ pub const CONNECT_SECONDS: u64 = 20;
 
 /// For how many seconds a peer may send nothing at all, or take nothing, before a program gives it up.
 pub const IDLE_SECONDS: u64 = 120;
-
-/// A socket waits for so many milliseconds at a time.
-const TURN_MILLIS: u64 = 1000;
 
 /// What is read from a connection, as its engine gets it.
 pub type StreamReader<'a, S, C> = PaddedReader<
@@ -103,30 +101,30 @@ pub(crate) fn both_ways<'a, S: OpenStream + Drop, C: Clock>(
         shared,
     } = passage;
     let room = shared.room.try_borrow_mut()?;
-    forget(&shared.padding)?;
-    forget_requests(&shared.requests)?;
-    shared.alarm.stop();
-    shared.timing.begin(terms.role, Instant::now(clock)?);
-    set_options(&stream, terms.idle)?;
+    begin(shared, clock, terms.role)?;
+    stream.set_nodelay(true)?;
+    set_turns(&stream, terms.idle)?;
     let clone = stream.try_clone()?;
-    let reading = TimedStream::new(stream, clock, terms.idle, &shared.timing);
+    let reading = TimedStream::new(stream, clock, terms.idle, shared);
     let sending = SendingReader::new(reading, &shared.requests);
     let heard = AlarmReader::new(sending, &shared.alarm);
     let ahead = ReadAhead::new(heard, &shared.digests, room);
     let reader = PaddedReader::new(alloc, ahead, short_blocks, &shared.padding);
-    let writing = TimedStream::new(clone, clock, terms.idle, &shared.timing);
+    let writing = TimedStream::new(clone, clock, terms.idle, shared);
     let holding = HoldingWriter::new(writing, &shared.requests);
     let writer = PaddedWriter::new(alloc, holding, short_blocks, &shared.padding);
     Ok((reader, writer))
 }
 
-/// Has each write of a socket leave at once, and its calls wait for a turn at most. Errors: the system refuses
-/// this, also where no time at all is to be waited.
-fn set_options<S: OpenStream>(stream: &S, idle: Duration) -> io::Result<()> {
-    let turn = idle.min(Duration::from_millis(TURN_MILLIS));
-    stream.set_nodelay(true)?;
-    stream.set_read_timeout(Some(turn))?;
-    stream.set_write_timeout(Some(turn))
+/// Forgets the connection before, and begins the time of this one. Errors: the clock fails; what is to be
+/// forgotten is in use, which no call of this crate brings about.
+fn begin<C: Clock>(shared: &Shared, clock: &C, role: Role) -> io::Result<()> {
+    forget(&shared.padding)?;
+    forget_requests(&shared.requests)?;
+    forget_early(&shared.early)?;
+    shared.alarm.stop();
+    shared.timing.begin(role, Instant::now(clock)?);
+    Ok(())
 }
 
 /// Forgets the peer. Errors: what is remembered of it is in use, which no call of this crate brings about.
@@ -143,5 +141,13 @@ fn forget_requests(requests: &RefCell<Requests>) -> io::Result<()> {
     let mut guard = requests.try_borrow_mut()?;
     let requests = &mut *guard;
     requests.forget();
+    Ok(())
+}
+
+/// Forgets what came early of another connection. Errors: it is in use, which no call of this crate brings about.
+fn forget_early(early: &RefCell<Early>) -> io::Result<()> {
+    let mut guard = early.try_borrow_mut()?;
+    let early = &mut *guard;
+    early.forget();
     Ok(())
 }

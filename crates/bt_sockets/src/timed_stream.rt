@@ -1,20 +1,37 @@
 //! A socket at which nobody waits for ever.
-ghost use Rattle.std.specs.Prelude.{◌≡◌, ◌↔◌, ◌⊎◌, IsTrue};
+ghost use Rattle.std.specs.Prelude.{◌≡◌, ◌↔◌, ◌⊎◌, ◌≤◌, IsTrue, length};
+ghost use Rattle.std.specs.Io.{ReadsAtMost};
+ghost use Rattle.std.specs.Io.KnownBytes.{ReadConsumes};
 
+use crate::early::Early;
+use crate::passage::Shared;
 use crate::timing::{Timing, Way};
+use std::cell::RefCell;
 use std::io::{self, ErrorKind, Read, Write};
 use std::marker::Model;
+use std::net::OpenStream;
 use std::time::{Clock, Duration, Instant};
 
-/// A handle of a connection's socket. It waits for the peer in turns, as long as the socket's own time-outs are,
-/// and looks in between whether the peer has taken too long. To every contract it is what it has inside.
+/// A read waits for so many milliseconds at a time, before it is looked whether the peer has taken too long,
+const READ_TURN_MILLIS: u64 = 1000;
+
+/// and a write for so many, before what has come meanwhile is taken in,
+const WRITE_TURN_MILLIS: u64 = 50;
+
+/// for which so many are waited.
+const LOOK_MILLIS: u64 = 1;
+
+/// A handle of a connection's socket. It waits for the peer in turns, as long as the socket's time-outs are, and
+/// looks in between whether the peer has taken too long. While the peer takes nothing, what comes of it is taken
+/// in, as far as there is room, since it may wait for that to be taken.
 #[derive(Drop)]
 pub struct TimedStream<'a, S, C> {
     inner: S,
     clock: &'a C,
-    /// So long may a peer send nothing, or take nothing.
+    /// So long may a peer send nothing, or neither take nor send anything.
     idle: Duration,
     timing: &'a Timing,
+    early: &'a RefCell<Early>,
 }
 
 impl<'a, S, C> Model for TimedStream<'a, S, C> {
@@ -24,14 +41,15 @@ impl<'a, S, C> Model for TimedStream<'a, S, C> {
 }
 
 impl<'a, S, C> TimedStream<'a, S, C> {
-    pub(crate) fn new(inner: S, clock: &'a C, idle: Duration, timing: &'a Timing) -> Self
+    pub(crate) fn new(inner: S, clock: &'a C, idle: Duration, shared: &'a Shared) -> Self
         ensures { result ≡ inner }
     {
         TimedStream {
             inner,
             clock,
             idle,
-            timing,
+            timing: &shared.timing,
+            early: &shared.early,
         }
     }
 }
@@ -62,6 +80,53 @@ impl<'a, S, C: Clock> TimedStream<'a, S, C> {
     }
 }
 
+impl<'a, S: Read + OpenStream, C: Clock> TimedStream<'a, S, C> {
+    /// Takes in what has come while the peer took nothing. Says since when is waited: since now, where something
+    /// came, or else since then.
+    fn take_in(&mut self, begun: Instant) -> Instant {
+        let look = Duration::from_millis(LOOK_MILLIS);
+        let _ = self.inner.set_read_timeout(Some(look));
+        let count = take_early(self.early, &mut self.inner);
+        let _ = self.inner.set_read_timeout(Some(read_turn(self.idle)));
+        match Instant::now(self.clock) {
+            Ok(now) if count > 0 => now,
+            _ => begun,
+        }
+    }
+}
+
+/// How long a read waits at a time.
+fn read_turn(idle: Duration) -> Duration {
+    idle.min(Duration::from_millis(READ_TURN_MILLIS))
+}
+
+/// Has a socket's calls wait for a turn at a time. Errors: the system refuses this, also where no time at all is
+/// to be waited.
+pub(crate) fn set_turns<S: OpenStream>(stream: &S, idle: Duration) -> io::Result<()> {
+    let write_turn = idle.min(Duration::from_millis(WRITE_TURN_MILLIS));
+    stream.set_read_timeout(Some(read_turn(idle)))?;
+    stream.set_write_timeout(Some(write_turn))
+}
+
+/// Takes in what has come, and says how many bytes. Where they are in use, which no call of this crate brings
+/// about, it is none.
+fn take_early<S: Read>(early: &RefCell<Early>, from: &mut S) -> usize {
+    match early.try_borrow_mut() {
+        Ok(mut guard) => (&mut *guard).take_from(from),
+        Err(_) => 0,
+    }
+}
+
+/// Gives of what came early, and says how many bytes.
+fn give_early(early: &RefCell<Early>, buffer: &mut [u8]) -> usize
+    ensures { result ≤ length buffer.new }
+{
+    match early.try_borrow_mut() {
+        Ok(mut guard) => (&mut *guard).give(buffer),
+        Err(_) => 0,
+    }
+}
+
 /// Whether a call of a socket is to be made again after this error: it was interrupted, or the socket's
 /// time-out came.
 pub(crate) fn is_again(kind: ErrorKind) -> bool
@@ -74,13 +139,27 @@ pub(crate) fn is_again(kind: ErrorKind) -> bool
     )
 }
 
+// What comes early lies in a cell, so it is not known what is left to be read.
 impl<'a, S: Read, C: Clock> Read for TimedStream<'a, S, C> {
-    ghost remaining = { λ s. S.remaining s };
-
     /// Errors: those of the socket; the peer sent nothing for too long, or has taken too long otherwise; the
     /// clock fails.
     fn read(&mut self, buffer: &mut [u8]) -> io::Result<usize> {
         let begun = self.begin()?;
+        let count = give_early(self.early, buffer);
+        if count > 0 {
+            self.note(Way::In, &buffer[..count]);
+            return Ok(count);
+        }
+        self.wait_for_bytes(buffer, begun)
+    }
+}
+
+impl<'a, S: Read, C: Clock> TimedStream<'a, S, C> {
+    /// Reads once something has come. Errors: as `read`.
+    fn wait_for_bytes(&mut self, buffer: &mut [u8], begun: Instant) -> io::Result<usize>
+        ensures bound { ReadsAtMost result buffer.new }
+        ensures bytes { ReadConsumes (S.remaining self.old) (S.remaining self.new) result buffer.new }
+    {
         // A bound, so that it ends whatever the system gives.
         'waiting: for _ in 0..u64::MAX {
             match self.inner.read(buffer) {
@@ -96,13 +175,11 @@ impl<'a, S: Read, C: Clock> Read for TimedStream<'a, S, C> {
     }
 }
 
-impl<'a, S: Write, C: Clock> Write for TimedStream<'a, S, C> {
-    ghost contents = { λ s. S.contents s };
-
-    /// Errors: those of the socket; the peer took nothing for too long, or has taken too long otherwise; the
-    /// clock fails.
+impl<'a, S: Read + Write + OpenStream, C: Clock> Write for TimedStream<'a, S, C> {
+    /// Errors: those of the socket; the peer took and sent nothing for too long, or has taken too long
+    /// otherwise; the clock fails.
     fn write(&mut self, bytes: &[u8]) -> io::Result<usize> {
-        let begun = self.begin()?;
+        let mut begun = self.begin()?;
         // A bound, so that it ends whatever the system gives.
         'waiting: for _ in 0..u64::MAX {
             match self.inner.write(bytes) {
@@ -113,6 +190,7 @@ impl<'a, S: Write, C: Clock> Write for TimedStream<'a, S, C> {
                 Err(error) if is_again(error.kind()) && self.may_wait(begun) => {}
                 Err(error) => return Err(error),
             }
+            begun = self.take_in(begun);
         }
         Err(io::Error::from(ErrorKind::TimedOut))
     }
