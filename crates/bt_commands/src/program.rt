@@ -22,12 +22,13 @@ use std::io::{self, Read, Write};
 use std::net::Net;
 use std::process::ExitCode;
 use std::rt::Files;
+use std::time::Clock;
 
 /// Runs the program on the words of its environment, and gives the status that it exits with. How far its work
 /// is, and which call failed, is told to `watch`, of which no clause speaks.
 pub fn start<
     R: Env + Files + AllocGlobal + Clone + Drop,
-    N: Net,
+    N: Net + Clock,
     P: Watch,
     I: Read,
     O: Write,
@@ -60,7 +61,14 @@ fn words(rt: &(impl Env + AllocGlobal)) -> Result<Vec<String>, Fault>
 /// failed and 4 for out of memory.
 ///
 /// A script comes from the reader. Results and help go to the writer, faults to `faults`.
-pub fn run<R: Files + AllocGlobal + Clone + Drop, N: Net, P: Watch, I: Read, O: Write, E: Write>(
+pub fn run<
+    R: Files + AllocGlobal + Clone + Drop,
+    N: Net + Clock,
+    P: Watch,
+    I: Read,
+    O: Write,
+    E: Write,
+>(
     rt: &R,
     net: &N,
     watch: &P,
@@ -97,7 +105,14 @@ pub fn run<R: Files + AllocGlobal + Clone + Drop, N: Net, P: Watch, I: Read, O: 
 }
 
 /// Reads the words, and does what they ask for.
-fn attempt<R: Files + AllocGlobal + Clone + Drop, N: Net, P: Watch, I: Read, O: Write, E: Write>(
+fn attempt<
+    R: Files + AllocGlobal + Clone + Drop,
+    N: Net + Clock,
+    P: Watch,
+    I: Read,
+    O: Write,
+    E: Write,
+>(
     rt: &R,
     net: &N,
     watch: &P,
@@ -119,7 +134,14 @@ fn attempt<R: Files + AllocGlobal + Clone + Drop, N: Net, P: Watch, I: Read, O: 
 }
 
 /// Does a task, and returns its status.
-fn perform<R: Files + AllocGlobal + Clone + Drop, N: Net, P: Watch, I: Read, O: Write, E: Write>(
+fn perform<
+    R: Files + AllocGlobal + Clone + Drop,
+    N: Net + Clock,
+    P: Watch,
+    I: Read,
+    O: Write,
+    E: Write,
+>(
     rt: &R,
     net: &N,
     watch: &P,
@@ -202,7 +224,7 @@ fn perform_check<R: Files + AllocGlobal + Clone + Drop, P: Watch, O: Write>(
     summary.outcome()
 }
 
-fn perform_seed<R: Files + AllocGlobal + Clone + Drop, N: Net, P: Watch, O: Write>(
+fn perform_seed<R: Files + AllocGlobal + Clone + Drop, N: Net + Clock, P: Watch, O: Write>(
     rt: &R,
     net: &N,
     watch: &P,
@@ -218,7 +240,7 @@ fn perform_seed<R: Files + AllocGlobal + Clone + Drop, N: Net, P: Watch, O: Writ
     seed(rt, net, watch, task.torrent, task.dir, task.service, writer)
 }
 
-fn perform_fetch<R: Files + AllocGlobal + Clone + Drop, N: Net, P: Watch, O: Write>(
+fn perform_fetch<R: Files + AllocGlobal + Clone + Drop, N: Net + Clock, P: Watch, O: Write>(
     rt: &R,
     net: &N,
     watch: &P,

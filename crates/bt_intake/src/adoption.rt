@@ -3,6 +3,7 @@ ghost use Rattle.std.specs.Prelude.{[], ◌≡◌, ◌<◌, length, IfErr, Match
 ghost use Rattle.bt_machine.specs.declared.event.Event.TheVariants.{Adopt};
 ghost use Rattle.bt_machine.specs.declared.event.Answer.{Answer};
 ghost use Rattle.bt_machine.specs.View.{StepsTo};
+ghost use Rattle.bt_runs.specs.Leads.{LeadsTo};
 ghost use Rattle.bt_intake.specs.Adoption.{IsAdoptionFault, IsTakenIn, StopsAtFile, TakesInAll};
 
 use bt_check::Fault;
@@ -18,6 +19,7 @@ pub fn adopt_files<D: Disk + Drop, H: NodeHash>(engine: &mut Engine<D, H>) -> Re
         (TakesInAll D.history D.honest D.faults H.digest engine.old engine.new) }
     ensures fault { IfErr result
         (λ fault. StopsAtFile D.history D.honest D.faults H.digest engine.old fault engine.new) }
+    ensures run { LeadsTo D.history D.honest D.faults H.digest engine.old engine.new }
     ensures torrent { engine.new.state.torrent ≡ engine.old.state.torrent }
     ensures no_peer { engine.new.state.peers ≡ [] }
 {

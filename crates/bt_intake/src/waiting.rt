@@ -1,5 +1,6 @@
 //! Files whose blocks have all come, some of them without their hashes, are taken in.
 ghost use Rattle.std.specs.Prelude.{[], ◌≡◌, ◌↔◌, IsTrue, IfErr, OnOk};
+ghost use Rattle.bt_runs.specs.Leads.{LeadsTo};
 ghost use Rattle.bt_intake.specs.Waiting.{IsWholeWaiting, StopsAtWaiting, TakesInAllWaiting};
 
 use crate::adoption::adopt_file;
@@ -17,6 +18,7 @@ pub fn adopt_waiting<D: Disk + Drop, H: NodeHash>(engine: &mut Engine<D, H>) -> 
         (TakesInAllWaiting D.history D.honest D.faults H.digest engine.old engine.new) }
     ensures fault { IfErr result
         (λ fault. StopsAtWaiting D.history D.honest D.faults H.digest engine.old fault engine.new) }
+    ensures run { LeadsTo D.history D.honest D.faults H.digest engine.old engine.new }
     ensures torrent { engine.new.state.torrent ≡ engine.old.state.torrent }
     ensures no_peer { engine.new.state.peers ≡ [] }
 {

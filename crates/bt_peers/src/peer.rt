@@ -1,5 +1,6 @@
 //! One peer.
 ghost use Rattle.std.specs.Prelude.{[], ◌≡◌};
+ghost use Rattle.bt_runs.specs.Leads.{LeadsTo};
 ghost use Rattle.bt_peers.specs.Peer.{EndsAs};
 
 use crate::end::PeerEnd;
@@ -21,6 +22,7 @@ pub fn meet_peer<D: Disk + Drop, H: NodeHash, R: Read + Drop, W: Write + Drop>(
     ensures ended { EndsAs D.history D.honest D.faults H.digest R.remaining W.contents until_complete
         turns reached engine.old result engine.new }
     ensures gone { engine.new.state.peers ≡ [] }
+    ensures run { LeadsTo D.history D.honest D.faults H.digest engine.old engine.new }
 {
     let Some((mut reader, mut writer)) = reached else {
         return PeerEnd::Unreachable;

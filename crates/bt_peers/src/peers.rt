@@ -1,5 +1,6 @@
 //! Peers in their turns.
 ghost use Rattle.std.specs.Prelude.{[], ◌≡◌, length, All};
+ghost use Rattle.bt_runs.specs.Leads.{LeadsTo};
 ghost use Rattle.bt_peers.specs.Peers.{IsTried, InTurn};
 
 use crate::end::PeerEnd;
@@ -26,6 +27,7 @@ pub fn run_peers<D: Disk + Drop, H: NodeHash, L: Link>(
     ensures peers { InTurn (IsTried D.history D.honest D.faults H.digest L.dials L.failures L.gives
         L.R.remaining L.W.contents turns) engine.old links.old ends.new links.new engine.new }
     ensures gone { engine.new.state.peers ≡ [] }
+    ensures run { LeadsTo D.history D.honest D.faults H.digest engine.old engine.new }
 {
     ends.fill(PeerEnd::Untried);
     for (i, link) in links.iter_mut().enumerate() {
@@ -48,6 +50,7 @@ fn try_peer<D: Disk + Drop, H: NodeHash, L: Link>(
     ensures tried { IsTried D.history D.honest D.faults H.digest L.dials L.failures L.gives
         L.R.remaining L.W.contents turns engine.old link.old result link.new engine.new }
     ensures gone { engine.new.state.peers ≡ [] }
+    ensures run { LeadsTo D.history D.honest D.faults H.digest engine.old engine.new }
 {
     let reached = link.dial();
     meet_peer(alloc, engine, reached, true, turns)

@@ -1,3 +1,4 @@
 pub mod Paths
 pub mod Flushes
 pub mod Kept
+pub mod WholeRuns

@@ -1,2 +1,4 @@
 pub mod Flushes
+pub mod Leads
 pub mod Promises
+pub mod WholeRuns

@@ -2,5 +2,7 @@
 #![tactic(auto)]
 
 mod promises;
+mod whole_runs;
 
 pub use promises::{flushed_blocks_stay, run_as_promised};
+pub use whole_runs::whole_runs_keep_promises;

@@ -12,6 +12,7 @@ use std::marker::Model;
 #[derive(Drop)]
 pub struct Alarm {
     rings: Cell<bool>,
+    has_rung: Cell<bool>,
 }
 
 impl Alarm {
@@ -19,11 +20,13 @@ impl Alarm {
     pub fn new() -> Self {
         Alarm {
             rings: Cell::new(false),
+            has_rung: Cell::new(false),
         }
     }
 
     pub fn ring(&self) {
         self.rings.set(true);
+        self.has_rung.set(true);
     }
 
     /// It rings no more, as for a connection that begins.
@@ -33,6 +36,11 @@ impl Alarm {
 
     pub fn is_ringing(&self) -> bool {
         self.rings.get()
+    }
+
+    /// Whether it ever rang, also for a connection before this one.
+    pub fn has_rung(&self) -> bool {
+        self.has_rung.get()
     }
 }
 

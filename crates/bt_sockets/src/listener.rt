@@ -2,6 +2,7 @@
 ghost use Rattle.std.specs.Prelude.{[], ◌≡◌, ◌↔◌, IsTrue, IfOk, IfErr, OnErr};
 ghost use Rattle.std.specs.IoError.{raw_os_error};
 ghost use Rattle.bt_check.specs.Fault.{device};
+ghost use Rattle.bt_runs.specs.Leads.{LeadsTo};
 ghost use Rattle.bt_sockets.specs.Listener.{IsServed};
 ghost use Rattle.bt_sockets.specs.ListenerSteps.{IsNoListener};
 ghost use Rattle.bt_sockets.specs.Stream.{AreNew};
@@ -106,6 +107,7 @@ pub fn serve<'a, D: Disk + Drop, H: NodeHash, R: Net + Clock>(
         ⟦<StreamReader<'a, R::Stream, R> as Read>⟧.remaining
         ⟦<StreamWriter<'a, R::Stream, R> as Write>⟧.contents SESSION_TURNS engine.old end engine.new) }
     ensures gone { engine.new.state.peers ≡ [] }
+    ensures run { LeadsTo D.history D.honest D.faults H.digest engine.old engine.new }
     ensures refused { IfErr result (λ fault. fault ≡ device) }
     ensures kept { OnErr result (engine.new ≡ engine.old) }
 {

@@ -4,12 +4,7 @@ use Rattle.std.specs.Io.KnownBytes.{Appends}
 use Rattle.std.specs.List.{enumerate_from, flat_map}
 use Rattle.std.proofs.KnownBytes.{Appends-nil, Appends-trans}
 use Rattle.std.proofs.lemmas.Grind.{flat_map-append}
-use Rattle.bt_disk.specs.History.{History}
-use Rattle.bt_machine.specs.declared.event.Event.TheVariants.{Flush}
-use Rattle.bt_machine.specs.declared.event.Answer.{Answer}
-use Rattle.bt_machine.specs.Flush.{StepFlush, syncs, fails}
 use Rattle.bt_machine.specs.State.{EngineView}
-use Rattle.bt_machine.specs.View.{StepsTo}
 use Rattle.bt_peers.specs.declared.end.PeerEnd.{PeerEnd}
 use Rattle.bt_transfer.specs.Connections.{HasServed, none_yet, one_more, served_line, served_lines}
 use Rattle.bt_transfer.specs.OverTcp.{Meeting}
@@ -39,12 +34,3 @@ module _ {D : Type 0} (Meet : Meeting D) where
     lines = subst (Appends before then) (sym (lines_more served.ends end number (omega (arith, is, served.counted))))
         (Appends-trans before now then _ _ served.lines told);
   }
-
--- a flush changes no peer
-flush_state : {s : _} {calls : _} {answer : _} {new : _} → StepFlush s calls answer new → new ≡ s
-flush_state (syncs a b c e) = e
-flush_state (fails x y z a b c d e) = e
-
-pub flush_keeps_peers : {D : Type 0} (history : D → History) (honest : D → Type 0) (faults : D → ℕ) (dig : List ℕ → List ℕ)
-    (old new : EngineView D) (answer : Answer) → StepsTo history honest faults dig old Flush answer new → old.state.peers ≡ [] → new.state.peers ≡ []
-flush_keeps_peers history honest faults dig old new answer step none = ap (λ s. s.peers) (flush_state step.step.2) ∙ none

@@ -4,3 +4,5 @@ pub mod PeerLines
 pub mod OverTcp
 pub mod ConnectionLines
 pub mod Faults
+pub mod Flushes
+pub mod WholeRuns

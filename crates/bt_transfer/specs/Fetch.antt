@@ -1,23 +1,38 @@
 -- What a fetch comes to.
-use Rattle.std.specs.Prelude.{ℕ, Bool, List, Ok, Option, map}
+use Rattle.std.specs.Prelude.{◌≡◌, ℕ, Bool, List, Ok, Option, Result, Some, map, slice_get}
 use Rattle.std.specs.Io.KnownBytes.{Appends}
 use Rattle.sha2.specs.Sha256.{sha256}
 use Rattle.bt_disk.specs.History.{History}
 use Rattle.bt_intake.specs.Waiting.{TakesInAllWaiting}
+use Rattle.bt_meta.specs.Files.{File}
+use Rattle.bt_meta.specs.Torrent.{Metainfo}
+use Rattle.bt_machine.specs.declared.error.FlushError.{FlushError}
 use Rattle.bt_machine.specs.declared.event.Event.TheVariants.{Flush}
 use Rattle.bt_machine.specs.declared.event.Answer.TheVariants.{Flushed}
 use Rattle.bt_machine.specs.State.{EngineView}
 use Rattle.bt_machine.specs.View.{StepsTo}
+use Rattle.bt_padding.specs.ShortBlocks.{short_blocks_of}
 use Rattle.bt_peers.specs.Peers.{InTurn, Trial}
 use Rattle.bt_peers.specs.declared.end.PeerEnd.{PeerEnd}
+use Rattle.bt_wire.specs.declared.message.Ask.{Ask}
+use Rattle.bt_runs.specs.WholeRuns.{IsFileMarkedOnPath, IsWholeRun}
 use Rattle.bt_sockets.specs.Link.{Dials, undialled}
 use Rattle.bt_transfer.specs.DataFiles.{DeviceView}
 use Rattle.bt_transfer.specs.Ending.{IsConcluded}
 use Rattle.bt_transfer.specs.Loading.{IsLoaded}
 use Rattle.bt_transfer.specs.OverTcp.{TriesOverTcp}
 use Rattle.bt_transfer.specs.PeerLines.{peer_lines}
+use Rattle.bt_transfer.specs.Report.{ReportsMarked, ReportsPublished}
 use Rattle.bt_transfer.specs.Store.{device_faults, device_history, device_honest}
 use Rattle.bt_words.specs.declared.peer.Peer.{Peer}
+
+-- The peers were tried in turn, and the next thing was a flush, which was answered so.
+pub record TriesAndSyncs {D L : Type 0} (Try : Trial D L) (history : D → History) (honest : D → Type 0)
+    (faults : D → ℕ) (dig : List ℕ → List ℕ) (old : EngineView D) (links : List L) (ends : List PeerEnd)
+    (rest : List L) (answer : Result (Unit {0}) FlushError) (new : EngineView D) : Type 0 where
+  pub met : EngineView D
+  pub in_turn : InTurn Try old links ends rest met
+  pub flushed : StepsTo history honest faults dig met Flush (Flushed answer) new
 
 -- The peers were tried in turn, all devices were synced, a line tells of each peer that was tried, the files
 -- whose blocks came without their hashes were taken in, and then it is concluded.
@@ -25,33 +40,47 @@ pub record HasFetched {D L : Type 0} (Try : Trial D L) (history : D → History)
     (faults : D → ℕ) (dig : List ℕ → List ℕ) (peers : List Peer) (old : EngineView D) (links : List L)
     (before after : Option (List ℕ)) (status : ℕ) (rest : List L) (new : EngineView D) : Type 0 where
   pub ends : List PeerEnd
-  pub met : EngineView D
   pub kept : EngineView D
   pub told : Option (List ℕ)
   pub taken : EngineView D
-  pub in_turn : InTurn Try old links ends rest met
+  pub tried : TriesAndSyncs Try history honest faults dig old links ends rest (Ok tt) kept
   pub lines : Appends before told (peer_lines peers ends)
-  pub flushed : StepsTo history honest faults dig met Flush (Flushed (Ok tt)) kept
   pub taken_in : TakesInAllWaiting history honest faults dig kept taken
   pub end : IsConcluded history honest faults dig taken told after status new
 
--- a link to each peer's host and port, in their order, none of which was dialled
-abbrev pub links_of : List Peer → List Dials
-links_of peers = map (λ peer. undialled peer.host.now peer.port) peers
+-- A link to each peer's host and port, in their order, none of which was dialled. What stands before their
+-- sockets goes by these short blocks.
+abbrev pub links_of : List Ask → List Peer → List Dials
+links_of short peers = map (λ peer. undialled peer.host.now peer.port short) peers
 
--- The same over a new link to each of the peers.
+-- The same over a new link to each of the peers, for the short last blocks of the engine's own torrent.
 pub record HasFetchedOverTcp {D : Type 0} (history : D → History) (honest : D → Type 0) (faults : D → ℕ)
     (dig : List ℕ → List ℕ) (peers : List Peer) (old : EngineView D) (before after : Option (List ℕ))
     (status : ℕ) (new : EngineView D) : Type 0 where
   pub rest : List Dials
   pub fetched : HasFetched (TriesOverTcp history honest faults dig) history honest faults dig peers
-      old (links_of peers) before after status rest new
+      old (links_of (short_blocks_of old.state.torrent) peers) before after status rest new
+
+-- An engine that began with a torrent as `first`, and has come to `old`, fetched the rest from the peers. The
+-- whole, from `first` on, is a run as promised. Where the report calls a file complete, each of its blocks became
+-- marked in this run by bytes whose digest lies at its leaf, on a checked path to the file's root (`reported`);
+-- and what its device has is the published file, where that is honest (`published`). With status 0 each file of
+-- the torrent is so (`complete`).
+pub record EndsFetch {D : Type 0} (history : D → History) (honest : D → Type 0) (faults : D → ℕ)
+    (dig : List ℕ → List ℕ) (torrent : Metainfo) (first old : EngineView D) (peers : List Peer)
+    (before after : Option (List ℕ)) (status : ℕ) : Type 0 where
+  pub last : EngineView D
+  pub fetched : HasFetchedOverTcp history honest faults dig peers old before after status last
+  pub whole : IsWholeRun history honest faults dig torrent first last
+  pub reported : ReportsMarked dig torrent first.state whole.events whole.calls whole.answers last.state
+  pub published : ReportsPublished history honest dig torrent last
+  pub complete : status ≡ 0 → (number : ℕ) (file : File) → slice_get torrent.files number ≡ Some file
+      → IsFileMarkedOnPath dig first.state whole.events whole.calls whole.answers last.state number file
 
 -- The store of a torrent of some text was opened in a folder, and the rest was fetched from the peers.
 pub record IsFetch (is_info : Bool) (dir : List ℕ) (peers : List Peer) (before after : Option (List ℕ))
     (status : ℕ) : Type 0 where
   pub store : EngineView DeviceView
   pub loaded : IsLoaded is_info dir store
-  pub last : EngineView DeviceView
-  pub fetched : HasFetchedOverTcp device_history device_honest device_faults sha256 peers store
-      before after status last
+  pub ended : EndsFetch device_history device_honest device_faults sha256 loaded.torrent loaded.opened.first
+      store peers before after status

@@ -1,12 +1,19 @@
--- The end of a fetch, in which its engine is gone.
-use Rattle.std.specs.Prelude.{ℕ, List, Option}
+-- A fetch that fails.
+use Rattle.std.specs.Prelude.{◌≡◌, ℕ, List, Result}
 use Rattle.bt_disk.specs.History.{History}
+use Rattle.bt_machine.specs.declared.error.FlushError.{FlushError}
 use Rattle.bt_machine.specs.State.{EngineView}
-use Rattle.bt_transfer.specs.Fetch.{HasFetchedOverTcp}
-use Rattle.bt_words.specs.declared.peer.Peer.{Peer}
+use Rattle.bt_peers.specs.Peers.{Trial}
+use Rattle.bt_peers.specs.declared.end.PeerEnd.{PeerEnd}
+use Rattle.bt_runs.specs.Leads.{LeadsTo}
+use Rattle.bt_transfer.specs.Fetch.{TriesAndSyncs}
 
--- some engine was left behind
-abbrev pub EndsFetch : {D : Type 0} → (D → History) → (D → Type 0) → (D → ℕ) → (List ℕ → List ℕ) → List Peer
-    → EngineView D → (before after : Option (List ℕ)) → (status : ℕ) → Type 0
-EndsFetch {D} history honest faults dig peers old before after status = (last : EngineView D)
-    × HasFetchedOverTcp history honest faults dig peers old before after status last
+-- A fetch fails before any peer is tried, or behind the flush that follows on the last.
+pub data BreaksOff {D L : Type 0} (Try : Trial D L) (history : D → History) (honest : D → Type 0)
+    (faults : D → ℕ) (dig : List ℕ → List ℕ) (old : EngineView D) (links rest : List L) (new : EngineView D)
+    : Type 0 where
+  none_tried : rest ≡ links → new ≡ old → BreaksOff Try history honest faults dig old links rest new
+  synced : (ends : List PeerEnd) (answer : Result (Unit {0}) FlushError) (kept : EngineView D)
+      → TriesAndSyncs Try history honest faults dig old links ends rest answer kept
+      → LeadsTo history honest faults dig kept new
+      → BreaksOff Try history honest faults dig old links rest new

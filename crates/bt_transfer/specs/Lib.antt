@@ -10,4 +10,3 @@ pub mod Fetch
 pub mod FetchSteps
 pub mod Connections
 pub mod Seed
-pub mod SeedSteps

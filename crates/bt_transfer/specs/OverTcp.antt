@@ -26,4 +26,5 @@ Meeting D = EngineView D → PeerEnd → EngineView D → Type 0
 abbrev pub MeetsOverTcp : {D : Type 0} → (D → History) → (D → Type 0) → (D → ℕ) → (List ℕ → List ℕ)
     → Meeting D
 MeetsOverTcp history honest faults dig old end new =
-    IsServed history honest faults dig (λ bytes. bytes) (λ bytes. bytes) session_turns old end new
+    IsServed history honest faults dig (λ given taken. ⊤) (λ bytes. bytes) (λ bytes. bytes) session_turns
+    old end new

@@ -1,10 +1,17 @@
 -- What an engine reports on the files of its torrent, in the words of a check.
-use Rattle.std.specs.Prelude.{ℕ, ◌++◌, false, List, length}
+use Rattle.std.specs.Prelude.{◌≡◌, ℕ, ◌++◌, true, false, List, length, Option, Some, slice_get}
 use Rattle.std.specs.List.{count_by, flat_map, zip}
+use Rattle.bt_disk.specs.History.{History}
 use Rattle.bt_store.specs.BlockStates.{is_marked}
 use Rattle.bt_meta.specs.Files.{File}
-use Rattle.bt_machine.specs.State.{FileState, EngineState}
+use Rattle.bt_meta.specs.Torrent.{Metainfo}
+use Rattle.bt_machine.specs.declared.event.Event.{Event}
+use Rattle.bt_machine.specs.declared.event.Answer.{Answer}
+use Rattle.bt_machine.specs.State.{FileState, EngineState, EngineView}
+use Rattle.bt_machine.specs.Devices.{DeviceCalls}
 use Rattle.bt_machine.specs.Report.{all_complete}
+use Rattle.bt_runs.specs.WholeRuns.{IsFileMarkedOnPath, IsPublishedOn}
+use Rattle.bt_check.specs.Finding.{is_complete_finding}
 use Rattle.bt_check.specs.Display.{display_text}
 use Rattle.bt_check.specs.Paths.{path_text}
 use Rattle.bt_check.specs.Report.{finding_line, last_line}
@@ -30,3 +37,27 @@ state_lines s = flat_map (λ p. state_line p.0 p.1) (zip s.files s.torrent.files
 -- these, and the last line
 abbrev pub engine_report : EngineState → List ℕ
 engine_report s = state_lines s ++ last_line (all_complete s)
+
+-- ---- what it means that a line calls a file complete
+
+-- the line of the torrent's file of this number begins with `complete`
+pub record IsCalledComplete (torrent : Metainfo) (s : EngineState) (number : ℕ) (file : File) : Type 0 where
+  pub state : FileState
+  pub listed : slice_get torrent.files number ≡ Some file
+  pub here : slice_get s.files number ≡ Some state
+  pub called : is_complete_finding (finding_of state) ≡ true
+
+-- Each block of such a file became marked in a run, by bytes whose digest lies at its leaf, on a checked path
+-- to the file's root.
+abbrev pub ReportsMarked : (List ℕ → List ℕ) → Metainfo → EngineState → List Event → List DeviceCalls
+    → List Answer → EngineState → Type 0
+ReportsMarked dig torrent first events calls answers last = (number : ℕ) (file : File)
+    → IsCalledComplete torrent last number file
+    → IsFileMarkedOnPath dig first events calls answers last number file
+
+-- Such a file is the published one on its device, where that is honest. An empty file has no device and no byte.
+abbrev pub ReportsPublished : {D : Type 0} → (D → History) → (D → Type 0) → (List ℕ → List ℕ) → Metainfo
+    → EngineView D → Type 0
+ReportsPublished {D} history honest dig torrent last = (number : ℕ) (file : File) (disk : Option D)
+    → IsCalledComplete torrent last.state number file → slice_get last.disks number ≡ Some disk
+    → IsPublishedOn history honest dig file disk

@@ -9,6 +9,8 @@ use Rattle.bt_machine.specs.declared.event.Event.TheVariants.{Flush}
 use Rattle.bt_machine.specs.declared.event.Answer.TheVariants.{Flushed}
 use Rattle.bt_machine.specs.State.{EngineView}
 use Rattle.bt_machine.specs.View.{StepsTo}
+use Rattle.bt_meta.specs.Torrent.{Metainfo}
+use Rattle.bt_runs.specs.WholeRuns.{IsWholeRun}
 use Rattle.bt_transfer.specs.DataFiles.{DeviceView}
 use Rattle.bt_transfer.specs.Connections.{HasServed, MeetsAndSyncs}
 use Rattle.bt_transfer.specs.Loading.{IsLoaded}
@@ -46,11 +48,21 @@ pub record HasListened {D : Type 0} (history : D → History) (honest : D → Ty
   pub listening : Appends before told (listening_line port)
   pub served : HasServedAll history honest faults dig serving old told after new
 
+-- An engine that began with a torrent as `first`, and has come to `old`, served connections, and the status is 0.
+-- The whole, from `first` on, is a run as promised: what it sent was cut from blocks whose digests lie at their
+-- leaves, on checked paths to their files' roots, and each block that is marked became so by such bytes.
+pub record EndsSeed {D : Type 0} (history : D → History) (honest : D → Type 0) (faults : D → ℕ)
+    (dig : List ℕ → List ℕ) (torrent : Metainfo) (first old : EngineView D) (serving : Serving)
+    (before after : Option (List ℕ)) (status : ℕ) : Type 0 where
+  pub last : EngineView D
+  pub listened : HasListened history honest faults dig serving old before after last
+  pub whole : IsWholeRun history honest faults dig torrent first last
+  pub done : status ≡ 0
+
 -- The store of a torrent of some text was opened in a folder, the port is told, and connections were served.
 pub record IsSeed (is_info : Bool) (dir : List ℕ) (serving : Serving) (before after : Option (List ℕ))
     (status : ℕ) : Type 0 where
   pub store : EngineView DeviceView
   pub loaded : IsLoaded is_info dir store
-  pub last : EngineView DeviceView
-  pub listened : HasListened device_history device_honest device_faults sha256 serving store before after last
-  pub done : status ≡ 0
+  pub ended : EndsSeed device_history device_honest device_faults sha256 loaded.torrent loaded.opened.first
+      store serving before after status

@@ -5,16 +5,18 @@ use Rattle.bt_meta.specs.Torrent.{Metainfo}
 use Rattle.bt_machine.specs.Start.{AreDevicesOf, Starts}
 use Rattle.bt_machine.specs.State.{EngineView}
 use Rattle.bt_intake.specs.Adoption.{TakesInAll}
+use Rattle.bt_runs.specs.Leads.{LeadsTo}
 use Rattle.bt_transfer.specs.DataFiles.{DeviceView}
 
--- An engine of the torrent, which began with these devices and has taken in what they have: no read of them
--- failed. No peer is connected.
+-- An engine of the torrent, which began with these devices and has taken in what they have, by events of the
+-- machine: no read of them failed. No peer is connected.
 pub record HasBegun {D : Type 0} (history : D → History) (honest : D → Type 0) (faults : D → ℕ)
     (dig : List ℕ → List ℕ) (torrent : Metainfo) (given : List D) (engine : EngineView D) : Type 0 where
   pub first : EngineView D
   pub starts : Starts dig torrent first.state
   pub devices : AreDevicesOf torrent.files given first.disks
   pub taken_in : TakesInAll history honest faults dig first engine
+  pub run : LeadsTo history honest faults dig first engine
   pub same : engine.state.torrent ≡ torrent
   pub no_peer : engine.state.peers ≡ []
 

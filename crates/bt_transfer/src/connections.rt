@@ -2,6 +2,7 @@
 ghost use Rattle.std.specs.Prelude.{[], ◌≡◌, ◌⊎◌, ◌++◌, ◌-◌, ◌^◌, IfErr, IfOk, OnErr, OnOk, string_bytes};
 ghost use Rattle.std.specs.Io.KnownBytes.{Appends};
 ghost use Rattle.bt_check.specs.Fault.{device, out_of_memory};
+ghost use Rattle.bt_runs.specs.Leads.{LeadsTo};
 ghost use Rattle.bt_transfer.specs.Connections.{HasServed, IsFlushed, MeetsAndSyncs, served_line};
 ghost use Rattle.bt_transfer.specs.OverTcp.{MeetsOverTcp};
 
@@ -16,10 +17,10 @@ use bt_tree::NodeHash;
 use std::alloc::{AllocError, Global};
 use std::io::Write;
 use std::net::Net;
-use std::time::Duration;
+use std::time::{Clock, Duration};
 
 /// Serves so many connections, one after the other, and writes how it ended with each.
-pub(crate) fn serve_count<D: Disk + Drop, H: NodeHash, N: Net, W: Write>(
+pub(crate) fn serve_count<D: Disk + Drop, H: NodeHash, N: Net + Clock, W: Write>(
     alloc: Global,
     reception: &Reception<'_, N>,
     engine: &mut Engine<D, H>,
@@ -29,6 +30,7 @@ pub(crate) fn serve_count<D: Disk + Drop, H: NodeHash, N: Net, W: Write>(
     requires no_peer { engine.old.state.peers ≡ [] }
     ensures served { OnOk result (HasServed (MeetsOverTcp D.history D.honest D.faults H.digest) count
         engine.old (W.contents writer.old) (W.contents writer.new) engine.new) }
+    ensures run { LeadsTo D.history D.honest D.faults H.digest engine.old engine.new }
     ensures fault { IfErr result (λ fault. (fault ≡ device) ⊎ (fault ≡ out_of_memory)) }
 {
     for number in 0..count {
@@ -40,7 +42,7 @@ pub(crate) fn serve_count<D: Disk + Drop, H: NodeHash, N: Net, W: Write>(
 
 /// Serves one connection after the other, whatever came of those before; writes how it ended with each, and
 /// then has all put on the devices.
-pub(crate) fn serve_forever<D: Disk + Drop, H: NodeHash, N: Net, W: Write>(
+pub(crate) fn serve_forever<D: Disk + Drop, H: NodeHash, N: Net + Clock, W: Write>(
     alloc: Global,
     reception: &Reception<'_, N>,
     engine: &mut Engine<D, H>,
@@ -50,6 +52,7 @@ pub(crate) fn serve_forever<D: Disk + Drop, H: NodeHash, N: Net, W: Write>(
     ensures served { OnOk result (HasServed (MeetsAndSyncs D.history D.honest D.faults H.digest) (2 ^ 64 - 1)
         engine.old (W.contents writer.old) (W.contents writer.new) engine.new) }
     ensures kept { OnErr result (IsFlushed D.history D.honest D.faults H.digest engine.new) }
+    ensures run { LeadsTo D.history D.honest D.faults H.digest engine.old engine.new }
     ensures fault { IfErr result (λ fault. (fault ≡ device) ⊎ (fault ≡ out_of_memory)) }
 {
     for number in 0..u64::MAX {
@@ -61,8 +64,7 @@ pub(crate) fn serve_forever<D: Disk + Drop, H: NodeHash, N: Net, W: Write>(
 
 /// Serves a connection, as `serve_next` does, and then has all put on the devices. Errors: also where a device
 /// failed.
-#[tactic(auto, using(crate::proofs::ConnectionLines::flush_keeps_peers))]
-fn serve_and_sync<D: Disk + Drop, H: NodeHash, N: Net, W: Write>(
+fn serve_and_sync<D: Disk + Drop, H: NodeHash, N: Net + Clock, W: Write>(
     alloc: Global,
     reception: &Reception<'_, N>,
     engine: &mut Engine<D, H>,
@@ -76,6 +78,7 @@ fn serve_and_sync<D: Disk + Drop, H: NodeHash, N: Net, W: Write>(
         (λ end. Appends (W.contents writer.old) (W.contents writer.new) (served_line number end)) }
     ensures gone { OnOk result (engine.new.state.peers ≡ []) }
     ensures kept { IsFlushed D.history D.honest D.faults H.digest engine.new }
+    ensures run { LeadsTo D.history D.honest D.faults H.digest engine.old engine.new }
     ensures fault { IfErr result (λ fault. (fault ≡ device) ⊎ (fault ≡ out_of_memory)) }
 {
     let served = serve_next(alloc, reception, engine, number, writer);
@@ -87,7 +90,7 @@ fn serve_and_sync<D: Disk + Drop, H: NodeHash, N: Net, W: Write>(
 
 /// Serves a connection, which has this number, and writes how it ended. Errors: none could be taken; the
 /// writer failed; out of memory.
-fn serve_next<D: Disk + Drop, H: NodeHash, N: Net, W: Write>(
+fn serve_next<D: Disk + Drop, H: NodeHash, N: Net + Clock, W: Write>(
     alloc: Global,
     reception: &Reception<'_, N>,
     engine: &mut Engine<D, H>,
@@ -100,6 +103,7 @@ fn serve_next<D: Disk + Drop, H: NodeHash, N: Net, W: Write>(
     ensures told { IfOk result
         (λ end. Appends (W.contents writer.old) (W.contents writer.new) (served_line number end)) }
     ensures gone { engine.new.state.peers ≡ [] }
+    ensures run { LeadsTo D.history D.honest D.faults H.digest engine.old engine.new }
     ensures fault { IfErr result (λ fault. (fault ≡ device) ⊎ (fault ≡ out_of_memory)) }
 {
     let end = serve_one(alloc, reception, engine)?;
@@ -108,7 +112,7 @@ fn serve_next<D: Disk + Drop, H: NodeHash, N: Net, W: Write>(
 }
 
 /// Serves a connection. Errors: none could be taken.
-fn serve_one<D: Disk + Drop, H: NodeHash, N: Net>(
+fn serve_one<D: Disk + Drop, H: NodeHash, N: Net + Clock>(
     alloc: Global,
     reception: &Reception<'_, N>,
     engine: &mut Engine<D, H>,
@@ -117,6 +121,7 @@ fn serve_one<D: Disk + Drop, H: NodeHash, N: Net>(
     ensures served { IfOk result
         (λ end. MeetsOverTcp D.history D.honest D.faults H.digest engine.old end engine.new) }
     ensures gone { engine.new.state.peers ≡ [] }
+    ensures run { LeadsTo D.history D.honest D.faults H.digest engine.old engine.new }
     ensures fault { IfErr result (λ fault. fault ≡ device) }
 {
     let idle = Duration::from_secs(IDLE_SECONDS);

@@ -1,6 +1,7 @@
 //! The end of a fetch.
 ghost use Rattle.std.specs.Prelude.{◌≡◌, ◌⊎◌, IfErr, IfOk};
 ghost use Rattle.bt_check.specs.Fault.{device, out_of_memory};
+ghost use Rattle.bt_runs.specs.Leads.{LeadsTo};
 ghost use Rattle.bt_transfer.specs.Ending.{IsConcluded};
 
 use crate::report::write_report;
@@ -22,6 +23,7 @@ pub fn conclude<D: Disk + Drop, H: NodeHash, W: Write>(
 ) -> Result<u8, Fault>
     ensures concluded { IfOk result (λ status. IsConcluded D.history D.honest D.faults H.digest engine.old
         (W.contents writer.old) (W.contents writer.new) status engine.new) }
+    ensures run { LeadsTo D.history D.honest D.faults H.digest engine.old engine.new }
     ensures fault { IfErr result (λ fault. (fault ≡ device) ⊎ (fault ≡ out_of_memory)) }
 {
     finish(engine)?;

@@ -2,10 +2,11 @@
 
 use bt_sockets::Passage;
 use std::net::Net;
+use std::time::Clock;
 
 /// Where connections are waited for, and what stands between them and the engine that serves them.
 #[derive(Drop)]
-pub(crate) struct Reception<'a, N: Net> {
+pub(crate) struct Reception<'a, N: Net + Clock> {
     pub(crate) net: &'a N,
     pub(crate) listener: &'a N::Listener,
     pub(crate) passage: Passage<'a>,

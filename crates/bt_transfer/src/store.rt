@@ -6,6 +6,7 @@ ghost use Rattle.bt_machine.specs.declared.event.Event.TheVariants.{Flush};
 ghost use Rattle.bt_machine.specs.declared.event.Answer.TheVariants.{Flushed};
 ghost use Rattle.bt_machine.specs.Start.{device_count};
 ghost use Rattle.bt_machine.specs.View.{StepsTo};
+ghost use Rattle.bt_runs.specs.Leads.{LeadsTo};
 ghost use Rattle.bt_check.specs.Fault.{device, out_of_memory};
 ghost use Rattle.bt_transfer.specs.DataFiles.{new_devices};
 ghost use Rattle.bt_transfer.specs.Store.{HasBegun, device_faults, device_history, device_honest};
@@ -71,12 +72,14 @@ pub(crate) fn begin<'a, D: Disk + Drop>(
     }
 }
 
-/// Has all that was written put on the devices. Errors: a device failed.
+/// Has all that was written put on the devices; nothing else of the engine changes. Errors: a device failed.
 pub(crate) fn finish<D: Disk + Drop, H: NodeHash>(engine: &mut Engine<D, H>) -> Result<(), Fault>
     ensures flushed { OnOk result
         (StepsTo D.history D.honest D.faults H.digest engine.old Flush (Flushed (Ok tt)) engine.new) }
     ensures failed { IfErr result (λ _.
         StepsTo D.history D.honest D.faults H.digest engine.old Flush (Flushed (Err Device)) engine.new) }
+    ensures same { engine.new.state ≡ engine.old.state }
+    ensures run { LeadsTo D.history D.honest D.faults H.digest engine.old engine.new }
     ensures fault { IfErr result (λ fault. fault ≡ device) }
 {
     match engine.flush() {

@@ -1,11 +1,16 @@
 //! The command `fetch`: peers are tried in turn, and what came of it is told.
-ghost use Rattle.std.specs.Prelude.{[], ◌≡◌, ◌⊎◌, All, Ok, length, IfErr, IfOk};
+ghost use Rattle.std.specs.Prelude.{[], ◌≡◌, ◌≢◌, ◌⊎◌, All, List, Ok, Err, false, true, length, IfErr, IfOk, OnErr, OnOk};
 ghost use Rattle.std.specs.Io.KnownBytes.{Keeps};
 ghost use Rattle.bt_check.specs.Fault.{device, out_of_memory, status_of};
 ghost use Rattle.bt_check.specs.TorrentFile.{IsLoadFault};
+ghost use Rattle.bt_machine.specs.declared.error.FlushError.TheVariants.{Device};
+ghost use Rattle.bt_meta.specs.Torrent.{Metainfo};
+ghost use Rattle.bt_padding.specs.ShortBlocks.{short_blocks_of};
 ghost use Rattle.bt_peers.specs.Peers.{IsTried};
-ghost use Rattle.bt_transfer.specs.Fetch.{HasFetched, HasFetchedOverTcp, IsFetch, links_of};
-ghost use Rattle.bt_transfer.specs.FetchSteps.{EndsFetch};
+ghost use Rattle.bt_runs.specs.Leads.{LeadsTo};
+ghost use Rattle.bt_transfer.specs.Fetch.{EndsFetch, HasFetched, HasFetchedOverTcp, IsFetch, TriesAndSyncs, links_of};
+ghost use Rattle.bt_transfer.specs.FetchSteps.{BreaksOff};
+ghost use Rattle.bt_transfer.specs.Store.{HasBegun};
 
 use crate::ending::conclude;
 use crate::lacking::begin_fetching;
@@ -16,16 +21,18 @@ use bt_check::{Fault, Source};
 use bt_disk::Disk;
 use bt_engine::Engine;
 use bt_intake::adopt_waiting;
+use bt_padding::ShortBlocks;
 use bt_peers::{Link, PeerEnd, run_peers};
 use bt_progress::Watch;
-use bt_sockets::{Alarm, IDLE_SECONDS, Passage, SESSION_TURNS, Shared, TcpLink};
+use bt_runs::whole_runs_keep_promises;
+use bt_sockets::{IDLE_SECONDS, Passage, SESSION_TURNS, Shared, TcpLink};
 use bt_tree::NodeHash;
 use bt_words::Peer;
 use std::alloc::{AllocError, Global};
 use std::io::Write;
 use std::net::Net;
 use std::rt::Files;
-use std::time::Duration;
+use std::time::{Clock, Duration};
 
 /// Opens the store of a torrent's files in a folder, as `load_store` does; takes peers in turn until all
 /// files are complete; writes how it ended with each that was tried; takes in the files whose blocks all came,
@@ -34,11 +41,11 @@ use std::time::Duration;
 ///
 /// It is told how much is read of what the files have, and then how much is written of what they lack.
 ///
-/// A session ends where a device refuses a write. Where that was the last one, and files are not complete, the
+/// A session ends where a device refuses a write. Where that was so of one of them, and files are not complete, the
 /// device's fault comes behind the report.
 ///
 /// Errors: the torrent is refused, and then nothing is written; a device or the writer failed; out of memory.
-pub fn fetch<R: Files + AllocGlobal + Clone + Drop, N: Net, P: Watch, W: Write>(
+pub fn fetch<R: Files + AllocGlobal + Clone + Drop, N: Net + Clock, P: Watch, W: Write>(
     rt: &R,
     net: &N,
     watch: &P,
@@ -54,48 +61,57 @@ pub fn fetch<R: Files + AllocGlobal + Clone + Drop, N: Net, P: Watch, W: Write>(
         (λ fault. status_of fault ≡ 2 → Keeps (W.contents writer.old) (W.contents writer.new)) }
 {
     let shared = Shared::new(rt.alloc())?;
-    let (engine, torrent) = load_store(rt, watch, &shared, source, dir)?;
-    let passage = Passage {
-        torrent: &torrent,
-        shared: &shared,
-    };
-    fetch_store(rt.alloc(), net, watch, engine, passage, peers, writer)
+    let engine = load_store(rt, watch, &shared, source, dir)?;
+    fetch_store(rt.alloc(), net, watch, engine, &shared, peers, writer)
 }
 
-/// Takes peers in turn, over TCP, for an engine of a torrent, which it takes, and tells of it as `fetch_over` does.
-fn fetch_store<D: Disk + Drop, H: NodeHash, N: Net, P: Watch, W: Write>(
+/// Takes peers in turn, over TCP, for an engine that began with a torrent, which it takes, and tells of it as
+/// `fetch_over` does. What stands before the sockets goes by that torrent.
+fn fetch_store<D: Disk + Drop, H: NodeHash, N: Net + Clock, P: Watch, W: Write>(
     alloc: Global,
     net: &N,
     watch: &P,
     engine: Engine<D, H>,
-    passage: Passage<'_>,
+    shared: &Shared,
     peers: &[Peer<'_>],
     writer: &mut W,
 ) -> Result<u8, Fault>
     requires no_peer { engine.state.peers ≡ [] }
-    ensures fetched { IfOk result (λ status. EndsFetch D.history D.honest D.faults H.digest peers.now
-        engine (W.contents writer.old) (W.contents writer.new) status) }
+    ensures fetched { (torrent : Metainfo) (given : List D)
+        (begun : HasBegun D.history D.honest D.faults H.digest torrent given engine)
+        → IfOk result (λ status. EndsFetch D.history D.honest D.faults H.digest torrent begun.first engine
+        peers.now (W.contents writer.old) (W.contents writer.new) status) }
     ensures fault { IfErr result (λ fault. (fault ≡ device) ⊎ (fault ≡ out_of_memory)) }
 {
+    // These calls say what holds of the engine, and of whatever led to it and leads on from it.
+    engine.keeps_laws();
+    whole_runs_keep_promises(&engine);
     let mut engine = engine;
     begin_fetching(watch, &engine);
+    let short_blocks = ShortBlocks::new(alloc, engine.torrent())?;
+    let passage = Passage {
+        short_blocks: &short_blocks,
+        shared,
+    };
     fetch_from(alloc, net, &mut engine, passage, peers, writer)
 }
 
-/// Hears the alarm. Errors: it rings, and the status is that of files that are not complete.
-fn hear(alarm: &Alarm, status: u8) -> Result<(), Fault>
+/// What comes of an alarm that rang, or did not, in a fetch of this status. Errors: it rang, and files are not
+/// complete.
+fn hear(rang: bool, status: u8) -> Result<(), Fault>
     ensures complete { status ≡ 0 → result ≡ Ok tt }
-    ensures fault { IfErr result (λ fault. fault ≡ device) }
+    ensures quiet { rang ≡ false → result ≡ Ok tt }
+    ensures fault { rang ≡ true → status ≢ 0 → result ≡ Err device }
 {
-    if status != 0 && alarm.is_ringing() {
+    if rang && status != 0 {
         return Err(Fault::Device);
     }
     Ok(())
 }
 
 /// Takes peers in turn, over TCP, until an engine of a torrent is complete, and tells of it as `fetch_over` does.
-/// Errors: also where the last session ended because a device refused a write, and files are not complete.
-fn fetch_from<D: Disk + Drop, H: NodeHash, N: Net, W: Write>(
+/// Errors: also where a session ended because a device refused a write, and files are not complete.
+fn fetch_from<D: Disk + Drop, H: NodeHash, N: Net + Clock, W: Write>(
     alloc: Global,
     net: &N,
     engine: &mut Engine<D, H>,
@@ -104,24 +120,26 @@ fn fetch_from<D: Disk + Drop, H: NodeHash, N: Net, W: Write>(
     writer: &mut W,
 ) -> Result<u8, Fault>
     requires no_peer { engine.old.state.peers ≡ [] }
+    requires own_short_blocks { passage.entry.short_blocks.now ≡ short_blocks_of engine.old.state.torrent }
     ensures fetched { IfOk result (λ status. HasFetchedOverTcp D.history D.honest D.faults H.digest peers.now
         engine.old (W.contents writer.old) (W.contents writer.new) status engine.new) }
+    ensures run { LeadsTo D.history D.honest D.faults H.digest engine.old engine.new }
     ensures fault { IfErr result (λ fault. (fault ≡ device) ⊎ (fault ≡ out_of_memory)) }
 {
     let mut links = links_to(alloc, net, peers, passage)?;
     let status = fetch_over(alloc, engine, peers, &mut links, SESSION_TURNS, writer)?;
-    hear(&passage.shared.alarm, status)?;
+    hear(passage.shared.alarm.has_rung(), status)?;
     Ok(status)
 }
 
 /// A link to each peer, in their order, which share their passage.
-fn links_to<'a, N: Net>(
+fn links_to<'a, N: Net + Clock>(
     alloc: Global,
     net: &'a N,
     peers: &'a [Peer<'a>],
     passage: Passage<'a>,
 ) -> Result<Vec<TcpLink<'a, N>>, AllocError>
-    ensures { IfOk result (λ links. links.items ≡ links_of peers.now) }
+    ensures { IfOk result (λ links. links.items ≡ links_of passage.entry.short_blocks.now peers.now) }
 {
     let idle = Duration::from_secs(IDLE_SECONDS);
     let mut links = Vec::new(alloc);
@@ -135,8 +153,7 @@ fn links_to<'a, N: Net>(
 /// Takes peers in turn, each by its link, until the engine is complete; has all put on the devices; writes how
 /// it ended with each peer that was tried; takes in the files whose blocks came without their hashes; and then
 /// concludes. A peer's session has so many turns at most. Errors: also where a device failed behind the peers,
-/// which is told of behind their lines.
-#[tactic(auto, using(crate::proofs::ConnectionLines::flush_keeps_peers))]
+/// which is told of behind their lines; and where these can't be written, what came is on the devices all the same.
 fn fetch_over<D: Disk + Drop, H: NodeHash, L: Link, W: Write>(
     alloc: Global,
     engine: &mut Engine<D, H>,
@@ -151,14 +168,42 @@ fn fetch_over<D: Disk + Drop, H: NodeHash, L: Link, W: Write>(
     ensures fetched { IfOk result (λ status. HasFetched (IsTried D.history D.honest D.faults H.digest L.dials
         L.failures L.gives L.R.remaining L.W.contents turns) D.history D.honest D.faults H.digest peers.now
         engine.old links.old (W.contents writer.old) (W.contents writer.new) status links.new engine.new) }
+    ensures broken_off { OnErr result (BreaksOff (IsTried D.history D.honest D.faults H.digest L.dials
+        L.failures L.gives L.R.remaining L.W.contents turns) D.history D.honest D.faults H.digest
+        engine.old links.old links.new engine.new) }
+    ensures run { LeadsTo D.history D.honest D.faults H.digest engine.old engine.new }
     ensures fault { IfErr result (λ fault. (fault ≡ device) ⊎ (fault ≡ out_of_memory)) }
 {
     let mut ends = vec![in alloc; PeerEnd::Untried; peers.len()]?;
-    run_peers(alloc, engine, links, &mut ends, turns);
-    // before the rest, of which each may fail, so that what the peers brought is not lost by it
-    let kept = finish(engine);
+    let kept = try_and_sync(alloc, engine, links, &mut ends, turns);
     write_peers(alloc, peers, &ends, writer)?;
     kept?;
     adopt_waiting(engine)?;
     conclude(alloc, engine, writer)
+}
+
+/// Takes peers in turn, each by its link, until the engine is complete, and then, before anything else that may
+/// fail, has all that they brought put on the devices. Errors: a device failed at that.
+fn try_and_sync<D: Disk + Drop, H: NodeHash, L: Link>(
+    alloc: Global,
+    engine: &mut Engine<D, H>,
+    links: &mut [L],
+    ends: &mut [PeerEnd],
+    turns: u64,
+) -> Result<(), Fault>
+    requires same_length { length links.old ≡ length ends.old }
+    requires undialled { All (λ link. L.dials link ≡ 0) links.old }
+    requires no_peer { engine.old.state.peers ≡ [] }
+    ensures kept { OnOk result (TriesAndSyncs (IsTried D.history D.honest D.faults H.digest L.dials L.failures
+        L.gives L.R.remaining L.W.contents turns) D.history D.honest D.faults H.digest engine.old links.old
+        ends.new links.new (Ok tt) engine.new) }
+    ensures failed { OnErr result (TriesAndSyncs (IsTried D.history D.honest D.faults H.digest L.dials
+        L.failures L.gives L.R.remaining L.W.contents turns) D.history D.honest D.faults H.digest engine.old
+        links.old ends.new links.new (Err Device) engine.new) }
+    ensures gone { engine.new.state.peers ≡ [] }
+    ensures run { LeadsTo D.history D.honest D.faults H.digest engine.old engine.new }
+    ensures fault { IfErr result (λ fault. fault ≡ device) }
+{
+    run_peers(alloc, engine, links, ends, turns);
+    finish(engine)
 }

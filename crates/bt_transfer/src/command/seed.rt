@@ -1,11 +1,14 @@
 //! The command `seed`: connections are waited for and served, and what came of each is told.
-ghost use Rattle.std.specs.Prelude.{[], ℕ, ◌≡◌, ◌⊎◌, ◌++◌, IfErr, IfOk, OnErr, OnOk, string_bytes};
+ghost use Rattle.std.specs.Prelude.{[], ℕ, List, ◌≡◌, ◌⊎◌, ◌++◌, IfErr, IfOk, OnErr, OnOk, string_bytes};
 ghost use Rattle.std.specs.Io.KnownBytes.{Appends, Keeps};
 ghost use Rattle.bt_check.specs.Fault.{device, out_of_memory, status_of};
 ghost use Rattle.bt_check.specs.TorrentFile.{IsLoadFault};
+ghost use Rattle.bt_meta.specs.Torrent.{Metainfo};
+ghost use Rattle.bt_padding.specs.ShortBlocks.{short_blocks_of};
+ghost use Rattle.bt_runs.specs.Leads.{LeadsTo};
 ghost use Rattle.bt_transfer.specs.Connections.{IsFlushed};
-ghost use Rattle.bt_transfer.specs.Seed.{HasListened, HasServedAll, IsSeed, listening_line};
-ghost use Rattle.bt_transfer.specs.SeedSteps.{EndsSeed};
+ghost use Rattle.bt_transfer.specs.Seed.{EndsSeed, HasListened, HasServedAll, IsSeed, listening_line};
+ghost use Rattle.bt_transfer.specs.Store.{HasBegun};
 
 use crate::connections::{serve_count, serve_forever};
 use crate::loading::load_store;
@@ -14,7 +17,9 @@ use crate::store::finish;
 use bt_check::{Fault, Source, print};
 use bt_disk::Disk;
 use bt_engine::Engine;
+use bt_padding::ShortBlocks;
 use bt_progress::{FileCall, Watch};
+use bt_runs::whole_runs_keep_promises;
 use bt_sockets::{Passage, Shared, listen, port_of};
 use bt_tree::NodeHash;
 use bt_words::{Service, Serving};
@@ -22,6 +27,7 @@ use std::alloc::{AllocError, Global};
 use std::io::Write;
 use std::net::{Net, OpenListener};
 use std::rt::Files;
+use std::time::Clock;
 
 /// Opens the store of a torrent's files in a folder, as `load_store` does; listens, and writes at which port;
 /// and serves connections, one after the other, whatever came of those before, each with a line that tells how
@@ -33,7 +39,7 @@ use std::rt::Files;
 ///
 /// Errors: the torrent is refused, or the port can't be had, and then nothing is written; a device, the writer
 /// or the socket failed; out of memory.
-pub fn seed<R: Files + AllocGlobal + Clone + Drop, N: Net, P: Watch, W: Write>(
+pub fn seed<R: Files + AllocGlobal + Clone + Drop, N: Net + Clock, P: Watch, W: Write>(
     rt: &R,
     net: &N,
     watch: &P,
@@ -49,32 +55,39 @@ pub fn seed<R: Files + AllocGlobal + Clone + Drop, N: Net, P: Watch, W: Write>(
         (λ fault. status_of fault ≡ 2 → Keeps (W.contents writer.old) (W.contents writer.new)) }
 {
     let shared = Shared::new(rt.alloc())?;
-    let (engine, torrent) = load_store(rt, watch, &shared, source, dir)?;
-    let passage = Passage {
-        torrent: &torrent,
-        shared: &shared,
-    };
-    seed_store(rt.alloc(), net, watch, engine, passage, service, writer)
+    let engine = load_store(rt, watch, &shared, source, dir)?;
+    seed_store(rt.alloc(), net, watch, engine, &shared, service, writer)
 }
 
-/// Tells what is lacking, listens, and serves connections to an engine of a torrent, which it takes. The answer is 0.
-fn seed_store<D: Disk + Drop, H: NodeHash, N: Net, P: Watch, W: Write>(
+/// Tells what is lacking, listens, and serves connections to an engine that began with a torrent, which it takes.
+/// What stands before the sockets goes by that torrent. The answer is 0.
+fn seed_store<D: Disk + Drop, H: NodeHash, N: Net + Clock, P: Watch, W: Write>(
     alloc: Global,
     net: &N,
     watch: &P,
     engine: Engine<D, H>,
-    passage: Passage<'_>,
+    shared: &Shared,
     service: Service<'_>,
     writer: &mut W,
 ) -> Result<u8, Fault>
     requires no_peer { engine.state.peers ≡ [] }
-    ensures listened { IfOk result (λ status. EndsSeed D.history D.honest D.faults H.digest
-        service.entry.serving engine (W.contents writer.old) (W.contents writer.new) status) }
+    ensures listened { (torrent : Metainfo) (given : List D)
+        (begun : HasBegun D.history D.honest D.faults H.digest torrent given engine)
+        → IfOk result (λ status. EndsSeed D.history D.honest D.faults H.digest torrent begun.first engine
+        service.entry.serving (W.contents writer.old) (W.contents writer.new) status) }
     ensures fault { IfErr result (λ fault. (fault ≡ device) ⊎ (fault ≡ out_of_memory)) }
 {
+    // These calls say what holds of the engine, and of whatever led to it and leads on from it.
+    engine.keeps_laws();
+    whole_runs_keep_promises(&engine);
     let mut engine = engine;
     hint_at_lack(watch, &engine);
     watch.begin(FileCall::Read);
+    let short_blocks = ShortBlocks::new(alloc, engine.torrent())?;
+    let passage = Passage {
+        short_blocks: &short_blocks,
+        shared,
+    };
     listen_and_serve(alloc, net, &mut engine, passage, service, writer)?;
     Ok(0)
 }
@@ -89,7 +102,7 @@ fn hint_at_lack<P: Watch, D: Disk + Drop, H: NodeHash>(watch: &P, engine: &Engin
 }
 
 /// Listens, writes at which port, and serves connections to an engine of a torrent.
-fn listen_and_serve<D: Disk + Drop, H: NodeHash, N: Net, W: Write>(
+fn listen_and_serve<D: Disk + Drop, H: NodeHash, N: Net + Clock, W: Write>(
     alloc: Global,
     net: &N,
     engine: &mut Engine<D, H>,
@@ -98,6 +111,8 @@ fn listen_and_serve<D: Disk + Drop, H: NodeHash, N: Net, W: Write>(
     writer: &mut W,
 ) -> Result<(), Fault>
     requires no_peer { engine.old.state.peers ≡ [] }
+    requires own_short_blocks { passage.entry.short_blocks.now ≡ short_blocks_of engine.old.state.torrent }
+    ensures run { LeadsTo D.history D.honest D.faults H.digest engine.old engine.new }
     ensures served { OnOk result (HasListened D.history D.honest D.faults H.digest service.entry.serving
         engine.old (W.contents writer.old) (W.contents writer.new) engine.new) }
     ensures fault { IfErr result (λ fault. (fault ≡ device) ⊎ (fault ≡ out_of_memory)) }
@@ -146,7 +161,7 @@ fn push_line(line: &mut String, port: u16) -> Result<(), AllocError>
 }
 
 /// Serves as many connections as is said, and has all put on the devices.
-fn serve_all<D: Disk + Drop, H: NodeHash, N: Net, W: Write>(
+fn serve_all<D: Disk + Drop, H: NodeHash, N: Net + Clock, W: Write>(
     alloc: Global,
     reception: &Reception<'_, N>,
     engine: &mut Engine<D, H>,
@@ -157,6 +172,7 @@ fn serve_all<D: Disk + Drop, H: NodeHash, N: Net, W: Write>(
     ensures served { OnOk result (HasServedAll D.history D.honest D.faults H.digest serving
         engine.old (W.contents writer.old) (W.contents writer.new) engine.new) }
     ensures kept { OnErr result (IsFlushed D.history D.honest D.faults H.digest engine.new) }
+    ensures run { LeadsTo D.history D.honest D.faults H.digest engine.old engine.new }
     ensures fault { IfErr result (λ fault. (fault ≡ device) ⊎ (fault ≡ out_of_memory)) }
 {
     match serving {

@@ -1,6 +1,7 @@
--- So far peers were tried in their turns, and the others were not.
+-- So far peers were tried in their turns, by events, and the others were not.
 use Rattle.std.proofs.Common.{[], ◌≡◌, take, drop, replicate, length}
 use Rattle.std.specs.Prelude.{All}
+use Rattle.bt_runs.specs.Leads.{LeadsTo}
 use Rattle.bt_peers.specs.declared.end.PeerEnd.TheVariants.{Untried}
 use Rattle.bt_peers.specs.Peers.{IsTried}
 use Rattle.bt_peers.proofs.Turns.{LeadsOn}
@@ -15,4 +16,5 @@ invariant-loop-i g l = record {
       (IsTried g.D.Disk.history g.D.Disk.honest g.D.Disk.faults g.H.NodeHash.digest g.L.Link.dials g.L.Link.failures g.L.Link.gives g.L.R.Read.remaining
       g.L.W.Write.contents l.turns)
       l.initial.engine l.initial.links l.engine (drop l.i l.links) (take l.i l.ends) (take l.i l.links);
+  run : LeadsTo g.D.Disk.history g.D.Disk.honest g.D.Disk.faults g.H.NodeHash.digest l.initial.engine l.engine;
 }

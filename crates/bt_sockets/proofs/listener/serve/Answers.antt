@@ -1,6 +1,7 @@
 use Rattle.std.proofs.Common.{◌≡◌, Option, Result, Ok, Err, IfOk, IfSome, sym, subst}
 use Rattle.std.specs.Result.{result_ok}
 use Rattle.bt_sockets.specs.Stream.{AreNewWays, AreNew}
+use Rattle.bt_runs.specs.Leads.{none}
 use Rattle.bt_sockets.proofs.listener.serve.Goals as goal
 
 -- what holds of the value, at something, holds of the one that is there
@@ -18,3 +19,6 @@ returns-in-Ok-clause-served g c =
           c.both_ways.result c.ok-reached.result (λ ways new. (c.in-Ok.stream, new)) c.ok-reached.ensures.value c.both_ways.ensures;
       ended = c.meet_peer.ensures.ended;
     }
+
+pub returns-in-Err-clause-run : goal.returns-in-Err-clause-run
+returns-in-Err-clause-run g c = none c.args.engine.now

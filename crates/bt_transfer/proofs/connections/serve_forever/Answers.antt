@@ -1,10 +1,11 @@
 use Rattle.std.proofs.Common.{refl}
+use Rattle.bt_runs.specs.Leads.{none, both}
 use Rattle.bt_transfer.specs.Connections.{MeetsAndSyncs}
 use Rattle.bt_transfer.proofs.ConnectionLines.{served_more, served_none}
 use Rattle.bt_transfer.proofs.connections.serve_forever.Goals as goal
 
 pub loop-number-init : goal.loop-number-init
-loop-number-init g c = (served_none _ c.args.engine.now (g.W.Write.contents c.args.writer.now), c.requires.no_peer)
+loop-number-init g c = (served_none _ c.args.engine.now (g.W.Write.contents c.args.writer.now), c.requires.no_peer, none c.args.engine.now)
 
 pub loop-number-preserved : goal.loop-number-preserved
 loop-number-preserved g c = (
@@ -13,4 +14,9 @@ loop-number-preserved g c = (
       (g.W.Write.contents c.loop-number.writer) (g.W.Write.contents c.serve_and_sync.new.writer) c.loop-number.invariant.0
       c.in_ok-serve_and_sync.ensures.served c.in_ok-serve_and_sync.ensures.told refl refl,
   c.in_ok-serve_and_sync.ensures.gone,
+  both c.args.engine.now c.loop-number.engine c.serve_and_sync.new.engine c.loop-number.invariant.2 c.serve_and_sync.ensures.run,
 )
+
+pub returns-in_err-serve_and_sync-clause-run : goal.returns-in_err-serve_and_sync-clause-run
+returns-in_err-serve_and_sync-clause-run g c =
+    both c.args.engine.now c.loop-number.engine c.serve_and_sync.new.engine c.loop-number.invariant.2 c.serve_and_sync.ensures.run

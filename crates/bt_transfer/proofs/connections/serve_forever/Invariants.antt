@@ -1,5 +1,6 @@
--- So many connections were served, with a line for each, and no peer is connected.
+-- So many connections were served, by events, with a line for each, and no peer is connected.
 use Rattle.std.proofs.Common.{[], ◌≡◌}
+use Rattle.bt_runs.specs.Leads.{LeadsTo}
 use Rattle.bt_transfer.specs.Connections.{HasServed, MeetsAndSyncs}
 use Rattle.bt_transfer.proofs.connections.serve_forever.Given as goal
 
@@ -8,3 +9,4 @@ invariant-loop-number g l =
     HasServed (MeetsAndSyncs g.D.Disk.history g.D.Disk.honest g.D.Disk.faults g.H.NodeHash.digest) l.number l.initial.engine
     (g.W.Write.contents l.initial.writer) (g.W.Write.contents l.writer) l.engine
     × (l.engine.state.peers ≡ [])
+    × LeadsTo g.D.Disk.history g.D.Disk.honest g.D.Disk.faults g.H.NodeHash.digest l.initial.engine l.engine

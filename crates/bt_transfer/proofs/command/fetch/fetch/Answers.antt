@@ -10,9 +10,7 @@ returns-clause-refused g c =
     err_weaker c.fetch_store.result _ _ (λ fault holds two. absurd (not_refused fault holds two)) c.fetch_store.ensures.fault
 
 pub returns-clause-done : goal.returns-clause-done
-returns-clause-done g c = ok_weaker c.fetch_store.result _ _ (λ status ended. record {
-  store = c.in_ok-engine.engine;
-  loaded = c.in_ok-engine.ensures.loaded;
-  last = ended.0;
-  fetched = ended.1;
-}) c.fetch_store.ensures.fetched
+returns-clause-done g c =
+    let loaded = c.in_ok-engine.ensures.loaded in
+    ok_weaker c.fetch_store.result _ _ (λ status ended. record { store = c.in_ok-engine.engine; loaded = loaded; ended = ended })
+    (c.fetch_store.ensures.fetched loaded.torrent _ loaded.opened)

@@ -1,15 +1,20 @@
-use Rattle.std.proofs.Common.{◌∙◌}
+use Rattle.std.proofs.Common.{ap, ◌∙◌}
+use Rattle.bt_padding.specs.ShortBlocks.{short_blocks_of}
+use Rattle.bt_transfer.specs.Fetch.{links_of}
 use Rattle.bt_transfer.proofs.OverTcp.{fetched_over_tcp, links_undialled}
 use Rattle.bt_transfer.proofs.command.fetch.fetch_from.Goals as goal
 
 pub fetch_over-requires-clause-undialled : goal.fetch_over-requires-clause-undialled
 fetch_over-requires-clause-undialled g c =
-    links_undialled c.args.peers.now c.deref_mut.result.now (c.deref_mut.ensures.value ∙ c.in_ok-links.ensures)
+    links_undialled c.args.passage.short_blocks.now c.args.peers.now c.deref_mut.result.now (c.deref_mut.ensures.value ∙ c.in_ok-links.ensures)
 
 pub returns-clause-fetched : goal.returns-clause-fetched
 returns-clause-fetched g c = record {
   rest = c.fetch_over.new.links;
-  fetched = fetched_over_tcp g.D.Disk.history g.D.Disk.honest g.D.Disk.faults g.H.NodeHash.digest _ _ c.args.peers.now c.args.engine.now
+  fetched = fetched_over_tcp g.D.Disk.history g.D.Disk.honest g.D.Disk.faults g.H.NodeHash.digest _ _ _
+      (short_blocks_of c.args.engine.now.state.torrent) c.args.peers.now c.args.engine.now
       c.deref_mut.result.now (g.W.Write.contents c.args.writer.now) (g.W.Write.contents c.fetch_over.new.writer) c.in_ok-status.status
-      c.fetch_over.new.links c.fetch_over.new.engine (c.deref_mut.ensures.value ∙ c.in_ok-links.ensures) c.in_ok-status.ensures.fetched;
+      c.fetch_over.new.links c.fetch_over.new.engine
+      (c.deref_mut.ensures.value ∙ c.in_ok-links.ensures ∙ ap (λ short. links_of short c.args.peers.now) c.requires.own_short_blocks)
+      c.in_ok-status.ensures.fetched;
 }

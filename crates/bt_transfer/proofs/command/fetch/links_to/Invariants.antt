@@ -4,4 +4,4 @@ use Rattle.bt_transfer.specs.Fetch.{links_of}
 use Rattle.bt_transfer.proofs.command.fetch.links_to.Given as goal
 
 abbrev pub invariant-loop-peer : goal.invariant-loop-peer
-invariant-loop-peer g l = l.links.items ≡ links_of (take l.peer-index l.peers)
+invariant-loop-peer g l = l.links.items ≡ links_of l.passage.short_blocks.now (take l.peer-index l.peers)

@@ -2,13 +2,10 @@ use Rattle.bt_transfer.proofs.Faults.{ok_weaker, err_weaker, not_refused, while_
 use Rattle.bt_transfer.proofs.command.seed.seed.Goals as goal
 
 pub returns-clause-done : goal.returns-clause-done
-returns-clause-done g c = ok_weaker c.seed_store.result _ _ (λ status ended. record {
-  store = c.in_ok-engine.engine;
-  loaded = c.in_ok-engine.ensures.loaded;
-  last = ended.0;
-  listened = ended.1;
-  done = ended.2;
-}) c.seed_store.ensures.listened
+returns-clause-done g c =
+    let loaded = c.in_ok-engine.ensures.loaded in
+    ok_weaker c.seed_store.result _ _ (λ status ended. record { store = c.in_ok-engine.engine; loaded = loaded; ended = ended })
+    (c.seed_store.ensures.listened loaded.torrent _ loaded.opened)
 
 pub returns-clause-refused : goal.returns-clause-refused
 returns-clause-refused g c =

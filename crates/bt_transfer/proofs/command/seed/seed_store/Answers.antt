@@ -1,5 +1,13 @@
-use Rattle.std.proofs.Common.{refl}
+use Rattle.std.proofs.Common.{ap, ◌∙◌, refl}
+use Rattle.bt_padding.specs.ShortBlocks.{short_blocks_of}
+use Rattle.bt_transfer.proofs.WholeRuns.{ends_seed}
 use Rattle.bt_transfer.proofs.command.seed.seed_store.Goals as goal
 
+pub listen_and_serve-requires-clause-own_short_blocks : goal.listen_and_serve-requires-clause-own_short_blocks
+listen_and_serve-requires-clause-own_short_blocks g c = c.in_ok-short_blocks.ensures.of_torrent ∙ ap short_blocks_of c.torrent.ensures
+
 pub returns-clause-listened : goal.returns-clause-listened
-returns-clause-listened g c = (c.listen_and_serve.new.engine, c.in_ok-listen_and_serve.ensures.served, refl)
+returns-clause-listened g c = λ torrent given begun.
+    ends_seed g.D.Disk.history g.D.Disk.honest g.D.Disk.faults g.H.NodeHash.digest c.whole_runs_keep_promises.ensures
+    c.args.engine c.listen_and_serve.new.engine c.keeps_laws.ensures.lawful c.listen_and_serve.ensures.run (g.W.Write.contents c.args.writer.now)
+    (g.W.Write.contents c.listen_and_serve.new.writer) 0 torrent given begun c.args.service.serving c.in_ok-listen_and_serve.ensures.served refl

@@ -1,0 +1,163 @@
+-- What is promised of a whole run follows from what is promised of its events.
+use Rattle.bt_tree.proofs.ComparisonClash.{same_or_clash}
+use Rattle.bt_sparse.proofs.Joins.{keeps_rooted}
+use Rattle.bt_sparse.proofs.LayerTrees.{layers_are_sound}
+use Rattle.bt_sparse.proofs.Values.{root_sound}
+use Rattle.bt_store.proofs.AdoptionMarks.{adopt_marks}
+use Rattle.std.specs.List.{list_all}
+use Rattle.bt_disk.specs.State.{IsImage}
+use Rattle.bt_store.specs.BlockStates.{is_marked}
+use Rattle.bt_machine.proofs.Base.{[], ◌≡◌, ℕ, zero, suc, ◌<◌, true, List, ◌∷◌, ◌++◌, length, replicate, Option, Some, None, refl, sym, ap, ◌∙◌, arith, slice_get, History, IsDigest, File, Metainfo, IsLawful, BlockState, Missing, Waiting, Marked, BlockId, block_count}
+use Rattle.bt_machine.specs.Blocks.{block_id, is_complete}
+use Rattle.bt_machine.specs.Shape.{IsShaped}
+use Rattle.bt_machine.specs.Start.{AreDevicesOf}
+use Rattle.bt_machine.specs.State.{EngineView}
+use Rattle.bt_machine.specs.View.{RunsTo}
+use Rattle.bt_machine.specs.declared.event.Event.{Event}
+use Rattle.bt_machine.specs.declared.event.Answer.{Answer}
+use Rattle.bt_machine.proofs.Machine.{Digest, EngineState, DeviceCalls, RunOn, Starts, state_at}
+use Rattle.bt_machine.proofs.Headline.{files_published, start_sound}
+use Rattle.bt_machine.proofs.Lists.{and_then_some, get_some, some_below}
+use Rattle.bt_machine.proofs.Sends.{run_sends}
+use Rattle.bt_machine.proofs.Shape.{shape_kept}
+use Rattle.bt_machine.proofs.Start.{start_rooted}
+use Rattle.bt_machine.proofs.View.{none_run, one_more_runs, runs_compose, without_devices}
+use Rattle.bt_runs.specs.Leads.{LeadsTo, none, one, both}
+use Rattle.bt_runs.specs.Promises.{IsMarkedOnPath}
+use Rattle.bt_runs.specs.WholeRuns.{IsPublishedOn, WholeRunsKeepPromises}
+use Rattle.bt_runs.proofs.Flushes.{flushes}
+use Rattle.bt_runs.proofs.Paths.{run_marks, sends_on_path}
+
+-- ---- blocks
+
+none_marked : (n i : ℕ) → slice_get (replicate n Missing) i ≡ Some Marked → ⊥
+none_marked (suc n) (suc i) e = none_marked n i e
+none_marked _ _ e = absurd cc
+
+-- no block is marked at the start
+unmarked_first : (dig : Digest) (torrent : Metainfo) (s : EngineState) (b : BlockId) → Starts dig torrent s → state_at s b ≡ Some Marked → ⊥
+unmarked_first dig torrent s b starts marked =
+    let f = and_then_some (λ q. slice_get q.states b.block) (slice_get s.files b.file) marked in
+    let lt : b.file < length torrent.files = rw (← starts.is_new.count) (some_below s.files b.file f.1) in
+    let file = get_some torrent.files b.file lt in
+    let new = starts.is_new.each_file b.file file.0 f.0 file.1 f.1 in
+    none_marked (block_count file.0.length) b.block (ap (λ l. slice_get l b.block) (sym new.missing) ∙ f.2)
+
+marked_there : (states : List BlockState) (i : ℕ) → list_all is_marked states ≡ true → i < length states → slice_get states i ≡ Some Marked
+marked_there [] i all lt = absurd (omega (arith, lt))
+marked_there (Marked ∷ states) zero all lt = refl
+marked_there (Marked ∷ states) (suc i) all lt = marked_there states i all (omega (arith, lt))
+marked_there (Missing ∷ states) i all lt = absurd cc
+marked_there (Waiting ∷ states) i all lt = absurd cc
+
+-- each block of a complete file is marked
+complete_marked : (torrent : Metainfo) (s : EngineState) (number : ℕ) (file : File) (i : ℕ) → IsShaped torrent s → slice_get torrent.files number ≡ Some file
+    → is_complete s number ≡ true → i < block_count file.length → state_at s (block_id number i) ≡ Some Marked
+complete_marked torrent s number file i shaped listed done inside =
+    let lt : number < length s.files = rw shaped.count (some_below torrent.files number listed) in
+    let f = get_some s.files number lt in
+    let shape = shaped.each number file f.0 listed f.1 in
+    let all : list_all is_marked f.0.states ≡ true = rw f.1 at done in
+    rw f.1 (marked_there f.0.states i all (rw shape.blocks inside))
+
+positive : (n : ℕ) → (n ≡ 0 → ⊥) → 0 < n
+positive zero some = absurd (some refl)
+positive (suc n) some = omega arith
+
+module _ {D : Type 0} (history : D → History) (honest : D → Type 0) (faults : D → ℕ) (dig : Digest) where
+  -- ---- lists of events
+
+  record SomeRun (old new : EngineView D) : Type 0 where
+    pub events : List Event
+    pub answers : List Answer
+    pub runs : RunsTo history honest faults dig old events answers new
+
+  -- what leads on is a list of events
+  leads_run : {old new : EngineView D} → LeadsTo history honest faults dig old new → SomeRun old new
+  leads_run (none engine) = record { events = []; answers = []; runs = none_run history honest faults dig engine }
+  leads_run (one old new event answer step) = record {
+    events = event ∷ [];
+    answers = answer ∷ [];
+    runs = one_more_runs history honest faults dig old old new [] [] event answer (none_run history honest faults dig old) step;
+  }
+  leads_run (both old mid new first then) =
+      let a = leads_run first in
+      let b = leads_run then in record {
+        events = a.events ++ b.events;
+        answers = a.answers ++ b.answers;
+        runs = runs_compose history honest faults dig old mid new a.events b.events a.answers b.answers a.runs b.runs;
+      }
+
+  -- ---- devices
+
+  -- a file has a device where it had one
+  none_before : (old new : EngineState) (events : List Event) (calls : List DeviceCalls) (answers : List Answer) (disks after : List (Option D)) (i : ℕ)
+      → RunOn history honest faults dig old disks events calls answers new after → slice_get after i ≡ Some None → slice_get disks i ≡ Some None
+  none_before old new [] [] [] disks after i run at = rw (← run.1) at
+  none_before old new (e ∷ es) (c ∷ calls) (a ∷ answers) disks after i run at =
+      (run.3.none i).1 (none_before run.0 new es calls answers run.1 after i run.4 at)
+  none_before old new _ _ _ disks after i run at = absurd run
+
+  none_after : (old new : EngineState) (events : List Event) (calls : List DeviceCalls) (answers : List Answer) (disks after : List (Option D)) (i : ℕ)
+      → RunOn history honest faults dig old disks events calls answers new after → slice_get disks i ≡ Some None → slice_get after i ≡ Some None
+  none_after old new [] [] [] disks after i run at = rw run.1 at
+  none_after old new (e ∷ es) (c ∷ calls) (a ∷ answers) disks after i run at =
+      none_after run.0 new es calls answers run.1 after i run.4 ((run.3.none i).0 at)
+  none_after old new _ _ _ disks after i run at = absurd run
+
+  -- a complete file is the published one
+  published_on : IsDigest dig → (torrent : Metainfo) (given : List D) (first last : EngineView D) (events : List Event) (calls : List DeviceCalls) (answers : List Answer)
+      → IsLawful torrent.piece_length torrent.files → Starts dig torrent first.state → AreDevicesOf torrent.files given first.disks
+      → RunOn history honest faults dig first.state first.disks events calls answers last.state last.disks → IsShaped torrent last.state
+      → (number : ℕ) (file : File) (disk : Option D) → slice_get torrent.files number ≡ Some file → is_complete last.state number ≡ true
+      → slice_get last.disks number ≡ Some disk → IsPublishedOn history honest dig file disk
+  published_on sizes torrent given first last events calls answers lawful starts devices run shaped number file None listed done there =
+      (devices.empty number file listed).0 (none_before first.state last.state events calls answers first.disks last.disks number run there)
+  published_on sizes torrent given first last events calls answers lawful starts devices run shaped number file (Some d) listed done there = λ honest_now.
+      let some : 0 < file.length = positive file.length (λ empty. (let gone = none_after first.state last.state events calls answers first.disks last.disks number run
+      ((devices.empty number file listed).1 empty) in absurd cc)) in
+      let lt : number < length last.state.files = rw shaped.count (some_below torrent.files number listed) in
+      let f = get_some last.state.files number lt in
+      let shape = shaped.each number file f.0 listed f.1 in
+      let tree = shape.has_tree some in
+      let all : list_all is_marked f.0.states ≡ true = rw f.1 at done in
+      files_published history honest faults dig (adopt_marks dig) (keeps_rooted dig) (layers_are_sound sizes) (root_sound dig) (same_or_clash dig sizes)
+      torrent first.state last.state events calls answers first.disks last.disks number file d lawful starts run
+      (record {
+        listed = listed;
+        some = some;
+        state = f.0;
+        tree = tree.0;
+        here = f.1;
+        has_tree = tree.1;
+        marked = λ i inside. marked_there f.0.states i all (rw shape.blocks inside);
+      }) there honest_now
+
+  -- ---- the whole
+
+  pub whole_runs : IsDigest dig → ((d : D) → honest d → IsImage (history d).now (history d).now.bytes) → WholeRunsKeepPromises history honest faults dig
+  whole_runs sizes reads torrent given first last lawful starts devices leads =
+      let some = leads_run leads in
+      let events = some.events in
+      let answers = some.answers in
+      let calls = some.runs.calls in
+      let run = some.runs.run in
+      let plain = without_devices history honest faults dig first.state last.state first.disks last.disks events calls answers run in
+      let began : IsShaped torrent first.state = (shape_kept dig torrent first.state first.state [] [] [] starts refl).0 in
+      let shaped : IsShaped torrent last.state = (shape_kept dig torrent first.state last.state events calls answers starts plain).0 in
+      let rooted = start_rooted (layers_are_sound sizes) (root_sound dig) lawful starts in
+      let marks : (b : BlockId) → state_at last.state b ≡ Some Marked → IsMarkedOnPath dig first.state events calls answers last.state b = λ b marked.
+      run_marks dig torrent first.state last.state events calls answers began rooted plain b marked (unmarked_first dig torrent first.state b starts) in
+      record {
+        events = events;
+        calls = calls;
+        answers = answers;
+        run = run;
+        marks = marks;
+        sends = λ before answer after is key piece begin bytes sent.
+            sends_on_path dig torrent events calls before answer after key piece begin bytes began rooted
+            (run_sends dig first.state last.state events calls before answer after (rw (← is) plain) key piece begin bytes sent);
+        complete = λ number file listed done i inside. marks (block_id number i) (complete_marked torrent last.state number file i shaped listed done inside);
+        published = published_on sizes torrent given first last events calls answers lawful starts devices run shaped;
+        flushes = flushes history honest faults dig reads first last events calls answers (start_sound history honest faults dig first.disks starts) run;
+      }

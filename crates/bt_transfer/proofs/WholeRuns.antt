@@ -1,0 +1,88 @@
+-- What a fetch and a seed come to, from the start of their torrent on.
+use Rattle.std.proofs.Common.{[], ◌≡◌, ℕ, ◌+◌, ◌<◌, Bool, true, false, List, ◌∷◌, length, Option, Some, None, refl, sym, ap, subst, ◌∙◌, arith}
+use Rattle.std.specs.List.{count_by, list_all}
+use Rattle.std.specs.Prelude.{◌&&◌, ◌==◌, not, if◌then◌else◌, slice_get, Contains}
+use Rattle.std.proofs.lemmas.Bool.{eqb-true}
+use Rattle.std.proofs.lemmas.List.Sums.{count_by-le-length}
+use Rattle.bt_disk.specs.History.{History}
+use Rattle.bt_store.specs.BlockStates.{is_marked}
+use Rattle.bt_store.specs.declared.block_states.BlockState.{BlockState}
+use Rattle.bt_store.specs.declared.block_states.BlockState.TheVariants.{Missing, Waiting, Marked}
+use Rattle.bt_meta.specs.Files.{File}
+use Rattle.bt_meta.specs.Torrent.{Metainfo, IsLawful}
+use Rattle.bt_machine.specs.State.{EngineState, EngineView}
+use Rattle.bt_machine.specs.Blocks.{is_complete}
+use Rattle.bt_machine.specs.Report.{all_complete}
+use Rattle.bt_machine.proofs.Lists.{and_true, contains_cases, contains_none, range_contains, some_below}
+use Rattle.bt_runs.specs.Leads.{LeadsTo, both}
+use Rattle.bt_runs.specs.WholeRuns.{IsWholeRun, WholeRunsKeepPromises}
+use Rattle.bt_transfer.specs.Fetch.{EndsFetch, HasFetchedOverTcp}
+use Rattle.bt_transfer.specs.Report.{IsCalledComplete}
+use Rattle.bt_transfer.specs.Seed.{EndsSeed, HasListened}
+use Rattle.bt_transfer.specs.Store.{HasBegun}
+use Rattle.bt_words.specs.declared.peer.Peer.{Peer}
+use Rattle.bt_words.specs.declared.peer.Serving.{Serving}
+
+-- ---- complete files
+
+-- where as many blocks are marked as there are, each is
+all_counted : (states : List BlockState) → count_by is_marked states ≡ length states → list_all is_marked states ≡ true
+all_counted [] e = refl
+all_counted (Marked ∷ states) e = all_counted states (omega (arith, e))
+all_counted (Missing ∷ states) e = absurd (omega (arith, e, count_by-le-length is_marked states))
+all_counted (Waiting ∷ states) e = absurd (omega (arith, e, count_by-le-length is_marked states))
+
+-- a file whose line begins with `complete` is complete
+called_complete : (torrent : Metainfo) (s : EngineState) (number : ℕ) (file : File) → IsCalledComplete torrent s number file
+    → is_complete s number ≡ true
+called_complete torrent s number file called =
+    let states = called.state.states in
+    let counts : (count_by is_marked states == length states) ≡ true =
+    (and_true (count_by is_marked states == length states) (and_true (count_by is_marked states == length states && not false) called.called).0).0 in
+    rw called.here (all_counted states (eqb-true (count_by is_marked states) (length states) counts))
+
+all_contained : {X : Type 0} (p : X → Bool) (xs : List X) {x : X} → list_all p xs ≡ true → Contains xs x → p x ≡ true
+all_contained p [] all c = absurd (contains_none c)
+all_contained p (y ∷ xs) all c =
+    let both_hold = and_true (p y) all in
+    elim (contains_cases xs c) [ inl here ↦ subst (λ z. p z ≡ true) here both_hold.0 | inr later ↦ all_contained p xs both_hold.1 later ]
+
+-- where all files are complete, each is
+each_complete : (s : EngineState) (number : ℕ) → all_complete s ≡ true → is_complete s number ≡ true
+each_complete s number all = by (slice_get s.files number) refl
+  where
+    by : (found : Option _) → slice_get s.files number ≡ found → is_complete s number ≡ true
+    by None e = rw e refl
+    by (Some f) e = all_contained (is_complete s) _ all (range_contains (length s.files) (some_below s.files number e))
+
+-- status 0 tells that all files are complete
+zero_is_complete : (complete : Bool) (status : ℕ) → status ≡ (if complete then 0 else 1) → status ≡ 0 → complete ≡ true
+zero_is_complete true status told zero = refl
+zero_is_complete false status told zero = absurd (omega (arith, told, zero))
+
+module _ {D : Type 0} (history : D → History) (honest : D → Type 0) (faults : D → ℕ) (dig : List ℕ → List ℕ)
+    (promises : WholeRunsKeepPromises history honest faults dig) (old last : EngineView D)
+    (lawful : IsLawful old.state.torrent.piece_length old.state.torrent.files) (leads : LeadsTo history honest faults dig old last)
+    (before after : Option (List ℕ)) (status : ℕ) (torrent : Metainfo) (given : List D)
+    (begun : HasBegun history honest faults dig torrent given old) where
+  whole_run : IsWholeRun history honest faults dig torrent begun.first last
+  whole_run = promises torrent given begun.first last (subst (λ (t : Metainfo). IsLawful t.piece_length t.files) begun.same lawful)
+      begun.starts begun.devices (both begun.first old last begun.run leads)
+
+  pub ends_fetch : (peers : List Peer) → HasFetchedOverTcp history honest faults dig peers old before after status last
+      → EndsFetch history honest faults dig torrent begun.first old peers before after status
+  ends_fetch peers fetched =
+      let whole = whole_run in record {
+        last = last;
+        fetched = fetched;
+        whole = whole;
+        reported = λ number file called. whole.complete number file called.listed (called_complete torrent last.state number file called);
+        published = λ number file disk called there.
+            whole.published number file disk called.listed (called_complete torrent last.state number file called) there;
+        complete = λ zero number file listed. whole.complete number file listed
+            (each_complete last.state number (zero_is_complete (all_complete last.state) status fetched.fetched.end.told zero));
+      }
+
+  pub ends_seed : (serving : Serving) → HasListened history honest faults dig serving old before after last → status ≡ 0
+      → EndsSeed history honest faults dig torrent begun.first old serving before after status
+  ends_seed serving listened done = record { last = last; listened = listened; whole = whole_run; done = done }
