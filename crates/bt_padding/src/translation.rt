@@ -108,7 +108,8 @@ impl<'a> Direction<'a> {
         out: &mut Vec<u8>,
     ) -> Result<(), AllocError>
         requires { IsFrame frame.now }
-        ensures { OnOk result (GivesBehind self.now padding.old frame.now padding.new out.old.items out.new.items) }
+        ensures { OnOk result
+            (GivesBehind self.now padding.old frame.now padding.new out.old.items out.new.items) }
     {
         let other = match self.side {
             Side::Peer => padding.incoming(self.blocks, frame),
