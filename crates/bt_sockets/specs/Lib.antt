@@ -5,3 +5,4 @@ pub mod StreamSteps
 pub mod Listener
 pub mod ListenerSteps
 pub mod Requests
+pub mod TimingSteps

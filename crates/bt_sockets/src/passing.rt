@@ -1,6 +1,6 @@
 //! The messages of one direction of a connection, as they pass (BEP 3): a handshake, and then messages, each four
 //! bytes that spell how many follow, and these, of which the first is the kind.
-ghost use Rattle.std.specs.Prelude.{◌<◌, ◌≤◌, length};
+ghost use Rattle.std.specs.Prelude.{◌≡◌, ◌<◌, ◌≤◌, length};
 
 /// How many bytes a handshake has.
 const HANDSHAKE_LEN: usize = 68;
@@ -46,7 +46,9 @@ impl Passing {
     }
 
     /// Whether the handshake has passed.
-    pub(crate) fn is_greeted(&self) -> bool {
+    pub(crate) fn is_greeted(&self) -> bool
+        ensures { result ≡ self.now.is_greeted }
+    {
         self.is_greeted
     }
 

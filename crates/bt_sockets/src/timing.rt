@@ -1,4 +1,6 @@
 //! How long a peer may take for what it owes, so that those who wait behind it have their turn.
+ghost use Rattle.std.specs.Prelude.{◌≡◌, ◌↔◌, ◌⊎◌, ◌-◌, ◌<◌, IsTrue};
+ghost use Rattle.bt_sockets.specs.TimingSteps.{HavePassed, IsStranger};
 
 use crate::passing::{Passed, Passing};
 use std::cell::Cell;
@@ -54,11 +56,11 @@ struct Times {
     /// When something passed last that is of use.
     used: Instant,
     /// So many requests of blocks are open,
-    open: u64,
+    pending: u64,
     /// the first of them since then; or else the last block came then.
     asked: Instant,
     /// So many requests of hashes are open.
-    open_hashes: u64,
+    pending_hashes: u64,
     /// Whether another message came when a block was overdue.
     is_overdue: bool,
     incoming: Passing,
@@ -71,9 +73,9 @@ impl Times {
             role,
             begun: now,
             used: now,
-            open: 0,
+            pending: 0,
             asked: now,
-            open_hashes: 0,
+            pending_hashes: 0,
             is_overdue: false,
             incoming: Passing::new(),
             outgoing: Passing::new(),
@@ -81,14 +83,20 @@ impl Times {
     }
 
     /// Whether the peer has taken too long.
-    fn is_late(&self, now: Instant) -> bool {
+    fn is_late(&self, now: Instant) -> bool
+        ensures { IsTrue result ↔ (IsTrue self.now.is_overdue
+            ⊎ (HavePassed USE_SECONDS self.now.used now
+            ⊎ (IsStranger self.now × HavePassed HANDSHAKE_SECONDS self.now.begun now))) }
+    {
         self.is_overdue
             || has_passed(self.used, USE_SECONDS, now)
             || self.is_stranger() && has_passed(self.begun, HANDSHAKE_SECONDS, now)
     }
 
     /// Whether the peer came by itself, and has not sent its handshake.
-    fn is_stranger(&self) -> bool {
+    fn is_stranger(&self) -> bool
+        ensures { IsTrue result ↔ IsStranger self.now }
+    {
         self.role == Role::Serve && !self.incoming.is_greeted()
     }
 
@@ -121,9 +129,14 @@ impl Times {
     }
 
     /// A block came. It is of use where one was asked for.
-    fn block_came(&mut self, now: Instant) {
-        if self.open > 0 {
-            self.open -= 1;
+    fn block_came(&mut self, now: Instant)
+        ensures pending { self.new.pending ≡ self.old.pending - 1 }
+        ensures used { 0 < self.old.pending → self.new.used ≡ now }
+        ensures asked { 0 < self.old.pending → self.new.asked ≡ now }
+        ensures unasked { self.old.pending ≡ 0 → self.new ≡ self.old }
+    {
+        if self.pending > 0 {
+            self.pending -= 1;
             self.used = now;
             self.asked = now;
         }
@@ -132,12 +145,12 @@ impl Times {
     /// Another message came. Hashes are of use where some were asked for, and a choke closes all requests.
     fn other_came(&mut self, kind: u8, now: Instant) {
         match kind {
-            CHOKE => self.open = 0,
-            HASHES if self.open_hashes > 0 => {
-                self.open_hashes -= 1;
+            CHOKE => self.pending = 0,
+            HASHES if self.pending_hashes > 0 => {
+                self.pending_hashes -= 1;
                 self.used = now;
             }
-            HASH_REJECT => self.open_hashes = self.open_hashes.saturating_sub(1),
+            HASH_REJECT => self.pending_hashes = self.pending_hashes.saturating_sub(1),
             _ => {}
         }
         self.look_for_block(now);
@@ -147,7 +160,7 @@ impl Times {
     fn look_for_block(&mut self, now: Instant) {
         self.is_overdue = self.is_overdue
             || self.role == Role::Fetch
-                && self.open > 0
+                && self.pending > 0
                 && has_passed(self.asked, BLOCK_SECONDS, now);
     }
 
@@ -155,12 +168,12 @@ impl Times {
     fn went(&mut self, kind: u8, now: Instant) {
         match kind {
             REQUEST => {
-                if self.open == 0 {
+                if self.pending == 0 {
                     self.asked = now;
                 }
-                self.open = self.open.saturating_add(1);
+                self.pending = self.pending.saturating_add(1);
             }
-            HASH_REQUEST => self.open_hashes = self.open_hashes.saturating_add(1),
+            HASH_REQUEST => self.pending_hashes = self.pending_hashes.saturating_add(1),
             PIECE | HASHES if self.role == Role::Serve => self.used = now,
             _ => {}
         }
@@ -168,7 +181,9 @@ impl Times {
 }
 
 /// Whether so many seconds have passed since.
-fn has_passed(since: Instant, seconds: u64, now: Instant) -> bool {
+fn has_passed(since: Instant, seconds: u64, now: Instant) -> bool
+    ensures { IsTrue result ↔ HavePassed seconds since now }
+{
     now.duration_since(since) >= Duration::from_secs(seconds)
 }
 
