@@ -1,27 +1,21 @@
 -- What is promised of a whole run follows from what is promised of its events.
-use Rattle.bt_tree.proofs.ComparisonClash.{same_or_clash}
-use Rattle.bt_sparse.proofs.Joins.{keeps_rooted}
-use Rattle.bt_sparse.proofs.LayerTrees.{layers_are_sound}
-use Rattle.bt_sparse.proofs.Values.{root_sound}
-use Rattle.bt_store.proofs.AdoptionMarks.{adopt_marks}
 use Rattle.std.specs.List.{list_all}
-use Rattle.bt_disk.specs.State.{IsImage}
 use Rattle.bt_store.specs.BlockStates.{is_marked}
-use Rattle.bt_machine.proofs.Base.{[], ◌≡◌, ℕ, zero, suc, ◌<◌, true, List, ◌∷◌, ◌++◌, length, replicate, Option, Some, None, refl, sym, ap, ◌∙◌, arith, slice_get, History, IsDigest, File, Metainfo, IsLawful, BlockState, Missing, Waiting, Marked, BlockId, block_count}
+use Rattle.bt_machine.proofs.Base.{[], ◌≡◌, ℕ, zero, suc, ◌<◌, true, List, ◌∷◌, ◌++◌, length, replicate, Option, Some, None, refl, sym, ap, ◌∙◌, arith, slice_get, History, File, Metainfo, IsLawful, BlockState, Missing, Waiting, Marked, BlockId, block_count}
 use Rattle.bt_machine.specs.Blocks.{block_id, is_complete}
-use Rattle.bt_machine.specs.Shape.{IsShaped}
+use Rattle.bt_machine.specs.Headline.{CompleteFilesArePublished}
+use Rattle.bt_machine.specs.Law.{StartsRooted, StepKeepsRooted, RightIsChecked, StepMarksByBytes, RunSendsReadBytes}
+use Rattle.bt_machine.specs.Shape.{IsShaped, StartsInShape, StepKeepsShape, RunsKeepShape}
+use Rattle.bt_machine.specs.Sound.{StartsSound, StepKeepsSound, HonestDevicesWereSo}
+use Rattle.bt_machine.specs.Survival.{FlushKeepsBlocks, RunKeepsImages}
+use Rattle.bt_machine.specs.Unmarks.{RunKeepsMarks}
 use Rattle.bt_machine.specs.Start.{AreDevicesOf}
 use Rattle.bt_machine.specs.State.{EngineView}
-use Rattle.bt_machine.specs.View.{RunsTo}
+use Rattle.bt_machine.specs.View.{RunsTo, NoEventsRun, OneMoreEventRuns, RunsCompose, RunsAreRuns}
 use Rattle.bt_machine.specs.declared.event.Event.{Event}
 use Rattle.bt_machine.specs.declared.event.Answer.{Answer}
 use Rattle.bt_machine.proofs.Machine.{Digest, EngineState, DeviceCalls, RunOn, Starts, state_at}
-use Rattle.bt_machine.proofs.Headline.{files_published, start_sound}
 use Rattle.bt_machine.proofs.Lists.{and_then_some, get_some, some_below}
-use Rattle.bt_machine.proofs.Sends.{run_sends}
-use Rattle.bt_machine.proofs.Shape.{shape_kept}
-use Rattle.bt_machine.proofs.Start.{start_rooted}
-use Rattle.bt_machine.proofs.View.{none_run, one_more_runs, runs_compose, without_devices}
 use Rattle.bt_runs.specs.Leads.{LeadsTo, none, one, both}
 use Rattle.bt_runs.specs.Promises.{IsMarkedOnPath}
 use Rattle.bt_runs.specs.WholeRuns.{IsPublishedOn, WholeRunsKeepPromises}
@@ -73,19 +67,19 @@ module _ {D : Type 0} (history : D → History) (honest : D → Type 0) (faults 
     pub runs : RunsTo history honest faults dig old events answers new
 
   -- what leads on is a list of events
-  leads_run : {old new : EngineView D} → LeadsTo history honest faults dig old new → SomeRun old new
-  leads_run (none engine) = record { events = []; answers = []; runs = none_run history honest faults dig engine }
-  leads_run (one old new event answer step) = record {
+  leads_run : NoEventsRun history honest faults dig → OneMoreEventRuns history honest faults dig → RunsCompose history honest faults dig → {old new : EngineView D} → LeadsTo history honest faults dig old new → SomeRun old new
+  leads_run none_run one_more compose (none engine) = record { events = []; answers = []; runs = none_run engine }
+  leads_run none_run one_more compose (one old new event answer step) = record {
     events = event ∷ [];
     answers = answer ∷ [];
-    runs = one_more_runs history honest faults dig old old new [] [] event answer (none_run history honest faults dig old) step;
+    runs = one_more old old new [] [] event answer (none_run old) step;
   }
-  leads_run (both old mid new first then) =
-      let a = leads_run first in
-      let b = leads_run then in record {
+  leads_run none_run one_more compose (both old mid new first then) =
+      let a = leads_run none_run one_more compose first in
+      let b = leads_run none_run one_more compose then in record {
         events = a.events ++ b.events;
         answers = a.answers ++ b.answers;
-        runs = runs_compose history honest faults dig old mid new a.events b.events a.answers b.answers a.runs b.runs;
+        runs = compose old mid new a.events b.events a.answers b.answers a.runs b.runs;
       }
 
   -- ---- devices
@@ -106,14 +100,14 @@ module _ {D : Type 0} (history : D → History) (honest : D → Type 0) (faults 
   none_after old new _ _ _ disks after i run at = absurd run
 
   -- a complete file is the published one
-  published_on : IsDigest dig → (torrent : Metainfo) (given : List D) (first last : EngineView D) (events : List Event) (calls : List DeviceCalls) (answers : List Answer)
+  published_on : CompleteFilesArePublished history honest faults dig → (torrent : Metainfo) (given : List D) (first last : EngineView D) (events : List Event) (calls : List DeviceCalls) (answers : List Answer)
       → IsLawful torrent.piece_length torrent.files → Starts dig torrent first.state → AreDevicesOf torrent.files given first.disks
       → RunOn history honest faults dig first.state first.disks events calls answers last.state last.disks → IsShaped torrent last.state
       → (number : ℕ) (file : File) (disk : Option D) → slice_get torrent.files number ≡ Some file → is_complete last.state number ≡ true
       → slice_get last.disks number ≡ Some disk → IsPublishedOn history honest dig file disk
-  published_on sizes torrent given first last events calls answers lawful starts devices run shaped number file None listed done there =
+  published_on publish torrent given first last events calls answers lawful starts devices run shaped number file None listed done there =
       (devices.empty number file listed).0 (none_before first.state last.state events calls answers first.disks last.disks number run there)
-  published_on sizes torrent given first last events calls answers lawful starts devices run shaped number file (Some d) listed done there = λ honest_now.
+  published_on publish torrent given first last events calls answers lawful starts devices run shaped number file (Some d) listed done there = λ honest_now.
       let some : 0 < file.length = positive file.length (λ empty. (let gone = none_after first.state last.state events calls answers first.disks last.disks number run
       ((devices.empty number file listed).1 empty) in absurd cc)) in
       let lt : number < length last.state.files = rw shaped.count (some_below torrent.files number listed) in
@@ -121,8 +115,7 @@ module _ {D : Type 0} (history : D → History) (honest : D → Type 0) (faults 
       let shape = shaped.each number file f.0 listed f.1 in
       let tree = shape.has_tree some in
       let all : list_all is_marked f.0.states ≡ true = rw f.1 at done in
-      files_published history honest faults dig (adopt_marks dig) (keeps_rooted dig) (layers_are_sound sizes) (root_sound dig) (same_or_clash dig sizes)
-      torrent first.state last.state events calls answers first.disks last.disks number file d lawful starts run
+      publish torrent first.state last.state events calls answers first.disks last.disks number file d lawful starts run
       (record {
         listed = listed;
         some = some;
@@ -135,29 +128,37 @@ module _ {D : Type 0} (history : D → History) (honest : D → Type 0) (faults 
 
   -- ---- the whole
 
-  pub whole_runs : IsDigest dig → ((d : D) → honest d → IsImage (history d).now (history d).now.bytes) → WholeRunsKeepPromises history honest faults dig
-  whole_runs sizes reads torrent given first last lawful starts devices leads =
-      let some = leads_run leads in
-      let events = some.events in
-      let answers = some.answers in
-      let calls = some.runs.calls in
-      let run = some.runs.run in
-      let plain = without_devices history honest faults dig first.state last.state first.disks last.disks events calls answers run in
-      let began : IsShaped torrent first.state = (shape_kept dig torrent first.state first.state [] [] [] starts refl).0 in
-      let shaped : IsShaped torrent last.state = (shape_kept dig torrent first.state last.state events calls answers starts plain).0 in
-      let rooted = start_rooted (layers_are_sound sizes) (root_sound dig) lawful starts in
-      let marks : (b : BlockId) → state_at last.state b ≡ Some Marked → IsMarkedOnPath dig first.state events calls answers last.state b = λ b marked.
-      run_marks dig torrent first.state last.state events calls answers began rooted plain b marked (unmarked_first dig torrent first.state b starts) in
-      record {
-        events = events;
-        calls = calls;
-        answers = answers;
-        run = run;
-        marks = marks;
-        sends = λ before answer after is key piece begin bytes sent.
-            sends_on_path dig torrent events calls before answer after key piece begin bytes began rooted
-            (run_sends dig first.state last.state events calls before answer after (rw (← is) plain) key piece begin bytes sent);
-        complete = λ number file listed done i inside. marks (block_id number i) (complete_marked torrent last.state number file i shaped listed done inside);
-        published = published_on sizes torrent given first last events calls answers lawful starts devices run shaped;
-        flushes = flushes history honest faults dig reads first last events calls answers (start_sound history honest faults dig first.disks starts) run;
-      }
+  module _ (right : RightIsChecked dig) (starts_in_shape : StartsInShape dig) (starts_rooted : StartsRooted dig) (starts_sound : StartsSound history honest dig)
+      (keeps_shape : StepKeepsShape dig) (keeps_rooted : StepKeepsRooted dig) (keeps_sound : StepKeepsSound history honest faults dig)
+      (step_marks : StepMarksByBytes dig) (run_sends : RunSendsReadBytes dig) (run_shape : RunsKeepShape dig)
+      (none_run : NoEventsRun history honest faults dig) (one_more : OneMoreEventRuns history honest faults dig) (compose : RunsCompose history honest faults dig)
+      (are_runs : RunsAreRuns history honest faults dig) (publish : CompleteFilesArePublished history honest faults dig)
+      (keeps_marks : RunKeepsMarks history honest faults dig) (keeps_images : RunKeepsImages history honest faults dig)
+      (flush_keeps : FlushKeepsBlocks history honest faults dig) (were_so : HonestDevicesWereSo history honest faults dig) where
+    pub whole_runs : WholeRunsKeepPromises history honest faults dig
+    whole_runs torrent given first last lawful starts devices leads =
+        let some = leads_run none_run one_more compose leads in
+        let events = some.events in
+        let answers = some.answers in
+        let calls = some.runs.calls in
+        let run = some.runs.run in
+        let plain = are_runs first.state last.state first.disks last.disks events calls answers run in
+        let began : IsShaped torrent first.state = starts_in_shape torrent first.state starts in
+        let shaped : IsShaped torrent last.state = (run_shape torrent first.state last.state events calls answers starts plain).0 in
+        let rooted = starts_rooted torrent first.state lawful starts in
+        let marks : (b : BlockId) → state_at last.state b ≡ Some Marked → IsMarkedOnPath dig first.state events calls answers last.state b = λ b marked.
+        run_marks dig torrent right keeps_shape keeps_rooted step_marks first.state last.state events calls answers began rooted plain b marked (unmarked_first dig torrent first.state b starts) in
+        record {
+          events = events;
+          calls = calls;
+          answers = answers;
+          run = run;
+          marks = marks;
+          sends = λ before answer after is key piece begin bytes sent.
+              sends_on_path dig torrent right keeps_shape keeps_rooted events calls before answer after key piece begin bytes began rooted
+              (run_sends first.state last.state events calls before answer after (rw (← is) plain) key piece begin bytes sent);
+          complete = λ number file listed done i inside. marks (block_id number i) (complete_marked torrent last.state number file i shaped listed done inside);
+          published = published_on publish torrent given first last events calls answers lawful starts devices run shaped;
+          flushes = flushes history honest faults dig were_so keeps_images keeps_marks flush_keeps keeps_sound first last events calls answers
+              (starts_sound torrent first.state first.disks starts) run;
+        }
