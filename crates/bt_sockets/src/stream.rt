@@ -14,7 +14,7 @@ use bt_padding::{PaddedReader, PaddedWriter, Padding};
 use std::alloc::Global;
 use std::cell::RefCell;
 use std::io;
-use std::io::ErrorKind;
+use std::io::{ErrorKind, Read, Write};
 use std::net::{Ipv6Addr, Net, OpenStream, SocketAddr, TcpStream, ToSocketAddrs};
 use std::time::{Clock, Duration, Instant};
 
@@ -87,7 +87,7 @@ pub(crate) struct Terms {
 /// also where a device has refused a write since. Both ways are new: nothing of another connection waits in them,
 /// and what was remembered of its peer, or held back for it, is forgotten. It takes no memory. Errors: the system
 /// refuses this; a connection for the same passage is there still.
-pub(crate) fn both_ways<'a, S: OpenStream + Drop, C: Clock>(
+pub(crate) fn both_ways<'a, S: Read + Write + OpenStream + Drop, C: Clock>(
     alloc: Global,
     clock: &'a C,
     stream: S,
