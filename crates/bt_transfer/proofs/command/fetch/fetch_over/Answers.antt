@@ -6,22 +6,22 @@ pub returns-in_err-ends-clause-run : goal.returns-in_err-ends-clause-run
 returns-in_err-ends-clause-run g c = none c.args.engine.now
 
 pub returns-in_err-write_peers-clause-broken_off : goal.returns-in_err-write_peers-clause-broken_off
-returns-in_err-write_peers-clause-broken_off g c =
-    broke_off _ g.D.Disk.history g.D.Disk.honest g.D.Disk.faults g.H.NodeHash.digest c.args.engine.now c.args.links.now _
+returns-in_err-write_peers-clause-broken_off g c = on_err _ _
+    (broke_off _ g.D.Disk.history g.D.Disk.honest g.D.Disk.faults g.H.NodeHash.digest c.args.engine.now c.args.links.now _
     c.try_and_sync-kept.new.links c.try_and_sync-kept.new.engine c.try_and_sync-kept.new.engine c.try_and_sync-kept.result c.try_and_sync-kept.ensures.kept
-    c.try_and_sync-kept.ensures.failed (none c.try_and_sync-kept.new.engine)
+    c.try_and_sync-kept.ensures.failed (none c.try_and_sync-kept.new.engine))
 
 pub returns-in_err-kept-clause-broken_off : goal.returns-in_err-kept-clause-broken_off
-returns-in_err-kept-clause-broken_off g c =
-    broke_off _ g.D.Disk.history g.D.Disk.honest g.D.Disk.faults g.H.NodeHash.digest c.args.engine.now c.args.links.now _
+returns-in_err-kept-clause-broken_off g c = on_err _ _
+    (broke_off _ g.D.Disk.history g.D.Disk.honest g.D.Disk.faults g.H.NodeHash.digest c.args.engine.now c.args.links.now _
     c.try_and_sync-kept.new.links c.try_and_sync-kept.new.engine c.try_and_sync-kept.new.engine c.try_and_sync-kept.result c.try_and_sync-kept.ensures.kept
-    c.try_and_sync-kept.ensures.failed (none c.try_and_sync-kept.new.engine)
+    c.try_and_sync-kept.ensures.failed (none c.try_and_sync-kept.new.engine))
 
 pub returns-in_err-adopt_waiting-clause-broken_off : goal.returns-in_err-adopt_waiting-clause-broken_off
-returns-in_err-adopt_waiting-clause-broken_off g c =
-    broke_off _ g.D.Disk.history g.D.Disk.honest g.D.Disk.faults g.H.NodeHash.digest c.args.engine.now c.args.links.now _
+returns-in_err-adopt_waiting-clause-broken_off g c = on_err _ _
+    (broke_off _ g.D.Disk.history g.D.Disk.honest g.D.Disk.faults g.H.NodeHash.digest c.args.engine.now c.args.links.now _
     c.try_and_sync-kept.new.links c.try_and_sync-kept.new.engine c.adopt_waiting.new.engine c.try_and_sync-kept.result c.try_and_sync-kept.ensures.kept
-    c.try_and_sync-kept.ensures.failed c.adopt_waiting.ensures.run
+    c.try_and_sync-kept.ensures.failed c.adopt_waiting.ensures.run)
 
 pub returns-in_err-adopt_waiting-clause-run : goal.returns-in_err-adopt_waiting-clause-run
 returns-in_err-adopt_waiting-clause-run g c =
