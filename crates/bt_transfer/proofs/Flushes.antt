@@ -1,12 +1,8 @@
--- A flush changes nothing but the devices.
-use Rattle.std.proofs.Common.{◌≡◌, ℕ, List, Result, Ok, Err}
+-- Lemmas on a fetch that fails behind the flush that follows on its peers.
+use Rattle.std.proofs.Common.{ℕ, List, Result, Ok, Err}
 use Rattle.std.specs.Prelude.{OnErr, OnOk}
 use Rattle.bt_disk.specs.History.{History}
-use Rattle.bt_machine.specs.declared.event.Event.TheVariants.{Flush}
-use Rattle.bt_machine.specs.declared.event.Answer.{Answer}
-use Rattle.bt_machine.specs.Flush.{StepFlush, syncs, fails}
 use Rattle.bt_machine.specs.State.{EngineView}
-use Rattle.bt_machine.specs.View.{StepsTo}
 use Rattle.bt_machine.specs.declared.error.FlushError.TheVariants.{Device}
 use Rattle.bt_check.specs.declared.fault.Fault.{Fault}
 use Rattle.bt_peers.specs.Peers.{Trial}
@@ -14,16 +10,6 @@ use Rattle.bt_peers.specs.declared.end.PeerEnd.{PeerEnd}
 use Rattle.bt_runs.specs.Leads.{LeadsTo}
 use Rattle.bt_transfer.specs.Fetch.{TriesAndSyncs}
 use Rattle.bt_transfer.specs.FetchSteps.{BreaksOff, synced}
-
-state_stays : {s : _} {calls : _} {answer : _} {new : _} → StepFlush s calls answer new → new ≡ s
-state_stays (syncs a b c e) = e
-state_stays (fails x y z a b c d e) = e
-
-pub flush_state : {D : Type 0} (history : D → History) (honest : D → Type 0) (faults : D → ℕ) (dig : List ℕ → List ℕ)
-    (old new : EngineView D) (answer : Answer) → StepsTo history honest faults dig old Flush answer new → new.state ≡ old.state
-flush_state history honest faults dig old new answer step = state_stays step.step.2
-
--- ---- peers that were tried, and the flush behind them
 
 -- whatever the flush answered, what fails behind it fails so
 pub broke_off : {D L : Type 0} (Try : Trial D L) (history : D → History) (honest : D → Type 0) (faults : D → ℕ) (dig : List ℕ → List ℕ)

@@ -1,9 +1,9 @@
 -- What a fetch and a seed come to, from the start of their torrent on.
-use Rattle.std.proofs.Common.{[], ◌≡◌, ℕ, ◌+◌, ◌<◌, Bool, true, false, List, ◌∷◌, length, Option, Some, None, refl, sym, ap, subst, ◌∙◌, arith}
+use Rattle.std.proofs.Common.{[], ◌≡◌, ℕ, suc, ◌+◌, inl, inr, ◌<◌, Bool, true, false, List, ◌∷◌, length, Option, Some, None, refl, sym, ap, subst, ◌∙◌, arith}
 use Rattle.std.specs.List.{count_by, list_all}
 use Rattle.std.specs.Prelude.{◌&&◌, ◌==◌, not, if◌then◌else◌, slice_get, Contains}
 use Rattle.std.proofs.lemmas.Bool.{eqb-true}
-use Rattle.std.proofs.lemmas.List.Sums.{count_by-le-length}
+use Rattle.std.proofs.lemmas.List.Sums.{count_by-le-length, sum_by-cons}
 use Rattle.bt_disk.specs.History.{History}
 use Rattle.bt_store.specs.BlockStates.{is_marked}
 use Rattle.bt_store.specs.declared.block_states.BlockState.{BlockState}
@@ -25,12 +25,22 @@ use Rattle.bt_words.specs.declared.peer.Serving.{Serving}
 
 -- ---- complete files
 
+-- one block more adds what it counts for
+count_more : (state : BlockState) (states : List BlockState)
+    → count_by is_marked (state ∷ states) ≡ (if is_marked state then 1 else 0) + count_by is_marked states
+count_more state states = sum_by-cons (λ x. if is_marked x then 1 else 0) state states
+
 -- where as many blocks are marked as there are, each is
 all_counted : (states : List BlockState) → count_by is_marked states ≡ length states → list_all is_marked states ≡ true
 all_counted [] e = refl
-all_counted (Marked ∷ states) e = all_counted states (omega (arith, e))
-all_counted (Missing ∷ states) e = absurd (omega (arith, e, count_by-le-length is_marked states))
-all_counted (Waiting ∷ states) e = absurd (omega (arith, e, count_by-le-length is_marked states))
+all_counted (Marked ∷ states) e =
+    let more : 1 + count_by is_marked states ≡ suc (length states) = sym (count_more Marked states) ∙ e in all_counted states (omega (arith, more))
+all_counted (Missing ∷ states) e =
+    let more : 0 + count_by is_marked states ≡ suc (length states) = sym (count_more Missing states) ∙ e in
+    absurd (omega (arith, more, count_by-le-length is_marked states))
+all_counted (Waiting ∷ states) e =
+    let more : 0 + count_by is_marked states ≡ suc (length states) = sym (count_more Waiting states) ∙ e in
+    absurd (omega (arith, more, count_by-le-length is_marked states))
 
 -- a file whose line begins with `complete` is complete
 called_complete : (torrent : Metainfo) (s : EngineState) (number : ℕ) (file : File) → IsCalledComplete torrent s number file

@@ -120,7 +120,7 @@ fn fetch_from<D: Disk + Drop, H: NodeHash, N: Net + Clock, W: Write>(
     writer: &mut W,
 ) -> Result<u8, Fault>
     requires no_peer { engine.old.state.peers ≡ [] }
-    requires own_short_blocks { passage.entry.short_blocks.now ≡ short_blocks_of engine.old.state.torrent }
+    requires own_short_blocks { passage.short_blocks.now ≡ short_blocks_of engine.old.state.torrent }
     ensures fetched { IfOk result (λ status. HasFetchedOverTcp D.history D.honest D.faults H.digest peers.now
         engine.old (W.contents writer.old) (W.contents writer.new) status engine.new) }
     ensures run { LeadsTo D.history D.honest D.faults H.digest engine.old engine.new }

@@ -111,7 +111,7 @@ fn listen_and_serve<D: Disk + Drop, H: NodeHash, N: Net + Clock, W: Write>(
     writer: &mut W,
 ) -> Result<(), Fault>
     requires no_peer { engine.old.state.peers ≡ [] }
-    requires own_short_blocks { passage.entry.short_blocks.now ≡ short_blocks_of engine.old.state.torrent }
+    requires own_short_blocks { passage.short_blocks.now ≡ short_blocks_of engine.old.state.torrent }
     ensures run { LeadsTo D.history D.honest D.faults H.digest engine.old engine.new }
     ensures served { OnOk result (HasListened D.history D.honest D.faults H.digest service.entry.serving
         engine.old (W.contents writer.old) (W.contents writer.new) engine.new) }

@@ -1,5 +1,6 @@
 use Rattle.std.proofs.Common.{ap, ◌∙◌}
 use Rattle.bt_padding.specs.ShortBlocks.{short_blocks_of}
+use Rattle.bt_runs.specs.Leads.{none}
 use Rattle.bt_transfer.specs.Fetch.{links_of}
 use Rattle.bt_transfer.proofs.OverTcp.{fetched_over_tcp, links_undialled}
 use Rattle.bt_transfer.proofs.command.fetch.fetch_from.Goals as goal
@@ -18,3 +19,6 @@ returns-clause-fetched g c = record {
       (c.deref_mut.ensures.value ∙ c.in_ok-links.ensures ∙ ap (λ short. links_of short c.args.peers.now) c.requires.own_short_blocks)
       c.in_ok-status.ensures.fetched;
 }
+
+pub returns-in_err-links-clause-run : goal.returns-in_err-links-clause-run
+returns-in_err-links-clause-run g c = none c.args.engine.now

@@ -1,5 +1,14 @@
 use Rattle.std.proofs.Common.{rules}
+use Rattle.bt_runs.specs.Leads.{both}
 use Rattle.bt_transfer.proofs.command.seed.serve_all.Goals as goal
 
 pub returns-in_ok-served-in-Count-clause-served : goal.returns-in_ok-served-in-Count-clause-served
 returns-in_ok-served-in-Count-clause-served g c = search rules
+
+pub returns-in_err-served-in-Count-clause-run : goal.returns-in_err-served-in-Count-clause-run
+returns-in_err-served-in-Count-clause-run g c =
+    both c.args.engine.now c.serve_count-served.new.engine c.finish-kept.new.engine c.serve_count-served.ensures.run c.finish-kept.ensures.run
+
+pub returns-in_ok-served-in-Count-clause-run : goal.returns-in_ok-served-in-Count-clause-run
+returns-in_ok-served-in-Count-clause-run g c =
+    both c.args.engine.now c.serve_count-served.new.engine c.finish-kept.new.engine c.serve_count-served.ensures.run c.finish-kept.ensures.run

@@ -1,0 +1,6 @@
+use Rattle.bt_runs.specs.Leads.{both}
+use Rattle.bt_transfer.proofs.command.fetch.try_and_sync.Goals as goal
+
+pub returns-clause-run : goal.returns-clause-run
+returns-clause-run g c =
+    both c.args.engine.now c.run_peers.new.engine c.finish.new.engine c.run_peers.ensures.run c.finish.ensures.run
