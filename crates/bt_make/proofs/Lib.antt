@@ -1,6 +1,7 @@
 pub mod FolderWalk
 pub mod FolderOrder
 pub mod FolderFiles
+pub mod MadeFiles
 pub mod MakeFault
 pub mod AtomicFile
 pub mod AtomicFilePath

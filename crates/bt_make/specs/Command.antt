@@ -7,6 +7,7 @@ use Rattle.bt_tree.specs.TreeShape.{IsPieceLength}
 use Rattle.bt_meta.specs.Faults.{first_of}
 use Rattle.bt_meta.specs.Files.{piece_count}
 use Rattle.bt_meta.specs.GivenFiles.{Given, given_of}
+use Rattle.bt_meta.specs.MadeFrom.{NamedFile, IsMadeFromNamed}
 use Rattle.bt_meta.specs.TreeEntries.{with_earlier}
 use Rattle.bt_meta.specs.Writer.{IsMade, IsNotMade}
 use Rattle.bt_meta.specs.Torrent.{Metainfo, IsTorrent}
@@ -41,7 +42,7 @@ abbrev pub paths_of : List Made → Paths
 paths_of files = map (λ (file : Given). file.path) (map given_of files)
 
 -- a torrent that was made of such files with these paths, in turn, by pieces of 2 ^ layer blocks, and its
--- infohash
+-- infohash; and the files whose bytes were read, from which the torrent is made
 pub record IsTorrentOf (paths : Paths) (name : List ℕ) (piece_length : ℕ) (new : NewTorrent) : Type 0 where
   pub layer : ℕ
   pub pieces : piece_length ≡ full_block_length * 2 ^ layer
@@ -52,6 +53,9 @@ pub record IsTorrentOf (paths : Paths) (name : List ℕ) (piece_length : ℕ) (n
   pub torrent : Metainfo
   pub read : IsTorrent new.text.items torrent
   pub hash : new.infohash ≡ torrent.infohash
+  pub originals : List NamedFile
+  pub named : map (λ f. f.path) originals ≡ paths
+  pub made : IsMadeFromNamed torrent originals
 
 -- and of some paths
 abbrev pub IsMakeTorrent : List ℕ → ℕ → NewTorrent → Type 0

@@ -18,7 +18,7 @@ use bt_check::{
     BUFFER_LEN, Digests, Fault, PieceSize, digest_reader, fault_name, found_path, is_device_fault,
     told,
 };
-use bt_meta::{Made, MakeError, make_torrent};
+use bt_meta::{Made, MakeError, make_torrent, torrents_are_made_from_files};
 use bt_progress::{FileCall, Watch, Watched};
 use bt_tree::Hash32;
 use bt_words::MakeTask;
@@ -140,6 +140,7 @@ fn torrent_of<R: Files + AllocGlobal, P: Watch>(
     ensures fault { IfErr result (IsFilesFault (file_paths [] entries.items) name.now size.bytes) }
 {
     let alloc = rt.alloc();
+    torrents_are_made_from_files();
     watch.begin(FileCall::Read);
     let files = measured_files(rt, watch, dir, entries, size)?;
     let files = read_files(rt, watch, dir, files, size)?;
