@@ -99,11 +99,7 @@ fn link<'a>(site: &Site<'a>, port: u16, idle: Duration) -> TcpLink<'a, HostRunti
     TcpLink::new(site.alloc, site.net, HOST, port, idle, site.passage)
 }
 
-fn dialled<'a>(
-    site: &Site<'a>,
-    port: u16,
-    idle: Duration,
-) -> Option<(Reader<'a>, Writer<'a>)> {
+fn dialled<'a>(site: &Site<'a>, port: u16, idle: Duration) -> Option<(Reader<'a>, Writer<'a>)> {
     link(site, port, idle).dial()
 }
 
