@@ -1,4 +1,5 @@
 //! A network that stands in for the host's, with a clock of its own: one peer, which does what a row says, when the row says it.
+ghost use Rattle.std.specs.Prelude.{◌≤◌, length};
 
 use std::cell::Cell;
 use std::io::{self, ErrorKind, Read, Write};
@@ -83,7 +84,9 @@ impl Scene {
     }
 
     /// Gives what is left of these bytes, as much as there is room for.
-    fn send(&self, bytes: &[u8], buffer: &mut [u8]) -> usize {
+    fn send(&self, bytes: &[u8], buffer: &mut [u8]) -> usize
+        ensures { result ≤ length buffer.new }
+    {
         let rest = &bytes[self.sent.get().min(bytes.len())..];
         let count = rest.len().min(buffer.len());
         buffer[..count].copy_from_slice(&rest[..count]);
