@@ -109,12 +109,11 @@ drop_min n xs = elim (cases_lt n (length xs)) [
 ]
 
 -- the first of them pass, and the frames that are whole are given on
-pub received : (d : DirectionState) (come left : Flow) (found kept : Memory) (bytes front back held mid now : List ℕ) (m taken : ℕ)
+pub received : (d : DirectionState) (come left : Flow) (found kept : Memory) (bytes front back mid now : List ℕ) (m taken : ℕ)
     → m ≡ min come.passing (length bytes) → front ≡ take m bytes → back ≡ drop m bytes
     → d.flow ≡ flow (come.passing - length front) (come.unread ++ back)
-    → GivesFrames d found taken kept (held ++ front) mid → IsKept d taken left mid now
-    → Receives d.blocks d.side come bytes left held now
-received d come left found kept bytes front back held mid now m taken least first second fed-is g k =
+    → GivesFrames d found taken kept front mid → IsKept d taken left mid now → Receives d.blocks d.side come bytes left now
+received d come left found kept bytes front back mid now m taken least first second fed-is g k =
     let front-is : front ≡ take come.passing bytes = first ∙ ap (λ n. take n bytes) least ∙ take_min come.passing bytes in
     let back-is : back ≡ drop come.passing bytes = second ∙ ap (λ n. drop n bytes) least ∙ drop_min come.passing bytes in
     let less : come.passing - length front ≡ come.passing - length bytes
@@ -129,6 +128,5 @@ received d come left found kept bytes front back held mid now m taken least firs
       behind = k.behind;
       translates = subst (λ (f : Flow). Translates d.blocks d.side (place kept (drop taken d.flow.unread)) (place found f.unread) g.frames) same g.translates;
       ends = subst (λ (f : Flow). Ends f.passing (drop taken d.flow.unread) k.behind left) same k.ends;
-      appended = k.appended ∙ ap (λ (xs : List ℕ). xs ++ k.behind) g.appended
-          ∙ ap (λ (xs : List ℕ). held ++ xs ++ g.frames ++ k.behind) front-is;
+      all = k.appended ∙ ap (λ (xs : List ℕ). xs ++ k.behind) g.appended ∙ ap (λ (xs : List ℕ). xs ++ g.frames ++ k.behind) front-is;
     }

@@ -1,5 +1,8 @@
 -- What is given on in place of a frame.
-use Rattle.std.proofs.Common.{◌≡◌, ℕ, List, length, refl, sym, ◌∙◌, ap, subst, Contains, remove}
+use Rattle.std.proofs.Common.{◌≡◌, ◌-◌, ℕ, List, ◌++◌, take, length, refl, sym, ◌∙◌, ap, subst, arith, Contains, remove, replicate}
+use Rattle.std.proofs.lemmas.List.{take_all}
+use Rattle.std.specs.Prelude.{max}
+use Rattle.bt_tree.specs.Limits.{full_block_length}
 use Rattle.bt_wire.specs.Message.{message_spelling}
 use Rattle.bt_wire.specs.Event.{IsSent}
 use Rattle.bt_wire.specs.Law.{StreamsHaveOneReading}
@@ -12,6 +15,15 @@ use Rattle.bt_padding.specs.Translation.{Gives}
 use Rattle.bt_padding.specs.declared.translation.Side.TheVariants.{Peer, Engine}
 use Rattle.bt_padding.proofs.Messages.{ask_in, answer_range, is_there, is_taken}
 use Rattle.bt_padding.proofs.Streams.{one_message}
+
+-- with zeros up to the length of a block at least
+pub filled_by : (block items new : List ℕ) (size held : ℕ) → size ≡ max (length block) full_block_length → items ≡ block → held ≡ length block
+    → new ≡ take size items ++ replicate (size - held) 0 → new ≡ filled block
+filled_by block items new size held most same all is =
+    let whole : take size block ≡ block = take_all size block (omega (arith, most)) in
+    let zeros : size - held ≡ full_block_length - length block = omega (arith, most, all) in
+    is ∙ ap (λ (xs : List ℕ). take size xs ++ replicate (size - held) 0) same ∙ ap (λ (xs : List ℕ). xs ++ replicate (size - held) 0) whole
+    ∙ ap (λ n. block ++ replicate n 0) zeros
 
 module _ (law : StreamsHaveOneReading) (blocks : List Ask) (memory : Memory) (frame : List ℕ) where
   -- a request that is for no short block with its padding

@@ -1,6 +1,7 @@
 -- What a message that is a request or a piece says of its parts.
-use Rattle.std.proofs.Common.{◌≡◌, ◌+◌, ℕ, suc, List, [], ◌∷◌, ◌++◌, take, drop, length, refl, sym, ◌∙◌, ap, arith, subst, Contains, remove, add-one}
-use Rattle.std.proofs.lemmas.List.Elements.{Contains-append_right}
+use Rattle.std.proofs.Common.{◌≡◌, ◌<◌, ℕ, suc, List, [], ◌∷◌, ◌++◌, take, drop, length, refl, sym, ◌∙◌, ap, arith, Contains, remove, length-take}
+use Rattle.std.proofs.lemmas.List.{get_or-take, take-append-drop}
+use Rattle.std.proofs.Math.Seq.{drop-cons}
 use Rattle.bt_wire.specs.declared.message.Ask.{Ask}
 use Rattle.bt_wire.specs.declared.message.Message.{Message}
 use Rattle.bt_wire.specs.declared.message.Message.TheVariants.{Request, Piece}
@@ -28,15 +29,19 @@ answer_range piece begin bytes others ask same whole =
 
 -- the request that stands first is there, and is taken out
 pub is_there : (asked : List Ask) (ask : Ask) (i : ℕ) → IsFirstAt asked ask i → Contains asked ask
-is_there asked ask i at =
-    let here : Contains (ask ∷ drop (i + 1) asked) ask = (0, omega arith, refl) in
-    subst (λ (xs : List Ask). Contains xs ask) (sym at.split) (Contains-append_right (take i asked) (ask ∷ drop (i + 1) asked) ask here)
+is_there asked ask i at = (i, at.inside, at.there ask)
+
+not_before : (asked : List Ask) (ask : Ask) (i : ℕ) → IsFirstAt asked ask i → ¬ Contains (take i asked) ask
+not_before asked ask i at found =
+    let inside : found.0 < i = omega (arith, found.1, length-take i asked) in
+    at.first found.0 ask (omega arith) inside (sym (get_or-take i asked found.0 ask inside) ∙ found.2)
 
 pub is_taken : (asked : List Ask) (ask : Ask) (i : ℕ) → IsFirstAt asked ask i → IsTaken asked ask (remove asked i)
 is_taken asked ask i at = record {
   before = take i asked;
   after = drop (suc i) asked;
-  was = at.split ∙ ap (λ n. take i asked ++ ask ∷ drop n asked) (add-one i);
-  first = at.first;
+  was = sym (take-append-drop i asked) ∙ ap (λ (xs : List Ask). take i asked ++ xs) (drop-cons asked i ask at.inside)
+      ∙ ap (λ (a : Ask). take i asked ++ a ∷ drop (suc i) asked) (at.there ask);
+  first = not_before asked ask i at;
   now = refl;
 }

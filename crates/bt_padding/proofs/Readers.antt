@@ -1,40 +1,29 @@
 -- What a reader takes of the one behind it, and what it gives of that.
-use Rattle.std.proofs.Common.{◌≡◌, ◌≤◌, ℕ, List, [], ◌++◌, take, drop, length, Option, refl, sym, ◌∙◌, ap, arith, subst, length-drop}
-use Rattle.std.proofs.lemmas.List.{drop_all}
-use Rattle.std.proofs.KnownBytes.{Keeps-refl}
-use Rattle.std.specs.Io.KnownBytes.{IsAtEnd}
-use Rattle.bt_padding.specs.Reader.{ReaderState, IsFilled, IsGiven, IsRead, LosesNothing, IsInterrupted}
+use Rattle.std.proofs.Common.{◌≡◌, ◌≢◌, ℕ, Bool, true, false, List, [], ◌++◌, take, length, Option, Some, Result, Ok, Err, sym, ◌∙◌, ap, subst, arith}
+use Rattle.std.specs.Prelude.{IfOk, ◌==◌}
+use Rattle.std.specs.VecDeque.{deque_len}
+use Rattle.std.specs.declared.collections.VecDeque.{VecDeque}
+use Rattle.std.specs.Io.KnownBytes.{IsAtEnd, ReadConsumes}
+use Rattle.bt_padding.specs.Padded.{PaddedState, IsFilled, IsRead}
 
--- nothing waits just where all is given
-pub all_given : (given : ℕ) (bytes : List ℕ) → given ≡ length bytes → drop given bytes ≡ []
-all_given given bytes same = drop_all given bytes (omega (arith, same))
-
-pub none_left : (given : ℕ) (bytes : List ℕ) → given ≤ length bytes → drop given bytes ≡ [] → given ≡ length bytes
-none_left given bytes within none = omega (arith, within, length-drop given bytes, ap length none)
+-- a queue that holds something is not empty
+pub some_queued : {Z : Type 0} (queue : VecDeque ℕ Z) (is_empty : Bool) → is_empty ≡ false → is_empty ≡ (deque_len queue == 0) → queue.items ≢ []
+some_queued queue is_empty some is none =
+    let ok = queue.ok in
+    let zero : deque_len queue ≡ 0 = omega (arith, ok.0, ap length none) in
+    let yes : is_empty ≡ true = is ∙ ap (λ n. n == 0) zero in
+    cc
 
 -- what is given at a read comes of what was filled, and is none only at the end
-module _ {R : Type 0} (remaining : R → Option (List ℕ)) where
-  pub read_of : (old filled new : ReaderState R) (count : ℕ) (buffer : List ℕ) → IsFilled remaining old filled → IsGiven filled count buffer new
-      → IsRead remaining old count buffer new
-  read_of old filled new count buffer fills gives = record {
-    filled = filled;
-    fills = fills;
-    gives = gives;
-    ended = λ none room.
-        let rest : new.waiting ≡ [] = gives.all none room in
-        let nothing : filled.waiting ≡ [] = gives.first ∙ ap (λ n. take n buffer ++ new.waiting) none ∙ rest in
-        let same : new.inner ≡ filled.inner = ap (λ (r : ReaderState R). r.inner) gives.others in
-        subst (λ (i : R). IsAtEnd (remaining i)) (sym same) (fills.ended nothing);
-  }
-
-  -- where nothing is given, what was filled waits
-  pub nothing_given : (old filled new : ReaderState R) → IsFilled remaining old filled → new ≡ filled → IsInterrupted remaining old new
-  nothing_given old filled new fills same = record {
-    came = fills.came;
-    mid = filled;
-    takes = fills.takes;
-    loses_nothing = subst (λ (r : ReaderState R). LosesNothing remaining filled r) (sym same) (record {
-      kept = Keeps-refl (remaining filled.inner);
-      others = refl;
-    });
-  }
+pub read_of : {R E : Type 0} (remaining : R → Option (List ℕ)) (old filled new : PaddedState R) (r : Result ℕ E) (buffer : List ℕ)
+    → IsFilled remaining old filled → ReadConsumes (Some filled.waiting) (Some new.waiting) r buffer → new ≡ record filled { waiting = new.waiting }
+    → IfOk r (λ count. IsRead remaining old count buffer new)
+read_of remaining old filled new (Err e) buffer fills given others = tt
+read_of remaining old filled new (Ok count) buffer fills given others = record {
+  filled = filled;
+  fills = fills;
+  gives = record { first = given.0; all = given.1; others = others };
+  ended = λ none room.
+      let nothing : filled.waiting ≡ [] = given.0 ∙ ap (λ n. take n buffer ++ new.waiting) none ∙ given.1 none room in
+      subst (λ (i : _). IsAtEnd (remaining i)) (sym (ap (λ (r : PaddedState _). r.inner) others)) (fills.ended nothing);
+}

@@ -7,6 +7,5 @@ pub mod Translation
 pub mod TranslationSteps
 pub mod TranslationLaw
 pub mod FrameSteps
-pub mod Reader
-pub mod ReaderSteps
-pub mod Writer
+pub mod Padded
+pub mod PaddedSteps

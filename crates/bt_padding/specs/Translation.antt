@@ -50,12 +50,11 @@ Ends passing rest behind left =
     (Waits rest × (behind ≡ []) × (left ≡ flow passing rest))
     ⊎ ((missing : ℕ) × IsOther rest missing × (behind ≡ rest) × (left ≡ flow missing []))
 
--- Bytes of a side come, and what is given on stands behind what the output held: what passes as it comes, and
--- the frames that are whole then. The two directions of a connection share what is remembered: a call finds
--- some memory and keeps some; of what becomes of it between two calls nothing is said, since no contract knows
--- what a cell holds.
+-- Bytes of a side come, and this is given on: what passes as it comes, and the frames that are whole then. The
+-- two directions of a connection share what is remembered: a call finds some memory and keeps some; of what
+-- becomes of it between two calls nothing is said, since no contract knows what a cell holds.
 pub record Receives (blocks : List Ask) (side : Side) (come : Flow) (bytes : List ℕ) (left : Flow)
-    (held now : List ℕ) : Type 0 where
+    (given : List ℕ) : Type 0 where
   pub found : Memory
   pub kept : Memory
   pub frames : List ℕ
@@ -63,4 +62,4 @@ pub record Receives (blocks : List Ask) (side : Side) (come : Flow) (bytes : Lis
   pub behind : List ℕ
   pub translates : Translates blocks side (place kept rest) (place found (fed come bytes).unread) frames
   pub ends : Ends (fed come bytes).passing rest behind left
-  pub appended : now ≡ held ++ take come.passing bytes ++ frames ++ behind
+  pub all : given ≡ take come.passing bytes ++ frames ++ behind

@@ -3,7 +3,7 @@ use Rattle.std.specs.Prelude.{◌≡◌, ℕ, ◌≤◌, List, ◌++◌, length,
 use Rattle.bt_wire.specs.declared.message.Ask.{Ask}
 use Rattle.bt_padding.specs.declared.translation.Side.{Side}
 use Rattle.bt_padding.specs.Padding.{Memory}
-use Rattle.bt_padding.specs.Flow.{Flow, new_flow}
+use Rattle.bt_padding.specs.Flow.{Flow}
 use Rattle.bt_padding.specs.FrameSteps.{BeginsFrame}
 use Rattle.bt_padding.specs.Translation.{place, Gives, Translates, Ends}
 
@@ -12,9 +12,6 @@ pub record DirectionState : Type 0 where
   pub side : Side
   pub blocks : List Ask
   pub flow : Flow
-
-abbrev pub new_direction : Side → List Ask → DirectionState
-new_direction side blocks = record { side = side; blocks = blocks; flow = new_flow }
 
 -- what is given on in place of a frame stands behind what the output held
 abbrev pub GivesBehind : DirectionState → Memory → List ℕ → Memory → (held now : List ℕ) → Type 0

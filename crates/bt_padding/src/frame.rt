@@ -1,9 +1,9 @@
 //! Frames of a stream, and those of them that are requests and pieces (BEP 3).
-ghost use Rattle.std.specs.Prelude.{◌↔◌, ℕ, List, IsTrue, IfSome, IfNone};
+ghost use Rattle.std.specs.Prelude.{ℕ, List, IfSome, IfNone};
 ghost use Rattle.bt_wire.specs.Event.{IsSent};
 ghost use Rattle.bt_wire.specs.declared.message.Ask.{Ask};
 ghost use Rattle.bt_wire.specs.declared.message.Message.TheVariants.{Request, Piece};
-ghost use Rattle.bt_padding.specs.Flow.{IsFrame, IsOfInterest};
+ghost use Rattle.bt_padding.specs.Flow.{IsFrame};
 ghost use Rattle.bt_padding.specs.FrameSteps.{IsFront, IsPieceOf};
 
 use bt_hashreq::number_at;
@@ -49,20 +49,11 @@ pub(crate) fn front_of(bytes: &[u8]) -> Front
     if field <= bytes.len() - 4 {
         return Front::Frame(4 + field);
     }
-    if bytes.len() == 4 || is_of_interest(bytes[4], field) {
-        return Front::Part;
-    }
-    Front::Other(4 + field - bytes.len())
-}
-
-/// Whether a message of this kind and length field may be translated: a request, or a piece of a block at most.
-fn is_of_interest(kind: u8, field: usize) -> bool
-    ensures { IsTrue result ↔ IsOfInterest kind field }
-{
-    match kind {
-        REQUEST => field == REQUEST_LEN - 4,
-        PIECE => field >= 9 && field <= 9 + BLOCK_LEN,
-        _ => false,
+    match bytes.get(4) {
+        None => Front::Part,
+        Some(&REQUEST) if field == REQUEST_LEN - 4 => Front::Part,
+        Some(&PIECE) if field >= 9 && field <= 9 + BLOCK_LEN => Front::Part,
+        Some(_) => Front::Other(4 + field - bytes.len()),
     }
 }
 
@@ -88,11 +79,10 @@ pub(crate) fn read_piece(frame: &[u8]) -> Option<(Ask, &[u8])>
     ensures none { IfNone result ((piece begin : ℕ) (bytes : List ℕ)
         → ¬ IsSent (Piece piece begin bytes) frame.now) }
 {
-    let len = frame.len();
-    if len < PIECE_HEAD_LEN || len > 4 + MAX_LENGTH_FIELD || frame[4] != PIECE {
+    let block = frame.get(PIECE_HEAD_LEN..)?;
+    if frame.len() > 4 + MAX_LENGTH_FIELD || frame[4] != PIECE {
         return None;
     }
-    let block = &frame[PIECE_HEAD_LEN..];
     let ask = Ask {
         piece: number_at(frame, 5),
         begin: number_at(frame, 9),

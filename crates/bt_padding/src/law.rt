@@ -18,8 +18,7 @@ pub fn zeros_lie_behind_the_end()
     ensures { ZerosLieBehindTheEnd }
 {}
 
-/// From each place of a piece on, pieces are filled no more often than the peer has asked for a whole block
-/// there.
+/// From no place of a piece on are pieces filled more often than the peer has asked for a whole block there.
 pub fn pads_what_was_asked()
     ensures { PadsWhatWasAsked }
 {}

@@ -4,18 +4,16 @@
 
 mod frame;
 mod law;
+mod padded;
 mod padding;
-mod reader;
 mod short_blocks;
 mod translation;
-mod writer;
 
 pub use law::{
     given_on_can_be_sent, gives_streams, pads_what_was_asked, plain_passes_through,
     remembers_short_blocks, short_blocks_are_last, zeros_lie_behind_the_end,
 };
+pub use padded::Padded;
 pub use padding::Padding;
-pub use reader::PaddedReader;
 pub use short_blocks::ShortBlocks;
 pub use translation::Side;
-pub use writer::PaddedWriter;

@@ -2,7 +2,7 @@
 ghost use Rattle.std.specs.Prelude.{◌≡◌, IfOk, IfSome, IfNone, OnErr, Contains};
 ghost use Rattle.bt_wire.specs.Message.{Fits};
 ghost use Rattle.bt_padding.specs.Flow.{IsFrame};
-ghost use Rattle.bt_padding.specs.Padding.{new_memory, with_asked, filled};
+ghost use Rattle.bt_padding.specs.Padding.{new_memory, with_asked};
 ghost use Rattle.bt_padding.specs.PaddingSteps.{IsFirstAt};
 ghost use Rattle.bt_padding.specs.Translation.{Gives, bytes_for};
 ghost use Rattle.bt_padding.specs.declared.translation.Side.TheVariants.{Peer, Engine};
@@ -89,12 +89,13 @@ impl Padding {
         let Some(index) = self.answered(blocks, ask) else {
             return Ok(None);
         };
-        let bytes = fill(alloc, block)?;
+        let mut items = Vec::from_slice(alloc, block)?;
+        items.resize(block.len().max(BLOCK_LEN), 0)?;
         self.asked.remove(index);
         Ok(Some(Message::Piece {
             piece: ask.piece,
             begin: ask.begin,
-            bytes,
+            bytes: Bytes::new(items),
         }))
     }
 
@@ -109,7 +110,7 @@ impl Padding {
         if short.length != ask.length {
             return None;
         }
-        first_index(&self.asked, ask)
+        self.asked.iter().position(|other| *other == ask)
     }
 
     /// Remembers a request; beyond the limit the oldest is forgotten.
@@ -122,26 +123,4 @@ impl Padding {
         // There is room.
         let _ = self.asked.push(ask);
     }
-}
-
-/// Where the request stands first.
-fn first_index(asked: &[Ask], ask: Ask) -> Option<usize>
-    ensures some { IfSome result (IsFirstAt asked.now ask) }
-    ensures none { IfNone result (¬ Contains asked.now ask) }
-{
-    for (index, other) in asked.iter().enumerate() {
-        if *other == ask {
-            return Some(index);
-        }
-    }
-    None
-}
-
-/// With zeros behind, up to the length of a block. Errors: out of memory.
-fn fill(alloc: Global, block: &[u8]) -> Result<Bytes, AllocError>
-    ensures { IfOk result (λ bytes. bytes ≡ filled block.now) }
-{
-    let mut items = Vec::from_slice(alloc, block)?;
-    items.resize(block.len().max(BLOCK_LEN), 0)?;
-    Ok(Bytes::new(items))
 }

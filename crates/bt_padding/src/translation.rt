@@ -1,14 +1,14 @@
 //! Bytes between a peer and an engine, in any parts.
-ghost use Rattle.std.specs.Prelude.{◌≡◌, ◌≢◌, ◌≤◌, length, IfOk, IfErr, OnOk};
+ghost use Rattle.std.specs.Prelude.{◌≢◌, ◌≤◌, length, IfOk, IfErr, OnOk};
 ghost use Rattle.std.specs.IoError.{error_kind};
 ghost use Rattle.bt_padding.specs.Flow.{IsFrame};
 ghost use Rattle.bt_padding.specs.Translation.{Receives};
-ghost use Rattle.bt_padding.specs.TranslationSteps.{new_direction, GivesBehind, GivesFrames, HasNoFrameAt, IsKept, IsSameDirection};
+ghost use Rattle.bt_padding.specs.TranslationSteps.{GivesBehind, GivesFrames, HasNoFrameAt, IsKept, IsSameDirection};
 
 use crate::frame::{Front, front_of};
 use crate::padding::Padding;
 use crate::short_blocks::ShortBlocks;
-use bt_wire::{HANDSHAKE_LEN, write_message};
+use bt_wire::write_message;
 use std::alloc::{AllocError, Global};
 use std::cell::RefCell;
 use std::io::{self, ErrorKind};
@@ -26,14 +26,14 @@ pub enum Side {
 /// One direction of a connection. It shares what is remembered of the peer with the other.
 #[derive(Drop)]
 pub(crate) struct Direction<'a> {
-    alloc: Global,
-    side: Side,
-    blocks: &'a ShortBlocks,
-    padding: &'a RefCell<Padding>,
+    pub(crate) alloc: Global,
+    pub(crate) side: Side,
+    pub(crate) blocks: &'a ShortBlocks,
+    pub(crate) padding: &'a RefCell<Padding>,
     /// How many bytes still pass as they come.
-    passing: usize,
+    pub(crate) passing: usize,
     /// What has come behind them of a frame that is not whole.
-    unread: Vec<u8>,
+    pub(crate) unread: Vec<u8>,
 }
 
 impl<'a> Model for Direction<'a> {
@@ -47,44 +47,23 @@ impl<'a> Model for Direction<'a> {
 }
 
 impl<'a> Direction<'a> {
-    /// Nothing has come yet. It takes no memory.
-    pub(crate) fn new(
-        alloc: Global,
-        side: Side,
-        blocks: &'a ShortBlocks,
-        padding: &'a RefCell<Padding>,
-    ) -> Self
-        ensures { result ≡ new_direction side blocks.now }
-    {
-        Direction {
-            alloc,
-            side,
-            blocks,
-            padding,
-            passing: HANDSHAKE_LEN,
-            unread: Vec::new(alloc),
-        }
-    }
-
-    /// Takes bytes, and puts behind `out` what is given on of them: a handshake's as they come, each message
-    /// that may be translated as soon as it is whole, and any other as it comes.
-    ///
-    /// Errors: out of memory; what is remembered is in use, which no call of this crate brings about. Then the
-    /// connection is to be closed.
-    pub(crate) fn translate(&mut self, bytes: &[u8], out: &mut Vec<u8>) -> io::Result<()>
-        ensures receives { OnOk result (Receives self.old.blocks self.old.side self.old.flow bytes.now
-            self.new.flow out.old.items out.new.items) }
+    /// What is given on of bytes that come: a handshake's as they come, each message that may be translated as
+    /// soon as it is whole, and any other as it comes. Errors, which close the connection: out of memory; what
+    /// is remembered is in use, which no call of this crate brings about.
+    pub(crate) fn translate(&mut self, bytes: &[u8]) -> io::Result<Vec<u8>>
+        ensures receives { IfOk result (λ given.
+            Receives self.old.blocks self.old.side self.old.flow bytes.now self.new.flow given.items) }
         ensures same { IsSameDirection self.old self.new }
         ensures not_again { IfErr result (λ error. error_kind error ≢ ErrorKind.Interrupted) }
     {
         let (front, behind) = bytes.split_at(self.passing.min(bytes.len()));
-        out.extend_from_slice(front)?;
+        let mut out = Vec::from_slice(self.alloc, front)?;
         self.passing -= front.len();
         self.unread.extend_from_slice(behind)?;
         let mut guard = self.padding.try_borrow_mut()?;
-        let taken = self.give_frames(&mut *guard, out)?;
-        self.keep(taken, out)?;
-        Ok(())
+        let taken = self.give_frames(&mut *guard, &mut out)?;
+        self.keep(taken, &mut out)?;
+        Ok(out)
     }
 
     /// Gives on the frames that are whole, and tells how many bytes they have. Errors: out of memory.
@@ -94,19 +73,14 @@ impl<'a> Direction<'a> {
     {
         let mut taken = 0;
         'frames: while let Front::Frame(len) = front_of(&self.unread[taken..]) {
-            self.give_on(padding, &self.unread[taken..taken + len], out)?;
+            self.give(padding, &self.unread[taken..taken + len], out)?;
             taken += len;
         }
         Ok(taken)
     }
 
     /// Gives on what stands for a frame. Errors: out of memory.
-    fn give_on(
-        &self,
-        padding: &mut Padding,
-        frame: &[u8],
-        out: &mut Vec<u8>,
-    ) -> Result<(), AllocError>
+    fn give(&self, padding: &mut Padding, frame: &[u8], out: &mut Vec<u8>) -> Result<(), AllocError>
         requires { IsFrame frame.now }
         ensures { OnOk result
             (GivesBehind self.now padding.old frame.now padding.new out.old.items out.new.items) }

@@ -2,10 +2,10 @@ use Rattle.std.proofs.Common.{◌≡◌, sym, ◌∙◌, ap, subst, List, ℕ, r
 use Rattle.bt_wire.specs.declared.message.Ask.{Ask}
 use Rattle.bt_wire.specs.declared.message.Message.TheVariants.{Piece}
 use Rattle.bt_wire.specs.Message.{message_spelling}
-use Rattle.bt_padding.specs.Padding.{Memory}
+use Rattle.bt_padding.specs.Padding.{Memory, filled}
 use Rattle.bt_padding.specs.Translation.{Gives}
 use Rattle.bt_padding.specs.declared.translation.Side.TheVariants.{Engine}
-use Rattle.bt_padding.proofs.Giving.{piece_filled}
+use Rattle.bt_padding.proofs.Giving.{filled_by, piece_filled}
 use Rattle.bt_padding.proofs.padding.Padding.outgoing.Goals as goal
 
 pub returns-clause-given : goal.returns-clause-given
@@ -17,6 +17,7 @@ returns-clause-given c =
     sent.sent sent.whole c.in-Some-answered.ensures.first c.in-Some-answered.ensures.short in
     let memory : c.remove.new.self.items ≡ remove c.args.self.now i
     = c.remove.ensures.items ∙ ap (λ (xs : Memory). remove xs i) c.self.view_is in
-    subst (λ (m : Memory). Gives c.args.blocks.now Engine c.args.self.now c.args.frame.now (message_spelling (Piece ask.piece ask.begin c.in_ok-bytes.bytes)) m) (sym memory)
+    let whole : c.new.result ≡ filled c.in-Some.block.now = filled_by _ _ _ _ _ c.max.ensures c.in_ok-items.ensures.items c.in_ok-items.ensures.len (c.new.ensures ∙ c.in_ok-resize.ensures.items) in
+    subst (λ (m : Memory). Gives c.args.blocks.now Engine c.args.self.now c.args.frame.now (message_spelling (Piece ask.piece ask.begin c.new.result)) m) (sym memory)
     (subst (λ (bytes : List ℕ). Gives c.args.blocks.now Engine c.args.self.now c.args.frame.now (message_spelling (Piece ask.piece ask.begin bytes)) (remove c.args.self.now i))
-    (sym c.in_ok-bytes.ensures) given)
+    (sym whole) given)

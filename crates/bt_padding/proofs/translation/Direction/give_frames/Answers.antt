@@ -17,9 +17,9 @@ frames-preserved c =
     let frame : take (taken + len - taken) (drop taken c.deref-in-Frame.result.now) ≡ take len (drop taken unread)
     = ap (λ n. take n (drop taken c.deref-in-Frame.result.now)) count
     ∙ ap (λ (xs : List ℕ). take len (drop taken xs)) (unread_seen c.args.self.now _ c.deref-in-Frame.result.now c.self.view_is c.deref-in-Frame.ensures.value) in
-    more_frames c.args.self.now c.args.padding.now c.frames.padding c.give_on.new.padding c.args.out.now.items c.frames.out.items c.give_on.new.out.items taken len
+    more_frames c.args.self.now c.args.padding.now c.frames.padding c.give.new.padding c.args.out.now.items c.frames.out.items c.give.new.out.items taken len
     c.frames.invariant begins
-    (subst (λ (xs : List ℕ). GivesBehind c.args.self.now c.frames.padding xs c.give_on.new.padding c.frames.out.items c.give_on.new.out.items) frame c.in_ok-give_on.ensures)
+    (subst (λ (xs : List ℕ). GivesBehind c.args.self.now c.frames.padding xs c.give.new.padding c.frames.out.items c.give.new.out.items) frame c.in_ok-give.ensures)
 
 pub returns : goal.returns
 returns c =

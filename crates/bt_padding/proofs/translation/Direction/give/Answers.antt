@@ -3,8 +3,8 @@ use Rattle.std.specs.Prelude.{if◌then◌else◌}
 use Rattle.bt_padding.specs.Padding.{Memory}
 use Rattle.bt_padding.specs.Translation.{Gives, bytes_for}
 use Rattle.bt_padding.proofs.Directions.{as_seen, behind}
-use Rattle.bt_padding.proofs.translation.Direction.give_on.Goals as goal
-use Rattle.bt_padding.proofs.translation.Direction.give_on.Goals.{in-Peer, in-Engine+in_ok-other-in-Engine}
+use Rattle.bt_padding.proofs.translation.Direction.give.Goals as goal
+use Rattle.bt_padding.proofs.translation.Direction.give.Goals.{in-Peer, in-Engine+in_ok-other-in-Engine}
 
 pub returns-in_ok-write_message-in-Some : goal.returns-in_ok-write_message-in-Some
 returns-in_ok-write_message-in-Some c =
