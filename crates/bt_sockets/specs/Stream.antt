@@ -2,18 +2,18 @@
 use Rattle.std.specs.Prelude.{◌≡◌, List}
 use Rattle.bt_wire.specs.declared.message.Ask.{Ask}
 use Rattle.bt_ahead.specs.Reader.{new_reader as read_ahead, ReaderState as AheadState}
-use Rattle.bt_padding.specs.Reader.{new_reader, ReaderState}
-use Rattle.bt_padding.specs.Writer.{new_writer, WriterState}
+use Rattle.bt_padding.specs.Padded.{new_padded, PaddedState}
+use Rattle.bt_padding.specs.declared.translation.Side.TheVariants.{Peer, Engine}
 
 -- A reader and a writer are those of a connection's begin: the reader reads this socket, and of it nothing has
 -- come, waits or was translated; the writer writes to a socket, and has got nothing. Both know these short
 -- blocks.
-pub record AreNewWays {S : Type 0} (short_blocks : List Ask) (socket : S) (reader : ReaderState (AheadState S))
-    (writer : WriterState S) : Type 0 where
+pub record AreNewWays {S : Type 0} (short_blocks : List Ask) (socket : S) (reader : PaddedState (AheadState S))
+    (writer : PaddedState S) : Type 0 where
   pub written_to : S
-  pub reads : reader ≡ new_reader (read_ahead socket) short_blocks
-  pub writes : writer ≡ new_writer written_to short_blocks
+  pub reads : reader ≡ new_padded Peer (read_ahead socket) short_blocks
+  pub writes : writer ≡ new_padded Engine written_to short_blocks
 
 -- so are they, at some socket
-abbrev pub AreNew : {S : Type 0} → List Ask → ReaderState (AheadState S) → WriterState S → Type 0
+abbrev pub AreNew : {S : Type 0} → List Ask → PaddedState (AheadState S) → PaddedState S → Type 0
 AreNew {S} short_blocks reader writer = (socket : S) × AreNewWays short_blocks socket reader writer

@@ -10,7 +10,7 @@ use crate::requests::{HoldingWriter, Requests, SendingReader};
 use crate::timed_stream::{TimedStream, set_turns};
 use crate::timing::Role;
 use bt_ahead::ReadAhead;
-use bt_padding::{PaddedReader, PaddedWriter, Padding};
+use bt_padding::{Padded, Padding, Side};
 use std::alloc::Global;
 use std::cell::RefCell;
 use std::io;
@@ -25,13 +25,13 @@ pub const CONNECT_SECONDS: u64 = 20;
 pub const IDLE_SECONDS: u64 = 120;
 
 /// What is read from a connection, as its engine gets it.
-pub type StreamReader<'a, S, C> = PaddedReader<
+pub type StreamReader<'a, S, C> = Padded<
     'a,
     ReadAhead<'a, AlarmReader<'a, SendingReader<'a, TimedStream<'a, S, C>>>>,
 >;
 
 /// What is written to a connection, as its peer gets it.
-pub type StreamWriter<'a, S, C> = PaddedWriter<'a, HoldingWriter<'a, TimedStream<'a, S, C>>>;
+pub type StreamWriter<'a, S, C> = Padded<'a, HoldingWriter<'a, TimedStream<'a, S, C>>>;
 
 /// Connects to the first address of a host that answers, and gives that address too. Errors: none does.
 pub(crate) fn connected<R: Net>(
@@ -109,10 +109,10 @@ pub(crate) fn both_ways<'a, S: Read + Write + OpenStream + Drop, C: Clock>(
     let sending = SendingReader::new(reading, &shared.requests);
     let heard = AlarmReader::new(sending, &shared.alarm);
     let ahead = ReadAhead::new(heard, &shared.digests, room);
-    let reader = PaddedReader::new(alloc, ahead, short_blocks, &shared.padding);
+    let reader = Padded::new(alloc, Side::Peer, ahead, short_blocks, &shared.padding);
     let writing = TimedStream::new(clone, clock, terms.idle, shared);
     let holding = HoldingWriter::new(writing, &shared.requests);
-    let writer = PaddedWriter::new(alloc, holding, short_blocks, &shared.padding);
+    let writer = Padded::new(alloc, Side::Engine, holding, short_blocks, &shared.padding);
     Ok((reader, writer))
 }
 
