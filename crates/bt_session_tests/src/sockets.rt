@@ -42,44 +42,67 @@ fn patience() -> Duration {
 
 /// Adds what a row answers: whether a closed port is reached, or a name of several addresses, a byte that goes there and back, whether
 /// requests wait to be sent, what comes of so many milliseconds of silence, or of a peer that takes its time.
-pub fn socket_row<'a>(
-    net: &'a HostRuntime,
+pub fn socket_row(
+    net: &HostRuntime,
     alloc: Global,
-    torrent: &'a Torrent,
+    torrent: &Torrent,
     engine: &mut TestEngine,
     row: &str,
     out: &mut String,
 ) -> Result<(), AllocError> {
     let short_blocks = ShortBlocks::new(alloc, torrent)?;
     let shared = Shared::new(alloc)?;
+    row_between(net, alloc, &short_blocks, &shared, engine, row, out)
+}
+
+/// The same, with this between sockets and the engine.
+fn row_between<'a>(
+    net: &'a HostRuntime,
+    alloc: Global,
+    short_blocks: &'a ShortBlocks,
+    shared: &'a Shared,
+    engine: &mut TestEngine,
+    row: &str,
+    out: &mut String,
+) -> Result<(), AllocError> {
     let passage = Passage {
-        short_blocks: &short_blocks,
-        shared: &shared,
+        short_blocks,
+        shared,
     };
     let site = Site {
         net,
         alloc,
         passage,
     };
+    answer_row(&site, engine, row, out)
+}
+
+fn answer_row(
+    site: &Site<'_>,
+    engine: &mut TestEngine,
+    row: &str,
+    out: &mut String,
+) -> Result<(), AllocError> {
+    let (net, alloc, passage) = (site.net, site.alloc, site.passage);
     let (name, rest) = row.split_once(' ').unwrap_or((row, "0"));
     let number = rest.parse::<u8>().unwrap_or(0);
     let idle = Duration::from_millis(number as u64);
     match name {
-        "closed" => tell_reached(out, is_closed_reached(&site)),
+        "closed" => tell_reached(out, is_closed_reached(site)),
         "name" => tell_reached(out, is_name_reached(net, alloc, passage, number)),
-        "echo" => tell_echo(out, echo(&site, number)),
-        "held" => out.push_str(if is_held(&site, idle) {
+        "echo" => tell_echo(out, echo(site, number)),
+        "held" => out.push_str(if is_held(site, idle) {
             "held\n"
         } else {
             "not held\n"
         }),
-        "silent" => out.push_str(if is_given_up(&site, idle) {
+        "silent" => out.push_str(if is_given_up(site, idle) {
             "given up\n"
         } else {
             "not given up\n"
         }),
         "play" => play_row(alloc, passage, engine, rest, out),
-        "serve" => tell_served(out, silent_end(&site, engine, idle)),
+        "serve" => tell_served(out, silent_end(site, engine, idle)),
         _ => out.push_str("no socket\n"),
     }
 }
