@@ -4,7 +4,7 @@ use crate::bytes::tell_given;
 use crate::ends::{Queue, Sink, Source};
 use crate::words::{RowError, Words};
 use bt_meta::Torrent;
-use bt_padding::{PaddedReader, PaddedWriter, Padding, ShortBlocks};
+use bt_padding::{Padded, Padding, ShortBlocks, Side};
 use std::alloc::{AllocError, Global};
 use std::cell::RefCell;
 use std::collections::VecDeque;
@@ -73,8 +73,8 @@ fn new_conversation<'a>(
         queue: &line.to_peer,
     };
     Conversation {
-        reader: PaddedReader::new(alloc, source, blocks, padding),
-        writer: PaddedWriter::new(alloc, sink, blocks, padding),
+        reader: Padded::new(alloc, Side::Peer, source, blocks, padding),
+        writer: Padded::new(alloc, Side::Engine, sink, blocks, padding),
         line,
         padding,
         whole,
@@ -84,8 +84,8 @@ fn new_conversation<'a>(
 /// The two ends of a conversation, whose bytes come all at once, or one by one.
 #[derive(Drop)]
 struct Conversation<'a> {
-    reader: PaddedReader<'a, Source<'a>>,
-    writer: PaddedWriter<'a, Sink<'a>>,
+    reader: Padded<'a, Source<'a>>,
+    writer: Padded<'a, Sink<'a>>,
     line: &'a Line,
     padding: &'a RefCell<Padding>,
     whole: bool,
