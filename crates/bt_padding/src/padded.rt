@@ -25,7 +25,7 @@ const READ_LEN: usize = 13 + BLOCK_LEN;
 /// writer to that peer (`Side::Engine`), a writer of what the engine sends. The two of a connection share
 /// what is remembered of the peer.
 ///
-/// What comes is translated at once. Bytes that may become a request or a piece of a block at most, and are no
+/// What comes is translated at once. Bytes that may become a request or a piece of a block, and are no
 /// whole one when the reader behind ends, are not given.
 #[derive(Drop)]
 pub struct Padded<'a, T> {
@@ -115,7 +115,7 @@ impl<'a, R: Read> Read for Padded<'a, R> {
 
 // What the writer behind holds depends on what is remembered, so it is not known of this one.
 impl<'a, W: Write> Write for Padded<'a, W> {
-    /// Takes all bytes, and writes what is given on of them. Errors: the writer behind failed, or out of memory.
+    /// Takes all bytes, and writes what is given on. Errors: the writer behind failed, or out of memory.
     /// A part of the bytes may have been taken then, so the error is none after which a caller tries again.
     fn write(&mut self, bytes: &[u8]) -> io::Result<usize>
         ensures bound { WritesAtMost result bytes.now }

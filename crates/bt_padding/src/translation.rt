@@ -47,8 +47,8 @@ impl<'a> Model for Direction<'a> {
 }
 
 impl<'a> Direction<'a> {
-    /// What is given on of bytes that come: a handshake's as they come, each message that may be translated as
-    /// soon as it is whole, and any other as it comes. Errors, which close the connection: out of memory; what
+    /// What is given on of bytes that come: a handshake's as they come, a message that may be translated as
+    /// soon as it is whole, any other as it comes. Errors, which close the connection: out of memory; what
     /// is remembered is in use, which no call of this crate brings about.
     pub(crate) fn translate(&mut self, bytes: &[u8]) -> io::Result<Vec<u8>>
         ensures receives { IfOk result (λ given.
