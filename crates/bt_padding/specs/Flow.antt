@@ -31,18 +31,23 @@ abbrev pub IsOfInterest : (kind field : ℕ) → Type 0
 IsOfInterest kind field =
     ((kind ≡ 6) × (field ≡ 13)) ⊎ ((kind ≡ 7) × (9 ≤ field) × (field ≤ 9 + full_block_length))
 
--- no frame is whole; and what has come has no kind yet, or is the beginning of such a message
+-- Such a message may begin so: its length field has come alone, and is none that is too long, or its kind too.
+abbrev pub MayBeOfInterest : (unread : List ℕ) → (field : ℕ) → Type 0
+MayBeOfInterest unread field = ((length unread ≡ 4) × (field ≤ 9 + full_block_length))
+    ⊎ ((4 < length unread) × IsOfInterest (slice_index unread 4) field)
+
+-- no frame is whole; and what has come has no length field yet, or may be the beginning of such a message
 pub record Waits (unread : List ℕ) : Type 0 where
   pub no_frame : (frame rest : List ℕ) → IsFrame frame → unread ≢ frame ++ rest
-  pub kind : (length unread ≤ 4)
-      ⊎ ((field : ℕ) × (to_be_bytes w32 field ≡ take 4 unread) × IsOfInterest (slice_index unread 4) field)
+  pub kind : (length unread < 4)
+      ⊎ ((field : ℕ) × (to_be_bytes w32 field ≡ take 4 unread) × MayBeOfInterest unread field)
 
 -- the beginning of any other message, of which so many bytes are missing
 pub record IsOther (unread : List ℕ) (missing : ℕ) : Type 0 where
   pub field : ℕ
   pub number : field < 2 ^ 32
   pub front : to_be_bytes w32 field ≡ take 4 unread
-  pub has_kind : 4 < length unread
-  pub other : ¬ IsOfInterest (slice_index unread 4) field
+  pub has_field : 4 ≤ length unread
+  pub other : ¬ MayBeOfInterest unread field
   pub some : 0 < missing
   pub whole : missing + length unread ≡ 4 + field

@@ -50,10 +50,10 @@ pub(crate) fn front_of(bytes: &[u8]) -> Front
         return Front::Frame(4 + field);
     }
     match bytes.get(4) {
-        None => Front::Part,
+        None if field <= 9 + BLOCK_LEN => Front::Part,
         Some(&REQUEST) if field == REQUEST_LEN - 4 => Front::Part,
         Some(&PIECE) if field >= 9 && field <= 9 + BLOCK_LEN => Front::Part,
-        Some(_) => Front::Other(4 + field - bytes.len()),
+        _ => Front::Other(4 + field - bytes.len()),
     }
 }
 
