@@ -1,7 +1,7 @@
 -- Frames at the front of a list of bytes.
 use Rattle.std.proofs.Common.{◌≡◌, ◌≤◌, ◌<◌, ◌+◌, ◌^◌, ℕ, List, [], ◌++◌, take, drop, length, refl, sym, ◌∙◌, ap, arith, length-append, length-drop, length-take}
 use Rattle.std.specs.Int.{w32, to_be_bytes, from_be_bytes}
-use Rattle.std.proofs.lemmas.List.{append_assoc, append-nil, take_at, drop_at, take-append-drop}
+use Rattle.std.proofs.lemmas.List.{append_assoc, append-nil, take_at, drop_at, take-append-drop, take-append-le}
 use Rattle.std.proofs.lemmas.Nat.{from_be_bytes-to_be_bytes_4}
 use lib.Seq.{take-add}
 use Rattle.bt_padding.specs.Flow.{IsFrame, IsOther}
@@ -63,16 +63,21 @@ begins_frame bytes n field few inside =
     }
 
 -- none stands where bytes of a message are missing
+pub not_yet : (bytes more frame rest : List ℕ) (missing : ℕ) → IsOther bytes missing → length more < missing → IsFrame frame
+    → bytes ++ more ≡ frame ++ rest → ⊥
+not_yet bytes more frame rest missing t few is same =
+    let body : List ℕ = is.body in
+    let limit = is.limit in
+    let long : 4 ≤ length bytes = let h = t.has_kind in omega arith in
+    let whole : bytes ++ more ≡ to_be_bytes w32 (length body) ++ (body ++ rest)
+    = same ∙ ap (λ (xs : List ℕ). xs ++ rest) is.spelled ∙ append_assoc (to_be_bytes w32 (length body)) body rest in
+    let front : to_be_bytes w32 t.field ++ [] ≡ to_be_bytes w32 (length body) ++ []
+    = append-nil (to_be_bytes w32 t.field) ∙ t.front ∙ sym (take-append-le 4 bytes more long) ∙ ap (λ (xs : List ℕ). take 4 xs) whole
+    ∙ sym (append-nil (to_be_bytes w32 (length body))) in
+    let one = same_number t.field (length body) [] [] t.number limit front in
+    let size = t.whole in
+    omega (arith, one, size, few, ap length whole, length-append bytes more, length-append (to_be_bytes w32 (length body)) (body ++ rest), length-append body rest)
+
 pub other_front : (bytes : List ℕ) (missing n : ℕ) → IsOther bytes missing → BeginsFrame bytes n → ⊥
 other_front bytes missing n t b =
-    let body : List ℕ = b.frame.body in
-    let few = b.frame.limit in
-    let whole : bytes ≡ to_be_bytes w32 (length body) ++ (body ++ drop n bytes)
-    = sym (take-append-drop n bytes) ∙ ap (λ (xs : List ℕ). xs ++ drop n bytes) b.frame.spelled
-    ∙ append_assoc (to_be_bytes w32 (length body)) body (drop n bytes) in
-    let front : to_be_bytes w32 t.field ++ [] ≡ to_be_bytes w32 (length body) ++ []
-    = append-nil (to_be_bytes w32 t.field) ∙ t.front ∙ ap (λ (xs : List ℕ). take 4 xs) whole ∙ sym (append-nil (to_be_bytes w32 (length body))) in
-    let same = same_number t.field (length body) [] [] t.number few front in
-    let some = t.some in
-    let size = t.whole in
-    omega (arith, same, some, size, ap length whole, length-append (to_be_bytes w32 (length body)) (body ++ drop n bytes), length-append body (drop n bytes))
+    not_yet bytes [] (take n bytes) (drop n bytes) missing t t.some b.frame (append-nil bytes ∙ sym (take-append-drop n bytes))

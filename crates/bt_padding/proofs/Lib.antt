@@ -2,6 +2,7 @@ pub mod LastBlocks
 pub mod Messages
 pub mod Sendable
 pub mod Frames
+pub mod Parts
 pub mod Streams
 pub mod Giving
 pub mod Directions

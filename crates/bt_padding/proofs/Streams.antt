@@ -1,24 +1,26 @@
 -- Frames one behind the other, and the events that they are.
-use Rattle.std.proofs.Common.{◌≡◌, ◌≤◌, ◌+◌, ℕ, suc, true, Option, Some, None, List, [], ◌∷◌, ◌++◌, length, refl, sym, ◌∙◌, ap, subst, arith, length-append}
+use Rattle.std.proofs.Common.{◌≡◌, ◌≤◌, ◌+◌, ℕ, suc, true, inr, drop, Option, Some, None, List, [], ◌∷◌, ◌++◌, length, refl, sym, ◌∙◌, ap, subst, arith, length-append}
 use Rattle.std.proofs.lemmas.List.{append_assoc, append-nil}
 use Rattle.std.specs.Int.{w32, to_be_bytes}
 use Rattle.bt_wire.specs.Message.{Body, body, body_of, frame_spelling, length_field}
-use Rattle.bt_wire.specs.Limits.{max_length_field}
+use Rattle.bt_wire.specs.Limits.{max_length_field, handshake_length}
 use Rattle.bt_wire.specs.Event.{IsEvent, IsSent, HasNoEvent}
 use Rattle.bt_wire.specs.Law.{IsStream, StreamsHaveOneReading}
+use Rattle.bt_wire.specs.declared.message.Ask.{Ask}
 use Rattle.bt_wire.specs.declared.message.Message.{Message as Sent}
 use Rattle.bt_wire.specs.declared.event.WireEvent.{WireEvent}
 use Rattle.bt_wire.specs.declared.event.WireEvent.TheVariants.{Hello, Message, Skipped}
 use Rattle.bt_meta.specs.Torrent.{Metainfo}
 use Rattle.bt_padding.specs.declared.translation.Side.{Side}
 use Rattle.bt_padding.specs.declared.translation.Side.TheVariants.{Peer, Engine}
-use Rattle.bt_padding.specs.Flow.{IsFrame}
+use Rattle.bt_padding.specs.Flow.{IsFrame, new_flow}
 use Rattle.bt_padding.specs.ShortBlocks.{short_blocks_of}
 use Rattle.bt_padding.specs.Padding.{Memory}
 use Rattle.bt_padding.specs.Law.{CanBeSent}
-use Rattle.bt_padding.specs.Translation.{Place, Stands, Gives, Translates, done, one_more}
-use Rattle.bt_padding.specs.TranslationLaw.{AreEvents, GivesEvents, GivesStreams}
+use Rattle.bt_padding.specs.Translation.{Stands, Gives}
+use Rattle.bt_padding.specs.TranslationLaw.{GivesOn, ends, goes_on, all_came, AreEvents, GivesEvents, GivesStreams}
 use Rattle.bt_padding.proofs.Frames.{frame_long, one_frame}
+use Rattle.bt_padding.proofs.Parts.{given_on, no_frame}
 use Rattle.bt_padding.proofs.Sendable.{sendable_in, sendable_out}
 
 -- ---- an event behind a handshake is a frame
@@ -65,12 +67,15 @@ no_message law kind m bytes skipped is =
 -- ---- event by event
 
 module _ (law : StreamsHaveOneReading) (torrent : Metainfo) (side : Side) where
-  stands_sendable : (s : Side) (old new : Memory) (m given : Sent) → CanBeSent m → Stands (short_blocks_of torrent) s old m given new → CanBeSent given
+  abbrev blocks : List Ask
+  blocks = short_blocks_of torrent
+
+  stands_sendable : (s : Side) (old new : Memory) (m given : Sent) → CanBeSent m → Stands blocks s old m given new → CanBeSent given
   stands_sendable Peer old new m given can stands = sendable_in torrent old new m given can stands
   stands_sendable Engine old new m given can stands = sendable_out torrent old new m given can stands
 
   given_event : (old new : Memory) (e : WireEvent) (frame run : List ℕ) → IsEvent true e frame
-      → Gives (short_blocks_of torrent) side old frame run new → (f : WireEvent) × IsEvent true f run
+      → Gives blocks side old frame run new → (f : WireEvent) × IsEvent true f run
   given_event old new (Hello h) frame run event gives = absurd event
   given_event old new (Message m) frame run event gives =
       let found = gives.message m event in
@@ -80,35 +85,37 @@ module _ (law : StreamsHaveOneReading) (torrent : Metainfo) (side : Side) where
       let same = gives.bytes (λ m is. no_message law kind m frame event is) in
       (Skipped kind, subst (λ (xs : List ℕ). IsEvent true (Skipped kind) xs) (sym same) event)
 
-  -- what is left is no longer than what was there
-  shorter : (last first : Place) (given : List ℕ) → Translates (short_blocks_of torrent) side last first given → length last.unread ≤ length first.unread
-  shorter last first given done = omega arith
-  shorter last first given (one_more first' next frame run rest is split gives so) =
-      omega (arith, shorter last next rest so, ap length split ∙ length-append frame next.unread)
-
-  events : (last first : Place) (given : List ℕ) (came : List WireEvent) (taken : List ℕ) → Translates (short_blocks_of torrent) side last first given
-      → first.unread ≡ taken ++ last.unread → AreEvents came taken → GivesEvents came given
-  events last first given [] taken done front are = record { gone = []; are = refl; as_many = refl }
-  events last first given (e ∷ came) taken done front are =
-      let size = ap length are.3 ∙ length-append are.0 are.1 in
-      absurd (omega (arith, ap length front ∙ length-append taken last.unread, size, frame_long are.0 (event_frame e are.0 are.2)))
-  events last first given [] taken (one_more first' next frame run rest is split gives so) front none =
-      let size = ap length split ∙ length-append frame next.unread in
-      let left = ap length front ∙ ap (λ (xs : List ℕ). length (xs ++ last.unread)) none in
-      absurd (omega (arith, size, left, frame_long frame is, shorter last next rest so))
-  events last first given (e ∷ came) taken (one_more first' next frame run rest is split gives so) front are =
-      let whole : frame ++ next.unread ≡ are.0 ++ (are.1 ++ last.unread)
-      = sym split ∙ front ∙ ap (λ (xs : List ℕ). xs ++ last.unread) are.3 ∙ append_assoc are.0 are.1 last.unread in
-      let one = one_frame frame are.0 next.unread (are.1 ++ last.unread) is (event_frame e are.0 are.2) whole in
-      let event : IsEvent true e frame = subst (λ (xs : List ℕ). IsEvent true e xs) (sym one.frame) are.2 in
-      let found = given_event first.memory next.memory e frame run event gives in
-      let others = events last next rest came are.1 so one.rest are.4 in
+  events : (held stream given : List ℕ) (came : List WireEvent) (bytes rest : List ℕ) → GivesOn blocks side held stream given
+      → stream ≡ bytes ++ rest → AreEvents came bytes → GivesEvents blocks side held came rest given
+  events held stream given [] bytes rest on split are = record {
+    gone = [];
+    front = [];
+    back = given;
+    are = refl;
+    as_many = refl;
+    behind = subst (λ (xs : List ℕ). GivesOn blocks side held xs given) (split ∙ ap (λ (xs : List ℕ). xs ++ rest) are) on;
+    all = refl;
+  }
+  events held stream given (e ∷ came) bytes rest (ends stream' given' none is) split are =
+      absurd (none are.0 (are.1 ++ rest) (event_frame e are.0 are.2)
+      (split ∙ ap (λ (xs : List ℕ). xs ++ rest) are.3 ∙ append_assoc are.0 are.1 rest))
+  events held stream given (e ∷ came) bytes rest (goes_on stream' next frame run given' old new is front gives so) split are =
+      let whole : frame ++ next ≡ are.0 ++ (are.1 ++ rest)
+      = sym front ∙ split ∙ ap (λ (xs : List ℕ). xs ++ rest) are.3 ∙ append_assoc are.0 are.1 rest in
+      let one = one_frame frame are.0 next (are.1 ++ rest) is (event_frame e are.0 are.2) whole in
+      let found = given_event old new e frame run (subst (λ (xs : List ℕ). IsEvent true e xs) (sym one.frame) are.2) gives in
+      let others = events held next given' came are.1 rest so one.rest are.4 in
       record {
         gone = found.0 ∷ others.gone;
-        are = (run, rest, found.1, refl, others.are);
+        front = run ++ others.front;
+        back = others.back;
+        are = (run, others.front, found.1, refl, others.are);
         as_many = ap suc others.as_many;
+        behind = others.behind;
+        all = ap (λ (xs : List ℕ). run ++ xs) others.all ∙ sym (append_assoc run others.front others.back);
       }
 
 pub gives_streams : StreamsHaveOneReading → GivesStreams
-gives_streams law torrent side first last came taken given translates front are =
-    events law torrent side last first given came taken translates front are
+gives_streams law torrent side parts left came bytes rest come split are =
+    let on = given_on torrent side parts new_flow left no_frame (inr refl) come in
+    (on.0, on.1, events law torrent side left.unread (drop handshake_length (all_came parts)) on.0 came bytes rest on.2 split are)
