@@ -68,7 +68,7 @@ pub not_yet : (bytes more frame rest : List ℕ) (missing : ℕ) → IsOther byt
 not_yet bytes more frame rest missing t few is same =
     let body : List ℕ = is.body in
     let limit = is.limit in
-    let long : 4 ≤ length bytes = let h = t.has_kind in omega arith in
+    let long : 4 ≤ length bytes = t.has_field in
     let whole : bytes ++ more ≡ to_be_bytes w32 (length body) ++ (body ++ rest)
     = same ∙ ap (λ (xs : List ℕ). xs ++ rest) is.spelled ∙ append_assoc (to_be_bytes w32 (length body)) body rest in
     let front : to_be_bytes w32 t.field ++ [] ≡ to_be_bytes w32 (length body) ++ []

@@ -12,7 +12,8 @@ use Rattle.bt_wire.specs.Message.{message_spelling, ask_spelling}
 use Rattle.bt_meta.specs.Torrent.{Metainfo}
 use Rattle.bt_padding.specs.ShortBlocks.{short_blocks_of, padded}
 use Rattle.bt_padding.specs.Padding.{Memory, other}
-use Rattle.bt_padding.specs.Flow.{IsFrame, Flow, flow, fed, IsOther}
+use Rattle.bt_tree.specs.Limits.{full_block_length}
+use Rattle.bt_padding.specs.Flow.{IsFrame, Flow, flow, fed, IsOther, IsOfInterest}
 use Rattle.bt_padding.specs.declared.translation.Side.{Side}
 use Rattle.bt_padding.specs.declared.translation.Side.TheVariants.{Peer, Engine}
 use Rattle.bt_padding.specs.Translation.{Place, place, Stands, Translates, done, one_more}
@@ -22,17 +23,20 @@ use Rattle.bt_padding.proofs.LastBlocks.{short_blocks_are}
 
 -- ---- a message of no interest
 
--- its kind and its length field are those of what is spelled
-other_kind : (rest more payload : List ℕ) (missing kind : ℕ) → (t : IsOther rest missing) → 1 + length payload < 2 ^ 32
-    → rest ++ more ≡ to_be_bytes w32 (1 + length payload) ++ kind ∷ payload → (slice_index rest 4 ≡ kind) × (t.field ≡ 1 + length payload)
-other_kind rest more payload missing kind t few same =
-    let long : 4 ≤ length rest = let h = t.has_kind in omega arith in
+-- where a request, or a piece of a block at most, is spelled, it is not the beginning of one
+of_no_interest : (rest more payload : List ℕ) (missing kind : ℕ) → (t : IsOther rest missing) → 1 + length payload ≤ 9 + full_block_length
+    → IsOfInterest kind (1 + length payload) → ¬ (rest ++ more ≡ to_be_bytes w32 (1 + length payload) ++ kind ∷ payload)
+of_no_interest rest more payload missing kind t short of_interest same =
     let front : to_be_bytes w32 t.field ++ [] ≡ to_be_bytes w32 (1 + length payload) ++ []
-    = append-nil (to_be_bytes w32 t.field) ∙ t.front ∙ sym (take-append-le 4 rest more long) ∙ ap (λ (xs : List ℕ). take 4 xs) same
-    ∙ sym (append-nil (to_be_bytes w32 (1 + length payload))) in (
-      sym (get_or_append_left rest more 0 4 t.has_kind) ∙ ap (λ (xs : List ℕ). get_or xs 4 0) same,
-      same_number t.field (1 + length payload) [] [] t.number few front,
-    )
+    = append-nil (to_be_bytes w32 t.field) ∙ t.front ∙ sym (take-append-le 4 rest more t.has_field) ∙ ap (λ (xs : List ℕ). take 4 xs) same
+    ∙ sym (append-nil (to_be_bytes w32 (1 + length payload))) in
+    let field : t.field ≡ 1 + length payload = same_number t.field (1 + length payload) [] [] t.number (omega (arith, short)) front in
+    t.other (elim (cases_lt 4 (length rest)) [
+      | inl long ↦
+          let is : slice_index rest 4 ≡ kind = sym (get_or_append_left rest more 0 4 long) ∙ ap (λ (xs : List ℕ). get_or xs 4 0) same in
+          inr (long, subst (λ (k : ℕ). IsOfInterest k t.field) (sym is) (subst (λ (n : ℕ). IsOfInterest kind n) (sym field) of_interest))
+      | inr all ↦ let few = t.has_field in inl (omega (arith, all, few), omega (arith, field, short))
+    ])
 
 pub no_frame : BeginsWithNoFrame []
 no_frame frame rest is same = omega (arith, frame_long frame is, ap length same ∙ length-append frame rest)
@@ -70,8 +74,7 @@ module _ (torrent : Metainfo) (side : Side) where
   blocks = short_blocks_of torrent
 
   not_asked : (rest more : List ℕ) (missing : ℕ) (ask : Ask) → (t : IsOther rest missing) → ¬ (rest ++ more ≡ message_spelling (Request ask))
-  not_asked rest more missing ask t same =
-      let kind = other_kind rest more (ask_spelling ask) missing 6 t (omega arith) same in t.other (inl (kind.0, kind.1))
+  not_asked rest more missing ask t same = of_no_interest rest more (ask_spelling ask) missing 6 t (omega arith) (inl (refl, refl)) same
 
   not_answered : (rest more : List ℕ) (missing : ℕ) (ask : Ask) (bytes : List ℕ) → (t : IsOther rest missing) → Contains blocks ask → length bytes ≡ ask.length
       → ¬ (rest ++ more ≡ message_spelling (Piece ask.piece ask.begin bytes))
@@ -80,8 +83,8 @@ module _ (torrent : Metainfo) (side : Side) where
       let payload : List ℕ = to_be_bytes w32 ask.piece ++ to_be_bytes w32 ask.begin ++ bytes in
       let size : length payload ≡ 8 + length bytes
       = length-append (to_be_bytes w32 ask.piece ++ to_be_bytes w32 ask.begin) bytes in
-      let kind = other_kind rest more payload missing 7 t (omega (arith, size, short, whole)) same in
-      t.other (inr (kind.0, omega (arith, kind.1, size), omega (arith, kind.1, size, short, whole)))
+      let few : 1 + length payload ≤ 9 + full_block_length = omega (arith, size, short, whole) in
+      of_no_interest rest more payload missing 7 t few (inr (refl, omega (arith, size), few)) same
 
   stands : (s : Side) (rest more : List ℕ) (missing : ℕ) (m : Message) → IsOther rest missing → rest ++ more ≡ message_spelling m → Stands blocks s [] m m []
   stands Peer rest more missing m t same =
@@ -111,7 +114,7 @@ module _ (torrent : Metainfo) (side : Side) where
         (sym (ap (λ (xs : List ℕ). (rest ++ (take missing more ++ given)) ++ xs) nothing.1 ∙ append-nil (rest ++ (take missing more ++ given)) ∙ all))
     | inr enough ↦
         let size = t.whole in
-        let long : 4 ≤ length rest = let h = t.has_kind in omega arith in
+        let long : 4 ≤ length rest = let h = t.has_field in omega arith in
         let begins = begins_frame (rest ++ more) t.field (t.front ∙ sym (take-append-le 4 rest more long)) t.number
         (omega (arith, size, enough, length-append rest more)) in
         let count : 4 + t.field ≡ length rest + missing = omega (arith, size) in
@@ -194,7 +197,7 @@ module _ (torrent : Metainfo) (side : Side) where
         | inr e ↦
             let zero : n ≡ 0 = elim moved [
               | inl zero ↦ zero
-              | inr nothing ↦ let kind = e.1.has_kind in absurd (omega (arith, kind, ap length nothing.1))
+              | inr nothing ↦ let some = e.1.has_field in absurd (omega (arith, some, ap length nothing.1))
             ] in
             let next = given_on parts (flow e.0 []) left no_frame (inr refl) (subst (λ (f : Flow). Come blocks side f parts left) e.3 so.2) in
             let behind : List ℕ = r.rest ++ (take e.0 more ++ next.0) in (
