@@ -31,7 +31,7 @@ pub returns-clause-broken_off : goal.returns-clause-broken_off
 returns-clause-broken_off g c = on_err c.conclude.result _
     (broke_off _ g.D.Disk.history g.D.Disk.honest g.D.Disk.faults g.H.NodeHash.digest c.args.engine.now c.args.links.now _
     c.try_and_sync-kept.new.links c.try_and_sync-kept.new.engine c.conclude.new.engine c.try_and_sync-kept.result c.try_and_sync-kept.ensures.kept
-    c.try_and_sync-kept.ensures.failed 
+    c.try_and_sync-kept.ensures.failed
     (both c.try_and_sync-kept.new.engine c.adopt_waiting.new.engine c.conclude.new.engine c.adopt_waiting.ensures.run c.conclude.ensures.run))
 
 pub returns-clause-run : goal.returns-clause-run
