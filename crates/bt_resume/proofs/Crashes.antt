@@ -8,13 +8,13 @@ use Rattle.bt_disk.specs.State.{IsImage}
 use Rattle.bt_disk.specs.History.{History}
 use Rattle.bt_disk.specs.Calls.{Call, length_fault, read_fault, bytes_written, write_fault, sync_made, sync_fault, HasCalls, Spares, EndsWithin}
 use Rattle.bt_disk.proofs.Histories.{calls_keep_bytes, calls_keep_lengths}
-use Rattle.bt_resume.specs.declared.hint.Hint.{Hint}
 use Rattle.bt_resume.specs.declared.error.LogError.{LogError}
 use Rattle.bt_resume.specs.declared.error.AppendError.TheVariants.{Full, Device as AppendDevice}
-use Rattle.bt_resume.specs.Hint.{hint_spelling}
-use Rattle.bt_resume.specs.ResumeLog.{log_length, log_spelling, LogView, Reads, read, too_long, other_torrent, no_memory, no_length, unread, opened, unmeasured, made, unwritten, unsynced}
-use Rattle.bt_resume.specs.Law.{AreKeptSince, AttachKeeps, ReloadKeeps, AppendKeeps, FlushKeeps}
-use Rattle.bt_resume.proofs.Sequences.{log_size}
+use Rattle.bt_resume.specs.LogText.{LogText, text_spelling, text_length, appended_bytes}
+use Rattle.bt_resume.specs.ResumeLog.{LogView, Reads, read, other_torrent, too_long, no_memory, no_length, no_header, unread, opened, unmeasured, made, unwritten, unsynced}
+use Rattle.bt_resume.specs.Law.{IsTextKeptSince, AttachKeeps, ReloadKeeps, AppendKeeps, FlushKeeps}
+use Rattle.bt_resume.proofs.Texts.{log_size}
+use Rattle.bt_resume.proofs.Openings.{not_empty}
 
 -- ---- bytes one by one, and all
 
@@ -37,13 +37,13 @@ record IsBehind (n : ℕ) (call : Call) : Type 0 where
 
 module _ {D : Type 0} (history : D → History) (honest : D → Type 0) (faults : D → ℕ) (gives_image : (disk : D) → honest disk → IsImage (history disk).now (history disk).now.bytes) where
   -- calls that leave the log's first bytes alone keep them in every image
-  calls_keep : (infohash : List ℕ) (hints : List Hint) (old new : D) (calls : List Call) (t : ℕ) → length infohash ≡ 32 → honest old
-      → HasCalls history honest faults old calls new → All (IsBehind (log_length hints)) calls
-      → AreKeptSince (history old) t infohash hints → AreKeptSince (history new) t infohash hints
-  calls_keep infohash hints old new calls t size h told behind since image left =
-      let n : ℕ = log_length hints in
-      let spelling : List ℕ = log_spelling infohash hints in
-      let long = log_size infohash hints size in
+  calls_keep : (infohash : List ℕ) (text : LogText) (old new : D) (calls : List Call) (t : ℕ) → length infohash ≡ 32 → honest old
+      → HasCalls history honest faults old calls new → All (IsBehind (text_length text)) calls
+      → IsTextKeptSince (history old) t infohash text → IsTextKeptSince (history new) t infohash text
+  calls_keep infohash text old new calls t size h told behind since image left =
+      let n : ℕ = text_length text in
+      let spelling : List ℕ = text_spelling infohash text in
+      let long = log_size infohash text size in
       record {
         within = calls_keep_lengths (history old) (history new) calls t (2 ^ 40) (gives_image old h) (told.answered h)
             (λ k d lt. (behind k d lt).ends) (λ i l. (since i l).within) image left;
@@ -52,15 +52,15 @@ module _ {D : Type 0} (history : D → History) (honest : D → Type 0) (faults 
             (λ k d inside. (behind k d inside).spares i lt) (λ other l. one_kept other spelling n i long (since other l).begins lt) image left);
       }
 
-  one_keeps : (infohash : List ℕ) (hints : List Hint) (old new : D) (call : Call) (t : ℕ) → length infohash ≡ 32 → honest old
-      → HasCalls history honest faults old (call ∷ []) new → IsBehind (log_length hints) call
-      → AreKeptSince (history old) t infohash hints → AreKeptSince (history new) t infohash hints
-  one_keeps infohash hints old new call t size h told behind =
-      calls_keep infohash hints old new (call ∷ []) t size h told (All-cons (IsBehind (log_length hints)) call [] behind (All-nil (IsBehind (log_length hints))))
+  one_keeps : (infohash : List ℕ) (text : LogText) (old new : D) (call : Call) (t : ℕ) → length infohash ≡ 32 → honest old
+      → HasCalls history honest faults old (call ∷ []) new → IsBehind (text_length text) call
+      → IsTextKeptSince (history old) t infohash text → IsTextKeptSince (history new) t infohash text
+  one_keeps infohash text old new call t size h told behind =
+      calls_keep infohash text old new (call ∷ []) t size h told (All-cons (IsBehind (text_length text)) call [] behind (All-nil (IsBehind (text_length text))))
 
-  none_keeps : (infohash : List ℕ) (hints : List Hint) (old new : D) (t : ℕ) → length infohash ≡ 32 → honest old
-      → HasCalls history honest faults old [] new → AreKeptSince (history old) t infohash hints → AreKeptSince (history new) t infohash hints
-  none_keeps infohash hints old new t size h told = calls_keep infohash hints old new [] t size h told (All-nil (IsBehind (log_length hints)))
+  none_keeps : (infohash : List ℕ) (text : LogText) (old new : D) (t : ℕ) → length infohash ≡ 32 → honest old
+      → HasCalls history honest faults old [] new → IsTextKeptSince (history old) t infohash text → IsTextKeptSince (history new) t infohash text
+  none_keeps infohash text old new t size h told = calls_keep infohash text old new [] t size h told (All-nil (IsBehind (text_length text)))
 
   write_behind : (n at : ℕ) (bytes : List ℕ) → n ≤ at → at + length bytes ≤ 2 ^ 40 → IsBehind n (bytes_written at bytes)
   write_behind n at bytes le within = record { spares = λ i lt. inl (omega arith); ends = within }
@@ -68,43 +68,42 @@ module _ {D : Type 0} (history : D → History) (honest : D → Type 0) (faults 
   torn_behind : (n at : ℕ) (bytes : List ℕ) → n ≤ at → at + length bytes ≤ 2 ^ 40 → IsBehind n (write_fault at bytes)
   torn_behind n at bytes le within = record { spares = λ i lt. inl (omega arith); ends = within }
 
-  reads_keep : (infohash torrent : List ℕ) (old new : D) (result : Result (List Hint) LogError) (t : ℕ) (hints : List Hint) → length infohash ≡ 32 → honest old
-      → Reads history honest faults torrent old result new → AreKeptSince (history old) t infohash hints → AreKeptSince (history new) t infohash hints
-  reads_keep infohash torrent old _ _ t hints size h (read found new calls lawful within of) = none_keeps infohash hints old new t size h calls
-  reads_keep infohash torrent old _ _ t hints size h (too_long new calls of) = none_keeps infohash hints old new t size h calls
-  reads_keep infohash torrent old _ _ t hints size h (other_torrent new calls of) = none_keeps infohash hints old new t size h calls
-  reads_keep infohash torrent old _ _ t hints size h (no_memory new calls of) = none_keeps infohash hints old new t size h calls
-  reads_keep infohash torrent old _ _ t hints size h (no_length new calls) = one_keeps infohash hints old new length_fault t size h calls (record { spares = λ i lt. tt; ends = tt })
-  reads_keep infohash torrent old _ _ t hints size h (unread new at wanted calls of) =
-      one_keeps infohash hints old new (read_fault at wanted) t size h calls (record { spares = λ i lt. tt; ends = tt })
+  reads_keep : (infohash torrent : List ℕ) (old new : D) (result : Result LogText LogError) (t : ℕ) (text : LogText) → length infohash ≡ 32 → honest old
+      → Reads history honest faults torrent old result new → IsTextKeptSince (history old) t infohash text → IsTextKeptSince (history new) t infohash text
+  reads_keep infohash torrent old _ _ t text size h (read found new calls lawful within of) = none_keeps infohash text old new t size h calls
+  reads_keep infohash torrent old _ _ t text size h (too_long new calls of) = none_keeps infohash text old new t size h calls
+  reads_keep infohash torrent old _ _ t text size h (other_torrent new calls of) = none_keeps infohash text old new t size h calls
+  reads_keep infohash torrent old _ _ t text size h (no_memory new calls of) = none_keeps infohash text old new t size h calls
+  reads_keep infohash torrent old _ _ t text size h (no_length new calls) = one_keeps infohash text old new length_fault t size h calls (record { spares = λ i lt. tt; ends = tt })
+  reads_keep infohash torrent old _ _ t text size h (no_header new calls) = one_keeps infohash text old new (read_fault 0 40) t size h calls (record { spares = λ i lt. tt; ends = tt })
+  reads_keep infohash torrent old _ _ t text size h (unread new at wanted calls of) =
+      one_keeps infohash text old new (read_fault at wanted) t size h calls (record { spares = λ i lt. tt; ends = tt })
 
-  -- where every image begins with a header, the device is not empty
-  not_empty : (infohash : List ℕ) (hints : List Hint) (old : D) (t : ℕ) → length infohash ≡ 32 → honest old → (history old).now.bytes ≡ []
-      → AreKeptSince (history old) t infohash hints → ⊥
-  not_empty infohash hints old t size h none since =
-      let keeps = since (history old).now.bytes (inl (gives_image old h)) in
-      omega (arith, ap length keeps.begins, log_size infohash hints size, length-take (log_length hints) (history old).now.bytes, ap length none)
+  -- where every image begins with a text, the device is not empty
+  some_bytes : (infohash : List ℕ) (text : LogText) (old : D) (t : ℕ) → length infohash ≡ 32 → honest old → (history old).now.bytes ≡ []
+      → IsTextKeptSince (history old) t infohash text → ⊥
+  some_bytes infohash text old t size h none since = not_empty infohash (history old).now.bytes text size (since _ (inl (gives_image old h))) none
 
   pub attach_keeps : AttachKeeps history honest faults
-  attach_keeps infohash torrent old new result t hints size h (opened _ _ of reads) since = reads_keep infohash torrent old new result t hints size h reads since
-  attach_keeps infohash torrent old _ _ t hints size h (unmeasured new calls) since =
-      one_keeps infohash hints old new length_fault t size h calls (record { spares = λ i lt. tt; ends = tt }) since
-  attach_keeps infohash torrent old _ _ t hints size h (made new none calls) since = absurd (not_empty infohash hints old t size h (none h) since)
-  attach_keeps infohash torrent old _ _ t hints size h (unwritten new none calls) since = absurd (not_empty infohash hints old t size h (none h) since)
-  attach_keeps infohash torrent old _ _ t hints size h (unsynced new none calls) since = absurd (not_empty infohash hints old t size h (none h) since)
+  attach_keeps infohash torrent old new result t text size h (opened _ _ of reads) since = reads_keep infohash torrent old new result t text size h reads since
+  attach_keeps infohash torrent old _ _ t text size h (unmeasured new calls) since =
+      one_keeps infohash text old new length_fault t size h calls (record { spares = λ i lt. tt; ends = tt }) since
+  attach_keeps infohash torrent old _ _ t text size h (made new none calls) since = absurd (some_bytes infohash text old t size h (none h) since)
+  attach_keeps infohash torrent old _ _ t text size h (unwritten new none calls) since = absurd (some_bytes infohash text old t size h (none h) since)
+  attach_keeps infohash torrent old _ _ t text size h (unsynced new none calls) since = absurd (some_bytes infohash text old t size h (none h) since)
 
   pub reload_keeps : ReloadKeeps history honest faults
-  reload_keeps old new (Ok value) t hints size h is since = reads_keep old.infohash old.infohash old.disk new.disk _ t hints size h is.0 since
-  reload_keeps old new (Err cause) t hints size h is since = reads_keep old.infohash old.infohash old.disk new.disk _ t hints size h is.0 since
+  reload_keeps old new (Ok value) t text size h is since = reads_keep old.infohash old.infohash old.disk new.disk _ t text size h is.1 since
+  reload_keeps old new (Err cause) t text size h is since = reads_keep old.infohash old.infohash old.disk new.disk _ t text size h is.0 since
 
   pub append_keeps : AppendKeeps history honest faults
-  append_keeps hint old new (Ok value) t hints size h is le since =
-      one_keeps old.infohash hints old.disk new.disk _ t size h is.1 (write_behind (log_length hints) old.end (hint_spelling hint) le is.0) since
-  append_keeps hint old new (Err AppendDevice) t hints size h is le since =
-      one_keeps old.infohash hints old.disk new.disk _ t size h is.1 (torn_behind (log_length hints) old.end (hint_spelling hint) le is.0) since
-  append_keeps hint old new (Err Full) t hints size h is le since =
-      subst (λ (log : LogView D). AreKeptSince (history log.disk) t old.infohash hints) (sym is.1) since
+  append_keeps hint old new (Ok value) t text size h is le since =
+      one_keeps old.infohash text old.disk new.disk _ t size h is.1 (write_behind (text_length text) old.end (appended_bytes old.format hint) le is.0) since
+  append_keeps hint old new (Err AppendDevice) t text size h is le since =
+      one_keeps old.infohash text old.disk new.disk _ t size h is.1 (torn_behind (text_length text) old.end (appended_bytes old.format hint) le is.0) since
+  append_keeps hint old new (Err Full) t text size h is le since =
+      subst (λ (log : LogView D). IsTextKeptSince (history log.disk) t old.infohash text) (sym is.1) since
 
   pub flush_keeps : FlushKeeps history honest faults
-  flush_keeps old new (Ok value) t hints size h is since = one_keeps old.infohash hints old.disk new.disk sync_made t size h is.0 (record { spares = λ i lt. tt; ends = tt }) since
-  flush_keeps old new (Err cause) t hints size h is since = one_keeps old.infohash hints old.disk new.disk sync_fault t size h is.0 (record { spares = λ i lt. tt; ends = tt }) since
+  flush_keeps old new (Ok value) t text size h is since = one_keeps old.infohash text old.disk new.disk sync_made t size h is.0 (record { spares = λ i lt. tt; ends = tt }) since
+  flush_keeps old new (Err cause) t text size h is since = one_keeps old.infohash text old.disk new.disk sync_fault t size h is.0 (record { spares = λ i lt. tt; ends = tt }) since

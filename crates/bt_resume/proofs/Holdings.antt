@@ -1,4 +1,4 @@
--- Which hints the device of a log holds.
+-- Which text the device of a log holds.
 use Rattle.std.proofs.Common.{◌≡◌, ℕ, ◌+◌, ◌-◌, ◌^◌, ◌≤◌, ◌⊎◌, inl, inr, min, max, List, [], ◌∷◌, ◌++◌, length, take, drop, replicate, Result, Ok, Err, MatchResult, refl, sym, ap, ◌∙◌, subst, arith}
 use Rattle.std.specs.Prelude.{⊤}
 use Rattle.std.proofs.Math.Seq.{take-add}
@@ -8,15 +8,17 @@ use Rattle.bt_disk.specs.State.{State, IsImage, written, synced_state}
 use Rattle.bt_disk.specs.History.{History, moment_of, LeftBefore, LeftSince, after_write}
 use Rattle.bt_disk.specs.Calls.{bytes_written, sync_made, HasCalls, AfterWriteFault}
 use Rattle.bt_disk.proofs.Images.{synced_image}
+use Rattle.bt_resume.specs.declared.hint.Format.{Format}
+use Rattle.bt_resume.specs.declared.hint.Format.TheVariants.{Two}
 use Rattle.bt_resume.specs.declared.hint.Hint.{Hint}
 use Rattle.bt_resume.specs.declared.error.LogError.{LogError}
 use Rattle.bt_resume.specs.declared.error.AppendError.TheVariants.{Full, Device as AppendDevice}
-use Rattle.bt_resume.specs.Hint.{hint_spelling, hints_spelling, IsHint}
-use Rattle.bt_resume.specs.ResumeLog.{header, log_length, LogView, IsLog, Reads, read, too_long, other_torrent, no_memory, no_length, unread, Opens, opened, unmeasured, made, unwritten, unsynced}
-use Rattle.bt_resume.specs.Law.{KeepsHints, OpenLogsKeep, AreKeptSince, HoldsTo, Holds, AttachHolds, ReloadHolds, AppendHolds, FlushHolds}
-use Rattle.bt_resume.proofs.Takings.{spelling_append}
-use Rattle.bt_resume.proofs.Sequences.{log_size, begin_same, begin_trans}
-use Rattle.bt_resume.proofs.Openings.{spelled_first, kept_devices_are_read}
+use Rattle.bt_resume.specs.Hint.{IsHint}
+use Rattle.bt_resume.specs.LogText.{LogText, of_two, header_format, format_of, header, body_spelling, text_spelling, text_length, IsLog, GoesOn, appended_bytes, with_hint}
+use Rattle.bt_resume.specs.ResumeLog.{LogView, read_log, forgotten, Reads, read, other_torrent, too_long, no_memory, no_length, no_header, unread, Opens, opened, unmeasured, made, unwritten, unsynced, IsAttached}
+use Rattle.bt_resume.specs.Law.{KeepsText, OpenLogsKeep, IsTextKeptSince, HoldsTo, Holds, AttachHolds, ReloadHolds, AppendHolds, FlushHolds}
+use Rattle.bt_resume.proofs.Texts.{header_size, log_size, goes_on_same, goes_on_trans, goes_on_is_longer, spelled_first, hint_behind}
+use Rattle.bt_resume.proofs.Openings.{kept_devices_are_read}
 
 -- ---- bytes after a call
 
@@ -83,187 +85,192 @@ from_now P h now image (inr before) = absurd (none_before h.past (length h.past)
 
 -- ---- what is held
 
-held_same : (infohash a b : List ℕ) (end : ℕ) (hints : List Hint) → take end b ≡ take end a → HoldsTo infohash a end hints → HoldsTo infohash b end hints
-held_same infohash a b end hints same held = record { lawful = held.lawful; end_is = held.end_is; spelled = same ∙ held.spelled }
+held_same : (infohash a b : List ℕ) (end : ℕ) (format : Format) (text : LogText) → take end b ≡ take end a → HoldsTo infohash a end format text
+    → HoldsTo infohash b end format text
+held_same infohash a b end format text same held =
+    record { lawful = held.lawful; end_is = held.end_is; format_is = held.format_is; spelled = same ∙ held.spelled }
 
 -- the end is inside the bytes
-held_inside : (infohash bytes : List ℕ) (end : ℕ) (hints : List Hint) → length infohash ≡ 32 → HoldsTo infohash bytes end hints → end ≤ length bytes
-held_inside infohash bytes end hints size held =
-    omega (arith, ap length held.spelled, log_size infohash hints size, held.end_is, length-take end bytes)
+held_inside : (infohash bytes : List ℕ) (end : ℕ) (format : Format) (text : LogText) → length infohash ≡ 32 → HoldsTo infohash bytes end format text
+    → end ≤ length bytes
+held_inside infohash bytes end format text size held =
+    omega (arith, ap length held.spelled, log_size infohash text size, held.end_is, length-take end bytes)
 
-held_more : (infohash old new : List ℕ) (end : ℕ) (hints : List Hint) (hint : Hint) → HoldsTo infohash old end hints → IsHint hint
-    → IsLeft old end (hint_spelling hint) new → HoldsTo infohash new (end + length (hint_spelling hint)) (hints ++ hint ∷ [])
-held_more infohash old new end hints hint held is left =
-    let same : hints_spelling (hints ++ hint ∷ []) ≡ hints_spelling hints ++ hint_spelling hint
-    = spelling_append hints (hint ∷ []) ∙ ap (λ l. hints_spelling hints ++ l) (append-nil (hint_spelling hint)) in
+held_more : (infohash old new : List ℕ) (end : ℕ) (text : LogText) (hint : Hint) (format : Format) → HoldsTo infohash old end format text → IsHint Two hint
+    → IsLeft old end (appended_bytes format hint) new → HoldsTo infohash new (end + length (appended_bytes format hint)) Two (with_hint text hint)
+held_more infohash old new end text hint format held is left =
+    let longer = hint_behind text hint is in
+    let more : List ℕ = appended_bytes format hint in
+    let head : List ℕ = header (header_format text) infohash in
+    let body : body_spelling (with_hint text hint) ≡ body_spelling text ++ more =
+    longer.body ∙ ap (λ f. body_spelling text ++ appended_bytes f hint) (sym held.format_is) in
     record {
-      lawful = All-push IsHint hints hint held.lawful is;
-      end_is = omega (arith, held.end_is, ap length same, length-append (hints_spelling hints) (hint_spelling hint));
-      spelled = left.front ∙ ap (λ xs. xs ++ hint_spelling hint) held.spelled ∙ append_assoc (header infohash) (hints_spelling hints) (hint_spelling hint)
-          ∙ ap (λ xs. header infohash ++ xs) (sym same);
+      lawful = longer.lawful held.lawful;
+      end_is = omega (arith, held.end_is, ap length body, length-append (body_spelling text) more);
+      format_is = sym longer.format;
+      spelled = left.front ∙ ap (λ xs. xs ++ more) held.spelled ∙ append_assoc head (body_spelling text) more ∙ ap (λ xs. head ++ xs) (sym body)
+          ∙ ap (λ f. header f infohash ++ body_spelling (with_hint text hint)) (sym longer.header);
     }
 
--- a log that is read holds its hints
-log_held : (infohash bytes : List ℕ) (hints : List Hint) → IsLog infohash bytes hints → HoldsTo infohash bytes (log_length hints) hints
-log_held infohash bytes hints log =
-    let n : ℕ = length (hints_spelling hints) in
-    let behind : take n (drop 40 bytes) ≡ hints_spelling hints = ap (λ xs. take n xs) log.hints_are.spelled ∙ take_at (hints_spelling hints) log.hints_are.rest n refl in
+-- a log that is read holds its text
+log_held : (infohash bytes : List ℕ) (text : LogText) → IsLog infohash bytes text → HoldsTo infohash bytes (text_length text) (format_of text) text
+log_held infohash bytes text log =
+    let n : ℕ = length (body_spelling text) in
+    let behind : take n (drop 40 bytes) ≡ body_spelling text = ap (λ xs. take n xs) log.body_is.spelled ∙ take_at (body_spelling text) log.body_is.rest n refl in
     record {
-      lawful = log.hints_are.lawful;
+      lawful = log.body_is.lawful;
       end_is = refl;
-      spelled = take-add 40 n bytes ∙ ap (λ xs. xs ++ take n (drop 40 bytes)) log.begins.header_is ∙ ap (λ xs. header infohash ++ xs) behind;
+      format_is = refl;
+      spelled = take-add 40 n bytes ∙ ap (λ xs. xs ++ take n (drop 40 bytes)) log.header_is ∙ ap (λ xs. header (header_format text) infohash ++ xs) behind;
     }
 
 pub open_logs_keep : OpenLogsKeep
-open_logs_keep infohash bytes hints all size log begins = record {
-  within = log.begins.within;
-  begins = spelled_first infohash bytes hints all size begins (log_held infohash bytes all log).spelled;
+open_logs_keep infohash bytes text all size log begins = record {
+  within = log.within;
+  begins = spelled_first infohash bytes text all size begins (log_held infohash bytes all log).spelled;
 }
 
 module _ {D : Type 0} (history : D → History) (honest : D → Type 0) (faults : D → ℕ) where
-  -- the device after a reading that found hints
-  abbrev IsFound : List ℕ → D → List Hint → Type 0
-  IsFound infohash new hints = (length (history new).now.bytes ≤ 2 ^ 40) × HoldsTo infohash (history new).now.bytes (log_length hints) hints
+  -- the device after a reading that found a text
+  abbrev IsFound : List ℕ → D → LogText → Type 0
+  IsFound infohash new text =
+      (length (history new).now.bytes ≤ 2 ^ 40) × HoldsTo infohash (history new).now.bytes (text_length text) (format_of text) text
 
-  reads_found : (infohash : List ℕ) (old new : D) (result : Result (List Hint) LogError) → honest old → Reads history honest faults infohash old result new
+  reads_found : (infohash : List ℕ) (old new : D) (result : Result LogText LogError) → honest old → Reads history honest faults infohash old result new
       → MatchResult result (IsFound infohash new) (λ _. history new ≡ history old ⊎ history new ≡ history old)
-  reads_found infohash old _ _ h (read hints new calls lawful within of) =
-      let log : IsLog infohash (history new).now.bytes hints = subst (λ (s : History). IsLog infohash s.now.bytes hints) (sym (calls.answered h)) (of h) in
-      (log.begins.within, log_held infohash (history new).now.bytes hints log)
+  reads_found infohash old _ _ h (read text new calls is within of) =
+      let log : IsLog infohash (history new).now.bytes text = subst (λ (s : History). IsLog infohash s.now.bytes text) (sym (calls.answered h)) (of h) in
+      (log.within, log_held infohash (history new).now.bytes text log)
   reads_found infohash old _ _ h (too_long new calls of) = inl (calls.answered h)
   reads_found infohash old _ _ h (other_torrent new calls of) = inl (calls.answered h)
   reads_found infohash old _ _ h (no_memory new calls of) = inl (calls.answered h)
   reads_found infohash old _ _ h (no_length new calls) = let a = calls.answered h in inl (a.2 ∙ a.1)
+  reads_found infohash old _ _ h (no_header new calls) = let a = calls.answered h in inl (a.2 ∙ a.1)
   reads_found infohash old _ _ h (unread new at wanted calls of) = let a = calls.answered h in inl (a.2 ∙ a.1)
 
   made_found : (infohash : List ℕ) (old new : D) → length infohash ≡ 32 → honest old → (history old).now.bytes ≡ []
-      → HasCalls history honest faults old (bytes_written 0 (header infohash) ∷ sync_made ∷ []) new → IsFound infohash new []
+      → HasCalls history honest faults old (bytes_written 0 (header Two infohash) ∷ sync_made ∷ []) new → IsFound infohash new (of_two [])
   made_found infohash old new size h none calls =
       let a = calls.answered h in
-      let left : IsLeft (history old).now.bytes 0 (header infohash) (a.0).now.bytes = after_made (history old) a.0 0 (header infohash) (omega arith) a.1 in
+      let head_bytes : List ℕ = header Two infohash in
+      let left : IsLeft (history old).now.bytes 0 head_bytes (a.0).now.bytes = after_made (history old) a.0 0 head_bytes (omega arith) a.1 in
       let synced : (history new).now.bytes ≡ (a.0).now.bytes = ap (λ (s : History). s.now.bytes) (a.2.2 ∙ a.2.1) in
-      let head : 0 + length (header infohash) ≡ 40 = omega (arith, size) in (
+      let head : 0 + length head_bytes ≡ 40 = omega (arith, size) in (
         omega (arith, ap length synced, left.within, head, ap length none),
         record {
-          lawful = All-nil IsHint;
+          lawful = All-nil (IsHint Two);
           end_is = refl;
-          spelled = ap (λ xs. take 40 xs) synced ∙ ap (λ n. take n (a.0).now.bytes) (sym head) ∙ left.front ∙ sym (append-nil (header infohash));
+          format_is = refl;
+          spelled = ap (λ xs. take 40 xs) synced ∙ ap (λ n. take n (a.0).now.bytes) (sym head) ∙ left.front ∙ sym (append-nil head_bytes);
         },
       )
 
-  opens_found : (infohash : List ℕ) (old new : D) (result : Result (List Hint) LogError) → length infohash ≡ 32 → honest old
+  opens_found : (infohash : List ℕ) (old new : D) (result : Result LogText LogError) → length infohash ≡ 32 → honest old
       → Opens history honest faults infohash old result new → MatchResult result (IsFound infohash new) (λ _. ⊤)
-  opens_found infohash old new (Ok hints) size h (opened _ _ of reads) = reads_found infohash old new (Ok hints) h reads
+  opens_found infohash old new (Ok text) size h (opened _ _ of reads) = reads_found infohash old new (Ok text) h reads
   opens_found infohash old new (Err cause) size h (opened _ _ of reads) = tt
   opens_found infohash old _ _ size h (unmeasured new calls) = tt
   opens_found infohash old _ _ size h (made new none calls) = made_found infohash old new size h (none h) calls
   opens_found infohash old _ _ size h (unwritten new none calls) = tt
   opens_found infohash old _ _ size h (unsynced new none calls) = tt
 
-  found_holds : (log : LogView D) (hints : List Hint) → length log.infohash ≡ 32 → log.end ≡ log_length hints → log.kept ≡ log.end
-      → IsFound log.infohash log.disk hints → Holds history honest faults log hints hints
-  found_holds log hints size end kept found = record {
-    torrent = size;
-    within = found.0;
-    ordered = omega (arith, kept);
-    begins = begin_same hints;
-    kept_are = rw (kept, end) found.1;
-    hints_are = rw end found.1;
-  }
+  found_holds : (disk : D) (infohash : List ℕ) (text : LogText) → length infohash ≡ 32 → IsFound infohash disk text
+      → Holds history honest faults (read_log disk infohash text) text text
+  found_holds disk infohash text size found =
+      record { torrent = size; within = found.0; begins = goes_on_same text; kept_is = found.1; text_is = found.1 }
+
+  pub read_holds : (infohash : List ℕ) (old : D) (log : LogView D) → length infohash ≡ 32 → honest old → (is : IsAttached history honest faults infohash old log)
+      → Holds history honest faults log is.text is.text
+  read_holds infohash old log size h is =
+      subst (λ l. Holds history honest faults l is.text is.text) (sym is.log_is)
+      (found_holds log.disk infohash is.text size (opens_found infohash old log.disk (Ok is.text) size h is.opens))
 
   pub attach_holds : AttachHolds history honest faults
-  attach_holds infohash old log size h is =
-      found_holds log log.hints (ap length is.same_torrent ∙ size) is.end_is is.kept_is
-      (subst (λ i. IsFound i log.disk log.hints) (sym is.same_torrent) (opens_found infohash old log.disk (Ok log.hints) size h is.opens))
+  attach_holds infohash old log size h is = (is.text, ap (λ (l : LogView D). l.hints) is.log_is, read_holds infohash old log size h is)
 
-  -- the same log on a device with the same first bytes
-  moved : (old new : LogView D) (kept hints : List Hint) → Holds history honest faults old kept hints → history new.disk ≡ history old.disk
-      → new.infohash ≡ old.infohash → new.kept ≡ old.kept → new.end ≡ old.end → Holds history honest faults new kept hints
-  moved old new kept hints holds same torrent kept_is end_is = record {
-    torrent = ap length torrent ∙ holds.torrent;
-    within = rw same holds.within;
-    ordered = omega (arith, kept_is, end_is, holds.ordered);
-    begins = holds.begins;
-    kept_are = rw (same, torrent, kept_is) holds.kept_are;
-    hints_are = rw (same, torrent, end_is) holds.hints_are;
-  }
+  -- the same log on a device with the same bytes
+  moved : (log : LogView D) (disk : D) (kept text : LogText) → Holds history honest faults log kept text → history disk ≡ history log.disk
+      → Holds history honest faults (record log { disk = disk }) kept text
+  moved log disk kept text holds same =
+      record { torrent = holds.torrent; within = rw same holds.within; begins = holds.begins; kept_is = rw same holds.kept_is; text_is = rw same holds.text_is }
 
-  -- the device of a log begins with the hints that it holds
-  pub held_keeps : (log : LogView D) (kept hints : List Hint) → Holds history honest faults log kept hints → KeepsHints log.infohash hints (history log.disk).now.bytes
-  held_keeps log kept hints holds = record { within = holds.within; begins = rw (← holds.hints_are.end_is) holds.hints_are.spelled }
+  -- what was appended is forgotten
+  kept_alone : (log : LogView D) (disk : D) (kept : LogText) → length log.infohash ≡ 32 → length (history disk).now.bytes ≤ 2 ^ 40
+      → HoldsTo log.infohash (history disk).now.bytes log.kept_end log.kept_format kept → Holds history honest faults (forgotten log disk) kept kept
+  kept_alone log disk kept size within held =
+      record { torrent = size; within = within; begins = goes_on_same kept; kept_is = held; text_is = held }
+
+  -- the device of a log begins with the text that it holds
+  pub held_keeps : (log : LogView D) (kept text : LogText) → Holds history honest faults log kept text → KeepsText log.infohash text (history log.disk).now.bytes
+  held_keeps log kept text holds = record { within = holds.within; begins = rw (← holds.text_is.end_is) holds.text_is.spelled }
+
+  -- what is kept ends where the next hint is written, or before
+  kept_first : (log : LogView D) (kept text : LogText) → Holds history honest faults log kept text → log.kept_end ≤ log.end
+  kept_first log kept text holds = omega (arith, goes_on_is_longer kept text holds.begins, holds.kept_is.end_is, holds.text_is.end_is)
 
   pub reload_holds : ReloadHolds history honest faults
-  reload_holds old new (Ok value) kept hints h is holds = (
-    subst (λ log. Holds history honest faults log new.hints new.hints) (sym is.1)
-        (found_holds _ new.hints holds.torrent refl refl (reads_found old.infohash old.disk new.disk (Ok new.hints) h is.0)),
-    kept_devices_are_read history honest faults old.infohash old.disk new.disk (Ok new.hints) hints holds.torrent holds.hints_are.lawful h (held_keeps old kept hints holds) is.0,
+  reload_holds old new (Ok value) kept text h is holds = (
+    is.0,
+    ap (λ (l : LogView D). l.hints) is.2,
+    subst (λ log. Holds history honest faults log is.0 is.0) (sym is.2)
+        (found_holds new.disk old.infohash is.0 holds.torrent (reads_found old.infohash old.disk new.disk (Ok is.0) h is.1)),
+    kept_devices_are_read history honest faults old.infohash old.disk new.disk (Ok is.0) text holds.torrent holds.text_is.lawful h (held_keeps old kept text holds) is.1,
   )
-  reload_holds old new (Err cause) kept hints h is holds =
+  reload_holds old new (Err cause) kept text h is holds =
       let same : history new.disk ≡ history old.disk = elim (reads_found old.infohash old.disk new.disk (Err cause) h is.0) [ inl e ↦ e | inr e ↦ e ] in (
-        subst (λ log. Holds history honest faults log kept hints) (sym is.1) (moved old (record old { disk = new.disk }) kept hints holds same refl refl refl),
-        kept_devices_are_read history honest faults old.infohash old.disk new.disk (Err cause) hints holds.torrent holds.hints_are.lawful h (held_keeps old kept hints holds) is.0,
+        subst (λ log. Holds history honest faults log kept text) (sym is.1) (moved old new.disk kept text holds same),
+        kept_devices_are_read history honest faults old.infohash old.disk new.disk (Err cause) text holds.torrent holds.text_is.lawful h (held_keeps old kept text holds) is.0,
       )
 
   pub append_holds : AppendHolds history honest faults
-  append_holds hint old new (Ok value) kept hints h lawful is holds =
+  append_holds hint old new (Ok value) kept text h lawful is holds =
       let bytes : List ℕ = (history old.disk).now.bytes in
       let after : List ℕ = (history new.disk).now.bytes in
+      let more : List ℕ = appended_bytes old.format hint in
       let a = is.1.answered h in
-      let inside = held_inside old.infohash bytes old.end hints holds.torrent holds.hints_are in
-      let left : IsLeft bytes old.end (hint_spelling hint) after = after_made (history old.disk) (history new.disk) old.end (hint_spelling hint) inside (a.2 ∙ a.1) in
+      let inside = held_inside old.infohash bytes old.end old.format text holds.torrent holds.text_is in
+      let left : IsLeft bytes old.end more after = after_made (history old.disk) (history new.disk) old.end more inside (a.2 ∙ a.1) in
       let size : length (take old.end bytes) ≡ old.end = omega (arith, length-take old.end bytes) in
       let front : take old.end after ≡ take old.end bytes =
-      sym (take-take old.end (old.end + length (hint_spelling hint)) after (omega arith)) ∙ ap (λ xs. take old.end xs) left.front ∙ take_at (take old.end bytes) (hint_spelling hint) old.end size in
-      subst (λ log. Holds history honest faults log kept (hints ++ hint ∷ [])) (sym is.2) (record {
+      sym (take-take old.end (old.end + length more) after (omega arith)) ∙ ap (λ xs. take old.end xs) left.front ∙ take_at (take old.end bytes) more old.end size in
+      subst (λ log. Holds history honest faults log kept (with_hint text hint)) (sym is.2) (record {
         torrent = holds.torrent;
         within = omega (arith, left.within, holds.within, is.0);
-        ordered = omega (arith, holds.ordered);
-        begins = begin_trans kept hints (hints ++ hint ∷ []) holds.begins (hint ∷ [], refl);
-        kept_are = held_same old.infohash bytes after old.kept kept (front_kept bytes after old.kept old.end holds.ordered front) holds.kept_are;
-        hints_are = held_more old.infohash bytes after old.end hints hint holds.hints_are lawful left;
+        begins = goes_on_trans kept text (with_hint text hint) holds.begins (hint_behind text hint lawful).goes_on;
+        kept_is = held_same old.infohash bytes after old.kept_end old.kept_format kept
+            (front_kept bytes after old.kept_end old.end (kept_first old kept text holds) front) holds.kept_is;
+        text_is = held_more old.infohash bytes after old.end text hint old.format holds.text_is lawful left;
       })
-  append_holds hint old new (Err AppendDevice) kept hints h lawful is holds =
+  append_holds hint old new (Err AppendDevice) kept text h lawful is holds =
       let bytes : List ℕ = (history old.disk).now.bytes in
       let after : List ℕ = (history new.disk).now.bytes in
+      let more : List ℕ = appended_bytes old.format hint in
       let a = is.1.answered h in
-      let inside = held_inside old.infohash bytes old.end hints holds.torrent holds.hints_are in
-      let spared : IsSpared bytes old.end (length (hint_spelling hint)) after =
-      after_torn (history old.disk) (history new.disk) old.end (hint_spelling hint) inside (subst (AfterWriteFault old.end (hint_spelling hint) (history old.disk)) (sym a.2) a.1) in
-      let still : HoldsTo old.infohash after old.kept kept =
-      held_same old.infohash bytes after old.kept kept (front_kept bytes after old.kept old.end holds.ordered spared.front) holds.kept_are in
-      subst (λ log. Holds history honest faults log kept kept) (sym is.2) (record {
-        torrent = holds.torrent;
-        within = omega (arith, spared.within, holds.within, is.0);
-        ordered = omega arith;
-        begins = begin_same kept;
-        kept_are = still;
-        hints_are = still;
-      })
-  append_holds hint old new (Err Full) kept hints h lawful is holds =
-      subst (λ log. Holds history honest faults log kept kept) (sym is.1)
-      (record { torrent = holds.torrent; within = holds.within; ordered = omega arith; begins = begin_same kept; kept_are = holds.kept_are; hints_are = holds.kept_are })
+      let inside = held_inside old.infohash bytes old.end old.format text holds.torrent holds.text_is in
+      let spared : IsSpared bytes old.end (length more) after =
+      after_torn (history old.disk) (history new.disk) old.end more inside (subst (AfterWriteFault old.end more (history old.disk)) (sym a.2) a.1) in
+      subst (λ log. Holds history honest faults log kept kept) (sym is.2)
+      (kept_alone old new.disk kept holds.torrent (omega (arith, spared.within, holds.within, is.0))
+      (held_same old.infohash bytes after old.kept_end old.kept_format kept
+      (front_kept bytes after old.kept_end old.end (kept_first old kept text holds) spared.front) holds.kept_is))
+  append_holds hint old new (Err Full) kept text h lawful is holds =
+      subst (λ log. Holds history honest faults log kept kept) (sym is.1) (kept_alone old old.disk kept holds.torrent holds.within holds.kept_is)
 
   pub flush_holds : FlushHolds history honest faults
-  flush_holds old new (Ok value) kept hints h is holds =
+  flush_holds old new (Ok value) kept text h is holds =
       let a = is.0.answered h in
       let synced : (history new.disk).now ≡ synced_state (history old.disk).now.bytes = ap (λ (s : History). s.now) (a.2 ∙ a.1) in
       let bytes : (history new.disk).now.bytes ≡ (history old.disk).now.bytes = ap (λ (s : State). s.bytes) synced in
-      let held : HoldsTo old.infohash (history new.disk).now.bytes old.end hints = rw bytes holds.hints_are in
-      let held_now : Holds history honest faults (record old { disk = new.disk; kept = old.end }) hints hints =
-      record { torrent = holds.torrent; within = rw bytes holds.within; ordered = omega arith; begins = begin_same hints; kept_are = held; hints_are = held } in
-      let keeps = held_keeps old kept hints holds in
-      let since : AreKeptSince (history new.disk) (moment_of (history new.disk)) old.infohash hints =
-      from_now (KeepsHints old.infohash hints) (history new.disk)
-      (λ image left. subst (KeepsHints old.infohash hints) (sym (synced_image (history old.disk).now.bytes image (subst (λ s. IsImage s image) synced left))) keeps) in
-      subst (λ (log : LogView D). Holds history honest faults log hints hints × AreKeptSince (history new.disk) (moment_of (history new.disk)) log.infohash hints) (sym is.1) (held_now, since)
-  flush_holds old new (Err cause) kept hints h is holds =
+      let held : HoldsTo old.infohash (history new.disk).now.bytes old.end old.format text = rw bytes holds.text_is in
+      let held_now : Holds history honest faults (record old { disk = new.disk; kept_end = old.end; kept_format = old.format }) text text =
+      record { torrent = holds.torrent; within = rw bytes holds.within; begins = goes_on_same text; kept_is = held; text_is = held } in
+      let keeps = held_keeps old kept text holds in
+      let since : IsTextKeptSince (history new.disk) (moment_of (history new.disk)) old.infohash text =
+      from_now (KeepsText old.infohash text) (history new.disk)
+      (λ image left. subst (KeepsText old.infohash text) (sym (synced_image (history old.disk).now.bytes image (subst (λ s. IsImage s image) synced left))) keeps) in
+      subst (λ (log : LogView D). Holds history honest faults log text text × IsTextKeptSince (history new.disk) (moment_of (history new.disk)) log.infohash text) (sym is.1) (held_now, since)
+  flush_holds old new (Err cause) kept text h is holds =
       let a = is.0.answered h in
       let same : history new.disk ≡ history old.disk = a.2 ∙ a.1 in
-      subst (λ log. Holds history honest faults log kept kept) (sym is.1) (record {
-        torrent = holds.torrent;
-        within = rw same holds.within;
-        ordered = omega arith;
-        begins = begin_same kept;
-        kept_are = rw same holds.kept_are;
-        hints_are = rw same holds.kept_are;
-      })
+      subst (λ log. Holds history honest faults log kept kept) (sym is.1)
+      (kept_alone old new.disk kept holds.torrent (rw same holds.within) (rw same holds.kept_is))

@@ -1,6 +1,8 @@
 -- How hints are spelled.
 pub mod Spellings
--- Hints at the front of bytes.
+-- Texts that go on.
+pub mod Texts
+-- Hints and texts at the front of bytes.
 pub mod Takings
 -- Hints that are kept.
 pub mod Keepings
@@ -12,5 +14,5 @@ pub mod Sequences
 pub mod Crashes
 pub mod Holdings
 pub mod Openings
--- Hints that stand through all calls.
+-- Texts that stand through all calls.
 pub mod Standings

@@ -1,73 +1,75 @@
--- Lists of hints that begin the same bytes.
-use Rattle.std.proofs.Common.{◌≡◌, ℕ, List, [], ◌∷◌, ◌++◌, length, take, drop, refl, sym, ap, ◌∙◌, subst, arith}
-use Rattle.std.proofs.lemmas.List.{append_assoc, append-nil, take_at, drop_at, take-append-drop, length-append}
-use Rattle.std.proofs.lemmas.List.Elements.{All-head, All-tail}
-use Rattle.bt_resume.specs.declared.hint.Hint.{Hint}
-use Rattle.bt_resume.specs.Hint.{hint_spelling, hints_spelling, IsHint, AreHints}
-use Rattle.bt_resume.specs.ResumeLog.{header, log_length, log_spelling}
-use Rattle.bt_resume.specs.Law.{AreReadBack, HasOneReading, Begin, AreReadFirst, KeptLogsOpen}
-use Rattle.bt_resume.specs.OneSpelling.{same_hint}
+-- Texts that begin the same bytes.
+use Rattle.std.proofs.Common.{◌≡◌, ℕ, List, [], ◌∷◌, ◌++◌, length, take, drop, refl, sym, ap, ◌∙◌, subst}
+use Rattle.std.proofs.lemmas.List.{append_assoc, take_at, drop_at, take-append-drop}
+use Rattle.bt_resume.specs.declared.hint.Format.{Format}
+use Rattle.bt_resume.specs.declared.hint.Format.TheVariants.{One, Two}
+use Rattle.bt_resume.specs.Hint.{hints_spelling}
+use Rattle.bt_resume.specs.LogText.{LogText, of_one, of_two, renewed, header_format, format_of, header, body_spelling, text_length, IsBody, BeginsIn, GoesOn}
+use Rattle.bt_resume.specs.Law.{AreReadBack, HasOneReading, AreReadFirst, HintsComeFirst, KeptLogsOpen}
+use Rattle.bt_resume.specs.OneSpelling.{first_hints, same_hints, same_text, renewal_begins_none, byte_renews}
+use Rattle.bt_resume.proofs.Texts.{begins_header, same_header, header_size, goes_on_by}
 
 pub are_read_back : AreReadBack
-are_read_back hints rest lawful none = record { lawful = lawful; rest = rest; spelled = refl; longest = none }
-
--- what is left of a reading behind its first hint, where the bytes are known to begin with a hint
-behind : (h r : Hint) (bytes : List ℕ) (rs : List Hint) → IsHint h → AreHints (hint_spelling h ++ bytes) (r ∷ rs) → (h ≡ r) × AreHints bytes rs
-behind h r bytes rs is are =
-    let same = same_hint h r bytes (hints_spelling rs ++ are.rest) is (All-head IsHint r rs are.lawful)
-    (are.spelled ∙ append_assoc (hint_spelling r) (hints_spelling rs) are.rest) in
-    (same.0, record { lawful = All-tail IsHint r rs are.lawful; rest = are.rest; spelled = same.1; longest = are.longest })
-
-not_nothing : (h : Hint) (bytes : List ℕ) → IsHint h → AreHints (hint_spelling h ++ bytes) [] → ⊥
-not_nothing h bytes is are = are.longest h bytes is (sym are.spelled)
+are_read_back text rest lawful ends = record { lawful = lawful; rest = rest; spelled = refl; longest = ends }
 
 pub are_read_first : AreReadFirst
-are_read_first [] all rest lawful are = (all, refl)
-are_read_first (h ∷ hs) [] rest lawful are =
-    absurd (not_nothing h (hints_spelling hs ++ rest) (All-head IsHint h hs lawful)
-    (subst (λ bytes. AreHints bytes []) (append_assoc (hint_spelling h) (hints_spelling hs) rest) are))
-are_read_first (h ∷ hs) (r ∷ rs) rest lawful are =
-    let next = behind h r (hints_spelling hs ++ rest) rs (All-head IsHint h hs lawful)
-    (subst (λ bytes. AreHints bytes (r ∷ rs)) (append_assoc (hint_spelling h) (hints_spelling hs) rest) are) in
-    let more = are_read_first hs rs rest (All-tail IsHint h hs lawful) next.1 in
-    (more.0, ap (λ x. x ∷ rs) (sym next.0) ∙ ap (λ xs. h ∷ xs) more.1)
+are_read_first Two (of_two hs) (of_two bs) rest f g p is =
+    let b = first_hints Two hs bs rest is.rest p is.lawful is.longest is.spelled in
+    (of_two b.more, tt, ap (λ l. of_two l) b.all_are)
+are_read_first One (of_one hs) (of_one bs) rest f g p is =
+    let b = first_hints One hs bs rest is.rest p is.lawful is.longest.0 is.spelled in
+    (of_one b.more, tt, ap (λ l. of_one l) b.all_are)
+are_read_first One (of_one hs) (renewed bs cs) rest f g p is =
+    let behind : List ℕ = hints_spelling Two cs ++ is.rest in
+    let b = first_hints One hs bs rest (50 ∷ behind) p is.lawful.0 (renewal_begins_none One behind)
+    (is.spelled ∙ append_assoc (hints_spelling One bs) (50 ∷ hints_spelling Two cs) is.rest) in
+    (renewed b.more cs, tt, ap (λ l. renewed l cs) b.all_are)
+are_read_first One (renewed hs cs) (of_one bs) rest f g p is =
+    let behind : List ℕ = hints_spelling Two cs ++ rest in
+    let same = same_hints One hs bs (50 ∷ behind) is.rest p.0 is.lawful (renewal_begins_none One behind) is.longest.0
+    (sym (append_assoc (hints_spelling One hs) (50 ∷ hints_spelling Two cs) rest) ∙ is.spelled) in
+    absurd (is.longest.1 (byte_renews is.rest behind (sym same.1)))
+are_read_first One (renewed hs cs) (renewed bs ds) rest f g p is =
+    let behind : List ℕ = hints_spelling Two cs ++ rest in
+    let other : List ℕ = hints_spelling Two ds ++ is.rest in
+    let olds = same_hints One hs bs (50 ∷ behind) (50 ∷ other) p.0 is.lawful.0 (renewal_begins_none One behind) (renewal_begins_none One other)
+    (sym (append_assoc (hints_spelling One hs) (50 ∷ hints_spelling Two cs) rest) ∙ is.spelled
+    ∙ append_assoc (hints_spelling One bs) (50 ∷ hints_spelling Two ds) is.rest) in
+    let news = first_hints Two cs ds rest is.rest p.1 is.lawful.1 is.longest (ap (λ xs. drop 1 xs) olds.1) in
+    (of_two news.more, tt, ap (λ l. renewed l ds) (sym olds.0) ∙ ap (λ l. renewed hs l) news.all_are)
+are_read_first Two (of_one hs) all rest f g p is = absurd f
+are_read_first Two (renewed hs cs) all rest f g p is = absurd f
+are_read_first One (of_two hs) all rest f g p is = absurd f
+are_read_first Two (of_two hs) (of_one bs) rest f g p is = absurd g
+are_read_first Two (of_two hs) (renewed bs cs) rest f g p is = absurd g
+are_read_first One (of_one hs) (of_two bs) rest f g p is = absurd g
+are_read_first One (renewed hs cs) (of_two bs) rest f g p is = absurd g
 
-pub begin_same : (a : List Hint) → Begin a a
-begin_same a = ([], sym (append-nil a))
-
-pub begin_trans : (a b c : List Hint) → Begin a b → Begin b c → Begin a c
-begin_trans a b c p q = (p.0 ++ q.0, q.1 ∙ ap (λ xs. xs ++ q.0) p.1 ∙ append_assoc a p.0 q.0)
+pub hints_come_first : HintsComeFirst
+hints_come_first text all p = (_, (goes_on_by text all p).hints)
 
 pub has_one_reading : HasOneReading
-has_one_reading bytes [] [] p q = refl
-has_one_reading bytes [] (b ∷ bs) p q =
-    absurd (not_nothing b (hints_spelling bs ++ q.rest) (All-head IsHint b bs q.lawful)
-    (subst (λ ys. AreHints ys []) (q.spelled ∙ append_assoc (hint_spelling b) (hints_spelling bs) q.rest) p))
-has_one_reading bytes (a ∷ xs) [] p q =
-    absurd (not_nothing a (hints_spelling xs ++ p.rest) (All-head IsHint a xs p.lawful)
-    (subst (λ ys. AreHints ys []) (p.spelled ∙ append_assoc (hint_spelling a) (hints_spelling xs) p.rest) q))
-has_one_reading bytes (a ∷ xs) (b ∷ bs) p q =
-    let tail : AreHints (hints_spelling xs ++ p.rest) xs = record { lawful = All-tail IsHint a xs p.lawful; rest = p.rest; spelled = refl; longest = p.longest } in
-    let next = behind a b (hints_spelling xs ++ p.rest) bs (All-head IsHint a xs p.lawful)
-    (subst (λ ys. AreHints ys (b ∷ bs)) (p.spelled ∙ append_assoc (hint_spelling a) (hints_spelling xs) p.rest) q) in
-    ap (λ x. x ∷ xs) next.0 ∙ ap (λ ys. b ∷ ys) (has_one_reading (hints_spelling xs ++ p.rest) xs bs tail next.1)
+has_one_reading infohash bytes a b p q =
+    let same : header_format a ≡ header_format b = same_header (header_format a) (header_format b) infohash (sym p.header_is ∙ q.header_is) in
+    same_text (header_format a) a b p.body_is.rest q.body_is.rest (begins_header a) (subst (λ f. BeginsIn f b) (sym same) (begins_header b))
+    p.body_is.lawful q.body_is.lawful p.body_is.longest q.body_is.longest (sym p.body_is.spelled ∙ q.body_is.spelled)
 
 -- ---- logs
 
-pub log_size : (infohash : List ℕ) (hints : List Hint) → length infohash ≡ 32 → length (log_spelling infohash hints) ≡ log_length hints
-log_size infohash hints size = omega (arith, size, length-append (header infohash) (hints_spelling hints))
-
 pub kept_logs_open : KeptLogsOpen
-kept_logs_open infohash bytes hints size lawful keeps =
-    let n : ℕ = log_length hints in
+kept_logs_open infohash bytes text size lawful keeps =
+    let n : ℕ = text_length text in
     let rest : List ℕ = drop n bytes in
-    let whole : bytes ≡ header infohash ++ (hints_spelling hints ++ rest) =
-    sym (take-append-drop n bytes) ∙ ap (λ xs. xs ++ rest) keeps.begins ∙ append_assoc (header infohash) (hints_spelling hints) rest in
-    let head : length (header infohash) ≡ 40 = omega (arith, size) in (
-      record {
-        within = keeps.within;
-        header_is = ap (λ xs. take 40 xs) whole ∙ take_at (header infohash) (hints_spelling hints ++ rest) 40 head;
-      },
-      λ all log. are_read_first hints all rest lawful
-          (subst (λ xs. AreHints xs all) (ap (λ xs. drop 40 xs) whole ∙ drop_at (header infohash) (hints_spelling hints ++ rest) 40 head) log.hints_are),
+    let format : Format = header_format text in
+    let head : List ℕ = header format infohash in
+    let whole : bytes ≡ head ++ (body_spelling text ++ rest) =
+    sym (take-append-drop n bytes) ∙ ap (λ xs. xs ++ rest) keeps.begins ∙ append_assoc head (body_spelling text) rest in
+    let head_is : length head ≡ 40 = header_size format infohash size in
+    let header_is : take 40 bytes ≡ head = ap (λ xs. take 40 xs) whole ∙ take_at head (body_spelling text ++ rest) 40 head_is in
+    let behind : drop 40 bytes ≡ body_spelling text ++ rest = ap (λ xs. drop 40 xs) whole ∙ drop_at head (body_spelling text ++ rest) 40 head_is in (
+      (format, header_is),
+      λ all log.
+          let same : format ≡ header_format all = same_header format (header_format all) infohash (sym header_is ∙ log.header_is) in
+          are_read_first format text all rest (begins_header text) (subst (λ f. BeginsIn f all) (sym same) (begins_header all)) lawful
+          (subst (λ xs. IsBody xs all) behind log.body_is),
     )

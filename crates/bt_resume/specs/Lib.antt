@@ -1,6 +1,7 @@
 pub mod Limits
 pub mod Hint
 pub mod LentHint
+pub mod LogText
 pub mod OneSpelling
 pub mod Reader
 pub mod ResumeLog

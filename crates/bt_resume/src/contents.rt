@@ -1,11 +1,12 @@
 //! How a log is read from its device, and made on an empty one.
-ghost use Rattle.std.specs.Prelude.{◌≡◌, ◌≢◌, ◌≤◌, IfOk, length};
-ghost use Rattle.std.specs.Bool.{OnTrue, OnFalse};
+ghost use Rattle.std.specs.Prelude.{◌≡◌, ◌≢◌, ◌≤◌, IfOk, IfSome, IfNone, length};
 ghost use Rattle.bt_resume.specs.Limits.{max_log_length};
-ghost use Rattle.bt_resume.specs.ResumeLog.{header, log_length, Reads, Opens};
-ghost use Rattle.bt_resume.specs.Contents.{hints_of, IsHeaderCheck, IsWindowRead, IsContentsRead, IsMade};
+ghost use Rattle.bt_resume.specs.LogText.{format_of, header};
+ghost use Rattle.bt_resume.specs.ResumeLog.{Reads, Opens};
+ghost use Rattle.bt_resume.specs.Contents.{text_of, end_of, IsHeaderCheck, IsWindowRead, IsContentsRead, IsMade};
 
 use crate::error::LogError;
+use crate::hint::Format;
 use crate::hints::Hints;
 use bt_disk::Disk;
 use bt_hashreq::put;
@@ -21,48 +22,75 @@ const WINDOW_LEN: usize = 65536;
 /// A log has at most so many bytes.
 pub(crate) const MAX_LOG_LEN: u64 = 1 << 40;
 
+/// Where a log ends, and in which format it is there.
+#[derive(Clone, Copy)]
+pub(crate) struct End {
+    pub(crate) at: u64,
+    pub(crate) format: Format,
+}
+
 /// The hints of a log, and where they end.
 #[derive(Drop)]
 pub(crate) struct Contents {
     pub(crate) hints: Hints,
-    pub(crate) end: u64,
+    pub(crate) end: End,
 }
 
-/// The bytes that every log of a torrent begins with.
-pub(crate) fn header(infohash: &Hash32) -> [u8; HEADER_LEN]
-    ensures { result ≡ header infohash.now }
+impl Contents {
+    /// Hints that end at a byte.
+    fn new(hints: Hints, at: u64) -> Contents
+        ensures hints { result.hints ≡ hints }
+        ensures end { result.end ≡ record { at = at; format = format_of hints } }
+    {
+        let format = hints.format();
+        let end = End { at, format };
+        Contents { hints, end }
+    }
+}
+
+/// The bytes that every log of a torrent begins with, in a format.
+pub(crate) fn header(format: Format, infohash: &Hash32) -> [u8; HEADER_LEN]
+    ensures { result ≡ header format infohash.now }
 {
     let mut bytes = [0; HEADER_LEN];
-    put(&mut bytes, 0, b"btseed-1");
+    match format {
+        Format::One => put(&mut bytes, 0, b"btseed-1"),
+        Format::Two => put(&mut bytes, 0, b"btseed-2"),
+    }
     put(&mut bytes, 8, infohash);
     bytes
 }
 
-/// Whether the device begins with the header of the torrent's log: Ok, or OtherTorrent.
-fn check_header<D: Disk>(disk: &mut D, infohash: &Hash32) -> Result<(), LogError>
+/// In which format the device begins with the header of the torrent's log; OtherTorrent, where in none.
+fn check_header<D: Disk>(disk: &mut D, infohash: &Hash32) -> Result<Format, LogError>
     ensures { IsHeaderCheck D.history D.honest D.faults infohash.now disk.old result disk.new }
 {
     let mut front = [0; HEADER_LEN];
     let Ok(count) = disk.read_at(0, &mut front) else {
         return Err(LogError::Device);
     };
-    if is_header(&front[..count], infohash) {
-        Ok(())
-    } else {
-        Err(LogError::OtherTorrent)
+    match header_format(&front[..count], infohash) {
+        Some(format) => Ok(format),
+        None => Err(LogError::OtherTorrent),
     }
 }
 
-/// Whether the bytes are the header of the torrent's log.
-fn is_header(bytes: &[u8], infohash: &Hash32) -> bool
-    ensures yes { OnTrue result (bytes.now ≡ header infohash.now) }
-    ensures no { OnFalse result (bytes.now ≢ header infohash.now) }
+/// In which format the bytes are the header of the torrent's log.
+fn header_format(bytes: &[u8], infohash: &Hash32) -> Option<Format>
+    ensures some { IfSome result (λ format. bytes.now ≡ header format infohash.now) }
+    ensures none { IfNone result ((format : Format) → bytes.now ≢ header format infohash.now) }
 {
-    bytes == header(infohash).as_slice()
+    if bytes == header(Format::Two, infohash).as_slice() {
+        return Some(Format::Two);
+    }
+    if bytes == header(Format::One, infohash).as_slice() {
+        return Some(Format::One);
+    }
+    None
 }
 
-/// Reads a part of the device into a window, puts the hints that begin it behind the others, and says how
-/// many bytes spell them. The list asks for no more memory than `room` bytes.
+/// Reads a part of the device into a window, puts the hints that are read at its front behind the others, and
+/// says how many bytes spell them. The list asks for no more memory than `room` bytes.
 fn read_window<D: Disk>(
     disk: &mut D,
     at: u64,
@@ -82,24 +110,29 @@ fn read_window<D: Disk>(
     Ok(used)
 }
 
-/// Reads the hints behind the header of a device of so many bytes.
-fn read_hints<D: Disk>(alloc: Global, disk: &mut D, len: u64) -> Result<Contents, LogError>
+/// Reads the hints behind a header of a format, of a device of so many bytes.
+fn read_hints<D: Disk>(
+    alloc: Global,
+    disk: &mut D,
+    format: Format,
+    len: u64,
+) -> Result<Contents, LogError>
     requires within { len ≤ max_log_length }
     requires len { D.honest disk.old → len ≡ length (D.history disk.old).now.bytes }
-    ensures { IsContentsRead D.history D.honest D.faults disk.old result disk.new }
+    ensures { IsContentsRead D.history D.honest D.faults format disk.old result disk.new }
 {
-    let mut hints = Hints::new(alloc);
+    let mut hints = Hints::new(alloc, format);
     let mut end = HEADER_LEN as u64;
     let mut window = [0; WINDOW_LEN];
     while end < len {
         let room = (len - end).min(WINDOW_LEN as u64) as usize;
         let used = read_window(disk, end, &mut window[..room], &mut hints, len as usize)?;
         if used == 0 {
-            return Ok(Contents { hints, end });
+            return Ok(Contents::new(hints, end));
         }
         end += used as u64;
     }
-    Ok(Contents { hints, end })
+    Ok(Contents::new(hints, end))
 }
 
 /// Reads the log of a torrent from a device of so many bytes.
@@ -110,15 +143,15 @@ fn read_contents<D: Disk>(
     len: u64,
 ) -> Result<Contents, LogError>
     requires { D.honest disk.old → len ≡ length (D.history disk.old).now.bytes }
-    ensures reads { Reads D.history D.honest D.faults infohash.now disk.old (hints_of result) disk.new }
-    ensures end { IfOk result (λ contents. contents.end ≡ log_length contents.hints) }
-    ensures within { IfOk result (λ contents. contents.end ≤ max_log_length) }
+    ensures reads { Reads D.history D.honest D.faults infohash.now disk.old (text_of result) disk.new }
+    ensures end { IfOk result (λ contents. contents.end ≡ end_of contents.hints) }
+    ensures within { IfOk result (λ contents. contents.end.at ≤ max_log_length) }
 {
+    let format = check_header(disk, infohash)?;
     if len > MAX_LOG_LEN {
         return Err(LogError::TooLong);
     }
-    check_header(disk, infohash)?;
-    read_hints(alloc, disk, len)
+    read_hints(alloc, disk, format, len)
 }
 
 /// Reads the log of a torrent from its device.
@@ -127,9 +160,9 @@ pub(crate) fn read_log<D: Disk>(
     disk: &mut D,
     infohash: &Hash32,
 ) -> Result<Contents, LogError>
-    ensures reads { Reads D.history D.honest D.faults infohash.now disk.old (hints_of result) disk.new }
-    ensures end { IfOk result (λ contents. contents.end ≡ log_length contents.hints) }
-    ensures within { IfOk result (λ contents. contents.end ≤ max_log_length) }
+    ensures reads { Reads D.history D.honest D.faults infohash.now disk.old (text_of result) disk.new }
+    ensures end { IfOk result (λ contents. contents.end ≡ end_of contents.hints) }
+    ensures within { IfOk result (λ contents. contents.end.at ≤ max_log_length) }
 {
     let Ok(len) = disk.len() else {
         return Err(LogError::Device);
@@ -143,9 +176,9 @@ pub(crate) fn open_log<D: Disk>(
     disk: &mut D,
     infohash: &Hash32,
 ) -> Result<Contents, LogError>
-    ensures opens { Opens D.history D.honest D.faults infohash.now disk.old (hints_of result) disk.new }
-    ensures end { IfOk result (λ contents. contents.end ≡ log_length contents.hints) }
-    ensures within { IfOk result (λ contents. contents.end ≤ max_log_length) }
+    ensures opens { Opens D.history D.honest D.faults infohash.now disk.old (text_of result) disk.new }
+    ensures end { IfOk result (λ contents. contents.end ≡ end_of contents.hints) }
+    ensures within { IfOk result (λ contents. contents.end.at ≤ max_log_length) }
 {
     let Ok(len) = disk.len() else {
         return Err(LogError::Device);
@@ -154,17 +187,14 @@ pub(crate) fn open_log<D: Disk>(
         return read_contents(alloc, disk, infohash, len);
     }
     make_log(disk, infohash)?;
-    Ok(Contents {
-        hints: Hints::new(alloc),
-        end: HEADER_LEN as u64,
-    })
+    Ok(Contents::new(Hints::new(alloc, Format::Two), HEADER_LEN as u64))
 }
 
-/// Gives an empty device the header of the torrent's log, and syncs it.
+/// Gives an empty device the header of the torrent's log, of format 2, and syncs it.
 fn make_log<D: Disk>(disk: &mut D, infohash: &Hash32) -> Result<(), LogError>
     ensures { IsMade D.history D.honest D.faults infohash.now disk.old result disk.new }
 {
-    let Ok(()) = disk.write_at(0, &header(infohash)) else {
+    let Ok(()) = disk.write_at(0, &header(Format::Two, infohash)) else {
         return Err(LogError::Device);
     };
     let Ok(()) = disk.sync() else {

@@ -2,89 +2,110 @@
 ghost use Rattle.std.specs.Prelude.{◌≡◌, ◌+◌, ◌≤◌, max, ◌++◌, IfOk, IfErr, vec_len, vec_capacity};
 ghost use Rattle.bt_resume.specs.OneSpelling.{IsSpelling, IsSpelling-prop};
 
-use crate::hint::LentHint;
-use crate::reader::{measure_hints, read_hint};
+use crate::hint::{Format, LentHint};
+use crate::reader::{behind_renewal, measure_text, read_hint};
 use std::alloc::{AllocError, Global};
 use std::marker::Model;
 
-/// A list of hints. They are kept as the bytes that spell them in a log, and take no more memory than these;
-/// so they are spelled out one after the other, and not told by their index.
+/// The hints of a log. They are kept as the bytes behind its header, and take no more memory than these; so
+/// they are spelled out one after the other, and not told by their index.
 #[derive(Drop)]
 pub struct Hints {
     bytes: Vec<u8>,
     count: usize,
-    ghost spelled: { IsSpelling bytes.items } by { IsSpelling-prop bytes.items },
+    /// The format of the log's header.
+    begun: Format,
+    /// The format of its end.
+    format: Format,
+    ghost spelled: { IsSpelling begun bytes.items } by { IsSpelling-prop begun bytes.items },
 }
 
 impl Model for Hints {
-    ghost use Rattle.std.specs.Prelude.{◌≡◌, List, length};
-    ghost use Rattle.bt_resume.specs.declared.hint.Hint.{Hint};
+    ghost use Rattle.std.specs.Prelude.{◌≡◌, length};
+    ghost use Rattle.bt_resume.specs.LogText.{LogText, hints_in, format_of};
 
-    ghost Value = { List Hint };
+    ghost Value = { LogText };
 
     ghost view = { λ h. h.spelled.0 };
 
-    ghost invariant = { λ h. h.count ≡ length h.spelled.0 };
+    ghost invariant = { λ h. (h.count ≡ length (hints_in h.spelled.0)) × (h.format ≡ format_of h.spelled.0) };
 }
 
 impl Hints {
-    ghost use Rattle.std.specs.Prelude.{◌≡◌, ◌↔◌, List, [], ◌++◌, length, IsTrue, IfOk};
-    ghost use Rattle.bt_resume.specs.declared.hint.Hint.{Hint};
+    ghost use Rattle.std.specs.Prelude.{◌≡◌, ◌↔◌, [], length, IsTrue, IfOk};
+    ghost use Rattle.bt_resume.specs.LogText.{LogText, hints_in, format_of, empty_text, joined_text};
     ghost use Rattle.bt_resume.specs.OneSpelling.{AreSpelled};
-    ghost use Rattle.bt_resume.specs.Reader.{AreTaken, AreCounted};
+    ghost use Rattle.bt_resume.specs.Reader.{IsTaken, IsCounted};
 
-    /// No hint. Takes no memory.
-    pub(crate) fn new(alloc: Global) -> Hints
-        ensures { result ≡ [] }
+    /// No hint, of a log whose header is of this format. Takes no memory.
+    pub(crate) fn new(alloc: Global, format: Format) -> Hints
+        ensures { result ≡ empty_text format }
     {
         Hints {
             bytes: Vec::new(alloc),
             count: 0,
+            begun: format,
+            format,
         }
     }
 
-    /// Puts the hints that begin the bytes behind the others, as many as there are, and says how many bytes
-    /// spell them. The list asks for no more memory than `room` bytes, unless it has more.
-    pub(crate) fn take(&mut self, bytes: &[u8], room: usize) -> Result<usize, AllocError>
-        ensures { IfOk result (λ used. (taken : List Hint) × AreTaken bytes.now taken used
-            × (self.new ≡ self.old ++ taken)) }
+    /// In which format the log goes on behind the hints.
+    pub(crate) fn format(&self) -> Format
+        ensures { result ≡ format_of self.now }
     {
-        let found = measure_hints(bytes);
-        self.put(&bytes[..found.len], found.count, room)?;
+        self.format
+    }
+
+    /// Puts what is read at the front of the bytes behind the others, and says how many bytes spell it. The
+    /// list asks for no more memory than `room` bytes, unless it has more.
+    pub(crate) fn take(&mut self, bytes: &[u8], room: usize) -> Result<usize, AllocError>
+        ensures { IfOk result (λ used. (taken : LogText) × IsTaken (format_of self.old) bytes.now taken used
+            × (self.new ≡ joined_text self.old taken)) }
+    {
+        let found = measure_text(bytes, self.format);
+        self.put(&bytes[..found.len], found.count, found.format, room)?;
         Ok(found.len)
     }
 
-    /// Puts the hints that the bytes spell, which are so many, behind the others.
-    fn put(&mut self, bytes: &[u8], count: usize, room: usize) -> Result<(), AllocError>
-        requires { (hints : List Hint) × AreCounted bytes.now hints count }
-        ensures { IfOk result (λ _. (hints : List Hint) × AreSpelled bytes.now hints
-            × (self.new ≡ self.old ++ hints)) }
+    /// Puts the hints that the bytes spell, which are so many and end in a format, behind the others.
+    fn put(
+        &mut self,
+        bytes: &[u8],
+        count: usize,
+        format: Format,
+        room: usize,
+    ) -> Result<(), AllocError>
+        requires { (text : LogText) × IsCounted (format_of self.old) bytes.now text format count }
+        ensures { IfOk result (λ _. (text : LogText) × AreSpelled (format_of self.old) bytes.now text
+            × (self.new ≡ joined_text self.old text)) }
     {
         add_bytes(&mut self.bytes, bytes, room)?;
         self.count += count;
+        self.format = format;
         Ok(())
     }
 
     /// How many they are.
     pub fn len(&self) -> usize
-        ensures { result ≡ length self.now }
+        ensures { result ≡ length (hints_in self.now) }
     {
         self.count
     }
 
     /// Whether there is none.
     pub fn is_empty(&self) -> bool
-        ensures { IsTrue result ↔ (self.now ≡ []) }
+        ensures { IsTrue result ↔ (hints_in self.now ≡ []) }
     {
         self.count == 0
     }
 
     /// The hints from the first on. Takes no memory.
     pub fn iter(&self) -> HintIter<'_>
-        ensures { result ≡ self.now }
+        ensures { result ≡ hints_in self.now }
     {
         HintIter {
             bytes: self.bytes.as_slice(),
+            format: self.begun,
         }
     }
 }
@@ -113,20 +134,23 @@ fn make_room(bytes: &mut Vec<u8>, more: usize, room: usize) -> Result<(), AllocE
     bytes.reserve_exact(doubled.saturating_sub(len).max(more))
 }
 
-/// The hints of a list from one on, each spelled out as it is asked for.
+/// The hints of a log from one on, each spelled out as it is asked for.
 #[derive(Debug, Drop)]
 pub struct HintIter<'a> {
     bytes: &'a [u8],
-    ghost spelled: { IsSpelling bytes.now } by { IsSpelling-prop bytes.now },
+    /// The format in which the bytes begin.
+    format: Format,
+    ghost spelled: { IsSpelling format bytes.now } by { IsSpelling-prop format bytes.now },
 }
 
 impl<'a> Model for HintIter<'a> {
     ghost use Rattle.std.specs.Prelude.{List};
+    ghost use Rattle.bt_resume.specs.LogText.{hints_in};
     ghost use Rattle.bt_resume.specs.declared.hint.Hint.{Hint};
 
     ghost Value = { List Hint };
 
-    ghost view = { λ h. h.spelled.0 };
+    ghost view = { λ h. hints_in h.spelled.0 };
 }
 
 impl<'a> Iterator for HintIter<'a> {
@@ -140,8 +164,10 @@ impl<'a> Iterator for HintIter<'a> {
     ghost remaining = { item_count (λ s. s) };
 
     fn next(&mut self) -> Option<LentHint<'a>> {
-        let found = read_hint(self.bytes)?;
-        self.bytes = &self.bytes[found.len..];
+        let part = behind_renewal(self.bytes, self.format);
+        let found = read_hint(part.bytes, part.format)?;
+        self.bytes = &part.bytes[found.len..];
+        self.format = part.format;
         Some(found.hint)
     }
 }

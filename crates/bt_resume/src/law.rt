@@ -1,27 +1,29 @@
-//! What hints that were spelled are read as, and what a crash leaves of a log. The functions do nothing when
+//! What logs that were spelled are read as, and what a crash leaves of a log. The functions do nothing when
 //! they run.
-ghost use Rattle.bt_resume.specs.Law.{SpellsOneHint, AreReadBack, HasOneReading, AreReadFirst, KeptLogsOpen, OpenLogsKeep, KeptDevicesAreRead, KeptDevicesOpen, AttachKeeps, ReloadKeeps, AppendKeeps, FlushKeeps, AttachHolds, ReloadHolds, AppendHolds, FlushHolds, AttachStands, ReloadStands, AppendStands, FlushStands, FlushedStand};
+ghost use Rattle.bt_resume.specs.Law.{SpellsOneHint, AreReadBack, HasOneReading, AreReadFirst, HintsComeFirst, KeptLogsOpen, OpenLogsKeep, KeptDevicesAreRead, KeptDevicesOpen, AttachKeeps, ReloadKeeps, AppendKeeps, FlushKeeps, AttachHolds, ReloadHolds, AppendHolds, FlushHolds, AttachStands, ReloadStands, AppendStands, FlushStands, FlushedStand};
 
 use bt_disk::Disk;
 
-/// Hints that were spelled are read back: no spelling begins another, bytes are read in one way, and what
-/// lies behind the last whole hint does not matter.
+/// A text that was spelled, in either format or in both, is read back: no hint's spelling begins another's,
+/// bytes are read in one way, and what lies behind the last whole hint does not matter. A text that goes on
+/// has its hints first.
 pub fn hints_are_read_back()
     ensures one { SpellsOneHint }
     ensures back { AreReadBack }
     ensures reading { HasOneReading }
     ensures first { AreReadFirst }
+    ensures come_first { HintsComeFirst }
 {}
 
-/// Bytes that begin with a torrent's header and hints are a log of it, and its hints begin with these; and so
-/// the other way round.
+/// Bytes that begin with a torrent's header and a text are a log of it, whose text goes on from this one; and
+/// so the other way round.
 pub fn kept_logs_open()
     ensures first { KeptLogsOpen }
     ensures back { OpenLogsKeep }
 {}
 
-/// An honest device with such bytes is read, and is opened, with these hints first, and is not refused for
-/// what its bytes are.
+/// An honest device with such bytes is read, and is opened, with a text that goes on from this one, and is not
+/// refused for what its bytes are.
 pub fn kept_devices_open<D: Disk>()
     ensures reads { KeptDevicesAreRead D.history D.honest D.faults }
     ensures opens { KeptDevicesOpen D.history D.honest D.faults }
@@ -36,8 +38,9 @@ pub fn logs_keep_hints<D: Disk>()
     ensures flush { FlushKeeps D.history D.honest D.faults }
 {}
 
-/// Which hints the device of a log holds where the next one is due, after each call of a log on an honest
-/// device. Once a flush succeeded, each later image begins with those that were read or appended until then.
+/// Which text the device of a log holds where the next hint is due, after each call of a log on an honest
+/// device. Once a flush succeeded, each later image begins with the one that was read and appended to until
+/// then.
 pub fn logs_hold_hints<D: Disk>()
     ensures attach { AttachHolds D.history D.honest D.faults }
     ensures reload { ReloadHolds D.history D.honest D.faults }
@@ -45,8 +48,8 @@ pub fn logs_hold_hints<D: Disk>()
     ensures flush { FlushHolds D.history D.honest D.faults }
 {}
 
-/// Hints that a log keeps, and that every image since a moment begins with, stay so through each call of a
-/// log on an honest device; from a flush that succeeded on, these are all hints that were held.
+/// A text that a log keeps, and that every image since a moment begins with, stays so through each call of a
+/// log on an honest device; from a flush that succeeded on, all that was held is such a text.
 pub fn kept_hints_stand<D: Disk>()
     ensures attach { AttachStands D.history D.honest D.faults }
     ensures reload { ReloadStands D.history D.honest D.faults }

@@ -12,7 +12,7 @@ mod resume_log;
 mod writer;
 
 pub use error::{AppendError, LogError, Refused};
-pub use hint::{Hint, LentHint};
+pub use hint::{Format, Hint, LentHint};
 pub use hints::{HintIter, Hints};
 pub use law::{
     hints_are_read_back, kept_devices_open, kept_hints_stand, kept_logs_open, logs_hold_hints,

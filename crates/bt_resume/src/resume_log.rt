@@ -2,11 +2,11 @@ ghost use Rattle.std.specs.Prelude.{◌≡◌, IfOk, IfErr, Err};
 ghost use Rattle.bt_resume.specs.Hint.{CanBeRead};
 ghost use Rattle.bt_resume.specs.ResumeLog.{IsAttached, Opens, IsReloaded, IsAppended, IsFlushed};
 
-use crate::contents::{Contents, MAX_LOG_LEN, open_log, read_log};
+use crate::contents::{Contents, End, MAX_LOG_LEN, open_log, read_log};
 use crate::error::{AppendError, LogError, Refused};
-use crate::hint::Hint;
+use crate::hint::{Format, Hint};
 use crate::hints::Hints;
-use crate::writer::{MAX_HINT_LEN, write_hint};
+use crate::writer::{MAX_APPENDED_LEN, write_appended};
 use bt_disk::{DeviceFault, Disk};
 use bt_tree::Hash32;
 use std::alloc::Global;
@@ -14,9 +14,12 @@ use std::marker::Model;
 
 /// A log of hints on a device.
 ///
-/// It begins with 40 bytes, `btseed-1` and the torrent's infohash; behind them lies one hint after the
+/// It begins with 40 bytes, `btseed-2` and the torrent's infohash; behind them lies one hint after the
 /// other. The first bytes that are no hint, and all behind them, are ignored and later written over. No
 /// checksum is needed, since a hint is never trusted. The format is this project's own.
+///
+/// A log of format 1, which begins with `btseed-1`, is read too. What is appended to it is of format 2, behind
+/// the byte `2`; nothing in front of it is written again.
 ///
 /// Only `attach` and `reload` take memory: as much as the hints that are read take in the log.
 #[derive(Drop)]
@@ -26,14 +29,15 @@ pub struct ResumeLog<D: Disk + Drop> {
     infohash: Hash32,
     hints: Hints,
     /// Where the next hint is written.
-    end: u64,
+    end: End,
     /// Where the log ended at the last flush or reading that succeeded.
-    kept: u64,
+    kept: End,
 }
 
 impl<D: Disk + Drop> Model for ResumeLog<D> {
     ghost use Rattle.std.specs.Prelude.{◌≤◌};
     ghost use Rattle.bt_resume.specs.Limits.{max_log_length};
+    ghost use Rattle.bt_resume.specs.LogText.{hints_in};
     ghost use Rattle.bt_resume.specs.ResumeLog.{LogView};
 
     ghost Value = { LogView D };
@@ -41,22 +45,26 @@ impl<D: Disk + Drop> Model for ResumeLog<D> {
     ghost view = { λ a. record {
       disk = a.disk;
       infohash = a.infohash;
-      hints = a.hints;
-      end = a.end;
-      kept = a.kept;
+      hints = hints_in a.hints;
+      end = a.end.at;
+      format = a.end.format;
+      kept_end = a.kept.at;
+      kept_format = a.kept.format;
     } };
 
-    ghost invariant = { λ a. (a.end ≤ max_log_length) × (a.kept ≤ a.end) };
+    ghost invariant = { λ a. (a.end.at ≤ max_log_length) × (a.kept.at ≤ a.end.at) };
 }
 
 impl<D: Disk + Drop> ResumeLog<D> {
-    /// Opens the log of a torrent, by its infohash. A device without bytes gets a header, which is written
-    /// and synced. The device is given back with a refusal; after `Device` the header may stand there, whole
-    /// or in part.
+    ghost use Rattle.bt_resume.specs.LogText.{hints_in, format_number};
+
+    /// Opens the log of a torrent, by its infohash. A device without bytes gets a header of format 2, which is
+    /// written and synced; to any other nothing is written. The device is given back with a refusal; after
+    /// `Device` the header may stand there, whole or in part.
     ///
-    /// Errors, in this order: `TooLong` where the device has more than 2^40 bytes, before any is read;
-    /// `OtherTorrent` where it is not empty and does not begin with the header; `OutOfMemory`. `Device`,
-    /// where one of its calls failed, may stand in place of each.
+    /// Errors, in this order: `OtherTorrent` where the device is not empty and begins with neither header;
+    /// `TooLong` where it has more than 2^40 bytes, of which only the header is read then; `OutOfMemory`.
+    /// `Device`, where one of its calls failed, may stand in place of each.
     pub fn attach(
         alloc: Global,
         mut disk: D,
@@ -91,9 +99,20 @@ impl<D: Disk + Drop> ResumeLog<D> {
 
     /// The hints, in order, as they were last read from the device: without those that were appended since.
     pub fn hints(&self) -> &Hints
-        ensures { result.now ≡ self.now.hints }
+        ensures { hints_in result.now ≡ self.now.hints }
     {
         &self.hints
+    }
+
+    /// In which format the next hint would go on: 2 in a new log, and in a log of format 1 from the first hint
+    /// on that is appended, unless it is forgotten; else 1.
+    pub fn format(&self) -> u8
+        ensures { result ≡ format_number self.now.format }
+    {
+        match self.end.format {
+            Format::One => 1,
+            Format::Two => 2,
+        }
     }
 
     /// The device.
@@ -126,7 +145,8 @@ impl<D: Disk + Drop> ResumeLog<D> {
         Ok(())
     }
 
-    /// Writes a hint that can be read back behind the last one, by one call of the device. Takes no memory.
+    /// Writes a hint that can be read back behind the last one, by one call of the device; the first one in a
+    /// log of format 1 behind the byte `2`, by the same call. Takes no memory.
     ///
     /// Errors: `Full` only where the log would get longer than 2^40 bytes, and then nothing is written;
     /// `Device`. After both, what was appended since the last good flush or reading is forgotten: it is to
@@ -135,18 +155,19 @@ impl<D: Disk + Drop> ResumeLog<D> {
         requires { CanBeRead hint.now }
         ensures { IsAppended D.history D.honest D.faults hint.now self.old result self.new }
     {
-        let mut spelling = [0; MAX_HINT_LEN];
-        let len = write_hint(hint, &mut spelling);
-        let end = self.end + len as u64;
-        if end > MAX_LOG_LEN {
+        let mut bytes = [0; MAX_APPENDED_LEN];
+        let len = write_appended(self.end.format, hint, &mut bytes);
+        let at = self.end.at + len as u64;
+        if at > MAX_LOG_LEN {
             self.end = self.kept;
             return Err(AppendError::Full);
         }
-        let Ok(()) = self.disk.write_at(self.end, &spelling[..len]) else {
+        let Ok(()) = self.disk.write_at(self.end.at, &bytes[..len]) else {
             self.end = self.kept;
             return Err(AppendError::Device);
         };
-        self.end = end;
+        let format = Format::Two;
+        self.end = End { at, format };
         Ok(())
     }
 

@@ -2,20 +2,20 @@ use Rattle.std.proofs.Common.{◌≡◌, length, take, sym, ap, ◌∙◌, rules
 use Rattle.bt_resume.proofs.Readings.{has_nothing}
 use Rattle.bt_resume.proofs.contents.check_header.Goals as goal
 
-pub returns-then-is_header : goal.returns-then-is_header
-returns-then-is_header g c =
+pub returns-in-Some : goal.returns-in-Some
+returns-in-Some g c =
     let d = g.D.Disk in
     let w = c.in-Ok.ensures in
     let size : length c.read_at.new.out ≡ 40 = search rules in (
       has_nothing d.history d.honest d.faults c.args.disk.now c.read_at.new.self w.counted w.as_honest (λ h. (w.answered h).1),
-      λ h. ap (λ n. take n (d.history c.args.disk.now).now.bytes) (sym size) ∙ sym (w.answered h).0 ∙ c.if-is_header.ensures.yes,
+      λ h. ap (λ n. take n (d.history c.args.disk.now).now.bytes) (sym size) ∙ sym (w.answered h).0 ∙ c.in-Some.ensures.some,
     )
 
-pub returns-else-is_header : goal.returns-else-is_header
-returns-else-is_header g c =
+pub returns-in-None : goal.returns-in-None
+returns-in-None g c =
     let d = g.D.Disk in
     let w = c.in-Ok.ensures in
     let size : length c.read_at.new.out ≡ 40 = search rules in (
       has_nothing d.history d.honest d.faults c.args.disk.now c.read_at.new.self w.counted w.as_honest (λ h. (w.answered h).1),
-      λ h e. c.if-is_header.ensures.no ((w.answered h).0 ∙ ap (λ n. take n (d.history c.args.disk.now).now.bytes) size ∙ e),
+      λ h format e. c.in-None.ensures.none format ((w.answered h).0 ∙ ap (λ n. take n (d.history c.args.disk.now).now.bytes) size ∙ e),
     )

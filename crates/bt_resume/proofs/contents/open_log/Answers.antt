@@ -33,6 +33,6 @@ pub returns-clause-opens : goal.returns-clause-opens
 returns-clause-opens g c =
     let d = g.D.Disk in
     let w = c.in-Ok.ensures in
-    opens_made d.history d.honest d.faults c.args.infohash.now c.args.disk.now c.len.new.self c.make_log.new.disk c.new.result c.in-Ok.len
+    opens_made d.history d.honest d.faults c.args.infohash.now c.args.disk.now c.len.new.self c.make_log.new.disk _ c.in-Ok.len
     (has_nothing d.history d.honest d.faults c.args.disk.now c.len.new.self w.counted w.as_honest (λ h. (w.answered h).1)) (λ h. (w.answered h).0)
     (omega (arith, c.if-len-gt0.false)) c.new.ensures c.in_ok-make_log.ensures
