@@ -3,7 +3,7 @@ use Rattle.std.proofs.Common.{◌≡◌, ℕ, ◌+◌, ◌-◌, ◌^◌, ◌≤�
 use Rattle.std.specs.Prelude.{⊤}
 use Rattle.std.proofs.Math.Seq.{take-add}
 use Rattle.std.proofs.lemmas.List.{append_assoc, append-nil, take-take, take_at, length-take, length-drop, length-append, length-replicate}
-use Rattle.std.proofs.lemmas.List.Elements.{All-nil, All-push}
+use Rattle.std.proofs.lemmas.List.Elements.{All-nil}
 use Rattle.bt_disk.specs.State.{State, IsImage, written, synced_state}
 use Rattle.bt_disk.specs.History.{History, moment_of, LeftBefore, LeftSince, after_write}
 use Rattle.bt_disk.specs.Calls.{bytes_written, sync_made, HasCalls, AfterWriteFault}
@@ -14,10 +14,10 @@ use Rattle.bt_resume.specs.declared.hint.Hint.{Hint}
 use Rattle.bt_resume.specs.declared.error.LogError.{LogError}
 use Rattle.bt_resume.specs.declared.error.AppendError.TheVariants.{Full, Device as AppendDevice}
 use Rattle.bt_resume.specs.Hint.{IsHint}
-use Rattle.bt_resume.specs.LogText.{LogText, of_two, header_format, format_of, header, body_spelling, text_spelling, text_length, IsLog, GoesOn, appended_bytes, with_hint}
+use Rattle.bt_resume.specs.LogText.{LogText, of_two, header_format, format_of, header, body_spelling, text_length, IsLog, appended_bytes, with_hint}
 use Rattle.bt_resume.specs.ResumeLog.{LogView, read_log, forgotten, Reads, read, other_torrent, too_long, no_memory, no_length, no_header, unread, Opens, opened, unmeasured, made, unwritten, unsynced, IsAttached}
 use Rattle.bt_resume.specs.Law.{KeepsText, OpenLogsKeep, IsTextKeptSince, HoldsTo, Holds, AttachHolds, ReloadHolds, AppendHolds, FlushHolds}
-use Rattle.bt_resume.proofs.Texts.{header_size, log_size, goes_on_same, goes_on_trans, goes_on_is_longer, spelled_first, hint_behind}
+use Rattle.bt_resume.proofs.Texts.{log_size, goes_on_same, goes_on_trans, goes_on_is_longer, spelled_first, hint_behind}
 use Rattle.bt_resume.proofs.Openings.{kept_devices_are_read}
 
 -- ---- bytes after a call

@@ -11,7 +11,7 @@ use Rattle.bt_resume.specs.LogText.{LogText, of_one, of_two, renewed, hints_in, 
 use Rattle.bt_resume.specs.OneSpelling.{AreSpelled, IsSpelling, IsSpelling-prop, same_hint, hint_is_some, renewal_begins_none, byte_renews}
 use Rattle.bt_resume.specs.Reader.{IsFirst, IsTaken, IsCounted, IsRenewed, IsBehindRenewal}
 use Rattle.bt_resume.specs.declared.hint.LentHint.{LentHint}
-use Rattle.bt_resume.proofs.Texts.{are_joined, begins_empty, begins_as}
+use Rattle.bt_resume.proofs.Texts.{are_joined, begins_as}
 use Rattle.bt_resume.proofs.Takings.{AreFront, front_more}
 
 -- what is seen of bytes is the text that they spell, whatever tells that they spell some

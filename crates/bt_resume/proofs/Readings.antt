@@ -1,5 +1,5 @@
 -- A log that is read from its device.
-use Rattle.std.proofs.Common.{◌≡◌, ℕ, ◌+◌, ◌-◌, ◌^◌, ◌<◌, ◌≤◌, ◌↔◌, inl, inr, min, max, List, [], ◌∷◌, ◌++◌, length, take, drop, Result, Ok, Err, refl, sym, ap, ◌∙◌, subst, arith}
+use Rattle.std.proofs.Common.{◌≡◌, ℕ, ◌+◌, ◌-◌, ◌^◌, ◌<◌, ◌≤◌, ◌↔◌, inl, inr, min, max, List, [], ◌++◌, length, take, drop, Result, Ok, Err, refl, sym, ap, ◌∙◌, subst, arith}
 use Rattle.std.proofs.lemmas.List.{append_assoc, take-take, take_at, drop-drop, take-append-drop, length-append, length-drop, nil_from_length}
 use Rattle.std.proofs.lemmas.List.Elements.{All-nil}
 use Rattle.bt_disk.specs.History.{History}
@@ -14,7 +14,7 @@ use Rattle.bt_resume.specs.declared.error.LogError.TheVariants.{OtherTorrent, To
 use Rattle.bt_resume.specs.Hint.{hint_spelling, IsHint, BeginsNoHint}
 use Rattle.bt_resume.specs.LogText.{LogText, of_two, format_of, header, body_spelling, text_length, IsText, EndsIn, IsBody, IsLog, HasHeader, IsOther, BeginsIn, empty_text, joined_text}
 use Rattle.bt_resume.specs.ResumeLog.{OfBytes, Reads, read, other_torrent, too_long, no_memory, no_length, no_header, unread, Opens, opened, made, unwritten, unsynced}
-use Rattle.bt_resume.specs.Contents.{text_of, end_of, IsHeaderCheck, IsWindow, AreContents, IsContentsRead, IsMade}
+use Rattle.bt_resume.specs.Contents.{text_of, IsHeaderCheck, IsWindow, AreContents, IsContentsRead, IsMade}
 use Rattle.bt_resume.specs.OneSpelling.{nothing_begins}
 use Rattle.bt_resume.proofs.Texts.{are_joined, begins_as, begins_empty, header_of}
 use Rattle.bt_resume.proofs.Takings.{hint_is_short}

@@ -1,10 +1,10 @@
 -- Texts that begin the same bytes.
-use Rattle.std.proofs.Common.{◌≡◌, ℕ, List, [], ◌∷◌, ◌++◌, length, take, drop, refl, sym, ap, ◌∙◌, subst}
+use Rattle.std.proofs.Common.{◌≡◌, ℕ, List, ◌∷◌, ◌++◌, length, take, drop, refl, sym, ap, ◌∙◌, subst}
 use Rattle.std.proofs.lemmas.List.{append_assoc, take_at, drop_at, take-append-drop}
 use Rattle.bt_resume.specs.declared.hint.Format.{Format}
 use Rattle.bt_resume.specs.declared.hint.Format.TheVariants.{One, Two}
 use Rattle.bt_resume.specs.Hint.{hints_spelling}
-use Rattle.bt_resume.specs.LogText.{LogText, of_one, of_two, renewed, header_format, format_of, header, body_spelling, text_length, IsBody, BeginsIn, GoesOn}
+use Rattle.bt_resume.specs.LogText.{of_one, of_two, renewed, header_format, header, body_spelling, text_length, IsBody, BeginsIn}
 use Rattle.bt_resume.specs.Law.{AreReadBack, HasOneReading, AreReadFirst, HintsComeFirst, KeptLogsOpen}
 use Rattle.bt_resume.specs.OneSpelling.{first_hints, same_hints, same_text, renewal_begins_none, byte_renews}
 use Rattle.bt_resume.proofs.Texts.{begins_header, same_header, header_size, goes_on_by}

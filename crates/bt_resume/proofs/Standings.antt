@@ -1,5 +1,5 @@
 -- Texts that stand in a log and in each image of a crash.
-use Rattle.std.proofs.Common.{◌≡◌, ℕ, ◌≤◌, inl, List, Ok, Err, sym, ap, ◌∙◌, subst, arith}
+use Rattle.std.proofs.Common.{◌≡◌, ℕ, ◌≤◌, inl, Ok, Err, sym, ap, subst, arith}
 use Rattle.bt_disk.specs.State.{IsImage}
 use Rattle.bt_disk.specs.History.{History}
 use Rattle.bt_resume.specs.declared.error.AppendError.TheVariants.{Full, Device as AppendDevice}

@@ -1,7 +1,7 @@
 -- What is taken from the front of bytes: hints one after the other, and texts.
 use Rattle.std.proofs.Common.{◌≡◌, ℕ, ◌+◌, ◌≤◌, List, [], ◌∷◌, ◌++◌, length, take, drop, All, refl, sym, ap, ◌∙◌, subst, arith}
 use Rattle.std.proofs.Math.Seq.{take-add}
-use Rattle.std.proofs.lemmas.List.{append_assoc, drop-drop, length-append, length-take, length-drop}
+use Rattle.std.proofs.lemmas.List.{drop-drop, length-append, length-take, length-drop}
 use Rattle.std.proofs.lemmas.List.Elements.{All-nil, All-push}
 use Rattle.bt_sparse.specs.Answer.{answer_size}
 use Rattle.bt_hashreq.specs.declared.key.HashKey.{HashKey}

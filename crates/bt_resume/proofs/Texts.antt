@@ -1,5 +1,5 @@
 -- Texts of logs that go on.
-use Rattle.std.proofs.Common.{◌≡◌, ℕ, ◌+◌, ◌≤◌, List, [], ◌∷◌, ◌++◌, length, take, drop, get_or, All, refl, sym, ap, ◌∙◌, subst, arith}
+use Rattle.std.proofs.Common.{◌≡◌, ℕ, ◌≤◌, List, [], ◌∷◌, ◌++◌, length, take, get_or, refl, sym, ap, ◌∙◌, subst, arith}
 use Rattle.std.proofs.lemmas.List.{append_assoc, append-nil, take_at, take-take, length-append}
 use Rattle.std.proofs.lemmas.List.Elements.{All-append, All-push, All-cons, All-nil}
 use Rattle.bt_resume.specs.declared.hint.Format.{Format}

@@ -15,7 +15,7 @@ use Rattle.bt_resume.specs.declared.hint.Format.{Format}
 use Rattle.bt_resume.specs.declared.hint.Format.TheVariants.{One, Two}
 use Rattle.bt_resume.specs.declared.hint.Hint.{Hint}
 use Rattle.bt_resume.specs.declared.hint.Hint.TheVariants.{Proof, Marks}
-use Rattle.bt_resume.specs.Hint.{joined, marks_spelling, hint_spelling, hints_spelling, HasRun, IsRun, IsHint, BeginsNoHint}
+use Rattle.bt_resume.specs.Hint.{joined, hint_spelling, hints_spelling, IsHint, BeginsNoHint}
 use Rattle.bt_resume.specs.LogText.{LogText, of_one, of_two, renewed, format_of, body_spelling, IsText, EndsIn, BeginsIn}
 use mathlib.Core.HLevel.{Σ_prop_path}
 

@@ -1,4 +1,4 @@
-use Rattle.std.proofs.Common.{arith}
+use Rattle.std.proofs.Common.{◌∙◌, arith}
 use Rattle.std.proofs.lemmas.Result.{err_from_is_err_and}
 use Rattle.bt_disk.specs.Calls.{length_fault}
 use Rattle.bt_disk.proofs.CallLists.{has_one}
@@ -35,4 +35,4 @@ returns-clause-opens g c =
     let w = c.in-Ok.ensures in
     opens_made d.history d.honest d.faults c.args.infohash.now c.args.disk.now c.len.new.self c.make_log.new.disk _ c.in-Ok.len
     (has_nothing d.history d.honest d.faults c.args.disk.now c.len.new.self w.counted w.as_honest (λ h. (w.answered h).1)) (λ h. (w.answered h).0)
-    (omega (arith, c.if-len-gt0.false)) c.new.ensures c.in_ok-make_log.ensures
+    (omega (arith, c.if-len-gt0.false)) (c.new-2.ensures.hints ∙ c.new.ensures) c.in_ok-make_log.ensures

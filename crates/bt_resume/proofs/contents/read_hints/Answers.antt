@@ -1,4 +1,4 @@
-use Rattle.std.proofs.Common.{refl, arith, ◌∙◌, ap}
+use Rattle.std.proofs.Common.{arith, ◌∙◌}
 use Rattle.std.proofs.lemmas.List.{length-take}
 use Rattle.bt_resume.proofs.Readings.{read_none, window_more, window_last, read_to_end}
 use Rattle.bt_resume.proofs.contents.read_hints.Goals as goal
@@ -22,9 +22,9 @@ returns-then-used-eq0 g c =
     let w = c.in_ok-used.ensures in
     window_last d.history d.honest d.faults c.args.format c.args.len c.args.disk.now c.loop-end.disk c.read_window.new.disk c.loop-end.hints w.0
     c.loop-end.end _ _ c.loop-end.invariant (rw c.if-used-eq0.true at w.1) c.loop-end-test.true
-    (omega (arith, length-take c.min-room.result c.loop-end.window, c.min-room.ensures)) c.requires.within c.requires.len ? ?
+    (omega (arith, length-take c.min-room.result c.loop-end.window, c.min-room.ensures)) c.requires.within c.requires.len (c.new.ensures.hints ∙ w.2) (rw c.new.ensures.hints c.new.ensures.end)
 
 pub returns : goal.returns
 returns g c =
     let d = g.D.Disk in
-    read_to_end d.history d.honest d.faults c.args.format c.args.len c.args.disk.now c.loop-end.disk _ c.loop-end.end ? ? c.loop-end-test.false c.requires.within c.requires.len
+    read_to_end d.history d.honest d.faults c.args.format c.args.len c.args.disk.now c.loop-end.disk _ c.loop-end.end (rw c.new-2.ensures.hints c.loop-end.invariant) (rw c.new-2.ensures.hints c.new-2.ensures.end) c.loop-end-test.false c.requires.within c.requires.len

@@ -7,5 +7,5 @@ use Rattle.bt_resume.proofs.hints.Hints.iter.Goals as goal
 pub returns : goal.returns
 returns c =
     let seen = c.self.inside.spelled in
-    ap hints_in (seen_is c.self.inside.begun _ c.result-1.given.0 seen.0 (subst (λ b. AreSpelled c.self.inside.begun b seen.0) (sym c.as_slice.ensures.value) seen.1))
-    ∙ ap hints_in c.self.view_is
+    let spelled = subst (λ b. AreSpelled c.self.inside.begun b seen.0) (sym c.as_slice.ensures.value) seen.1 in
+    ap hints_in (seen_is c.self.inside.begun _ c.result-2-1.given.0 seen.0 spelled) ∙ ap hints_in c.self.view_is

@@ -1,5 +1,5 @@
-use Rattle.std.proofs.Common.{◌++◌, sym, ap, subst, ◌∙◌, arith}
-use Rattle.bt_resume.specs.LogText.{hints_in, format_of, joined_text}
+use Rattle.std.proofs.Common.{sym, subst, arith}
+use Rattle.bt_resume.specs.LogText.{format_of, joined_text}
 use Rattle.bt_resume.specs.OneSpelling.{AreSpelled}
 use Rattle.bt_resume.proofs.Keepings.{few_hints, spelled_more, told_kept, put_gives, put_told}
 use Rattle.bt_resume.proofs.hints.Hints.put.Goals as goal

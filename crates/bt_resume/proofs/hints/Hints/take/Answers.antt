@@ -1,4 +1,4 @@
-use Rattle.std.proofs.Common.{◌∙◌, ap, sym, subst}
+use Rattle.std.proofs.Common.{◌∙◌, ap, subst}
 use Rattle.bt_resume.specs.LogText.{format_of, joined_text}
 use Rattle.bt_resume.specs.Reader.{IsTaken}
 use Rattle.bt_resume.proofs.Keepings.{taken_is_spelled, same_spelled}
