@@ -2,6 +2,8 @@
 use Rattle.std.specs.Prelude.{◌≡◌, ℕ, ◌↔◌, List, [], ◌∷◌, ◌++◌, slice_get, Some, All}
 use Rattle.bt_disk.specs.State.{State, IsImage, IsKept, IsWithin}
 use Rattle.bt_disk.specs.History.{History, moment_of, IsKeptSince, IsWithinSince}
+use Rattle.bt_disk.specs.declared.loss.Loss.{Loss}
+use Rattle.bt_disk.specs.MemoryDisk.{IsLeftBy}
 use Rattle.bt_disk.specs.Calls.{Call, sync_made, IsAnswered, AreAnswered, HasCalls, count_after_call, IsRead, Spares, EndsWithin}
 
 -- an image from before the call, with at most other bytes where the call reaches
@@ -13,6 +15,10 @@ pub record IsReached (old : State) (call : Call) (before image : List ℕ) : Typ
 abbrev pub SyncKeepsAll : Type 0
 SyncKeepsAll = (old new : History) (image : List ℕ) → IsAnswered old sync_made new → IsImage new.now image
     → (image ≡ old.now.bytes) × (new.now.bytes ≡ old.now.bytes)
+
+-- What a loss leaves of a state is one list of bytes.
+abbrev pub LeavesOneImage : Type 0
+LeavesOneImage = (loss : Loss) (s : State) (a b : List ℕ) → IsLeftBy loss s a → IsLeftBy loss s b → a ≡ b
 
 -- Reads change no image.
 abbrev pub ReadsChangeNothing : Type 0

@@ -3,7 +3,7 @@
 ghost use Rattle.std.specs.Prelude.{ℕ, List, All};
 ghost use Rattle.bt_disk.specs.History.{IsKeptSince, IsWithinSince};
 ghost use Rattle.bt_disk.specs.Calls.{Call, HasCalls, Spares, EndsWithin};
-ghost use Rattle.bt_disk.specs.Law.{SyncKeepsAll, ReadsChangeNothing, CallsReachTheirRange, CallsKeepBytes, KeptFromNow, CallsKeepLengths, WithinFromNow};
+ghost use Rattle.bt_disk.specs.Law.{SyncKeepsAll, LeavesOneImage, ReadsChangeNothing, CallsReachTheirRange, CallsKeepBytes, KeptFromNow, CallsKeepLengths, WithinFromNow};
 ghost use Rattle.bt_disk.specs.Law.{NoCallsLead, OneCallLeads, CallsCompose};
 
 use crate::disk::Disk;
@@ -34,6 +34,12 @@ pub fn calls_keep_bytes()
 pub fn calls_keep_lengths()
     ensures now { WithinFromNow }
     ensures later { CallsKeepLengths }
+{}
+
+/// A loss leaves one image of a state: what `image` and `after_crash` of a device in memory give of it is the
+/// same.
+pub fn a_loss_leaves_one_image()
+    ensures { LeavesOneImage }
 {}
 
 /// No call leads from a device to itself, one call that was answered is a list of one, and calls of a device

@@ -18,8 +18,8 @@ pub use fault_disk::FaultDisk;
 pub use file_disk::FileDisk;
 pub use handle::is_absence;
 pub use law::{
-    a_sync_keeps_all, calls_compose, calls_keep_bytes, calls_keep_lengths, calls_reach_their_range,
-    devices_keep_bytes, devices_keep_lengths, reads_change_nothing,
+    a_loss_leaves_one_image, a_sync_keeps_all, calls_compose, calls_keep_bytes, calls_keep_lengths,
+    calls_reach_their_range, devices_keep_bytes, devices_keep_lengths, reads_change_nothing,
 };
 pub use loss::Loss;
 pub use memory_disk::MemoryDisk;

@@ -1,5 +1,5 @@
 //! The bytes of a device in memory, with a record of all that changed them.
-ghost use Rattle.std.specs.Prelude.{◌≡◌, ◌+◌, ◌<◌, ◌≤◌, ◌++◌, ◌∷◌, ℕ, [], List, length, ◌⊎◌, slice_index, take, drop, OnOk, OnErr, vec_len, vec_capacity};
+ghost use Rattle.std.specs.Prelude.{◌≡◌, ◌+◌, ◌<◌, ◌≤◌, ◌++◌, ◌∷◌, ℕ, [], List, length, ◌⊎◌, slice_index, take, drop, OnOk, OnErr, IfOk, vec_len, vec_capacity};
 ghost use Rattle.bt_disk.specs.State.{written, resized};
 ghost use Rattle.bt_disk.specs.Calls.{bytes_written, length_set, sync_made};
 ghost use Rattle.bt_disk.specs.RecordSteps.{first_of, state_of};
@@ -111,6 +111,15 @@ impl Medium {
         self.ranges.clear();
         self.least = self.bytes.len() as u64;
         Ok(())
+    }
+
+    /// The bytes that a crash leaves.
+    pub(crate) fn image(&self, loss: Loss) -> Result<Vec<u8>, AllocError>
+        ensures { IfOk result (λ image. IsLeftBy loss (history_of self.now).now image.items) }
+    {
+        let mut bytes = self.bytes.to_vec(self.alloc)?;
+        lose(&mut bytes, &self.ranges, self.least, loss);
+        Ok(bytes)
     }
 
     /// What a crash leaves, with no record of what was before.

@@ -5,7 +5,7 @@ ghost use Rattle.bt_disk.specs.State.{IsImage};
 use crate::disk::{DeviceFault, Disk, counted_fault};
 use crate::loss::Loss;
 use crate::medium::Medium;
-use std::alloc::Global;
+use std::alloc::{AllocError, Global};
 use std::marker::Model;
 
 /// A device in memory, which is honest. It keeps a record of all calls that changed it, for what a crash at
@@ -43,6 +43,15 @@ impl MemoryDisk {
         ensures { result.now ≡ (history_of self.now.kept).now.bytes }
     {
         self.medium.bytes()
+    }
+
+    /// The bytes that a crash now leaves, by its loss: those of the device that `after_crash` makes. The device
+    /// stays as it is.
+    pub fn image(&self, loss: Loss) -> Result<Vec<u8>, AllocError>
+        ensures left { IfOk result (λ image. IsLeftBy loss (history_of self.now.kept).now image.items) }
+        ensures image { IfOk result (λ image. IsImage (history_of self.now.kept).now image.items) }
+    {
+        self.medium.image(loss)
     }
 
     /// What a crash now leaves, as a device that has just been made. It takes no memory.
