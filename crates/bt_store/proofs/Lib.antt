@@ -20,3 +20,5 @@ pub mod Adoptions
 pub mod AdoptionMarks
 -- Small groups that are read together.
 pub mod SmallGroups
+-- Blocks that are recalled.
+pub mod Recalls

@@ -72,7 +72,7 @@ nothing_waits dig k states from count none =
 
 -- ---- states of other blocks
 
-other_kept : {X : Type 0} (xs : List X) (i j : ℕ) (x : X) → j ≢ i → slice_get (slice_set xs i x) j ≡ slice_get xs j
+pub other_kept : {X : Type 0} (xs : List X) (i j : ℕ) (x : X) → j ≢ i → slice_get (slice_set xs i x) j ≡ slice_get xs j
 other_kept [] i j x apart = refl
 other_kept (y ∷ xs) zero zero x apart = absurd (apart refl)
 other_kept (y ∷ xs) zero (suc j) x apart = refl

@@ -34,12 +34,12 @@ module _ (dig : List ℕ → List ℕ) (k : Facts) where
       unread_stays reads (after_read dig k false read states) i (λ c. none (suc c.0, omega (arith, c.1), c.2))
       ∙ read_kept dig k false read states i (λ e. none (0, omega arith, sym e))
 
-  read_there : (read : BlockRead) (states : List BlockState) → block_of read < length states
+  pub read_there : (read : BlockRead) (states : List BlockState) → block_of read < length states
       → slice_get (after_read dig k false read states) (block_of read) ≡ Some (if is_right_read dig k read then Marked else Missing)
   read_there (given i bytes) states lt = set_there states i _ lt
   read_there (failed i) states lt = set_there states i Missing lt
 
-  length-read : (read : BlockRead) (states : List BlockState) → length (after_read dig k false read states) ≡ length states
+  pub length-read : (read : BlockRead) (states : List BlockState) → length (after_read dig k false read states) ≡ length states
   length-read (given i bytes) states = length-set states i _
   length-read (failed i) states = length-set states i Missing
 

@@ -27,7 +27,7 @@ use Rattle.bt_store.proofs.Judgements.{same_verdict}
 same_leaf : (digest : List ℕ) → is_leaf (Some digest) digest ≡ true
 same_leaf digest = elim (cases_Bool (pointwise nat_eq digest digest)) [ inl e ↦ e | inr e ↦ absurd (other_text digest digest (sym e) refl) ]
 
-right_told : (dig : List ℕ → List ℕ) (k : Facts) (i : ℕ) (bytes : List ℕ) → IsRight dig k i bytes → is_right dig k i bytes ≡ true
+pub right_told : (dig : List ℕ → List ℕ) (k : Facts) (i : ℕ) (bytes : List ℕ) → IsRight dig k i bytes → is_right dig k i bytes ≡ true
 right_told dig k i bytes r =
     rw (eq-eqb (length bytes) (block_length k.file_length i) r.whole) (ap (λ o. is_leaf o (dig bytes)) r.leaf ∙ same_leaf (dig bytes))
 

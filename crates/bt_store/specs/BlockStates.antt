@@ -10,6 +10,11 @@ is_marked Missing = false
 is_marked Waiting = false
 is_marked Marked = true
 
+abbrev pub is_missing : BlockState → Bool
+is_missing Missing = true
+is_missing Waiting = false
+is_missing Marked = false
+
 abbrev pub is_waiting : BlockState → Bool
 is_waiting Missing = false
 is_waiting Waiting = true

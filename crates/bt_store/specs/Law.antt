@@ -1,12 +1,14 @@
 -- What follows from the definitions.
-use Rattle.std.specs.Prelude.{◌≡◌, ◌≢◌, ℕ, ◌-◌, ◌<◌, ◌⊎◌, min, false, if◌then◌else◌, List, length, map, slice_get, Some, Contains, AllPairs}
+use Rattle.std.specs.Prelude.{◌≡◌, ◌≢◌, ℕ, ◌-◌, ◌<◌, ◌⊎◌, min, Bool, false, if◌then◌else◌, List, [], ◌∷◌, length, map, slice_get, Some, Contains, All, AllPairs, Result}
 use Rattle.bt_tree.specs.Blocks.{block_at}
 use Rattle.bt_tree.specs.Tree.{file_root}
 use Rattle.bt_sparse.specs.SparseTree.{Facts, blocks_of, value_at, IsRooted, IsSound}
 use Rattle.bt_sparse.specs.Acceptance.{Accepts}
 use Rattle.bt_sparse.specs.Law.{IsClashOnPath}
 use Rattle.bt_store.specs.BlockReads.{BlockRead, given, block_of, IsRight, is_right_read, judged}
-use Rattle.bt_store.specs.Review.{waiting_blocks}
+use Rattle.bt_store.specs.Review.{recalled, waiting_blocks}
+use Rattle.bt_store.specs.SingleBlock.{Restores}
+use Rattle.bt_store.specs.declared.error.StoreError.{StoreError}
 use Rattle.bt_store.specs.Adoption.{AreWhole, claim_of_reads, Adopts}
 use Rattle.bt_store.specs.declared.block_states.BlockState.{BlockState}
 use Rattle.bt_store.specs.declared.block_states.BlockState.TheVariants.{Missing, Marked}
@@ -88,3 +90,23 @@ abbrev pub WaitingBlocksLieInside : (List ℕ → List ℕ) → Type 0
 WaitingBlocksLieInside dig = (k : Facts) (states : List BlockState) (from count : ℕ)
     → waiting_blocks dig k states from count
     ≡ waiting_blocks dig k states from (min count (length states - from))
+
+-- ---- blocks that are recalled
+
+-- each of these blocks is recalled, one after the other
+abbrev pub all_recalled : List BlockState → List ℕ → List BlockState
+all_recalled states [] = states
+all_recalled states (block ∷ blocks) = all_recalled (recalled states block) blocks
+
+-- What reads make of the states, among them one of each block that was recalled, is what they make of the
+-- states before that.
+abbrev pub RecalledAreJudgedAlike : (List ℕ → List ℕ) → Type 0
+RecalledAreJudgedAlike dig = (k : Facts) (states : List BlockState) (blocks : List ℕ) (reads : List BlockRead)
+    → All (λ i. Contains (map block_of reads) i) blocks
+    → judged dig k false reads (all_recalled states blocks) ≡ judged dig k false reads states
+
+-- and that is what `restore` makes of them, block by block
+abbrev pub RestoreJudges : (List ℕ → List ℕ) → Type 0
+RestoreJudges dig = (k : Facts) (i : ℕ) (states new : List BlockState) (reads : List BlockRead)
+    (result : Result Bool StoreError) → Restores dig k i states reads result new
+    → new ≡ judged dig k false reads states

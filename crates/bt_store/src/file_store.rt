@@ -4,6 +4,7 @@ ghost use Rattle.bt_tree.specs.Limits.{max_block_count};
 ghost use Rattle.bt_tree.specs.Blocks.{block_count};
 ghost use Rattle.bt_disk.specs.Calls.{HasCalls, sync_call};
 ghost use Rattle.bt_store.specs.BlockStates.{is_marked, is_waiting};
+ghost use Rattle.bt_store.specs.Review.{recalled};
 ghost use Rattle.bt_store.specs.FileStore.{new_states};
 
 use crate::block_states::{BlockState, BlockStates};
@@ -121,6 +122,17 @@ impl<D: Disk + Drop, H: NodeHash> FileStore<D, H> {
         ensures others { self.new ≡ record self.old { states = self.new.states } }
     {
         self.states.clear();
+    }
+
+    /// Makes a missing block wait, so that `settle` reads it once its leaf is known; it then has the state that
+    /// `restore` would give it. Any other block stays as it is. No call of the device is made.
+    pub fn recall(&mut self, block: u32)
+        ensures states { self.new.states ≡ recalled self.old.states block }
+        ensures others { self.new ≡ record self.old { states = self.new.states } }
+    {
+        if self.is_missing(block) {
+            self.states.set(block, BlockState::Waiting);
+        }
     }
 
     /// Syncs the device, by one call. All states stay.

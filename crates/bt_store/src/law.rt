@@ -1,4 +1,4 @@
-ghost use Rattle.bt_store.specs.Law.{RightBlocksAreFiles, AdoptMarksByBytes, AcceptedReadsAreRight, AdoptExtends, ReadsDecideEach, WaitingBlocksDiffer, WaitingBlocksLieInside};
+ghost use Rattle.bt_store.specs.Law.{RightBlocksAreFiles, AdoptMarksByBytes, AcceptedReadsAreRight, AdoptExtends, ReadsDecideEach, WaitingBlocksDiffer, WaitingBlocksLieInside, RecalledAreJudgedAlike, RestoreJudges};
 
 use bt_sparse::leaves_are_files;
 use bt_tree::NodeHash;
@@ -39,4 +39,10 @@ pub fn reads_decide_each<H: NodeHash>(_hash: H)
 pub fn waiting_blocks_lie_inside<H: NodeHash>(_hash: H)
     ensures differ { WaitingBlocksDiffer H.digest }
     ensures inside { WaitingBlocksLieInside H.digest }
+{}
+
+/// Blocks that are recalled, and then read by `settle`, come to the same as where `restore` reads each of them.
+pub fn recalled_blocks_are_restored<H: NodeHash>(_hash: H)
+    ensures alike { RecalledAreJudgedAlike H.digest }
+    ensures restored { RestoreJudges H.digest }
 {}

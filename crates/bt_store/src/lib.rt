@@ -22,7 +22,7 @@ pub use error::{ReadError, Refused, StoreError};
 pub use file_store::FileStore;
 pub use law::{
     accepted_reads_are_right, adopt_extends, adopt_marks_by_bytes, reads_decide_each,
-    right_blocks_are_files, waiting_blocks_lie_inside,
+    recalled_blocks_are_restored, right_blocks_are_files, waiting_blocks_lie_inside,
 };
 pub use review::{Rechecked, Settled};
 pub use small_groups::AdoptedGroups;
