@@ -10,6 +10,7 @@ use Rattle.bt_disk.specs.Law.{NoCallsLead, CallsCompose}
 use Rattle.bt_store.specs.FileStore.{StoreView}
 use Rattle.bt_store.specs.Adoption.{IsAdopted, StopsAdopting, marked_group}
 use Rattle.bt_machine.proofs.Lists.{here, later, set_same, set_id}
+use Rattle.bt_machine.specs.Hints.{add_hints}
 use Rattle.bt_machine.specs.State.{EngineState, Hint, proof_of, mark_of}
 use Rattle.bt_machine.specs.Devices.{DeviceCalls, reads_at}
 use Rattle.bt_machine.specs.Blocks.{with_file, with_tree, new_marked_blocks}
@@ -27,8 +28,7 @@ use Rattle.bt_adoption.specs.GroupsSteps.{all_reads, file_with, AreTaken, TakesG
 
 pending_by : (s x : EngineState) (proofs : List Hint) → x.logged ≡ false → with_pending s x proofs ≡ x
 pending_by s x proofs off =
-    ap (λ b. record x { pending = x.pending ++ cond b (proofs ++ map (λ c. mark_of c) (new_marked_blocks s x)) [] }) off
-    ∙ ap (λ (hs : List Hint). record x { pending = hs }) (append-nil x.pending)
+    ap (λ b. record x { pending = add_hints x.pending (cond b (proofs ++ map (λ c. mark_of c) (new_marked_blocks s x)) []) }) off
 
 -- proofs by keys that are answered
 listed : (dig : List ℕ → List ℕ) (k : Facts) (keys : List HashKey) → ((key : HashKey) → Contains keys key → HasAnswer dig k key)

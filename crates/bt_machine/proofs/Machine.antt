@@ -7,6 +7,7 @@ pub use Rattle.bt_machine.specs.Crash.{StepKeepsImages}
 pub use Rattle.bt_machine.specs.Devices.{DeviceCalls, reads_at, calls_at, calls_of}
 pub use Rattle.bt_machine.specs.Flush.{StepFlush, syncs, fails, syncs_of, data_files}
 pub use Rattle.bt_machine.specs.FollowUp.{FollowsUp, rests, requests, interest_sent, RequestsHashes, RequestsEach}
+pub use Rattle.bt_machine.specs.Hints.{add_hints}
 pub use Rattle.bt_machine.specs.HashMessages.{accepts_hashes, unknown_root, refused, HandlesHashes, no_claim, rejected, HandlesHashRequest, answered, IsTreeOf, settled_count}
 pub use Rattle.bt_machine.specs.Headline.{IsPublished, CompleteFilesArePublished}
 pub use Rattle.bt_machine.specs.Law.{sent_by, read_back, IsMarkedBy, found, brought, IsSoAt, AreRooted, StepKeepsRooted, StepMarksByBytes, StepSendsReadBytes, IsFound, IsMarkedIn, AreChecked, IsServed}

@@ -1,4 +1,5 @@
 -- what an engine is
+pub mod Hints
 pub mod State
 pub mod Devices
 pub mod Blocks

@@ -9,6 +9,7 @@ use Rattle.bt_machine.specs.declared.answer.Why.TheVariants.{Wire}
 use Rattle.bt_machine.specs.declared.answer.Note.TheVariants.{Complete}
 use Rattle.bt_machine.specs.declared.error.EngineError.{EngineError}
 use Rattle.bt_machine.specs.declared.error.EngineError.TheVariants.{NoPeer, OutOfMemory}
+use Rattle.bt_machine.specs.Hints.{add_hints}
 use Rattle.bt_machine.specs.State.{PeerState, EngineState, Hint, mark_of}
 use Rattle.bt_machine.specs.Devices.{DeviceCalls}
 use Rattle.bt_machine.specs.Blocks.{with_peer, new_complete_files, new_marked_blocks}
@@ -31,7 +32,8 @@ without_peer i s = record s { peers = take i s.peers ++ drop (i + 1) s.peers }
 -- with a log, these proofs are pending, and then a mark for each block that was marked since the old engine
 abbrev pub with_pending : EngineState → EngineState → List Hint → EngineState
 with_pending old s proofs = record s {
-  pending = s.pending ++ (if s.logged then proofs ++ map (λ b. mark_of b) (new_marked_blocks old s) else []);
+  pending = add_hints s.pending
+      (if s.logged then proofs ++ map (λ b. mark_of b) (new_marked_blocks old s) else []);
 }
 
 -- an event stands first in the peer's bytes; it is taken from them and handled

@@ -2,14 +2,12 @@
 use Rattle.std.specs.Prelude.{ℕ, Bool, List, Option}
 use Rattle.bt_meta.specs.Torrent.{Metainfo}
 use Rattle.bt_sparse.specs.SparseTree.{Facts}
-use Rattle.bt_hashreq.specs.declared.key.HashKey.{HashKey}
-pub use Rattle.bt_resume.specs.declared.hint.Hint.{Hint}
-use Rattle.bt_resume.specs.declared.hint.Hint.TheVariants.{Proof, Mark}
 use Rattle.bt_store.specs.declared.block_states.BlockState.{BlockState}
 use Rattle.bt_book.specs.declared.names.PeerKey.{PeerKey}
 use Rattle.bt_book.specs.declared.names.BlockId.{BlockId}
 use Rattle.bt_wire.specs.Cutter.{Stream}
 use Rattle.bt_machine.specs.declared.hash_state.HashState.{HashState}
+pub use Rattle.bt_machine.specs.Hints.{Hint, proof_of, mark_of}
 
 -- A peer: the bytes that came from it; the four flags of BEP 3 (who chokes whom, who is interested in whom);
 -- for each piece whether it has it; its hash state; the blocks that it is asked for, in the order of asking;
@@ -31,17 +29,9 @@ pub record FileState : Type 0 where
   pub tree : ℕ
   pub states : List BlockState
 
--- what a log keeps, as `bt_resume` has it: an accepted proof by its key and digests, or a block that was
--- marked
-abbrev pub proof_of : HashKey → List (List ℕ) → Hint
-proof_of key digests = Proof key digests
-
-abbrev pub mark_of : BlockId → Hint
-mark_of block = Mark block.file block.block
-
 -- There is one tree for each root. Files stand as in the torrent, peers in the order of their keys.
--- `pending` has the hints that are to be written to the log, `hints` those that were last read from it;
--- without a log both are empty.
+-- `pending` has the hints that are to be written to the log, with marks joined to runs as they come, `hints`
+-- those that were last read from it; without a log both are empty.
 pub record EngineState : Type 0 where
   pub torrent : Metainfo
   pub trees : List Facts
