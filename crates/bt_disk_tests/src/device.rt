@@ -60,6 +60,7 @@ fn memory_device_row(
         "memory" => memory_row(alloc, device, false, words, out),
         "faulty" => memory_row(alloc, device, true, words, out),
         "crash" => crash_row(device, words, out),
+        "image" => image_row(alloc, device, words, out),
         "set" => setting_row(device, words, out),
         "bytes" => bytes_row(alloc, device, out),
         "opening" => opening_row(device, out),
@@ -161,6 +162,31 @@ fn crash_row(device: &mut Device<'_>, words: &mut Words, out: &mut String) -> Re
 
 fn crashed<'a>(disk: MemoryDisk, loss: Loss) -> Device<'a> {
     Device::Memory(disk.after_crash(loss))
+}
+
+/// The bytes that a crash would leave of a device in memory, also inside of one of faults.
+fn image_row(
+    alloc: Global,
+    device: &Device<'_>,
+    words: &mut Words,
+    out: &mut String,
+) -> Result<(), RowError> {
+    let loss = loss_from(words)?;
+    match device {
+        Device::Memory(disk) => tell_image(alloc, out, disk, loss),
+        Device::Faulty(disk) => tell_image(alloc, out, disk.inner(), loss),
+        _ => Err(RowError::Unread),
+    }
+}
+
+fn tell_image(
+    alloc: Global,
+    out: &mut String,
+    disk: &MemoryDisk,
+    loss: Loss,
+) -> Result<(), RowError> {
+    let image = disk.image(loss)?;
+    tell_bytes(alloc, out, &image)
 }
 
 fn loss_from(words: &mut Words) -> Result<Loss, RowError> {

@@ -49,7 +49,9 @@ pub fn tell_hints(alloc: Global, out: &mut String, hints: &Hints) -> Result<(), 
 fn tell_hint(alloc: Global, out: &mut String, hint: LentHint<'_>) -> Result<(), RowError> {
     match hint {
         LentHint::Proof(key, digests) => tell_proof(alloc, out, &key, digests),
-        LentHint::Mark { file, block } => Ok(write!(out, ", mark {file} {block}")?),
+        LentHint::Marks { file, first, count } => {
+            Ok(write!(out, ", marks {file} {first} {count}")?)
+        }
     }
 }
 

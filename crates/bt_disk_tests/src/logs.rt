@@ -160,10 +160,12 @@ fn end_row(log: &mut Log, device: &mut Device<'_>, out: &mut String) -> Result<(
     tell(out, "a device")
 }
 
-/// What opening a log answers on a device of a length, of which no read, write or sync succeeds.
+/// What opening a log answers on a device of a length, of which no read succeeds but one of its first bytes, and
+/// no write or sync.
 fn unreadable_row(alloc: Global, words: &mut Words, out: &mut String) -> Result<(), RowError> {
     let len = words.long()?;
-    match ResumeLog::attach(alloc, Unreadable::new(len), [5; 32]) {
+    let front = words.bytes(alloc)?;
+    match ResumeLog::attach(alloc, Unreadable::new(len, front), [5; 32]) {
         Ok(_) => tell(out, "a log"),
         Err(refused) => tell_cause(out, refused.cause),
     }
@@ -191,24 +193,31 @@ fn call_row<D: Disk + Drop>(
     out: &mut String,
 ) -> Result<(), RowError> {
     match name {
-        "mark" => mark_row(log, words, out),
+        "marks" => marks_row(log, words, out),
         "proof" => proof_row(alloc, log, words, out),
         "flush" => tell_done(out, flushed(log)),
         "reload" => reload_row(log, out),
         "hints" => tell_hints(alloc, out, hints_of(log)),
+        "format" => tell_format(out, log),
         _ => Err(RowError::Unread),
     }
 }
 
-/// A mark of a file and a block.
-fn mark_row<D: Disk + Drop>(
+/// Marks of a file: the first block, and how many.
+fn marks_row<D: Disk + Drop>(
     log: &mut ResumeLog<D>,
     words: &mut Words,
     out: &mut String,
 ) -> Result<(), RowError> {
     let file = words.number()?;
-    let block = words.number()?;
-    tell_appended(out, appended(log, &Hint::Mark { file, block }))
+    let first = words.number()?;
+    let count = words.number()?;
+    tell_appended(out, appended(log, &Hint::Marks { file, first, count }))
+}
+
+fn tell_format<D: Disk + Drop>(out: &mut String, log: &ResumeLog<D>) -> Result<(), RowError> {
+    let format = log.format();
+    Ok(write!(out, "{format}")?)
 }
 
 /// A proof: its key and its digests.

@@ -1,4 +1,4 @@
-//! A device that says how long it is, and of which no read, write or sync succeeds.
+//! A device that says how long it is, and of which no read succeeds but one of its first bytes.
 ghost use Rattle.std.specs.Prelude.{◌≡◌, []};
 ghost use Rattle.bt_disk.specs.Limits.{one_more};
 
@@ -7,12 +7,17 @@ use bt_disk::{DeviceFault, Disk};
 #[derive(Drop)]
 pub struct Unreadable {
     len: u64,
+    front: Vec<u8>,
     faults: u64,
 }
 
 impl Unreadable {
-    pub fn new(len: u64) -> Self {
-        Unreadable { len, faults: 0 }
+    pub fn new(len: u64, front: Vec<u8>) -> Self {
+        Unreadable {
+            len,
+            front,
+            faults: 0,
+        }
     }
 
     fn fault(&mut self) -> DeviceFault
@@ -38,8 +43,13 @@ impl Disk for Unreadable {
         Ok(self.len)
     }
 
-    fn read_at(&mut self, _: u64, _: &mut [u8]) -> Result<usize, DeviceFault> {
-        Err(self.fault())
+    fn read_at(&mut self, at: u64, out: &mut [u8]) -> Result<usize, DeviceFault> {
+        let count = out.len();
+        if at != 0 || count > self.front.len() {
+            return Err(self.fault());
+        }
+        out.copy_from_slice(&self.front[..count]);
+        Ok(count)
     }
 
     fn write_at(&mut self, _: u64, _: &[u8]) -> Result<(), DeviceFault> {
