@@ -1,11 +1,10 @@
 -- What a log records, and how it is spelled. The formats are this project's own.
 use Rattle.std.specs.Prelude.{◌≡◌, ◌≢◌, ℕ, ◌+◌, ◌^◌, ◌<◌, ◌≤◌, List, [], ◌∷◌, ◌++◌, length, flat_map, All}
 use Rattle.std.specs.Int.{w32, to_be_bytes}
-use Rattle.bt_tree.specs.Limits.{digest_length}
+use Rattle.bt_tree.specs.Limits.{digest_length, max_block_count}
 use Rattle.bt_sparse.specs.Answer.{answer_size}
 use Rattle.bt_hashreq.specs.Key.{key_spelling, IsKey}
 use Rattle.bt_hashreq.specs.Claim.{HasShape}
-use Rattle.bt_resume.specs.Limits.{max_block_count}
 use Rattle.bt_resume.specs.declared.hint.Format.{Format}
 use Rattle.bt_resume.specs.declared.hint.Format.TheVariants.{One, Two}
 use Rattle.bt_resume.specs.declared.hint.Hint.{Hint}

@@ -9,10 +9,6 @@ header_length = 40
 abbrev pub max_log_length : ℕ
 max_log_length = 2 ^ 40
 
--- no file has more blocks
-abbrev pub max_block_count : ℕ
-max_block_count = 2 ^ 26
-
 -- a proof's bytes in front of its digests, all bytes of a mark, and all of a run of marks
 abbrev pub proof_front_length : ℕ
 proof_front_length = 49

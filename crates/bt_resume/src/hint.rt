@@ -5,6 +5,9 @@ use bt_hashreq::{HashKey, digest_count};
 use bt_sparse::Digests;
 use bt_tree::Hash32;
 
+/// No file has more blocks.
+const MAX_BLOCK_COUNT: u64 = 1 << 26;
+
 /// The formats of a log, which spell marks one by one, or as runs.
 #[derive(Clone, Copy, Debug, PartialEq, Eq)]
 pub enum Format {
@@ -40,9 +43,6 @@ impl Hint {
         }
     }
 }
-
-/// No file has more blocks.
-const MAX_BLOCK_COUNT: u64 = 1 << 26;
 
 /// Whether a run has a block at least, and ends where a file may end.
 pub(crate) fn is_run(first: u32, count: u32) -> bool

@@ -104,8 +104,8 @@ impl<D: Disk + Drop> ResumeLog<D> {
         &self.hints
     }
 
-    /// In which format the next hint would go on: 2 in a new log, and in a log of format 1 from the first hint
-    /// on that is appended, unless it is forgotten; else 1.
+    /// In which format the log goes on: 1 in a log of format 1 as long as the byte `2` does not stand behind its
+    /// last hint, or is forgotten; else 2.
     pub fn format(&self) -> u8
         ensures { result ≡ format_number self.now.format }
     {
