@@ -36,8 +36,8 @@ module _ {D : Type 0} (history : D → History) (honest : D → Type 0) (faults 
   IsHeaderCheck infohash old (Err OutOfMemory) new = ⊥
 
   -- what is read at the front of a part of the device, where the log is in a format
-  pub record IsWindow (at room : ℕ) (old : D) (format : Format) (taken : LogText) (used : ℕ) (new : D) :
-      Type 0 where
+  pub record IsWindow (at room : ℕ) (old : D) (format : Format) (taken : LogText) (used : ℕ) (new : D)
+      : Type 0 where
     pub calls : HasCalls history honest faults old [] new
     pub begins : BeginsIn format taken
     pub lawful : IsText taken

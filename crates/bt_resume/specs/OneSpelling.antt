@@ -124,7 +124,8 @@ same_run f g b c n m x y p q e =
     (to_be_bytes w32 c ++ (to_be_bytes w32 m ++ y)) p.typed.0 q.typed.0
     (sym (in_three (to_be_bytes w32 f) (to_be_bytes w32 b) (to_be_bytes w32 n) x) ∙ e
     ∙ in_three (to_be_bytes w32 g) (to_be_bytes w32 c) (to_be_bytes w32 m) y) in
-    let second = next_number b c (to_be_bytes w32 n ++ x) (to_be_bytes w32 m ++ y) p.typed.1 q.typed.1 first.1 in
+    let second = next_number b c (to_be_bytes w32 n ++ x) (to_be_bytes w32 m ++ y) p.typed.1 q.typed.1
+    first.1 in
     let third = next_number n m x y p.typed.2 q.typed.2 second.1 in
     (ap (λ i. Marks i b n) first.0 ∙ ap (λ i. Marks g i n) second.0 ∙ ap (λ i. Marks g c i) third.0, third.1)
 
@@ -134,8 +135,10 @@ first_byte a b x y e = ap (λ xs. get_or xs 0 0) e
 pub same_hint : (format : Format) (a b : Hint) (x y : List ℕ) → IsHint format a → IsHint format b
     → hint_spelling format a ++ x ≡ hint_spelling format b ++ y → (a ≡ b) × (x ≡ y)
 same_hint f (Proof k ds) (Proof l es) x y p q e = same_proof f k l ds es x y p q (ap (λ xs. drop 1 xs) e)
-same_hint One (Marks f b n) (Marks g c m) x y p q e = same_mark f g b c n m x y p q (ap (λ xs. drop 1 xs) e)
-same_hint Two (Marks f b n) (Marks g c m) x y p q e = same_run f g b c n m x y p q (ap (λ xs. drop 1 xs) e)
+same_hint One (Marks f b n) (Marks g c m) x y p q e =
+    same_mark f g b c n m x y p q (ap (λ xs. drop 1 xs) e)
+same_hint Two (Marks f b n) (Marks g c m) x y p q e =
+    same_run f g b c n m x y p q (ap (λ xs. drop 1 xs) e)
 same_hint One (Proof k ds) (Marks g c m) x y p q e = absurd (omega (arith, first_byte _ _ _ _ e))
 same_hint Two (Proof k ds) (Marks g c m) x y p q e = absurd (omega (arith, first_byte _ _ _ _ e))
 same_hint One (Marks f b n) (Proof l es) x y p q e = absurd (omega (arith, first_byte _ _ _ _ e))
@@ -183,7 +186,8 @@ first_hints f (a ∷ hs) (b ∷ bs) x y p q none e =
     (All-head (IsHint f) a hs p) (All-head (IsHint f) b bs q)
     (sym (append_assoc (hint_spelling f a) (hints_spelling f hs) x) ∙ e
     ∙ append_assoc (hint_spelling f b) (hints_spelling f bs) y) in
-    let behind = first_hints f hs bs x y (All-tail (IsHint f) a hs p) (All-tail (IsHint f) b bs q) none first.1 in
+    let behind = first_hints f hs bs x y (All-tail (IsHint f) a hs p) (All-tail (IsHint f) b bs q)
+    none first.1 in
     record {
       more = behind.more;
       lawful = behind.lawful;
@@ -214,7 +218,8 @@ byte_renews x y e = ap (λ xs. take 1 xs) e
 pub same_text : (format : Format) (a b : LogText) (x y : List ℕ) → BeginsIn format a → BeginsIn format b
     → IsText a → IsText b → EndsIn (format_of a) x → EndsIn (format_of b) y
     → body_spelling a ++ x ≡ body_spelling b ++ y → a ≡ b
-same_text Two (of_two hs) (of_two bs) x y f g p q u v e = ap (λ l. of_two l) (same_hints Two hs bs x y p q u v e).0
+same_text Two (of_two hs) (of_two bs) x y f g p q u v e =
+    ap (λ l. of_two l) (same_hints Two hs bs x y p q u v e).0
 same_text One (of_one hs) (of_one bs) x y f g p q u v e =
     ap (λ l. of_one l) (same_hints One hs bs x y p q u.0 v.0 e).0
 same_text One (of_one hs) (renewed bs cs) x y f g p q u v e =
@@ -229,7 +234,8 @@ same_text One (renewed hs cs) (of_one bs) x y f g p q u v e =
     absurd (v.1 (byte_renews y (hints_spelling Two cs ++ x) same.1))
 same_text One (renewed hs cs) (renewed bs ds) x y f g p q u v e =
     let none = renewal_begins_none One in
-    let olds = same_hints One hs bs (50 ∷ hints_spelling Two cs ++ x) (50 ∷ hints_spelling Two ds ++ y) p.0 q.0
+    let olds = same_hints One hs bs (50 ∷ hints_spelling Two cs ++ x) (50 ∷ hints_spelling Two ds ++ y)
+    p.0 q.0
     (none (hints_spelling Two cs ++ x)) (none (hints_spelling Two ds ++ y))
     (sym (append_assoc (hints_spelling One hs) (50 ∷ hints_spelling Two cs) x) ∙ e
     ∙ append_assoc (hints_spelling One bs) (50 ∷ hints_spelling Two ds) y) in

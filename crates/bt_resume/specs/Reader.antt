@@ -29,7 +29,8 @@ pub record IsTaken (format : Format) (bytes : List ℕ) (text : LogText) (used :
   pub longest : EndsIn (format_of text) (drop used bytes)
 
 -- the bytes spell this text, which ends in this format and has so many hints
-pub record IsCounted (format : Format) (bytes : List ℕ) (text : LogText) (end : Format) (count : ℕ) : Type 0 where
+pub record IsCounted (format : Format) (bytes : List ℕ) (text : LogText) (end : Format) (count : ℕ)
+    : Type 0 where
   pub spelled : AreSpelled format bytes text
   pub end_is : end ≡ format_of text
   pub count_is : count ≡ length (hints_in text)

@@ -71,7 +71,8 @@ module _ {D : Type 0} (history : D → History) (honest : D → Type 0) (faults 
         → OfBytes old (λ bytes. HasHeader infohash bytes × (length bytes ≤ max_log_length))
         → Reads infohash old (Err Device) new
 
-  -- A log was opened, or why it was not: an empty device is given a header of format 2, and any other is read.
+  -- A log was opened, or why it was not: an empty device is given a header of format 2, and any other is
+  -- read.
   pub data Opens (infohash : List ℕ) (old : D) : Result LogText LogError → D → Type 0 where
     opened : (result : Result LogText LogError) (new : D) → OfBytes old (λ bytes. bytes ≢ [])
         → Reads infohash old result new → Opens infohash old result new
