@@ -1,9 +1,8 @@
 -- A request book: the blocks that are wanted, the peers, and what each of them is asked for.
-use Rattle.std.specs.Prelude.{◌≡◌, ◌≢◌, ℕ, ◌<◌, ◌≤◌, ◌==◌, Bool, true, false, not, if◌then◌else◌, List, [], ◌∷◌, ◌++◌, length, map, replicate, filter, count_by, sum_by, ◌⊎◌, All, Contains}
-use Rattle.std.specs.List.{AllPairs}
+use Rattle.std.specs.Prelude.{◌≡◌, ◌≢◌, ℕ, ◌<◌, ◌≤◌, ◌==◌, Bool, true, false, not, if◌then◌else◌, List, [], ◌∷◌, ◌++◌, length, map, replicate, filter, count_by, sum_by, slice_index_or, take, ◌⊎◌}
 use Rattle.bt_book.specs.declared.names.PeerKey.{PeerKey}
 use Rattle.bt_book.specs.declared.names.BlockId.{BlockId}
-use Rattle.bt_book.specs.Blocks.{Blocks, member, with_block, is_block, IsBefore}
+use Rattle.bt_book.specs.Blocks.{Blocks, member, member_count, with_block, is_block, IsBefore, says}
 
 -- the blocks that a peer is asked for, in the order of asking
 pub record PeerRequests : Type 0 where
@@ -25,6 +24,14 @@ max_peers = 64
 
 abbrev pub max_requests : ℕ
 max_requests = 16
+
+-- each block asked of at most so many peers
+abbrev pub max_askers : ℕ
+max_askers = 3
+
+-- and of one that others are asked for, too, only while at most so many blocks are wanted
+abbrev pub max_in_endgame : ℕ
+max_in_endgame = 16
 
 abbrev pub is_of : PeerKey → PeerRequests → Bool
 is_of key r = r.peer.0 == key.0
@@ -59,10 +66,26 @@ pairs_in peers b = sum_by (λ r. count_by (is_block b) r.blocks) peers
 abbrev pub pair_count : BookState → BlockId → ℕ
 pair_count book b = pairs_in book.peers b
 
--- the block may be asked: it is wanted, and no peer is asked for it
+-- how many blocks are wanted
+abbrev pub wanted_count : BookState → ℕ
+wanted_count book = member_count book.wanted
+
+-- the block may be asked of any peer: it is wanted, and no peer is asked for it
 pub record IsUnasked (book : BookState) (b : BlockId) : Type 0 where
   pub wanted : member book.wanted b ≡ true
   pub free : pair_count book b ≡ 0
+
+-- it may be asked of this peer beside others: few blocks are wanted, this one among them, the peer is not
+-- asked for it yet, and fewer than three are
+pub record IsShareable (book : BookState) (key : PeerKey) (b : BlockId) : Type 0 where
+  pub endgame : wanted_count book ≤ max_in_endgame
+  pub wanted : member book.wanted b ≡ true
+  pub apart : count_by (is_block b) (asked_of book key) ≡ 0
+  pub room : pair_count book b < max_askers
+
+-- it may be asked of this peer
+abbrev pub CanAsk : BookState → PeerKey → BlockId → Type 0
+CanAsk book key b = IsUnasked book b ⊎ IsShareable book key b
 
 -- ---- what the calls change
 -- this peer's blocks are changed, and no other's
@@ -106,23 +129,38 @@ with_done book b = record {
   peers = map (without_block_of b) book.peers;
 }
 
--- the least block that may be asked of which `has` says true, where `has b r` is that it may say r of b
+-- the least block that no peer is asked for of which `has` says true, where `has b r` is that it may say r of b
 pub record IsLeastUnasked (has : BlockId → Bool → Type 0) (book : BookState) (b : BlockId) : Type 0 where
   pub unasked : IsUnasked book b
   pub held : has b true
   pub least : (c : BlockId) → IsBefore c b → IsUnasked book c → has c false
 
--- of every block that may be asked it says false
+-- of every block that no peer is asked for it says false
 abbrev pub HasNoneUnasked : (BlockId → Bool → Type 0) → BookState → Type 0
 HasNoneUnasked has book = (c : BlockId) → IsUnasked book c → has c false
 
--- Of the blocks that may be asked and of which `has` is true these are the first: they ascend, and each other
--- one stands behind them all.
-pub record AreFirstUnasked (has : BlockId → Bool) (book : BookState) (blocks : List BlockId) : Type 0 where
-  pub held : All (λ b. has b ≡ true) blocks
-  pub ascending : AllPairs IsBefore blocks
-  pub first : (c : BlockId) → IsUnasked book c → has c ≡ true
-      → Contains blocks c ⊎ All (λ b. IsBefore b c) blocks
+-- the least block that may be asked of the peer beside others of which it says true
+pub record IsLeastShareable (has : BlockId → Bool → Type 0) (book : BookState) (key : PeerKey) (b : BlockId)
+    : Type 0 where
+  pub shareable : IsShareable book key b
+  pub held : has b true
+  pub least : (c : BlockId) → IsBefore c b → IsShareable book key c → has c false
+
+-- The block that the peer is asked for next: the least one that no peer is asked for; only where there is
+-- none, the least one that may be asked of it beside others.
+pub data IsNextAsked (has : BlockId → Bool → Type 0) (book : BookState) (key : PeerKey) (b : BlockId)
+    : Type 0 where
+  alone : IsLeastUnasked has book b → IsNextAsked has book key b
+  beside : HasNoneUnasked has book → IsLeastShareable has book key b → IsNextAsked has book key b
+
+-- of every block that may be asked of the peer it says false
+abbrev pub HasNoneToAsk : (BlockId → Bool → Type 0) → BookState → PeerKey → Type 0
+HasNoneToAsk has book key = (c : BlockId) → CanAsk book key c → has c false
+
+-- each of these blocks is the one that the peer is asked for next once it is asked for those before it
+abbrev pub AreAskedInTurn : (BlockId → Bool) → BookState → PeerKey → List BlockId → Type 0
+AreAskedInTurn has book key blocks = (i : ℕ) (d : BlockId) → i < length blocks
+    → IsNextAsked (says has) (with_pairs book key (take i blocks)) key (slice_index_or blocks i d)
 
 -- a test is true of a wanted block
 abbrev pub HasWanted : (BlockId → Bool) → BookState → Type 0
@@ -137,5 +175,6 @@ pub record IsBook (book : BookState) : Type 0 where
   pub few : length book.peers ≤ max_peers
   pub once : (key : PeerKey) → count_by (is_of key) book.peers ≤ 1
   pub short : (key : PeerKey) → length (asked_of book key) ≤ max_requests
-  pub single : (b : BlockId) → pair_count book b ≤ 1
+  pub apart : (key : PeerKey) (b : BlockId) → count_by (is_block b) (asked_of book key) ≤ 1
+  pub shared : (b : BlockId) → pair_count book b ≤ max_askers
   pub wanted : (b : BlockId) → 0 < pair_count book b → member book.wanted b ≡ true

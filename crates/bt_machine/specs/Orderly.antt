@@ -4,11 +4,11 @@ use Rattle.std.specs.List.{AllPairs}
 use Rattle.bt_meta.specs.Torrent.{Metainfo, total_pieces}
 use Rattle.bt_store.specs.declared.block_states.BlockState.TheVariants.{Missing}
 use Rattle.bt_book.specs.declared.names.BlockId.{BlockId}
-use Rattle.bt_book.specs.Book.{max_peers, max_requests}
+use Rattle.bt_book.specs.Book.{max_peers, max_requests, max_askers}
 use Rattle.bt_machine.specs.declared.event.Event.{Event}
 use Rattle.bt_machine.specs.State.{PeerState, EngineState}
 use Rattle.bt_machine.specs.Devices.{DeviceCalls}
-use Rattle.bt_machine.specs.Blocks.{state_at}
+use Rattle.bt_machine.specs.Blocks.{state_at, asker_count}
 use Rattle.bt_machine.specs.Start.{Starts}
 use Rattle.bt_machine.specs.declared.event.Answer.{Answer}
 use Rattle.bt_machine.specs.Step.{Step, Run}
@@ -23,14 +23,11 @@ pub record IsOrderlyPeer (s : EngineState) (p : PeerState) : Type 0 where
   pub once : AllPairs (λ b c. b ≢ c) p.asked
   pub missing : (b : BlockId) → Contains p.asked b → state_at s b ≡ Some Missing
 
-abbrev pub AskedApart : PeerState → PeerState → Type 0
-AskedApart p q = (b : BlockId) → Contains p.asked b → ¬ Contains q.asked b
-
--- At most 64 peers are connected, in the order of their keys, and no block is asked of two of them.
+-- At most 64 peers are connected, in the order of their keys, and no block is asked of more than three.
 pub record IsOrderly (s : EngineState) : Type 0 where
   pub few : length s.peers ≤ max_peers
   pub in_order : AllPairs (λ p q. p.key.0 < q.key.0) s.peers
-  pub apart : AllPairs AskedApart s.peers
+  pub shared : (b : BlockId) → asker_count s b ≤ max_askers
   pub each : (p : PeerState) → Contains s.peers p → IsOrderlyPeer s p
 
 abbrev pub StartsInOrder : (List ℕ → List ℕ) → Type 0
