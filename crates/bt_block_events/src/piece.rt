@@ -1,33 +1,38 @@
 ghost use Rattle.std.specs.Prelude.{◌≡◌, ◌<◌, Some, length, map, vec_len};
-ghost use Rattle.bt_book.specs.Book.{pair_count};
 ghost use Rattle.bt_machine.specs.Arrival.{HasPutEffect};
 ghost use Rattle.bt_machine.specs.Blocks.{state_at};
 ghost use Rattle.bt_machine.specs.Shape.{IsShaped};
 ghost use Rattle.bt_state.specs.Parts.{state_of};
 ghost use Rattle.bt_state.specs.Ties.{IsTied};
-ghost use Rattle.bt_block_events.specs.Piece.{TakesPiece, effect_of};
+ghost use Rattle.bt_block_events.specs.Piece.{TakesPiece, effect_of, cancels_to};
 ghost use Rattle.bt_block_events.specs.PieceSteps.{CanPut, IsBlockOf, IsOfMissing, PutsBlock, PutsInSlot, state_after};
 
 use crate::spans::block_of;
-use bt_book::BlockId;
+use arrayvec::ArrayVec;
+use bt_book::{BlockId, MAX_ASKERS, PeerKey};
 use bt_disk::Disk;
 use bt_machine::{Note, Why};
 use bt_sparse::SparseTree;
 use bt_state::{Parts, Slot, follow_block};
 use bt_store::{BlockState, Put, StoreError};
 use bt_tree::NodeHash;
+use bt_wire::Ask;
 
 /// What is said of a message that came.
-#[derive(Clone, Copy, Debug, PartialEq, Eq)]
+#[derive(Debug, Drop)]
 pub enum Effect {
     /// The peer stays, and this is noted.
     Noted(Note),
+    /// The block is stored, and this is noted. These other peers, in the order of their keys, were asked for
+    /// it, too: each is sent a cancel of this range.
+    Stored(Note, Ask, ArrayVec<PeerKey, MAX_ASKERS>),
     /// The peer is closed.
     Closed(Why),
 }
 
 /// Takes bytes of a piece, from the byte `begin` on, that come from the peer at `index`: where they are all
-/// of a block that it is asked for, they are put into the file's store, and it is asked for it no more.
+/// of a block that it is asked for, they are put into the file's store, and it is asked for it no more; once
+/// they are stored, nobody is.
 pub fn take_piece<D: Disk + Drop, H: NodeHash>(
     parts: &mut Parts<D, H>,
     index: usize,
@@ -55,28 +60,36 @@ pub fn take_piece<D: Disk + Drop, H: NodeHash>(
         return Effect::Noted(Note::Stale);
     }
     peer.payload = peer.payload.saturating_add(bytes.len() as u64);
-    put_block(parts, block, bytes)
+    let ask = Ask {
+        piece,
+        begin,
+        length: bytes.len() as u32,
+    };
+    put_block(parts, block, ask, bytes)
 }
 
-/// Puts a missing block that no peer is asked for into the store of its file, and says what became of it.
+/// Puts a missing block, which came as this range, into the store of its file, and says what became of it.
+/// Where it is stored, nobody is asked for it any longer.
 fn put_block<D: Disk + Drop, H: NodeHash>(
     parts: &mut Parts<D, H>,
     block: BlockId,
+    ask: Ask,
     bytes: &[u8],
 ) -> Effect
     requires tied { IsTied parts.old }
     requires shaped { IsShaped parts.old.torrent (state_of parts.old) }
     requires missing { state_at (state_of parts.old) block ≡ Some BlockState.Missing }
-    requires alone { pair_count parts.old.book block ≡ 0 }
     requires whole { IsBlockOf parts.old.torrent block bytes.now }
-    ensures puts { PutsBlock D.history D.honest D.faults H.digest parts.old block bytes.now result parts.new }
+    ensures puts { PutsBlock D.history D.honest D.faults H.digest parts.old block ask bytes.now result
+        parts.new }
     ensures torrent { parts.new.torrent ≡ parts.old.torrent }
     ensures peers { parts.new.peers ≡ parts.old.peers }
     ensures tied { IsTied parts.new }
 {
     let answer = put_in_slot(&mut parts.slots, &parts.trees, block, bytes);
+    let others = parts.book.asked(block);
     follow_block(parts, block, BlockState::Missing, state_after(answer));
-    effect_of(answer, block)
+    effect_of(answer, block, ask, others)
 }
 
 /// Puts a missing block, of which these are all bytes, into the store of its file.
@@ -113,13 +126,18 @@ fn state_after(answer: Result<Put, StoreError>) -> BlockState
 }
 
 /// What is said of a missing block of which all bytes came, by what its store answered.
-fn effect_of(answer: Result<Put, StoreError>, block: BlockId) -> Effect
+fn effect_of(
+    answer: Result<Put, StoreError>,
+    block: BlockId,
+    ask: Ask,
+    others: ArrayVec<PeerKey, MAX_ASKERS>,
+) -> Effect
     requires { IsOfMissing answer }
-    ensures { HasPutEffect block answer (effect_of result) }
+    ensures { HasPutEffect block (cancels_to ask others.items) answer (effect_of result) }
 {
     match answer {
-        Ok(Put::Marked) => Effect::Noted(Note::Marked(block)),
-        Ok(Put::Waiting) => Effect::Noted(Note::Waiting(block)),
+        Ok(Put::Marked) => Effect::Stored(Note::Marked(block), ask, others),
+        Ok(Put::Waiting) => Effect::Stored(Note::Waiting(block), ask, others),
         Ok(Put::Wrong) => Effect::Closed(Why::WrongBlock),
         Ok(Put::Already) => unreachable!(),
         Err(StoreError::Range) => unreachable!(),

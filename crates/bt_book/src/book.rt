@@ -1,11 +1,13 @@
-ghost use Rattle.std.specs.Prelude.{◌≡◌, ◌<◌, ◌≤◌, ◌+◌, ◌↔◌, ◌⊎◌, Bool, true, [], ◌∷◌, ◌++◌, ◌==◌, ◌≢◌, not, length, map, filter, All, Contains, count_by, IsTrue, IfSome, OnSome, IfNone, IfOk};
+ghost use Rattle.std.specs.Prelude.{◌≡◌, ◌<◌, ◌≤◌, ◌+◌, ◌↔◌, ◌⊎◌, Bool, true, false, [], ◌∷◌, ◌++◌, ◌==◌, ◌≢◌, not, length, map, filter, All, Contains, count_by, if◌then◌else◌, Option, Some, IsTrue, IfSome, OnSome, IfNone, IfOk};
 ghost use Rattle.std.specs.List.{AllPairs};
 ghost use Rattle.std.specs.Bool.{OnTrue, OnFalse};
-ghost use Rattle.bt_book.specs.Blocks.{IsInRange, is_block, says, GivesFirst};
-ghost use Rattle.bt_book.specs.Book.{IsJoined, IsUnasked, peers_of, empty_book, asked_of, with_peer, without_peer, with_pair, with_pairs, without_pair, without_pairs_of, with_wanted, with_done, without_block, without_block_of, IsLeastUnasked, HasNoneUnasked, AreFirstUnasked, HasWanted, HasNoneWanted, IsBook, IsPair, pair_count, KeepsOthers, max_peers, max_requests};
-ghost use Rattle.bt_book.specs.BookSteps.{AreAdded, CanAdd, IsIndexOf, HasRoomAt};
+ghost use Rattle.bt_book.specs.Blocks.{IsInRange, is_block, with_block, says, GivesFirst};
+ghost use Rattle.bt_book.specs.Book.{IsJoined, CanAsk, IsShareable, peers_of, empty_book, asked_of, with_peer, without_peer, with_pair, with_pairs, without_pair, without_pairs_of, with_wanted, with_done, without_block, without_block_of, IsNextAsked, HasNoneToAsk, IsLeastShareable, AreAskedInTurn, HasWanted, HasNoneWanted, IsBook, IsPair, pair_count, pairs_in, KeepsOthers, max_peers, max_requests};
+ghost use Rattle.bt_book.specs.Choking.{IsAscending};
+ghost use Rattle.bt_book.specs.BookSteps.{AreFreed, CanJoin, HasEachOnce, IsIndexOf, HasRoomAt};
 
 use crate::block_set::BlockSet;
+use crate::choking::insert;
 use crate::names::{BlockId, PeerKey};
 use crate::requests::{MAX_REQUESTS, Requests, index_of};
 use arrayvec::ArrayVec;
@@ -15,17 +17,28 @@ use std::marker::Model;
 /// How many peers are connected at most.
 const MAX_PEERS: usize = 64;
 
-/// Which blocks are wanted, and which peer is asked for which of them.
+/// How many peers are asked for one block at most.
+pub const MAX_ASKERS: usize = 3;
+
+/// How many blocks are wanted at most where one of them is asked of a peer beside others.
+const MAX_IN_ENDGAME: u64 = 16;
+
+/// Which blocks are wanted, and which peers are asked for which of them.
 ///
-/// At most 64 peers have joined. A wanted block is asked of at most one of them, and each of them is asked
-/// for at most 16 blocks. Only `new` takes memory.
+/// At most 64 peers have joined, and each of them is asked for at most 16 blocks. A wanted block is asked of
+/// one peer, and while at most 16 blocks are wanted of up to three (*endgame*). Where more become wanted, the
+/// pairs stay. Only `new` takes memory.
 #[derive(Drop)]
 pub struct Book {
     wanted: BlockSet,
+    wanted_count: u64,
     /// The wanted blocks that no peer is asked for.
     unasked: BlockSet,
     /// What each peer is asked for, in the order of joining.
     peers: Vec<Requests>,
+    /// Whether a block was ever asked of a peer beside others. Until then each block is in one pair at most:
+    /// one that leaves its pair is in none, without a look at what the others are asked for.
+    has_shared: bool,
 }
 
 impl Model for Book {
@@ -37,7 +50,8 @@ impl Model for Book {
 
     ghost view = { λ b. record { wanted = b.wanted; peers = b.peers.items } };
 
-    ghost invariant = { λ b. IsKept b.wanted b.unasked b.peers.items × (max_peers ≤ vec_capacity b.peers) };
+    ghost invariant = { λ b. IsKept b.wanted b.wanted_count b.unasked b.peers.items b.has_shared
+        × (max_peers ≤ vec_capacity b.peers) };
 }
 
 impl Book {
@@ -48,8 +62,10 @@ impl Book {
     {
         Ok(Book {
             wanted: BlockSet::new(alloc, blocks)?,
+            wanted_count: 0,
             unasked: BlockSet::new(alloc, blocks)?,
             peers: Vec::with_capacity(alloc, MAX_PEERS)?,
+            has_shared: false,
         })
     }
 
@@ -74,13 +90,19 @@ impl Book {
     pub fn lost(&mut self, peer: PeerKey)
         ensures now { self.new ≡ without_peer self.old peer }
         ensures nothing_asked { asked_of self.new peer ≡ [] }
-        ensures free { (block : BlockId) → IsPair self.old peer block → pair_count self.new block ≡ 0 }
+        ensures fewer { (block : BlockId) → IsPair self.old peer block
+            → pair_count self.new block + 1 ≡ pair_count self.old block }
         ensures others { KeepsOthers self.old self.new peer }
         ensures peers { peers_of self.new ≡ filter (λ key. not (key.0 == peer.0)) (peers_of self.old) }
     {
         if let Some(index) = index_of(&self.peers, peer) {
-            add_all(&mut self.unasked, self.peers[index].blocks());
-            self.peers.remove(index);
+            let gone = self.peers.remove(index);
+            free_blocks(
+                &mut self.unasked,
+                &self.peers,
+                self.has_shared,
+                gone.blocks(),
+            );
         }
     }
 
@@ -89,23 +111,30 @@ impl Book {
     pub fn choked(&mut self, peer: PeerKey)
         ensures now { self.new ≡ without_pairs_of self.old peer }
         ensures nothing_asked { asked_of self.new peer ≡ [] }
-        ensures free { (block : BlockId) → IsPair self.old peer block → pair_count self.new block ≡ 0 }
+        ensures fewer { (block : BlockId) → IsPair self.old peer block
+            → pair_count self.new block + 1 ≡ pair_count self.old block }
         ensures others { KeepsOthers self.old self.new peer }
         ensures peers { peers_of self.new ≡ peers_of self.old }
     {
         if let Some(index) = index_of(&self.peers, peer) {
-            add_all(&mut self.unasked, self.peers[index].blocks());
-            self.peers[index].clear();
+            let dropped = self.peers[index].take();
+            free_blocks(
+                &mut self.unasked,
+                &self.peers,
+                self.has_shared,
+                dropped.as_slice(),
+            );
         }
     }
 
-    /// Drops the pair of a peer and a block. False where there is none; nothing changes then.
+    /// Drops the pair of a peer and a block, and no other pair of the block. False where there is none;
+    /// nothing changes then.
     #[tactic(auto, using(crate::proofs::Steps::peer_steps))]
     pub fn came(&mut self, peer: PeerKey, block: BlockId) -> bool
         ensures was { IsTrue result ↔ IsPair self.old peer block }
         ensures now { self.new ≡ without_pair self.old peer block }
         ensures asked { asked_of self.new peer ≡ without_block block (asked_of self.old peer) }
-        ensures free { OnTrue result (pair_count self.new block ≡ 0) }
+        ensures fewer { OnTrue result (pair_count self.new block + 1 ≡ pair_count self.old block) }
         ensures kept { OnFalse result (self.new ≡ self.old) }
         ensures others { KeepsOthers self.old self.new peer }
         ensures peers { peers_of self.new ≡ peers_of self.old }
@@ -116,7 +145,7 @@ impl Book {
         if !self.peers[index].forget(block) {
             return false;
         }
-        self.unasked.insert(block);
+        free_block(&mut self.unasked, &self.peers, self.has_shared, block);
         true
     }
 
@@ -136,11 +165,12 @@ impl Book {
     {
         if !self.wanted.contains(block) {
             self.wanted.insert(block);
+            self.wanted_count += 1;
             self.unasked.insert(block);
         }
     }
 
-    /// A block is wanted no more, and the pair that it is in is dropped.
+    /// A block is wanted no more, and the pairs that it is in are dropped.
     pub fn done(&mut self, block: BlockId)
         requires { IsInRange self.old.wanted block }
         ensures now { self.new ≡ with_done self.old block }
@@ -153,6 +183,7 @@ impl Book {
             return;
         }
         self.wanted.remove(block);
+        self.wanted_count -= 1;
         if self.unasked.contains(block) {
             self.unasked.remove(block);
         } else {
@@ -160,13 +191,32 @@ impl Book {
         }
     }
 
-    /// Asks a peer for the least wanted block of which `has` says that the peer has it and that no peer is
-    /// asked for: the two are a pair from now on. None where there is no such block, where the peer is asked
-    /// for 16, and where it has not joined; nothing changes then. It asks `has` of each block that may be
-    /// asked before the one that it finds: `ask_next` leaps over what the peer lacks.
+    /// Who is asked for a block, in the order of their keys.
+    pub fn asked(&self, block: BlockId) -> ArrayVec<PeerKey, MAX_ASKERS>
+        ensures ascending { IsAscending result.items }
+        ensures exact { (key : PeerKey) → Contains result.items key ↔ IsPair self.now key block }
+    {
+        let mut keys = ArrayVec::new();
+        if self.unasked.is_in_range(block) && self.unasked.contains(block) {
+            return keys;
+        }
+        for requests in self.peers.as_slice() {
+            if requests.has(block) {
+                insert(&mut keys, requests.peer());
+            }
+        }
+        keys
+    }
+
+    /// Asks a peer for a wanted block of which `has` says that the peer has it: for the least one that no
+    /// peer is asked for; where there is none, and at most 16 blocks are wanted, for the least one that at
+    /// most two others are asked for, and the peer not yet. The two are a pair from now on. None where there
+    /// is no such block, where the peer is asked for 16, and where it has not joined; nothing changes then.
+    /// It asks `has` of each block that may be asked before the one that it finds: `ask_next` leaps over what
+    /// the peer lacks.
     pub fn ask<F: Fn(BlockId) -> bool>(&mut self, peer: PeerKey, has: F) -> Option<BlockId>
         requires { (block : BlockId) → IsInRange self.old.wanted block → F.pre has block }
-        ensures least { IfSome result (IsLeastUnasked (F.post has) self.old) }
+        ensures next { IfSome result (IsNextAsked (F.post has) self.old peer) }
         ensures now { IfSome result (λ block. self.new ≡ with_pair self.old peer block) }
         ensures asked { IfSome result (λ block.
             asked_of self.new peer ≡ asked_of self.old peer ++ block ∷ []) }
@@ -175,31 +225,29 @@ impl Book {
         ensures joined { OnSome result (IsJoined self.old peer) }
         ensures room { OnSome result (length (asked_of self.old peer) < max_requests) }
         ensures none { IfNone result ((¬ IsJoined self.old peer)
-            ⊎ (length (asked_of self.old peer) ≡ max_requests) ⊎ HasNoneUnasked (F.post has) self.old) }
+            ⊎ (length (asked_of self.old peer) ≡ max_requests) ⊎ HasNoneToAsk (F.post has) self.old peer) }
         ensures kept { IfNone result (self.new ≡ self.old) }
     {
         let index = self.index_with_room(peer)?;
-        let block = self.unasked.least(&has)?;
+        let block = self.next_asked(index, &has)?;
         self.make_pair(index, block);
         Some(block)
     }
 
-    /// Asks a peer for the least wanted block that the peer has and that no peer is asked for: the two are a
-    /// pair from now on. None where there is no such block, where the peer is asked for 16, and where it has
-    /// not joined; nothing changes then.
+    /// Asks a peer for a wanted block that the peer has, as `ask` does.
     ///
     /// What the peer has is told by `next`: at each block of the torrent it gives the first one, from there
-    /// on, that the peer has. It is called once for each time that the peer's blocks and those that may be
-    /// asked alternate.
+    /// on, that the peer has. It is called once for each time that the peer's blocks and those that no peer is
+    /// asked for alternate, and then for 16 blocks at most.
     pub fn ask_next<F: Fn(BlockId) -> Option<BlockId>>(
         &mut self,
         peer: PeerKey,
         next: F,
     ) -> Option<BlockId>
         requires { (block : BlockId) → IsInRange self.old.wanted block → F.pre next block }
-        ensures least { IfSome result (λ block. (has : BlockId → Bool)
-            → GivesFirst (F.post next) self.old.wanted has → IsLeastUnasked (says has) self.old block) }
-        ensures unasked { IfSome result (IsUnasked self.old) }
+        ensures next { IfSome result (λ block. (has : BlockId → Bool)
+            → GivesFirst (F.post next) self.old.wanted has → IsNextAsked (says has) self.old peer block) }
+        ensures can { IfSome result (CanAsk self.old peer) }
         ensures now { IfSome result (λ block. self.new ≡ with_pair self.old peer block) }
         ensures asked { IfSome result (λ block.
             asked_of self.new peer ≡ asked_of self.old peer ++ block ∷ []) }
@@ -210,18 +258,18 @@ impl Book {
         ensures none { IfNone result ((¬ IsJoined self.old peer)
             ⊎ (length (asked_of self.old peer) ≡ max_requests)
             ⊎ ((has : BlockId → Bool) → GivesFirst (F.post next) self.old.wanted has
-            → HasNoneUnasked (says has) self.old)) }
+            → HasNoneToAsk (says has) self.old peer)) }
         ensures kept { IfNone result (self.new ≡ self.old) }
     {
         let index = self.index_with_room(peer)?;
-        let block = self.unasked.meet(&next)?;
+        let block = self.next_met(index, &next)?;
         self.make_pair(index, block);
         Some(block)
     }
 
-    /// Asks a peer for the least wanted blocks that the peer has and that no peer is asked for, until it is
-    /// asked for 16 or there is none left, and gives these blocks, in ascending order: none where it has not
-    /// joined. `next` is as for `ask_next`.
+    /// Asks a peer for wanted blocks that it has, one after the other as `ask` does, until it is asked for 16
+    /// or there is none left, and gives these blocks: none where it has not joined. `next` is as for
+    /// `ask_next`.
     pub fn ask_all<F: Fn(BlockId) -> Option<BlockId>>(
         &mut self,
         peer: PeerKey,
@@ -232,14 +280,16 @@ impl Book {
         ensures asked { asked_of self.new peer ≡ asked_of self.old peer ++ result.items }
         ensures others { KeepsOthers self.old self.new peer }
         ensures peers { peers_of self.new ≡ peers_of self.old }
-        ensures unasked { All (IsUnasked self.old) result.items }
+        ensures can { All (CanAsk self.old peer) result.items }
         ensures distinct { AllPairs (λ b c. b ≢ c) result.items }
-        ensures first { (has : BlockId → Bool) → GivesFirst (F.post next) self.old.wanted has
-            → AreFirstUnasked has self.old result.items }
+        ensures turns { (has : BlockId → Bool) → GivesFirst (F.post next) self.old.wanted has
+            → AreAskedInTurn has self.old peer result.items }
+        ensures held { (has : BlockId → Bool) → GivesFirst (F.post next) self.old.wanted has
+            → All (λ block. has block ≡ true) result.items }
         ensures all { (¬ IsJoined self.old peer)
             ⊎ (length (asked_of self.old peer) + length result.items ≡ max_requests)
             ⊎ ((has : BlockId → Bool) → GivesFirst (F.post next) self.old.wanted has
-            → (block : BlockId) → IsUnasked self.old block → has block ≡ true → Contains result.items block) }
+            → (block : BlockId) → CanAsk self.old peer block → has block ≡ true → Contains result.items block) }
     {
         let mut blocks = ArrayVec::new();
         self.keeps_laws();
@@ -250,6 +300,75 @@ impl Book {
             blocks.push(block);
         }
         blocks
+    }
+
+    /// The block that the peer at an index is asked for next, of those of which `has` is true.
+    fn next_asked<F: Fn(BlockId) -> bool>(&self, index: usize, has: &F) -> Option<BlockId>
+        requires inside { index < length self.now.peers }
+        requires callable { (block : BlockId) → IsInRange self.now.wanted block → F.pre has.now block }
+        ensures some { IfSome result (λ block. (peer : PeerKey) → IsIndexOf peer self.now.peers index
+            → IsNextAsked (F.post has.now) self.now peer block) }
+        ensures none { IfNone result ((peer : PeerKey) → IsIndexOf peer self.now.peers index
+            → HasNoneToAsk (F.post has.now) self.now peer) }
+    {
+        if let Some(block) = self.unasked.least(has) {
+            return Some(block);
+        }
+        self.least_beside(index, has)
+    }
+
+    /// The same of those that `next` gives.
+    fn next_met<F: Fn(BlockId) -> Option<BlockId>>(&self, index: usize, next: &F) -> Option<BlockId>
+        requires inside { index < length self.now.peers }
+        requires callable { (block : BlockId) → IsInRange self.now.wanted block → F.pre next.now block }
+        ensures some { IfSome result (λ block. (peer : PeerKey) → IsIndexOf peer self.now.peers index
+            → (has : BlockId → Bool) → GivesFirst (F.post next.now) self.now.wanted has
+            → IsNextAsked (says has) self.now peer block) }
+        ensures can { IfSome result (λ block. (peer : PeerKey) → IsIndexOf peer self.now.peers index
+            → CanAsk self.now peer block) }
+        ensures none { IfNone result ((peer : PeerKey) → IsIndexOf peer self.now.peers index
+            → (has : BlockId → Bool) → GivesFirst (F.post next.now) self.now.wanted has
+            → HasNoneToAsk (says has) self.now peer) }
+    {
+        if let Some(block) = self.unasked.meet(next) {
+            return Some(block);
+        }
+        self.least_beside(
+            index,
+            &|block: BlockId| -> bool
+                requires { F.pre next.now block }
+                ensures yes { OnTrue result (F.post next.entry.now block (Some block)) }
+                ensures no { OnFalse result ((r : Option BlockId) × F.post next.entry.now block r
+                    × (r ≢ Some block)) }
+            { gives_itself(next, block) },
+        )
+    }
+
+    /// The least block that the peer at an index may be asked for beside others, of those of which `has` is
+    /// true.
+    fn least_beside<F: Fn(BlockId) -> bool>(&self, index: usize, has: &F) -> Option<BlockId>
+        requires inside { index < length self.now.peers }
+        requires callable { (block : BlockId) → IsInRange self.now.wanted block → F.pre has.now block }
+        ensures some { IfSome result (λ block. (peer : PeerKey) → IsIndexOf peer self.now.peers index
+            → IsLeastShareable (F.post has.now) self.now peer block) }
+        ensures none { IfNone result ((peer : PeerKey) → IsIndexOf peer self.now.peers index
+            → (block : BlockId) → IsShareable self.now peer block → F.post has.now block false) }
+    {
+        if self.wanted_count > MAX_IN_ENDGAME {
+            return None;
+        }
+        let peers = self.peers.as_slice();
+        self.wanted.least(
+            &|block: BlockId| -> bool
+                requires inside { index < length peers.now }
+                requires apart { All HasEachOnce peers.now }
+                requires callable { F.pre has.now block }
+                ensures yes { OnTrue result (CanJoin peers.entry.now index block
+                    × F.post has.entry.now block true) }
+                ensures no { OnFalse result (CanJoin peers.entry.now index block
+                    → F.post has.entry.now block false) }
+            { can_join(peers, index, block) && has(block) },
+        )
     }
 
     /// The index of a peer that may be asked for more.
@@ -270,11 +389,15 @@ impl Book {
     /// The peer at an index is asked for a block from now on.
     fn make_pair(&mut self, index: usize, block: BlockId)
         requires room { HasRoomAt self.old.peers index }
-        requires unasked { IsUnasked self.old block }
+        requires can { (peer : PeerKey) → IsIndexOf peer self.old.peers index → CanAsk self.old peer block }
         ensures { (peer : PeerKey) → IsIndexOf peer self.old.peers index
             → self.new ≡ with_pair self.old peer block }
     {
-        self.unasked.remove(block);
+        if self.unasked.contains(block) {
+            self.unasked.remove(block);
+        } else {
+            self.has_shared = true;
+        }
         self.peers[index].push(block);
     }
 
@@ -290,8 +413,8 @@ impl Book {
         self.wanted.meet(&next).is_some()
     }
 
-    /// The laws of a book: no peer has joined twice, each block is in one pair at most, and it is wanted
-    /// then; each peer is in 16 pairs at most. It does nothing when it runs.
+    /// The laws of a book: no peer has joined twice, each block is in three pairs at most, with three peers,
+    /// and it is wanted then; each peer is in 16 pairs at most. It does nothing when it runs.
     pub fn keeps_laws(&self)
         ensures { IsBook self.now }
     {
@@ -300,13 +423,75 @@ impl Book {
     }
 }
 
-/// Puts the blocks into the set.
-fn add_all(set: &mut BlockSet, blocks: &[BlockId])
-    requires { CanAdd set.old blocks.now }
-    ensures { AreAdded set.old blocks.now set.new }
+/// Puts those of the blocks into the set that no peer is asked for.
+fn free_blocks(unasked: &mut BlockSet, peers: &[Requests], has_shared: bool, blocks: &[BlockId])
+    requires inside { All (IsInRange unasked.old) blocks.now }
+    requires single { has_shared ≡ false → All (λ b. pairs_in peers.now b ≡ 0) blocks.now }
+    ensures { AreFreed unasked.old peers.now blocks.now unasked.new }
 {
     for block in blocks {
-        set.insert(*block);
+        free_block(unasked, peers, has_shared, *block);
+    }
+}
+
+/// Puts a block into the set where no peer is asked for it.
+fn free_block(unasked: &mut BlockSet, peers: &[Requests], has_shared: bool, block: BlockId)
+    requires inside { IsInRange unasked.old block }
+    requires single { has_shared ≡ false → pairs_in peers.now block ≡ 0 }
+    ensures { unasked.new ≡ (if pairs_in peers.now block == 0 then with_block unasked.old block true
+        else unasked.old) }
+{
+    if has_shared && is_in_pair(peers, block) {
+        return;
+    }
+    unasked.insert(block);
+}
+
+/// Whether a peer is asked for the block.
+fn is_in_pair(peers: &[Requests], block: BlockId) -> bool
+    ensures { IsTrue result ↔ (0 < pairs_in peers.now block) }
+{
+    for requests in peers {
+        if requests.has(block) {
+            return true;
+        }
+    }
+    false
+}
+
+/// Whether the peer at an index may be asked for a block beside others: it is not asked for it, and at most
+/// two are.
+fn can_join(peers: &[Requests], index: usize, block: BlockId) -> bool
+    requires inside { index < length peers.now }
+    requires apart { All HasEachOnce peers.now }
+    ensures { IsTrue result ↔ CanJoin peers.now index block }
+{
+    !peers[index].has(block) && count_pairs(peers, block) < MAX_ASKERS
+}
+
+/// How many peers are asked for a block.
+fn count_pairs(peers: &[Requests], block: BlockId) -> usize
+    requires { All HasEachOnce peers.now }
+    ensures { result ≡ pairs_in peers.now block }
+{
+    let mut count = 0;
+    for requests in peers {
+        if requests.has(block) {
+            count += 1;
+        }
+    }
+    count
+}
+
+/// Whether `next` gives the block that it is called on.
+fn gives_itself<F: Fn(BlockId) -> Option<BlockId>>(next: &F, block: BlockId) -> bool
+    requires { F.pre next.now block }
+    ensures yes { OnTrue result (F.post next.now block (Some block)) }
+    ensures no { OnFalse result ((r : Option BlockId) × F.post next.now block r × (r ≢ Some block)) }
+{
+    match next(block) {
+        Some(first) => first.file == block.file && first.block == block.block,
+        None => false,
     }
 }
 

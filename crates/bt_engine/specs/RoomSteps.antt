@@ -1,5 +1,6 @@
 -- Room for what a wire event sends and notes.
 use Rattle.std.specs.Prelude.{[], ◌≡◌, ℕ, ◌+◌, ◌*◌, vec_capacity}
+use Rattle.bt_book.specs.Book.{max_askers}
 use Rattle.bt_wire.specs.declared.message.Message.{Message as Sent}
 use Rattle.bt_wire.specs.declared.message.Message.TheVariants.{Request, Piece, Hashes}
 use Rattle.bt_wire.specs.declared.event.WireEvent.{WireEvent}
@@ -26,5 +27,5 @@ IsNoteBound parts _ bound = bound ≡ 0
 pub record HasRoom (bound peers : ℕ) (room : Room) : Type 0 where
   pub nothing_sent : room.send.items ≡ []
   pub nothing_noted : room.notes.items ≡ []
-  pub send_room : vec_capacity room.send ≡ bound * peers + 1 + max_frames
+  pub send_room : vec_capacity room.send ≡ bound * peers + max_askers + max_frames
   pub note_room : vec_capacity room.notes ≡ bound + bound

@@ -1,5 +1,6 @@
 //! A wire event of a peer: what it does by itself, and what follows from it.
 ghost use Rattle.std.specs.Prelude.{◌≡◌, ◌+◌, ◌≤◌, ◌<◌, ◌++◌, ℕ, Some, IfOk, IfErr, length, vec_len, vec_capacity};
+ghost use Rattle.bt_book.specs.Book.{max_askers};
 ghost use Rattle.bt_machine.specs.State.{EngineState, PeerState};
 ghost use Rattle.bt_machine.specs.Devices.{DeviceCalls, HaveCalls};
 ghost use Rattle.bt_machine.specs.Next.{without_peer};
@@ -9,14 +10,16 @@ ghost use Rattle.bt_state.specs.Parts.{state_of, disks_of};
 ghost use Rattle.bt_state.specs.Ties.{IsTied};
 ghost use Rattle.bt_wire_events.specs.Message.{IsPeerEvent};
 ghost use Rattle.bt_wire_events.specs.Hashes.{IsNoteRoom};
+ghost use Rattle.bt_block_events.specs.Piece.{cancels_to};
 ghost use Rattle.bt_engine.specs.NewsSteps.{TellMarks};
 ghost use Rattle.bt_engine.specs.RoomSteps.{IsNoteBound, HasRoom};
 ghost use Rattle.bt_engine.specs.EventSteps.{sent_by, notes_in, note_count, reply_count, IsHandled, FollowsReply, GoesOn, closed_output};
 
 use crate::news::{announce_pieces, note_complete_files};
 use crate::room::{Room, reserve};
+use arrayvec::ArrayVec;
 use bt_block_events::{Effect, Served, take_piece, take_request};
-use bt_book::PeerKey;
+use bt_book::{MAX_ASKERS, PeerKey};
 use bt_disk::Disk;
 use bt_follow_up::follow_up;
 use bt_hashreq::HashKey;
@@ -35,6 +38,9 @@ pub(crate) enum Reply {
     /// The peer is sent this.
     Sends(Message),
     Noted(Note),
+    /// A block was stored, with this note: these others, which are asked for this range too, are sent a cancel
+    /// of it.
+    Stored(Note, Ask, ArrayVec<PeerKey, MAX_ASKERS>),
     /// Blocks were settled, with these notes.
     Settled(Vec<Note>),
 }
@@ -112,8 +118,9 @@ pub(crate) fn drop_peer<D: Disk + Drop, H: NodeHash>(parts: &mut Parts<D, H>, in
     let _ = bt_state::lost(parts, key);
 }
 
-/// What follows where the peer at an index stays: it is sent its answer, all are sent haves of the pieces
-/// that have become whole, and then the peer is sent what follows for it.
+/// What follows where the peer at an index stays: it is sent its answer, or others cancels of the block that
+/// it sent; all are sent haves of the pieces that have become whole; and then the peer is sent what follows
+/// for it.
 fn keep<D: Disk + Drop, H: NodeHash>(
     parts: &mut Parts<D, H>,
     index: usize,
@@ -150,11 +157,11 @@ fn keep<D: Disk + Drop, H: NodeHash>(
 
 /// Adds what an event sends and notes by itself, for which there is room.
 fn put_reply(key: PeerKey, reply: Reply, send: &mut Vec<(PeerKey, Frame)>, notes: &mut Vec<Note>)
-    requires send_room { vec_len send.old < vec_capacity send.old }
+    requires send_room { vec_len send.old + max_askers ≤ vec_capacity send.old }
     requires note_room { vec_len notes.old + reply_count reply ≤ vec_capacity notes.old }
     ensures sent { (p : PeerState) → p.key ≡ key → send.new.items ≡ send.old.items ++ sent_by p reply }
     ensures noted { notes.new.items ≡ notes.old.items ++ notes_in reply }
-    ensures few_sent { vec_len send.new ≤ vec_len send.old + 1 }
+    ensures few_sent { vec_len send.new ≤ vec_len send.old + max_askers }
     ensures few_noted { vec_len notes.new ≡ vec_len notes.old + reply_count reply }
     ensures send_capacity { vec_capacity send.old ≤ vec_capacity send.new }
     ensures note_capacity { vec_capacity notes.old ≤ vec_capacity notes.new }
@@ -163,7 +170,24 @@ fn put_reply(key: PeerKey, reply: Reply, send: &mut Vec<(PeerKey, Frame)>, notes
         Reply::Nothing => {}
         Reply::Sends(message) => send.push((key, Frame::Message(message))).unwrap(),
         Reply::Noted(note) => notes.push(note).unwrap(),
+        Reply::Stored(note, ask, others) => {
+            cancel(ask, others.as_slice(), send);
+            notes.push(note).unwrap()
+        }
         Reply::Settled(settled) => notes.extend_from_slice(settled.as_slice()).unwrap(),
+    }
+}
+
+/// Sends a cancel of the range to each of these peers.
+fn cancel(ask: Ask, others: &[PeerKey], send: &mut Vec<(PeerKey, Frame)>)
+    requires room { vec_len send.old + length others.now ≤ vec_capacity send.old }
+    ensures sent { send.new.items ≡ send.old.items ++ cancels_to ask others.now }
+    ensures few { vec_len send.new ≤ vec_len send.old + length others.now }
+    ensures capacity { vec_capacity send.old ≤ vec_capacity send.new }
+{
+    for other in others {
+        send.push((*other, Frame::Message(Message::Cancel(ask))))
+            .unwrap();
     }
 }
 
@@ -249,6 +273,7 @@ fn handle_piece<D: Disk + Drop, H: NodeHash>(
 {
     match take_piece(parts, index, piece, begin, bytes.as_slice()) {
         Effect::Noted(note) => Handled::Stays(Reply::Noted(note)),
+        Effect::Stored(note, ask, others) => Handled::Stays(Reply::Stored(note, ask, others)),
         Effect::Closed(why) => Handled::Closed(why),
     }
 }

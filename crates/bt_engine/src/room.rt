@@ -6,7 +6,7 @@ ghost use Rattle.bt_state.specs.Parts.{state_of};
 ghost use Rattle.bt_state.specs.Ties.{IsTied};
 ghost use Rattle.bt_engine.specs.RoomSteps.{IsNoteBound, HasRoom};
 
-use bt_book::PeerKey;
+use bt_book::{MAX_ASKERS, PeerKey};
 use bt_disk::Disk;
 use bt_follow_up::MAX_FRAMES;
 use bt_machine::{Frame, Note};
@@ -23,8 +23,8 @@ pub(crate) struct Room {
     pub notes: Vec<Note>,
 }
 
-/// Makes room for whatever the event sends and notes, and no more: an answer, a have to each peer that is
-/// there for each note, and what follows; its notes, and for each a complete file.
+/// Makes room for whatever the event sends and notes, and no more: its answer or cancels, a have to each peer
+/// that is there for each note, and what follows; its notes, and for each a complete file.
 pub(crate) fn reserve<D: Disk + Drop, H: NodeHash>(
     alloc: Global,
     parts: &Parts<D, H>,
@@ -38,7 +38,7 @@ pub(crate) fn reserve<D: Disk + Drop, H: NodeHash>(
 {
     let bound = note_bound(parts, event);
     let peers = parts.peers.as_slice().len();
-    let send = Vec::with_capacity(alloc, bound * peers + 1 + MAX_FRAMES)?;
+    let send = Vec::with_capacity(alloc, bound * peers + MAX_ASKERS + MAX_FRAMES)?;
     let notes = Vec::with_capacity(alloc, 2 * bound)?;
     Ok(Room { send, notes })
 }

@@ -13,8 +13,9 @@ use bt_disk::Disk;
 use bt_state::Parts;
 use bt_tree::NodeHash;
 
-/// Asks a peer for the first blocks that may be asked of it, until it is asked for 16: for none where it
-/// chokes us or we are not interested. These blocks are to be requested.
+/// Asks a peer for the open blocks, until it is asked for 16: for those that nobody is asked for first, and
+/// then for those that it may be asked for beside others. For none where it chokes us or we are not
+/// interested. The blocks are to be requested.
 pub(crate) fn ask_blocks<D: Disk + Drop, H: NodeHash>(
     parts: &mut Parts<D, H>,
     index: usize,

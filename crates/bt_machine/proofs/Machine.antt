@@ -12,7 +12,7 @@ pub use Rattle.bt_machine.specs.HashMessages.{accepts_hashes, unknown_root, refu
 pub use Rattle.bt_machine.specs.Headline.{IsPublished, CompleteFilesArePublished}
 pub use Rattle.bt_machine.specs.Law.{sent_by, read_back, IsMarkedBy, found, brought, IsSoAt, AreRooted, StepKeepsRooted, StepMarksByBytes, StepSendsReadBytes, IsFound, IsMarkedIn, AreChecked, IsServed}
 pub use Rattle.bt_machine.specs.Next.{keeps_peer, StepNext, closes, waits, faulty, no_peer, no_memory, IsPeer, TakesEvent, without_peer, with_pending}
-pub use Rattle.bt_machine.specs.Orderly.{IsOrderly, IsOrderlyPeer, AskedApart, StepKeepsOrder, RunsAreOrderly}
+pub use Rattle.bt_machine.specs.Orderly.{IsOrderly, IsOrderlyPeer, StepKeepsOrder, RunsAreOrderly}
 pub use Rattle.bt_machine.specs.Output.{Sent, Effect, haves, sent_to, noting, sending}
 pub use Rattle.bt_machine.specs.Peers.{no_memory as no_room, no_peer as not_fed, StepConnect, joins, StepFeed, feeds, full, spent, StepLost, goes, new_peer}
 pub use Rattle.bt_machine.specs.Rechoke.{FollowsEach, StepRechoke, rechokes, no_memory as not_rechoked, rechoked, rechoked_peer, choking_sent, is_served}

@@ -181,7 +181,7 @@ module _ (dig : Digest) where
   piece_keeps {i} (arrives a) =
       let new : FileState = record a.puts.file { states = states_after_put a.block.block a.puts.result a.puts.file.states } in
       let put = file_keeps _ new a.puts.is_file.here refl (length-put _ _ _) in
-      keeps_then (keeps_then put (is_same a.puts.after)) (with_peer_keeps i _ a.after)
+      keeps_then (keeps_then put (peers_change refl refl refl refl refl refl a.puts.after)) (with_peer_keeps i _ a.after)
 
   have_keeps : {s mid i p piece effect : _} → HandlesHave s i p piece effect mid → Keeps s mid
   have_keeps {i} (in_range x y e) = with_peer_keeps i _ e

@@ -160,7 +160,7 @@ pub fn step_writes_missing<H: NodeHash>()
 
 /// After any list of events from the start of a torrent at most 64 peers are connected, in the order of
 /// their keys, and to none of them was a fault of its stream answered. Each is asked for at most 16 blocks,
-/// which are missing, and no block is asked twice.
+/// each once and missing, and no block is asked of more than three.
 pub fn runs_are_orderly<H: NodeHash>()
     ensures { RunsAreOrderly H.digest }
 {}

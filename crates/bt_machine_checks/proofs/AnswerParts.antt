@@ -1,6 +1,9 @@
 -- The parts of what is sent, and what a wire event leaves of the engine and its peer.
 use Rattle.bt_machine_checks.proofs.Base.{[], ◌≡◌, ℕ, inl, inr, Bool, true, false, not, List, ◌∷◌, ◌++◌, map, Some, Result, Ok, Err, refl, sym, ap, ◌∙◌, slice_get, slice_set, Contains, if◌then◌else◌, Contains-append_cases, HashKey, BlockRead, given, failed, is_right, states_after_put, StoreError, DeviceFault, Put, Wrong, PutMarked, PutWaiting, BlockId, is_block, PeerMessage, KeepAlive, Choke, Unchoke, Interested, NotInterested, Have, Bitfield, Request, Piece, Cancel, HashRequest, Hashes, HashReject, Hello, Message, Skipped}
 use Rattle.bt_machine_checks.proofs.Machine.{Digest, Frame, hello_frame, message_frame, Note, Device, Complete, Why, Idle, Asked, Refused, PeerState, FileState, EngineState, with_file, with_peer, with_tree, file_numbers, Sent, Effect, no_effect, noting, closing, sending, FindsFault, damaged, fault, HandlesRequest, ignored, no_place, not_marked, served, stopped, HasPutEffect, Arrives, HandlesPiece, stale, arrives, settling_notes, read_note, HandlesHashRequest, answered, rejected, HandlesHashes, unknown_root, no_claim, refused, accepts_hashes, new_proofs, Resolves, resolved as ours_asked, other_asked, HandlesHello, ours, other, HandlesHave, in_range, out_of_range, HandlesBitfield, right, wrong, HandlesMessage, Handles, interest_sent, RequestsHashes, requests, rests, RequestsEach}
+use Rattle.bt_wire.specs.declared.message.Ask.{Ask}
+use Rattle.bt_machine.specs.Arrival.{cancels}
+use Rattle.bt_machine.specs.Output.{sent_to}
 use Rattle.bt_machine.proofs.Lists.{contains_none, contains_cases, contains_filter, contains_map, contains_flat_map, set_id}
 
 -- ---- parts of what is sent
@@ -19,6 +22,7 @@ abbrev pub part_of_message : PeerMessage → Part
 part_of_message (Piece piece begin bytes) = replies
 part_of_message (Hashes key digests) = replies
 part_of_message (HashReject key) = replies
+part_of_message (Cancel ask) = replies
 part_of_message (Have piece) = announces
 part_of_message Interested = interests
 part_of_message NotInterested = interests
@@ -113,14 +117,13 @@ never_idle k e = cc
 never_refused : (k : _) → Refused ≡ Asked k → ⊥
 never_refused k e = cc
 
--- Only its peer is changed, and that keeps its key and our side's flags. The files change only where it stays.
+-- Its peer keeps its key and our side's flags, and the files change only where it stays.
 pub record Leaves (s : EngineState) (i : ℕ) (p : PeerState) (effect : Effect) (mid : EngineState) : Type 0 where
   pub peer : PeerState
   pub same_key : peer.key ≡ p.key
   pub same_interest : peer.am_interested ≡ p.am_interested
   pub same_choke : peer.am_choking ≡ p.am_choking
   pub asks_less : AsksLess p peer
-  pub peers : mid.peers ≡ slice_set s.peers i peer
   pub torrent : mid.torrent ≡ s.torrent
   pub replied : AllOf replies effect.send
   pub noted : NoComplete effect.notes
@@ -136,7 +139,6 @@ module _ (dig : Digest) (s : EngineState) (i : ℕ) {p : PeerState} (at : slice_
     same_interest = f;
     same_choke = g;
     asks_less = less;
-    peers = refl;
     torrent = refl;
     replied = quiet.replied;
     noted = quiet.noted;
@@ -151,7 +153,6 @@ module _ (dig : Digest) (s : EngineState) (i : ℕ) {p : PeerState} (at : slice_
     same_interest = refl;
     same_choke = refl;
     asks_less = asks_same refl refl;
-    peers = sym (set_id _ i at);
     torrent = refl;
     replied = quiet.replied;
     noted = quiet.noted;
@@ -167,7 +168,6 @@ module _ (dig : Digest) (s : EngineState) (i : ℕ) {p : PeerState} (at : slice_
     same_interest = refl;
     same_choke = refl;
     asks_less = asks_same refl refl;
-    peers = sym (set_id _ i at);
     torrent = refl;
     replied = quiet.replied;
     noted = quiet.noted;
@@ -207,41 +207,48 @@ module _ (dig : Digest) (s : EngineState) (i : ℕ) {p : PeerState} (at : slice_
   request_leaves (stopped span a c d f) = fault_leaves f.finds
 
   -- a block was put: its file may change, where the peer stays connected
-  put_leaves : (b : BlockId) {file : FileState} {q : PeerState} (r : Result Put StoreError) (states : _) {effect : Effect} {stored mid : EngineState}
-      → slice_get s.files b.file ≡ Some file → q.key ≡ p.key → q.am_interested ≡ p.am_interested → q.am_choking ≡ p.am_choking → AsksLess p q → HasPutEffect b r effect
+  put_leaves : (b : BlockId) {file : FileState} {q : PeerState} (r : Result Put StoreError) (states : _) (sent : List Sent) (told : List PeerState)
+      {effect : Effect} {stored mid : EngineState}
+      → slice_get s.files b.file ≡ Some file → q.key ≡ p.key → q.am_interested ≡ p.am_interested → q.am_choking ≡ p.am_choking → AsksLess p q
+      → AllOf replies sent → HasPutEffect b sent r effect
       → (r ≡ Ok Wrong → states ≡ file.states)
-      → stored ≡ with_file s b.file (record file { states = states }) → mid ≡ with_peer stored i q → Leaves s i p effect mid
-  put_leaves b {file} {q} r states {effect} there k f g less has same is after =
+      → stored ≡ record (with_file s b.file (record file { states = states })) { peers = told } → mid ≡ with_peer stored i q → Leaves s i p effect mid
+  put_leaves b {file} {q} r states sent told {effect} there k f g less cancelled has same is after =
       rw (after ∙ ap (λ x. with_peer x i q) is) (of_effect r has same)
     where
       leaves : {e : _} → IsQuiet e → ((why : Why) → e.close ≡ Some why → states ≡ file.states) → effect ≡ e
-          → Leaves s i p effect (with_peer (with_file s b.file (record file { states = states })) i q)
+          → Leaves s i p effect (with_peer (record (with_file s b.file (record file { states = states })) { peers = told }) i q)
       leaves quiet kept same_effect = rw same_effect (record {
         peer = q;
         same_key = k;
         same_interest = f;
         same_choke = g;
         asks_less = less;
-        peers = refl;
         torrent = refl;
         replied = quiet.replied;
         noted = quiet.noted;
         closed = λ why c. ap (λ l. slice_set s.files b.file (record file { states = l })) (kept why c) ∙ set_id _ _ there;
       })
 
-      of_effect : (r : Result Put StoreError) → HasPutEffect b r effect → (r ≡ Ok Wrong → states ≡ file.states)
-          → Leaves s i p effect (with_peer (with_file s b.file (record file { states = states })) i q)
-      of_effect (Ok PutMarked) e same = leaves (notes_quietly _ refl) (λ why c. absurd cc) e
-      of_effect (Ok PutWaiting) e same = leaves (notes_quietly _ refl) (λ why c. absurd cc) e
+      stores : (note : Note) → is_complete_note note ≡ false → IsQuiet (record (noting note) { send = sent })
+      stores note e = record { replied = cancelled; noted = one_noted note e }
+
+      of_effect : (r : Result Put StoreError) → HasPutEffect b sent r effect → (r ≡ Ok Wrong → states ≡ file.states)
+          → Leaves s i p effect (with_peer (record (with_file s b.file (record file { states = states })) { peers = told }) i q)
+      of_effect (Ok PutMarked) e same = leaves (stores _ refl) (λ why c. absurd cc) e
+      of_effect (Ok PutWaiting) e same = leaves (stores _ refl) (λ why c. absurd cc) e
       of_effect (Ok Wrong) e same = leaves (closes_quietly _) (λ why c. same refl) e
       of_effect (Err DeviceFault) e same = leaves (notes_quietly _ refl) (λ why c. absurd cc) e
       of_effect _ e same = absurd e
 
+  cancels_reply : (ask : Ask) (b : BlockId) → AllOf replies (cancels s p ask b)
+  cancels_reply ask b x c = let q = contains_map (λ q. sent_to q (Cancel ask)) _ c in ap (λ y. part_of y.1) (sym q.2)
+
   arrives_leaves : {mid piece begin bytes calls effect : _} → Arrives dig s i p piece begin bytes calls effect mid → Leaves s i p effect mid
   arrives_leaves a =
       put_leaves _ _
-      _ a.puts.is_file.here refl refl refl
-      (record { blocks = λ b c. (contains_filter (λ d. not (is_block a.block d)) _ c).0; hashes = λ k e. e }) a.puts.has_effect
+      _ _ _ a.puts.is_file.here refl refl refl
+      (record { blocks = λ b c. (contains_filter (λ d. not (is_block a.block d)) _ c).0; hashes = λ k e. e }) (cancels_reply _ a.block) a.puts.has_effect
       (λ e. ap (λ r. states_after_put a.block.block r a.puts.file.states) e) a.puts.after a.after
 
   piece_leaves : {mid piece begin bytes calls effect : _} → HandlesPiece dig s i p piece begin bytes calls effect mid → Leaves s i p effect mid
@@ -283,7 +290,6 @@ module _ (dig : Digest) (s : EngineState) (i : ℕ) {p : PeerState} (at : slice_
         same_interest = refl;
         same_choke = refl;
         asks_less = record { blocks = λ b c. c; hashes = resolved {next = Idle} never_idle l.resolves };
-        peers = refl;
         torrent = refl;
         replied = all_none replies;
         noted = noted;

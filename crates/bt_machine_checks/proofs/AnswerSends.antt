@@ -1,5 +1,5 @@
 -- What each frame of an answer follows from.
-use Rattle.bt_machine_checks.proofs.Base.{[], ◌≡◌, ℕ, zero, suc, ◌⊎◌, inl, inr, ◌↔◌, Bool, true, false, List, ◌∷◌, ◌++◌, length, Some, Ok, refl, sym, ap, ◌∙◌, subst, arith, slice_get, slice_set, Contains, range_with_len, Contains-append_cases, PeerKey, BlockId, Ask, PeerMessage, Interested, NotInterested, Have, Bitfield, Request, Missing}
+use Rattle.bt_machine_checks.proofs.Base.{[], ◌≡◌, ℕ, zero, suc, ◌⊎◌, inl, inr, ◌↔◌, Bool, true, false, List, ◌∷◌, ◌++◌, length, Some, Ok, refl, sym, ap, ◌∙◌, subst, arith, slice_get, slice_set, Contains, range_with_len, Contains-append_cases, PeerKey, BlockId, Ask, PeerMessage, Interested, NotInterested, Have, Bitfield, Request, Cancel, Missing}
 use Rattle.bt_machine_checks.proofs.Machine.{Digest, Frame, hello_frame, message_frame, Connect, Next, Rechoke, PeerState, EngineState, DeviceCalls, IsRangeOf, Sent, Output, sent_to, haves, FollowsUp, RequestsHashes, requests, rests, IsOpen, IsInteresting, RequestsBlock, RequestsEach, interest_sent, IsPeer, KeepsPeer, StepNext, no_peer, waits, keeps_peer, closes, faulty, no_memory, StepConnect, joins, full, spent, no_room, new_peer, our_handshake, greeting, FollowsEach, Rechokes, StepRechoke, rechokes, not_rechoked, choking_sent, chokes_sent, is_served, rechoked, Connected, Stepped, Rechoked, Step, sent_by, state_at}
 use Rattle.bt_machine.proofs.Lists.{contains_none, contains_cases, contains_flat_map, here, later, set_same, set_other as stays_there}
 use Rattle.bt_machine_checks.proofs.AnswerParts.{Part, greets, replies, interests, chokes, hashes, asks, part_of, AllOf, all_none, all_one, all_is, all_interest, all_hashes, all_asks, IsFollowing, in_interest, in_hash, in_block, following, event_leaves}
@@ -40,6 +40,7 @@ pub record Follows (s : EngineState) (i : ℕ) (sent : List Sent) (new : EngineS
   pub interested : (key : PeerKey) → Contains sent (frame_to key Interested) → (peer.am_interested ≡ false) × (after.am_interested ≡ true) × (peer.key ≡ key)
   pub uninterested : (key : PeerKey) → Contains sent (frame_to key NotInterested) → (peer.am_interested ≡ true) × (after.am_interested ≡ false) × (peer.key ≡ key)
   pub no_have : (key : PeerKey) (piece : ℕ) → Contains sent (frame_to key (Have piece)) → ⊥
+  pub no_cancel : (key : PeerKey) (ask : Ask) → Contains sent (frame_to key (Cancel ask)) → ⊥
 
 pub record SamePlan (p q : PeerState) : Type 0 where
   pub same_key : q.key ≡ p.key
@@ -67,11 +68,12 @@ same_plan (rests x e f) = record {
   same_asked = cc;
 }
 
-open_with : {s : EngineState} {p q : PeerState} {b : BlockId} → q.has ≡ p.has → IsOpen s q b → IsOpen s p b
-open_with {s} {p} {b} e o = record {
+open_with : {s : EngineState} {p q : PeerState} {b : BlockId} → q.has ≡ p.has → q.asked ≡ p.asked → IsOpen s q b → IsOpen s p b
+open_with {s} {p} {b} e f o = record {
   has = rw (← e) o.has;
   missing = o.missing;
-  free = o.free;
+  new = rw (← f) o.new;
+  room = o.room;
 }
 
 not_true : (b : Bool) → (b ≡ true → ⊥) → b ≡ false
@@ -158,6 +160,11 @@ module _ {dig : Digest} {s : EngineState} {i : ℕ} {sent : List Sent} {new : En
   have_not_told key piece (in_hash c) = let e = of_hash c in absurd cc
   have_not_told key piece (in_block c) = let e = of_block c in absurd cc
 
+  cancel_not_told : (key : _) (ask : Ask) → stands (frame_to key (Cancel ask)) → ⊥
+  cancel_not_told key ask (in_interest c) = let e = of_interest c in absurd cc
+  cancel_not_told key ask (in_hash c) = let e = of_hash c in absurd cc
+  cancel_not_told key ask (in_block c) = let e = of_block c in absurd cc
+
   pub follows_of : Follows s i sent new
   follows_of =
       let plan = same_plan f.hashes in
@@ -178,7 +185,7 @@ module _ {dig : Digest} {s : EngineState} {i : ℕ} {sent : List Sent} {new : En
         same_has = cc;
         due = (λ e. f.interest.interest.0 (cc), λ e. plan.same_interest ∙ f.interest.interest.1 e);
         asked = cc;
-        open_blocks = λ b c. open_with (cc) (f.asks.are_open b c);
+        open_blocks = λ b c. open_with (cc) (cc) (f.asks.are_open b c);
         may_ask = λ b c. (not_true _ (λ e. some_block b c (f.asks.shut (inl e))), not_false _ (λ e. some_block b c (f.asks.shut (inr e))));
         peers = cc;
         files = cc;
@@ -187,6 +194,7 @@ module _ {dig : Digest} {s : EngineState} {i : ℕ} {sent : List Sent} {new : En
         interested = λ k c. let r = interest_told (place_in c) in (r.0, plan.same_interest ∙ r.1, r.2);
         uninterested = λ k c. let r = no_interest_told (place_in c) in (r.0, plan.same_interest ∙ r.1, r.2);
         no_have = λ k piece c. have_not_told k piece (place_in c);
+        no_cancel = λ k ask c. cancel_not_told k ask (place_in c);
       }
 
 -- ---- what a step sends

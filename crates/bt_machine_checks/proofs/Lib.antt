@@ -7,6 +7,7 @@ pub mod AnswerPieces
 pub mod AnswerCauses
 pub mod AnswerDue
 pub mod AnswerBlocks
+pub mod AnswerCancels
 pub mod AnswerMarks
 pub mod AnswerWaits
 -- what is left free

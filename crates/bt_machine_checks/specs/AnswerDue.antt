@@ -1,6 +1,6 @@
 -- What a message of a peer must lead to, unless the engine is out of memory: an engine that rejects every
--- hash request, marks no block or serves nobody is no such machine.
-use Rattle.std.specs.Prelude.{[], ◌≡◌, ℕ, ◌*◌, ◌⊎◌, false, List, ◌∷◌, length, Some, None, Err, Contains}
+-- hash request, marks no block, cancels nothing or serves nobody is no such machine.
+use Rattle.std.specs.Prelude.{[], ◌≡◌, ◌≢◌, ◌↔◌, ℕ, ◌*◌, ◌⊎◌, false, List, ◌∷◌, length, Some, None, Err, Contains}
 use Rattle.std.specs.List.{concat}
 use Rattle.bt_tree.specs.Limits.{full_block_length}
 use Rattle.bt_disk.specs.Calls.{write_fault}
@@ -15,9 +15,9 @@ use Rattle.bt_book.specs.declared.names.PeerKey.{PeerKey}
 use Rattle.bt_book.specs.declared.names.BlockId.{BlockId}
 use Rattle.bt_wire.specs.Cutter.{Stream, Takes}
 use Rattle.bt_wire.specs.declared.message.Ask.{Ask}
-use Rattle.bt_wire.specs.declared.message.Message.TheVariants.{Request, Piece, HashRequest, Hashes, HashReject}
+use Rattle.bt_wire.specs.declared.message.Message.TheVariants.{Request, Piece, Cancel, HashRequest, Hashes, HashReject}
 use Rattle.bt_wire.specs.declared.event.WireEvent.TheVariants.{Message}
-use Rattle.bt_machine.specs.declared.answer.Note.TheVariants.{Marked as NowMarked, Damaged, Device}
+use Rattle.bt_machine.specs.declared.answer.Note.TheVariants.{Marked as NowMarked, Waiting as NowWaiting, Damaged, Device}
 use Rattle.bt_machine.specs.declared.error.EngineError.TheVariants.{OutOfMemory}
 use Rattle.bt_machine.specs.declared.event.Event.TheVariants.{Next}
 use Rattle.bt_machine.specs.State.{PeerState, EngineState}
@@ -77,6 +77,31 @@ NextMarksRightBlock dig = (old new : EngineState) (key : PeerKey) (place : ℕ) 
     → tree_of old b.file ≡ Some tree → IsRight dig tree b.block bytes
     → Step dig old (Next key) calls answer new
     → NextLacksMemory answer ⊎ MarksBlock b bytes calls answer new
+
+-- the block was stored, and is noted so
+abbrev pub NotesStored : Answer → BlockId → Type 0
+NotesStored answer b = NotedBy answer (NowMarked b) ⊎ NotedBy answer (NowWaiting b)
+
+-- a peer of another key is asked for the block
+pub record IsOtherAsker (s : EngineState) (key : PeerKey) (b : BlockId) (other : PeerKey) : Type 0 where
+  pub peer : PeerState
+  pub connected : Contains s.peers peer
+  pub same_key : peer.key ≡ other
+  pub apart : other.0 ≢ key.0
+  pub asked : Contains peer.asked b
+
+-- A whole block comes that the peer is asked for. A peer is sent a cancel exactly where the block is stored
+-- and it is another that is asked for it, and a cancel of this range.
+abbrev pub NextCancelsStoredBlock : (List ℕ → List ℕ) → Type 0
+NextCancelsStoredBlock dig = (old new : EngineState) (key : PeerKey) (place : ℕ) (p : PeerState)
+    (calls : DeviceCalls) (answer : Answer) (piece begin : ℕ) (bytes : List ℕ) (rest : Stream) (b : BlockId)
+    → IsLawful old.torrent.piece_length old.torrent.files → IsOnlyPeer old key place p
+    → Takes p.stream (Message (Piece piece begin bytes)) rest
+    → IsRangeOf old.torrent piece begin (length bytes) b → Contains p.asked b
+    → Step dig old (Next key) calls answer new
+    → (other : PeerKey) (ask : Ask) → Sends answer other (Cancel ask)
+    ↔ NotesStored answer b × (ask ≡ record { piece = piece; begin = begin; length = length bytes })
+    × IsOtherAsker old key b other
 
 -- ---- requests of blocks
 

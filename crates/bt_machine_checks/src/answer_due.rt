@@ -1,4 +1,4 @@
-ghost use Rattle.bt_machine_checks.specs.AnswerDue.{NextAnswersHashRequest, NextMarksRightBlock, NextServesMarkedRange, NextNotesMarkedBlocks, NextSettlesWaitingBlocks, WaitingIsNotComplete};
+ghost use Rattle.bt_machine_checks.specs.AnswerDue.{NextAnswersHashRequest, NextMarksRightBlock, NextCancelsStoredBlock, NextServesMarkedRange, NextNotesMarkedBlocks, NextSettlesWaitingBlocks, WaitingIsNotComplete};
 
 use bt_meta::block_ranges_are_places;
 use bt_tree::NodeHash;
@@ -13,6 +13,14 @@ pub fn next_answers_hash_request<H: NodeHash>(_hash: H)
 /// unless the device refuses to write it.
 pub fn next_marks_right_block<H: NodeHash>(_hash: H)
     ensures { NextMarksRightBlock H.digest }
+{
+    block_ranges_are_places();
+}
+
+/// Where a whole block comes that the peer was asked for, others are sent a cancel of it exactly where it is
+/// stored and they were asked for it, too.
+pub fn next_cancels_stored_block<H: NodeHash>(_hash: H)
+    ensures { NextCancelsStoredBlock H.digest }
 {
     block_ranges_are_places();
 }

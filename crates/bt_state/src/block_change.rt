@@ -15,7 +15,7 @@ use bt_store::BlockState;
 use bt_tree::NodeHash;
 
 /// Brings the request book and the counts of unmarked blocks in line with one block: in its store, its state
-/// was `was` and is `now`.
+/// was `was` and is `now`. Nobody is asked any longer for a block that is missing no more.
 pub fn follow_block<D: Disk + Drop, H: NodeHash>(
     parts: &mut Parts<D, H>,
     block: BlockId,

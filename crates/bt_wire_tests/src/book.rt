@@ -1,7 +1,7 @@
 //! Calls of a book of requests.
 
 use crate::bytes::push_yes_or_no;
-use crate::held::{ask, ask_next, held_from, wants};
+use crate::held::{ask, ask_all, ask_next, held_from, wants};
 use crate::words::Words;
 use bt_book::{BlockId, Book, PeerKey};
 use std::alloc::{AllocError, Global};
@@ -25,6 +25,7 @@ pub fn book_row(
         "want" => want_row(requests, words, out),
         "done" => done_row(requests, words, out),
         "wants" => push_yes_or_no(out, wants(requests, held_from(words))),
+        "asked" => push_askers(out, requests, block_from(words)),
         "order" => push_yes_or_no(out, block_from(words) < block_from(words)),
         name => peer_row(requests, name, words, out),
     }
@@ -97,6 +98,7 @@ fn peer_row(
         "came" => push_yes_or_no(out, came(requests, peer, block_from(words))),
         "ask" => push_block(out, ask(requests, peer, held_from(words))),
         "next" => push_block(out, ask_next(requests, peer, held_from(words))),
+        "all" => push_all(out, ask_all(requests, peer, held_from(words)).as_slice()),
         "lost" => {
             requests.book.lost(peer);
             out.push_str("lost")
@@ -125,4 +127,33 @@ fn push_block(out: &mut String, block: Option<BlockId>) -> Result<(), AllocError
         Some(BlockId { file, block }) => write!(out, "{file} {block}"),
         None => out.push_str("none"),
     }
+}
+
+/// Blocks, parted by commas; a dash for none.
+pub fn push_all(out: &mut String, blocks: &[BlockId]) -> Result<(), AllocError> {
+    if blocks.is_empty() {
+        return out.push_str("-");
+    }
+    for (index, BlockId { file, block }) in blocks.iter().enumerate() {
+        out.push_str(if index == 0 { "" } else { "," })?;
+        write!(out, "{file}.{block}")?;
+    }
+    Ok(())
+}
+
+/// The keys of the peers that are asked for a block, parted by commas; a dash for none.
+pub fn push_askers(
+    out: &mut String,
+    requests: &Requests,
+    block: BlockId,
+) -> Result<(), AllocError> {
+    let askers = requests.book.asked(block);
+    if askers.is_empty() {
+        return out.push_str("-");
+    }
+    for (index, PeerKey(key)) in askers.iter().enumerate() {
+        out.push_str(if index == 0 { "" } else { "," })?;
+        write!(out, "{key}")?;
+    }
+    Ok(())
 }

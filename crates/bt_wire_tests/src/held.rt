@@ -2,7 +2,8 @@
 
 use crate::book::Requests;
 use crate::words::Words;
-use bt_book::{BlockId, PeerKey};
+use arrayvec::ArrayVec;
+use bt_book::{BlockId, MAX_REQUESTS, PeerKey};
 
 /// The blocks of a peer.
 #[derive(Clone, Copy)]
@@ -94,6 +95,15 @@ pub fn ask(requests: &mut Requests, peer: PeerKey, held: Held) -> Option<BlockId
 /// Asks a peer, by leaps over what it lacks.
 pub fn ask_next(requests: &mut Requests, peer: PeerKey, held: Held) -> Option<BlockId> {
     requests.book.ask_next(peer, |from| next(held, from))
+}
+
+/// Asks a peer for as many blocks as may be.
+pub fn ask_all(
+    requests: &mut Requests,
+    peer: PeerKey,
+    held: Held,
+) -> ArrayVec<BlockId, MAX_REQUESTS> {
+    requests.book.ask_all(peer, |from| next(held, from))
 }
 
 /// Whether a block is wanted that such a peer has.

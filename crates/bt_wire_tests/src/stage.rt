@@ -5,7 +5,7 @@ use crate::book::{Requests, book_row};
 use crate::cutter::{Stream, cuts_row, cutter_row, new_stream, stream_row};
 use crate::key::key_row;
 use crate::message::{hello_row, list_row, texts_row, write_row};
-use crate::random::{Random, random_row};
+use crate::random::{Mix, Random, random_row};
 use crate::serve::serve_row;
 use crate::tree::{Tree, tree_row};
 use crate::words::Words;
@@ -64,7 +64,8 @@ impl Stage {
             "list" => list_row(alloc, words, out),
             "texts" => texts_row(out),
             "book" => book_row(alloc, &mut self.requests, words, out),
-            "random" => random_row(&mut self.random, &mut self.requests, words, out),
+            "random" => random_row(&mut self.random, Mix::Many, &mut self.requests, words, out),
+            "few" => random_row(&mut self.random, Mix::Few, &mut self.requests, words, out),
             "serve" => serve_row(alloc, words, out),
             "key" => key_row(alloc, words, out),
             "tree" => tree_row(alloc, &mut self.tree, words, out),
