@@ -21,16 +21,15 @@ new_padded side inner blocks =
 
 -- ---- reads
 
--- how many bytes the reader behind gives at most at a time: a message with a whole block, and fewer requests
--- of 17 bytes than are remembered
-abbrev pub read_length : ℕ
-read_length = 16397
+-- how many bytes there is room for, and the reader behind gives at most at a time: a message with a whole block
+abbrev pub room_length : ℕ
+room_length = 16397
 
 -- the reader behind gave these bytes, and what is given on of them waits
 pub record TakesPart {R : Type 0} (remaining : R → Option (List ℕ)) (old : PaddedState R) (part : List ℕ)
     (new : PaddedState R) : Type 0 where
   pub given : List ℕ
-  pub few : length part ≤ read_length
+  pub few : length part ≤ room_length
   pub lost : Consumes (remaining old.inner) (remaining new.inner) part
   pub receives : Receives old.blocks old.side old.flow part new.flow given
   pub waits : new.waiting ≡ old.waiting ++ given
@@ -81,12 +80,13 @@ pub record IsInterrupted {R : Type 0} (remaining : R → Option (List ℕ)) (old
 
 -- ---- writes
 
--- all these bytes are taken, and what is given on of them is written
+-- so many of the bytes are taken, some where there are any, and what is given on of them is written
 pub record IsWritten {W : Type 0} (contents : W → Option (List ℕ)) (old : PaddedState W) (bytes : List ℕ)
     (count : ℕ) (new : PaddedState W) : Type 0 where
   pub given : List ℕ
-  pub all : count ≡ length bytes
-  pub receives : Receives old.blocks old.side old.flow bytes new.flow given
+  pub few : count ≤ length bytes
+  pub some : count ≡ 0 → bytes ≡ []
+  pub receives : Receives old.blocks old.side old.flow (take count bytes) new.flow given
   pub appended : Appends (contents old.inner) (contents new.inner) given
   pub others : new ≡ record old { inner = new.inner; flow = new.flow }
 

@@ -3,8 +3,8 @@ ghost use Rattle.std.specs.Prelude.{ℕ, List, IfSome, IfNone};
 ghost use Rattle.bt_wire.specs.Event.{IsSent};
 ghost use Rattle.bt_wire.specs.declared.message.Ask.{Ask};
 ghost use Rattle.bt_wire.specs.declared.message.Message.TheVariants.{Request, Piece};
-ghost use Rattle.bt_padding.specs.Flow.{IsFrame};
-ghost use Rattle.bt_padding.specs.FrameSteps.{IsFront, IsPieceOf};
+ghost use Rattle.bt_padding.specs.Flow.{IsFrame, Waits};
+ghost use Rattle.bt_padding.specs.FrameSteps.{IsFront, IsMissing, IsPieceOf};
 
 use bt_hashreq::number_at;
 use bt_tree::BLOCK_LEN;
@@ -13,10 +13,13 @@ use bt_wire::Ask;
 /// The greatest length field of a message (`max_length_field` of `bt_wire`).
 const MAX_LENGTH_FIELD: usize = 1 << 20;
 
+/// How many bytes spell a message's length.
+const FIELD_LEN: usize = 4;
+
 /// How a request begins: 13 bytes follow its length, of which the first is its kind, 6.
 const REQUEST_HEAD: [u8; 5] = [0, 0, 0, 13, 6];
 
-/// How many bytes a request has.
+/// How many bytes a request has, and of these stand before the length that is asked for.
 const REQUEST_LEN: usize = 17;
 
 /// The kinds of a request and of a piece.
@@ -30,8 +33,8 @@ const PIECE_HEAD_LEN: usize = 13;
 /// What bytes begin with.
 #[derive(Drop)]
 pub(crate) enum Front {
-    /// A frame of so many bytes.
-    Frame(usize),
+    /// A frame.
+    Frame,
     /// What may become a message that is translated.
     Part,
     /// Another message, of which so many bytes are missing.
@@ -42,19 +45,31 @@ pub(crate) enum Front {
 pub(crate) fn front_of(bytes: &[u8]) -> Front
     ensures { IsFront bytes.now result }
 {
-    if bytes.len() < 4 {
+    if bytes.len() < FIELD_LEN {
         return Front::Part;
     }
     let field = number_at(bytes, 0) as usize;
-    if field <= bytes.len() - 4 {
-        return Front::Frame(4 + field);
+    if field <= bytes.len() - FIELD_LEN {
+        return Front::Frame;
     }
-    match bytes.get(4) {
+    match bytes.get(FIELD_LEN) {
         None if field <= 9 + BLOCK_LEN => Front::Part,
-        Some(&REQUEST) if field == REQUEST_LEN - 4 => Front::Part,
+        Some(&REQUEST) if field == REQUEST_LEN - FIELD_LEN => Front::Part,
         Some(&PIECE) if field >= 9 && field <= 9 + BLOCK_LEN => Front::Part,
-        _ => Front::Other(4 + field - bytes.len()),
+        _ => Front::Other(FIELD_LEN + field - bytes.len()),
     }
+}
+
+/// How many bytes are missing behind these until there is a length field, or else until the frame is whole.
+pub(crate) fn missing_of(bytes: &[u8]) -> usize
+    requires { Waits bytes.now }
+    ensures { IsMissing bytes.now result }
+{
+    if bytes.len() < FIELD_LEN {
+        return FIELD_LEN - bytes.len();
+    }
+    let field = number_at(bytes, 0) as usize;
+    (FIELD_LEN + field).saturating_sub(bytes.len())
 }
 
 /// The request that a frame is.
@@ -72,10 +87,10 @@ pub(crate) fn read_request(frame: &[u8]) -> Option<Ask>
     })
 }
 
-/// Where the block of the piece lies that a frame is, and the block.
-pub(crate) fn read_piece(frame: &[u8]) -> Option<(Ask, &[u8])>
+/// The range of the block that a frame is the piece of.
+pub(crate) fn read_piece(frame: &[u8]) -> Option<Ask>
     requires { IsFrame frame.now }
-    ensures some { IfSome result (λ found. IsPieceOf frame.now found.0 found.1.now) }
+    ensures some { IfSome result (IsPieceOf frame.now) }
     ensures none { IfNone result ((piece begin : ℕ) (bytes : List ℕ)
         → ¬ IsSent (Piece piece begin bytes) frame.now) }
 {
@@ -83,10 +98,9 @@ pub(crate) fn read_piece(frame: &[u8]) -> Option<(Ask, &[u8])>
     if frame.len() > 4 + MAX_LENGTH_FIELD || frame[4] != PIECE {
         return None;
     }
-    let ask = Ask {
+    Some(Ask {
         piece: number_at(frame, 5),
         begin: number_at(frame, 9),
         length: block.len() as u32,
-    };
-    Some((ask, block))
+    })
 }

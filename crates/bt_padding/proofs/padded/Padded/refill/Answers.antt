@@ -1,18 +1,7 @@
-use Rattle.std.proofs.Common.{rules, List, ℕ, ◌++◌, sym, ◌∙◌, ap, take}
+use Rattle.bt_padding.proofs.Readers.{refilled}
 use Rattle.bt_padding.proofs.padded.Padded.refill.Goals as goal
 
 pub returns-clause-given : goal.returns-clause-given
-returns-clause-given g c = record {
-  part = take c.in_ok-count.count c.read.new.buf;
-  counted = search rules;
-  takes = record {
-    given = c.in_ok-translate.field-0.items;
-    few = search rules;
-    lost = search rules;
-    receives = search rules;
-    waits = c.from.ensures.0 ∙ ap (λ (xs : List ℕ). xs ++ c.in_ok-translate.field-0.items) (sym c.requires);
-    side = search rules;
-    blocks = search rules;
-  };
-  ended = search rules;
-}
+returns-clause-given g c =
+    refilled g.R.Read.remaining c.collect.result c.self.inside.inner c.collect.new.from c.self.inside.direction c.collect.new.self c.args.self.now
+    c.self.view_is c.requires c.collect.ensures.came

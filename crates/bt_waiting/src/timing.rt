@@ -1,6 +1,6 @@
 //! How long a peer may take for what it owes, so that those who wait behind it have their turn.
 ghost use Rattle.std.specs.Prelude.{◌≡◌, ◌↔◌, ◌⊎◌, ◌-◌, ◌<◌, IsTrue};
-ghost use Rattle.bt_sockets.specs.TimingSteps.{HavePassed, IsStranger};
+ghost use Rattle.bt_waiting.specs.TimingSteps.{HavePassed, IsSpent, IsStranger};
 
 use crate::passing::{Passed, Passing};
 use std::cell::Cell;
@@ -20,6 +20,14 @@ pub const BLOCK_SECONDS: u64 = 60;
 /// The kinds of messages that are looked at (BEP 3 and BEP 52).
 const CHOKE: u8 = 0;
 
+const INTERESTED: u8 = 2;
+
+const NOT_INTERESTED: u8 = 3;
+
+const HAVE: u8 = 4;
+
+const BITFIELD: u8 = 5;
+
 const REQUEST: u8 = 6;
 
 const PIECE: u8 = 7;
@@ -32,7 +40,7 @@ const HASH_REJECT: u8 = 23;
 
 /// What a connection is there for.
 #[derive(Clone, Copy, Debug, PartialEq, Eq)]
-pub(crate) enum Role {
+pub enum Role {
     /// Blocks are fetched from its peer.
     Fetch,
     /// Its peer is served.
@@ -61,6 +69,14 @@ struct Times {
     asked: Instant,
     /// So many requests of hashes are open.
     pending_hashes: u64,
+    /// Whether the peer refused one of them.
+    is_refused: bool,
+    /// Whether the peer was told last that blocks are wanted of it.
+    is_interested: bool,
+    /// So many pieces the torrent has,
+    pieces: u64,
+    /// and so many the peer says that it has.
+    had: u64,
     /// Whether another message came when a block was overdue.
     is_overdue: bool,
     incoming: Passing,
@@ -68,7 +84,7 @@ struct Times {
 }
 
 impl Times {
-    fn new(role: Role, now: Instant) -> Self {
+    fn new(role: Role, pieces: u32, now: Instant) -> Self {
         Times {
             role,
             begun: now,
@@ -76,6 +92,10 @@ impl Times {
             pending: 0,
             asked: now,
             pending_hashes: 0,
+            is_refused: false,
+            is_interested: false,
+            pieces: u64::from(pieces),
+            had: 0,
             is_overdue: false,
             incoming: Passing::new(),
             outgoing: Passing::new(),
@@ -93,6 +113,19 @@ impl Times {
             || self.is_stranger() && has_passed(self.begun, HANDSHAKE_SECONDS, now)
     }
 
+    /// Whether the peer, of which blocks are fetched, has nothing more to give: it has all pieces and no block of them
+    /// is wanted any more, it refused hashes, and nothing is open that it was asked for.
+    fn is_spent(&self) -> bool
+        ensures { IsTrue result ↔ IsSpent self.now }
+    {
+        self.role == Role::Fetch
+            && self.is_refused
+            && !self.is_interested
+            && self.had >= self.pieces
+            && self.pending == 0
+            && self.pending_hashes == 0
+    }
+
     /// Whether the peer came by itself, and has not sent its handshake.
     fn is_stranger(&self) -> bool
         ensures { IsTrue result ↔ IsStranger self.now }
@@ -104,7 +137,11 @@ impl Times {
     fn pass(&mut self, way: Way, bytes: &[u8], now: Instant) {
         let mut rest = bytes;
         'passing: while !rest.is_empty() {
+            let kind = self.passing(way).payload_kind();
             let (count, passed) = self.passing(way).pass(rest);
+            if way == Way::In && kind == Some(BITFIELD) {
+                self.note_pieces(bit_count(&rest[..count]));
+            }
             self.note(way, passed, now);
             rest = &rest[count..];
         }
@@ -142,15 +179,24 @@ impl Times {
         }
     }
 
+    /// The peer says that it has so many pieces more.
+    fn note_pieces(&mut self, count: u64) {
+        self.had = self.had.saturating_add(count);
+    }
+
     /// Another message came. Hashes are of use where some were asked for, and a choke closes all requests.
     fn other_came(&mut self, kind: u8, now: Instant) {
         match kind {
             CHOKE => self.pending = 0,
+            HAVE => self.note_pieces(1),
             HASHES if self.pending_hashes > 0 => {
                 self.pending_hashes -= 1;
                 self.used = now;
             }
-            HASH_REJECT => self.pending_hashes = self.pending_hashes.saturating_sub(1),
+            HASH_REJECT if self.pending_hashes > 0 => {
+                self.pending_hashes -= 1;
+                self.is_refused = true;
+            }
             _ => {}
         }
         self.look_for_block(now);
@@ -167,6 +213,8 @@ impl Times {
     /// A message went out.
     fn went(&mut self, kind: u8, now: Instant) {
         match kind {
+            INTERESTED => self.is_interested = true,
+            NOT_INTERESTED => self.is_interested = false,
             REQUEST => {
                 if self.pending == 0 {
                     self.asked = now;
@@ -180,6 +228,15 @@ impl Times {
     }
 }
 
+/// How many bits are set.
+fn bit_count(bytes: &[u8]) -> u64 {
+    let mut count: u64 = 0;
+    for byte in bytes {
+        count = count.saturating_add(u64::from(byte.count_ones()));
+    }
+    count
+}
+
 /// Whether so many seconds have passed since.
 fn has_passed(since: Instant, seconds: u64, now: Instant) -> bool
     ensures { IsTrue result ↔ HavePassed seconds since now }
@@ -190,27 +247,35 @@ fn has_passed(since: Instant, seconds: u64, now: Instant) -> bool
 /// What has passed over the connection that is there, and when. Both its handles note it. What lies in a cell no
 /// clause knows.
 #[derive(Drop)]
-pub(crate) struct Timing {
+pub struct Timing {
     times: Cell<Option<Times>>,
 }
 
 impl Timing {
     /// No connection was there yet.
-    pub(crate) fn new() -> Self {
+    pub fn new() -> Self {
         Timing {
             times: Cell::new(None),
         }
     }
 
-    /// A connection begins.
-    pub(crate) fn begin(&self, role: Role, now: Instant) {
-        self.times.set(Some(Times::new(role, now)));
+    /// A connection begins, for a torrent of so many pieces.
+    pub fn begin(&self, role: Role, pieces: u32, now: Instant) {
+        self.times.set(Some(Times::new(role, pieces, now)));
     }
 
     /// Whether the peer has taken too long.
     pub(crate) fn is_late(&self, now: Instant) -> bool {
         match self.times.get() {
             Some(times) => times.is_late(now),
+            None => false,
+        }
+    }
+
+    /// Whether the peer has nothing more to give.
+    pub(crate) fn is_spent(&self) -> bool {
+        match self.times.get() {
+            Some(times) => times.is_spent(),
             None => false,
         }
     }

@@ -52,6 +52,15 @@ impl Passing {
         self.is_greeted
     }
 
+    /// The kind of the message of which payload passes next, if that is what does.
+    pub(crate) fn payload_kind(&self) -> Option<u8> {
+        if self.owed > 0 && self.is_greeted {
+            Some(self.head[LENGTH_LEN])
+        } else {
+            None
+        }
+    }
+
     /// Lets the first of the bytes pass, to the end of a message at most: says how many, and what is whole by
     /// that.
     pub(crate) fn pass(&mut self, bytes: &[u8]) -> (usize, Passed)

@@ -1,4 +1,4 @@
--- Bytes that are taken in.
+-- Room for bytes that wait.
 use Rattle.std.specs.Prelude.{◌≡◌, ℕ, List, ◌++◌, Option, length}
 use Rattle.std.specs.Io.KnownBytes.{Consumes}
 
