@@ -1,11 +1,11 @@
 -- What a direction takes of bytes that come, as it is seen from outside.
-use Rattle.std.proofs.Common.{◌≡◌, ◌⊎◌, ◌≤◌, ◌<◌, ◌+◌, ◌-◌, ◌++◌, ℕ, List, [], take, drop, length, Option, refl, inl, inr, sym, ◌∙◌, ap, subst, arith, append-nil}
+use Rattle.std.proofs.Common.{◌≡◌, ◌≤◌, ◌<◌, ◌-◌, ◌++◌, ℕ, List, [], take, drop, length, Option, refl, inl, inr, sym, ◌∙◌, ap, subst, arith}
 use Rattle.std.proofs.lemmas.List.{take_all, drop_all}
 use Rattle.std.specs.Io.KnownBytes.{IsAtEnd}
 use Rattle.bt_wire.specs.declared.message.Ask.{Ask}
 use Rattle.bt_waiting.specs.Room.{IsTakenIn}
 use Rattle.bt_padding.specs.declared.translation.Side.{Side}
-use Rattle.bt_padding.specs.Flow.{Flow, flow, Waits}
+use Rattle.bt_padding.specs.Flow.{flow, Waits}
 use Rattle.bt_padding.specs.FrameSteps.{IsMissing}
 use Rattle.bt_padding.specs.Translation.{Settles, waits, Receives, passes, settles}
 use Rattle.bt_padding.specs.TranslationSteps.{DirectionState, IsApart, EndsWithFrame, IsWanted, IsCollected}

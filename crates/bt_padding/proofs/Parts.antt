@@ -1,5 +1,5 @@
 -- What is given on over all parts that come.
-use Rattle.std.proofs.Common.{◌≡◌, ◌≤◌, ◌<◌, ◌+◌, ◌-◌, ◌^◌, ℕ, List, [], ◌∷◌, ◌++◌, take, drop, length, get_or, refl, inl, inr, sym, ◌∙◌, ap, subst, arith, length-append, Contains}
+use Rattle.std.proofs.Common.{◌≡◌, ◌≤◌, ◌+◌, ◌-◌, ℕ, List, [], ◌∷◌, ◌++◌, take, drop, length, get_or, refl, inl, inr, sym, ◌∙◌, ap, subst, arith, length-append, Contains}
 use Rattle.std.proofs.lemmas.List.{append_assoc, append-nil, take_all, drop_all, take-append-le, drop-append-le, take-append-drop, get_or_append_left}
 use Rattle.std.proofs.lemmas.Bool.{cases_lt}
 use Rattle.std.proofs.Math.Seq.{take-append-add, drop-append-add}
@@ -11,7 +11,7 @@ use Rattle.bt_wire.specs.declared.message.Message.TheVariants.{Request, Piece}
 use Rattle.bt_wire.specs.Message.{message_spelling, ask_spelling}
 use Rattle.bt_meta.specs.Torrent.{Metainfo}
 use Rattle.bt_padding.specs.ShortBlocks.{short_blocks_of, padded}
-use Rattle.bt_padding.specs.Padding.{Memory, other as unchanged}
+use Rattle.bt_padding.specs.Padding.{other as unchanged}
 use Rattle.bt_tree.specs.Limits.{full_block_length}
 use Rattle.bt_padding.specs.Flow.{IsFrame, Flow, flow, IsOther, IsOfInterest}
 use Rattle.bt_padding.specs.declared.translation.Side.{Side}

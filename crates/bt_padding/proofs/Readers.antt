@@ -1,5 +1,5 @@
 -- What a reader takes of the one behind it and gives, and what a writer takes and gives on.
-use Rattle.std.proofs.Common.{◌≡◌, ◌<◌, ◌≤◌, ◌+◌, ℕ, List, [], ◌++◌, take, length, Option, Some, Result, Ok, Err, sym, ◌∙◌, ap, subst, arith, take_at, length-append}
+use Rattle.std.proofs.Common.{◌≡◌, ◌<◌, ◌+◌, ℕ, List, [], ◌++◌, take, length, Option, Some, Result, Ok, Err, sym, ◌∙◌, ap, subst, arith, take_at, length-append}
 use Rattle.std.specs.Prelude.{IfOk, min}
 use Rattle.std.specs.Io.KnownBytes.{Appends, IsAtEnd}
 use Rattle.bt_wire.specs.declared.message.Ask.{Ask}

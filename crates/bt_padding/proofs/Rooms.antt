@@ -1,6 +1,6 @@
 -- The bytes in a room, of which the first are given on.
-use Rattle.std.proofs.Common.{◌≡◌, ◌≤◌, ◌+◌, ◌-◌, ◌++◌, ℕ, List, [], take, drop, length, refl, sym, ◌∙◌, ap, subst, arith, length-take, length-append}
-use Rattle.std.proofs.lemmas.List.{take_all, drop_all}
+use Rattle.std.proofs.Common.{◌≡◌, ◌≤◌, ◌+◌, ◌-◌, ◌++◌, ℕ, List, [], take, drop, length, ◌∙◌, ap, subst, arith, length-take, length-append}
+use Rattle.std.proofs.lemmas.List.{take_all}
 use Rattle.std.proofs.Math.Seq.{take-append-add, drop-append-add}
 use Rattle.bt_padding.specs.Flow.{IsFrame}
 use Rattle.bt_padding.specs.FrameSteps.{BeginsFrame}

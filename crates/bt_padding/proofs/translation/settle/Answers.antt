@@ -1,8 +1,7 @@
 use Rattle.std.proofs.Common.{refl, subst, List, ℕ}
 use Rattle.bt_padding.specs.Flow.{IsOther}
 use Rattle.bt_padding.specs.FrameSteps.{BeginsFrame}
-use Rattle.bt_padding.specs.Translation.{Gives, other, translated}
-use Rattle.bt_padding.specs.declared.translation.Side.{Side}
+use Rattle.bt_padding.specs.Translation.{other, translated}
 use Rattle.bt_padding.proofs.Rooms.{whole_frame}
 use Rattle.bt_padding.proofs.translation.settle.Goals as goal
 

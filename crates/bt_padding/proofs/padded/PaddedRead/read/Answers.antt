@@ -1,4 +1,4 @@
-use Rattle.std.proofs.Common.{[], ◌++◌, refl, sym, ◌∙◌, ap, subst}
+use Rattle.std.proofs.Common.{[], ◌++◌, ◌∙◌, ap}
 use Rattle.std.proofs.lemmas.Result.{err_from_is_err_and}
 use Rattle.bt_padding.specs.Padded.{IsFilled, PaddedState, none_yet, one_more}
 use Rattle.bt_padding.proofs.Readers.{given_of}
@@ -21,7 +21,7 @@ returns-then-is_ready-clause-given g c =
       | then-is_ready-via-then-is_ready w ↦ rw w.self-is (record {
         came = so.0;
         takes = so.1;
-        ended = λ none. (let a = w.if-is_ready.true in let b = c.is_ready.ensures in let v = c.self.view_is in ?);
+        ended = λ none. absurd (w.if-is_ready.ensures.waits (ap (λ (p : PaddedState _). p.waiting) c.self.view_is ∙ none));
       })
       | then-is_ready-via-else-is_ready+in_ok-refill+then-branch-eq0 w ↦ rw w.self-is (
           let r = w.in_ok-refill.ensures.given in

@@ -26,7 +26,7 @@ returns-in-Some-at c =
     ∙ ap (λ n. ask_of short.piece short.begin n) c.if-ask.false in
     let is = shortened short c.args.frame.now (sent.spelled ∙ ap (λ (a : Ask). message_spelling (Request a)) same) in
     subst (λ (m : Memory). Gives c.args.blocks.now Peer c.args.self.now c.args.frame.now c.put.new.self m) (sym c.remember.ensures)
-    (subst (λ (xs : List ℕ). Gives c.args.blocks.now Peer c.args.self.now c.args.frame.now xs (with_asked c.args.self.now short)) 
+    (subst (λ (xs : List ℕ). Gives c.args.blocks.now Peer c.args.self.now c.args.frame.now xs (with_asked c.args.self.now short))
     (sym is ∙ ap (λ (b : List ℕ). (take 13 c.args.frame.now ++ b) ++ drop (13 + length b) c.args.frame.now) (sym c.to_be_bytes.ensures) ∙ sym c.put.ensures)
     (request_shortened c.streams_have_one_reading.ensures c.args.blocks.now c.args.self.now c.args.frame.now ask short sent c.in-Some-at.ensures.some same))
 

@@ -1,9 +1,6 @@
 use Rattle.std.proofs.Common.{◌≡◌, ◌+◌, ◌-◌, ◌++◌, sym, ◌∙◌, ap, subst, List, ℕ, drop, length, remove, replicate}
-use Rattle.bt_wire.specs.Event.{IsSent}
-use Rattle.bt_wire.specs.Message.{message_spelling}
 use Rattle.bt_wire.specs.declared.message.Ask.{Ask}
-use Rattle.bt_wire.specs.declared.message.Message.TheVariants.{Piece}
-use Rattle.bt_padding.specs.Padding.{Memory, filled}
+use Rattle.bt_padding.specs.Padding.{Memory}
 use Rattle.bt_padding.specs.FrameSteps.{IsPieceOf}
 use Rattle.bt_padding.specs.Translation.{Gives}
 use Rattle.bt_padding.specs.declared.translation.Side.TheVariants.{Engine}
@@ -23,6 +20,6 @@ returns-in-Some-answered c =
     let all : List ℕ = frame ++ replicate (16397 - length frame) 0 in
     let whole = filled_up ask.piece ask.begin is.block frame is.sent.spelled c.as_slice.ensures.few in
     subst (λ (m : Memory). Gives c.args.blocks.now Engine c.args.self.now frame c.put.new.self m) (sym memory)
-    (subst (λ (xs : List ℕ). Gives c.args.blocks.now Engine c.args.self.now frame xs (remove c.args.self.now i)) 
+    (subst (λ (xs : List ℕ). Gives c.args.blocks.now Engine c.args.self.now frame xs (remove c.args.self.now i))
     (sym whole ∙ ap (λ (b : List ℕ). b ++ drop (0 + length b) all) (sym c.to_be_bytes.ensures)
     ∙ ap (λ (xs : List ℕ). c.to_be_bytes.result ++ drop (0 + length c.to_be_bytes.result) xs) (sym c.fill.ensures) ∙ sym c.put.ensures) given)

@@ -43,13 +43,13 @@ returns-clause-came g c =
     subst (λ (s : DirectionState). IsCollected before after s count c.if-self-gt0.self) c.self.view_is (elim c.if-self-gt0.branch [
       | then-self-gt0 w ↦ rw w.self-is (
           pass_collected d.side d.blocks.now d.passing d.ready room none c.self.invariant.0 before after count most c.read_from.new.self t wanted
-              came.few came.ended c.self.invariant.2 w.if-self-gt0.true)
+          came.few came.ended c.self.invariant.2 w.if-self-gt0.true)
       | else-self-gt0+in-Some w ↦ rw w.self-is (
           settled_collected d.side d.blocks.now d.passing d.ready room none c.self.invariant.0 before after count most c.read_from.new.self t wanted
-              came.few came.ended w.deref_mut-else-self-gt0-2.result.now w.settle.new.room w.in-Some.behind _ w.deref_mut-else-self-gt0-2.ensures.value w.if-self-gt0.false
-              (ap length (w.as_slice.ensures.value ∙ w.deref.ensures)) w.in-Some.ensures)
+          came.few came.ended w.deref_mut-else-self-gt0-2.result.now w.settle.new.room w.in-Some.behind _ w.deref_mut-else-self-gt0-2.ensures.value w.if-self-gt0.false
+          (ap length (w.as_slice.ensures.value ∙ w.deref.ensures)) w.in-Some.ensures)
       | else-self-gt0+in_default w ↦ rw w.self-is (
           kept_collected d.side d.blocks.now d.passing d.ready room none c.self.invariant.0 before after count most c.read_from.new.self t wanted
-              came.few came.ended w.deref_mut-else-self-gt0-2.result.now w.settle.new.room w.deref_mut-else-self-gt0-2.ensures.value w.if-self-gt0.false
-              w.in_default.ensures.0 w.in_default.ensures.1)
+          came.few came.ended w.deref_mut-else-self-gt0-2.result.now w.settle.new.room w.deref_mut-else-self-gt0-2.ensures.value w.if-self-gt0.false
+          w.in_default.ensures.0 w.in_default.ensures.1)
     ])
