@@ -6,9 +6,10 @@ use Rattle.bt_wire.specs.declared.message.Ask.{Ask}
 use Rattle.bt_waiting.specs.Room.{IsTakenIn}
 use Rattle.bt_padding.specs.declared.translation.Side.{Side}
 use Rattle.bt_padding.specs.Flow.{flow, Waits}
+use Rattle.bt_padding.specs.Padded.{DirectionState, direction_state}
 use Rattle.bt_padding.specs.FrameSteps.{IsMissing}
 use Rattle.bt_padding.specs.Translation.{Settles, waits, Receives, passes, settles}
-use Rattle.bt_padding.specs.TranslationSteps.{DirectionState, IsApart, EndsWithFrame, IsWanted, IsCollected}
+use Rattle.bt_padding.specs.TranslationSteps.{IsApart, IsOrderly, EndsWithFrame, IsWanted, IsCollected}
 use Rattle.bt_padding.proofs.Frames.{ends_with_frame}
 use Rattle.bt_padding.proofs.Rooms.{none_ready}
 
@@ -31,8 +32,8 @@ gathered old new before after room room' count most t wanted same few ended rece
     }
 
 module _ (side : Side) (blocks : List Ask) (passing ready : ℕ) (room : List ℕ) (none : take ready room ≡ []) (inside : ready ≤ length room) where
-  abbrev pub seen : ℕ → ℕ → List ℕ → DirectionState
-  seen passing ready room = record { side = side; blocks = blocks; flow = flow passing (drop ready room); waiting = take ready room }
+  abbrev seen : ℕ → ℕ → List ℕ → DirectionState
+  seen passing ready room = direction_state side blocks passing room ready
 
   abbrev old : DirectionState
   old = seen passing ready room
@@ -103,7 +104,7 @@ module _ (side : Side) (blocks : List Ask) (passing ready : ℕ) (room : List �
         gathered old (seen passing ready now) before after room room' count most t wanted (ap length all_unread) few ended
         (settles (omega (arith, zero)) (waits come left nothing)) refl refl
 
-  pub waits_unready : (now : List ℕ) → Waits now → passing ≤ 0 → (ready ≤ length now) × Waits (drop ready now) × IsApart passing (drop ready now)
+  pub waits_unready : (now : List ℕ) → Waits now → passing ≤ 0 → IsOrderly passing now ready
   waits_unready now w zero = (
     omega (arith, unready),
     subst Waits (sym (ap (λ n. drop n now) unready)) w,

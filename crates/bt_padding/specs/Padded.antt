@@ -1,9 +1,9 @@
 -- What a peer sends, read as its engine is to get it, and what an engine sends, written as its peer is to get it.
-use Rattle.std.specs.Prelude.{◌≡◌, ℕ, ◌<◌, ◌≤◌, List, [], ◌++◌, Option, length, take}
+use Rattle.std.specs.Prelude.{◌≡◌, ℕ, ◌<◌, ◌≤◌, List, [], ◌++◌, Option, length, take, drop}
 use Rattle.std.specs.Io.KnownBytes.{Appends, Consumes, IsAtEnd, Keeps}
 use Rattle.bt_wire.specs.declared.message.Ask.{Ask}
 use Rattle.bt_padding.specs.declared.translation.Side.{Side}
-use Rattle.bt_padding.specs.Flow.{Flow, new_flow}
+use Rattle.bt_padding.specs.Flow.{Flow, flow, new_flow}
 use Rattle.bt_padding.specs.Translation.{Receives}
 
 -- the reader or the writer behind it, where the bytes come from, the short blocks, what has come, and what a
@@ -14,6 +14,21 @@ pub record PaddedState (T : Type 0) : Type 0 where
   pub blocks : List Ask
   pub flow : Flow
   pub waiting : List ℕ
+
+-- what of that one direction has, without what is behind it
+pub record DirectionState : Type 0 where
+  pub side : Side
+  pub blocks : List Ask
+  pub flow : Flow
+  pub waiting : List ℕ
+
+-- the first bytes in its room are to be given on, and those behind them came of a frame
+abbrev pub direction_state : Side → (blocks : List Ask) → (passing : ℕ) → (room : List ℕ) → (ready : ℕ) → DirectionState
+direction_state side blocks passing room ready =
+    record { side = side; blocks = blocks; flow = flow passing (drop ready room); waiting = take ready room }
+
+abbrev pub padded_state : {T : Type 0} → T → DirectionState → PaddedState T
+padded_state inner d = record { inner = inner; side = d.side; blocks = d.blocks; flow = d.flow; waiting = d.waiting }
 
 abbrev pub new_padded : {T : Type 0} → Side → T → (blocks : List Ask) → PaddedState T
 new_padded side inner blocks =

@@ -1,19 +1,12 @@
 -- What the steps of a translation say of each other. No public contract cites them.
-use Rattle.std.specs.Prelude.{◌≡◌, ◌⊎◌, ℕ, ◌+◌, ◌<◌, ◌≤◌, List, [], Option, Some, None, length}
+use Rattle.std.specs.Prelude.{◌≡◌, ◌⊎◌, ℕ, ◌+◌, ◌<◌, ◌≤◌, List, [], Option, Some, None, length, drop}
 use Rattle.std.specs.Io.KnownBytes.{Consumes, IsAtEnd}
 use Rattle.bt_wire.specs.declared.message.Ask.{Ask}
 use Rattle.bt_padding.specs.declared.translation.Side.{Side}
-use Rattle.bt_padding.specs.Flow.{Flow, flow, Waits}
+use Rattle.bt_padding.specs.Flow.{flow, Waits}
 use Rattle.bt_padding.specs.FrameSteps.{BeginsFrame, IsMissing}
-use Rattle.bt_padding.specs.Padded.{room_length}
+use Rattle.bt_padding.specs.Padded.{room_length, DirectionState}
 use Rattle.bt_padding.specs.Translation.{Settles, Receives}
-
--- where the bytes of a direction come from, the short blocks, what has come, and what is to be given on of it
-pub record DirectionState : Type 0 where
-  pub side : Side
-  pub blocks : List Ask
-  pub flow : Flow
-  pub waiting : List ℕ
 
 -- where the bytes begin with a frame nothing stands behind it
 abbrev pub EndsWithFrame : List ℕ → Type 0
@@ -27,6 +20,11 @@ SettlesBy blocks side came (Some behind) now = Settles blocks side came (flow be
 -- behind bytes that are kept none pass
 abbrev pub IsApart : (passing : ℕ) → (unread : List ℕ) → Type 0
 IsApart passing unread = (passing ≡ 0) ⊎ (unread ≡ [])
+
+-- so many of the bytes in the room are given on, and those behind them wait
+abbrev pub IsOrderly : (passing : ℕ) → (room : List ℕ) → (ready : ℕ) → Type 0
+IsOrderly passing room ready =
+    (ready ≤ length room) × Waits (drop ready room) × IsApart passing (drop ready room)
 
 -- so many bytes are taken next at most: some of those that pass, or what is missing of a frame
 pub record IsWanted (d : DirectionState) (most : ℕ) : Type 0 where

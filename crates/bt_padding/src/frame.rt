@@ -1,25 +1,20 @@
 //! Frames of a stream, and those of them that are requests and pieces (BEP 3).
-ghost use Rattle.std.specs.Prelude.{ℕ, List, IfSome, IfNone};
+ghost use Rattle.std.specs.Prelude.{ℕ, ◌≤◌, List, length, IfSome, IfNone};
 ghost use Rattle.bt_wire.specs.Event.{IsSent};
 ghost use Rattle.bt_wire.specs.declared.message.Ask.{Ask};
 ghost use Rattle.bt_wire.specs.declared.message.Message.TheVariants.{Request, Piece};
 ghost use Rattle.bt_padding.specs.Flow.{IsFrame, Waits};
 ghost use Rattle.bt_padding.specs.FrameSteps.{IsFront, IsMissing, IsPieceOf};
+ghost use Rattle.bt_padding.specs.Padded.{room_length};
 
 use bt_hashreq::number_at;
 use bt_tree::BLOCK_LEN;
 use bt_wire::Ask;
 
-/// The greatest length field of a message (`max_length_field` of `bt_wire`).
-const MAX_LENGTH_FIELD: usize = 1 << 20;
-
-/// How many bytes spell a message's length.
-const FIELD_LEN: usize = 4;
-
 /// How a request begins: 13 bytes follow its length, of which the first is its kind, 6.
 const REQUEST_HEAD: [u8; 5] = [0, 0, 0, 13, 6];
 
-/// How many bytes a request has, and of these stand before the length that is asked for.
+/// How many bytes a request has.
 const REQUEST_LEN: usize = 17;
 
 /// The kinds of a request and of a piece.
@@ -27,8 +22,8 @@ const REQUEST: u8 = 6;
 
 const PIECE: u8 = 7;
 
-/// How many bytes of a piece stand before its block's: length field, kind, piece and begin.
-const PIECE_HEAD_LEN: usize = 13;
+/// How many bytes of a request stand before its length, and of a piece before its block.
+pub(crate) const HEAD_LEN: usize = 13;
 
 /// What bytes begin with.
 #[derive(Drop)]
@@ -45,18 +40,18 @@ pub(crate) enum Front {
 pub(crate) fn front_of(bytes: &[u8]) -> Front
     ensures { IsFront bytes.now result }
 {
-    if bytes.len() < FIELD_LEN {
+    if bytes.len() < 4 {
         return Front::Part;
     }
     let field = number_at(bytes, 0) as usize;
-    if field <= bytes.len() - FIELD_LEN {
+    if field <= bytes.len() - 4 {
         return Front::Frame;
     }
-    match bytes.get(FIELD_LEN) {
+    match bytes.get(4) {
         None if field <= 9 + BLOCK_LEN => Front::Part,
-        Some(&REQUEST) if field == REQUEST_LEN - FIELD_LEN => Front::Part,
+        Some(&REQUEST) if field == REQUEST_LEN - 4 => Front::Part,
         Some(&PIECE) if field >= 9 && field <= 9 + BLOCK_LEN => Front::Part,
-        _ => Front::Other(FIELD_LEN + field - bytes.len()),
+        _ => Front::Other(4 + field - bytes.len()),
     }
 }
 
@@ -65,11 +60,11 @@ pub(crate) fn missing_of(bytes: &[u8]) -> usize
     requires { Waits bytes.now }
     ensures { IsMissing bytes.now result }
 {
-    if bytes.len() < FIELD_LEN {
-        return FIELD_LEN - bytes.len();
+    if bytes.len() < 4 {
+        return 4 - bytes.len();
     }
     let field = number_at(bytes, 0) as usize;
-    (FIELD_LEN + field).saturating_sub(bytes.len())
+    (4 + field).saturating_sub(bytes.len())
 }
 
 /// The request that a frame is.
@@ -89,13 +84,14 @@ pub(crate) fn read_request(frame: &[u8]) -> Option<Ask>
 
 /// The range of the block that a frame is the piece of.
 pub(crate) fn read_piece(frame: &[u8]) -> Option<Ask>
-    requires { IsFrame frame.now }
+    requires frame { IsFrame frame.now }
+    requires few { length frame.now ≤ room_length }
     ensures some { IfSome result (IsPieceOf frame.now) }
     ensures none { IfNone result ((piece begin : ℕ) (bytes : List ℕ)
         → ¬ IsSent (Piece piece begin bytes) frame.now) }
 {
-    let block = frame.get(PIECE_HEAD_LEN..)?;
-    if frame.len() > 4 + MAX_LENGTH_FIELD || frame[4] != PIECE {
+    let block = frame.get(HEAD_LEN..)?;
+    if frame[4] != PIECE {
         return None;
     }
     Some(Ask {

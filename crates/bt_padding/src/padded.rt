@@ -1,10 +1,9 @@
 //! The reader and the writer of a connection, as its engine has them.
-ghost use Rattle.std.specs.Prelude.{◌≡◌, ◌≢◌, [], None, IfOk, IfErr, OnErr};
+ghost use Rattle.std.specs.Prelude.{◌≡◌, ◌≢◌, [], None, IfOk, IfErr};
 ghost use Rattle.std.specs.Io.{ReadsAtMost, WritesAtMost};
 ghost use Rattle.std.specs.Io.KnownBytes.{Keeps, ReadConsumes, WriteAppends};
 ghost use Rattle.std.specs.IoError.{error_kind};
-ghost use Rattle.bt_padding.specs.Padded.{new_padded, IsRead, LosesNothing, IsInterrupted, IsWritten, IsFlushed};
-ghost use Rattle.bt_padding.specs.PaddedSteps.{IsRefilled};
+ghost use Rattle.bt_padding.specs.Padded.{new_padded, IsRead, IsInterrupted, IsWritten, IsFlushed};
 
 use crate::padding::Padding;
 use crate::short_blocks::ShortBlocks;
@@ -14,13 +13,11 @@ use std::cell::{RefCell, RefMut};
 use std::io::{self, ErrorKind, Read, Write};
 use std::marker::Model;
 
-/// Over a reader of what a peer sends (`Side::Peer`), a reader of what its engine is to get of it; over a
-/// writer to that peer (`Side::Engine`), a writer of what the engine sends. The two of a connection share
-/// what is remembered of the peer.
+/// Over a reader of what a peer sends (`Side::Peer`), a reader of what its engine is to get of it; over a writer to
+/// that peer (`Side::Engine`), a writer of what the engine sends. The two share what is remembered of the peer.
 ///
-/// A message that may be translated is given on once it is whole, and any other as it comes, but for its first
-/// bytes. No memory is taken: what waits has its room. What of a message waits when the reader behind ends is not
-/// given.
+/// A message that may be translated is given on once it is whole, or not at all; any other as it comes, but for its
+/// first bytes. No memory is taken: what waits has its room.
 #[derive(Drop)]
 pub struct Padded<'a, T> {
     inner: T,
@@ -28,17 +25,11 @@ pub struct Padded<'a, T> {
 }
 
 impl<'a, T> Model for Padded<'a, T> {
-    ghost use Rattle.bt_padding.specs.Padded.{PaddedState};
+    ghost use Rattle.bt_padding.specs.Padded.{PaddedState, padded_state};
 
     ghost Value = { PaddedState T };
 
-    ghost view = { λ p. record {
-      inner = p.inner;
-      side = p.direction.side;
-      blocks = p.direction.blocks;
-      flow = p.direction.flow;
-      waiting = p.direction.waiting;
-    } };
+    ghost view = { λ p. padded_state p.inner p.direction };
 }
 
 impl<'a, T> Padded<'a, T> {
@@ -65,17 +56,6 @@ impl<'a, T> Padded<'a, T> {
     }
 }
 
-impl<'a, R: Read> Padded<'a, R> {
-    /// Reads once, and says how many bytes came; what is given on of them waits. Errors: as `read`.
-    fn refill(&mut self) -> io::Result<usize>
-        requires { self.old.waiting ≡ [] }
-        ensures given { IfOk result (λ count. IsRefilled R.remaining self.old count self.new) }
-        ensures again { OnErr result (LosesNothing R.remaining self.old self.new) }
-    {
-        self.direction.collect(&mut self.inner)
-    }
-}
-
 // What is to come depends on what is remembered by then, so it is not known.
 impl<'a, R: Read> Read for Padded<'a, R> {
     /// Reads until something waits to be given, or to the end. Errors: those of the reader behind. After each the read
@@ -89,7 +69,7 @@ impl<'a, R: Read> Read for Padded<'a, R> {
     {
         // A bound, so that it ends whatever the system gives.
         for _ in 0..u64::MAX {
-            if self.direction.is_ready() || self.refill()? == 0 {
+            if self.direction.is_ready() || self.direction.collect(&mut self.inner)? == 0 {
                 return Ok(self.direction.give(buffer));
             }
         }
@@ -100,9 +80,12 @@ impl<'a, R: Read> Read for Padded<'a, R> {
 impl<'a, W: Write> Padded<'a, W> {
     /// Takes some of the bytes, and writes what is given on. Errors: those of `write`, of any kind.
     fn give_on(&mut self, bytes: &[u8]) -> io::Result<usize>
-        requires { self.old.waiting ≡ [] }
         ensures { IfOk result (λ count. IsWritten W.contents self.old bytes.now count self.new) }
     {
+        if self.direction.is_ready() {
+            // Only where it is a reader.
+            return Err(io::Error::from(ErrorKind::BrokenPipe));
+        }
         let mut rest = bytes;
         let count = self.direction.collect(&mut rest)?;
         self.direction.send(&mut self.inner)?;
@@ -121,10 +104,6 @@ impl<'a, W: Write> Write for Padded<'a, W> {
         ensures written { IfOk result (λ count. IsWritten W.contents self.old bytes.now count self.new) }
         ensures not_again { IfErr result (λ error. error_kind error ≢ ErrorKind.Interrupted) }
     {
-        // Where it was read, and not written to, something may wait.
-        if self.direction.is_ready() {
-            return Err(io::Error::from(ErrorKind::BrokenPipe));
-        }
         match self.give_on(bytes) {
             Ok(count) => Ok(count),
             Err(_) => Err(io::Error::from(ErrorKind::BrokenPipe)),

@@ -6,7 +6,7 @@ ghost use Rattle.bt_padding.specs.PaddingSteps.{IsFirstAt};
 ghost use Rattle.bt_padding.specs.Translation.{Gives};
 ghost use Rattle.bt_padding.specs.declared.translation.Side.TheVariants.{Peer, Engine};
 
-use crate::frame::{read_piece, read_request};
+use crate::frame::{HEAD_LEN, read_piece, read_request};
 use crate::short_blocks::ShortBlocks;
 use crate::translation::FrameRoom;
 use bt_tree::BLOCK_LEN;
@@ -17,14 +17,7 @@ use std::marker::Model;
 /// How many requests are remembered at most.
 const MAX_REMEMBERED: usize = 1024;
 
-/// Where in a request its length stands.
-const ASKED_AT: usize = 13;
-
-/// The length field of a piece with a whole block.
-const PIECE_FIELD: u32 = 9 + BLOCK_LEN as u32;
-
-/// What is remembered of a peer: its requests for padded blocks, shortened as they were given on, that are
-/// not answered yet.
+/// The requests of a peer for padded blocks, shortened as they were given on, that are not answered yet.
 #[derive(Drop)]
 pub struct Padding {
     /// From the oldest on.
@@ -72,7 +65,7 @@ impl Padding {
         }
         if let Some(short) = blocks.at(ask.piece, ask.begin) {
             self.remember(short);
-            frame.put(ASKED_AT, &short.length.to_be_bytes());
+            frame.put(HEAD_LEN, &short.length.to_be_bytes());
         }
     }
 
@@ -88,7 +81,8 @@ impl Padding {
         if let Some(index) = self.answered(blocks, ask) {
             self.asked.remove(index);
             frame.fill();
-            frame.put(0, &PIECE_FIELD.to_be_bytes());
+            // The length field of a piece with a whole block.
+            frame.put(0, &(9 + BLOCK_LEN as u32).to_be_bytes());
         }
     }
 

@@ -42,22 +42,15 @@ pub(crate) struct Direction<'a> {
 }
 
 impl<'a> Model for Direction<'a> {
-    ghost use Rattle.std.specs.Prelude.{◌≤◌, take, drop, length};
     ghost use Rattle.std.specs.RefCell.{ref_mut_value};
-    ghost use Rattle.bt_padding.specs.Flow.{flow, Waits};
-    ghost use Rattle.bt_padding.specs.TranslationSteps.{DirectionState, IsApart};
+    ghost use Rattle.bt_padding.specs.Padded.{DirectionState, direction_state};
+    ghost use Rattle.bt_padding.specs.TranslationSteps.{IsOrderly};
 
     ghost Value = { DirectionState };
 
-    ghost view = { λ d. record {
-      side = d.side;
-      blocks = d.blocks.now;
-      flow = flow d.passing (drop d.ready (ref_mut_value d.room));
-      waiting = take d.ready (ref_mut_value d.room);
-    } };
+    ghost view = { λ d. direction_state d.side d.blocks.now d.passing (ref_mut_value d.room) d.ready };
 
-    ghost invariant = { λ d. (d.ready ≤ length (ref_mut_value d.room))
-        × Waits (drop d.ready (ref_mut_value d.room)) × IsApart d.passing (drop d.ready (ref_mut_value d.room)) };
+    ghost invariant = { λ d. IsOrderly d.passing (ref_mut_value d.room) d.ready };
 }
 
 impl<'a> Direction<'a> {
@@ -69,9 +62,8 @@ impl<'a> Direction<'a> {
         self.ready > 0
     }
 
-    /// Reads once, of what passes or of what is missing of a frame, and says how many bytes came, none only at the
-    /// end. What is given on of them waits then. Errors: those of the reader; what is remembered is in use, which no
-    /// call of this crate brings about.
+    /// Reads once, of what passes or is missing of a frame, and says how many bytes came; what is given on waits then.
+    /// Errors: those of the reader; what is remembered is in use, which no call of this crate brings about.
     pub(crate) fn collect<R: Read>(&mut self, from: &mut R) -> io::Result<usize>
         requires { self.old.waiting ≡ [] }
         ensures came { IfOk result (λ count.

@@ -2,7 +2,8 @@ use Rattle.std.proofs.Common.{◌≡◌, [], sym, ◌∙◌, subst, ap, List, �
 use Rattle.std.specs.RefCell.{ref_mut_value}
 use Rattle.bt_waiting.specs.Room.{IsTakenIn}
 use Rattle.bt_padding.specs.Flow.{Waits}
-use Rattle.bt_padding.specs.TranslationSteps.{DirectionState, IsWanted, IsCollected}
+use Rattle.bt_padding.specs.Padded.{DirectionState}
+use Rattle.bt_padding.specs.TranslationSteps.{IsWanted, IsCollected}
 use Rattle.bt_padding.proofs.Directions.{ends_whole, waits_unready, pass_collected, settled_collected, kept_collected}
 use Rattle.bt_padding.proofs.translation.Direction.collect.Goals as goal
 use Rattle.bt_padding.proofs.translation.Direction.collect.Goals.{then-self-gt0, else-self-gt0+in-Some, else-self-gt0+in_default}

@@ -3,7 +3,8 @@ use Rattle.std.specs.RefCell.{ref_mut_value}
 use Rattle.bt_wire.specs.declared.message.Ask.{Ask}
 use Rattle.bt_padding.specs.declared.translation.Side.{Side}
 use Rattle.bt_padding.specs.Flow.{Waits, Flow, flow}
-use Rattle.bt_padding.specs.TranslationSteps.{DirectionState, IsApart}
+use Rattle.bt_padding.specs.Padded.{DirectionState}
+use Rattle.bt_padding.specs.TranslationSteps.{IsApart}
 use Rattle.bt_padding.proofs.Rooms.{ready_behind, unread_behind, fewer}
 use Rattle.bt_padding.proofs.translation.Direction.give.Goals as goal
 

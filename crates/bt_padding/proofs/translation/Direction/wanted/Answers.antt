@@ -1,6 +1,7 @@
 use Rattle.std.proofs.Common.{◌∙◌, subst, ap}
 use Rattle.std.specs.RefCell.{ref_mut_value}
-use Rattle.bt_padding.specs.TranslationSteps.{DirectionState, IsWanted}
+use Rattle.bt_padding.specs.Padded.{DirectionState}
+use Rattle.bt_padding.specs.TranslationSteps.{IsWanted}
 use Rattle.bt_padding.proofs.Directions.{missing_wanted}
 use Rattle.bt_padding.proofs.translation.Direction.wanted.Goals as goal
 
