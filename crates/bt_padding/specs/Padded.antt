@@ -23,12 +23,14 @@ pub record DirectionState : Type 0 where
   pub waiting : List ℕ
 
 -- the first bytes in its room are to be given on, and those behind them came of a frame
-abbrev pub direction_state : Side → (blocks : List Ask) → (passing : ℕ) → (room : List ℕ) → (ready : ℕ) → DirectionState
+abbrev pub direction_state : Side → (blocks : List Ask) → (passing : ℕ) → (room : List ℕ) → (ready : ℕ)
+    → DirectionState
 direction_state side blocks passing room ready =
     record { side = side; blocks = blocks; flow = flow passing (drop ready room); waiting = take ready room }
 
 abbrev pub padded_state : {T : Type 0} → T → DirectionState → PaddedState T
-padded_state inner d = record { inner = inner; side = d.side; blocks = d.blocks; flow = d.flow; waiting = d.waiting }
+padded_state inner d =
+    record { inner = inner; side = d.side; blocks = d.blocks; flow = d.flow; waiting = d.waiting }
 
 abbrev pub new_padded : {T : Type 0} → Side → T → (blocks : List Ask) → PaddedState T
 new_padded side inner blocks =
@@ -36,7 +38,8 @@ new_padded side inner blocks =
 
 -- ---- reads
 
--- how many bytes there is room for, and the reader behind gives at most at a time: a message with a whole block
+-- how many bytes there is room for, and the reader behind gives at most at a time: a message with a whole
+-- block
 abbrev pub room_length : ℕ
 room_length = 16397
 

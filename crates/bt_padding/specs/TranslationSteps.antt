@@ -34,8 +34,8 @@ pub record IsWanted (d : DirectionState) (most : ℕ) : Type 0 where
   pub missing : d.flow.passing ≡ 0 → IsMissing d.flow.unread most
 
 -- so many bytes came, none only at the end, and what is given on of them waits
-pub record IsCollected (before after : Option (List ℕ)) (old : DirectionState) (count : ℕ) (new : DirectionState)
-    : Type 0 where
+pub record IsCollected (before after : Option (List ℕ)) (old : DirectionState) (count : ℕ)
+    (new : DirectionState) : Type 0 where
   pub part : List ℕ
   pub counted : length part ≡ count
   pub few : count ≤ room_length

@@ -13,8 +13,8 @@ HavePassed seconds since now = seconds * 1000000000 ≤ instant_nanos now - inst
 abbrev pub IsStranger : Times → Type 0
 IsStranger times = (times.role ≡ Serve) × (times.incoming.is_greeted ≡ false)
 
--- Blocks are fetched from the peer, which has all pieces: no block of them is wanted any more, it refused hashes, and
--- no request is open.
+-- Blocks are fetched from the peer, which has all pieces: no block of them is wanted any more, it refused
+-- hashes, and no request is open.
 pub record IsSpent (times : Times) : Type 0 where
   pub fetched_from : times.role ≡ Fetch
   pub refused : times.is_refused ≡ true
