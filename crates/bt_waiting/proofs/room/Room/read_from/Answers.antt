@@ -1,4 +1,4 @@
-use Rattle.std.proofs.Common.{rules, ◌≡◌, ◌≤◌, ◌+◌, length, take, drop, ℕ, List, ◌∙◌, ap, arith}
+use Rattle.std.proofs.Common.{rules, ◌≡◌, ◌≤◌, ◌+◌, length, take, drop, ℕ, List, ◌∙◌, ap}
 use Rattle.std.proofs.lemmas.List.{with_items_is, places}
 use Rattle.bt_waiting.proofs.Rooms.{stands_behind, came_whole}
 use Rattle.bt_waiting.proofs.room.Room.read_from.Goals as goal
