@@ -10,8 +10,8 @@ use std::marker::Model;
 /// Room for so many bytes, and those that are in it. A reader or a writer may borrow it for as long as it is there.
 #[derive(Drop)]
 pub struct Room<const LEN: usize> {
-    /// The first so many of these are in it.
     bytes: Vec<u8>,
+    /// The first so many of these are in it.
     len: usize,
 }
 
