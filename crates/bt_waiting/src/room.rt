@@ -145,5 +145,7 @@ fn move_to_front(bytes: &mut [u8], start: usize, end: usize)
     ensures moved { take (end - start) bytes.new ≡ slice_range bytes.old start end }
     ensures size { length bytes.new ≡ length bytes.old }
 {
-    bytes.copy_within(start..end, 0);
+    if start > 0 {
+        bytes.copy_within(start..end, 0);
+    }
 }
