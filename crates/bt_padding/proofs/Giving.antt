@@ -1,7 +1,7 @@
 -- What is given on in place of a frame.
-use Rattle.std.proofs.Common.{◌≡◌, ◌-◌, ℕ, List, ◌++◌, take, length, refl, sym, ◌∙◌, ap, subst, arith, Contains, remove, replicate}
-use Rattle.std.proofs.lemmas.List.{take_all}
-use Rattle.std.specs.Prelude.{max}
+use Rattle.std.proofs.Common.{◌≡◌, ◌≤◌, ◌+◌, ◌-◌, ℕ, List, ◌++◌, take, drop, length, refl, sym, ◌∙◌, ap, subst, arith, Contains, remove, replicate, length-append}
+use Rattle.std.proofs.lemmas.List.{length-replicate}
+use Rattle.std.specs.Int.{w32, to_be_bytes}
 use Rattle.bt_tree.specs.Limits.{full_block_length}
 use Rattle.bt_wire.specs.Message.{message_spelling}
 use Rattle.bt_wire.specs.Event.{IsSent}
@@ -11,19 +11,29 @@ use Rattle.bt_wire.specs.declared.message.Message.TheVariants.{Request, Piece}
 use Rattle.bt_padding.specs.ShortBlocks.{ask_of, padded}
 use Rattle.bt_padding.specs.Padding.{Memory, with_asked, filled, request, piece, other}
 use Rattle.bt_padding.specs.PaddingSteps.{IsFirstAt}
+use Rattle.bt_padding.specs.Padded.{room_length}
 use Rattle.bt_padding.specs.Translation.{Gives}
 use Rattle.bt_padding.specs.declared.translation.Side.TheVariants.{Peer, Engine}
 use Rattle.bt_padding.proofs.Messages.{ask_in, answer_range, is_there, is_taken}
 use Rattle.bt_padding.proofs.Streams.{one_message}
 
--- with zeros up to the length of a block at least
-pub filled_by : (block items new : List ℕ) (size held : ℕ) → size ≡ max (length block) full_block_length → items ≡ block → held ≡ length block
-    → new ≡ take size items ++ replicate (size - held) 0 → new ≡ filled block
-filled_by block items new size held most same all is =
-    let whole : take size block ≡ block = take_all size block (omega (arith, most)) in
-    let zeros : size - held ≡ full_block_length - length block = omega (arith, most, all) in
-    is ∙ ap (λ (xs : List ℕ). take size xs ++ replicate (size - held) 0) same ∙ ap (λ (xs : List ℕ). xs ++ replicate (size - held) 0) whole
-    ∙ ap (λ n. block ++ replicate n 0) zeros
+-- with another length in its place a request is the one of that length
+pub shortened : (short : Ask) (frame : List ℕ) → frame ≡ message_spelling (Request (padded short))
+    → take 13 frame ++ to_be_bytes w32 short.length ++ drop (13 + 4) frame ≡ message_spelling (Request short)
+shortened short frame is = ap (λ (xs : List ℕ). take 13 xs ++ to_be_bytes w32 short.length ++ drop 17 xs) is
+
+-- with zeros behind it, and the length field of a whole block, a piece is the one of the filled block
+pub filled_up : (p b : ℕ) (block frame : List ℕ) → frame ≡ message_spelling (Piece p b block) → length frame ≤ room_length
+    → (let all : List ℕ = frame ++ replicate (room_length - length frame) 0 in take 0 all ++ to_be_bytes w32 16393 ++ drop (0 + 4) all)
+    ≡ message_spelling (Piece p b (filled block))
+filled_up p b block frame is few =
+    let size : length frame ≡ 13 + length block = omega (arith, ap length is) in
+    let zeros : room_length - length frame ≡ full_block_length - length block = omega (arith, size) in
+    let whole : length (filled block) ≡ full_block_length
+    = length-append block (replicate (full_block_length - length block) 0) ∙ ap (λ n. length block + n) (length-replicate (full_block_length - length block) 0) ∙ omega (arith, size, few) in
+    let field : 16393 ≡ 1 + length (to_be_bytes w32 p ++ to_be_bytes w32 b ++ filled block) = omega (arith, whole) in
+    ap (λ (xs : List ℕ). to_be_bytes w32 16393 ++ drop 4 xs) (ap (λ (xs : List ℕ). xs ++ replicate (room_length - length frame) 0) is ∙ ap (λ n. message_spelling (Piece p b block) ++ replicate n 0) zeros)
+    ∙ ap (λ n. to_be_bytes w32 n ++ drop 4 (message_spelling (Piece p b block) ++ replicate (full_block_length - length block) 0)) field
 
 module _ (law : StreamsHaveOneReading) (blocks : List Ask) (memory : Memory) (frame : List ℕ) where
   -- a request that is for no short block with its padding

@@ -2,9 +2,10 @@ pub mod LastBlocks
 pub mod Messages
 pub mod Sendable
 pub mod Frames
+pub mod Rooms
+pub mod Directions
 pub mod Parts
 pub mod Streams
 pub mod Giving
-pub mod Directions
 pub mod Passages
 pub mod Readers

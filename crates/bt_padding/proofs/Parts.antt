@@ -1,5 +1,5 @@
 -- What is given on over all parts that come.
-use Rattle.std.proofs.Common.{◌≡◌, ◌≤◌, ◌<◌, ◌+◌, ◌-◌, ◌^◌, ℕ, List, [], ◌∷◌, ◌++◌, take, drop, length, get_or, refl, inl, inr, sym, ◌∙◌, ap, subst, arith, length-append, Contains}
+use Rattle.std.proofs.Common.{◌≡◌, ◌≤◌, ◌+◌, ◌-◌, ℕ, List, [], ◌∷◌, ◌++◌, take, drop, length, get_or, refl, inl, inr, sym, ◌∙◌, ap, subst, arith, length-append, Contains}
 use Rattle.std.proofs.lemmas.List.{append_assoc, append-nil, take_all, drop_all, take-append-le, drop-append-le, take-append-drop, get_or_append_left}
 use Rattle.std.proofs.lemmas.Bool.{cases_lt}
 use Rattle.std.proofs.Math.Seq.{take-append-add, drop-append-add}
@@ -11,12 +11,12 @@ use Rattle.bt_wire.specs.declared.message.Message.TheVariants.{Request, Piece}
 use Rattle.bt_wire.specs.Message.{message_spelling, ask_spelling}
 use Rattle.bt_meta.specs.Torrent.{Metainfo}
 use Rattle.bt_padding.specs.ShortBlocks.{short_blocks_of, padded}
-use Rattle.bt_padding.specs.Padding.{Memory, other}
+use Rattle.bt_padding.specs.Padding.{other as unchanged}
 use Rattle.bt_tree.specs.Limits.{full_block_length}
-use Rattle.bt_padding.specs.Flow.{IsFrame, Flow, flow, fed, IsOther, IsOfInterest}
+use Rattle.bt_padding.specs.Flow.{IsFrame, Flow, flow, IsOther, IsOfInterest}
 use Rattle.bt_padding.specs.declared.translation.Side.{Side}
 use Rattle.bt_padding.specs.declared.translation.Side.TheVariants.{Peer, Engine}
-use Rattle.bt_padding.specs.Translation.{Place, place, Stands, Translates, done, one_more}
+use Rattle.bt_padding.specs.Translation.{Stands, Settles, waits, other, translated, passes, settles}
 use Rattle.bt_padding.specs.TranslationLaw.{BeginsWithNoFrame, GivesOn, ends, goes_on, Part, Come, all_came, all_given}
 use Rattle.bt_padding.proofs.Frames.{frame_long, begins_frame, same_number, not_yet}
 use Rattle.bt_padding.proofs.LastBlocks.{short_blocks_are}
@@ -61,11 +61,7 @@ drop_seam n xs ys = elim (cases_lt n (length xs)) [
       ap (λ k. drop k (xs ++ ys)) count ∙ drop-append-add xs ys (n - length xs) ∙ ap (λ (zs : List ℕ). zs ++ drop (n - length xs) ys) (sym (drop_all n xs all))
 ]
 
-regroup : (t f n o : List ℕ) → f ++ n ≡ n ++ f → (t ++ f) ++ (n ++ o) ≡ (t ++ n) ++ (f ++ o)
-regroup t f n o swap =
-    append_assoc t f (n ++ o) ∙ ap (λ (xs : List ℕ). t ++ xs) (sym (append_assoc f n o) ∙ ap (λ (xs : List ℕ). xs ++ o) swap ∙ append_assoc n f o) ∙ sym (append_assoc t n (f ++ o))
-
-nil_of : (xs : List ℕ) → length xs ≡ 0 → xs ≡ []
+pub nil_of : (xs : List ℕ) → length xs ≡ 0 → xs ≡ []
 nil_of [] none = refl
 nil_of (x ∷ xs) none = absurd (omega (arith, none))
 
@@ -88,9 +84,9 @@ module _ (torrent : Metainfo) (side : Side) where
 
   stands : (s : Side) (rest more : List ℕ) (missing : ℕ) (m : Message) → IsOther rest missing → rest ++ more ≡ message_spelling m → Stands blocks s [] m m []
   stands Peer rest more missing m t same =
-      other (λ ask asks. not_asked rest more missing (padded ask) t (same ∙ ap message_spelling asks.1)) refl refl
+      unchanged (λ ask asks. not_asked rest more missing (padded ask) t (same ∙ ap message_spelling asks.1)) refl refl
   stands Engine rest more missing m t same =
-      other (λ ask bytes a. not_answered rest more missing ask bytes t a.short a.whole (same ∙ ap message_spelling a.message)) refl refl
+      unchanged (λ ask bytes a. not_answered rest more missing ask bytes t a.short a.whole (same ∙ ap message_spelling a.message)) refl refl
 
   -- ---- stream by stream
 
@@ -129,43 +125,70 @@ module _ (torrent : Metainfo) (side : Side) where
 
   -- ---- part by part
 
-  translated : (last first : Place) (frames more given held : List ℕ) → Translates blocks side last first frames → GivesOn blocks side held (last.unread ++ more) given
-      → GivesOn blocks side held (first.unread ++ more) (frames ++ given)
-  translated last first frames more given held done on = on
-  translated last first frames more given held (one_more first' next frame run others is split gives so) on =
-      subst (λ (xs : List ℕ). GivesOn blocks side held (first.unread ++ more) xs) (sym (append_assoc run others given))
-      (goes_on (first.unread ++ more) (next.unread ++ more) frame run (others ++ given) first.memory next.memory is
-      (ap (λ (xs : List ℕ). xs ++ more) split ∙ append_assoc frame next.unread more) gives (translated last next others more given held so on))
+  abbrev IsGivenOn : Flow → List Part → Flow → Type 0
+  IsGivenOn come parts left = (given : List ℕ) × (all_given parts ≡ take come.passing (all_came parts) ++ given)
+      × GivesOn blocks side left.unread (come.unread ++ drop come.passing (all_came parts)) given
 
-  unmoved : (last first : Place) (frames : List ℕ) → Translates blocks side last first frames → first.unread ≡ [] → (frames ≡ []) × (last.unread ≡ [])
-  unmoved last first frames done none = (refl, none)
-  unmoved last first frames (one_more first' next frame run others is split gives so) none =
-      absurd (omega (arith, frame_long frame is, ap length (sym none ∙ split) ∙ length-append frame next.unread))
+  -- what comes behind a part, where the first bytes of it pass
+  passed : (come left : Flow) (part : Part) (parts : List Part) → length part.came ≤ come.passing
+      → part.given ≡ part.came → IsGivenOn (flow (come.passing - length part.came) come.unread) parts left → IsGivenOn come (part ∷ parts) left
+  passed come left part parts few same next =
+      let more : List ℕ = all_came parts in
+      let n : ℕ = come.passing - length part.came in
+      let front : take come.passing (part.came ++ more) ≡ part.came ++ take n more
+      = take_seam come.passing part.came more ∙ ap (λ (xs : List ℕ). xs ++ take n more) (take_all come.passing part.came few) in
+      let back : drop come.passing (part.came ++ more) ≡ drop n more
+      = drop_seam come.passing part.came more ∙ ap (λ (xs : List ℕ). xs ++ drop n more) (drop_all come.passing part.came few) in (
+        next.0,
+        ap (λ (xs : List ℕ). xs ++ all_given parts) same ∙ ap (λ (xs : List ℕ). part.came ++ xs) next.1 ∙ sym (append_assoc part.came (take n more) next.0)
+            ∙ ap (λ (xs : List ℕ). xs ++ next.0) (sym front),
+        subst (λ (xs : List ℕ). GivesOn blocks side left.unread (come.unread ++ xs) next.0) (sym back) next.2,
+      )
 
-  along : (come : Flow) (bytes more given held frames : List ℕ) (last : Place) (found : Memory)
-      → Translates blocks side last (place found (fed come bytes).unread) frames → GivesOn blocks side held (last.unread ++ drop (come.passing - length bytes) more) given
-      → GivesOn blocks side held (come.unread ++ drop come.passing (bytes ++ more)) (frames ++ given)
-  along come bytes more given held frames last found moves on =
-      let rest : List ℕ = drop (come.passing - length bytes) more in
-      subst (λ (xs : List ℕ). GivesOn blocks side held xs (frames ++ given))
-      (append_assoc come.unread (drop come.passing bytes) rest ∙ ap (λ (xs : List ℕ). come.unread ++ xs) (sym (drop_seam come.passing bytes more)))
-      (translated last (place found (fed come bytes).unread) frames rest given held moves on)
+  -- where none do
+  behind : (come left : Flow) (parts : List Part) (given : List ℕ) → come.passing ≡ 0 → all_given parts ≡ given
+      → GivesOn blocks side left.unread (come.unread ++ all_came parts) given → IsGivenOn come parts left
+  behind come left parts given zero all on = (
+    given,
+    all ∙ sym (ap (λ n. take n (all_came parts) ++ given) zero),
+    subst (λ n. GivesOn blocks side left.unread (come.unread ++ drop n (all_came parts)) given) (sym zero) on,
+  )
 
-  -- nothing was kept where more is to pass
-  still : (come : Flow) (bytes frames : List ℕ) (last : Place) (found : Memory) → (come.passing ≡ 0) ⊎ (come.unread ≡ [])
-      → Translates blocks side last (place found (fed come bytes).unread) frames → (come.passing - length bytes ≡ 0) ⊎ ((frames ≡ []) × (last.unread ≡ []))
-  still come bytes frames last found either moves = elim (cases_lt come.passing (length bytes)) [
-    | inl less ↦ inl (omega (arith, less))
-    | inr all ↦ elim either [
-      | inl zero ↦ inl (omega (arith, zero))
-      | inr none ↦ inr (unmoved last (place found (fed come bytes).unread) frames moves
-          (ap (λ (xs : List ℕ). xs ++ drop come.passing bytes) none ∙ drop_all come.passing bytes all))
-    ]
-  ]
+  settled : (come mid left : Flow) (part : Part) (parts : List Part) → come.passing ≡ 0
+      → Settles blocks side (come.unread ++ part.came) mid part.given → IsGivenOn mid parts left → IsGivenOn come (part ∷ parts) left
+  settled come mid left part parts zero (waits w is none) next =
+      let more : List ℕ = all_came parts in
+      let same = subst (λ (f : Flow). IsGivenOn f parts left) is next in
+      behind come left (part ∷ parts) same.0 zero
+      (ap (λ (xs : List ℕ). xs ++ all_given parts) none ∙ same.1)
+      (subst (λ (xs : List ℕ). GivesOn blocks side left.unread xs same.0) (append_assoc come.unread part.came more) same.2)
+  settled come mid left part parts zero (other missing t is same) next =
+      let more : List ℕ = all_came parts in
+      let so = subst (λ (f : Flow). IsGivenOn f parts left) is next in
+      let rest : List ℕ = come.unread ++ part.came in
+      behind come left (part ∷ parts) (rest ++ (take missing more ++ so.0)) zero
+      (ap (λ (xs : List ℕ). xs ++ all_given parts) same ∙ ap (λ (xs : List ℕ). rest ++ xs) so.1)
+      (subst (λ (xs : List ℕ). GivesOn blocks side left.unread xs (rest ++ (take missing more ++ so.0))) (append_assoc come.unread part.came more)
+      (passes_on rest more so.0 left.unread missing t so.2))
+  settled come mid left part parts zero (translated found kept whole gives is) next =
+      let more : List ℕ = all_came parts in
+      let so = subst (λ (f : Flow). IsGivenOn f parts left) is next in
+      let rest : List ℕ = come.unread ++ part.came in
+      behind come left (part ∷ parts) (part.given ++ so.0) zero (ap (λ (xs : List ℕ). part.given ++ xs) so.1)
+      (goes_on (come.unread ++ (part.came ++ more)) more rest part.given so.0 found kept whole (sym (append_assoc come.unread part.came more)) gives so.2)
+
+  begins_with_none : (come mid : Flow) (part : Part) → Settles blocks side (come.unread ++ part.came) mid part.given
+      → BeginsWithNoFrame mid.unread × ((mid.passing ≡ 0) ⊎ (mid.unread ≡ []))
+  begins_with_none come mid part (waits w is none) = subst (λ (f : Flow). BeginsWithNoFrame f.unread × ((f.passing ≡ 0) ⊎ (f.unread ≡ []))) (sym is) (w.no_frame, inl refl)
+  begins_with_none come mid part (other missing t is same) = subst (λ (f : Flow). BeginsWithNoFrame f.unread × ((f.passing ≡ 0) ⊎ (f.unread ≡ []))) (sym is) (no_frame, inr refl)
+  begins_with_none come mid part (translated found kept whole gives is) = subst (λ (f : Flow). BeginsWithNoFrame f.unread × ((f.passing ≡ 0) ⊎ (f.unread ≡ []))) (sym is) (no_frame, inr refl)
+
+  less_passes : (come : Flow) (n : ℕ) → (come.passing ≡ 0) ⊎ (come.unread ≡ []) → (come.passing - n ≡ 0) ⊎ (come.unread ≡ [])
+  less_passes come n (inl zero) = inl (omega (arith, zero))
+  less_passes come n (inr none) = inr none
 
   pub given_on : (parts : List Part) (come left : Flow) → BeginsWithNoFrame come.unread → (come.passing ≡ 0) ⊎ (come.unread ≡ [])
-      → Come blocks side come parts left → (given : List ℕ) × (all_given parts ≡ take come.passing (all_came parts) ++ given)
-      × GivesOn blocks side left.unread (come.unread ++ drop come.passing (all_came parts)) given
+      → Come blocks side come parts left → IsGivenOn come parts left
   given_on [] come left none either so =
       let same : come.unread ++ drop come.passing [] ≡ come.unread
       = ap (λ (xs : List ℕ). come.unread ++ xs) (drop_all come.passing [] (omega arith)) ∙ append-nil come.unread in (
@@ -173,40 +196,10 @@ module _ (torrent : Metainfo) (side : Side) where
         sym (append-nil (take come.passing []) ∙ take_all come.passing [] (omega arith)),
         ends (come.unread ++ drop come.passing []) [] (subst BeginsWithNoFrame (sym same) none) (same ∙ sym (ap (λ (f : Flow). f.unread) so)),
       )
-  given_on (part ∷ parts) come left none either so =
-      let r = so.1 in
-      let n : ℕ = come.passing - length part.came in
-      let more : List ℕ = all_came parts in
-      let front : List ℕ = take come.passing part.came in
-      let whole : take come.passing (part.came ++ more) ≡ front ++ take n more = take_seam come.passing part.came more in
-      let moved = still come part.came r.frames (place r.kept r.rest) r.found either r.translates in
-      elim r.ends [
-        | inl e ↦
-            let swap : r.frames ++ take n more ≡ take n more ++ r.frames = elim moved [
-              | inl zero ↦ ap (λ k. r.frames ++ take k more) zero ∙ append-nil r.frames ∙ sym (ap (λ k. take k more ++ r.frames) zero)
-              | inr nothing ↦ ap (λ (xs : List ℕ). xs ++ take n more) nothing.0 ∙ sym (append-nil (take n more)) ∙ ap (λ (xs : List ℕ). take n more ++ xs) (sym nothing.0)
-            ] in
-            let empty : (n ≡ 0) ⊎ (r.rest ≡ []) = elim moved [ inl zero ↦ inl zero | inr nothing ↦ inr nothing.1 ] in
-            let next = given_on parts (flow n r.rest) left e.0.no_frame empty (subst (λ (f : Flow). Come blocks side f parts left) e.2 so.2) in (
-              r.frames ++ next.0,
-              ap (λ (xs : List ℕ). xs ++ all_given parts) (r.all ∙ ap (λ (xs : List ℕ). front ++ r.frames ++ xs) e.1 ∙ append-nil (front ++ r.frames))
-                  ∙ ap (λ (xs : List ℕ). (front ++ r.frames) ++ xs) next.1 ∙ regroup front r.frames (take n more) next.0 swap
-                  ∙ ap (λ (xs : List ℕ). xs ++ (r.frames ++ next.0)) (sym whole),
-              along come part.came more next.0 left.unread r.frames (place r.kept r.rest) r.found r.translates next.2,
-            )
-        | inr e ↦
-            let zero : n ≡ 0 = elim moved [
-              | inl zero ↦ zero
-              | inr nothing ↦ let some = e.1.has_field in absurd (omega (arith, some, ap length nothing.1))
-            ] in
-            let next = given_on parts (flow e.0 []) left no_frame (inr refl) (subst (λ (f : Flow). Come blocks side f parts left) e.3 so.2) in
-            let behind : List ℕ = r.rest ++ (take e.0 more ++ next.0) in (
-              r.frames ++ behind,
-              ap (λ (xs : List ℕ). xs ++ all_given parts) (r.all ∙ ap (λ (xs : List ℕ). front ++ r.frames ++ xs) e.2)
-                  ∙ ap (λ (xs : List ℕ). (front ++ r.frames ++ r.rest) ++ xs) next.1 ∙ append_assoc (front ++ r.frames) r.rest (take e.0 more ++ next.0)
-                  ∙ append_assoc front r.frames behind
-                  ∙ ap (λ (xs : List ℕ). xs ++ (r.frames ++ behind)) (sym (whole ∙ ap (λ k. front ++ take k more) zero ∙ append-nil front)),
-              along come part.came more behind left.unread r.frames (place r.kept r.rest) r.found r.translates
-                  (subst (λ k. GivesOn blocks side left.unread (r.rest ++ drop k more) behind) (sym zero) (passes_on r.rest more next.0 left.unread e.0 e.1 next.2)),
-            )
-      ]
+  given_on (part ∷ parts) come left none either (mid, passes few is same, others) =
+      let now : Flow = flow (come.passing - length part.came) come.unread in
+      passed come left part parts few same
+      (given_on parts now left none (less_passes come (length part.came) either) (subst (λ (f : Flow). Come blocks side f parts left) is others))
+  given_on (part ∷ parts) come left none either (mid, settles zero s, others) =
+      let next = begins_with_none come mid part s in
+      settled come mid left part parts zero s (given_on parts mid left next.0 next.1 others)

@@ -1,5 +1,5 @@
 -- The bytes of one direction of a connection, in any parts: a handshake, and then frames (BEP 3).
-use Rattle.std.specs.Prelude.{◌≡◌, ◌≢◌, ◌⊎◌, ℕ, ◌+◌, ◌-◌, ◌<◌, ◌≤◌, ◌^◌, List, [], ◌++◌, length, take, drop, slice_index}
+use Rattle.std.specs.Prelude.{◌≡◌, ◌≢◌, ◌⊎◌, ℕ, ◌+◌, ◌<◌, ◌≤◌, ◌^◌, List, [], ◌++◌, length, take, slice_index}
 use Rattle.std.specs.Int.{w32, to_be_bytes}
 use Rattle.bt_tree.specs.Limits.{full_block_length}
 use Rattle.bt_wire.specs.Limits.{handshake_length}
@@ -21,10 +21,6 @@ flow passing unread = record { passing = passing; unread = unread }
 -- first a handshake passes
 abbrev pub new_flow : Flow
 new_flow = flow handshake_length []
-
--- with more bytes that have come, of which the first pass
-abbrev pub fed : Flow → List ℕ → Flow
-fed come bytes = flow (come.passing - length bytes) (come.unread ++ drop come.passing bytes)
 
 -- the kind and the length field of a message that may be translated: a request, or a piece of a block at most
 abbrev pub IsOfInterest : (kind field : ℕ) → Type 0

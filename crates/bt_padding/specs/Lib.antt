@@ -8,4 +8,3 @@ pub mod TranslationSteps
 pub mod TranslationLaw
 pub mod FrameSteps
 pub mod Padded
-pub mod PaddedSteps

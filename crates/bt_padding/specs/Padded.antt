@@ -1,9 +1,9 @@
 -- What a peer sends, read as its engine is to get it, and what an engine sends, written as its peer is to get it.
-use Rattle.std.specs.Prelude.{◌≡◌, ℕ, ◌<◌, ◌≤◌, List, [], ◌++◌, Option, length, take}
+use Rattle.std.specs.Prelude.{◌≡◌, ℕ, ◌<◌, ◌≤◌, List, [], ◌++◌, Option, length, take, drop}
 use Rattle.std.specs.Io.KnownBytes.{Appends, Consumes, IsAtEnd, Keeps}
 use Rattle.bt_wire.specs.declared.message.Ask.{Ask}
 use Rattle.bt_padding.specs.declared.translation.Side.{Side}
-use Rattle.bt_padding.specs.Flow.{Flow, new_flow}
+use Rattle.bt_padding.specs.Flow.{Flow, flow, new_flow}
 use Rattle.bt_padding.specs.Translation.{Receives}
 
 -- the reader or the writer behind it, where the bytes come from, the short blocks, what has come, and what a
@@ -15,22 +15,39 @@ pub record PaddedState (T : Type 0) : Type 0 where
   pub flow : Flow
   pub waiting : List ℕ
 
+-- what of that one direction has, without what is behind it
+pub record DirectionState : Type 0 where
+  pub side : Side
+  pub blocks : List Ask
+  pub flow : Flow
+  pub waiting : List ℕ
+
+-- the first bytes in its room are to be given on, and those behind them came of a frame
+abbrev pub direction_state : Side → (blocks : List Ask) → (passing : ℕ) → (room : List ℕ) → (ready : ℕ)
+    → DirectionState
+direction_state side blocks passing room ready =
+    record { side = side; blocks = blocks; flow = flow passing (drop ready room); waiting = take ready room }
+
+abbrev pub padded_state : {T : Type 0} → T → DirectionState → PaddedState T
+padded_state inner d =
+    record { inner = inner; side = d.side; blocks = d.blocks; flow = d.flow; waiting = d.waiting }
+
 abbrev pub new_padded : {T : Type 0} → Side → T → (blocks : List Ask) → PaddedState T
 new_padded side inner blocks =
     record { inner = inner; side = side; blocks = blocks; flow = new_flow; waiting = [] }
 
 -- ---- reads
 
--- how many bytes the reader behind gives at most at a time: a message with a whole block, and fewer requests
--- of 17 bytes than are remembered
-abbrev pub read_length : ℕ
-read_length = 16397
+-- how many bytes there is room for, and the reader behind gives at most at a time: a message with a whole
+-- block
+abbrev pub room_length : ℕ
+room_length = 16397
 
 -- the reader behind gave these bytes, and what is given on of them waits
 pub record TakesPart {R : Type 0} (remaining : R → Option (List ℕ)) (old : PaddedState R) (part : List ℕ)
     (new : PaddedState R) : Type 0 where
   pub given : List ℕ
-  pub few : length part ≤ read_length
+  pub few : length part ≤ room_length
   pub lost : Consumes (remaining old.inner) (remaining new.inner) part
   pub receives : Receives old.blocks old.side old.flow part new.flow given
   pub waits : new.waiting ≡ old.waiting ++ given
@@ -81,12 +98,13 @@ pub record IsInterrupted {R : Type 0} (remaining : R → Option (List ℕ)) (old
 
 -- ---- writes
 
--- all these bytes are taken, and what is given on of them is written
+-- so many of the bytes are taken, some where there are any, and what is given on of them is written
 pub record IsWritten {W : Type 0} (contents : W → Option (List ℕ)) (old : PaddedState W) (bytes : List ℕ)
     (count : ℕ) (new : PaddedState W) : Type 0 where
   pub given : List ℕ
-  pub all : count ≡ length bytes
-  pub receives : Receives old.blocks old.side old.flow bytes new.flow given
+  pub few : count ≤ length bytes
+  pub some : count ≡ 0 → bytes ≡ []
+  pub receives : Receives old.blocks old.side old.flow (take count bytes) new.flow given
   pub appended : Appends (contents old.inner) (contents new.inner) given
   pub others : new ≡ record old { inner = new.inner; flow = new.flow }
 

@@ -38,7 +38,8 @@ BeginsWithNoFrame bytes = (frame rest : List ℕ) → IsFrame frame → bytes �
 -- For each frame of a stream stands what is given on in its place; of a rest that begins with none, so much is
 -- held back, and what stands before that is given on as it is.
 pub data GivesOn (blocks : List Ask) (side : Side) (held : List ℕ) : (came given : List ℕ) → Type 0 where
-  ends : (came given : List ℕ) → BeginsWithNoFrame came → came ≡ given ++ held → GivesOn blocks side held came given
+  ends : (came given : List ℕ) → BeginsWithNoFrame came → came ≡ given ++ held
+      → GivesOn blocks side held came given
   goes_on : (came next frame run given : List ℕ) (old new : Memory) → IsFrame frame → came ≡ frame ++ next
       → Gives blocks side old frame run new → GivesOn blocks side held next given
       → GivesOn blocks side held came (run ++ given)

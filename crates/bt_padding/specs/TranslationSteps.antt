@@ -1,43 +1,46 @@
 -- What the steps of a translation say of each other. No public contract cites them.
-use Rattle.std.specs.Prelude.{◌≡◌, ℕ, ◌≤◌, List, ◌++◌, length, drop}
+use Rattle.std.specs.Prelude.{◌≡◌, ◌⊎◌, ℕ, ◌+◌, ◌<◌, ◌≤◌, List, [], Option, Some, None, length, drop}
+use Rattle.std.specs.Io.KnownBytes.{Consumes, IsAtEnd}
 use Rattle.bt_wire.specs.declared.message.Ask.{Ask}
 use Rattle.bt_padding.specs.declared.translation.Side.{Side}
-use Rattle.bt_padding.specs.Padding.{Memory}
-use Rattle.bt_padding.specs.Flow.{Flow}
-use Rattle.bt_padding.specs.FrameSteps.{BeginsFrame}
-use Rattle.bt_padding.specs.Translation.{place, Gives, Translates, Ends}
+use Rattle.bt_padding.specs.Flow.{flow, Waits}
+use Rattle.bt_padding.specs.FrameSteps.{BeginsFrame, IsMissing}
+use Rattle.bt_padding.specs.Padded.{room_length, DirectionState}
+use Rattle.bt_padding.specs.Translation.{Settles, Receives}
 
--- where the bytes of a direction come from, the short blocks, and what has come
-pub record DirectionState : Type 0 where
-  pub side : Side
-  pub blocks : List Ask
-  pub flow : Flow
+-- where the bytes begin with a frame nothing stands behind it
+abbrev pub EndsWithFrame : List ℕ → Type 0
+EndsWithFrame bytes = (n : ℕ) → BeginsFrame bytes n → n ≡ length bytes
 
--- what is given on in place of a frame stands behind what the output held
-abbrev pub GivesBehind : DirectionState → Memory → List ℕ → Memory → (held now : List ℕ) → Type 0
-GivesBehind d old frame new held now =
-    (run : List ℕ) × Gives d.blocks d.side old frame run new × (now ≡ held ++ run)
+-- they wait, or else this is given on, and so many bytes behind them pass
+abbrev pub SettlesBy : (blocks : List Ask) → Side → (came : List ℕ) → Option ℕ → (now : List ℕ) → Type 0
+SettlesBy blocks side came None now = Waits came × (now ≡ came)
+SettlesBy blocks side came (Some behind) now = Settles blocks side came (flow behind []) now
 
--- no frame stands in front of what is left behind the first so many bytes
-abbrev pub HasNoFrameAt : DirectionState → ℕ → Type 0
-HasNoFrameAt d taken = (n : ℕ) → ¬ BeginsFrame (drop taken d.flow.unread) n
+-- behind bytes that are kept none pass
+abbrev pub IsApart : (passing : ℕ) → (unread : List ℕ) → Type 0
+IsApart passing unread = (passing ≡ 0) ⊎ (unread ≡ [])
 
--- the frames of the first so many bytes are given on, and no other is whole
-pub record GivesFrames (d : DirectionState) (old : Memory) (taken : ℕ) (new : Memory) (held now : List ℕ)
-    : Type 0 where
-  pub inside : taken ≤ length d.flow.unread
-  pub frames : List ℕ
-  pub translates : Translates d.blocks d.side (place new (drop taken d.flow.unread)) (place old d.flow.unread)
-      frames
-  pub appended : now ≡ held ++ frames
-  pub all : HasNoFrameAt d taken
+-- so many of the bytes in the room are given on, and those behind them wait
+abbrev pub IsOrderly : (passing : ℕ) → (room : List ℕ) → (ready : ℕ) → Type 0
+IsOrderly passing room ready =
+    (ready ≤ length room) × Waits (drop ready room) × IsApart passing (drop ready room)
 
--- what is left behind them is kept, or passes
-pub record IsKept (old : DirectionState) (taken : ℕ) (left : Flow) (held now : List ℕ) : Type 0 where
-  pub behind : List ℕ
-  pub ends : Ends old.flow.passing (drop taken old.flow.unread) behind left
-  pub appended : now ≡ held ++ behind
+-- so many bytes are taken next at most: some of those that pass, or what is missing of a frame
+pub record IsWanted (d : DirectionState) (most : ℕ) : Type 0 where
+  pub some : 0 < most
+  pub fits : length d.flow.unread + most ≤ room_length
+  pub pass : 0 < d.flow.passing → most ≤ d.flow.passing
+  pub missing : d.flow.passing ≡ 0 → IsMissing d.flow.unread most
 
--- the bytes of it alone are others
-abbrev pub IsSameDirection : DirectionState → DirectionState → Type 0
-IsSameDirection old new = new ≡ record old { flow = new.flow }
+-- so many bytes came, none only at the end, and what is given on of them waits
+pub record IsCollected (before after : Option (List ℕ)) (old : DirectionState) (count : ℕ)
+    (new : DirectionState) : Type 0 where
+  pub part : List ℕ
+  pub counted : length part ≡ count
+  pub few : count ≤ room_length
+  pub lost : Consumes before after part
+  pub ended : count ≡ 0 → IsAtEnd after
+  pub receives : Receives old.blocks old.side old.flow part new.flow new.waiting
+  pub side : new.side ≡ old.side
+  pub blocks : new.blocks ≡ old.blocks

@@ -1,17 +1,15 @@
 //! Frames of a stream, and those of them that are requests and pieces (BEP 3).
-ghost use Rattle.std.specs.Prelude.{ℕ, List, IfSome, IfNone};
+ghost use Rattle.std.specs.Prelude.{ℕ, ◌≤◌, List, length, IfSome, IfNone};
 ghost use Rattle.bt_wire.specs.Event.{IsSent};
 ghost use Rattle.bt_wire.specs.declared.message.Ask.{Ask};
 ghost use Rattle.bt_wire.specs.declared.message.Message.TheVariants.{Request, Piece};
-ghost use Rattle.bt_padding.specs.Flow.{IsFrame};
-ghost use Rattle.bt_padding.specs.FrameSteps.{IsFront, IsPieceOf};
+ghost use Rattle.bt_padding.specs.Flow.{IsFrame, Waits};
+ghost use Rattle.bt_padding.specs.FrameSteps.{IsFront, IsMissing, IsPieceOf};
+ghost use Rattle.bt_padding.specs.Padded.{room_length};
 
 use bt_hashreq::number_at;
 use bt_tree::BLOCK_LEN;
 use bt_wire::Ask;
-
-/// The greatest length field of a message (`max_length_field` of `bt_wire`).
-const MAX_LENGTH_FIELD: usize = 1 << 20;
 
 /// How a request begins: 13 bytes follow its length, of which the first is its kind, 6.
 const REQUEST_HEAD: [u8; 5] = [0, 0, 0, 13, 6];
@@ -24,14 +22,14 @@ const REQUEST: u8 = 6;
 
 const PIECE: u8 = 7;
 
-/// How many bytes of a piece stand before its block's: length field, kind, piece and begin.
-const PIECE_HEAD_LEN: usize = 13;
+/// How many bytes of a request stand before its length, and of a piece before its block.
+pub(crate) const HEAD_LEN: usize = 13;
 
 /// What bytes begin with.
 #[derive(Drop)]
 pub(crate) enum Front {
-    /// A frame of so many bytes.
-    Frame(usize),
+    /// A frame.
+    Frame,
     /// What may become a message that is translated.
     Part,
     /// Another message, of which so many bytes are missing.
@@ -47,7 +45,7 @@ pub(crate) fn front_of(bytes: &[u8]) -> Front
     }
     let field = number_at(bytes, 0) as usize;
     if field <= bytes.len() - 4 {
-        return Front::Frame(4 + field);
+        return Front::Frame;
     }
     match bytes.get(4) {
         None if field <= 9 + BLOCK_LEN => Front::Part,
@@ -55,6 +53,18 @@ pub(crate) fn front_of(bytes: &[u8]) -> Front
         Some(&PIECE) if field >= 9 && field <= 9 + BLOCK_LEN => Front::Part,
         _ => Front::Other(4 + field - bytes.len()),
     }
+}
+
+/// How many bytes are missing behind these until there is a length field, or else until the frame is whole.
+pub(crate) fn missing_of(bytes: &[u8]) -> usize
+    requires { Waits bytes.now }
+    ensures { IsMissing bytes.now result }
+{
+    if bytes.len() < 4 {
+        return 4 - bytes.len();
+    }
+    let field = number_at(bytes, 0) as usize;
+    (4 + field).saturating_sub(bytes.len())
 }
 
 /// The request that a frame is.
@@ -72,21 +82,21 @@ pub(crate) fn read_request(frame: &[u8]) -> Option<Ask>
     })
 }
 
-/// Where the block of the piece lies that a frame is, and the block.
-pub(crate) fn read_piece(frame: &[u8]) -> Option<(Ask, &[u8])>
-    requires { IsFrame frame.now }
-    ensures some { IfSome result (λ found. IsPieceOf frame.now found.0 found.1.now) }
+/// The range of the block that a frame is the piece of.
+pub(crate) fn read_piece(frame: &[u8]) -> Option<Ask>
+    requires frame { IsFrame frame.now }
+    requires few { length frame.now ≤ room_length }
+    ensures some { IfSome result (IsPieceOf frame.now) }
     ensures none { IfNone result ((piece begin : ℕ) (bytes : List ℕ)
         → ¬ IsSent (Piece piece begin bytes) frame.now) }
 {
-    let block = frame.get(PIECE_HEAD_LEN..)?;
-    if frame.len() > 4 + MAX_LENGTH_FIELD || frame[4] != PIECE {
+    let block = frame.get(HEAD_LEN..)?;
+    if frame[4] != PIECE {
         return None;
     }
-    let ask = Ask {
+    Some(Ask {
         piece: number_at(frame, 5),
         begin: number_at(frame, 9),
         length: block.len() as u32,
-    };
-    Some((ask, block))
+    })
 }

@@ -16,4 +16,4 @@ pub use law::{
 pub use padded::Padded;
 pub use padding::Padding;
 pub use short_blocks::ShortBlocks;
-pub use translation::Side;
+pub use translation::{FrameRoom, Side};

@@ -1,24 +1,23 @@
 //! What is remembered of a peer that counts each block as 16,384 bytes, and what stands for its messages.
-ghost use Rattle.std.specs.Prelude.{◌≡◌, IfOk, IfSome, IfNone, OnErr, Contains};
-ghost use Rattle.bt_wire.specs.Message.{Fits};
+ghost use Rattle.std.specs.Prelude.{◌≡◌, IfOk, IfSome, IfNone, Contains};
 ghost use Rattle.bt_padding.specs.Flow.{IsFrame};
 ghost use Rattle.bt_padding.specs.Padding.{new_memory, with_asked};
 ghost use Rattle.bt_padding.specs.PaddingSteps.{IsFirstAt};
-ghost use Rattle.bt_padding.specs.Translation.{Gives, bytes_for};
+ghost use Rattle.bt_padding.specs.Translation.{Gives};
 ghost use Rattle.bt_padding.specs.declared.translation.Side.TheVariants.{Peer, Engine};
 
-use crate::frame::{read_piece, read_request};
+use crate::frame::{HEAD_LEN, read_piece, read_request};
 use crate::short_blocks::ShortBlocks;
+use crate::translation::FrameRoom;
 use bt_tree::BLOCK_LEN;
-use bt_wire::{Ask, Bytes, Message, streams_have_one_reading};
+use bt_wire::{Ask, streams_have_one_reading};
 use std::alloc::{AllocError, Global};
 use std::marker::Model;
 
 /// How many requests are remembered at most.
 const MAX_REMEMBERED: usize = 1024;
 
-/// What is remembered of a peer: its requests for padded blocks, shortened as they were given on, that are
-/// not answered yet.
+/// The requests of a peer for padded blocks, shortened as they were given on, that are not answered yet.
 #[derive(Drop)]
 pub struct Padding {
     /// From the oldest on.
@@ -53,50 +52,38 @@ impl Padding {
         self.asked.clear();
     }
 
-    /// The request that an engine gets in place of a frame of its peer; None where it gets the frame itself.
-    pub fn incoming(&mut self, blocks: &ShortBlocks, frame: &[u8]) -> Option<Message>
-        ensures given { Gives blocks.now Peer self.old frame.now (bytes_for frame.now result) self.new }
-        ensures fits { IfSome result Fits }
+    /// Puts what an engine gets of a frame of its peer in its place.
+    pub(crate) fn incoming(&mut self, blocks: &ShortBlocks, frame: &mut FrameRoom)
+        ensures { Gives blocks.now Peer self.old frame.old frame.new self.new }
     {
         streams_have_one_reading();
-        let ask = read_request(frame)?;
+        let Some(ask) = read_request(frame.as_slice()) else {
+            return;
+        };
         if ask.length != BLOCK_LEN as u32 {
-            return None;
+            return;
         }
-        let short = blocks.at(ask.piece, ask.begin)?;
-        self.remember(short);
-        Some(Message::Request(short))
+        if let Some(short) = blocks.at(ask.piece, ask.begin) {
+            self.remember(short);
+            frame.put(HEAD_LEN, &short.length.to_be_bytes());
+        }
     }
 
-    /// The piece that a peer gets in place of a frame of its engine; None where it gets the frame itself.
-    /// Errors: out of memory, and nothing changes.
-    pub fn outgoing(
-        &mut self,
-        alloc: Global,
-        blocks: &ShortBlocks,
-        frame: &[u8],
-    ) -> Result<Option<Message>, AllocError>
-        requires { IsFrame frame.now }
-        ensures given { IfOk result (λ other.
-            Gives blocks.now Engine self.old frame.now (bytes_for frame.now other) self.new) }
-        ensures fits { IfOk result (λ other. IfSome other Fits) }
-        ensures kept { OnErr result (self.new ≡ self.old) }
+    /// Puts what a peer gets of a frame of its engine in its place.
+    pub(crate) fn outgoing(&mut self, blocks: &ShortBlocks, frame: &mut FrameRoom)
+        requires { IsFrame frame.old }
+        ensures { Gives blocks.now Engine self.old frame.old frame.new self.new }
     {
         streams_have_one_reading();
-        let Some((ask, block)) = read_piece(frame) else {
-            return Ok(None);
+        let Some(ask) = read_piece(frame.as_slice()) else {
+            return;
         };
-        let Some(index) = self.answered(blocks, ask) else {
-            return Ok(None);
-        };
-        let mut items = Vec::from_slice(alloc, block)?;
-        items.resize(block.len().max(BLOCK_LEN), 0)?;
-        self.asked.remove(index);
-        Ok(Some(Message::Piece {
-            piece: ask.piece,
-            begin: ask.begin,
-            bytes: Bytes::new(items),
-        }))
+        if let Some(index) = self.answered(blocks, ask) {
+            self.asked.remove(index);
+            frame.fill();
+            // The length field of a piece with a whole block.
+            frame.put(0, &(9 + BLOCK_LEN as u32).to_be_bytes());
+        }
     }
 
     /// Where the request for a short block stands first that a piece with this range answers.

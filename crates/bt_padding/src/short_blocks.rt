@@ -9,8 +9,7 @@ use bt_wire::Ask;
 use std::alloc::{AllocError, Global};
 use std::marker::Model;
 
-/// The short last blocks of a torrent, in the order of their pieces: a file has one at most, and so has a
-/// piece.
+/// The short last blocks of a torrent, in the order of their pieces: a file has one at most, so has a piece.
 #[derive(Debug, Drop)]
 pub struct ShortBlocks {
     blocks: Vec<Ask>,

@@ -1,18 +1,23 @@
 //! Bytes between a peer and an engine, in any parts.
-ghost use Rattle.std.specs.Prelude.{◌≢◌, ◌≤◌, length, IfOk, IfErr, OnOk};
-ghost use Rattle.std.specs.IoError.{error_kind};
-ghost use Rattle.bt_padding.specs.Flow.{IsFrame};
-ghost use Rattle.bt_padding.specs.Translation.{Receives};
-ghost use Rattle.bt_padding.specs.TranslationSteps.{GivesBehind, GivesFrames, HasNoFrameAt, IsKept, IsSameDirection};
+ghost use Rattle.std.specs.Prelude.{◌≡◌, ◌≢◌, [], ◌++◌, min, length, take, IfOk, OnOk, OnErr};
+ghost use Rattle.std.specs.Bool.{OnTrue, OnFalse};
+ghost use Rattle.std.specs.Io.KnownBytes.{Appends, Keeps};
+ghost use Rattle.bt_padding.specs.TranslationSteps.{EndsWithFrame, IsCollected, IsWanted, SettlesBy};
 
-use crate::frame::{Front, front_of};
+use crate::frame::{Front, front_of, missing_of};
 use crate::padding::Padding;
 use crate::short_blocks::ShortBlocks;
-use bt_wire::write_message;
-use std::alloc::{AllocError, Global};
-use std::cell::RefCell;
-use std::io::{self, ErrorKind};
+use bt_tree::BLOCK_LEN;
+use bt_waiting::Room;
+use std::cell::{RefCell, RefMut};
+use std::io::{self, Read, Write};
 use std::marker::Model;
+
+/// For so many bytes of a direction there is room (`room_length`): those of a piece with a whole block.
+const ROOM_LEN: usize = 13 + BLOCK_LEN;
+
+/// Room for what has come of one direction of a connection, and is not given on yet.
+pub type FrameRoom = Room<ROOM_LEN>;
 
 /// Where bytes come from.
 #[derive(Clone, Copy, Debug, PartialEq, Eq)]
@@ -26,91 +31,110 @@ pub enum Side {
 /// One direction of a connection. It shares what is remembered of the peer with the other.
 #[derive(Drop)]
 pub(crate) struct Direction<'a> {
-    pub(crate) alloc: Global,
     pub(crate) side: Side,
     pub(crate) blocks: &'a ShortBlocks,
     pub(crate) padding: &'a RefCell<Padding>,
+    pub(crate) room: RefMut<'a, FrameRoom>,
+    /// So many of the bytes in the room are to be given on. Those behind came of a frame that is not whole.
+    pub(crate) ready: usize,
     /// How many bytes still pass as they come.
     pub(crate) passing: usize,
-    /// What has come behind them of a frame that is not whole.
-    pub(crate) unread: Vec<u8>,
 }
 
 impl<'a> Model for Direction<'a> {
-    ghost use Rattle.bt_padding.specs.Flow.{flow};
-    ghost use Rattle.bt_padding.specs.TranslationSteps.{DirectionState};
+    ghost use Rattle.std.specs.RefCell.{ref_mut_value};
+    ghost use Rattle.bt_padding.specs.Padded.{DirectionState, direction_state};
+    ghost use Rattle.bt_padding.specs.TranslationSteps.{IsOrderly};
 
     ghost Value = { DirectionState };
 
-    ghost view = { λ d.
-        record { side = d.side; blocks = d.blocks.now; flow = flow d.passing d.unread.items } };
+    ghost view = { λ d. direction_state d.side d.blocks.now d.passing (ref_mut_value d.room) d.ready };
+
+    ghost invariant = { λ d. IsOrderly d.passing (ref_mut_value d.room) d.ready };
 }
 
 impl<'a> Direction<'a> {
-    /// What is given on of bytes that come: a handshake's as they come, a message that may be translated as
-    /// soon as it is whole, any other as it comes. Errors, which close the connection: out of memory; what
-    /// is remembered is in use, which no call of this crate brings about.
-    pub(crate) fn translate(&mut self, bytes: &[u8]) -> io::Result<Vec<u8>>
-        ensures receives { IfOk result (λ given.
-            Receives self.old.blocks self.old.side self.old.flow bytes.now self.new.flow given.items) }
-        ensures same { IsSameDirection self.old self.new }
-        ensures not_again { IfErr result (λ error. error_kind error ≢ ErrorKind.Interrupted) }
+    /// Whether something waits to be given on.
+    pub(crate) fn is_ready(&self) -> bool
+        ensures waits { OnTrue result (self.now.waiting ≢ []) }
+        ensures none { OnFalse result (self.now.waiting ≡ []) }
     {
-        let (front, behind) = bytes.split_at(self.passing.min(bytes.len()));
-        let mut out = Vec::from_slice(self.alloc, front)?;
-        self.passing -= front.len();
-        self.unread.extend_from_slice(behind)?;
+        self.ready > 0
+    }
+
+    /// Reads once, of what passes or is missing of a frame, and says how many bytes came; what is given on waits then.
+    /// Errors: those of the reader; what is remembered is in use, which no call of this crate brings about.
+    pub(crate) fn collect<R: Read>(&mut self, from: &mut R) -> io::Result<usize>
+        requires { self.old.waiting ≡ [] }
+        ensures came { IfOk result (λ count.
+            IsCollected (R.remaining from.old) (R.remaining from.new) self.old count self.new) }
+        ensures kept { OnErr result (Keeps (R.remaining from.old) (R.remaining from.new)) }
+        ensures same { OnErr result (self.new ≡ self.old) }
+    {
         let mut guard = self.padding.try_borrow_mut()?;
-        let taken = self.give_frames(&mut *guard, &mut out)?;
-        self.keep(taken, &mut out)?;
-        Ok(out)
-    }
-
-    /// Gives on the frames that are whole, and tells how many bytes they have. Errors: out of memory.
-    fn give_frames(&self, padding: &mut Padding, out: &mut Vec<u8>) -> Result<usize, AllocError>
-        ensures { IfOk result (λ taken.
-            GivesFrames self.now padding.old taken padding.new out.old.items out.new.items) }
-    {
-        let mut taken = 0;
-        'frames: while let Front::Frame(len) = front_of(&self.unread[taken..]) {
-            self.give(padding, &self.unread[taken..taken + len], out)?;
-            taken += len;
+        let most = self.wanted();
+        let count = self.room.read_from(from, most)?;
+        if self.passing > 0 {
+            self.ready = count;
+            self.passing -= count;
+        } else if let Some(behind) = settle(self.side, self.blocks, &mut *guard, &mut *self.room) {
+            self.ready = self.room.as_slice().len();
+            self.passing = behind;
         }
-        Ok(taken)
+        Ok(count)
     }
 
-    /// Gives on what stands for a frame. Errors: out of memory.
-    fn give(&self, padding: &mut Padding, frame: &[u8], out: &mut Vec<u8>) -> Result<(), AllocError>
-        requires { IsFrame frame.now }
-        ensures { OnOk result
-            (GivesBehind self.now padding.old frame.now padding.new out.old.items out.new.items) }
+    /// How many bytes are taken next at most: of those that pass, or what is missing of a frame.
+    fn wanted(&self) -> usize
+        requires { self.now.waiting ≡ [] }
+        ensures { IsWanted self.now result }
     {
-        let other = match self.side {
-            Side::Peer => padding.incoming(self.blocks, frame),
-            Side::Engine => padding.outgoing(self.alloc, self.blocks, frame)?,
-        };
-        match other {
-            Some(message) => out.extend_from_slice(write_message(self.alloc, &message)?.as_slice()),
-            None => out.extend_from_slice(frame),
+        if self.passing > 0 {
+            self.passing.min(ROOM_LEN)
+        } else {
+            missing_of(self.room.as_slice())
         }
     }
 
-    /// Keeps what is left behind the first so many bytes, or lets it pass where it is of no interest. Errors:
-    /// out of memory.
-    fn keep(&mut self, taken: usize, out: &mut Vec<u8>) -> Result<(), AllocError>
-        requires inside { taken ≤ length self.old.flow.unread }
-        requires no_frame { HasNoFrameAt self.old taken }
-        ensures kept { OnOk result (IsKept self.old taken self.new.flow out.old.items out.new.items) }
-        ensures same { IsSameDirection self.old self.new }
+    /// Gives the first of the bytes that wait, as many as there is room for, and says how many.
+    pub(crate) fn give(&mut self, buffer: &mut [u8]) -> usize
+        ensures count { result ≡ min (length self.old.waiting) (length buffer.old) }
+        ensures given { self.old.waiting ≡ take result buffer.new ++ self.new.waiting }
+        ensures others { self.new ≡ record self.old { waiting = self.new.waiting } }
     {
-        let rest = &self.unread[taken..];
-        if let Front::Other(missing) = front_of(rest) {
-            out.extend_from_slice(rest)?;
-            self.passing = missing;
-            self.unread.clear();
-        } else if taken > 0 {
-            self.unread = Vec::from_slice(self.alloc, rest)?;
-        }
-        Ok(())
+        let count = self.room.give(self.ready, buffer);
+        self.ready -= count;
+        count
     }
+
+    /// Writes all bytes that wait. None waits then, whatever came of it. Errors: those of the writer.
+    pub(crate) fn send<W: Write>(&mut self, to: &mut W) -> io::Result<()>
+        ensures sent { OnOk result (Appends (W.contents to.old) (W.contents to.new) self.old.waiting) }
+        ensures none { self.new ≡ record self.old { waiting = [] } }
+    {
+        let answer = to.write_all(&self.room.as_slice()[..self.ready]);
+        self.room.drop_front(self.ready);
+        self.ready = 0;
+        answer
+    }
+}
+
+/// What comes of the bytes in a room, which end no later than with a frame. None: they wait. Else what is in the
+/// room then is given on, and so many bytes behind it pass as they come.
+fn settle(
+    side: Side,
+    blocks: &ShortBlocks,
+    padding: &mut Padding,
+    room: &mut FrameRoom,
+) -> Option<usize>
+    requires { EndsWithFrame room.old }
+    ensures { SettlesBy blocks.now side room.old result room.new }
+{
+    match (front_of(room.as_slice()), side) {
+        (Front::Part, _) => return None,
+        (Front::Other(missing), _) => return Some(missing),
+        (Front::Frame, Side::Peer) => padding.incoming(blocks, room),
+        (Front::Frame, Side::Engine) => padding.outgoing(blocks, room),
+    }
+    Some(0)
 }

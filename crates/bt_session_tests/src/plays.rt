@@ -125,7 +125,7 @@ fn fetched(
     requires no_peer { engine.old.state.peers ≡ [] }
 {
     let idle = Duration::from_secs(IDLE_SECONDS);
-    let reached = TcpLink::new(alloc, net, HOST, PORT, idle, passage).dial();
+    let reached = TcpLink::new(net, HOST, PORT, idle, passage).dial();
     meet_peer(alloc, engine, reached, true, SESSION_TURNS)
 }
 

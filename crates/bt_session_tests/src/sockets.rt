@@ -52,7 +52,8 @@ pub fn socket_row(
 ) -> Result<(), AllocError> {
     let short_blocks = ShortBlocks::new(alloc, torrent)?;
     let shared = Shared::new(alloc)?;
-    row_between(net, alloc, &short_blocks, &shared, engine, row, out)
+    let pieces = engine.torrent().pieces();
+    row_between(net, alloc, &short_blocks, pieces, &shared, engine, row, out)
 }
 
 /// The same, with this between sockets and the engine.
@@ -60,6 +61,7 @@ fn row_between<'a>(
     net: &'a HostRuntime,
     alloc: Global,
     short_blocks: &'a ShortBlocks,
+    pieces: u32,
     shared: &'a Shared,
     engine: &mut TestEngine,
     row: &str,
@@ -67,6 +69,7 @@ fn row_between<'a>(
 ) -> Result<(), AllocError> {
     let passage = Passage {
         short_blocks,
+        pieces,
         shared,
     };
     let site = Site {
@@ -89,7 +92,7 @@ fn answer_row(
     let idle = Duration::from_millis(number as u64);
     match name {
         "closed" => tell_reached(out, is_closed_reached(site)),
-        "name" => tell_reached(out, is_name_reached(net, alloc, passage, number)),
+        "name" => tell_reached(out, is_name_reached(net, passage, number)),
         "echo" => tell_echo(out, echo(site, number)),
         "held" => out.push_str(if is_held(site, idle) {
             "held\n"
@@ -119,7 +122,7 @@ fn tell_reached(out: &mut String, is_reached: bool) -> Result<(), AllocError> {
 fn link<'a>(site: &Site<'a>, port: u16, idle: Duration) -> TcpLink<'a, HostRuntime>
     ensures { result.all ≡ 0 }
 {
-    TcpLink::new(site.alloc, site.net, HOST, port, idle, site.passage)
+    TcpLink::new(site.net, HOST, port, idle, site.passage)
 }
 
 fn dialled<'a>(site: &Site<'a>, port: u16, idle: Duration) -> Option<(Reader<'a>, Writer<'a>)> {

@@ -4,7 +4,7 @@ use crate::bytes::tell_given;
 use crate::ends::{Queue, Sink, Source};
 use crate::words::{RowError, Words};
 use bt_meta::Torrent;
-use bt_padding::{Padded, Padding, ShortBlocks, Side};
+use bt_padding::{FrameRoom, Padded, Padding, ShortBlocks, Side};
 use std::alloc::{AllocError, Global};
 use std::cell::RefCell;
 use std::collections::VecDeque;
@@ -32,14 +32,18 @@ fn one_text(alloc: Global, whole: String, one_by_one: &str) -> Result<String, Al
 struct Line {
     from_peer: Queue,
     to_peer: Queue,
+    incoming: RefCell<FrameRoom>,
+    outgoing: RefCell<FrameRoom>,
 }
 
 impl Line {
-    fn new(alloc: Global) -> Line {
-        Line {
+    fn new(alloc: Global) -> Result<Line, AllocError> {
+        Ok(Line {
             from_peer: RefCell::new(VecDeque::new(alloc)),
             to_peer: RefCell::new(VecDeque::new(alloc)),
-        }
+            incoming: RefCell::new(FrameRoom::new(alloc)?),
+            outgoing: RefCell::new(FrameRoom::new(alloc)?),
+        })
     }
 }
 
@@ -51,20 +55,19 @@ fn talk(
 ) -> Result<String, RowError> {
     let padding = RefCell::new(Padding::new(alloc)?);
     let blocks = ShortBlocks::new(alloc, torrent)?;
-    let line = Line::new(alloc);
+    let line = Line::new(alloc)?;
     let mut text = String::new(alloc);
-    let mut conversation = new_conversation(alloc, &blocks, &line, &padding, whole);
+    let mut conversation = new_conversation(&blocks, &line, &padding, whole)?;
     conversation.steps(alloc, words, &mut text)?;
     Ok(text)
 }
 
 fn new_conversation<'a>(
-    alloc: Global,
     blocks: &'a ShortBlocks,
     line: &'a Line,
     padding: &'a RefCell<Padding>,
     whole: bool,
-) -> Conversation<'a> {
+) -> io::Result<Conversation<'a>> {
     let source = Source {
         queue: &line.from_peer,
         most: if whole { usize::MAX } else { 1 },
@@ -72,13 +75,15 @@ fn new_conversation<'a>(
     let sink = Sink {
         queue: &line.to_peer,
     };
-    Conversation {
-        reader: Padded::new(alloc, Side::Peer, source, blocks, padding),
-        writer: Padded::new(alloc, Side::Engine, sink, blocks, padding),
+    let incoming = line.incoming.try_borrow_mut()?;
+    let outgoing = line.outgoing.try_borrow_mut()?;
+    Ok(Conversation {
+        reader: Padded::new(Side::Peer, source, blocks, padding, incoming),
+        writer: Padded::new(Side::Engine, sink, blocks, padding, outgoing),
         line,
         padding,
         whole,
-    }
+    })
 }
 
 /// The two ends of a conversation, whose bytes come all at once, or one by one.

@@ -1,8 +1,6 @@
-pub mod EarlySteps
 pub mod Link
 pub mod Stream
 pub mod StreamSteps
 pub mod Listener
 pub mod ListenerSteps
 pub mod Requests
-pub mod TimingSteps

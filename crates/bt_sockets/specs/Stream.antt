@@ -8,8 +8,8 @@ use Rattle.bt_padding.specs.declared.translation.Side.TheVariants.{Peer, Engine}
 -- A reader and a writer are those of a connection's begin: the reader reads this socket, and of it nothing has
 -- come, waits or was translated; the writer writes to a socket, and has got nothing. Both know these short
 -- blocks.
-pub record AreNewWays {S : Type 0} (short_blocks : List Ask) (socket : S) (reader : PaddedState (AheadState S))
-    (writer : PaddedState S) : Type 0 where
+pub record AreNewWays {S : Type 0} (short_blocks : List Ask) (socket : S)
+    (reader : PaddedState (AheadState S)) (writer : PaddedState S) : Type 0 where
   pub written_to : S
   pub reads : reader ≡ new_padded Peer (read_ahead socket) short_blocks
   pub writes : writer ≡ new_padded Engine written_to short_blocks

@@ -2,15 +2,11 @@
 #![tactic(auto)]
 
 mod alarm;
-mod early;
 mod link;
 mod listener;
 mod passage;
-mod passing;
 mod requests;
 mod stream;
-mod timed_stream;
-mod timing;
 
 pub use alarm::{Alarm, AlarmDisk, AlarmReader};
 pub use link::TcpLink;
@@ -18,5 +14,3 @@ pub use listener::{ACCEPT_TRIES, SESSION_TURNS, listen, port_of, serve};
 pub use passage::{Passage, Shared};
 pub use requests::{HoldingWriter, SendingReader};
 pub use stream::{CONNECT_SECONDS, IDLE_SECONDS, StreamReader, StreamWriter};
-pub use timed_stream::TimedStream;
-pub use timing::{BLOCK_SECONDS, HANDSHAKE_SECONDS, USE_SECONDS};

@@ -7,9 +7,8 @@ ghost use Rattle.bt_sockets.specs.StreamSteps.{IsAddressOf};
 
 use crate::passage::Passage;
 use crate::stream::{StreamReader, StreamWriter, Terms, both_ways, connected};
-use crate::timing::Role;
 use bt_peers::Link;
-use std::alloc::Global;
+use bt_waiting::Role;
 use std::io;
 use std::marker::Model;
 use std::net::{Net, SocketAddr};
@@ -18,7 +17,6 @@ use std::time::{Clock, Duration};
 /// A peer at a port of a host, which is a name or an address.
 #[derive(Drop)]
 pub struct TcpLink<'a, R: Net + Clock> {
-    alloc: Global,
     net: &'a R,
     host: &'a str,
     port: u16,
@@ -54,20 +52,13 @@ impl<'a, R: Net + Clock> Model for TcpLink<'a, R> {
 }
 
 impl<'a, R: Net + Clock> TcpLink<'a, R> {
-    /// A link that was not dialled yet. A peer that is idle for so long is given up; no time at all is
-    /// refused at each dial. Links that are dialled in turn may share their passage.
-    pub fn new(
-        alloc: Global,
-        net: &'a R,
-        host: &'a str,
-        port: u16,
-        idle: Duration,
-        passage: Passage<'a>,
-    ) -> Self
+    /// A link that was not dialled yet. A peer that is idle for so long is given up; no time at all is refused at each
+    /// dial. Links that are dialled in turn may share their passage. Neither a dial nor the connection that it gives takes
+    /// memory.
+    pub fn new(net: &'a R, host: &'a str, port: u16, idle: Duration, passage: Passage<'a>) -> Self
         ensures { result ≡ undialled host.now port passage.entry.short_blocks.now }
     {
         TcpLink {
-            alloc,
             net,
             host,
             port,
@@ -90,7 +81,7 @@ impl<'a, R: Net + Clock> TcpLink<'a, R> {
             role: Role::Fetch,
             idle: self.idle,
         };
-        let (reader, writer) = both_ways(self.alloc, self.net, stream, terms, self.passage)?;
+        let (reader, writer) = both_ways(self.net, stream, terms, self.passage)?;
         Ok(Connection {
             reader,
             writer,

@@ -9,11 +9,11 @@ ghost use Rattle.bt_sockets.specs.Stream.{AreNew};
 
 use crate::passage::Passage;
 use crate::stream::{StreamReader, StreamWriter, Terms, both_ways};
-use crate::timing::Role;
 use bt_check::Fault;
 use bt_disk::Disk;
 use bt_peers::{Engine, PeerEnd, meet_peer};
 use bt_tree::NodeHash;
+use bt_waiting::Role;
 use std::alloc::Global;
 use std::io::{self, ErrorKind, Read, Write};
 use std::net::{Net, OpenListener, TcpListener};
@@ -117,7 +117,7 @@ pub fn serve<'a, D: Disk + Drop, H: NodeHash, R: Net + Clock>(
                 role: Role::Serve,
                 idle,
             };
-            let reached = both_ways(alloc, net, stream, terms, passage).ok();
+            let reached = both_ways(net, stream, terms, passage).ok();
             Ok(meet_peer(alloc, engine, reached, false, SESSION_TURNS))
         }
         Err(_) => Err(Fault::Device),

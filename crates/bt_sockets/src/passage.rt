@@ -1,11 +1,10 @@
 //! What stands between a connection and its engine.
 
 use crate::alarm::Alarm;
-use crate::early::Early;
 use crate::requests::Requests;
-use crate::timing::Timing;
 use bt_ahead::{DigestCache, Room};
-use bt_padding::{Padding, ShortBlocks};
+use bt_padding::{FrameRoom, Padding, ShortBlocks};
+use bt_waiting::{EARLY_LEN, Room as EarlyRoom, Timing};
 use std::alloc::{AllocError, Global};
 use std::cell::RefCell;
 
@@ -18,10 +17,13 @@ pub struct Shared {
     pub padding: RefCell<Padding>,
     /// What is sent right before the connection is read.
     pub(crate) requests: RefCell<Requests>,
-    /// Where what is read ahead waits. A connection borrows it for as long as it is there.
+    /// Where what is read ahead waits. A connection borrows it, and the two below, for as long as it is there.
     pub(crate) room: RefCell<Room>,
+    /// Where what came of a message of a peer waits, and of one to it.
+    pub(crate) incoming: RefCell<FrameRoom>,
+    pub(crate) outgoing: RefCell<FrameRoom>,
     /// What came of a peer that takes nothing.
-    pub(crate) early: RefCell<Early>,
+    pub(crate) early: RefCell<EarlyRoom<EARLY_LEN>>,
     /// How long the peer took for what it owes.
     pub(crate) timing: Timing,
     /// Rung where a device refuses a write.
@@ -29,19 +31,23 @@ pub struct Shared {
 }
 
 impl Shared {
-    /// Nothing is digested ahead, remembered or held back, and the alarm does not ring. All the memory that
-    /// it takes to make a connection ready is taken here. Errors: out of memory.
+    /// Nothing is digested ahead, remembered or held back, and the alarm does not ring. All the memory that a
+    /// connection ever takes is taken here. Errors: out of memory.
     pub fn new(alloc: Global) -> Result<Self, AllocError> {
         let digests = RefCell::new(DigestCache::new(alloc)?);
         let padding = RefCell::new(Padding::new(alloc)?);
         let requests = RefCell::new(Requests::new(alloc)?);
         let room = RefCell::new(Room::new(alloc)?);
-        let early = RefCell::new(Early::new(alloc)?);
+        let incoming = RefCell::new(FrameRoom::new(alloc)?);
+        let outgoing = RefCell::new(FrameRoom::new(alloc)?);
+        let early = RefCell::new(EarlyRoom::new(alloc)?);
         Ok(Shared {
             digests,
             padding,
             requests,
             room,
+            incoming,
+            outgoing,
             early,
             timing: Timing::new(),
             alarm: Alarm::new(),
@@ -54,5 +60,7 @@ impl Shared {
 pub struct Passage<'a> {
     /// The last blocks of the torrent that are short.
     pub short_blocks: &'a ShortBlocks,
+    /// How many pieces the torrent has.
+    pub pieces: u32,
     pub shared: &'a Shared,
 }

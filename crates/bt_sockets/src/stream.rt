@@ -4,14 +4,11 @@ ghost use Rattle.bt_sockets.specs.Stream.{AreNewWays};
 ghost use Rattle.bt_sockets.specs.StreamSteps.{IsAddressOf, IsTextOf, bracketed};
 
 use crate::alarm::AlarmReader;
-use crate::early::Early;
 use crate::passage::{Passage, Shared};
 use crate::requests::{HoldingWriter, Requests, SendingReader};
-use crate::timed_stream::{TimedStream, set_turns};
-use crate::timing::Role;
 use bt_ahead::ReadAhead;
 use bt_padding::{Padded, Padding, Side};
-use std::alloc::Global;
+use bt_waiting::{EARLY_LEN, Role, Room, TimedStream, set_turns};
 use std::cell::RefCell;
 use std::io;
 use std::io::{ErrorKind, Read, Write};
@@ -88,7 +85,6 @@ pub(crate) struct Terms {
 /// and what was remembered of its peer, or held back for it, is forgotten. It takes no memory. Errors: the system
 /// refuses this; a connection for the same passage is there still.
 pub(crate) fn both_ways<'a, S: Read + Write + OpenStream + Drop, C: Clock>(
-    alloc: Global,
     clock: &'a C,
     stream: S,
     terms: Terms,
@@ -98,32 +94,41 @@ pub(crate) fn both_ways<'a, S: Read + Write + OpenStream + Drop, C: Clock>(
 {
     let Passage {
         short_blocks,
+        pieces,
         shared,
     } = passage;
     let room = shared.room.try_borrow_mut()?;
-    begin(shared, clock, terms.role)?;
+    let incoming = shared.incoming.try_borrow_mut()?;
+    let outgoing = shared.outgoing.try_borrow_mut()?;
+    begin(shared, clock, terms.role, pieces)?;
     stream.set_nodelay(true)?;
     set_turns(&stream, terms.idle)?;
     let clone = stream.try_clone()?;
-    let reading = TimedStream::new(stream, clock, terms.idle, shared);
+    let reading = TimedStream::new(stream, clock, terms.idle, &shared.timing, &shared.early);
     let sending = SendingReader::new(reading, &shared.requests);
     let heard = AlarmReader::new(sending, &shared.alarm);
     let ahead = ReadAhead::new(heard, &shared.digests, room);
-    let reader = Padded::new(alloc, Side::Peer, ahead, short_blocks, &shared.padding);
-    let writing = TimedStream::new(clone, clock, terms.idle, shared);
+    let reader = Padded::new(Side::Peer, ahead, short_blocks, &shared.padding, incoming);
+    let writing = TimedStream::new(clone, clock, terms.idle, &shared.timing, &shared.early);
     let holding = HoldingWriter::new(writing, &shared.requests);
-    let writer = Padded::new(alloc, Side::Engine, holding, short_blocks, &shared.padding);
+    let writer = Padded::new(
+        Side::Engine,
+        holding,
+        short_blocks,
+        &shared.padding,
+        outgoing,
+    );
     Ok((reader, writer))
 }
 
 /// Forgets the connection before, and begins the time of this one. Errors: the clock fails; what is to be
 /// forgotten is in use, which no call of this crate brings about.
-fn begin<C: Clock>(shared: &Shared, clock: &C, role: Role) -> io::Result<()> {
+fn begin<C: Clock>(shared: &Shared, clock: &C, role: Role, pieces: u32) -> io::Result<()> {
     forget(&shared.padding)?;
     forget_requests(&shared.requests)?;
     forget_early(&shared.early)?;
     shared.alarm.stop();
-    shared.timing.begin(role, Instant::now(clock)?);
+    shared.timing.begin(role, pieces, Instant::now(clock)?);
     Ok(())
 }
 
@@ -145,9 +150,9 @@ fn forget_requests(requests: &RefCell<Requests>) -> io::Result<()> {
 }
 
 /// Forgets what came early of another connection. Errors: it is in use, which no call of this crate brings about.
-fn forget_early(early: &RefCell<Early>) -> io::Result<()> {
+fn forget_early(early: &RefCell<Room<EARLY_LEN>>) -> io::Result<()> {
     let mut guard = early.try_borrow_mut()?;
     let early = &mut *guard;
-    early.forget();
+    early.clear();
     Ok(())
 }

@@ -91,6 +91,7 @@ fn fetch_store<D: Disk + Drop, H: NodeHash, N: Net + Clock, P: Watch, W: Write>(
     let short_blocks = ShortBlocks::new(alloc, engine.torrent())?;
     let passage = Passage {
         short_blocks: &short_blocks,
+        pieces: engine.torrent().pieces(),
         shared,
     };
     fetch_from(alloc, net, &mut engine, passage, peers, writer)
@@ -145,7 +146,7 @@ fn links_to<'a, N: Net + Clock>(
     let mut links = Vec::new(alloc);
     for peer in peers {
         let Peer { host, port } = *peer;
-        links.push(TcpLink::new(alloc, net, host, port, idle, passage))?;
+        links.push(TcpLink::new(net, host, port, idle, passage))?;
     }
     Ok(links)
 }

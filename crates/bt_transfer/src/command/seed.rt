@@ -86,6 +86,7 @@ fn seed_store<D: Disk + Drop, H: NodeHash, N: Net + Clock, P: Watch, W: Write>(
     let short_blocks = ShortBlocks::new(alloc, engine.torrent())?;
     let passage = Passage {
         short_blocks: &short_blocks,
+        pieces: engine.torrent().pieces(),
         shared,
     };
     listen_and_serve(alloc, net, &mut engine, passage, service, writer)?;

@@ -4,4 +4,4 @@ use Rattle.bt_padding.proofs.frame.front_of.Goals as goal
 
 pub returns-then-field-bytes : goal.returns-then-field-bytes
 returns-then-field-bytes c =
-    begins_frame c.args.bytes.now c.number_at-field.result c.number_at-field.ensures (omega arith) (omega (arith, c.if-bytes-lt4.false, c.if-field-bytes.true))
+    (_, begins_frame c.args.bytes.now c.number_at-field.result c.number_at-field.ensures (omega arith) (omega (arith, c.if-bytes-lt4.false, c.if-field-bytes.true)))

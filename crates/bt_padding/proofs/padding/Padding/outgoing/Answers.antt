@@ -1,23 +1,25 @@
-use Rattle.std.proofs.Common.{◌≡◌, sym, ◌∙◌, ap, subst, List, ℕ, remove}
+use Rattle.std.proofs.Common.{◌≡◌, ◌+◌, ◌-◌, ◌++◌, sym, ◌∙◌, ap, subst, List, ℕ, drop, length, remove, replicate}
 use Rattle.bt_wire.specs.declared.message.Ask.{Ask}
-use Rattle.bt_wire.specs.declared.message.Message.TheVariants.{Piece}
-use Rattle.bt_wire.specs.Message.{message_spelling}
-use Rattle.bt_padding.specs.Padding.{Memory, filled}
+use Rattle.bt_padding.specs.Padding.{Memory}
+use Rattle.bt_padding.specs.FrameSteps.{IsPieceOf}
 use Rattle.bt_padding.specs.Translation.{Gives}
 use Rattle.bt_padding.specs.declared.translation.Side.TheVariants.{Engine}
-use Rattle.bt_padding.proofs.Giving.{filled_by, piece_filled}
+use Rattle.bt_padding.proofs.Giving.{piece_filled, filled_up}
 use Rattle.bt_padding.proofs.padding.Padding.outgoing.Goals as goal
 
-pub returns-clause-given : goal.returns-clause-given
-returns-clause-given c =
+pub returns-in-Some-answered : goal.returns-in-Some-answered
+returns-in-Some-answered c =
     let ask : Ask = c.in-Some.ask in
+    let frame : List ℕ = c.args.frame.now in
     let i : ℕ = c.in-Some-answered.index in
-    let sent = c.in-Some.ensures.some in
-    let given = piece_filled c.streams_have_one_reading.ensures c.args.blocks.now c.args.self.now c.args.frame.now ask c.in-Some.block.now i
-    sent.sent sent.whole c.in-Some-answered.ensures.first c.in-Some-answered.ensures.short in
+    let is : IsPieceOf frame ask = subst (λ (xs : List ℕ). IsPieceOf xs ask) c.as_slice.ensures.value c.in-Some.ensures.some in
+    let given = piece_filled c.streams_have_one_reading.ensures c.args.blocks.now c.args.self.now frame ask is.block i
+    is.sent is.whole c.in-Some-answered.ensures.first c.in-Some-answered.ensures.short in
     let memory : c.remove.new.self.items ≡ remove c.args.self.now i
     = c.remove.ensures.items ∙ ap (λ (xs : Memory). remove xs i) c.self.view_is in
-    let whole : c.new.result ≡ filled c.in-Some.block.now = filled_by _ _ _ _ _ c.max.ensures c.in_ok-items.ensures.items c.in_ok-items.ensures.len (c.new.ensures ∙ c.in_ok-resize.ensures.items) in
-    subst (λ (m : Memory). Gives c.args.blocks.now Engine c.args.self.now c.args.frame.now (message_spelling (Piece ask.piece ask.begin c.new.result)) m) (sym memory)
-    (subst (λ (bytes : List ℕ). Gives c.args.blocks.now Engine c.args.self.now c.args.frame.now (message_spelling (Piece ask.piece ask.begin bytes)) (remove c.args.self.now i))
-    (sym whole) given)
+    let all : List ℕ = frame ++ replicate (16397 - length frame) 0 in
+    let whole = filled_up ask.piece ask.begin is.block frame is.sent.spelled c.as_slice.ensures.few in
+    subst (λ (m : Memory). Gives c.args.blocks.now Engine c.args.self.now frame c.put.new.self m) (sym memory)
+    (subst (λ (xs : List ℕ). Gives c.args.blocks.now Engine c.args.self.now frame xs (remove c.args.self.now i))
+    (sym whole ∙ ap (λ (b : List ℕ). b ++ drop (0 + length b) all) (sym c.to_be_bytes.ensures)
+    ∙ ap (λ (xs : List ℕ). c.to_be_bytes.result ++ drop (0 + length c.to_be_bytes.result) xs) (sym c.fill.ensures) ∙ sym c.put.ensures) given)

@@ -1,36 +1,47 @@
-use Rattle.std.proofs.Common.{◌≡◌, ◌++◌, ℕ, List, Option, sym, ◌∙◌, ap, is_ok}
-use Rattle.std.specs.Prelude.{if◌then◌else◌}
-use Rattle.bt_padding.specs.Padding.{Memory}
-use Rattle.bt_padding.specs.Translation.{Gives, bytes_for}
-use Rattle.bt_padding.proofs.Directions.{as_seen, behind}
+use Rattle.std.proofs.Common.{◌≡◌, ◌≤◌, ◌-◌, sym, ◌∙◌, subst, ap, arith, List, ℕ, take, length, length-take-le}
+use Rattle.std.specs.RefCell.{ref_mut_value}
+use Rattle.bt_wire.specs.declared.message.Ask.{Ask}
+use Rattle.bt_padding.specs.declared.translation.Side.{Side}
+use Rattle.bt_padding.specs.Flow.{Waits, Flow, flow}
+use Rattle.bt_padding.specs.Padded.{DirectionState}
+use Rattle.bt_padding.specs.TranslationSteps.{IsApart}
+use Rattle.bt_padding.proofs.Rooms.{ready_behind, unread_behind, fewer}
 use Rattle.bt_padding.proofs.translation.Direction.give.Goals as goal
-use Rattle.bt_padding.proofs.translation.Direction.give.Goals.{in-Peer, in-Engine+in_ok-other-in-Engine}
 
-pub returns-in_ok-write_message-in-Some : goal.returns-in_ok-write_message-in-Some
-returns-in_ok-write_message-in-Some c =
-    let memory : Memory = c.match-self.padding in
-    let held : List ℕ = c.args.out.now.items in
-    let run : List ℕ = bytes_for c.args.frame.now c.match-self.other in
-    let gives : Gives c.args.self.now.blocks c.args.self.now.side c.args.padding.now c.args.frame.now run memory
-    = elim c.match-self.branch [
-      | in-Peer w ↦ rw (w.padding-is, w.other-is) (as_seen _ _ _ _ _ _ _ _ _ c.self.view_is w.in-Peer.is w.incoming-other.ensures.given)
-      | in-Engine+in_ok-other-in-Engine w ↦ rw (w.padding-is, w.other-is) (as_seen _ _ _ _ _ _ _ _ _ c.self.view_is w.in-Engine.is w.in_ok-other-in-Engine.ensures.given)
-    ] in
-    let spelled : c.as_slice.result.now ≡ run
-    = c.as_slice.ensures.value ∙ c.in_ok-write_message-in-Some.ensures ∙ sym (ap (λ (o : Option _). bytes_for c.args.frame.now o) c.in-Some.is) in
-    behind c.extend_from_slice.result c.args.self.now c.args.padding.now memory c.args.frame.now held run c.extend_from_slice.new.self.items
-    (c.extend_from_slice.ensures.items ∙ ap (λ (xs : List ℕ). if is_ok c.extend_from_slice.result then held ++ xs else held) spelled) gives
+abbrev state : Side → List Ask → Flow → List ℕ → DirectionState
+state side blocks flow waiting = record { side = side; blocks = blocks; flow = flow; waiting = waiting }
 
-pub returns-in-None : goal.returns-in-None
-returns-in-None c =
-    let memory : Memory = c.match-self.padding in
-    let held : List ℕ = c.args.out.now.items in
-    let run : List ℕ = bytes_for c.args.frame.now c.match-self.other in
-    let gives : Gives c.args.self.now.blocks c.args.self.now.side c.args.padding.now c.args.frame.now run memory
-    = elim c.match-self.branch [
-      | in-Peer w ↦ rw (w.padding-is, w.other-is) (as_seen _ _ _ _ _ _ _ _ _ c.self.view_is w.in-Peer.is w.incoming-other.ensures.given)
-      | in-Engine+in_ok-other-in-Engine w ↦ rw (w.padding-is, w.other-is) (as_seen _ _ _ _ _ _ _ _ _ c.self.view_is w.in-Engine.is w.in_ok-other-in-Engine.ensures.given)
-    ] in
-    let same : c.args.frame.now ≡ run = sym (ap (λ (o : Option _). bytes_for c.args.frame.now o) c.in-None.is) in
-    behind c.extend_from_slice-in-None.result c.args.self.now c.args.padding.now memory c.args.frame.now held run c.extend_from_slice-in-None.new.self.items
-    (c.extend_from_slice-in-None.ensures.items ∙ ap (λ (xs : List ℕ). if is_ok c.extend_from_slice-in-None.result then held ++ xs else held) same) gives
+pub invariant_of-self : goal.invariant_of-self
+invariant_of-self c =
+    let d = c.self.inside in
+    let given = c.give-count in
+    let few : given.result ≤ length given.new.buffer = omega (arith, given.ensures.count, given.auto.buffer) in
+    let size : length (take given.result given.new.buffer) ≡ given.result = length-take-le given.result given.new.buffer few in
+    let split = sym c.deref_mut.ensures.value ∙ given.ensures.given in
+    let less : given.result ≤ d.ready = omega (arith, given.ensures.count) in
+    let same = unread_behind d.ready given.result (ref_mut_value d.room) (take given.result given.new.buffer) given.new.self split size less in (
+      fewer d.ready given.result (ref_mut_value d.room) (take given.result given.new.buffer) given.new.self split size c.self.invariant.0,
+      subst (λ (xs : List ℕ). Waits xs) same c.self.invariant.1,
+      subst (λ (xs : List ℕ). IsApart d.passing xs) same c.self.invariant.2,
+    )
+
+pub returns-clause-given : goal.returns-clause-given
+returns-clause-given c =
+    let d = c.self.inside in
+    let given = c.give-count in
+    let few : given.result ≤ length given.new.buffer = omega (arith, given.ensures.count, given.auto.buffer) in
+    let size : length (take given.result given.new.buffer) ≡ given.result = length-take-le given.result given.new.buffer few in
+    sym (ap (λ (s : DirectionState). s.waiting) c.self.view_is)
+    ∙ ready_behind d.ready given.result (ref_mut_value d.room) (take given.result given.new.buffer) given.new.self
+    (sym c.deref_mut.ensures.value ∙ given.ensures.given) size (omega (arith, given.ensures.count))
+
+pub returns-clause-others : goal.returns-clause-others
+returns-clause-others c =
+    let d = c.self.inside in
+    let given = c.give-count in
+    let few : given.result ≤ length given.new.buffer = omega (arith, given.ensures.count, given.auto.buffer) in
+    let size : length (take given.result given.new.buffer) ≡ given.result = length-take-le given.result given.new.buffer few in
+    let waiting : List ℕ = take (d.ready - given.result) given.new.self in
+    let same = unread_behind d.ready given.result (ref_mut_value d.room) (take given.result given.new.buffer) given.new.self
+    (sym c.deref_mut.ensures.value ∙ given.ensures.given) size (omega (arith, given.ensures.count)) in
+    ap (λ (xs : List ℕ). state d.side d.blocks.now (flow d.passing xs) waiting) (sym same) ∙ ap (λ (s : DirectionState). record s { waiting = waiting }) c.self.view_is
