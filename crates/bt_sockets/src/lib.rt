@@ -1,7 +1,6 @@
 //! Peers over TCP.
 #![tactic(auto)]
 
-mod alarm;
 mod early;
 mod link;
 mod listener;
@@ -12,7 +11,6 @@ mod stream;
 mod timed_stream;
 mod timing;
 
-pub use alarm::{Alarm, AlarmDisk, AlarmReader};
 pub use link::TcpLink;
 pub use listener::{ACCEPT_TRIES, SESSION_TURNS, listen, port_of, serve};
 pub use passage::{Passage, Shared};

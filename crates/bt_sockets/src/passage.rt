@@ -1,10 +1,9 @@
 //! What stands between a connection and its engine.
 
-use crate::alarm::Alarm;
 use crate::early::Early;
 use crate::requests::Requests;
 use crate::timing::Timing;
-use bt_ahead::{DigestCache, Room};
+use bt_ahead::{Alarm, DigestCache, Room};
 use bt_padding::{Padding, ShortBlocks};
 use std::alloc::{AllocError, Global};
 use std::cell::RefCell;

@@ -3,13 +3,12 @@ ghost use Rattle.std.specs.Prelude.{◌≡◌, ◌≢◌, List, ℕ, IfOk, Match
 ghost use Rattle.bt_sockets.specs.Stream.{AreNewWays};
 ghost use Rattle.bt_sockets.specs.StreamSteps.{IsAddressOf, IsTextOf, bracketed};
 
-use crate::alarm::AlarmReader;
 use crate::early::Early;
 use crate::passage::{Passage, Shared};
 use crate::requests::{HoldingWriter, Requests, SendingReader};
 use crate::timed_stream::{TimedStream, set_turns};
 use crate::timing::Role;
-use bt_ahead::ReadAhead;
+use bt_ahead::{AlarmReader, ReadAhead};
 use bt_padding::{Padded, Padding, Side};
 use std::alloc::Global;
 use std::cell::RefCell;
