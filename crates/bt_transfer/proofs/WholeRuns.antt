@@ -17,9 +17,9 @@ use Rattle.bt_machine.proofs.Lists.{and_true, contains_cases, contains_none, ran
 use Rattle.bt_runs.specs.Leads.{LeadsTo, both}
 use Rattle.bt_runs.specs.WholeRuns.{IsWholeRun, WholeRunsKeepPromises}
 use Rattle.bt_transfer.specs.Fetch.{EndsFetch, HasFetchedOverTcp}
-use Rattle.bt_transfer.specs.Report.{IsCalledComplete}
+use Rattle.bt_files.specs.Report.{IsCalledComplete}
 use Rattle.bt_transfer.specs.Seed.{EndsSeed, HasListened}
-use Rattle.bt_transfer.specs.Store.{HasBegun}
+use Rattle.bt_files.specs.Store.{HasBegun}
 use Rattle.bt_words.specs.declared.peer.Peer.{Peer}
 use Rattle.bt_words.specs.declared.peer.Serving.{Serving}
 

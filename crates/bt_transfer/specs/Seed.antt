@@ -11,11 +11,11 @@ use Rattle.bt_machine.specs.State.{EngineView}
 use Rattle.bt_machine.specs.View.{StepsTo}
 use Rattle.bt_meta.specs.Torrent.{Metainfo}
 use Rattle.bt_runs.specs.WholeRuns.{IsWholeRun}
-use Rattle.bt_transfer.specs.DataFiles.{DeviceView}
+use Rattle.bt_files.specs.DataFiles.{DeviceView}
 use Rattle.bt_transfer.specs.Connections.{HasServed, MeetsAndSyncs}
-use Rattle.bt_transfer.specs.Loading.{IsLoaded}
+use Rattle.bt_files.specs.Loading.{IsLoaded}
 use Rattle.bt_transfer.specs.OverTcp.{MeetsOverTcp}
-use Rattle.bt_transfer.specs.Store.{device_faults, device_history, device_honest}
+use Rattle.bt_files.specs.Store.{device_faults, device_history, device_honest}
 use Rattle.bt_words.specs.declared.peer.Serving.{Serving}
 use Rattle.bt_words.specs.declared.peer.Serving.TheVariants.{Count, Forever}
 

@@ -10,17 +10,14 @@ ghost use Rattle.bt_peers.specs.Peers.{IsTried};
 ghost use Rattle.bt_runs.specs.Leads.{LeadsTo};
 ghost use Rattle.bt_transfer.specs.Fetch.{EndsFetch, HasFetched, HasFetchedOverTcp, IsFetch, TriesAndSyncs, links_of};
 ghost use Rattle.bt_transfer.specs.FetchSteps.{BreaksOff};
-ghost use Rattle.bt_transfer.specs.Store.{HasBegun};
+ghost use Rattle.bt_files.specs.Store.{HasBegun};
 
-use crate::ending::conclude;
-use crate::lacking::begin_fetching;
-use crate::loading::load_store;
+use crate::device_context::device_context;
 use crate::peer_lines::write_peers;
-use crate::store::finish;
 use bt_check::{Fault, Source};
 use bt_disk::Disk;
 use bt_engine::Engine;
-use bt_intake::adopt_waiting;
+use bt_files::{adopt_waiting, begin_fetching, conclude, finish, load_store};
 use bt_padding::ShortBlocks;
 use bt_peers::{Link, PeerEnd, run_peers};
 use bt_progress::Watch;
@@ -61,7 +58,7 @@ pub fn fetch<R: Files + AllocGlobal + Clone + Drop, N: Net + Clock, P: Watch, W:
         (λ fault. status_of fault ≡ 2 → Keeps (W.contents writer.old) (W.contents writer.new)) }
 {
     let shared = Shared::new(rt.alloc())?;
-    let engine = load_store(rt, watch, &shared, source, dir)?;
+    let engine = load_store(rt, watch, device_context(&shared), source, dir)?;
     fetch_store(rt.alloc(), net, watch, engine, &shared, peers, writer)
 }
 

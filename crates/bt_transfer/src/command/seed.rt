@@ -8,15 +8,15 @@ ghost use Rattle.bt_padding.specs.ShortBlocks.{short_blocks_of};
 ghost use Rattle.bt_runs.specs.Leads.{LeadsTo};
 ghost use Rattle.bt_transfer.specs.Connections.{IsFlushed};
 ghost use Rattle.bt_transfer.specs.Seed.{EndsSeed, HasListened, HasServedAll, IsSeed, listening_line};
-ghost use Rattle.bt_transfer.specs.Store.{HasBegun};
+ghost use Rattle.bt_files.specs.Store.{HasBegun};
 
 use crate::connections::{serve_count, serve_forever};
-use crate::loading::load_store;
+use crate::device_context::device_context;
 use crate::reception::Reception;
-use crate::store::finish;
 use bt_check::{Fault, Source, print};
 use bt_disk::Disk;
 use bt_engine::Engine;
+use bt_files::{finish, load_store};
 use bt_padding::ShortBlocks;
 use bt_progress::{FileCall, Watch};
 use bt_runs::whole_runs_keep_promises;
@@ -55,7 +55,7 @@ pub fn seed<R: Files + AllocGlobal + Clone + Drop, N: Net + Clock, P: Watch, W: 
         (λ fault. status_of fault ≡ 2 → Keeps (W.contents writer.old) (W.contents writer.new)) }
 {
     let shared = Shared::new(rt.alloc())?;
-    let engine = load_store(rt, watch, &shared, source, dir)?;
+    let engine = load_store(rt, watch, device_context(&shared), source, dir)?;
     seed_store(rt.alloc(), net, watch, engine, &shared, service, writer)
 }
 

@@ -1,4 +1,4 @@
-use Rattle.bt_transfer.proofs.Faults.{ok_weaker, err_weaker, not_refused, while_loading}
+use Rattle.bt_files.proofs.Faults.{ok_weaker, err_weaker, not_refused, while_loading}
 use Rattle.bt_transfer.proofs.command.fetch.fetch.Goals as goal
 
 pub returns-clause-fault : goal.returns-clause-fault

@@ -1,4 +1,4 @@
-use Rattle.bt_transfer.proofs.Faults.{ok_weaker, err_weaker, not_refused, while_loading}
+use Rattle.bt_files.proofs.Faults.{ok_weaker, err_weaker, not_refused, while_loading}
 use Rattle.bt_transfer.proofs.command.seed.seed.Goals as goal
 
 pub returns-clause-done : goal.returns-clause-done
