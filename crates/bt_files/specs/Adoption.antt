@@ -1,6 +1,6 @@
--- What the devices of an engine's files have already is taken in, file after file.
-use Rattle.std.specs.Prelude.{◌≡◌, ℕ, ◌<◌, List, map, length, Ok, Err}
-use Rattle.std.specs.List.{All, range_with_len}
+-- What the devices of an engine's files have already is taken in, file after file, where bytes are there.
+use Rattle.std.specs.Prelude.{◌≡◌, ℕ, ◌<◌, Bool, true, List, filter, map, length, slice_get, take, Ok, Err, Some}
+use Rattle.std.specs.List.{All, enumerate_from}
 use Rattle.bt_disk.specs.History.{History}
 use Rattle.bt_machine.specs.declared.error.AdoptError.TheVariants.{OutOfMemory}
 use Rattle.bt_machine.specs.declared.event.Event.{Event}
@@ -12,9 +12,9 @@ use Rattle.bt_machine.specs.View.{StepsTo, RunsTo}
 use Rattle.bt_check.specs.Fault.{device, out_of_memory}
 use Rattle.bt_check.specs.declared.fault.Fault.{Fault}
 
--- so many files are taken in, from the first on
-abbrev pub adoptions : ℕ → List Event
-adoptions count = map (λ file. Adopt file) (range_with_len 0 count)
+-- Those files are taken in, in their order, of which this is said; the first has the number 0.
+abbrev pub adoptions : List Bool → List Event
+adoptions filled = map (λ p. Adopt p.0) (filter (λ p. p.1) (enumerate_from 0 filled))
 
 -- a file was taken in, and no read of it failed
 abbrev pub IsTakenIn : Answer → Type 0
@@ -27,26 +27,22 @@ IsAdoptionFault (Adopted (Ok adopted)) fault = (0 < adopted.faults) × (fault �
 IsAdoptionFault (Adopted (Err OutOfMemory)) fault = fault ≡ out_of_memory
 IsAdoptionFault _ fault = ⊥
 
--- from the old engine on so many files were taken in, one after the other, and no read of them failed
+-- From the old engine on these files were taken in, one after the other, and no read of them failed. Of the others
+-- nothing changed, and no device was called: nothing but these events happened.
 pub record TakesIn {D : Type 0} (history : D → History) (honest : D → Type 0) (faults : D → ℕ)
-    (dig : List ℕ → List ℕ) (old : EngineView D) (count : ℕ) (new : EngineView D) : Type 0 where
+    (dig : List ℕ → List ℕ) (old : EngineView D) (filled : List Bool) (new : EngineView D) : Type 0 where
   pub answers : List Answer
-  pub runs : RunsTo history honest faults dig old (adoptions count) answers new
+  pub runs : RunsTo history honest faults dig old (adoptions filled) answers new
   pub faultless : All IsTakenIn answers
 
--- all of them
-abbrev pub TakesInAll : {D : Type 0} → (D → History) → (D → Type 0) → (D → ℕ) → (List ℕ → List ℕ)
-    → EngineView D → EngineView D → Type 0
-TakesInAll history honest faults dig old new =
-    TakesIn history honest faults dig old (length old.state.files) new
-
--- one of the files is not taken in without a fault; those before it are
+-- one of these files is not taken in without a fault; those before it are
 pub record StopsAtFile {D : Type 0} (history : D → History) (honest : D → Type 0) (faults : D → ℕ)
-    (dig : List ℕ → List ℕ) (old : EngineView D) (fault : Fault) (new : EngineView D) : Type 0 where
+    (dig : List ℕ → List ℕ) (old : EngineView D) (filled : List Bool) (fault : Fault) (new : EngineView D)
+    : Type 0 where
   pub file : ℕ
-  pub inside : file < length old.state.files
+  pub chosen : slice_get filled file ≡ Some true
   pub before : EngineView D
-  pub taken : TakesIn history honest faults dig old file before
+  pub taken : TakesIn history honest faults dig old (take file filled) before
   pub answer : Answer
   pub last : StepsTo history honest faults dig before (Adopt file) answer new
   pub cause : IsAdoptionFault answer fault

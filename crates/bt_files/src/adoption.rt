@@ -4,29 +4,35 @@ ghost use Rattle.bt_machine.specs.declared.event.Event.TheVariants.{Adopt};
 ghost use Rattle.bt_machine.specs.declared.event.Answer.{Answer};
 ghost use Rattle.bt_machine.specs.View.{StepsTo};
 ghost use Rattle.bt_runs.specs.Leads.{LeadsTo};
-ghost use Rattle.bt_files.specs.Adoption.{IsAdoptionFault, IsTakenIn, StopsAtFile, TakesInAll};
+ghost use Rattle.bt_files.specs.Adoption.{IsAdoptionFault, IsTakenIn, StopsAtFile, TakesIn};
 
 use bt_check::Fault;
 use bt_disk::Disk;
 use bt_engine::{AdoptError, Engine};
 use bt_tree::NodeHash;
 
-/// Takes in what the devices of all files have, file after file. Errors: a read failed, or out of memory; the
-/// files before stay taken in.
-pub fn adopt_files<D: Disk + Drop, H: NodeHash>(engine: &mut Engine<D, H>) -> Result<(), Fault>
-    requires { engine.old.state.peers ≡ [] }
+/// Takes in what the devices of those files have of which bytes are there, file after file; of no other file is a
+/// device called. `filled` tells it of each file. Errors: a read failed, or out of memory; the files before stay taken
+/// in.
+pub fn adopt_files<D: Disk + Drop, H: NodeHash>(
+    engine: &mut Engine<D, H>,
+    filled: &[bool],
+) -> Result<(), Fault>
+    requires no_peer { engine.old.state.peers ≡ [] }
+    requires each { length filled.now ≡ length engine.old.state.torrent.files }
     ensures taken_in { OnOk result
-        (TakesInAll D.history D.honest D.faults H.digest engine.old engine.new) }
+        (TakesIn D.history D.honest D.faults H.digest engine.old filled.now engine.new) }
     ensures fault { IfErr result
-        (λ fault. StopsAtFile D.history D.honest D.faults H.digest engine.old fault engine.new) }
+        (λ fault. StopsAtFile D.history D.honest D.faults H.digest engine.old filled.now fault engine.new) }
     ensures run { LeadsTo D.history D.honest D.faults H.digest engine.old engine.new }
     ensures torrent { engine.new.state.torrent ≡ engine.old.state.torrent }
     ensures no_peer { engine.new.state.peers ≡ [] }
 {
     engine.keeps_laws();
-    let count = engine.torrent().files().len() as u32;
-    for file in 0..count {
-        adopt_file(engine, file)?;
+    for (number, is_filled) in filled.iter().enumerate() {
+        if *is_filled {
+            adopt_file(engine, number as u32)?;
+        }
     }
     Ok(())
 }

@@ -1,16 +1,22 @@
-//! The data files of a torrent, opened to be read and written.
-ghost use Rattle.std.specs.Prelude.{[], ◌≡◌, ◌⊎◌, ◌+◌, map, IfOk, IfErr, OnOk};
+//! The data files of a torrent, opened for a use.
+ghost use Rattle.std.specs.Prelude.{[], ◌≡◌, ◌⊎◌, ◌+◌, ◌++◌, ◌∷◌, map, length, nat_lt, string_bytes, IfOk, IfErr, IfSome, IsSome, OnOk};
 ghost use Rattle.std.specs.Path.{path_buf_bytes};
+ghost use Rattle.bt_ahead.specs.Disk.{new_ahead};
 ghost use Rattle.bt_disk.specs.Pool.{new_pool};
 ghost use Rattle.bt_meta.specs.Files.{file_of};
-ghost use Rattle.bt_check.specs.Fault.{device, out_of_memory};
-ghost use Rattle.bt_files.specs.DataFiles.{new_device, new_devices};
+ghost use Rattle.bt_check.specs.Fault.{device};
+ghost use Rattle.bt_files.specs.DataFiles.{AreNewDevices, IsNewDevice, IsNewFile};
 ghost use Rattle.bt_files.specs.DataFilesSteps.{IsOpenedFor, IsPushed};
+ghost use Rattle.bt_files.specs.FileUse.{is_read_only};
+ghost use Rattle.bt_files.specs.OpenFolder.{IsOpeningFault};
 
 use crate::device_context::DeviceContext;
+use crate::file_use::FileUse;
+use crate::open_folder::OpenFolder;
 use bt_ahead::{AlarmDisk, ReadAheadDisk};
 use bt_check::{Fault, OPEN_FILES, data_path, fault_name, told};
-use bt_disk::{FileDisk, HandlePool, PooledDisk};
+use bt_disk::{DeviceFault, FileDisk, HandlePool, Opening, PooledDisk};
+use bt_folder::SealedDisk;
 use bt_meta::FileEntry;
 use bt_progress::{FileCall, Watch, Watched};
 use std::alloc::{AllocError, Global};
@@ -18,50 +24,98 @@ use std::fs;
 use std::path::{Path, PathBuf};
 use std::rt::Files;
 
-/// The device of a data file: one of a pool, which is read ahead, rings where a write fails, and tells of its
-/// calls.
-pub type DataDisk<'a, R, P> = Watched<'a, AlarmDisk<'a, ReadAheadDisk<'a, PooledDisk<R>>>, P>;
+/// The device of a data file: one of a pool, which is read ahead, may be closed to writes, rings where a write
+/// fails, and tells of its calls.
+pub type DataDisk<'a, R, P> = Watched<
+    'a,
+    AlarmDisk<'a, SealedDisk<'a, ReadAheadDisk<'a, PooledDisk<R>>>>,
+    P,
+>;
 
-/// Opens the data files of some entries, in turn, to read and write them, and gives the devices of those that
-/// have a byte. They share a few handles, and what is read ahead, and tell of their calls; their bytes are to be
-/// read.
+/// The devices of those files of a torrent that have a byte, in their order; and of each file of it, whether bytes of
+/// it are there.
+#[derive(Drop)]
+pub(crate) struct OpenFiles<D> {
+    pub disks: Vec<D>,
+    pub filled: Vec<bool>,
+}
+
+impl<D: Drop> OpenFiles<D> {
+    fn new(alloc: Global) -> Self
+        ensures disks { result.disks.items ≡ [] }
+        ensures filled { result.filled.items ≡ [] }
+    {
+        OpenFiles {
+            disks: Vec::new(alloc),
+            filled: Vec::new(alloc),
+        }
+    }
+
+    /// Puts a file behind those before.
+    fn push(&mut self, file: OpenFile<D>) -> Result<(), AllocError>
+        ensures disks { OnOk result (IsPushed self.old.disks.items file.disk self.new.disks.items) }
+        ensures filled { OnOk result
+            (self.new.filled.items ≡ self.old.filled.items ++ nat_lt 0 file.opening.len ∷ []) }
+    {
+        self.filled.push(file.opening.len > 0)?;
+        push_some(&mut self.disks, file.disk)
+    }
+}
+
+/// A file of a torrent that was opened: its device, which an empty one has not, and what the system told of it.
+#[derive(Drop)]
+struct OpenFile<D> {
+    disk: Option<D>,
+    opening: Opening,
+}
+
+/// Opens the data files of some entries, in turn, and gives the devices of those that have a byte. They share a few
+/// handles, and what is read ahead, and tell of their calls; their bytes are to be read.
 ///
-/// Missing folders and files are made, also the files of empty entries. A file that is there keeps its bytes;
-/// what is there and is no regular file is a device fault, and is not opened.
+/// But for a read-only use, missing folders and files are made, also the files of empty entries, and are kept: the
+/// folder of each is synced. A file that is there keeps its bytes; what is there and is no regular file is a device
+/// fault, and is not opened. Nor may two paths be one file, unless they are only read.
 pub(crate) fn open_devices<'a, R: Files + AllocGlobal + Clone + Drop, P: Watch>(
     rt: &R,
     watch: &'a P,
     context: DeviceContext<'a>,
     dir: &str,
     entries: &[FileEntry],
-) -> Result<Vec<DataDisk<'a, R, P>>, Fault>
-    ensures devices { IfOk result (λ disks. disks.items ≡ new_devices dir.now (map file_of entries.now)) }
-    ensures fault { IfErr result (λ fault. (fault ≡ device) ⊎ (fault ≡ out_of_memory)) }
+) -> Result<OpenFiles<DataDisk<'a, R, P>>, Fault>
+    ensures devices { IfOk result (λ files.
+        AreNewDevices context.entry.usage dir.now (map file_of entries.now) files.disks.items) }
+    ensures each { IfOk result (λ files. length files.filled.items ≡ length entries.now) }
+    ensures fault { IfErr result (IsOpeningFault context.entry.usage) }
 {
     let mut pool = HandlePool::new(rt.alloc(), rt.clone()?, OPEN_FILES)?;
-    let mut disks = Vec::new(rt.alloc());
-    push_devices(rt, watch, context, &mut pool, dir, entries, &mut disks)?;
-    Ok(disks)
+    let mut files = OpenFiles::new(rt.alloc());
+    push_devices(rt, watch, context, &mut pool, dir, entries, &mut files)?;
+    Ok(files)
 }
 
 /// Opens the data files of some entries by a new pool, and gives the devices of those that have a byte.
-fn push_devices<'a, R: Files + AllocGlobal + Drop, P: Watch>(
+fn push_devices<'a, R: Files + AllocGlobal + Clone + Drop, P: Watch>(
     rt: &R,
     watch: &'a P,
     context: DeviceContext<'a>,
     pool: &mut HandlePool<R>,
     dir: &str,
     entries: &[FileEntry],
-    disks: &mut Vec<DataDisk<'a, R, P>>,
+    files: &mut OpenFiles<DataDisk<'a, R, P>>,
 ) -> Result<(), Fault>
     requires no_device { pool.old ≡ new_pool }
-    requires no_disk { disks.old.items ≡ [] }
-    ensures devices { OnOk result (disks.new.items ≡ new_devices dir.now (map file_of entries.now)) }
-    ensures fault { IfErr result (λ fault. (fault ≡ device) ⊎ (fault ≡ out_of_memory)) }
+    requires no_disk { files.old.disks.items ≡ [] }
+    requires no_file { files.old.filled.items ≡ [] }
+    ensures devices { OnOk result
+        (AreNewDevices context.entry.usage dir.now (map file_of entries.now) files.new.disks.items) }
+    ensures each { OnOk result (length files.new.filled.items ≡ length entries.now) }
+    ensures fault { IfErr result (IsOpeningFault context.entry.usage) }
 {
+    let mut folder = OpenFolder::new(rt.alloc());
     for entry in entries {
-        let found = open_entry(rt, watch, context, pool, dir, entry)?;
-        push_some(disks, found)?;
+        let file = open_entry(rt, watch, context, pool, dir, entry)?;
+        folder.add(rt, watch, context.usage, dir, entry, file.opening)?;
+        files.push(file)?;
     }
     Ok(())
 }
@@ -79,7 +133,8 @@ fn push_some<T: Drop>(items: &mut Vec<T>, item: Option<T>) -> Result<(), AllocEr
     }
 }
 
-/// The device of an entry: none where it is empty. Folders and the file are made where they are missing.
+/// The file of an entry, which has no device where it is empty. Folders and the file are made where they are
+/// missing, but for a read-only use.
 fn open_entry<'a, R: Files + AllocGlobal + Drop, P: Watch>(
     rt: &R,
     watch: &'a P,
@@ -87,41 +142,89 @@ fn open_entry<'a, R: Files + AllocGlobal + Drop, P: Watch>(
     pool: &mut HandlePool<R>,
     dir: &str,
     entry: &FileEntry,
-) -> Result<Option<DataDisk<'a, R, P>>, Fault>
-    ensures opened { IfOk result
-        (λ found. IsOpenedFor dir.now (file_of entry.now) pool.old.made found pool.new.made) }
-    ensures fault { IfErr result (λ fault. (fault ≡ device) ⊎ (fault ≡ out_of_memory)) }
+) -> Result<OpenFile<DataDisk<'a, R, P>>, Fault>
+    ensures opened { IfOk result (λ file.
+        IsOpenedFor context.entry.usage dir.now (file_of entry.now) pool.old.made file.disk pool.new.made) }
+    ensures fault { IfErr result (IsOpeningFault context.entry.usage) }
 {
     let path = data_path(rt.alloc(), dir, &entry.path)?;
-    make_folder(rt, watch, path.as_path())?;
+    make_folder(rt, watch, context.usage, path.as_path())?;
     if entry.length == 0 {
-        make_file(rt, watch, path.as_path())?;
-        return Ok(None);
+        let opening = open_empty(rt, watch, context.usage, path.as_path())?;
+        return Ok(OpenFile {
+            disk: None,
+            opening,
+        });
     }
-    watch.expect(entry.length);
-    let disk = open_device(rt.alloc(), watch, context, pool, path)?;
-    Ok(Some(disk))
+    let file = open_device(rt.alloc(), watch, context, pool, path)?;
+    if file.opening.len > 0 {
+        watch.expect(entry.length);
+    }
+    Ok(file)
 }
 
-/// The next device of a pool, of a file that is read and written, which is read ahead, and tells of its calls.
+/// The next device of a pool, of a file that is opened for a use, which is read ahead, and tells of its calls.
 fn open_device<'a, R: Files + Drop, P: Watch>(
     alloc: Global,
     watch: &'a P,
     context: DeviceContext<'a>,
     pool: &mut HandlePool<R>,
     path: PathBuf,
-) -> Result<DataDisk<'a, R, P>, Fault>
-    ensures device { IfOk result (λ disk. disk ≡ new_device pool.new.made (path_buf_bytes path)) }
+) -> Result<OpenFile<DataDisk<'a, R, P>>, Fault>
+    ensures some { IfOk result (λ file. IsSome file.disk) }
+    ensures device { IfOk result (λ file.
+        IfSome file.disk (IsNewDevice context.entry.usage pool.new.made (path_buf_bytes path))) }
     ensures one_more { OnOk result (pool.new.made ≡ pool.old.made + 1) }
-    ensures fault { IfErr result (λ fault. (fault ≡ device) ⊎ (fault ≡ out_of_memory)) }
+    ensures fault { IfErr result (IsOpeningFault context.entry.usage) }
 {
     let name = fault_name(alloc, watch, path.as_path().as_str())?;
-    match pool.writing(path.into_string()) {
-        Ok(disk) => {
-            let ahead = ReadAheadDisk::new(disk, context.digests);
-            Ok(Watched::new(AlarmDisk::new(ahead, context.alarm), watch, name))
+    match pooled(pool, context.usage, path.into_string()) {
+        Ok(file) => {
+            let opening = file.opening();
+            let disk = Watched::new(
+                AlarmDisk::new(device_of(context, file), context.alarm),
+                watch,
+                name,
+            );
+            Ok(OpenFile {
+                disk: Some(disk),
+                opening,
+            })
         }
         Err(_) => Err(opening_fault(watch, name)),
+    }
+}
+
+/// The next file of a pool, opened for a use. What a seed finds in it is none of what it has to keep.
+fn pooled<R: Files + Drop>(
+    pool: &mut HandlePool<R>,
+    usage: FileUse,
+    path: String,
+) -> Result<PooledDisk<R>, DeviceFault>
+    ensures file { IfOk result (IsNewFile usage pool.new.made (string_bytes path)) }
+    ensures one_more { OnOk result (pool.new.made ≡ pool.old.made + 1) }
+{
+    match usage {
+        FileUse::Fetch => pool.writing(path),
+        FileUse::Seed => Ok(pool.writing(path)?.assume_synced()),
+        FileUse::ReadOnly => pool.reading(path),
+    }
+}
+
+/// A file as a device that is read ahead, and is closed to writes: with its seal, or at once.
+fn device_of<'a, R: Files + Drop>(
+    context: DeviceContext<'a>,
+    file: PooledDisk<R>,
+) -> SealedDisk<'a, ReadAheadDisk<'a, PooledDisk<R>>>
+    ensures inner { result.inner ≡ new_ahead file }
+    ensures is_sealed { result.is_sealed ≡ is_read_only context.entry.usage }
+    ensures refused { result.refused ≡ 0 }
+{
+    let ahead = ReadAheadDisk::new(file, context.digests);
+    if context.usage.is_read_only() {
+        SealedDisk::closed(ahead, context.seal)
+    } else {
+        SealedDisk::new(ahead, context.seal)
     }
 }
 
@@ -135,14 +238,19 @@ fn opening_fault<P: Watch>(watch: &P, name: Option<String>) -> Fault
     Fault::Device
 }
 
-/// Makes the folder of a file, and those above it, where they are missing. A fault is told of.
+/// Makes the folder of a file, and those above it, where they are missing, but for a read-only use. A fault is told
+/// of.
 fn make_folder<R: Files + AllocGlobal, P: Watch>(
     rt: &R,
     watch: &P,
+    usage: FileUse,
     file: Path<'_>,
 ) -> Result<(), Fault>
     ensures { IfErr result (λ fault. fault ≡ device) }
 {
+    if usage.is_read_only() {
+        return Ok(());
+    }
     let Some(folder) = file.parent() else {
         return Ok(());
     };
@@ -150,17 +258,23 @@ fn make_folder<R: Files + AllocGlobal, P: Watch>(
     told(rt.alloc(), watch, FileCall::Create, folder.as_str(), made)
 }
 
-/// Makes a file of no bytes, where there is none. A fault is told of.
-fn make_file<R: Files + AllocGlobal, P: Watch>(
+/// Opens a file that is to have no byte, and makes it where there is none, but for a read-only use. A fault is told
+/// of.
+fn open_empty<R: Files + AllocGlobal, P: Watch>(
     rt: &R,
     watch: &P,
+    usage: FileUse,
     file: Path<'_>,
-) -> Result<(), Fault>
+) -> Result<Opening, Fault>
     ensures { IfErr result (λ fault. fault ≡ device) }
 {
-    let made = match FileDisk::writing(rt, file.as_str()) {
-        Ok(_disk) => Ok(()),
+    let opened = match usage {
+        FileUse::Fetch | FileUse::Seed => FileDisk::writing(rt, file.as_str()),
+        FileUse::ReadOnly => FileDisk::reading(rt, file.as_str()),
+    };
+    let opening = match opened {
+        Ok(disk) => Ok(disk.opening()),
         Err(_) => Err(Fault::Device),
     };
-    told(rt.alloc(), watch, FileCall::Open, file.as_str(), made)
+    told(rt.alloc(), watch, FileCall::Open, file.as_str(), opening)
 }

@@ -1,7 +1,7 @@
 //! The store of a torrent that is read from its file.
 ghost use Rattle.std.specs.Prelude.{IfErr, IfOk};
 ghost use Rattle.bt_check.specs.TorrentFile.{HasText, IsLoadFault};
-ghost use Rattle.bt_files.specs.Loading.{IsLoaded};
+ghost use Rattle.bt_files.specs.Loading.{IsLoaded, IsStoreFault};
 
 use crate::device_context::DeviceContext;
 use crate::store::{Store, open_store};
@@ -19,8 +19,8 @@ pub fn load_store<'a, R: Files + AllocGlobal + Clone + Drop, P: Watch>(
     source: Source<'_>,
     dir: &str,
 ) -> Result<Store<'a, R, P>, Fault>
-    ensures loaded { IfOk result (IsLoaded source.entry.is_info dir.now) }
-    ensures fault { IfErr result (IsLoadFault source.entry.is_info) }
+    ensures loaded { IfOk result (IsLoaded source.entry.is_info context.entry.usage dir.now) }
+    ensures fault { IfErr result (IsStoreFault source.entry.is_info context.entry.usage) }
 {
     let torrent = load_torrent(rt, watch, source)?;
     watch.begin(FileCall::Read);

@@ -14,7 +14,7 @@ use std::io::Write;
 
 /// Writes a line for each file of an engine's torrent, in order, and the last line; and gives whether all are
 /// complete.
-pub(crate) fn write_report<D: Disk + Drop, H: NodeHash, W: Write>(
+pub fn write_report<D: Disk + Drop, H: NodeHash, W: Write>(
     alloc: Global,
     engine: &Engine<D, H>,
     writer: &mut W,

@@ -8,11 +8,11 @@ ghost use Rattle.bt_machine.specs.Start.{device_count};
 ghost use Rattle.bt_machine.specs.View.{StepsTo};
 ghost use Rattle.bt_runs.specs.Leads.{LeadsTo};
 ghost use Rattle.bt_check.specs.Fault.{device, out_of_memory};
-ghost use Rattle.bt_files.specs.DataFiles.{new_devices};
-ghost use Rattle.bt_files.specs.Store.{HasBegun, device_faults, device_history, device_honest};
+ghost use Rattle.bt_files.specs.OpenFolder.{IsOpeningFault};
+ghost use Rattle.bt_files.specs.Store.{HasBegun, IsOpened};
 
 use crate::adoption::adopt_files;
-use crate::data_files::{DataDisk, open_devices};
+use crate::data_files::{DataDisk, OpenFiles, open_devices};
 use crate::device_context::DeviceContext;
 use bt_ahead::CachedLanes;
 use bt_check::Fault;
@@ -27,8 +27,8 @@ use std::rt::Files;
 /// The store of a torrent's data files, whose digests are looked up where they were made ahead.
 pub type Store<'a, R, P> = Engine<DataDisk<'a, R, P>, CachedLanes<'a>>;
 
-/// Opens the store of a torrent's files in a folder: missing folders and files are made, the files are opened
-/// in the order of the torrent, and then what they have is taken in. The first fault ends it.
+/// Opens the store of a torrent's files in a folder: missing folders and files are made, but for a read-only use, the
+/// files are opened in the order of the torrent, and then what they have is taken in. The first fault ends it.
 pub(crate) fn open_store<'a, R: Files + AllocGlobal + Clone + Drop, P: Watch>(
     rt: &R,
     watch: &'a P,
@@ -36,33 +36,35 @@ pub(crate) fn open_store<'a, R: Files + AllocGlobal + Clone + Drop, P: Watch>(
     torrent: Torrent,
     dir: &str,
 ) -> Result<Store<'a, R, P>, Fault>
-    ensures opened { IfOk result (HasBegun device_history device_honest device_faults sha256
-        torrent (new_devices dir.now torrent.files)) }
-    ensures fault { IfErr result (λ fault. (fault ≡ device) ⊎ (fault ≡ out_of_memory)) }
+    ensures opened { IfOk result (IsOpened context.entry.usage dir.now torrent) }
+    ensures fault { IfErr result (IsOpeningFault context.entry.usage) }
 {
-    let disks = open_devices(rt, watch, context, dir, torrent.files())?;
+    let files = open_devices(rt, watch, context, dir, torrent.files())?;
     begin(
         rt.alloc(),
         torrent,
-        disks,
+        files,
         CachedLanes::new(context.digests),
     )
 }
 
-/// Starts an engine of a torrent over the devices of its files that have a byte, and takes in what they have.
+/// Starts an engine of a torrent over the devices of its files that have a byte, and takes in what is there of them.
 pub(crate) fn begin<'a, D: Disk + Drop>(
     alloc: Global,
     torrent: Torrent,
-    disks: Vec<D>,
+    files: OpenFiles<D>,
     hash: CachedLanes<'a>,
 ) -> Result<Engine<D, CachedLanes<'a>>, Fault>
-    requires { length disks.items ≡ device_count torrent.files }
-    ensures begun { IfOk result (HasBegun D.history D.honest D.faults sha256 torrent disks.items) }
+    requires devices { length files.disks.items ≡ device_count torrent.files }
+    requires each { length files.filled.items ≡ length torrent.files }
+    ensures begun { IfOk result
+        (HasBegun D.history D.honest D.faults sha256 torrent files.disks.items files.filled.items) }
     ensures fault { IfErr result (λ fault. (fault ≡ device) ⊎ (fault ≡ out_of_memory)) }
 {
+    let OpenFiles { disks, filled } = files;
     match Engine::start(alloc, torrent, hash, disks) {
         Ok(mut engine) => {
-            adopt_files(&mut engine)?;
+            adopt_files(&mut engine, &filled)?;
             Ok(engine)
         }
         Err(refused) => match refused.cause {

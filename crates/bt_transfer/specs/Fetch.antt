@@ -18,6 +18,7 @@ use Rattle.bt_wire.specs.declared.message.Ask.{Ask}
 use Rattle.bt_runs.specs.WholeRuns.{IsFileMarkedOnPath, IsWholeRun}
 use Rattle.bt_sockets.specs.Link.{Dials, undialled}
 use Rattle.bt_files.specs.DataFiles.{DeviceView}
+use Rattle.bt_files.specs.declared.file_use.FileUse.TheVariants.{Fetch}
 use Rattle.bt_files.specs.Ending.{IsConcluded}
 use Rattle.bt_files.specs.Loading.{IsLoaded}
 use Rattle.bt_transfer.specs.OverTcp.{TriesOverTcp}
@@ -81,6 +82,7 @@ pub record EndsFetch {D : Type 0} (history : D → History) (honest : D → Type
 pub record IsFetch (is_info : Bool) (dir : List ℕ) (peers : List Peer) (before after : Option (List ℕ))
     (status : ℕ) : Type 0 where
   pub store : EngineView DeviceView
-  pub loaded : IsLoaded is_info dir store
-  pub ended : EndsFetch device_history device_honest device_faults sha256 loaded.torrent loaded.opened.first
+  pub loaded : IsLoaded is_info Fetch dir store
+  pub ended : EndsFetch device_history device_honest device_faults sha256 loaded.torrent
+      loaded.opened.begun.first
       store peers before after status
