@@ -2,7 +2,9 @@
 use Rattle.std.proofs.Common.{◌≡◌, ◌⊎◌, inl, inr, Bool, Result, Ok, Err, IfOk, IfErr, sym, subst, ap, ◌∙◌}
 use Rattle.std.specs.Prelude.{IsErrAnd}
 use Rattle.bt_check.specs.Fault.{device, out_of_memory, status_of}
-use Rattle.bt_check.specs.TorrentFile.{IsLoadFault}
+use Rattle.bt_files.specs.Loading.{IsStoreFault}
+use Rattle.bt_files.specs.OpenFolder.{IsOpeningFault}
+use Rattle.bt_files.specs.declared.file_use.FileUse.{FileUse}
 use Rattle.bt_check.specs.declared.fault.Fault.{Fault}
 
 -- what follows from all that is known of a result that is passed on
@@ -25,6 +27,13 @@ not_refused fault (inl at_device) two = let bad : 3 ≡ 2 = ap status_of (sym at
 not_refused fault (inr short) two = let bad : 4 ≡ 2 = ap status_of (sym short) ∙ two in cc
 
 -- and each may come as a torrent is loaded
-pub while_loading : (is_info : Bool) (fault : Fault) → (fault ≡ device) ⊎ (fault ≡ out_of_memory) → IsLoadFault is_info fault
-while_loading is_info fault (inl at_device) = inl at_device
-while_loading is_info fault (inr short) = inr (inl short)
+pub while_loading : (is_info : Bool) (usage : FileUse) (fault : Fault) → (fault ≡ device) ⊎ (fault ≡ out_of_memory)
+    → IsStoreFault is_info usage fault
+while_loading is_info usage fault (inl at_device) = inl (inl at_device)
+while_loading is_info usage fault (inr short) = inl (inr (inl short))
+
+-- as its files are opened, and before
+pub while_opening : (is_info : Bool) (usage : FileUse) (fault : Fault) → IsOpeningFault usage fault → IsStoreFault is_info usage fault
+while_opening is_info usage fault (inl at_device) = inl (inl at_device)
+while_opening is_info usage fault (inr (inl short)) = inl (inr (inl short))
+while_opening is_info usage fault (inr (inr same)) = inr same

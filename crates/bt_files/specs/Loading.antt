@@ -19,4 +19,5 @@ pub record IsLoaded (is_info : Bool) (usage : FileUse) (dir : List ℕ) (engine 
 
 -- why none was: no torrent was read, or two of its paths are one file, which is no fault where both are only read
 abbrev pub IsStoreFault : Bool → FileUse → Fault → Type 0
-IsStoreFault is_info usage fault = IsLoadFault is_info fault ⊎ ((fault ≡ same_file) × (is_read_only usage ≡ false))
+IsStoreFault is_info usage fault =
+    IsLoadFault is_info fault ⊎ ((fault ≡ same_file) × (is_read_only usage ≡ false))

@@ -1,5 +1,5 @@
 //! What the devices of an engine have already is taken in.
-ghost use Rattle.std.specs.Prelude.{[], ◌≡◌, ◌<◌, length, IfErr, MatchResult, OnOk};
+ghost use Rattle.std.specs.Prelude.{[], ◌≡◌, ◌<◌, ◌↔◌, IsTrue, Some, true, length, slice_get, IfErr, MatchResult, OnOk};
 ghost use Rattle.bt_machine.specs.declared.event.Event.TheVariants.{Adopt};
 ghost use Rattle.bt_machine.specs.declared.event.Answer.{Answer};
 ghost use Rattle.bt_machine.specs.View.{StepsTo};
@@ -29,12 +29,20 @@ pub fn adopt_files<D: Disk + Drop, H: NodeHash>(
     ensures no_peer { engine.new.state.peers ≡ [] }
 {
     engine.keeps_laws();
-    for (number, is_filled) in filled.iter().enumerate() {
-        if *is_filled {
-            adopt_file(engine, number as u32)?;
+    let count = engine.torrent().files().len() as u32;
+    for file in 0..count {
+        if is_filled(filled, file) {
+            adopt_file(engine, file)?;
         }
     }
     Ok(())
+}
+
+/// Whether bytes of a file are there.
+fn is_filled(filled: &[bool], file: u32) -> bool
+    ensures { IsTrue result ↔ (slice_get filled.now file ≡ Some true) }
+{
+    filled.get(file as usize) == Some(&true)
 }
 
 /// Takes in what the device of a file has.

@@ -20,7 +20,6 @@ use bt_folder::SealedDisk;
 use bt_meta::FileEntry;
 use bt_progress::{FileCall, Watch, Watched};
 use std::alloc::{AllocError, Global};
-use std::fs;
 use std::path::{Path, PathBuf};
 use std::rt::Files;
 
@@ -113,11 +112,12 @@ fn push_devices<'a, R: Files + AllocGlobal + Clone + Drop, P: Watch>(
 {
     let mut folder = OpenFolder::new(rt.alloc());
     for entry in entries {
+        folder.go_to(rt, watch, context.usage, dir, &entry.path)?;
         let file = open_entry(rt, watch, context, pool, dir, entry)?;
-        folder.add(rt, watch, context.usage, dir, entry, file.opening)?;
+        folder.add(rt, watch, context.usage, dir, &entry.path, file.opening)?;
         files.push(file)?;
     }
-    Ok(())
+    folder.end(rt, watch, context.usage, dir)
 }
 
 /// Puts an item, if there is one, behind others.
@@ -133,8 +133,8 @@ fn push_some<T: Drop>(items: &mut Vec<T>, item: Option<T>) -> Result<(), AllocEr
     }
 }
 
-/// The file of an entry, which has no device where it is empty. Folders and the file are made where they are
-/// missing, but for a read-only use.
+/// The file of an entry, which has no device where it is empty. It is made where it is missing, but for a read-only
+/// use.
 fn open_entry<'a, R: Files + AllocGlobal + Drop, P: Watch>(
     rt: &R,
     watch: &'a P,
@@ -148,7 +148,6 @@ fn open_entry<'a, R: Files + AllocGlobal + Drop, P: Watch>(
     ensures fault { IfErr result (IsOpeningFault context.entry.usage) }
 {
     let path = data_path(rt.alloc(), dir, &entry.path)?;
-    make_folder(rt, watch, context.usage, path.as_path())?;
     if entry.length == 0 {
         let opening = open_empty(rt, watch, context.usage, path.as_path())?;
         return Ok(OpenFile {
@@ -236,26 +235,6 @@ fn opening_fault<P: Watch>(watch: &P, name: Option<String>) -> Fault
         watch.tell_fault(FileCall::Open, name.as_str());
     }
     Fault::Device
-}
-
-/// Makes the folder of a file, and those above it, where they are missing, but for a read-only use. A fault is told
-/// of.
-fn make_folder<R: Files + AllocGlobal, P: Watch>(
-    rt: &R,
-    watch: &P,
-    usage: FileUse,
-    file: Path<'_>,
-) -> Result<(), Fault>
-    ensures { IfErr result (λ fault. fault ≡ device) }
-{
-    if usage.is_read_only() {
-        return Ok(());
-    }
-    let Some(folder) = file.parent() else {
-        return Ok(());
-    };
-    let made = fs::create_dir_all(rt, folder).map_err(|_| Fault::Device);
-    told(rt.alloc(), watch, FileCall::Create, folder.as_str(), made)
 }
 
 /// Opens a file that is to have no byte, and makes it where there is none, but for a read-only use. A fault is told

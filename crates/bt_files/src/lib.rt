@@ -7,6 +7,7 @@ mod data_files;
 mod device_context;
 mod ending;
 mod file_use;
+mod folder_trail;
 mod lacking;
 mod loading;
 mod open_folder;

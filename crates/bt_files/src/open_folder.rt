@@ -4,19 +4,22 @@ ghost use Rattle.bt_folder.specs.KnownFiles.{IsKnown};
 ghost use Rattle.bt_files.specs.OpenFolder.{IsCallFault, IsOpeningFault};
 
 use crate::file_use::FileUse;
+use crate::folder_trail::FolderTrail;
 use bt_check::{Fault, data_path, told};
 use bt_disk::{FileIdentity, Opening};
 use bt_folder::{CasePaths, KnownFiles, ListingError};
-use bt_meta::{FileEntry, FilePath};
+use bt_meta::FilePath;
 use bt_progress::{FileCall, Watch};
 use std::alloc::{AllocError, Global};
 use std::rt::Files;
 
-/// What is known of the files of a torrent that were opened below a folder: no two of them are one file.
+/// What is known of the files of a torrent that were opened below a folder: no two of them are one file, and what was
+/// made is kept. Where nothing is to be written, nothing is known, and two of them may be one file.
 #[derive(Drop)]
 pub(crate) struct OpenFolder {
     files: KnownFiles,
     paths: CasePaths,
+    trail: FolderTrail,
 }
 
 impl OpenFolder {
@@ -27,18 +30,36 @@ impl OpenFolder {
         OpenFolder {
             files: KnownFiles::new(alloc),
             paths: CasePaths::new(alloc),
+            trail: FolderTrail::new(alloc),
         }
     }
 
-    /// A further file was opened, in the order of the torrent. It may be one of those before where none is written.
-    /// Errors: else it is refused, which is told by its name; a folder could not be listed.
+    /// Goes on to the folder of the next file, in the order of the torrent, and makes it where it is missing.
+    pub(crate) fn go_to<R: Files + AllocGlobal, P: Watch>(
+        &mut self,
+        rt: &R,
+        watch: &P,
+        usage: FileUse,
+        dir: &str,
+        path: &FilePath,
+    ) -> Result<(), Fault>
+        ensures { IfErr result IsCallFault }
+    {
+        if usage.is_read_only() {
+            return Ok(());
+        }
+        self.trail.go_to(rt, watch, dir, path)
+    }
+
+    /// The file was opened. Errors: it is one of those before, which is told by its name; a folder can't be listed;
+    /// memory is refused.
     pub(crate) fn add<R: Files + AllocGlobal + Clone + Drop, P: Watch>(
         &mut self,
         rt: &R,
         watch: &P,
         usage: FileUse,
         dir: &str,
-        entry: &FileEntry,
+        path: &FilePath,
         opening: Opening,
     ) -> Result<(), Fault>
         ensures fault { IfErr result (IsOpeningFault usage) }
@@ -46,18 +67,42 @@ impl OpenFolder {
         if usage.is_read_only() {
             return Ok(());
         }
-        let is_own = self.is_own_file(opening.identity)?
-            && self.is_own_path(rt, watch, dir, &entry.path)?;
+        let is_own = self.is_own_file(opening.identity)? && self.is_own_path(rt, watch, dir, path)?;
         if is_own {
+            self.keep(opening.was_made);
             return Ok(());
         }
-        tell_same_file(rt.alloc(), watch, dir, &entry.path)?;
+        tell_same_file(rt.alloc(), watch, dir, path)?;
         Err(Fault::SameFile)
+    }
+
+    /// All files were opened: what was made is kept. Errors: a folder can't be synced; memory is refused.
+    pub(crate) fn end<R: Files + AllocGlobal, P: Watch>(
+        &mut self,
+        rt: &R,
+        watch: &P,
+        usage: FileUse,
+        dir: &str,
+    ) -> Result<(), Fault>
+        ensures { IfErr result IsCallFault }
+    {
+        if usage.is_read_only() {
+            return Ok(());
+        }
+        self.trail.end(rt, watch, dir)
+    }
+
+    /// A file that was made is to be kept.
+    fn keep(&mut self, was_made: bool) {
+        if was_made {
+            self.trail.add_new();
+        }
     }
 
     /// Whether a file is none of those before, by what the system tells of it. Where that is nothing, it counts as none.
     fn is_own_file(&mut self, identity: Option<FileIdentity>) -> Result<bool, AllocError>
-        ensures { IfOk result (λ is_own. IsTrue is_own ↔ IfSome identity (λ file. ¬ IsKnown self.old.files file)) }
+        ensures { IfOk result
+            (λ is_own. IsTrue is_own ↔ IfSome identity (λ file. ¬ IsKnown self.old.files file)) }
     {
         match identity {
             Some(file) => self.files.insert(file),

@@ -64,12 +64,11 @@ pub fn seed<R: Files + AllocGlobal + Clone + Drop, N: Net + Clock, P: Watch, W: 
     let seal = Seal::new();
     let context = device_context(seed_use(service.is_read_only), &shared, &seal);
     let engine = load_store(rt, watch, context, source, dir)?;
-    if engine.is_complete() {
-        // What it serves it has: what a client sends in place of a file that was changed since is not written.
-        seal.close();
-    } else if service.is_read_only {
+    let is_complete = engine.is_complete();
+    if service.is_read_only && !is_complete {
         return report_lack(rt.alloc(), watch, &engine, writer);
     }
+    close_if_complete(&seal, is_complete);
     seed_store(rt.alloc(), net, watch, engine, &shared, service, writer)
 }
 
@@ -81,6 +80,14 @@ fn seed_use(is_read_only: bool) -> FileUse
         FileUse::ReadOnly
     } else {
         FileUse::Seed
+    }
+}
+
+/// Closes a seal where all files are complete. What it serves the seed has then: a block that it finds damaged may be
+/// the user's own change, over which nothing is to be written.
+fn close_if_complete(seal: &Seal, is_complete: bool) {
+    if is_complete {
+        seal.close();
     }
 }
 
