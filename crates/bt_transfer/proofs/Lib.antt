@@ -3,3 +3,4 @@ pub mod OverTcp
 pub mod ConnectionLines
 pub mod Flushes
 pub mod WholeRuns
+pub mod Uses
