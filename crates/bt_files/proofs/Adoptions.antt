@@ -1,5 +1,5 @@
 -- Lemmas on the files of an engine that are taken in, one after the other.
-use Rattle.std.proofs.Common.{[], ◌≡◌, ℕ, ◌+◌, ◌<◌, Bool, true, false, List, ◌∷◌, ◌++◌, Option, Some, length, map, filter, take, get_or, refl, sym, ap, subst, ◌∙◌, zero-add, append-nil}
+use Rattle.std.proofs.Common.{[], ◌≡◌, ℕ, ◌+◌, ◌<◌, ◌≤◌, Bool, true, false, List, ◌∷◌, ◌++◌, Option, Some, length, map, filter, take, get_or, refl, sym, ap, subst, ◌∙◌, zero-add, append-nil, arith}
 use Rattle.std.specs.List.{enumerate_from}
 use Rattle.std.specs.Prelude.{slice_get}
 use Rattle.std.proofs.lemmas.List.{length-take-le, map-append, take_all, take_more}
@@ -20,10 +20,10 @@ use Rattle.bt_files.proofs.Devices.{enumerate_from-append}
 
 -- ---- the files of which this is said, one more
 
-is_chosen : ℕ × Bool → Bool
+abbrev is_chosen : ℕ × Bool → Bool
 is_chosen p = p.1
 
-adopt_at : ℕ × Bool → Event
+abbrev adopt_at : ℕ × Bool → Event
 adopt_at p = Adopt p.0
 
 adoptions_more : (filled : List Bool) (more : Bool)

@@ -1,5 +1,5 @@
 -- Lemmas on the devices of a torrent's files, file by file.
-use Rattle.std.proofs.Common.{◌≡◌, ◌≢◌, ℕ, suc, ◌+◌, ◌<◌, ◌≤◌, true, Bool, List, [], ◌∷◌, ◌++◌, length, map, take, get_or, nat_lt, Option, Some, None, IfSome, IsSome, refl, sym, ap, subst, ◌∙◌, add-zero, append-nil, length-append, arith}
+use Rattle.std.proofs.Common.{◌≡◌, ◌≢◌, ℕ, suc, ◌+◌, ◌<◌, ◌≤◌, true, false, Bool, List, [], ◌∷◌, ◌++◌, length, map, take, get_or, nat_lt, Option, Some, None, IfSome, IsSome, refl, sym, ap, subst, ◌∙◌, add-zero, append-nil, length-append, arith}
 use Rattle.std.specs.List.{AllZip, enumerate_from}
 use Rattle.std.proofs.lemmas.Bool.{lt-ltb}
 use Rattle.std.proofs.lemmas.List.{length-map, map-append, take_all, take_more}
@@ -39,7 +39,7 @@ all_zip_push R (x1 ∷ xs) [] x y all more = absurd all
 all_zip_push R (x1 ∷ xs) (y1 ∷ ys) x y all more = (all.0, all_zip_push R xs ys x y all.1 more)
 
 -- what is numbered, with its paths
-numbered : List ℕ → List File → List (ℕ × List ℕ)
+abbrev numbered : List ℕ → List File → List (ℕ × List ℕ)
 numbered dir files = enumerate_from 1 (device_paths dir files)
 
 numbered_more : (dir : List ℕ) (files : List File) (file : File) (paths : List (List ℕ)) → device_paths dir (file ∷ []) ≡ paths
@@ -70,7 +70,7 @@ pub next_device : (usage : FileUse) (dir : List ℕ) (files : List File) (file :
 next_device usage dir files file disks disk number some next are new =
     let one : device_paths dir (file ∷ []) ≡ path_below dir file.path ∷ [] = rw some refl in
     let same : number ≡ 1 + length (device_paths dir files) = (let l = length-devices usage dir files disks are in omega (arith, l, next)) in
-    let place = (1 + length (device_paths dir files), path_below dir file.path) in
+    let place : ℕ × List ℕ = (1 + length (device_paths dir files), path_below dir file.path) in
     subst (λ ps. AllZip (λ (p : ℕ × List ℕ) disk. IsNewDevice usage p.0 p.1 disk) ps (disks ++ disk ∷ []))
     (sym (numbered_more dir files file (path_below dir file.path ∷ []) one))
     (all_zip_push (λ (p : ℕ × List ℕ) disk. IsNewDevice usage p.0 p.1 disk) (numbered dir files) disks place disk are
@@ -98,14 +98,14 @@ zero_below n some = lt-ltb 0 n (omega (arith, some))
 pub opened_some : (usage : FileUse) (dir : List ℕ) (file : File) (before after : ℕ) (found : Option DeviceView) → file.length ≢ 0
     → after ≡ before + 1 → IsSome found → IfSome found (IsNewDevice usage after (path_below dir file.path))
     → IsOpenedFor usage dir file before found after
-opened_some usage dir file before after None some next is new = absurd is
+opened_some usage dir file before after None some next is new = let bad : false ≡ true = is in cc
 opened_some usage dir file before after (Some disk) some next is new = (some, next, new)
 
 -- what is known of the entries so far, the devices that they have and how many a pool made
-pub record AreOpened (usage : FileUse) (dir : List ℕ) (entries : List FileEntry) (count : ℕ) (disks : List DeviceView) (filled : List Bool) (made : ℕ)
+pub record AreOpened (usage : FileUse) (dir : List ℕ) (entries : List FileEntry) (count : ℕ) (disks : List DeviceView) (filled : List Bool) (total : ℕ)
     : Type 0 where
   pub devices : AreNewDevices usage dir (map file_of (take count entries)) disks
-  pub made : made ≡ length disks
+  pub made : total ≡ length disks
   pub each : length filled ≡ count
 
 pub none_opened : (usage : FileUse) (dir : List ℕ) (entries : List FileEntry) (disks : List DeviceView) (filled : List Bool) (made : ℕ)

@@ -23,17 +23,17 @@ DeviceView = SealedView (AheadView PooledView)
 
 -- the file of a device that was opened for a use, with its number in the pool: it was not written, and no call
 -- of it failed yet
-pub record IsNewFile (usage : FileUse) (number : ℕ) (path : List ℕ) (file : PooledView) : Type 0 where
-  pub number : file.number ≡ number
-  pub path : file.path ≡ path
+pub record IsNewFile (usage : FileUse) (nth : ℕ) (at : List ℕ) (file : PooledView) : Type 0 where
+  pub number : file.number ≡ nth
+  pub path : file.path ≡ at
   pub access : IsAccessFor usage file.access
   pub is_synced : file.is_synced ≡ is_as_synced usage
   pub is_written : file.is_written ≡ false
   pub failed : file.failed ≡ 0
 
 -- its device, no call of which failed or was refused: a read-only one is closed to writes from the beginning
-pub record IsNewDevice (usage : FileUse) (number : ℕ) (path : List ℕ) (disk : DeviceView) : Type 0 where
-  pub file : IsNewFile usage number path disk.inner.inner
+pub record IsNewDevice (usage : FileUse) (nth : ℕ) (at : List ℕ) (disk : DeviceView) : Type 0 where
+  pub file : IsNewFile usage nth at disk.inner.inner
   pub ahead : disk.inner ≡ new_ahead disk.inner.inner
   pub is_sealed : disk.is_sealed ≡ is_read_only usage
   pub refused : disk.refused ≡ 0

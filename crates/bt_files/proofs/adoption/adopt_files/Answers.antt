@@ -1,4 +1,4 @@
-use Rattle.std.proofs.Common.{◌≡◌, ◌+◌, length, sym, ap, subst, ◌∙◌, arith}
+use Rattle.std.proofs.Common.{◌≡◌, ◌+◌, ◌<◌, length, sym, ap, subst, ◌∙◌, arith}
 use Rattle.std.proofs.lemmas.List.{length-map}
 use Rattle.bt_meta.specs.Files.{file_of}
 use Rattle.bt_meta.specs.Torrent.{Metainfo}
@@ -23,7 +23,7 @@ loop-file-preserved g c =
     let taking = IsTaking g.D.Disk.history g.D.Disk.honest g.D.Disk.faults g.H.NodeHash.digest c.args.engine.now c.args.filled.now
     (c.loop-file.file + 1) in
     let leads = LeadsTo g.D.Disk.history g.D.Disk.honest g.D.Disk.faults g.H.NodeHash.digest c.args.engine.now in
-    let inside = (let below = c.loop-file-test.true in let all = c.loop-file.invariant.2 in omega (arith, below, all)) in
+    let inside : c.loop-file.file < length c.args.filled.now = (let below = c.loop-file-test.true in let all = c.loop-file.invariant.2 in omega (arith, below, all)) in
     elim c.if-is_filled.branch [
       | then-is_filled+in_ok-adopt_file w ↦ (
         subst taking (sym w.engine-is)

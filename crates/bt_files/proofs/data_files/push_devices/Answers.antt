@@ -1,4 +1,3 @@
-use Rattle.std.proofs.Common.{refl, omega}
 use Rattle.bt_files.proofs.Devices.{none_opened, opened_all, opened_more}
 use Rattle.bt_files.proofs.data_files.push_devices.Goals as goal
 

@@ -18,9 +18,9 @@ begin-requires-clause-each g c =
 
 pub returns-clause-opened : goal.returns-clause-opened
 returns-clause-opened g c = ok_weaker c.begin.result _ _ (λ engine begun. record {
-  devices = _;
-  of_files = subst (λ (files : List File). AreNewDevices c.args.context.usage c.args.dir.now files _) c.files.ensures.said c.in_ok-files.ensures.devices;
-  filled = _;
+  devices = c.in_ok-files.files.disks.items;
+  of_files = subst (λ (files : List File). AreNewDevices c.args.context.usage c.args.dir.now files c.in_ok-files.files.disks.items) c.files.ensures.said c.in_ok-files.ensures.devices;
+  filled = c.in_ok-files.files.filled.items;
   each = c.in_ok-files.ensures.each ∙ sym (length-map c.files.result.now file_of) ∙ ap length c.files.ensures.said;
   begun = begun;
 }) c.begin.ensures.begun
