@@ -1,5 +1,5 @@
 -- Lemmas on the files of an engine that are taken in, one after the other.
-use Rattle.std.proofs.Common.{[], ◌≡◌, ℕ, ◌+◌, ◌<◌, ◌≤◌, Bool, true, false, List, ◌∷◌, ◌++◌, Option, Some, length, map, filter, take, get_or, refl, sym, ap, subst, ◌∙◌, zero-add, append-nil, arith}
+use Rattle.std.proofs.Common.{[], ◌≡◌, ℕ, ◌+◌, ◌<◌, ◌≤◌, Bool, true, false, List, ◌∷◌, ◌++◌, Some, length, map, filter, take, get_or, sym, ap, subst, ◌∙◌, zero-add, append-nil, arith}
 use Rattle.std.specs.List.{enumerate_from}
 use Rattle.std.specs.Prelude.{slice_get}
 use Rattle.std.proofs.lemmas.List.{length-take-le, map-append, take_all, take_more}

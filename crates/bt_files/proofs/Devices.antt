@@ -1,8 +1,8 @@
 -- Lemmas on the devices of a torrent's files, file by file.
-use Rattle.std.proofs.Common.{◌≡◌, ◌≢◌, ℕ, suc, ◌+◌, ◌<◌, ◌≤◌, true, false, Bool, List, [], ◌∷◌, ◌++◌, length, map, take, get_or, nat_lt, Option, Some, None, IfSome, IsSome, refl, sym, ap, subst, ◌∙◌, add-zero, append-nil, length-append, arith}
+use Rattle.std.proofs.Common.{◌≡◌, ◌≢◌, ℕ, suc, ◌+◌, ◌<◌, true, false, Bool, List, [], ◌∷◌, ◌++◌, length, map, take, get_or, nat_lt, Option, Some, None, IfSome, IsSome, refl, sym, ap, subst, ◌∙◌, add-zero, append-nil, length-append, arith}
 use Rattle.std.specs.List.{AllZip, enumerate_from}
 use Rattle.std.proofs.lemmas.Bool.{lt-ltb}
-use Rattle.std.proofs.lemmas.List.{length-map, map-append, take_all, take_more}
+use Rattle.std.proofs.lemmas.List.{length-map, map-append, take_more}
 use Rattle.std.proofs.lemmas.List.Elements.{filter-append}
 use Rattle.std.proofs.lemmas.List.FromFn.{length-enumerate_from}
 use Rattle.std.proofs.lemmas.List.Sums.{length-filter}
@@ -108,14 +108,6 @@ pub record AreOpened (usage : FileUse) (dir : List ℕ) (entries : List FileEntr
   pub made : total ≡ length disks
   pub each : length filled ≡ count
 
-pub none_opened : (usage : FileUse) (dir : List ℕ) (entries : List FileEntry) (disks : List DeviceView) (filled : List Bool) (made : ℕ)
-    → disks ≡ [] → filled ≡ [] → made ≡ 0 → AreOpened usage dir entries 0 disks filled made
-none_opened usage dir entries disks filled made no_disk no_file no_device = record {
-  devices = subst (AreNewDevices usage dir []) (sym no_disk) tt;
-  made = no_device ∙ ap length (sym no_disk);
-  each = ap length no_file;
-}
-
 -- An entry was passed: an empty one has no device, and that of another was put behind those before.
 devices_more : (usage : FileUse) (dir : List ℕ) (files : List File) (file : File) (disks after : List DeviceView) (made now : ℕ) (found : Option DeviceView)
     → AreNewDevices usage dir files disks → made ≡ length disks → IsOpenedFor usage dir file made found now → IsPushed disks found after
@@ -145,12 +137,3 @@ opened_more usage dir entries i entry disks after filled more is_filled made now
       made = known.1;
       each = ap length flagged ∙ length-append filled (is_filled ∷ []) ∙ ap (λ n. n + 1) before.each;
     }
-
--- all entries were passed
-pub opened_all : (usage : FileUse) (dir : List ℕ) (entries : List FileEntry) (count : ℕ) (disks : List DeviceView) (filled : List Bool) (made : ℕ)
-    → length entries ≤ count → count ≤ length entries → AreOpened usage dir entries count disks filled made
-    → AreNewDevices usage dir (map file_of entries) disks × (length filled ≡ length entries)
-opened_all usage dir entries count disks filled made all within known = (
-  subst (λ (es : List FileEntry). AreNewDevices usage dir (map file_of es) disks) (take_all count entries all) known.devices,
-  known.each ∙ omega (arith, all, within),
-)

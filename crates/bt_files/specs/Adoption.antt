@@ -1,5 +1,5 @@
 -- What the devices of an engine's files have already is taken in, file after file, where bytes are there.
-use Rattle.std.specs.Prelude.{◌≡◌, ℕ, ◌<◌, Bool, true, List, filter, map, length, slice_get, take, Ok, Err, Some}
+use Rattle.std.specs.Prelude.{◌≡◌, ℕ, ◌<◌, Bool, true, List, filter, map, slice_get, take, Ok, Err, Some}
 use Rattle.std.specs.List.{All, enumerate_from}
 use Rattle.bt_disk.specs.History.{History}
 use Rattle.bt_machine.specs.declared.error.AdoptError.TheVariants.{OutOfMemory}

@@ -83,7 +83,7 @@ pub record HasSeeded (is_info : Bool) (dir : List ℕ) (service : Service) (befo
 pub record HasNotSeeded (is_info : Bool) (dir : List ℕ) (service : Service) (before after : Option (List ℕ))
     (status : ℕ) : Type 0 where
   pub store : EngineView DeviceView
-  pub loaded : IsLoaded is_info ReadOnly dir store
+  pub loaded : IsLoaded is_info (seed_use service.is_read_only) dir store
   pub read_only : service.is_read_only ≡ true
   pub lacking : all_complete store.state ≡ false
   pub told : Appends before after (engine_report store.state)

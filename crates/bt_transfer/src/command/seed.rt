@@ -1,5 +1,5 @@
 //! The command `seed`: connections are waited for and served, and what came of each is told.
-ghost use Rattle.std.specs.Prelude.{[], ℕ, Bool, List, ◌≡◌, ◌⊎◌, ◌++◌, IfErr, IfOk, OnErr, OnOk, string_bytes};
+ghost use Rattle.std.specs.Prelude.{[], ℕ, Bool, List, ◌≡◌, ◌⊎◌, ◌++◌, ◌&&◌, not, IfErr, IfOk, OnErr, OnOk, string_bytes};
 ghost use Rattle.std.specs.Io.KnownBytes.{Appends, Keeps};
 ghost use Rattle.bt_check.specs.Fault.{device, out_of_memory, status_of};
 ghost use Rattle.bt_files.specs.Loading.{IsStoreFault};
@@ -65,7 +65,7 @@ pub fn seed<R: Files + AllocGlobal + Clone + Drop, N: Net + Clock, P: Watch, W: 
     let context = device_context(seed_use(service.is_read_only), &shared, &seal);
     let engine = load_store(rt, watch, context, source, dir)?;
     let is_complete = engine.is_complete();
-    if service.is_read_only && !is_complete {
+    if is_lacking(service.is_read_only, is_complete) {
         return report_lack(rt.alloc(), watch, &engine, writer);
     }
     close_if_complete(&seal, is_complete);
@@ -83,6 +83,13 @@ fn seed_use(is_read_only: bool) -> FileUse
     }
 }
 
+/// Whether nothing is served: what lacks may not be written, and not all is complete.
+fn is_lacking(is_read_only: bool, is_complete: bool) -> bool
+    ensures { result ≡ (is_read_only && not is_complete) }
+{
+    is_read_only && !is_complete
+}
+
 /// Closes a seal where all files are complete. What it serves the seed has then: a block that it finds damaged may be
 /// the user's own change, over which nothing is to be written.
 fn close_if_complete(seal: &Seal, is_complete: bool) {
@@ -98,9 +105,8 @@ fn report_lack<D: Disk + Drop, H: NodeHash, P: Watch, W: Write>(
     engine: &Engine<D, H>,
     writer: &mut W,
 ) -> Result<u8, Fault>
-    ensures told { OnOk result
-        (Appends (W.contents writer.old) (W.contents writer.new) (engine_report engine.now.state)) }
-    ensures status { IfOk result (λ status. status ≡ 1) }
+    ensures told { IfOk result (λ status. (status ≡ 1)
+        × Appends (W.contents writer.old) (W.contents writer.new) (engine_report engine.now.state)) }
     ensures fault { IfErr result (λ fault. (fault ≡ device) ⊎ (fault ≡ out_of_memory)) }
 {
     write_report(alloc, engine, writer)?;

@@ -1,4 +1,4 @@
-use Rattle.bt_files.proofs.Devices.{none_opened, opened_all, opened_more}
+use Rattle.bt_files.proofs.Devices.{opened_more}
 use Rattle.bt_files.proofs.data_files.push_devices.Goals as goal
 
 pub loop-entry-preserved : goal.loop-entry-preserved

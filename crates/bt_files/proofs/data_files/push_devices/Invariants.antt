@@ -1,5 +1,4 @@
 -- The devices so far are those of the entries so far, and there are no others of the pool.
-use Rattle.std.proofs.Common.{◌≡◌}
 use Rattle.bt_files.proofs.Devices.{AreOpened}
 use Rattle.bt_files.proofs.data_files.push_devices.Given as goal
 

@@ -1,4 +1,4 @@
-use Rattle.std.proofs.Common.{◌≡◌, sym, subst}
+use Rattle.std.proofs.Common.{sym, subst}
 use Rattle.std.specs.Prelude.{◌↔◌, IfOk, IfSome, IsTrue}
 use Rattle.bt_folder.specs.KnownFiles.{IsKnown}
 use Rattle.bt_files.proofs.open_folder.OpenFolder.is_own_file.Goals as goal

@@ -1,11 +1,21 @@
-use Rattle.std.proofs.Common.{false, inl, inr, subst, ◌∙◌}
-use Rattle.bt_files.specs.Loading.{IsLoaded, IsStoreFault}
+use Rattle.std.proofs.Common.{inl, inr, sym, subst, ◌∙◌}
+use Rattle.bt_files.specs.Loading.{IsLoaded}
 use Rattle.bt_files.proofs.Faults.{ok_weaker, err_weaker, not_refused, while_loading}
-use Rattle.bt_transfer.proofs.Uses.{complete_where_read_only, lacking_status}
+use Rattle.bt_transfer.proofs.Uses.{complete_where_read_only, lacking_only, lacking_some}
 use Rattle.bt_transfer.proofs.command.seed.seed.Goals as goal
 
 pub returns-clause-done : goal.returns-clause-done
-returns-clause-done g c = ?
+returns-clause-done g c =
+    let loaded = subst (λ usage. IsLoaded c.args.source.is_info usage c.args.dir.now c.in_ok-engine.engine)
+    (c.device_context-context.ensures ∙ c.seed_use.ensures) c.in_ok-engine.ensures.loaded in
+    ok_weaker c.seed_store.result _ _ (λ status ended. inl (record {
+      store = c.in_ok-engine.engine;
+      loaded = loaded;
+      complete = λ only. sym c.is_complete-is_complete.ensures
+          ∙ complete_where_read_only c.args.service.is_read_only c.is_complete-is_complete.result (sym c.is_lacking.ensures ∙ c.if-is_lacking.false) only;
+      ended = ended;
+    }))
+    (c.seed_store.ensures.listened loaded.torrent loaded.opened.devices loaded.opened.filled loaded.opened.begun)
 
 pub returns-clause-refused : goal.returns-clause-refused
 returns-clause-refused g c =
