@@ -1,7 +1,8 @@
 //! Digests that are made ahead, eight blocks at a time, as a device is read and as a peer sends, and are looked up where a block is to
-//! be digested.
+//! be digested. Beside these wrappers of devices and readers stand those by which a session ends where a write failed.
 #![tactic(auto)]
 
+mod alarm;
 mod cache;
 mod comparison;
 mod disk;
@@ -10,6 +11,7 @@ mod messages;
 mod reader;
 mod room;
 
+pub use alarm::{Alarm, AlarmDisk, AlarmReader};
 pub use cache::DigestCache;
 pub use disk::ReadAheadDisk;
 pub use hash::CachedLanes;

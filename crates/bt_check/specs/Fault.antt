@@ -7,7 +7,7 @@ use Rattle.bt_meta.specs.declared.error.MetaError.TheVariants.{OutOfMemory as no
 use Rattle.bt_meta.specs.declared.writer.MakeError.{MakeError}
 use Rattle.bt_meta.specs.declared.writer.MakeError.TheVariants.{OutOfMemory as no_memory_to_make}
 use Rattle.bt_check.specs.declared.fault.Fault.{Fault}
-use Rattle.bt_check.specs.declared.fault.Fault.TheVariants.{Words, OutAmongFiles, Torrent, Make, Device, OutOfMemory}
+use Rattle.bt_check.specs.declared.fault.Fault.TheVariants.{Words, OutAmongFiles, Torrent, Make, SameFile, Device, OutOfMemory}
 
 -- 2 where the input is refused, 3 for a device, 4 for out of memory
 abbrev pub status_of : Fault → ℕ
@@ -15,6 +15,7 @@ status_of Words = 2
 status_of OutAmongFiles = 2
 status_of (Torrent refusal) = 2
 status_of (Make refusal) = 2
+status_of SameFile = 2
 status_of Device = 3
 status_of OutOfMemory = 4
 
@@ -25,6 +26,10 @@ words_fault = Words
 -- OUT is one of the files that the torrent would be made of
 abbrev pub out_among_files : Fault
 out_among_files = OutAmongFiles
+
+-- two paths of the torrent are one file
+abbrev pub same_file : Fault
+same_file = SameFile
 
 abbrev pub device : Fault
 device = Device

@@ -23,6 +23,9 @@ pub enum Fault {
     /// No torrent is made of the folder.
     #[error("{0}")]
     Make(MakeError),
+    /// Two paths of the torrent are one file here.
+    #[error("F1 SameFile")]
+    SameFile,
     /// A file, or a stream, could not be opened, read or written.
     #[error("device fault")]
     Device,
@@ -36,7 +39,11 @@ impl Fault {
         ensures { result ≡ status_of self }
     {
         match self {
-            Fault::Words | Fault::OutAmongFiles | Fault::Torrent(_) | Fault::Make(_) => 2,
+            Fault::Words
+            | Fault::OutAmongFiles
+            | Fault::Torrent(_)
+            | Fault::Make(_)
+            | Fault::SameFile => 2,
             Fault::Device => 3,
             Fault::OutOfMemory => 4,
         }

@@ -2,7 +2,7 @@
 use Rattle.std.proofs.Common.{◌≤◌, ℕ, arith}
 use Rattle.bt_check.specs.Fault.{status_of}
 use Rattle.bt_check.specs.declared.fault.Fault.{Fault}
-use Rattle.bt_check.specs.declared.fault.Fault.TheVariants.{Words, OutAmongFiles, Torrent, Make, Device, OutOfMemory}
+use Rattle.bt_check.specs.declared.fault.Fault.TheVariants.{Words, OutAmongFiles, Torrent, Make, SameFile, Device, OutOfMemory}
 
 -- it is above those of a result
 pub above_one : (fault : Fault) → 2 ≤ status_of fault
@@ -10,5 +10,6 @@ above_one Words = omega arith
 above_one OutAmongFiles = omega arith
 above_one (Torrent refusal) = omega arith
 above_one (Make refusal) = omega arith
+above_one SameFile = omega arith
 above_one Device = omega arith
 above_one OutOfMemory = omega arith

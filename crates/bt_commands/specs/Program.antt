@@ -9,7 +9,9 @@ use Rattle.bt_meta.specs.Torrent.{Metainfo}
 use Rattle.bt_meta.specs.declared.writer.MakeError.TheVariants.{PieceLength}
 use Rattle.bt_replay.specs.Command.{IsReplay}
 use Rattle.bt_transfer.specs.Fetch.{IsFetch}
-use Rattle.bt_transfer.specs.Seed.{IsSeed}
+use Rattle.bt_transfer.specs.Seed.{IsSeed, seed_use}
+use Rattle.bt_files.specs.Loading.{IsStoreFault}
+use Rattle.bt_files.specs.declared.file_use.FileUse.TheVariants.{Fetch as for_fetch}
 use Rattle.bt_words.specs.CommandLine.{IsTaskOf, IsNoTaskOf}
 use Rattle.bt_check.specs.Fault.{make_fault, out_of_memory, status_of, words_fault}
 use Rattle.bt_make.specs.AtomicFile.{infohash_line}
@@ -56,10 +58,10 @@ pub record IsCheckResult (source : Source) (status : ℕ) (text : List ℕ) : Ty
   pub lines : text ≡ report_text found
   pub answer : status ≡ (if is_complete_report found then 0 else 1)
 
--- the torrent's files were served, as said
+-- the torrent's files were served, as said; or they are only to be read, and not complete
 abbrev pub IsSeedResult : SeedTask → (old new : Option (List ℕ)) → ℕ → Type 0
 IsSeedResult task old new status =
-    IsSeed task.torrent.is_info task.dir.now task.service.serving old new status
+    IsSeed task.torrent.is_info task.dir.now task.service old new status
 
 -- the torrent's files were fetched from the peers, as far as these had them
 abbrev pub IsFetchResult : FetchTask → (old new : Option (List ℕ)) → ℕ → Type 0
@@ -89,13 +91,14 @@ pub record IsMakeEnd (request : MakeTask) (fault : Fault) : Type 0 where
   pub cause : IsMakeFault request.name.now request.piece_length fault
   pub unlawful : ¬ IsPieceLength request.piece_length → fault ≡ make_fault PieceLength
 
--- a fault that can end a task: the commands on a torrent end as the reading of one can
+-- a fault that can end a task: the commands on a torrent end as the reading of one can, and those that write its files
+-- where two of its paths are one file
 abbrev pub IsTaskFault : Task → Fault → Type 0
 IsTaskFault (Make request) fault = IsMakeEnd request fault
 IsTaskFault (Show torrent) fault = IsLoadFault torrent.is_info fault
 IsTaskFault (Check torrent dir verbose) fault = IsLoadFault torrent.is_info fault
-IsTaskFault (Seed task) fault = IsLoadFault task.torrent.is_info fault
-IsTaskFault (Fetch task) fault = IsLoadFault task.torrent.is_info fault
+IsTaskFault (Seed task) fault = IsStoreFault task.torrent.is_info (seed_use task.service.is_read_only) fault
+IsTaskFault (Fetch task) fault = IsStoreFault task.torrent.is_info for_fetch fault
 IsTaskFault Replay fault = ⊥
 
 -- a fault ended a task; where it is a refusal, nothing was written

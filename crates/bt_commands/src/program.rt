@@ -11,12 +11,13 @@ ghost use Rattle.bt_words.specs.declared.command_line.Task.TheVariants.{Make, Sh
 
 use bt_check::{BUFFER_LEN, Fault, Source, check_torrent, load, load_watched, show_torrent};
 use bt_make::{InfohashLine, make, of_device, publish};
-use bt_progress::Watch;
+use bt_progress::{Watch, escaped_lines};
 use bt_replay::replay;
 use bt_transfer::{fetch, seed};
 use bt_words::{FetchTask, MakeTask, SeedTask, Task, parse};
 use clap::Error;
 use clap::error::ErrorKind;
+use std::alloc::Global;
 use std::env::{self, Env};
 use std::io::{self, Read, Write};
 use std::net::Net;
@@ -129,7 +130,7 @@ fn attempt<
 {
     match parse(rt.alloc(), words) {
         Ok(task) => perform(rt, net, watch, task, reader, writer, faults),
-        Err(error) => explain(&error, writer, faults),
+        Err(error) => explain(rt.alloc(), &error, writer, faults),
     }
 }
 
@@ -257,7 +258,12 @@ fn perform_fetch<R: Files + AllocGlobal + Clone + Drop, N: Net + Clock, P: Watch
 }
 
 /// Prints help, or why the words are refused.
-fn explain<O: Write, E: Write>(error: &Error, writer: &mut O, faults: &mut E) -> Result<u8, Fault>
+fn explain<O: Write, E: Write>(
+    alloc: Global,
+    error: &Error,
+    writer: &mut O,
+    faults: &mut E,
+) -> Result<u8, Fault>
     ensures answer { IsExplanation
         (kind_of error.now) (O.contents writer.old) (O.contents writer.new) (status_after result) }
     ensures faultless { status_after result ≤ 1 → Keeps (E.contents faults.old) (E.contents faults.new) }
@@ -266,11 +272,18 @@ fn explain<O: Write, E: Write>(error: &Error, writer: &mut O, faults: &mut E) ->
         return Err(Fault::OutOfMemory);
     }
     if error.use_stderr() {
-        let _ = write!(faults, "{error}");
+        let _ = tell_mistake(alloc, error, faults);
         Ok(2)
     } else {
         explain_help(error, writer)
     }
+}
+
+/// Tells why the words are refused, which may be among what is told: escaped, as a stranger may have chosen them.
+fn tell_mistake<E: Write>(alloc: Global, error: &Error, faults: &mut E) -> io::Result<()> {
+    let text = format!(in alloc; "{error}")?;
+    let told = escaped_lines(alloc, text.as_str())?;
+    write!(faults, "{told}")
 }
 
 /// Prints help, or the version.

@@ -12,4 +12,6 @@ name_with names capitals = option_map string_bytes (get_by_text names.names capi
 -- a name is added to others, unless one has its capitals
 abbrev pub with_name : List ℕ → (List ℕ → Option (List ℕ)) → List ℕ → Option (List ℕ)
 with_name name others capitals =
-    if bytes_eq (str_to_uppercase name) capitals then option_or (others capitals) (Some name) else others capitals
+    if bytes_eq (str_to_uppercase name) capitals
+    then option_or (others capitals) (Some name)
+    else others capitals

@@ -119,7 +119,8 @@ impl<'a, D: Disk> Disk for SealedDisk<'a, D> {
     }
 
     fn read_at(&mut self, at: u64, out: &mut [u8]) -> Result<usize, DeviceFault>
-        ensures passes { PassesOn D.history D.honest D.faults self.old (read_call at out.new result) self.new }
+        ensures passes { PassesOn
+            D.history D.honest D.faults self.old (read_call at out.new result) self.new }
 
         // as every device
         ensures within { IfOk result (λ count. count ≤ length out.new) }

@@ -26,3 +26,11 @@ escaped_char c = if is_escaped c then codes "\\u{" ++ digits 16 false c ++ codes
 -- each character of a text
 unfoldable pub escaped_text : List ℕ → List ℕ
 escaped_text text = flat_map escaped_char (chars text)
+
+-- a character of a text of several lines: the line feed as it is
+unfoldable pub char_of_lines : ℕ → List ℕ
+char_of_lines c = if c == 0xa then encode_utf8 c else escaped_char c
+
+-- each character of such a text
+unfoldable pub escaped_lines_text : List ℕ → List ℕ
+escaped_lines_text text = flat_map char_of_lines (chars text)

@@ -61,11 +61,15 @@ impl<'a, C: Clock, W: Write> Watch for Console<'a, C, W> {
         self.is_terminal
     }
 
+    fn tell(&self, text: &str) {
+        if let Ok(line) = hint_line(self.alloc, text) {
+            self.say(line.as_str());
+        }
+    }
+
     fn hint(&self, text: &str) {
         if self.is_terminal {
-            if let Ok(line) = hint_line(self.alloc, text) {
-                self.say(line.as_str());
-            }
+            self.tell(text);
         }
     }
 

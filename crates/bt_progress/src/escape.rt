@@ -1,6 +1,6 @@
 //! Text that may come from a stranger, as it is told on standard error.
 ghost use Rattle.std.specs.Prelude.{◌≡◌, ◌++◌, IfOk, OnOk, string_bytes};
-ghost use Rattle.bt_progress.specs.Escape.{escaped_char, escaped_text, is_direction, is_escaped, is_separator};
+ghost use Rattle.bt_progress.specs.Escape.{char_of_lines, escaped_char, escaped_lines_text, escaped_text, is_direction, is_escaped, is_separator};
 
 use std::alloc::{AllocError, Global};
 use std::fmt::Write;
@@ -15,6 +15,29 @@ pub fn escaped(alloc: Global, text: &str) -> Result<String, AllocError>
         push_escaped(&mut told, letter)?;
     }
     Ok(told)
+}
+
+/// The same of a text of several lines: line feeds stay as they are.
+pub fn escaped_lines(alloc: Global, text: &str) -> Result<String, AllocError>
+    ensures { IfOk result (λ told. string_bytes told ≡ escaped_lines_text text.now) }
+{
+    let mut told = String::new(alloc);
+    for letter in text.chars() {
+        push_of_lines(&mut told, letter)?;
+    }
+    Ok(told)
+}
+
+/// Adds a character of a text of several lines as it is told.
+#[tactic(auto, unfolding(crate::specs::Escape::char_of_lines))]
+fn push_of_lines(told: &mut String, letter: char) -> Result<(), AllocError>
+    ensures { OnOk result (string_bytes told.new ≡ string_bytes told.old ++ char_of_lines letter) }
+{
+    if letter == '\n' {
+        told.push(letter)
+    } else {
+        push_escaped(told, letter)
+    }
 }
 
 /// Adds a character as it is told.

@@ -15,7 +15,7 @@ mod watch;
 mod watched;
 
 pub use console::Console;
-pub use escape::escaped;
+pub use escape::{escaped, escaped_lines};
 pub use file_call::{FileCall, fault_line};
 pub use hint::hint_line;
 pub use line::progress_line;

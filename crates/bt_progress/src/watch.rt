@@ -16,6 +16,9 @@ pub trait Watch {
     /// Whether somebody may look on at a terminal.
     fn is_terminal(&self) -> bool;
 
+    /// Tells why there will be no result, in a line of its own, whether somebody may look on or not.
+    fn tell(&self, text: &str);
+
     /// Gives a hint in a line of its own, where somebody may look on.
     fn hint(&self, text: &str);
 
@@ -48,6 +51,8 @@ impl Watch for Unwatched {
     fn is_terminal(&self) -> bool {
         false
     }
+
+    fn tell(&self, _text: &str) {}
 
     fn hint(&self, _text: &str) {}
 

@@ -1,8 +1,7 @@
 //! What stands between a connection and its engine.
 
-use crate::alarm::Alarm;
 use crate::requests::Requests;
-use bt_ahead::{DigestCache, Room};
+use bt_ahead::{Alarm, DigestCache, Room};
 use bt_padding::{FrameRoom, Padding, ShortBlocks};
 use bt_waiting::{EARLY_LEN, Room as EarlyRoom, Timing};
 use std::alloc::{AllocError, Global};

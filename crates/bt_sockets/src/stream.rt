@@ -3,10 +3,9 @@ ghost use Rattle.std.specs.Prelude.{◌≡◌, ◌≢◌, List, ℕ, IfOk, Match
 ghost use Rattle.bt_sockets.specs.Stream.{AreNewWays};
 ghost use Rattle.bt_sockets.specs.StreamSteps.{IsAddressOf, IsTextOf, bracketed};
 
-use crate::alarm::AlarmReader;
 use crate::passage::{Passage, Shared};
 use crate::requests::{HoldingWriter, Requests, SendingReader};
-use bt_ahead::ReadAhead;
+use bt_ahead::{AlarmReader, ReadAhead};
 use bt_padding::{Padded, Padding, Side};
 use bt_waiting::{EARLY_LEN, Role, Room, TimedStream, set_turns};
 use std::cell::RefCell;

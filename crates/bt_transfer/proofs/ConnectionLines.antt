@@ -8,7 +8,7 @@ use Rattle.bt_machine.specs.State.{EngineView}
 use Rattle.bt_peers.specs.declared.end.PeerEnd.{PeerEnd}
 use Rattle.bt_transfer.specs.Connections.{HasServed, none_yet, one_more, served_line, served_lines}
 use Rattle.bt_transfer.specs.OverTcp.{Meeting}
-use Rattle.bt_transfer.proofs.Devices.{enumerate_from-append}
+use Rattle.bt_files.proofs.Devices.{enumerate_from-append}
 
 -- the line of one more stands behind those before
 lines_more : (ends : List PeerEnd) (end : PeerEnd) (number : ℕ) → number ≡ length ends + 1

@@ -7,7 +7,7 @@ use Rattle.std.proofs.lemmas.Grind.{flat_map-append}
 use Rattle.std.proofs.lemmas.List.{take_all}
 use Rattle.std.proofs.lemmas.Option.{slice_get-get_or}
 use Rattle.std.proofs.lemmas.Slice.Zip.{length-zip}
-use Rattle.bt_transfer.proofs.ReportLines.{take_zip_more}
+use Rattle.bt_files.proofs.ReportLines.{take_zip_more}
 
 -- what is told of one pair more
 pub told_more : {A B : Type 0} (line : A → B → List ℕ) (xs : List A) (ys : List B) (i : ℕ) (dx : A) (dy : B) (old mid new : Option (List ℕ))

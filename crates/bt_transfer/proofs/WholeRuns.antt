@@ -17,9 +17,9 @@ use Rattle.bt_machine.proofs.Lists.{and_true, contains_cases, contains_none, ran
 use Rattle.bt_runs.specs.Leads.{LeadsTo, both}
 use Rattle.bt_runs.specs.WholeRuns.{IsWholeRun, WholeRunsKeepPromises}
 use Rattle.bt_transfer.specs.Fetch.{EndsFetch, HasFetchedOverTcp}
-use Rattle.bt_transfer.specs.Report.{IsCalledComplete}
+use Rattle.bt_files.specs.Report.{IsCalledComplete}
 use Rattle.bt_transfer.specs.Seed.{EndsSeed, HasListened}
-use Rattle.bt_transfer.specs.Store.{HasBegun}
+use Rattle.bt_files.specs.Store.{HasBegun}
 use Rattle.bt_words.specs.declared.peer.Peer.{Peer}
 use Rattle.bt_words.specs.declared.peer.Serving.{Serving}
 
@@ -73,8 +73,8 @@ zero_is_complete false status told zero = absurd (omega (arith, told, zero))
 module _ {D : Type 0} (history : D → History) (honest : D → Type 0) (faults : D → ℕ) (dig : List ℕ → List ℕ)
     (promises : WholeRunsKeepPromises history honest faults dig) (old last : EngineView D)
     (lawful : IsLawful old.state.torrent.piece_length old.state.torrent.files) (leads : LeadsTo history honest faults dig old last)
-    (before after : Option (List ℕ)) (status : ℕ) (torrent : Metainfo) (given : List D)
-    (begun : HasBegun history honest faults dig torrent given old) where
+    (before after : Option (List ℕ)) (status : ℕ) (torrent : Metainfo) (given : List D) (filled : List Bool)
+    (begun : HasBegun history honest faults dig torrent given filled old) where
   whole_run : IsWholeRun history honest faults dig torrent begun.first last
   whole_run = promises torrent given begun.first last (subst (λ (t : Metainfo). IsLawful t.piece_length t.files) begun.same lawful)
       begun.starts begun.devices (both begun.first old last begun.run leads)

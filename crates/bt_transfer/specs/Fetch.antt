@@ -3,7 +3,7 @@ use Rattle.std.specs.Prelude.{◌≡◌, ℕ, Bool, List, Ok, Option, Result, So
 use Rattle.std.specs.Io.KnownBytes.{Appends}
 use Rattle.sha2.specs.Sha256.{sha256}
 use Rattle.bt_disk.specs.History.{History}
-use Rattle.bt_intake.specs.Waiting.{TakesInAllWaiting}
+use Rattle.bt_files.specs.Waiting.{TakesInAllWaiting}
 use Rattle.bt_meta.specs.Files.{File}
 use Rattle.bt_meta.specs.Torrent.{Metainfo}
 use Rattle.bt_machine.specs.declared.error.FlushError.{FlushError}
@@ -17,13 +17,14 @@ use Rattle.bt_peers.specs.declared.end.PeerEnd.{PeerEnd}
 use Rattle.bt_wire.specs.declared.message.Ask.{Ask}
 use Rattle.bt_runs.specs.WholeRuns.{IsFileMarkedOnPath, IsWholeRun}
 use Rattle.bt_sockets.specs.Link.{Dials, undialled}
-use Rattle.bt_transfer.specs.DataFiles.{DeviceView}
-use Rattle.bt_transfer.specs.Ending.{IsConcluded}
-use Rattle.bt_transfer.specs.Loading.{IsLoaded}
+use Rattle.bt_files.specs.DataFiles.{DeviceView}
+use Rattle.bt_files.specs.declared.file_use.FileUse.TheVariants.{Fetch}
+use Rattle.bt_files.specs.Ending.{IsConcluded}
+use Rattle.bt_files.specs.Loading.{IsLoaded}
 use Rattle.bt_transfer.specs.OverTcp.{TriesOverTcp}
 use Rattle.bt_transfer.specs.PeerLines.{peer_lines}
-use Rattle.bt_transfer.specs.Report.{ReportsMarked, ReportsPublished}
-use Rattle.bt_transfer.specs.Store.{device_faults, device_history, device_honest}
+use Rattle.bt_files.specs.Report.{ReportsMarked, ReportsPublished}
+use Rattle.bt_files.specs.Store.{device_faults, device_history, device_honest}
 use Rattle.bt_words.specs.declared.peer.Peer.{Peer}
 
 -- The peers were tried in turn, and the next thing was a flush, which was answered so.
@@ -81,6 +82,7 @@ pub record EndsFetch {D : Type 0} (history : D → History) (honest : D → Type
 pub record IsFetch (is_info : Bool) (dir : List ℕ) (peers : List Peer) (before after : Option (List ℕ))
     (status : ℕ) : Type 0 where
   pub store : EngineView DeviceView
-  pub loaded : IsLoaded is_info dir store
-  pub ended : EndsFetch device_history device_honest device_faults sha256 loaded.torrent loaded.opened.first
+  pub loaded : IsLoaded is_info Fetch dir store
+  pub ended : EndsFetch device_history device_honest device_faults sha256 loaded.torrent
+      loaded.opened.begun.first
       store peers before after status

@@ -1,9 +1,3 @@
-pub mod DataFiles
-pub mod DataFilesSteps
-pub mod Store
-pub mod Report
-pub mod Ending
-pub mod Loading
 pub mod PeerLines
 pub mod OverTcp
 pub mod Fetch

@@ -1,5 +1,5 @@
 -- What a seed comes to.
-use Rattle.std.specs.Prelude.{◌≡◌, ℕ, ◌-◌, ◌^◌, ◌++◌, Bool, List, Ok, Option, codes}
+use Rattle.std.specs.Prelude.{◌≡◌, ℕ, ◌-◌, ◌^◌, ◌++◌, ◌⊎◌, Bool, true, false, List, Ok, Option, codes}
 use Rattle.std.specs.Fmt.{decimal}
 use Rattle.std.specs.Io.KnownBytes.{Appends}
 use Rattle.sha2.specs.Sha256.{sha256}
@@ -11,11 +11,16 @@ use Rattle.bt_machine.specs.State.{EngineView}
 use Rattle.bt_machine.specs.View.{StepsTo}
 use Rattle.bt_meta.specs.Torrent.{Metainfo}
 use Rattle.bt_runs.specs.WholeRuns.{IsWholeRun}
-use Rattle.bt_transfer.specs.DataFiles.{DeviceView}
+use Rattle.bt_files.specs.DataFiles.{DeviceView}
+use Rattle.bt_files.specs.Report.{engine_report}
+use Rattle.bt_files.specs.declared.file_use.FileUse.{FileUse}
+use Rattle.bt_files.specs.declared.file_use.FileUse.TheVariants.{ReadOnly, Seed}
+use Rattle.bt_machine.specs.Report.{all_complete}
 use Rattle.bt_transfer.specs.Connections.{HasServed, MeetsAndSyncs}
-use Rattle.bt_transfer.specs.Loading.{IsLoaded}
+use Rattle.bt_files.specs.Loading.{IsLoaded}
 use Rattle.bt_transfer.specs.OverTcp.{MeetsOverTcp}
-use Rattle.bt_transfer.specs.Store.{device_faults, device_history, device_honest}
+use Rattle.bt_files.specs.Store.{device_faults, device_history, device_honest}
+use Rattle.bt_words.specs.declared.peer.Service.{Service}
 use Rattle.bt_words.specs.declared.peer.Serving.{Serving}
 use Rattle.bt_words.specs.declared.peer.Serving.TheVariants.{Count, Forever}
 
@@ -59,10 +64,32 @@ pub record EndsSeed {D : Type 0} (history : D → History) (honest : D → Type 
   pub whole : IsWholeRun history honest faults dig torrent first last
   pub done : status ≡ 0
 
--- The store of a torrent of some text was opened in a folder, the port is told, and connections were served.
-pub record IsSeed (is_info : Bool) (dir : List ℕ) (serving : Serving) (before after : Option (List ℕ))
+-- what a seed opens its files for
+abbrev pub seed_use : Bool → FileUse
+seed_use true = ReadOnly
+seed_use false = Seed
+
+-- The store of a torrent of some text was opened in a folder, the port is told, and connections were served. Where
+-- files are only read, all were complete.
+pub record HasSeeded (is_info : Bool) (dir : List ℕ) (service : Service) (before after : Option (List ℕ))
     (status : ℕ) : Type 0 where
   pub store : EngineView DeviceView
-  pub loaded : IsLoaded is_info dir store
-  pub ended : EndsSeed device_history device_honest device_faults sha256 loaded.torrent loaded.opened.first
-      store serving before after status
+  pub loaded : IsLoaded is_info (seed_use service.is_read_only) dir store
+  pub complete : service.is_read_only ≡ true → all_complete store.state ≡ true
+  pub ended : EndsSeed device_history device_honest device_faults sha256 loaded.torrent
+      loaded.opened.begun.first store service.serving before after status
+
+-- The store was opened to be read, not all files are complete, and nothing but this was told; the status is 1.
+pub record HasNotSeeded (is_info : Bool) (dir : List ℕ) (service : Service) (before after : Option (List ℕ))
+    (status : ℕ) : Type 0 where
+  pub store : EngineView DeviceView
+  pub loaded : IsLoaded is_info (seed_use service.is_read_only) dir store
+  pub read_only : service.is_read_only ≡ true
+  pub lacking : all_complete store.state ≡ false
+  pub told : Appends before after (engine_report store.state)
+  pub answer : status ≡ 1
+
+-- one of the two
+abbrev pub IsSeed : Bool → List ℕ → Service → (before after : Option (List ℕ)) → (status : ℕ) → Type 0
+IsSeed is_info dir service before after status =
+    HasSeeded is_info dir service before after status ⊎ HasNotSeeded is_info dir service before after status

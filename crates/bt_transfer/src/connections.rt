@@ -7,10 +7,10 @@ ghost use Rattle.bt_transfer.specs.Connections.{HasServed, IsFlushed, MeetsAndSy
 ghost use Rattle.bt_transfer.specs.OverTcp.{MeetsOverTcp};
 
 use crate::reception::Reception;
-use crate::store::finish;
 use bt_check::{Fault, print};
 use bt_disk::Disk;
 use bt_engine::Engine;
+use bt_files::finish;
 use bt_peers::{PeerEnd, end_text};
 use bt_sockets::{IDLE_SECONDS, serve};
 use bt_tree::NodeHash;

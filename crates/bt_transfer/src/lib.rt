@@ -1,17 +1,12 @@
-//! What the commands `seed` and `fetch` do with files: a torrent's data files become the store of an engine,
-//! which takes in what they have already; at the end the store is flushed, and how far it is is told.
+//! The commands `seed` and `fetch`: over a store of a torrent's data files connections are made or waited for, one after
+//! the other, and what came of each is told.
 #![tactic(auto)]
 
 mod command;
 mod connections;
-mod data_files;
-mod ending;
-mod lacking;
-mod loading;
+mod device_context;
 mod peer_lines;
 mod reception;
-mod report;
-mod store;
 
 pub use bt_words::{Peer, Service, Serving};
 pub use command::fetch::fetch;

@@ -58,6 +58,7 @@ pub record IsServiceIn (rows : List Row) (service : Service) : Type 0 where
   pub listen : first_of (codes "listen") rows ≡ Some service.address.now
   pub address : IsAddress service.address.now
   pub port : HasNumber 16 rows (codes "port") service.port
+  pub read_only : IsFlagIn (codes "read-only") service.is_read_only rows
 
 pub record IsSeedTaskIn (rows : List Row) (task : SeedTask) : Type 0 where
   pub torrent : IsSourceIn rows task.torrent

@@ -283,7 +283,7 @@ fn make_task_of<'a>(matches: &ArgMatches<'a>) -> Result<MakeTask<'a>, Refusal>
     }
 }
 
-/// Where a seed listens, and how many connections it serves.
+/// Where a seed listens, how many connections it serves, and whether it may write files.
 fn service_of<'a>(matches: &ArgMatches<'a>) -> Result<Service<'a>, Refusal>
     ensures service { IfOk result (IsServiceIn (rows_of (found_of matches.now))) }
     ensures refused { IfErr result (IsRefusalFor
@@ -295,11 +295,13 @@ fn service_of<'a>(matches: &ArgMatches<'a>) -> Result<Service<'a>, Refusal>
         return Err(Refusal::Value(ADDRESS_WANTED));
     }
     let digits = word_of(matches, "port")?;
+    let is_read_only = has_flag(matches, "read-only");
     match port_in(digits) {
         Some(port) => Ok(Service {
             address,
             port,
             serving,
+            is_read_only,
         }),
         None => Err(Refusal::Value(PORT_WANTED)),
     }

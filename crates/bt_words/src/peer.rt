@@ -17,7 +17,7 @@ pub enum Serving {
     Forever,
 }
 
-/// Where connections are waited for, and how many are served.
+/// Where connections are waited for, how many are served, and whether files may be written for them.
 #[derive(Clone, Copy, Debug, PartialEq, Eq)]
 pub struct Service<'a> {
     /// The address of this machine at which it listens.
@@ -25,4 +25,6 @@ pub struct Service<'a> {
     /// With 0 the system chooses one.
     pub port: u16,
     pub serving: Serving,
+    /// Whether files are only read, and none is made.
+    pub is_read_only: bool,
 }

@@ -112,6 +112,12 @@ const PORT: Word<'static> = Word {
     help: "The port to listen at, from 0 to 65535: at 0 the system chooses one",
 };
 
+const READ_ONLY: Word<'static> = Word {
+    id: "read-only",
+    kind: Kind::Flag,
+    help: "Files are only read, and none is made; if not all are complete, nothing is served",
+};
+
 const FETCH_DIR: Word<'static> = Word {
     id: "DIR",
     kind: Kind::Needed,
@@ -150,8 +156,10 @@ const SUBCOMMANDS: &[Subcommand<'static>] = &[
     },
     Subcommand {
         name: "seed",
-        about: "Serves the files of a folder to peers that connect, one after the other, and takes what is missing from them",
-        words: &[TORRENT, DIR, SERVE, FOREVER, LISTEN, PORT, INFO, VERBOSE],
+        about: "Serves the files of a folder to peers that connect, one after the other, and takes what is missing from them, unless with --read-only",
+        words: &[
+            TORRENT, DIR, SERVE, FOREVER, LISTEN, PORT, READ_ONLY, INFO, VERBOSE,
+        ],
     },
     Subcommand {
         name: "fetch",

@@ -1,8 +1,9 @@
 //! The command `fetch`: peers are tried in turn, and what came of it is told.
-ghost use Rattle.std.specs.Prelude.{[], ◌≡◌, ◌≢◌, ◌⊎◌, All, List, Ok, Err, false, true, length, IfErr, IfOk, OnErr, OnOk};
+ghost use Rattle.std.specs.Prelude.{[], ◌≡◌, ◌≢◌, ◌⊎◌, All, Bool, List, Ok, Err, false, true, length, IfErr, IfOk, OnErr, OnOk};
 ghost use Rattle.std.specs.Io.KnownBytes.{Keeps};
 ghost use Rattle.bt_check.specs.Fault.{device, out_of_memory, status_of};
-ghost use Rattle.bt_check.specs.TorrentFile.{IsLoadFault};
+ghost use Rattle.bt_files.specs.Loading.{IsStoreFault};
+ghost use Rattle.bt_files.specs.declared.file_use.FileUse.TheVariants.{Fetch};
 ghost use Rattle.bt_machine.specs.declared.error.FlushError.TheVariants.{Device};
 ghost use Rattle.bt_meta.specs.Torrent.{Metainfo};
 ghost use Rattle.bt_padding.specs.ShortBlocks.{short_blocks_of};
@@ -10,17 +11,15 @@ ghost use Rattle.bt_peers.specs.Peers.{IsTried};
 ghost use Rattle.bt_runs.specs.Leads.{LeadsTo};
 ghost use Rattle.bt_transfer.specs.Fetch.{EndsFetch, HasFetched, HasFetchedOverTcp, IsFetch, TriesAndSyncs, links_of};
 ghost use Rattle.bt_transfer.specs.FetchSteps.{BreaksOff};
-ghost use Rattle.bt_transfer.specs.Store.{HasBegun};
+ghost use Rattle.bt_files.specs.Store.{HasBegun};
 
-use crate::ending::conclude;
-use crate::lacking::begin_fetching;
-use crate::loading::load_store;
+use crate::device_context::device_context;
 use crate::peer_lines::write_peers;
-use crate::store::finish;
 use bt_check::{Fault, Source};
 use bt_disk::Disk;
 use bt_engine::Engine;
-use bt_intake::adopt_waiting;
+use bt_files::{FileUse, adopt_waiting, begin_fetching, conclude, finish, load_store};
+use bt_folder::Seal;
 use bt_padding::ShortBlocks;
 use bt_peers::{Link, PeerEnd, run_peers};
 use bt_progress::Watch;
@@ -44,7 +43,8 @@ use std::time::{Clock, Duration};
 /// A session ends where a device refuses a write. Where that was so of one of them, and files are not complete, the
 /// device's fault comes behind the report.
 ///
-/// Errors: the torrent is refused, and then nothing is written; a device or the writer failed; out of memory.
+/// Errors: the torrent is refused, or two of its paths are one file, and then nothing is written; a device or the
+/// writer failed; out of memory.
 pub fn fetch<R: Files + AllocGlobal + Clone + Drop, N: Net + Clock, P: Watch, W: Write>(
     rt: &R,
     net: &N,
@@ -56,12 +56,15 @@ pub fn fetch<R: Files + AllocGlobal + Clone + Drop, N: Net + Clock, P: Watch, W:
 ) -> Result<u8, Fault>
     ensures done { IfOk result (λ status. IsFetch source.entry.is_info dir.now peers.now
         (W.contents writer.old) (W.contents writer.new) status) }
-    ensures fault { IfErr result (IsLoadFault source.entry.is_info) }
+    ensures fault { IfErr result (IsStoreFault source.entry.is_info Fetch) }
     ensures refused { IfErr result
         (λ fault. status_of fault ≡ 2 → Keeps (W.contents writer.old) (W.contents writer.new)) }
 {
     let shared = Shared::new(rt.alloc())?;
-    let engine = load_store(rt, watch, &shared, source, dir)?;
+    // It is never closed: what comes is written.
+    let seal = Seal::new();
+    let context = device_context(FileUse::Fetch, &shared, &seal);
+    let engine = load_store(rt, watch, context, source, dir)?;
     fetch_store(rt.alloc(), net, watch, engine, &shared, peers, writer)
 }
 
@@ -77,8 +80,8 @@ fn fetch_store<D: Disk + Drop, H: NodeHash, N: Net + Clock, P: Watch, W: Write>(
     writer: &mut W,
 ) -> Result<u8, Fault>
     requires no_peer { engine.state.peers ≡ [] }
-    ensures fetched { (torrent : Metainfo) (given : List D)
-        (begun : HasBegun D.history D.honest D.faults H.digest torrent given engine)
+    ensures fetched { (torrent : Metainfo) (given : List D) (filled : List Bool)
+        (begun : HasBegun D.history D.honest D.faults H.digest torrent given filled engine)
         → IfOk result (λ status. EndsFetch D.history D.honest D.faults H.digest torrent begun.first engine
         peers.now (W.contents writer.old) (W.contents writer.new) status) }
     ensures fault { IfErr result (λ fault. (fault ≡ device) ⊎ (fault ≡ out_of_memory)) }

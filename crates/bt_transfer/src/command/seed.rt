@@ -1,22 +1,24 @@
 //! The command `seed`: connections are waited for and served, and what came of each is told.
-ghost use Rattle.std.specs.Prelude.{[], ℕ, List, ◌≡◌, ◌⊎◌, ◌++◌, IfErr, IfOk, OnErr, OnOk, string_bytes};
+ghost use Rattle.std.specs.Prelude.{[], ℕ, Bool, List, ◌≡◌, ◌⊎◌, ◌++◌, ◌&&◌, not, IfErr, IfOk, OnErr, OnOk, string_bytes};
 ghost use Rattle.std.specs.Io.KnownBytes.{Appends, Keeps};
 ghost use Rattle.bt_check.specs.Fault.{device, out_of_memory, status_of};
-ghost use Rattle.bt_check.specs.TorrentFile.{IsLoadFault};
+ghost use Rattle.bt_files.specs.Loading.{IsStoreFault};
+ghost use Rattle.bt_files.specs.Report.{engine_report};
 ghost use Rattle.bt_meta.specs.Torrent.{Metainfo};
 ghost use Rattle.bt_padding.specs.ShortBlocks.{short_blocks_of};
 ghost use Rattle.bt_runs.specs.Leads.{LeadsTo};
 ghost use Rattle.bt_transfer.specs.Connections.{IsFlushed};
-ghost use Rattle.bt_transfer.specs.Seed.{EndsSeed, HasListened, HasServedAll, IsSeed, listening_line};
-ghost use Rattle.bt_transfer.specs.Store.{HasBegun};
+ghost use Rattle.bt_transfer.specs.Seed.{EndsSeed, HasListened, HasServedAll, IsSeed, listening_line, seed_use};
+ghost use Rattle.bt_files.specs.Store.{HasBegun};
 
 use crate::connections::{serve_count, serve_forever};
-use crate::loading::load_store;
+use crate::device_context::device_context;
 use crate::reception::Reception;
-use crate::store::finish;
 use bt_check::{Fault, Source, print};
 use bt_disk::Disk;
 use bt_engine::Engine;
+use bt_files::{FileUse, finish, load_store, write_report};
+use bt_folder::Seal;
 use bt_padding::ShortBlocks;
 use bt_progress::{FileCall, Watch};
 use bt_runs::whole_runs_keep_promises;
@@ -34,11 +36,15 @@ use std::time::Clock;
 /// it ended. All is put on the devices behind the last, or behind each where no count is given. The answer is
 /// the status of the program, 0.
 ///
+/// Where all files are complete at first, none is written from then on: a session ends in which a block comes for one
+/// of them. Where they are only to be read and are not complete, nothing is served: the report is written, that nothing
+/// is served is told, and the answer is 1.
+///
 /// It is told how much is read: first of what the files have, and then for peers, where it is not known how much
 /// that will be. Between the two a hint tells where files are not complete.
 ///
-/// Errors: the torrent is refused, or the port can't be had, and then nothing is written; a device, the writer
-/// or the socket failed; out of memory.
+/// Errors: the torrent is refused, two of its paths are one file that may be written, or the port can't be had, and then
+/// nothing is written; a device, the writer or the socket failed; out of memory.
 pub fn seed<R: Files + AllocGlobal + Clone + Drop, N: Net + Clock, P: Watch, W: Write>(
     rt: &R,
     net: &N,
@@ -48,15 +54,67 @@ pub fn seed<R: Files + AllocGlobal + Clone + Drop, N: Net + Clock, P: Watch, W: 
     service: Service<'_>,
     writer: &mut W,
 ) -> Result<u8, Fault>
-    ensures done { IfOk result (λ status. IsSeed source.entry.is_info dir.now service.entry.serving
-        (W.contents writer.old) (W.contents writer.new) status) }
-    ensures fault { IfErr result (IsLoadFault source.entry.is_info) }
+    ensures done { IfOk result (IsSeed source.entry.is_info dir.now service.entry
+        (W.contents writer.old) (W.contents writer.new)) }
+    ensures fault { IfErr result (IsStoreFault source.entry.is_info (seed_use service.entry.is_read_only)) }
     ensures refused { IfErr result
         (λ fault. status_of fault ≡ 2 → Keeps (W.contents writer.old) (W.contents writer.new)) }
 {
     let shared = Shared::new(rt.alloc())?;
-    let engine = load_store(rt, watch, &shared, source, dir)?;
+    let seal = Seal::new();
+    let context = device_context(seed_use(service.is_read_only), &shared, &seal);
+    let engine = load_store(rt, watch, context, source, dir)?;
+    let is_complete = engine.is_complete();
+    if is_lacking(service.is_read_only, is_complete) {
+        return report_lack(rt.alloc(), watch, &engine, writer);
+    }
+    close_if_complete(&seal, is_complete);
     seed_store(rt.alloc(), net, watch, engine, &shared, service, writer)
+}
+
+/// What a seed opens its files for.
+fn seed_use(is_read_only: bool) -> FileUse
+    ensures { result ≡ seed_use is_read_only }
+{
+    if is_read_only {
+        FileUse::ReadOnly
+    } else {
+        FileUse::Seed
+    }
+}
+
+/// Whether nothing is served: what lacks may not be written, and not all is complete.
+fn is_lacking(is_read_only: bool, is_complete: bool) -> bool
+    ensures { result ≡ (is_read_only && not is_complete) }
+{
+    is_read_only && !is_complete
+}
+
+/// Closes a seal where all files are complete. What it serves the seed has then: a block that it finds damaged may be
+/// the user's own change, over which nothing is to be written.
+fn close_if_complete(seal: &Seal, is_complete: bool) {
+    if is_complete {
+        seal.close();
+    }
+}
+
+/// Reports how far the files are, and tells that nothing is served. The answer is 1.
+fn report_lack<D: Disk + Drop, H: NodeHash, P: Watch, W: Write>(
+    alloc: Global,
+    watch: &P,
+    engine: &Engine<D, H>,
+    writer: &mut W,
+) -> Result<u8, Fault>
+    ensures told { IfOk result (λ status. (status ≡ 1)
+        × Appends (W.contents writer.old) (W.contents writer.new) (engine_report engine.now.state)) }
+    ensures fault { IfErr result (λ fault. (fault ≡ device) ⊎ (fault ≡ out_of_memory)) }
+{
+    write_report(alloc, engine, writer)?;
+    watch.clear();
+    watch.tell(
+        "not all files are complete here, and with --read-only none is written: nothing is served",
+    );
+    Ok(1)
 }
 
 /// Tells what is lacking, listens, and serves connections to an engine that began with a torrent, which it takes.
@@ -71,8 +129,8 @@ fn seed_store<D: Disk + Drop, H: NodeHash, N: Net + Clock, P: Watch, W: Write>(
     writer: &mut W,
 ) -> Result<u8, Fault>
     requires no_peer { engine.state.peers ≡ [] }
-    ensures listened { (torrent : Metainfo) (given : List D)
-        (begun : HasBegun D.history D.honest D.faults H.digest torrent given engine)
+    ensures listened { (torrent : Metainfo) (given : List D) (filled : List Bool)
+        (begun : HasBegun D.history D.honest D.faults H.digest torrent given filled engine)
         → IfOk result (λ status. EndsSeed D.history D.honest D.faults H.digest torrent begun.first engine
         service.entry.serving (W.contents writer.old) (W.contents writer.new) status) }
     ensures fault { IfErr result (λ fault. (fault ≡ device) ⊎ (fault ≡ out_of_memory)) }

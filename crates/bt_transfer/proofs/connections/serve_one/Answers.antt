@@ -1,4 +1,4 @@
-use Rattle.bt_transfer.proofs.Faults.{ok_weaker}
+use Rattle.bt_files.proofs.Faults.{ok_weaker}
 use Rattle.bt_transfer.proofs.OverTcp.{served_by_bytes}
 use Rattle.bt_transfer.proofs.connections.serve_one.Goals as goal
 

@@ -1,0 +1,5 @@
+pub mod Adoptions
+pub mod Waits
+pub mod Devices
+pub mod ReportLines
+pub mod Faults

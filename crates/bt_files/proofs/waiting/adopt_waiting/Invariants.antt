@@ -1,0 +1,11 @@
+-- The files so far were seen to, by events.
+use Rattle.std.proofs.Common.{◌≡◌, length}
+use Rattle.bt_runs.specs.Leads.{LeadsTo}
+use Rattle.bt_files.proofs.Waits.{IsSeeing}
+use Rattle.bt_files.proofs.waiting.adopt_waiting.Given as goal
+
+abbrev pub invariant-loop-file : goal.invariant-loop-file
+invariant-loop-file g l =
+    IsSeeing g.D.Disk.history g.D.Disk.honest g.D.Disk.faults g.H.NodeHash.digest l.initial.engine l.file l.engine
+    × (l.count ≡ length l.initial.engine.state.files)
+    × LeadsTo g.D.Disk.history g.D.Disk.honest g.D.Disk.faults g.H.NodeHash.digest l.initial.engine l.engine

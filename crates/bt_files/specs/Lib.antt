@@ -1,0 +1,10 @@
+pub mod Adoption
+pub mod Waiting
+pub mod FileUse
+pub mod OpenFolder
+pub mod DataFiles
+pub mod DataFilesSteps
+pub mod Store
+pub mod Report
+pub mod Ending
+pub mod Loading

@@ -1,0 +1,66 @@
+//! What the devices of an engine have already is taken in.
+ghost use Rattle.std.specs.Prelude.{[], ◌≡◌, ◌<◌, ◌↔◌, IsTrue, Some, true, length, slice_get, IfErr, MatchResult, OnOk};
+ghost use Rattle.bt_machine.specs.declared.event.Event.TheVariants.{Adopt};
+ghost use Rattle.bt_machine.specs.declared.event.Answer.{Answer};
+ghost use Rattle.bt_machine.specs.View.{StepsTo};
+ghost use Rattle.bt_runs.specs.Leads.{LeadsTo};
+ghost use Rattle.bt_files.specs.Adoption.{IsAdoptionFault, IsTakenIn, StopsAtFile, TakesIn};
+
+use bt_check::Fault;
+use bt_disk::Disk;
+use bt_engine::{AdoptError, Engine};
+use bt_tree::NodeHash;
+
+/// Takes in what the devices of those files have of which bytes are there, file after file; of no other file is a
+/// device called. `filled` tells it of each file. Errors: a read failed, or out of memory; the files before stay taken
+/// in.
+pub fn adopt_files<D: Disk + Drop, H: NodeHash>(
+    engine: &mut Engine<D, H>,
+    filled: &[bool],
+) -> Result<(), Fault>
+    requires no_peer { engine.old.state.peers ≡ [] }
+    requires each { length filled.now ≡ length engine.old.state.torrent.files }
+    ensures taken_in { OnOk result
+        (TakesIn D.history D.honest D.faults H.digest engine.old filled.now engine.new) }
+    ensures fault { IfErr result
+        (λ fault. StopsAtFile D.history D.honest D.faults H.digest engine.old filled.now fault engine.new) }
+    ensures run { LeadsTo D.history D.honest D.faults H.digest engine.old engine.new }
+    ensures torrent { engine.new.state.torrent ≡ engine.old.state.torrent }
+    ensures no_peer { engine.new.state.peers ≡ [] }
+{
+    engine.keeps_laws();
+    let count = engine.torrent().files().len() as u32;
+    for file in 0..count {
+        if is_filled(filled, file) {
+            adopt_file(engine, file)?;
+        }
+    }
+    Ok(())
+}
+
+/// Whether bytes of a file are there.
+fn is_filled(filled: &[bool], file: u32) -> bool
+    ensures { IsTrue result ↔ (slice_get filled.now file ≡ Some true) }
+{
+    filled.get(file as usize) == Some(&true)
+}
+
+/// Takes in what the device of a file has.
+pub(crate) fn adopt_file<D: Disk + Drop, H: NodeHash>(
+    engine: &mut Engine<D, H>,
+    file: u32,
+) -> Result<(), Fault>
+    requires no_peer { engine.old.state.peers ≡ [] }
+    requires inside { file < length engine.old.state.files }
+    ensures step { (answer : Answer)
+        × StepsTo D.history D.honest D.faults H.digest engine.old (Adopt file) answer engine.new
+        × MatchResult result (λ _. IsTakenIn answer) (IsAdoptionFault answer) }
+    ensures no_peer { engine.new.state.peers ≡ [] }
+{
+    match engine.adopt(file) {
+        Ok(adopted) if adopted.faults == 0 => Ok(()),
+        Ok(_) => Err(Fault::Device),
+        Err(AdoptError::OutOfMemory) => Err(Fault::OutOfMemory),
+        Err(AdoptError::NoFile | AdoptError::Busy) => unreachable!(),
+    }
+}

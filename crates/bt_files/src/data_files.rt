@@ -1,0 +1,259 @@
+//! The data files of a torrent, opened for a use.
+ghost use Rattle.std.specs.Prelude.{[], ◌≡◌, ◌⊎◌, ◌+◌, ◌++◌, ◌∷◌, map, length, nat_lt, string_bytes, IfOk, IfErr, IfSome, IsSome, OnOk};
+ghost use Rattle.std.specs.Path.{path_buf_bytes};
+ghost use Rattle.bt_ahead.specs.Disk.{new_ahead};
+ghost use Rattle.bt_disk.specs.Pool.{new_pool};
+ghost use Rattle.bt_meta.specs.Files.{file_of};
+ghost use Rattle.bt_check.specs.Fault.{device};
+ghost use Rattle.bt_files.specs.DataFiles.{AreNewDevices, IsNewDevice, IsNewFile};
+ghost use Rattle.bt_files.specs.DataFilesSteps.{IsOpenedFor, IsPushed};
+ghost use Rattle.bt_files.specs.FileUse.{is_read_only};
+ghost use Rattle.bt_files.specs.OpenFolder.{IsOpeningFault};
+
+use crate::device_context::DeviceContext;
+use crate::file_use::FileUse;
+use crate::open_folder::OpenFolder;
+use bt_ahead::{AlarmDisk, ReadAheadDisk};
+use bt_check::{Fault, OPEN_FILES, data_path, fault_name, told};
+use bt_disk::{DeviceFault, FileDisk, HandlePool, Opening, PooledDisk};
+use bt_folder::SealedDisk;
+use bt_meta::FileEntry;
+use bt_progress::{FileCall, Watch, Watched};
+use std::alloc::{AllocError, Global};
+use std::path::{Path, PathBuf};
+use std::rt::Files;
+
+/// The device of a data file: one of a pool, which is read ahead, may be closed to writes, rings where a write
+/// fails, and tells of its calls.
+pub type DataDisk<'a, R, P> = Watched<
+    'a,
+    AlarmDisk<'a, SealedDisk<'a, ReadAheadDisk<'a, PooledDisk<R>>>>,
+    P,
+>;
+
+/// The devices of those files of a torrent that have a byte, in their order; and of each file of it, whether bytes of
+/// it are there.
+#[derive(Drop)]
+pub(crate) struct OpenFiles<D> {
+    pub disks: Vec<D>,
+    pub filled: Vec<bool>,
+}
+
+impl<D: Drop> OpenFiles<D> {
+    fn new(alloc: Global) -> Self
+        ensures disks { result.disks.items ≡ [] }
+        ensures filled { result.filled.items ≡ [] }
+    {
+        OpenFiles {
+            disks: Vec::new(alloc),
+            filled: Vec::new(alloc),
+        }
+    }
+
+    /// Puts a file behind those before.
+    fn push(&mut self, file: OpenFile<D>) -> Result<(), AllocError>
+        ensures disks { OnOk result (IsPushed self.old.disks.items file.disk self.new.disks.items) }
+        ensures filled { OnOk result
+            (self.new.filled.items ≡ self.old.filled.items ++ nat_lt 0 file.opening.len ∷ []) }
+    {
+        self.filled.push(file.opening.len > 0)?;
+        push_some(&mut self.disks, file.disk)
+    }
+}
+
+/// A file of a torrent that was opened: its device, which an empty one has not, and what the system told of it.
+#[derive(Drop)]
+struct OpenFile<D> {
+    disk: Option<D>,
+    opening: Opening,
+}
+
+/// Opens the data files of some entries, in turn, and gives the devices of those that have a byte. They share a few
+/// handles, and what is read ahead, and tell of their calls; their bytes are to be read.
+///
+/// But for a read-only use, missing folders and files are made, also the files of empty entries, and are kept: the
+/// folder of each is synced. A file that is there keeps its bytes; what is there and is no regular file is a device
+/// fault, and is not opened. Nor may two paths be one file, unless they are only read.
+pub(crate) fn open_devices<'a, R: Files + AllocGlobal + Clone + Drop, P: Watch>(
+    rt: &R,
+    watch: &'a P,
+    context: DeviceContext<'a>,
+    dir: &str,
+    entries: &[FileEntry],
+) -> Result<OpenFiles<DataDisk<'a, R, P>>, Fault>
+    ensures devices { IfOk result (λ files.
+        AreNewDevices context.entry.usage dir.now (map file_of entries.now) files.disks.items) }
+    ensures each { IfOk result (λ files. length files.filled.items ≡ length entries.now) }
+    ensures fault { IfErr result (IsOpeningFault context.entry.usage) }
+{
+    let mut pool = HandlePool::new(rt.alloc(), rt.clone()?, OPEN_FILES)?;
+    let mut files = OpenFiles::new(rt.alloc());
+    push_devices(rt, watch, context, &mut pool, dir, entries, &mut files)?;
+    Ok(files)
+}
+
+/// Opens the data files of some entries by a new pool, and gives the devices of those that have a byte.
+fn push_devices<'a, R: Files + AllocGlobal + Clone + Drop, P: Watch>(
+    rt: &R,
+    watch: &'a P,
+    context: DeviceContext<'a>,
+    pool: &mut HandlePool<R>,
+    dir: &str,
+    entries: &[FileEntry],
+    files: &mut OpenFiles<DataDisk<'a, R, P>>,
+) -> Result<(), Fault>
+    requires no_device { pool.old ≡ new_pool }
+    requires no_disk { files.old.disks.items ≡ [] }
+    requires no_file { files.old.filled.items ≡ [] }
+    ensures devices { OnOk result
+        (AreNewDevices context.entry.usage dir.now (map file_of entries.now) files.new.disks.items) }
+    ensures each { OnOk result (length files.new.filled.items ≡ length entries.now) }
+    ensures fault { IfErr result (IsOpeningFault context.entry.usage) }
+{
+    let mut folder = OpenFolder::new(rt.alloc());
+    for entry in entries {
+        folder.go_to(rt, watch, context.usage, dir, &entry.path)?;
+        let file = open_entry(rt, watch, context, pool, dir, entry)?;
+        folder.add(rt, watch, context.usage, dir, &entry.path, file.opening)?;
+        files.push(file)?;
+    }
+    folder.end(rt, watch, context.usage, dir)
+}
+
+/// Puts an item, if there is one, behind others.
+fn push_some<T: Drop>(items: &mut Vec<T>, item: Option<T>) -> Result<(), AllocError>
+    ensures { OnOk result (IsPushed items.old.items item items.new.items) }
+{
+    match item {
+        Some(item) => {
+            items.push(item)?;
+            Ok(())
+        }
+        None => Ok(()),
+    }
+}
+
+/// The file of an entry, which has no device where it is empty. It is made where it is missing, but for a read-only
+/// use.
+fn open_entry<'a, R: Files + AllocGlobal + Drop, P: Watch>(
+    rt: &R,
+    watch: &'a P,
+    context: DeviceContext<'a>,
+    pool: &mut HandlePool<R>,
+    dir: &str,
+    entry: &FileEntry,
+) -> Result<OpenFile<DataDisk<'a, R, P>>, Fault>
+    ensures opened { IfOk result (λ file.
+        IsOpenedFor context.entry.usage dir.now (file_of entry.now) pool.old.made file.disk pool.new.made) }
+    ensures fault { IfErr result (IsOpeningFault context.entry.usage) }
+{
+    let path = data_path(rt.alloc(), dir, &entry.path)?;
+    if entry.length == 0 {
+        let opening = open_empty(rt, watch, context.usage, path.as_path())?;
+        return Ok(OpenFile {
+            disk: None,
+            opening,
+        });
+    }
+    let file = open_device(rt.alloc(), watch, context, pool, path)?;
+    if file.opening.len > 0 {
+        watch.expect(entry.length);
+    }
+    Ok(file)
+}
+
+/// The next device of a pool, of a file that is opened for a use, which is read ahead, and tells of its calls.
+fn open_device<'a, R: Files + Drop, P: Watch>(
+    alloc: Global,
+    watch: &'a P,
+    context: DeviceContext<'a>,
+    pool: &mut HandlePool<R>,
+    path: PathBuf,
+) -> Result<OpenFile<DataDisk<'a, R, P>>, Fault>
+    ensures some { IfOk result (λ file. IsSome file.disk) }
+    ensures device { IfOk result (λ file.
+        IfSome file.disk (IsNewDevice context.entry.usage pool.new.made (path_buf_bytes path))) }
+    ensures one_more { OnOk result (pool.new.made ≡ pool.old.made + 1) }
+    ensures fault { IfErr result (IsOpeningFault context.entry.usage) }
+{
+    let name = fault_name(alloc, watch, path.as_path().as_str())?;
+    match pooled(pool, context.usage, path.into_string()) {
+        Ok(file) => {
+            let opening = file.opening();
+            let disk = Watched::new(
+                AlarmDisk::new(device_of(context, file), context.alarm),
+                watch,
+                name,
+            );
+            Ok(OpenFile {
+                disk: Some(disk),
+                opening,
+            })
+        }
+        Err(_) => Err(opening_fault(watch, name)),
+    }
+}
+
+/// The next file of a pool, opened for a use. What a seed finds in it is none of what it has to keep.
+fn pooled<R: Files + Drop>(
+    pool: &mut HandlePool<R>,
+    usage: FileUse,
+    path: String,
+) -> Result<PooledDisk<R>, DeviceFault>
+    ensures file { IfOk result (IsNewFile usage pool.new.made (string_bytes path)) }
+    ensures one_more { OnOk result (pool.new.made ≡ pool.old.made + 1) }
+{
+    match usage {
+        FileUse::Fetch => pool.writing(path),
+        FileUse::Seed => Ok(pool.writing(path)?.assume_synced()),
+        FileUse::ReadOnly => pool.reading(path),
+    }
+}
+
+/// A file as a device that is read ahead, and is closed to writes: with its seal, or at once.
+fn device_of<'a, R: Files + Drop>(
+    context: DeviceContext<'a>,
+    file: PooledDisk<R>,
+) -> SealedDisk<'a, ReadAheadDisk<'a, PooledDisk<R>>>
+    ensures inner { result.inner ≡ new_ahead file }
+    ensures is_sealed { result.is_sealed ≡ is_read_only context.entry.usage }
+    ensures refused { result.refused ≡ 0 }
+{
+    let ahead = ReadAheadDisk::new(file, context.digests);
+    if context.usage.is_read_only() {
+        SealedDisk::closed(ahead, context.seal)
+    } else {
+        SealedDisk::new(ahead, context.seal)
+    }
+}
+
+/// A fault in opening a file, which is told by the file's name, if there is one.
+fn opening_fault<P: Watch>(watch: &P, name: Option<String>) -> Fault
+    ensures { result ≡ device }
+{
+    if let Some(name) = name {
+        watch.tell_fault(FileCall::Open, name.as_str());
+    }
+    Fault::Device
+}
+
+/// Opens a file that is to have no byte, and makes it where there is none, but for a read-only use. A fault is told
+/// of.
+fn open_empty<R: Files + AllocGlobal, P: Watch>(
+    rt: &R,
+    watch: &P,
+    usage: FileUse,
+    file: Path<'_>,
+) -> Result<Opening, Fault>
+    ensures { IfErr result (λ fault. fault ≡ device) }
+{
+    let opened = match usage {
+        FileUse::Fetch | FileUse::Seed => FileDisk::writing(rt, file.as_str()),
+        FileUse::ReadOnly => FileDisk::reading(rt, file.as_str()),
+    };
+    let opening = match opened {
+        Ok(disk) => Ok(disk.opening()),
+        Err(_) => Err(Fault::Device),
+    };
+    told(rt.alloc(), watch, FileCall::Open, file.as_str(), opening)
+}

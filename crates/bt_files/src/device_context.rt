@@ -1,0 +1,19 @@
+//! What the devices of a store share.
+
+use crate::file_use::FileUse;
+use bt_ahead::{Alarm, DigestCache};
+use bt_folder::Seal;
+use std::cell::RefCell;
+
+/// What the devices of a store share with each other, and with the connections to its engine.
+#[derive(Clone, Copy)]
+pub struct DeviceContext<'a> {
+    /// What the files are opened for.
+    pub usage: FileUse,
+    /// Where the digests are put that are made ahead, as blocks are read.
+    pub digests: &'a RefCell<DigestCache>,
+    /// Rung where a device refuses a write.
+    pub alarm: &'a Alarm,
+    /// Closed where nothing is to be written any more.
+    pub seal: &'a Seal,
+}

@@ -1,0 +1,32 @@
+//! The end of a fetch.
+ghost use Rattle.std.specs.Prelude.{◌≡◌, ◌⊎◌, IfErr, IfOk};
+ghost use Rattle.bt_check.specs.Fault.{device, out_of_memory};
+ghost use Rattle.bt_runs.specs.Leads.{LeadsTo};
+ghost use Rattle.bt_files.specs.Ending.{IsConcluded};
+
+use crate::report::write_report;
+use crate::store::finish;
+use bt_check::Fault;
+use bt_disk::Disk;
+use bt_engine::Engine;
+use bt_tree::NodeHash;
+use std::alloc::Global;
+use std::io::Write;
+
+/// Has all that was written put on the devices, and then reports how far the files are. The answer is the
+/// status of the program: 0 where all files are complete, else 1. Where a device fails at the first, nothing is
+/// reported.
+pub fn conclude<D: Disk + Drop, H: NodeHash, W: Write>(
+    alloc: Global,
+    engine: &mut Engine<D, H>,
+    writer: &mut W,
+) -> Result<u8, Fault>
+    ensures concluded { IfOk result (λ status. IsConcluded D.history D.honest D.faults H.digest engine.old
+        (W.contents writer.old) (W.contents writer.new) status engine.new) }
+    ensures run { LeadsTo D.history D.honest D.faults H.digest engine.old engine.new }
+    ensures fault { IfErr result (λ fault. (fault ≡ device) ⊎ (fault ≡ out_of_memory)) }
+{
+    finish(engine)?;
+    let complete = write_report(alloc, engine, writer)?;
+    Ok(if complete { 0 } else { 1 })
+}

@@ -1,0 +1,188 @@
+//! The folders on the way to a file, and what was made in them.
+ghost use Rattle.std.specs.Prelude.{IfErr};
+ghost use Rattle.bt_files.specs.OpenFolder.{IsCallFault};
+
+use bt_check::{Fault, found_path, told};
+use bt_folder::{make_folders, sync_folder};
+use bt_meta::FilePath;
+use bt_progress::{FileCall, Watch};
+use std::alloc::{AllocError, Global};
+use std::path::Path;
+use std::rt::Files;
+
+/// The folders on the way to a file below a folder, which is the first of them. A folder in which something was made
+/// is synced as the way leaves it. In the order of a torrent the way enters and leaves each folder once.
+#[derive(Drop)]
+pub(crate) struct FolderTrail {
+    /// The names of those below the first one.
+    names: Vec<String>,
+    /// Whether something was made in each of them, the first one's first: none, before the way begins.
+    has_new: Vec<bool>,
+}
+
+impl FolderTrail {
+    /// The way has not begun.
+    pub(crate) fn new(alloc: Global) -> Self {
+        FolderTrail {
+            names: Vec::new(alloc),
+            has_new: Vec::new(alloc),
+        }
+    }
+
+    /// Goes on to the folder of a file, and makes it, and those above it, where they are missing. Errors: one can't be
+    /// made, or synced, which is told of; memory is refused.
+    pub(crate) fn go_to<R: Files + AllocGlobal, P: Watch>(
+        &mut self,
+        rt: &R,
+        watch: &P,
+        dir: &str,
+        file: &FilePath,
+    ) -> Result<(), Fault>
+        ensures fault { IfErr result IsCallFault }
+    {
+        self.begin(rt, watch, dir)?;
+        let elements = file.elements();
+        let elements = elements.as_slice();
+        let depth = elements.len().saturating_sub(1);
+        let folders = elements.get(..depth).unwrap_or(&[]);
+        let shared = self.shared_len(folders);
+        self.go_back(rt, watch, dir, shared)?;
+        for name in folders.iter().skip(shared) {
+            self.enter(rt, watch, dir, name)?;
+        }
+        Ok(())
+    }
+
+    /// Something was made in the folder that the way leads to.
+    pub(crate) fn add_new(&mut self) {
+        if let Some(has_new) = self.has_new.last_mut() {
+            *has_new = true;
+        }
+    }
+
+    /// Leaves all folders. Errors: one can't be synced, which is told of; memory is refused.
+    pub(crate) fn end<R: Files + AllocGlobal, P: Watch>(
+        &mut self,
+        rt: &R,
+        watch: &P,
+        dir: &str,
+    ) -> Result<(), Fault>
+        ensures fault { IfErr result IsCallFault }
+    {
+        self.go_back(rt, watch, dir, 0)?;
+        self.leave(rt, watch, dir)
+    }
+
+    /// Makes the first folder, where the way has not begun.
+    fn begin<R: Files + AllocGlobal, P: Watch>(
+        &mut self,
+        rt: &R,
+        watch: &P,
+        dir: &str,
+    ) -> Result<(), Fault>
+        ensures fault { IfErr result IsCallFault }
+    {
+        if !self.has_new.is_empty() {
+            return Ok(());
+        }
+        let made = make_folders(rt, dir).map_err(|_| Fault::Device);
+        told(rt.alloc(), watch, FileCall::Create, dir, made)?;
+        self.has_new.push(false)?;
+        Ok(())
+    }
+
+    /// How many folders the way to some folders begins with as the last one did.
+    fn shared_len(&self, folders: &[&str]) -> usize {
+        for (place, folder) in folders.iter().enumerate() {
+            match self.names.get(place) {
+                Some(name) if name.as_str() == *folder => {}
+                _ => return place,
+            }
+        }
+        folders.len()
+    }
+
+    /// Leaves the folders but for so many below the first one.
+    fn go_back<R: Files + AllocGlobal, P: Watch>(
+        &mut self,
+        rt: &R,
+        watch: &P,
+        dir: &str,
+        depth: usize,
+    ) -> Result<(), Fault>
+        ensures fault { IfErr result IsCallFault }
+    {
+        for _ in depth..self.names.len() {
+            self.leave(rt, watch, dir)?;
+        }
+        Ok(())
+    }
+
+    /// Goes into a folder, which is made where it is missing.
+    fn enter<R: Files + AllocGlobal, P: Watch>(
+        &mut self,
+        rt: &R,
+        watch: &P,
+        dir: &str,
+        name: &str,
+    ) -> Result<(), Fault>
+        ensures fault { IfErr result IsCallFault }
+    {
+        self.names.push(String::from_str(rt.alloc(), name)?)?;
+        let folder = found_path(rt.alloc(), dir, &self.names)?;
+        if was_made(rt, watch, folder.as_path())? {
+            self.add_new();
+        }
+        self.has_new.push(false)?;
+        Ok(())
+    }
+
+    /// Leaves the last folder, and syncs it where something was made in it.
+    fn leave<R: Files + AllocGlobal, P: Watch>(
+        &mut self,
+        rt: &R,
+        watch: &P,
+        dir: &str,
+    ) -> Result<(), Fault>
+        ensures fault { IfErr result IsCallFault }
+    {
+        let has_new = self.has_new.pop().unwrap_or(false);
+        if has_new {
+            let folder = found_path(rt.alloc(), dir, &self.names)?;
+            sync(rt, watch, folder.as_path())?;
+        }
+        self.names.pop();
+        Ok(())
+    }
+}
+
+/// Makes a folder, in one that is there, and gives whether it was missing. A fault is told of.
+fn was_made<R: Files + AllocGlobal, P: Watch>(
+    rt: &R,
+    watch: &P,
+    folder: Path<'_>,
+) -> Result<bool, Fault>
+    ensures fault { IfErr result IsCallFault }
+{
+    let made = match rt.create_dir(folder.as_str()) {
+        Ok(()) => Ok(true),
+        Err(_) if is_folder(rt, folder.as_str()) => Ok(false),
+        Err(_) => Err(Fault::Device),
+    };
+    told(rt.alloc(), watch, FileCall::Create, folder.as_str(), made)
+}
+
+fn is_folder<R: Files>(rt: &R, path: &str) -> bool {
+    match rt.metadata(path) {
+        Ok(metadata) => metadata.is_dir(),
+        Err(_) => false,
+    }
+}
+
+/// Has what was made in a folder kept. A fault is told of.
+fn sync<R: Files + AllocGlobal, P: Watch>(rt: &R, watch: &P, folder: Path<'_>) -> Result<(), Fault>
+    ensures fault { IfErr result IsCallFault }
+{
+    let synced = sync_folder(rt, folder.as_str()).map_err(|_| Fault::Device);
+    told(rt.alloc(), watch, FileCall::Sync, folder.as_str(), synced)
+}

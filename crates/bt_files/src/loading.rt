@@ -1,0 +1,41 @@
+//! The store of a torrent that is read from its file.
+ghost use Rattle.std.specs.Prelude.{IfErr, IfOk};
+ghost use Rattle.bt_check.specs.TorrentFile.{HasText, IsLoadFault};
+ghost use Rattle.bt_files.specs.Loading.{IsLoaded, IsStoreFault};
+
+use crate::device_context::DeviceContext;
+use crate::store::{Store, open_store};
+use bt_check::{BUFFER_LEN, Fault, Source, load_watched};
+use bt_meta::Torrent;
+use bt_progress::{FileCall, Watch};
+use std::rt::Files;
+
+/// Reads a torrent from its file, and opens the store of its files in a folder. The calls on the files are told.
+/// The first fault ends it.
+pub fn load_store<'a, R: Files + AllocGlobal + Clone + Drop, P: Watch>(
+    rt: &R,
+    watch: &'a P,
+    context: DeviceContext<'a>,
+    source: Source<'_>,
+    dir: &str,
+) -> Result<Store<'a, R, P>, Fault>
+    ensures loaded { IfOk result (IsLoaded source.entry.is_info context.entry.usage dir.now) }
+    ensures fault { IfErr result (IsStoreFault source.entry.is_info context.entry.usage) }
+{
+    let torrent = load_torrent(rt, watch, source)?;
+    watch.begin(FileCall::Read);
+    open_store(rt, watch, context, torrent, dir)
+}
+
+/// Reads a torrent from its file, which is read once: it may be a pipe.
+fn load_torrent<R: Files + AllocGlobal, P: Watch>(
+    rt: &R,
+    watch: &P,
+    source: Source<'_>,
+) -> Result<Torrent, Fault>
+    ensures torrent { IfOk result (HasText source.entry.is_info) }
+    ensures fault { IfErr result (IsLoadFault source.entry.is_info) }
+{
+    let mut buffer = [0; BUFFER_LEN];
+    load_watched(rt, watch, source, &mut buffer)
+}

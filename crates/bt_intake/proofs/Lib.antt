@@ -1,2 +1,0 @@
-pub mod Adoptions
-pub mod Waits

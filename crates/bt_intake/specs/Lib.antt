@@ -1,2 +1,0 @@
-pub mod Adoption
-pub mod Waiting
