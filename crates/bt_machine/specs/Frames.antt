@@ -8,9 +8,9 @@ use Rattle.bt_machine.specs.declared.answer.Frame.TheVariants.{Hello, Message}
 use Rattle.bt_machine.specs.declared.event.Event.{Event}
 use Rattle.bt_machine.specs.declared.event.Answer.{Answer}
 use Rattle.bt_machine.specs.State.{EngineState}
-use Rattle.bt_machine.specs.Devices.{DeviceCalls}
+use Rattle.bt_machine.specs.LogCalls.{EventCalls}
 use Rattle.bt_machine.specs.Output.{Sent}
-use Rattle.bt_machine.specs.Start.{Starts}
+use Rattle.bt_machine.specs.Opening.{Begins}
 use Rattle.bt_machine.specs.Step.{Step, Run}
 use Rattle.bt_machine.specs.Shape.{IsShaped}
 use Rattle.bt_machine.specs.Law.{sent_by}
@@ -27,14 +27,14 @@ AreSparseTrees dig s = (t : ℕ) (k : Facts) → slice_get s.trees t ≡ Some k 
 -- so are those of a lawful torrent's beginning
 abbrev pub StartsSparse : (List ℕ → List ℕ) → Type 0
 StartsSparse dig = (torrent : Metainfo) (first : EngineState)
-    → IsLawful torrent.piece_length torrent.files → Starts dig torrent first → AreSparseTrees dig first
+    → IsLawful torrent.piece_length torrent.files → Begins dig torrent first → AreSparseTrees dig first
 
 abbrev pub StepKeepsSparse : (List ℕ → List ℕ) → Type 0
-StepKeepsSparse dig = (old new : EngineState) (event : Event) (calls : DeviceCalls) (answer : Answer)
-    → Step dig old event calls answer new → AreSparseTrees dig old → AreSparseTrees dig new
+StepKeepsSparse dig = (old new : EngineState) (event : Event) (calls : EventCalls) (answer : Answer)
+    → IsLawful old.torrent.piece_length old.torrent.files → Step dig old event calls answer new → AreSparseTrees dig old → AreSparseTrees dig new
 
 abbrev pub StepSendsWhatFits : (List ℕ → List ℕ) → Type 0
-StepSendsWhatFits dig = (torrent : Metainfo) (old new : EngineState) (event : Event) (calls : DeviceCalls)
+StepSendsWhatFits dig = (torrent : Metainfo) (old new : EngineState) (event : Event) (calls : EventCalls)
     (answer : Answer) → IsLawful torrent.piece_length torrent.files → IsShaped torrent old
     → AreSparseTrees dig old → Step dig old event calls answer new
     → (sent : Sent) → Contains (sent_by answer) sent → CanBeWritten sent.1
@@ -42,7 +42,7 @@ StepSendsWhatFits dig = (torrent : Metainfo) (old new : EngineState) (event : Ev
 -- So it is of every event after any list of events from the start of a torrent.
 abbrev pub RunsSendWhatFits : (List ℕ → List ℕ) → Type 0
 RunsSendWhatFits dig = (torrent : Metainfo) (first last new : EngineState) (events : List Event)
-    (calls : List DeviceCalls) (answers : List Answer) (event : Event) (made : DeviceCalls) (answer : Answer)
-    → IsLawful torrent.piece_length torrent.files → Starts dig torrent first
+    (calls : List EventCalls) (answers : List Answer) (event : Event) (made : EventCalls) (answer : Answer)
+    → IsLawful torrent.piece_length torrent.files → Begins dig torrent first
     → Run dig first events calls answers last → Step dig last event made answer new
     → (sent : Sent) → Contains (sent_by answer) sent → CanBeWritten sent.1

@@ -1,5 +1,6 @@
--- Hints for a log, and how runs of marks are joined.
-use Rattle.std.specs.Prelude.{[], ℕ, ◌+◌, ◌==◌, ◌&&◌, if◌then◌else◌, Bool, false, List, ◌∷◌}
+-- Hints for a log: how runs of marks are joined, and which marks hints record.
+use Rattle.std.specs.Prelude.{[], ◌≡◌, ℕ, ◌+◌, ◌==◌, ◌&&◌, nat_le, nat_lt, if◌then◌else◌, ⊤, Bool, true, false, List, ◌∷◌, ◌++◌, map, flat_map}
+use Rattle.std.specs.List.{list_any, range_with_len}
 use Rattle.bt_hashreq.specs.declared.key.HashKey.{HashKey}
 use Rattle.bt_book.specs.declared.names.BlockId.{BlockId}
 pub use Rattle.bt_resume.specs.declared.hint.Hint.{Hint}
@@ -34,3 +35,41 @@ add_hint (first ∷ next ∷ hints) hint = first ∷ add_hint (next ∷ hints) h
 abbrev pub add_hints : List Hint → List Hint → List Hint
 add_hints hints [] = hints
 add_hints hints (hint ∷ more) = add_hints (add_hint hints hint) more
+
+-- ---- what they record
+
+abbrev pub records : Hint → BlockId → Bool
+records (Marks file first count) b =
+    file == b.file && (nat_le first b.block && nat_lt b.block (first + count))
+records (Proof key digests) b = false
+
+-- a run among the hints has a mark of this block
+abbrev pub is_recorded : List Hint → BlockId → Bool
+is_recorded hints b = list_any (λ hint. records hint b) hints
+
+-- ---- runs as long as may be
+
+-- the marks of a run, one by one
+abbrev pub single_hints : Hint → List Hint
+single_hints (Marks file first count) = map (λ block. Marks file block 1) (range_with_len first count)
+single_hints (Proof key digests) = Proof key digests ∷ []
+
+-- no run goes on in the hint behind it
+abbrev pub AreApart : List Hint → Type 0
+AreApart [] = ⊤
+AreApart (hint ∷ []) = ⊤
+AreApart (hint ∷ next ∷ hints) = (continues hint next ≡ false) × AreApart (next ∷ hints)
+
+-- ---- laws
+
+-- What is recorded stays so with more hints, which record what they record by themselves.
+abbrev pub HintsStayRecorded : Type 0
+HintsStayRecorded = (hints more : List Hint) (b : BlockId)
+    → (is_recorded hints b ≡ true → is_recorded (add_hints hints more) b ≡ true)
+    × (is_recorded more b ≡ true → is_recorded (add_hints hints more) b ≡ true)
+
+-- Joined hints say the same in the same order, and each longest sequence of marks that follow each other is one
+-- run.
+abbrev pub JoinedRunsAreLongest : Type 0
+JoinedRunsAreLongest = (hints more : List Hint) → AreApart hints → AreApart (add_hints hints more)
+    × (flat_map single_hints (add_hints hints more) ≡ flat_map single_hints hints ++ flat_map single_hints more)

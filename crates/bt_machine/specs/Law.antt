@@ -1,5 +1,5 @@
 -- What follows from the steps of an engine, whatever the peers send and the devices answer.
-use Rattle.std.specs.Prelude.{[], ◌≡◌, ◌≢◌, ℕ, ◌+◌, ◌*◌, ◌<◌, ◌≤◌, ◌⊎◌, List, ◌∷◌, ◌++◌, false, length, Some, None, Ok, Err, slice_get, Contains}
+use Rattle.std.specs.Prelude.{[], ◌≡◌, ◌≢◌, ℕ, ◌+◌, ◌*◌, ◌<◌, ◌≤◌, ◌⊎◌, List, ◌∷◌, ◌++◌, true, false, length, Some, None, Ok, Err, slice_get, Contains}
 use Rattle.bt_tree.specs.Limits.{full_block_length}
 use Rattle.bt_disk.specs.Calls.{bytes_written}
 use Rattle.bt_sparse.specs.SparseTree.{Facts, blocks_of, held_at, IsRooted, IsChecked}
@@ -17,19 +17,21 @@ use Rattle.bt_wire.specs.declared.event.WireEvent.TheVariants.{Message}
 use Rattle.bt_wire.specs.declared.message.Ask.{Ask}
 use Rattle.bt_meta.specs.Place.{IsPlace}
 use Rattle.bt_meta.specs.Torrent.{Metainfo, IsLawful}
-use Rattle.bt_machine.specs.Start.{Starts}
 use Rattle.bt_meta.specs.declared.torrent.Span.{Span}
 use Rattle.bt_machine.specs.declared.answer.Frame.TheVariants.{Message as message_frame}
 use Rattle.bt_machine.specs.Output.{Sent}
 use Rattle.bt_machine.specs.declared.event.Event.{Event}
-use Rattle.bt_machine.specs.declared.event.Event.TheVariants.{Next, Adopt}
-use Rattle.bt_machine.specs.State.{PeerState, FileState, EngineState}
+use Rattle.bt_machine.specs.declared.event.Event.TheVariants.{Next, Adopt, Restart}
+use Rattle.bt_machine.specs.State.{PeerState, FileState, EngineState, Hint}
+use Rattle.bt_machine.specs.Hints.{is_recorded}
 use Rattle.bt_machine.specs.Devices.{DeviceCalls}
+use Rattle.bt_machine.specs.LogCalls.{EventCalls}
 use Rattle.bt_machine.specs.Blocks.{state_at, tree_of}
 use Rattle.bt_machine.specs.Spans.{IsRangeOf, spanned_blocks, cut_from}
 use Rattle.bt_machine.specs.Next.{IsPeer}
 use Rattle.bt_machine.specs.declared.event.Answer.{Answer}
-use Rattle.bt_machine.specs.declared.event.Answer.TheVariants.{Connected, Fed, Stepped, Lost as LostAnswer, Rechoked, Adopted as AdoptedAnswer, Flushed}
+use Rattle.bt_machine.specs.declared.event.Answer.TheVariants.{Connected, Fed, Stepped, Lost as LostAnswer, Rechoked, Adopted as AdoptedAnswer, Flushed, Restarted}
+use Rattle.bt_machine.specs.Opening.{StartsWith, Begins}
 use Rattle.bt_machine.specs.Step.{Step, Run}
 
 -- ---- trees
@@ -41,10 +43,11 @@ AreRooted dig s = (t : ℕ) (k : Facts) → slice_get s.trees t ≡ Some k → I
 -- so are those of a lawful torrent's beginning
 abbrev pub StartsRooted : (List ℕ → List ℕ) → Type 0
 StartsRooted dig = (torrent : Metainfo) (first : EngineState)
-    → IsLawful torrent.piece_length torrent.files → Starts dig torrent first → AreRooted dig first
+    → IsLawful torrent.piece_length torrent.files → Begins dig torrent first → AreRooted dig first
 
 abbrev pub StepKeepsRooted : (List ℕ → List ℕ) → Type 0
-StepKeepsRooted dig = (old new : EngineState) (event : Event) (calls : DeviceCalls) (answer : Answer)
+StepKeepsRooted dig = (old new : EngineState) (event : Event) (calls : EventCalls) (answer : Answer)
+    → IsLawful old.torrent.piece_length old.torrent.files
     → Step dig old event calls answer new → AreRooted dig old → AreRooted dig new
 
 -- every digest that a tree holds lies on a checked path to its root
@@ -55,8 +58,8 @@ AreChecked dig s = (t : ℕ) (k : Facts) → slice_get s.trees t ≡ Some k
 -- So it is of every engine that events lead to from the start of a torrent.
 abbrev pub RunsAreChecked : (List ℕ → List ℕ) → Type 0
 RunsAreChecked dig = (torrent : Metainfo) (first last : EngineState)
-    (events : List Event) (calls : List DeviceCalls) (answers : List Answer)
-    → IsLawful torrent.piece_length torrent.files → Starts dig torrent first
+    (events : List Event) (calls : List EventCalls) (answers : List Answer)
+    → IsLawful torrent.piece_length torrent.files → Begins dig torrent first
     → Run dig first events calls answers last → AreRooted dig last × AreChecked dig last
 
 -- Right bytes of a block lie on a checked path too: their digest is that of the leaf.
@@ -145,44 +148,62 @@ pub record IsFound (dig : List ℕ → List ℕ) (event : Event) (calls : Device
   pub read : Contains calls (b.file, call_of tree.file_length (given b.block bytes))
   pub right : IsRight dig tree b.block bytes
 
+-- A block that the log records was read as all was begun anew from it. Its digest is the leaf that its tree
+-- has then.
+pub record IsRecovered (dig : List ℕ → List ℕ) (calls : DeviceCalls) (new : EngineState) (b : BlockId)
+    : Type 0 where
+  pub tree : Facts
+  pub bytes : List ℕ
+  pub recorded : is_recorded new.hints b ≡ true
+  pub has_tree : tree_of new b.file ≡ Some tree
+  pub read : Contains calls (b.file, call_of tree.file_length (given b.block bytes))
+  pub right : IsRight dig tree b.block bytes
+
 -- how a block becomes marked
 pub data IsMarkedBy (dig : List ℕ → List ℕ) (old : EngineState) (event : Event) (calls : DeviceCalls)
     (new : EngineState) (b : BlockId) : Type 0 where
   brought : IsBrought dig old event calls new b → IsMarkedBy dig old event calls new b
   read_back : IsReadBack dig old event calls new b → IsMarkedBy dig old event calls new b
   found : IsFound dig event calls new b → IsMarkedBy dig old event calls new b
+  recovered : event ≡ Restart → IsRecovered dig calls new b → IsMarkedBy dig old event calls new b
 
 -- it becomes so in no other way
 abbrev pub StepMarksByBytes : (List ℕ → List ℕ) → Type 0
-StepMarksByBytes dig = (old new : EngineState) (event : Event) (calls : DeviceCalls) (answer : Answer)
+StepMarksByBytes dig = (old new : EngineState) (event : Event) (calls : EventCalls) (answer : Answer)
     → Step dig old event calls answer new
     → (b : BlockId) → state_at new b ≡ Some Marked → state_at old b ≢ Some Marked
-    → IsMarkedBy dig old event calls new b
+    → IsMarkedBy dig old event calls.devices new b
+
+-- and each block that is marked when an engine is started with a log was read then
+abbrev pub StartMarksByBytes : (List ℕ → List ℕ) → Type 0
+StartMarksByBytes dig = (torrent : Metainfo) (hints : List Hint) (calls : DeviceCalls) (new : EngineState)
+    → StartsWith dig torrent hints calls new → (b : BlockId) → state_at new b ≡ Some Marked
+    → IsRecovered dig calls new b
 
 -- Of a run that answers so, at the event of this one answer: this is so of the step there, of the engine
 -- before it, the event, the calls of devices and the engine after it. The run came to it with the answers
 -- before, and goes on from it with those after.
 pub record IsSoAt (dig : List ℕ → List ℕ) (first : EngineState) (events : List Event)
-    (calls : List DeviceCalls) (before : List Answer) (answer : Answer) (after : List Answer)
+    (calls : List EventCalls) (before : List Answer) (answer : Answer) (after : List Answer)
     (last : EngineState) (P : EngineState → Event → DeviceCalls → EngineState → Type 0) : Type 0 where
   pub events_before : List Event
-  pub calls_before : List DeviceCalls
+  pub calls_before : List EventCalls
   pub old : EngineState
   pub event : Event
-  pub calls_then : DeviceCalls
+  pub calls_then : EventCalls
   pub new : EngineState
   pub events_after : List Event
-  pub calls_after : List DeviceCalls
+  pub calls_after : List EventCalls
   pub events_are : events ≡ events_before ++ event ∷ events_after
   pub calls_are : calls ≡ calls_before ++ calls_then ∷ calls_after
   pub run : Run dig first events_before calls_before before old
   pub step : Step dig old event calls_then answer new
   pub goes_on : Run dig new events_after calls_after after last
-  pub is_so : P old event calls_then new
+  pub is_so : P old event calls_then.devices new
 
 -- the block became marked at one of the events of a run
 pub record IsMarkedIn (dig : List ℕ → List ℕ) (first : EngineState) (events : List Event)
-    (calls : List DeviceCalls) (answers : List Answer) (last : EngineState) (b : BlockId) : Type 0 where
+    (calls : List EventCalls) (answers : List Answer) (last : EngineState) (b : BlockId) : Type 0 where
   pub before : List Answer
   pub answer : Answer
   pub after : List Answer
@@ -192,7 +213,7 @@ pub record IsMarkedIn (dig : List ℕ → List ℕ) (first : EngineState) (event
 
 abbrev pub RunMarksByBytes : (List ℕ → List ℕ) → Type 0
 RunMarksByBytes dig =
-    (old new : EngineState) (events : List Event) (calls : List DeviceCalls) (answers : List Answer)
+    (old new : EngineState) (events : List Event) (calls : List EventCalls) (answers : List Answer)
     → Run dig old events calls answers new
     → (b : BlockId) → state_at new b ≡ Some Marked → state_at old b ≢ Some Marked
     → IsMarkedIn dig old events calls answers new b
@@ -212,6 +233,7 @@ sent_by (Rechoked (Ok out)) = out.send
 sent_by (Rechoked (Err _)) = []
 sent_by (AdoptedAnswer _) = []
 sent_by (Flushed _) = []
+sent_by (Restarted _) = []
 
 -- A peer that we do not choke asked for bytes of a piece in this event. Each block that they lie in was read
 -- in it, whole and with the digest of its leaf, and these are the bytes asked for, cut from the blocks.
@@ -239,15 +261,15 @@ pub record IsServed (dig : List ℕ → List ℕ) (old : EngineState) (event : E
 
 -- no other data is sent
 abbrev pub StepSendsReadBytes : (List ℕ → List ℕ) → Type 0
-StepSendsReadBytes dig = (old new : EngineState) (event : Event) (calls : DeviceCalls) (answer : Answer)
+StepSendsReadBytes dig = (old new : EngineState) (event : Event) (calls : EventCalls) (answer : Answer)
     → Step dig old event calls answer new
     → (key : PeerKey) (piece begin : ℕ) (bytes : List ℕ)
     → Contains (sent_by answer) (key, message_frame (Piece piece begin bytes))
-    → IsServed dig old event calls key piece begin bytes
+    → IsServed dig old event calls.devices key piece begin bytes
 
 -- nor by any answer of a run: what one sends was read at its own event
 abbrev pub RunSendsReadBytes : (List ℕ → List ℕ) → Type 0
-RunSendsReadBytes dig = (old new : EngineState) (events : List Event) (calls : List DeviceCalls)
+RunSendsReadBytes dig = (old new : EngineState) (events : List Event) (calls : List EventCalls)
     (before : List Answer) (answer : Answer) (after : List Answer)
     → Run dig old events calls (before ++ answer ∷ after) new
     → (key : PeerKey) (piece begin : ℕ) (bytes : List ℕ)

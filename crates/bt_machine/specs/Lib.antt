@@ -2,6 +2,7 @@
 pub mod Hints
 pub mod State
 pub mod Devices
+pub mod LogCalls
 pub mod Blocks
 pub mod Output
 -- wire events
@@ -19,6 +20,9 @@ pub mod Rechoke
 pub mod Adopting
 pub mod Flush
 pub mod Start
+pub mod Recovery
+pub mod Opening
+pub mod Restart
 pub mod Step
 pub mod Report
 -- laws
@@ -37,3 +41,5 @@ pub mod View
 pub mod DeviceLaw
 pub mod Changes
 pub mod Frames
+pub mod Backing
+pub mod Reopening

@@ -7,9 +7,9 @@ use Rattle.bt_book.specs.declared.names.BlockId.{BlockId}
 use Rattle.bt_book.specs.Book.{max_peers, max_requests, max_askers}
 use Rattle.bt_machine.specs.declared.event.Event.{Event}
 use Rattle.bt_machine.specs.State.{PeerState, EngineState}
-use Rattle.bt_machine.specs.Devices.{DeviceCalls}
+use Rattle.bt_machine.specs.LogCalls.{EventCalls}
 use Rattle.bt_machine.specs.Blocks.{state_at, asker_count}
-use Rattle.bt_machine.specs.Start.{Starts}
+use Rattle.bt_machine.specs.Opening.{Begins}
 use Rattle.bt_machine.specs.declared.event.Answer.{Answer}
 use Rattle.bt_machine.specs.Step.{Step, Run}
 
@@ -31,14 +31,14 @@ pub record IsOrderly (s : EngineState) : Type 0 where
   pub each : (p : PeerState) → Contains s.peers p → IsOrderlyPeer s p
 
 abbrev pub StartsInOrder : (List ℕ → List ℕ) → Type 0
-StartsInOrder dig = (torrent : Metainfo) (first : EngineState) → Starts dig torrent first → IsOrderly first
+StartsInOrder dig = (torrent : Metainfo) (first : EngineState) → Begins dig torrent first → IsOrderly first
 
 abbrev pub StepKeepsOrder : (List ℕ → List ℕ) → Type 0
-StepKeepsOrder dig = (old new : EngineState) (event : Event) (calls : DeviceCalls) (answer : Answer)
+StepKeepsOrder dig = (old new : EngineState) (event : Event) (calls : EventCalls) (answer : Answer)
     → Step dig old event calls answer new → IsOrderly old → IsOrderly new
 
 -- So it is of every engine that events lead to from the start of a torrent.
 abbrev pub RunsAreOrderly : (List ℕ → List ℕ) → Type 0
 RunsAreOrderly dig = (torrent : Metainfo) (first last : EngineState)
-    (events : List Event) (calls : List DeviceCalls) (answers : List Answer)
-    → Starts dig torrent first → Run dig first events calls answers last → IsOrderly last
+    (events : List Event) (calls : List EventCalls) (answers : List Answer)
+    → Begins dig torrent first → Run dig first events calls answers last → IsOrderly last

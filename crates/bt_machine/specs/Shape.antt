@@ -1,4 +1,4 @@
--- What stays over all events: the torrent, which trees and files there are, and that there is no log.
+-- What stays over all events: the torrent, which trees and files there are, and whether there is a log.
 use Rattle.std.specs.Prelude.{[], ◌≡◌, ◌≢◌, ℕ, ◌<◌, false, List, length, Some, slice_get}
 use Rattle.std.specs.List.{AllPairs}
 use Rattle.bt_tree.specs.Blocks.{block_count}
@@ -7,8 +7,8 @@ use Rattle.bt_meta.specs.Torrent.{Metainfo}
 use Rattle.bt_sparse.specs.SparseTree.{Facts}
 use Rattle.bt_machine.specs.declared.event.Event.{Event}
 use Rattle.bt_machine.specs.State.{FileState, EngineState}
-use Rattle.bt_machine.specs.Devices.{DeviceCalls}
-use Rattle.bt_machine.specs.Start.{Starts}
+use Rattle.bt_machine.specs.LogCalls.{EventCalls}
+use Rattle.bt_machine.specs.Opening.{Begins}
 use Rattle.bt_machine.specs.declared.event.Answer.{Answer}
 use Rattle.bt_machine.specs.Step.{Step, Run}
 
@@ -28,10 +28,10 @@ pub record IsShaped (torrent : Metainfo) (s : EngineState) : Type 0 where
 
 abbrev pub StartsInShape : (List ℕ → List ℕ) → Type 0
 StartsInShape dig =
-    (torrent : Metainfo) (first : EngineState) → Starts dig torrent first → IsShaped torrent first
+    (torrent : Metainfo) (first : EngineState) → Begins dig torrent first → IsShaped torrent first
 
 abbrev pub StepKeepsShape : (List ℕ → List ℕ) → Type 0
-StepKeepsShape dig = (torrent : Metainfo) (old new : EngineState) (event : Event) (calls : DeviceCalls)
+StepKeepsShape dig = (torrent : Metainfo) (old new : EngineState) (event : Event) (calls : EventCalls)
     (answer : Answer) → IsShaped torrent old → Step dig old event calls answer new → IsShaped torrent new
 
 -- a file of the new engine is one of the old, with the tree that it had
@@ -48,22 +48,21 @@ pub record HasNewTree (new : EngineState) (t : ℕ) (k : Facts) : Type 0 where
 
 -- So it is over each event, of any engine.
 pub record StepKeepsFiles (dig : List ℕ → List ℕ) : Type 0 where
-  pub files : (old new : EngineState) (event : Event) (calls : DeviceCalls) (answer : Answer)
+  pub files : (old new : EngineState) (event : Event) (calls : EventCalls) (answer : Answer)
       → Step dig old event calls answer new
       → (i : ℕ) (f : FileState) → slice_get new.files i ≡ Some f → HasOldTree old i f
-  pub trees : (old new : EngineState) (event : Event) (calls : DeviceCalls) (answer : Answer)
+  pub trees : (old new : EngineState) (event : Event) (calls : EventCalls) (answer : Answer)
       → Step dig old event calls answer new
       → (t : ℕ) (k : Facts) → slice_get old.trees t ≡ Some k → HasNewTree new t k
 
--- there is no log, no hint from one, and none that is to be written
-pub record HasNoLog (s : EngineState) : Type 0 where
-  pub none : s.logged ≡ false
-  pub read : s.hints ≡ []
-  pub written : s.pending ≡ []
+-- without a log there is no hint from one, and none that is to be written
+pub record HasHintsOfLog (s : EngineState) : Type 0 where
+  pub read : s.logged ≡ false → s.hints ≡ []
+  pub written : s.logged ≡ false → s.pending ≡ []
 
 -- After any list of events from the start of a torrent this is so.
 abbrev pub RunsKeepShape : (List ℕ → List ℕ) → Type 0
 RunsKeepShape dig = (torrent : Metainfo) (first last : EngineState)
-    (events : List Event) (calls : List DeviceCalls) (answers : List Answer)
-    → Starts dig torrent first → Run dig first events calls answers last
-    → IsShaped torrent last × HasNoLog last
+    (events : List Event) (calls : List EventCalls) (answers : List Answer)
+    → Begins dig torrent first → Run dig first events calls answers last
+    → IsShaped torrent last × HasHintsOfLog last × (last.logged ≡ first.logged)

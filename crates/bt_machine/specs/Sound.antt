@@ -4,13 +4,15 @@ use Rattle.bt_disk.specs.History.{History}
 use Rattle.bt_sparse.specs.SparseTree.{Facts, blocks_of}
 use Rattle.bt_store.specs.declared.block_states.BlockState.TheVariants.{Marked}
 use Rattle.bt_machine.specs.declared.event.Event.{Event}
-use Rattle.bt_machine.specs.State.{FileState, EngineState}
-use Rattle.bt_machine.specs.Devices.{DeviceCalls, HaveCalls}
+use Rattle.bt_resume.specs.ResumeLog.{LogView}
+use Rattle.bt_machine.specs.State.{FileState, EngineState, EngineView}
+use Rattle.bt_machine.specs.Devices.{HaveCalls}
+use Rattle.bt_machine.specs.LogCalls.{EventCalls}
 use Rattle.bt_machine.specs.Request.{IsFile}
 use Rattle.bt_machine.specs.Stored.{AreRight, HasFile}
 use Rattle.bt_meta.specs.Torrent.{Metainfo}
 use Rattle.bt_machine.specs.Law.{AreRooted}
-use Rattle.bt_machine.specs.Start.{Starts}
+use Rattle.bt_machine.specs.Opening.{BeginsOn}
 use Rattle.bt_machine.specs.declared.event.Answer.{Answer}
 use Rattle.bt_machine.specs.Step.{Step}
 
@@ -20,26 +22,28 @@ abbrev pub IsSound : {D : Type 0} → (D → History) → (D → Type 0) → (Li
 IsSound {D} history honest dig s disks = (file : ℕ) (f : FileState) (k : Facts) (d : D) → IsFile s file f k
     → slice_get disks file ≡ Some (Some d) → honest d → AreRight dig k (history d).now.bytes f.states
 
--- It is so at the beginning, since no block is marked,
-abbrev pub StartsSound : {D : Type 0} → (D → History) → (D → Type 0) → (List ℕ → List ℕ) → Type 0
-StartsSound {D} history honest dig = (torrent : Metainfo) (first : EngineState) (disks : List (Option D))
-    → Starts dig torrent first → IsSound history honest dig first disks
+-- It is so at the beginning: without a log no block is marked, and with one each was read,
+abbrev pub StartsSound : {D : Type 0} → (D → History) → (D → Type 0) → (D → ℕ) → (List ℕ → List ℕ) → Type 0
+StartsSound {D} history honest faults dig = (torrent : Metainfo) (given : List (Option D))
+    (log : Option (LogView D)) (first : EngineView D)
+    → BeginsOn history honest faults dig torrent given log first
+    → IsSound history honest dig first.state first.disks
 
 -- and each event keeps it so, whatever the devices answer.
 abbrev pub StepKeepsSound : {D : Type 0} → (D → History) → (D → Type 0) → (D → ℕ) → (List ℕ → List ℕ) → Type 0
-StepKeepsSound {D} history honest faults dig = (old new : EngineState) (event : Event) (calls : DeviceCalls)
+StepKeepsSound {D} history honest faults dig = (old new : EngineState) (event : Event) (calls : EventCalls)
     (answer : Answer) (disks after : List (Option D))
-    → Step dig old event calls answer new → HaveCalls history honest faults disks calls after
+    → Step dig old event calls answer new → HaveCalls history honest faults disks calls.devices after
     → IsSound history honest dig old disks → IsSound history honest dig new after
 
 -- A list of events, one step after the other, with the devices that its calls were made of.
 abbrev pub RunOn : {D : Type 0} → (D → History) → (D → Type 0) → (D → ℕ) → (List ℕ → List ℕ)
-    → EngineState → List (Option D) → List Event → List DeviceCalls → List Answer
+    → EngineState → List (Option D) → List Event → List EventCalls → List Answer
     → EngineState → List (Option D) → Type 0
 RunOn {D} history honest faults dig old disks [] [] [] new after = (new ≡ old) × (after ≡ disks)
 RunOn {D} history honest faults dig old disks (event ∷ events) (calls ∷ more) (answer ∷ answers) new after =
     (next : EngineState) × (between : List (Option D))
-    × Step dig old event calls answer next × HaveCalls history honest faults disks calls between
+    × Step dig old event calls answer next × HaveCalls history honest faults disks calls.devices between
     × RunOn history honest faults dig next between events more answers new after
 RunOn {D} history honest faults dig old disks _ _ _ new after = ⊥
 
@@ -47,7 +51,7 @@ RunOn {D} history honest faults dig old disks _ _ _ new after = ⊥
 abbrev pub HonestDevicesWereSo : {D : Type 0} → (D → History) → (D → Type 0) → (D → ℕ) → (List ℕ → List ℕ)
     → Type 0
 HonestDevicesWereSo {D} history honest faults dig = (old new : EngineState) (events : List Event)
-    (calls : List DeviceCalls) (answers : List Answer) (disks after : List (Option D)) (file : ℕ) (e : D)
+    (calls : List EventCalls) (answers : List Answer) (disks after : List (Option D)) (file : ℕ) (e : D)
     → RunOn history honest faults dig old disks events calls answers new after
     → slice_get after file ≡ Some (Some e) → honest e
     → (d : D) × (slice_get disks file ≡ Some (Some d)) × honest d

@@ -2,6 +2,7 @@
 use Rattle.std.specs.Prelude.{ℕ, Bool, List, Option}
 use Rattle.bt_meta.specs.Torrent.{Metainfo}
 use Rattle.bt_sparse.specs.SparseTree.{Facts}
+use Rattle.bt_resume.specs.ResumeLog.{LogView}
 use Rattle.bt_store.specs.declared.block_states.BlockState.{BlockState}
 use Rattle.bt_book.specs.declared.names.PeerKey.{PeerKey}
 use Rattle.bt_book.specs.declared.names.BlockId.{BlockId}
@@ -43,7 +44,8 @@ pub record EngineState : Type 0 where
   pub pending : List Hint
   pub hints : List Hint
 
--- an engine with its devices, one for each file that has a block
+-- an engine with its devices, one for each file that has a block, and its log
 pub record EngineView (D : Type 0) : Type 0 where
   pub state : EngineState
   pub disks : List (Option D)
+  pub log : Option (LogView D)

@@ -26,7 +26,7 @@ pub fn starts_keep_laws<D: Disk, H: NodeHash>(hash: H)
     ensures orderly { StartsInOrder H.digest }
     ensures rooted { StartsRooted H.digest }
     ensures sparse { StartsSparse H.digest }
-    ensures sound { StartsSound D.history D.honest H.digest }
+    ensures sound { StartsSound D.history D.honest D.faults H.digest }
 {
     layers_are_sound(hash);
     roots_are_sound(hash);

@@ -8,10 +8,13 @@ mod error;
 mod event;
 mod hash_state;
 mod law;
+mod log_law;
 mod report;
 
 pub use answer::{Frame, Note, Output, Why};
-pub use error::{AdoptError, ConnectError, EngineError, FlushError, StartError, StartRefused};
+pub use error::{
+    AdoptError, ConnectError, EngineError, FlushError, RestartError, StartError, StartRefused,
+};
 pub use event::{Answer, Event};
 pub use hash_state::HashState;
 pub use law::{
@@ -21,5 +24,9 @@ pub use law::{
     run_marks_by_bytes, run_sends_read_bytes, runs_are_checked, runs_are_orderly, runs_compose,
     runs_keep_flushed_blocks, runs_keep_shape, starts_keep_laws, step_marks_by_bytes,
     step_unmarks_by_bytes, step_writes_missing, steps_keep_laws, whole_pieces_are_marked,
+};
+pub use log_law::{
+    backed_blocks_are_marked_again, group_proofs_follow, hints_lead_trees, hints_record_marks,
+    logs_stand,
 };
 pub use report::FileReport;
