@@ -50,5 +50,5 @@ module _ {D : Type 0} (history : D → History) (honest : D → Type 0) (faults 
       let d = have.each file e there in
       let honest_before = d.2.as_honest.1 honest_now in
       let inside : j < block_length k.file_length i = (let lt = some_below bytes j at in omega arith) in
-      let spares = all_of _ _ (λ c among. step_spares i j (step_touches dig old new event calls _ step) is present inside (of_all calls among)) in
+      let spares = all_of _ _ (λ c among. step_spares i j (step_touches dig old new event calls _ step) is present inside (of_all calls.devices among)) in
       calls_keep (history d.0) (history e) (calls_of file calls.devices) t (16384 * i + j) byte (reads d.0 honest_before) (d.2.answered honest_before) spares (kept d.0 d.1 j byte at)

@@ -38,7 +38,7 @@ restart_is (restarts hints reads recovers places x) = anew hints (no_hints reads
 restart_is (unread cause logged made x e) = as_before (λ unlogged. absurd cc) (ap (λ c. c.devices) made) (rw e refl)
 restart_is {s} {new} (no_memory hints reads made x e) =
     let is : new.hints ≡ hints = ap (λ z. z.hints) e in
-    as_before (λ unlogged old. is ∙ no_hints reads unlogged) made (rw is e)
+    as_before (λ unlogged old. is ∙ no_hints reads unlogged) made (e ∙ ap (λ hs. record s { hints = hs }) (sym is))
 
 -- ---- trees
 
@@ -80,7 +80,7 @@ module _ (dig : Digest) where
   files_restored hints (file ∷ files) s new calls r =
       let one = file_restored r.3 in
       let more = files_restored hints files r.0 new r.2 r.4 in
-      record { is = more.is ∙ ap (λ z. record z { files = new.files }) one.is; count = more.count ∙ one.count }
+      record { is = more.is ∙ ap (λ (z : EngineState). record z { files = new.files }) one.is; count = more.count ∙ one.count }
 
   -- the engine before its files are restored
   abbrev pub begun : {s new : EngineState} {hints : List Hint} {calls : DeviceCalls} → Recovers dig s hints calls new → EngineState

@@ -131,12 +131,12 @@ module _ (dig : Digest) (P : Facts → Type 0)
   abbrev IsOfLawful : EngineState → Type 0
   IsOfLawful s = IsLawful s.torrent.piece_length s.torrent.files
 
-  anew_trees : {s new hints calls : _} → IsOfLawful s → Recovers dig s hints calls new → AllTrees new
+  anew_trees : {s new : EngineState} {hints calls : _} → IsOfLawful s → Recovers dig s hints calls new → AllTrees new
   anew_trees {s} {hints = hints} lawful r t k at =
       let base = has_base dig r t k at in
       hints_keep dig P by_proof hints base.base k base.takes (by_torrent s.torrent lawful base.base base.says)
 
-  restart_keep : {s new calls : _} → IsOfLawful s → IsRestart dig s calls new → AllTrees s → AllTrees new
+  restart_keep : {s new : EngineState} {calls : _} → IsOfLawful s → IsRestart dig s calls new → AllTrees s → AllTrees new
   restart_keep lawful (anew hints none recovers places) r = anew_trees lawful recovers
   restart_keep lawful (hints_alone none made e) r = as_before e r
 
@@ -153,16 +153,16 @@ module _ (dig : Digest) (P : Facts → Type 0)
   run_trees : (s new es calls answers : _) → IsOfLawful s → Run dig s es calls answers new → AllTrees s → AllTrees new
   run_trees s new [] [] [] lawful run r = as_before run r
   run_trees s new (e ∷ es) (c ∷ calls) (a ∷ answers) lawful run r =
-      let same = step_torrent dig e c a run.1 in
+      let same = step_torrent dig s run.0 e c a run.1 in
       run_trees run.0 new es calls answers (rw same lawful) run.2 (step_trees s run.0 e c a lawful run.1 r)
   run_trees s new _ _ _ lawful run r = absurd run
 
   -- from the start of a torrent
-  first_trees : {torrent s : _} → IsLawful torrent.piece_length torrent.files → Begins dig torrent s → AllTrees s
+  first_trees : {torrent : Metainfo} {s : EngineState} → IsLawful torrent.piece_length torrent.files → Begins dig torrent s → AllTrees s
   first_trees {torrent} lawful (bare starts) t k at = by_torrent torrent lawful k (starts.is_new.each_tree t k at)
-  first_trees lawful (with_log hints calls starts) = anew_trees lawful starts
+  first_trees lawful (with_log hints calls starts) t k at = anew_trees lawful starts t k at
 
-  from_first : {torrent s : _} (new es calls answers : _) → IsLawful torrent.piece_length torrent.files → Begins dig torrent s → Run dig s es calls answers new → AllTrees new
+  from_first : {torrent : Metainfo} {s : EngineState} (new es calls answers : _) → IsLawful torrent.piece_length torrent.files → Begins dig torrent s → Run dig s es calls answers new → AllTrees new
   from_first new es calls answers lawful begins run =
       run_trees _ new es calls answers (rw (torrent_at_first dig begins) lawful) run (first_trees lawful begins)
 
@@ -191,7 +191,7 @@ module _ (dig : Digest) (keeps : KeepsRooted dig) (layers : LayersAreSound dig) 
   pub start_rooted : StartsRooted dig
   start_rooted torrent first lawful begins = first_trees dig (IsRooted dig) key_rooted (group_rooted dig keeps) proof_rooted torrent_rooted lawful begins
 
-  pub run_rooted : {torrent s : _} (new es calls answers : _) → IsLawful torrent.piece_length torrent.files → Begins dig torrent s → Run dig s es calls answers new
+  pub run_rooted : {torrent : Metainfo} {s : EngineState} (new es calls answers : _) → IsLawful torrent.piece_length torrent.files → Begins dig torrent s → Run dig s es calls answers new
       → AreRooted dig new
   run_rooted = from_first dig (IsRooted dig) key_rooted (group_rooted dig keeps) proof_rooted torrent_rooted
 
@@ -205,7 +205,7 @@ module _ (dig : Digest) (keeps : KeepsRooted dig) (layers : LayersAreSound dig) 
     start_sparse torrent first lawful begins =
         first_trees dig (IsSound dig) (key_sound dig is keeps) (group_sound dig is keeps) (proof_sound dig is keeps) (torrent_sound layers roots) lawful begins
 
-    pub run_sparse : {torrent s : _} (new es calls answers : _) → IsLawful torrent.piece_length torrent.files → Begins dig torrent s → Run dig s es calls answers new
+    pub run_sparse : {torrent : Metainfo} {s : EngineState} (new es calls answers : _) → IsLawful torrent.piece_length torrent.files → Begins dig torrent s → Run dig s es calls answers new
         → AreSparseTrees dig new
     run_sparse = from_first dig (IsSound dig) (key_sound dig is keeps) (group_sound dig is keeps) (proof_sound dig is keeps) (torrent_sound layers roots)
 

@@ -332,12 +332,12 @@ module _ (dig : Digest) where
   file_restored {file = file} (restored f k rs is some order made e) =
       keeps_then (file_keeps file _ is.here refl (length-judged dig k false rs f.states)) (is_same e)
 
-  files_restored : (hints : _) (files : List ℕ) {s new calls : _} → RestoresFiles dig hints files s calls new → Keeps s new
-  files_restored hints [] r = is_same r.1
-  files_restored hints (file ∷ files) r = keeps_then (file_restored r.3) (files_restored hints files r.4)
+  files_restored : (hints : _) (files : List ℕ) {s new : _} (calls : _) → RestoresFiles dig hints files s calls new → Keeps s new
+  files_restored hints [] calls r = is_same r.1
+  files_restored hints (file ∷ files) calls r = keeps_then (file_restored r.3) (files_restored hints files r.2 r.4)
 
   anew_keeps : {s new hints calls : _} (r : Recovers dig s hints calls new) → Keeps (begun dig r) new
-  anew_keeps {hints = hints} r = files_restored hints _ r.restores
+  anew_keeps {hints = hints} r = files_restored hints _ _ r.restores
 
   root_at : (trees i : _) (d : Facts) → i < length trees → get_or (map (λ (k : Facts). k.root) trees) i d.root ≡ (get_or trees i d).root
   root_at trees i d lt = get_or-map (λ k. k.root) trees i d d.root lt
@@ -380,7 +380,7 @@ module _ (dig : Digest) where
     each = λ i file f listed at. (let g = k.files i f at in file_shape new (shaped.each i file g.before listed g.here) g.tree g.blocks k.trees);
   }
 
-  pub anew_shape : {torrent s new hints calls : _} → s.torrent ≡ torrent → Recovers dig s hints calls new → IsShaped torrent new
+  pub anew_shape : {torrent : _} {s new : EngineState} {hints calls : _} → s.torrent ≡ torrent → Recovers dig s hints calls new → IsShaped torrent new
   anew_shape {torrent} {s} {hints = hints} same r = shape_after (record {
     same = same;
     roots = roots_apart r.bases r.trees (same_roots r.bases r.trees r.count (λ t k at. let j = r.proves t k at in (j.0, j.1, hints_root dig hints k j.0 j.2))) r.is_new.roots;
@@ -410,7 +410,7 @@ module _ (dig : Digest) where
   }
   shape_at_first (with_log hints calls starts) = anew_shape refl starts
 
-  pub torrent_at_first : {torrent first : _} → Begins dig torrent first → first.torrent ≡ torrent
+  pub torrent_at_first : {torrent : _} {first : EngineState} → Begins dig torrent first → first.torrent ≡ torrent
   torrent_at_first begins = (shape_at_first begins).same
 
   -- where hints are read again and nothing else happens
@@ -505,8 +505,8 @@ module _ (dig : Digest) where
     | inr apart ↦ log_kept (step_keeps e calls a apart t)
   ]
 
-  pub step_torrent : {s new : _} (e calls a : _) → Step dig s e calls a new → new.torrent ≡ s.torrent
-  step_torrent e calls a t = (step_log e calls a t).torrent
+  pub step_torrent : (s new e calls a : _) → Step dig s e calls a new → new.torrent ≡ s.torrent
+  step_torrent s new e calls a t = (step_log {s = s} {new = new} e calls a t).torrent
 
   log_at_first : {torrent first : _} → Begins dig torrent first → HasHintsOfLog first
   log_at_first (bare starts) = record { read = λ none. ap (λ z. z.hints) starts.is; written = λ none. ap (λ z. z.pending) starts.is }
@@ -515,7 +515,7 @@ module _ (dig : Digest) where
       record { read = λ none. absurd (both logged none); written = λ none. absurd (both logged none) }
     where
       both : {b : Bool} → b ≡ true → b ≡ false → ⊥
-      both yes no = absurd cc
+      both is other = absurd cc
 
   run_shape : {torrent : _} (s : _) {new : _} (es calls answers : _) → IsShaped torrent s → HasHintsOfLog s → Run dig s es calls answers new
       → IsShaped torrent new × HasHintsOfLog new × (new.logged ≡ s.logged)

@@ -1,6 +1,6 @@
 -- Marked blocks stay right on honest devices.
-use Rattle.bt_machine.proofs.Base.{[], ◌≡◌, ◌≢◌, ℕ, suc, ◌*◌, ◌<◌, ◌⊎◌, inl, inr, Bool, true, false, List, ◌∷◌, length, take, drop, replicate, Option, Some, refl, sym, ap, ◌∙◌, subst, slice_get, Contains, ◌==◌, option_and_then, eqb-true, eq-eqb, full_block_length, block_count, block_length, History, after_write, Call, bytes_given, bytes_written, write_fault, length_set, resize_fault, sync_made, AreAnswered, AfterWriteFault, Facts, value_at, given, call_of, IsRight, Missing, Marked, AdoptMarksByBytes}
-use Rattle.bt_machine.proofs.Machine.{Digest, Flush, Restart, FileState, EngineState, DeviceCalls, calls_of, block_id, state_at, tree_of, stored_block, AreRight, BeginsOn, bare_on, with_log_on, Recovers, Step, IsMarkedBy, brought, read_back, found, recovered, IsSound, StepKeepsSound, RunOn, CompleteFilesStand, KeepsBytes, AllKeepBytes}
+use Rattle.bt_machine.proofs.Base.{[], ◌≡◌, ◌≢◌, ℕ, suc, ◌*◌, ◌<◌, ◌⊎◌, inl, inr, Bool, true, false, List, ◌∷◌, length, take, drop, replicate, Option, Some, refl, sym, ap, ◌∙◌, subst, slice_get, Contains, ◌==◌, option_and_then, eqb-true, eq-eqb, full_block_length, block_count, block_length, History, after_write, Call, bytes_given, bytes_written, write_fault, length_set, resize_fault, sync_made, AreAnswered, AfterWriteFault, Facts, value_at, given, call_of, IsRight, Missing, Marked, BlockId, AdoptMarksByBytes}
+use Rattle.bt_machine.proofs.Machine.{Digest, Event, Flush, Restart, FileState, EngineState, DeviceCalls, calls_of, block_id, state_at, tree_of, stored_block, AreRight, BeginsOn, bare_on, with_log_on, Recovers, Step, IsMarkedBy, brought, read_back, found, recovered, IsSound, StepKeepsSound, RunOn, CompleteFilesStand, KeepsBytes, AllKeepBytes}
 use Rattle.bt_disk.specs.Calls.{IsAnswered}
 use Rattle.bt_machine.specs.Devices.{HaveCalls}
 use Rattle.bt_machine.specs.Sound.{StartsSound}
@@ -133,10 +133,10 @@ kept_block dig {files} {trees} file i {f} {k} {calls} old new at has_tree marked
         ]
 
 -- what was read of a block, and is right, stands there
-read_stands : {dig : Digest} {new : EngineState} {file i : ℕ} {k l : Facts} {bytes : List ℕ} {calls : DeviceCalls} (before after : History)
+read_stands : {dig : Digest} (new : EngineState) {file i : ℕ} {k l : Facts} {bytes : List ℕ} (calls : DeviceCalls) (before after : History)
     → AllKeepBytes calls → AreAnswered before (calls_of file calls) after → tree_of new file ≡ Some k → tree_of new file ≡ Some l
     → Contains calls (file, call_of l.file_length (given i bytes)) → IsRight dig l i bytes → IsRight dig k i (stored_block k.file_length after.now.bytes i)
-read_stands {file = file} {i} {k} {l} {bytes} {calls} before after keep answered tree has_tree read right =
+read_stands new {file} {i} {k} {l} {bytes} calls before after keep answered tree has_tree read right =
     let same : l ≡ k = cc in
     let reads = calls_keep _ _ (λ c among. keep (file, c) (of_all calls among)) answered in
     let there = reads.read _ _ bytes (among_file calls read) in
@@ -144,8 +144,8 @@ read_stands {file = file} {i} {k} {l} {bytes} {calls} before after keep answered
     rw (← is) (rw (← same) right)
 
 -- the marked blocks of one file are right on its device, where they were so, or were marked by this event
-block_right : {dig : Digest} (old new event : _) {calls : DeviceCalls} (file : _) {i f k : _} (before after : History) → Tame dig old.files old.trees calls new
-    → ((b : _) → state_at new b ≡ Some Marked → (state_at old b ≡ Some Marked) ⊎ IsMarkedBy dig old event calls new b) → event ≢ Restart
+block_right : {dig : Digest} (old new : EngineState) (event : Event) {calls : DeviceCalls} (file : ℕ) {i : ℕ} {f : FileState} {k : Facts} (before after : History) → Tame dig old.files old.trees calls new
+    → ((b : BlockId) → state_at new b ≡ Some Marked → (state_at old b ≡ Some Marked) ⊎ IsMarkedBy dig old event calls new b) → event ≢ Restart
     → slice_get new.files file ≡ Some f → slice_get new.trees f.tree ≡ Some k → AreAnswered before (calls_of file calls) after
     → ((g : FileState) (l : Facts) → slice_get old.files file ≡ Some g → slice_get old.trees g.tree ≡ Some l → AreRight dig l before.now.bytes g.states)
     → slice_get f.states i ≡ Some Marked → IsRight dig k i (stored_block k.file_length after.now.bytes i)
@@ -174,7 +174,7 @@ block_right {dig} old new event {calls} file {i} {f} {k} before after tame cases
   where
     read_right : {l bytes : _} → tree_of new file ≡ Some l → Contains calls (file, call_of l.file_length (given i bytes)) → IsRight dig l i bytes
         → tree_of new file ≡ Some k → Touches old.files old.trees calls → IsRight dig k i (stored_block k.file_length after.now.bytes i)
-    read_right l_hung l_read l_right tree (keeping keep) = read_stands before after keep answered tree l_hung l_read l_right
+    read_right l_hung l_read l_right tree (keeping keep) = read_stands new calls before after keep answered tree l_hung l_read l_right
     read_right {l} {bytes} l_hung l_read l_right tree (putting c more g m call there rooted missing size made is) =
         let one = subst (λ cs. Contains cs (file, call_of l.file_length (given i bytes))) made l_read in
         elim (contains_cases {x = (c.file, call)} {y = (file, call_of l.file_length (given i bytes))} [] one) [
@@ -192,24 +192,25 @@ module _ {D : Type 0} (history : D → History) (honest : D → Type 0) (faults 
   -- where all is begun anew, what is marked was read
   pub anew_sound : {s new hints calls disks after : _} → Recovers dig s hints calls new → HaveCalls history honest faults disks calls after
       → IsSound history honest dig new after
-  anew_sound {new = new} r have file f k e is_file there honest_now i marked =
+  anew_sound {new = new} {calls = calls} r have file f k e is_file there honest_now i marked =
       let d = have.each file e there in
       let now : state_at new (block_id file i) ≡ Some Marked = state_is new (block_id file i) is_file.here marked in
       let tree : tree_of new file ≡ Some k = ap (option_and_then (λ g. slice_get new.trees g.tree)) is_file.here ∙ is_file.has_tree in
       let x = recovered_marks dig r (block_id file i) now in
-      read_stands _ _ (anew_reads dig r) (d.2.answered (d.2.as_honest.1 honest_now)) tree x.has_tree x.read x.right
+      read_stands new calls _ _ (anew_reads dig r) (d.2.answered (d.2.as_honest.1 honest_now)) tree x.has_tree x.read x.right
 
   pub start_sound : StartsSound history honest faults dig
-  start_sound torrent given log first (bare_on no_log starts disks none) file f k d is_file there honest_now j marked =
+  start_sound torrent placed log first (bare_on no_log starts disks none) file f k d is_file there honest_now j marked =
       let lt : file < length torrent.files = rw (← starts.is_new.count) (some_below first.state.files file is_file.here) in
       let listed = get_some torrent.files file lt in
       let new = starts.is_new.each_file file listed.0 f listed.1 is_file.here in
       absurd (none_marked (block_count listed.0.length) j (cc))
-  start_sound torrent given log first (with_log_on l calls is same starts have log_is) = anew_sound starts have
+  start_sound torrent placed log first (with_log_on l calls is same starts have log_is) file f k d is_file there honest_now j marked =
+      anew_sound starts have file f k d is_file there honest_now j marked
 
   module _ (marks : AdoptMarksByBytes dig) where
     -- where each file's blocks are right by what becomes of one of them
-    by_blocks : {old new disks calls after : _} → HaveCalls history honest faults disks calls after → IsSound history honest dig old disks
+    by_blocks : {old new : EngineState} {disks calls after : _} → HaveCalls history honest faults disks calls after → IsSound history honest dig old disks
         → ((file i : ℕ) (f : FileState) (k : Facts) (before now : History) → slice_get new.files file ≡ Some f → slice_get new.trees f.tree ≡ Some k
         → AreAnswered before (calls_of file calls) now
         → ((g : FileState) (l : Facts) → slice_get old.files file ≡ Some g → slice_get old.trees g.tree ≡ Some l → AreRight dig l before.now.bytes g.states)

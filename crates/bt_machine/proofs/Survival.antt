@@ -141,12 +141,12 @@ module _ {D : Type 0} (history : D → History) (honest : D → Type 0) (faults 
   images_run old new (x ∷ xs) (c ∷ calls) (a ∷ answers) disks after file i t f k bytes e none run sound is marked size there honest_now kept =
       let mid = device_before history honest faults dig run.0 new xs calls answers run.1 after file run.4 there honest_now in
       let marked_now = state_is old (block_id file i) is.here marked in
-      let still = marks_kept history honest faults dig old run.0 x c a disks run.1 (block_id file i) mid.0 (first_is none) run.2 run.3 sound mid.1 mid.2 marked_now in
-      let then = goes_on file i (step_keeps dig x c a (first_is none) run.2) is still in
+      let still = marks_kept history honest faults dig old run.0 x c a disks run.1 (block_id file i) mid.0 (first_is x xs none) run.2 run.3 sound mid.1 mid.2 marked_now in
+      let then = goes_on file i (step_keeps dig x c a (first_is x xs none) run.2) is still in
       let one : (d : D) → slice_get run.1 file ≡ Some (Some d) → IsBlockKept (history d) t i bytes = λ d at.
       (let same : d ≡ mid.0 = cc in
       images_kept history honest faults dig calls_keep reads old run.0 x c a disks run.1 file i t f k bytes d run.2 run.3 is (λ gone. absurd cc) size at (rw same mid.2) kept) in
-      images_run run.0 new xs calls answers run.1 after file i t then.state then.tree bytes e (others_are none) run.4
+      images_run run.0 new xs calls answers run.1 after file i t then.state then.tree bytes e (others_are x xs none) run.4
       (step_sound history honest faults dig marks old run.0 x c a disks run.1 run.2 run.3 sound) then.is_file then.marked (size ∙ ap (λ n. block_length n i) (sym then.same_length)) there honest_now one
   images_run old new _ _ _ disks after file i t f k bytes e none run sound is marked size there honest_now kept = absurd run
 

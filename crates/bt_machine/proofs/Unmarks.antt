@@ -1,6 +1,6 @@
 -- How a block ceases to be marked.
 use Rattle.bt_machine.proofs.Base.{[], ◌≡◌, ◌≢◌, ℕ, zero, suc, ◌+◌, ◌⊎◌, inl, inr, Bool, true, false, List, ◌∷◌, ◌++◌, map, Option, Some, refl, sym, ap, ◌∙◌, subst, arith, slice_get, slice_set, option_map, Contains, flat_map, ◌==◌, if◌then◌else◌, Result, Ok, option_and_then, eqb-true, eq-eqb, Contains-append_left, Contains-append_right, History, Call, AreAnswered, Facts, BlockRead, given, failed, block_of, call_of, is_right, judged, IsRight, Adopts, known, accepted, PutIsDue, states_after_put, Missing, Waiting, Marked, StoreError, Put, PutMarked, PutWaiting, Adopted, BlockId, PeerMessage as Sent, KeepAlive, Choke, Unchoke, Interested, NotInterested, Have, Bitfield, Request, Piece, Cancel, HashRequest, Hashes, HashReject, Hello, Message, Skipped, AdoptMarksByBytes}
-use Rattle.bt_machine.proofs.Machine.{Digest, Event, Connect, Feed, Next, Lost, Rechoke, Adopt, Flush, Restart, FileState, EngineState, DeviceCalls, calls_of, state_at, tree_of, with_file, IsFile, FindsFault, damaged, fault, StopsAtFault, HandlesRequest, ignored, no_place, not_marked, served, stopped, HandlesPiece, stale, arrives, judged_file, SettlesIn, HandlesHashes, unknown_root, no_claim, refused, accepts_hashes, HandlesHave, in_range, out_of_range, HandlesBitfield, right, wrong, HandlesMessage, Handles, TakesEvent, StepNext, no_peer, waits, keeps_peer, closes, faulty, no_memory, StepConnect, joins, full, spent, no_room, StepFeed, feeds, not_fed, no_room as no_room_to_feed, StepLost, goes, not_fed as not_lost, FollowsEach, StepRechoke, rechokes, not_rechoked, AdoptsGroup, AdoptsGroups, StepAdopt, no_file, busy, empty, adopts, not_adopted, StepFlush, syncs, writes, fails, unwritten, unflushed, Step, stored_block, RunOn, IsFoundWrong, StepUnmarksByBytes, StepKeepsMarks, RunKeepsMarks}
+use Rattle.bt_machine.proofs.Machine.{Digest, Event, Connect, Feed, Next, Lost, Rechoke, Adopt, Flush, Restart, FileState, EngineState, DeviceCalls, calls_of, state_at, tree_of, with_file, IsFile, FindsFault, damaged, fault, StopsAtFault, HandlesRequest, ignored, no_place, not_marked, served, stopped, HandlesPiece, stale, arrives, judged_file, SettlesIn, HandlesHashes, unknown_root, no_claim, refused, accepts_hashes, HandlesHave, in_range, out_of_range, HandlesBitfield, right, wrong, HandlesMessage, Handles, TakesEvent, StepNext, no_peer, waits, keeps_peer, closes, faulty, no_memory, StepConnect, joins, full, spent, no_room, StepFeed, feeds, not_fed, no_room as no_room_to_feed, StepLost, goes, not_fed as not_lost, FollowsEach, StepRechoke, rechokes, not_rechoked, AdoptsGroup, AdoptsGroups, StepAdopt, no_file, busy, empty, adopts, not_adopted, StepFlush, syncs, writes as logs, fails, unwritten, unflushed, Step, stored_block, RunOn, IsFoundWrong, StepUnmarksByBytes, StepKeepsMarks, RunKeepsMarks}
 use Rattle.bt_store.specs.Adoption.{marked_group}
 use Rattle.bt_machine.specs.Unmarks.{HasNoRestart}
 use Rattle.bt_machine.proofs.Lists.{same_some, set_get, set_other, set_same, and_then_some, contains_none, contains_cases, here, later, map_contains}
@@ -224,7 +224,7 @@ module _ (dig : Digest) (b : BlockId) where
 
   flush_stays : {s new calls answer : _} → StepFlush s calls answer new → state_at new b ≡ state_at s b
   flush_stays (syncs x y z e) = cc
-  flush_stays (writes x y z e) = cc
+  flush_stays (logs x y z e) = cc
   flush_stays (fails before file after x y z e) = cc
   flush_stays (unwritten before hint after cause x y z w e) = cc
   flush_stays (unflushed x y z e) = cc
@@ -316,11 +316,11 @@ step_unmarks dig s new e calls a apart step b before after = elim (step_stays di
 -- ---- on an honest device
 
 -- no event of the list is a restart
-pub first_is : {event : Event} {events : List Event} → HasNoRestart (event ∷ events) → event ≢ Restart
-first_is {event} none = none 0 event (omega arith)
+pub first_is : (event : Event) (events : List Event) → HasNoRestart (event ∷ events) → event ≢ Restart
+first_is event events none = none 0 event (omega arith)
 
-pub others_are : {event : Event} {events : List Event} → HasNoRestart (event ∷ events) → HasNoRestart events
-others_are none i d lt = none (suc i) d (omega arith)
+pub others_are : (event : Event) (events : List Event) → HasNoRestart (event ∷ events) → HasNoRestart events
+others_are event events none i d lt = none (suc i) d (omega arith)
 
 module _ {D : Type 0} (history : D → History) (honest : D → Type 0) (faults : D → ℕ) (dig : Digest) where
   -- what an honest device gave stands there
@@ -366,6 +366,6 @@ module _ {D : Type 0} (history : D → History) (honest : D → Type 0) (faults 
   run_marks_kept old new [] [] [] disks after b e none run sound there honest_now before = cc
   run_marks_kept old new (x ∷ xs) (c ∷ calls) (a ∷ answers) disks after b e none run sound there honest_now before =
       let mid = device_before history honest faults dig run.0 new xs calls answers run.1 after b.file run.4 there honest_now in
-      let kept = marks_kept history honest faults dig old run.0 x c a disks run.1 b mid.0 (first_is none) run.2 run.3 sound mid.1 mid.2 before in
-      run_marks_kept run.0 new xs calls answers run.1 after b e (others_are none) run.4 (step_sound history honest faults dig marks old run.0 x c a disks run.1 run.2 run.3 sound) there honest_now kept
+      let kept = marks_kept history honest faults dig old run.0 x c a disks run.1 b mid.0 (first_is x xs none) run.2 run.3 sound mid.1 mid.2 before in
+      run_marks_kept run.0 new xs calls answers run.1 after b e (others_are x xs none) run.4 (step_sound history honest faults dig marks old run.0 x c a disks run.1 run.2 run.3 sound) there honest_now kept
   run_marks_kept old new _ _ _ disks after b e none run sound there honest_now before = absurd run
