@@ -23,7 +23,7 @@ PROMPT = "    $ "
 
 def shown(text):
     """Each command that a page shows, with the lines that it prints below it."""
-    found = []
+    found, is_open = [], False
     for line in text.splitlines():
         if line.startswith(PROMPT):
             found.append((line.removeprefix(PROMPT), []))
