@@ -262,7 +262,7 @@ module _ {D : Type 0} (history : D → History) (honest : D → Type 0) (faults 
         after_step : {torrent : Metainfo} (old new : EngineView D) (event : Event) (answer : Answer) → IsShaped torrent old.state
             → AreSparseTrees dig old.state → StepsTo history honest faults dig old event answer new → HasText old → AfterStep answer new
         after_step old new event answer shaped sparse step texts = record {
-          texts = λ log is h. (let g = goes log is h in (g.1.logged, g.1.now, g.1.holds));
+          texts = λ log is h. (let g = goes log is h in (g.1.logged, (g.1.now, g.1.holds)));
           again = λ e log is h. (let g = goes log is h in (g.1.logged, record { text = g.1.now; holds = g.1.holds; backed = g.1.again e }));
         }
           where
@@ -316,5 +316,5 @@ module _ {D : Type 0} (history : D → History) (honest : D → Type 0) (faults 
         runs_backed attach shaped sparse shape keep torrent given disk log first last events answers lawful size attached begins run after =
             let backing = start_backed attach torrent given disk log first lawful size attached begins in
             run_backed shape keep torrent lawful events run.calls answers true first last (shaped torrent first.state (begins_of begins))
-            (sparse torrent first.state lawful (begins_of begins)) (λ l is h. (let b = backing l is h in (b.0, b.1.text, b.1.holds))) (λ x. backing) run.run
+            (sparse torrent first.state lawful (begins_of begins)) (λ l is h. (let b = backing l is h in (b.0, (b.1.text, b.1.holds)))) (λ x. backing) run.run
             run.logged after

@@ -2,7 +2,8 @@
 use Rattle.std.specs.FinMap as finite
 use Rattle.std.specs.Prelude.{nat_lt}
 use Rattle.std.proofs.lemmas.List.{append_assoc}
-use Rattle.bt_machine.proofs.Base.{[], ◌≡◌, ◌≢◌, ℕ, zero, suc, ◌+◌, ◌*◌, ◌/◌, ◌<◌, ◌⊎◌, inl, inr, Bool, true, false, List, ◌∷◌, ◌++◌, length, map, Option, Some, None, Result, Ok, Err, refl, sym, ap, ◌∙◌, subst, arith, slice_get, slice_set, Contains, ◌&&◌, if◌then◌else◌, option_and_then, lt-ltb, cases_lt, append-nil, IsDigest, KeepsRooted, Accepts, Facts, HashKey, Adopts, accepted, Adopted, states_after_put, PutMarked, PutWaiting, Wrong, Already, Range, DeviceFault, StoreError, Put, Marked, BlockId, planned_key, PeerMessage as Sent, KeepAlive, Have, Bitfield, Request, Piece, Cancel, HashRequest, Hashes, HashReject, WireEvent, Hello, Message}
+use Rattle.std.proofs.lemmas.List.Elements.{All-from_get_or}
+use Rattle.bt_machine.proofs.Base.{[], ◌≡◌, ◌≢◌, ℕ, zero, suc, ◌+◌, ◌*◌, ◌/◌, ◌<◌, ◌⊎◌, inl, inr, Bool, true, false, List, ◌∷◌, ◌++◌, length, map, Option, Some, None, Result, Ok, Err, refl, sym, ap, ◌∙◌, subst, arith, slice_get, slice_set, Contains, All, ◌&&◌, if◌then◌else◌, option_and_then, lt-ltb, cases_lt, append-nil, IsDigest, KeepsRooted, Accepts, Facts, HashKey, Adopts, accepted, Adopted, states_after_put, PutMarked, PutWaiting, Wrong, Already, Range, DeviceFault, StoreError, Put, Marked, BlockId, planned_key, PeerMessage as Sent, KeepAlive, Have, Bitfield, Request, Piece, Cancel, HashRequest, Hashes, HashReject, WireEvent, Hello, Message}
 use Rattle.bt_sparse.specs.SparseTree.{IsSound}
 use Rattle.bt_sparse.specs.Answer.{answer_size}
 use Rattle.bt_hashreq.specs.Claim.{IsClaimBy, digests_in}
@@ -21,7 +22,7 @@ use Rattle.bt_machine.proofs.Machine.{Digest, PeerState, FileState, EngineState,
 use Rattle.bt_machine.proofs.Lists.{same_some, contains_map, contains_none, set_cases}
 use Rattle.bt_machine.proofs.Pairs.{Pairs, pairs_at, pairs_set}
 use Rattle.bt_machine.proofs.Marks.{state_is, file_marked}
-use Rattle.bt_machine.proofs.Digests.{chunk_count, group_sound}
+use Rattle.bt_machine.proofs.Digests.{chunk_count, chunk_length, group_sound}
 use Rattle.bt_machine.proofs.Trees.{same_back, same_then, hints_split, proofs_follow}
 use Rattle.bt_machine.proofs.Sizes.{adds_nothing}
 use Rattle.bt_machine.proofs.Pending.{pending_keeps}
@@ -201,17 +202,17 @@ module _ (dig : Digest) where
 
   piece_learns : {s mid i p piece begin bytes calls effect : _} → HandlesPiece dig s i p piece begin bytes calls effect mid → Learns s mid effect
   piece_learns (stale x y is e) = same_as is refl e
-  piece_learns {s} {mid} {effect = effect} (arrives a) = by a.puts.result a.puts.has_effect (ap (λ z. z.files) a.after ∙ ap (λ z. z.files) a.puts.after)
+  piece_learns {s} {mid} {effect = effect} (arrives a) = by _ a.puts.result a.puts.has_effect (ap (λ z. z.files) a.after ∙ ap (λ z. z.files) a.puts.after)
     where
       keeps : KeepsTrees s mid
       keeps = trees_then (same_trees refl refl refl refl a.puts.after) (same_trees refl refl refl refl a.after)
 
-      by : {sent : _} (result : Result Put StoreError) → HasPutEffect a.block sent result effect
+      by : (sent : _) (result : Result Put StoreError) → HasPutEffect a.block sent result effect
           → mid.files ≡ slice_set s.files a.block.file (record a.puts.file { states = states_after_put a.block.block result a.puts.file.states })
           → Learns s mid effect
-      by (Ok PutMarked) is files = open_as is refl refl keeps
-      by (Ok PutWaiting) is files = open_as is refl refl keeps
-      by (Ok Wrong) is files =
+      by sent (Ok PutMarked) is files = open_as is refl refl keeps
+      by sent (Ok PutWaiting) is files = open_as is refl refl keeps
+      by sent (Ok Wrong) is files =
           quiet keeps (ap (λ (e : Effect). e.proofs) is)
           (λ why e. record {
             keeps = keeps;
@@ -220,9 +221,9 @@ module _ (dig : Digest) where
               | inr old ↦ old
             ];
           })
-      by (Ok Already) is files = absurd is
-      by (Err Range) is files = absurd is
-      by (Err DeviceFault) is files = open_as is refl refl keeps
+      by sent (Ok Already) is files = absurd is
+      by sent (Err Range) is files = absurd is
+      by sent (Err DeviceFault) is files = open_as is refl refl keeps
 
   -- ---- hash messages
 
@@ -234,6 +235,11 @@ module _ (dig : Digest) where
   readable key digests by =
       (by.shape, chunk_count (length digests / 32) digests ∙ times_over (length digests) (answer_size key.length key.layers) by.size)
 
+  whole : (digests : List ℕ) → All (λ digest. length digest ≡ 32) (digests_in digests)
+  whole digests =
+      All-from_get_or (λ digest. length digest ≡ 32) (digests_in digests) []
+      (λ i lt. chunk_length (length digests / 32) i digests (omega (arith, lt, chunk_count (length digests / 32) digests)) (omega arith))
+
   -- the tree that accepted a proof, where the proof is kept if it added a node
   grown_follows : {s mid : EngineState} {i : ℕ} {p : PeerState} {key : HashKey} {digests : List ℕ} {calls : DeviceCalls} {effect : Effect}
       (l : AcceptsHashes dig s i p key digests calls effect mid) (hints : List Hint) (base j : Facts)
@@ -244,7 +250,7 @@ module _ (dig : Digest) where
       by : (b : Bool) → nat_lt (finite.len l.old.nodes) (finite.len l.new.nodes) ≡ b
           → TakesHints dig base (hints ++ (if b then proof_of key (digests_in digests) ∷ [] else [])) j → HoldSame l.new j
       by true e t =
-          proofs_follow dig hints key (digests_in digests) base l.old l.new j follow l.here.same_root (readable key digests l.claims)
+          proofs_follow dig hints key (digests_in digests) base l.old l.new j follow l.here.same_root (readable key digests l.claims) (whole digests)
           (subst (λ c. Accepts dig l.old c l.new) l.claims.claim_is l.accepts) t
       by false e t =
           same_then (same_back (adds_nothing dig l.old l.new l.claim l.accepts (λ lt. none_less (lt-ltb _ _ lt) e)))
