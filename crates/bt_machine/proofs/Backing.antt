@@ -111,12 +111,14 @@ module _ {D : Type 0} (history : D → History) (honest : D → Type 0) (faults 
         let was_honest = opens_back attached.opens (subst (λ (l : LogView D). honest l.disk) (sym same) h) in
         let held = attach torrent.infohash disk log size was_honest attached in
         let state = recovered_state dig o.recovers in
-        let backed = recovered_backed dig (unopened torrent) new.state log.hints o.calls o.recovers in
-        (state.0, subst (λ l. IsBackedBy history honest faults dig new.state l) same (record {
-          text = held.0;
-          holds = held.2;
-          backed = nothing_pending held.0 backed held.1 state.1;
-        }))
+        let backed = recovered_backed dig (unopened torrent) new.state log.hints o.calls o.recovers in (
+          state.0,
+          subst (λ l. IsBackedBy history honest faults dig new.state l) same (record {
+            text = held.0;
+            holds = held.2;
+            backed = nothing_pending held.0 backed held.1 state.1;
+          }),
+        )
       where
         inner : {a b : LogView D} → Some a ≡ Some b → a ≡ b
         inner e = cc
@@ -278,8 +280,7 @@ module _ {D : Type 0} (history : D → History) (honest : D → Type 0) (faults 
         backs_still old new state c backing log is h =
             let was = old_log history honest faults old.log new.log [] is c in
             let same : log ≡ was.0 = logs_are history honest faults old.log new.log [] was.1 is c in
-            let b = backing was.0 was.1 (subst (λ (l : LogView D). honest l.disk) same h) in
-            (
+            let b = backing was.0 was.1 (subst (λ (l : LogView D). honest l.disk) same h) in (
               ap (λ z. z.logged) state ∙ b.0,
               subst (λ z. IsBackedBy history honest faults dig z log) (sym state)
                   (subst (λ l. IsBackedBy history honest faults dig old.state l) (sym same) b.1),
