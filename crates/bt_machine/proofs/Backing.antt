@@ -1,7 +1,8 @@
 -- The log backs the engine, from its start over all events.
-use Rattle.bt_machine.proofs.Base.{[], ◌≡◌, ◌≢◌, ℕ, ◌⊎◌, inl, inr, Bool, true, false, List, ◌∷◌, ◌++◌, flat_map, Option, Some, None, Result, Ok, Err, refl, sym, ap, ◌∙◌, subst, append-nil, History, IsDigest, KeepsRooted, Metainfo, IsLawful, Facts}
+use Rattle.bt_machine.proofs.Base.{[], ◌≡◌, ◌≢◌, ℕ, ◌⊎◌, inl, inr, Bool, true, false, List, ◌∷◌, ◌++◌, flat_map, length, Option, Some, None, Result, Ok, Err, refl, sym, ap, ◌∙◌, subst, append-nil, History, IsDigest, KeepsRooted, Metainfo, IsLawful, Facts}
 use Rattle.bt_resume.specs.LogText.{LogText, hints_in, with_hints}
-use Rattle.bt_resume.specs.ResumeLog.{LogView, Opens, opened, unmeasured, made as made_anew, unwritten as no_write, unsynced}
+use Rattle.bt_tree.specs.Limits.{digest_length}
+use Rattle.bt_resume.specs.ResumeLog.{LogView, IsAttached, Opens, opened, unmeasured, made as made_anew, unwritten as no_write, unsynced}
 use Rattle.bt_resume.specs.Law.{Holds, AttachHolds, ReloadHolds, AppendHolds, FlushHolds}
 use Rattle.bt_resume.specs.declared.hint.Hint.{Hint}
 use Rattle.bt_machine.specs.declared.event.Event.TheVariants.{Restart}
@@ -11,19 +12,19 @@ use Rattle.bt_machine.specs.declared.error.RestartError.{RestartError}
 use Rattle.bt_machine.specs.declared.error.RestartError.TheVariants.{Log, OutOfMemory}
 use Rattle.bt_machine.specs.State.{EngineView}
 use Rattle.bt_machine.specs.Devices.{HaveCalls}
-use Rattle.bt_machine.specs.LogCalls.{LogCall, hints_read, reload_fault, append_fault, log_flushed, flush_fault, EventCalls, AreLogCalls, HaveLogCalls}
+use Rattle.bt_machine.specs.LogCalls.{LogCall, hints_read, reload_fault, append_fault, flush_fault, EventCalls, AreLogCalls, HaveLogCalls}
 use Rattle.bt_machine.specs.Flush.{StepFlush, syncs, writes, fails, unwritten, unflushed}
 use Rattle.bt_machine.specs.Restart.{read as read_again, none as no_log, StepRestart, restarts, unread, no_memory as not_restarted}
 use Rattle.bt_machine.specs.Recovery.{Recovers}
 use Rattle.bt_machine.specs.Opening.{unopened, Begins, bare, with_log, BeginsOn, bare as bare_on, with_log as with_log_on}
 use Rattle.bt_machine.specs.Frames.{AreSparseTrees, StartsSparse, StepKeepsSparse}
 use Rattle.bt_machine.specs.Shape.{IsShaped, StartsInShape, StepKeepsShape}
-use Rattle.bt_machine.specs.View.{StepsTo}
+use Rattle.bt_machine.specs.View.{StepsTo, RunsTo}
 use Rattle.bt_machine.specs.Backing.{IsBacked, IsBackedBy, HasBacking, GroupProofsFollow, OtherRootsStay, StartIsBacked, StepKeepsBacking, is_backed_after, RunsAreBacked}
 use Rattle.bt_machine.proofs.Machine.{Digest, EngineState, DeviceCalls, Step, RunOn, Event, Answer, Next, Connect, Rechoke, Feed, Adopt, Lost, Flush}
 use Rattle.bt_machine.proofs.Pairs.{to_pairs}
 use Rattle.bt_machine.proofs.Recovered.{recovered_backed, recovered_state}
-use Rattle.bt_machine.proofs.LogCalls.{with_hints_in, by_reads, calls_back, logs_are, old_log, appends_hold}
+use Rattle.bt_machine.proofs.LogCalls.{by_reads, calls_back, logs_are, old_log, appends_hold, flush_kept}
 use Rattle.bt_machine.proofs.Followed.{HaveOwnRoots, KeepsBacked, kept_same, same_as_before, next_backs, connect_backs, feed_backs, lost_backs, rechoke_backs, adopt_backs}
 
 -- ---- answers
@@ -155,18 +156,13 @@ module _ {D : Type 0} (history : D → History) (honest : D → Type 0) (faults 
           → StepFlush s calls r new → answer ≢ Restarted (Ok tt) → AreLogCalls history honest faults was calls.log log → honest log.disk → s.logged ≡ true
           → Holds history honest faults was text text → Goes s text answer new log
       flush_goes text (syncs none made ok same) other c h is holds = absurd cc
-      flush_goes {s} {was = was} {log = log} text (writes x made ok after) other c h is holds =
-          let all = subst (λ (z : EventCalls). AreLogCalls history honest faults was z.log log) made c in
-          let a = appends_hold history honest faults append s.pending was log (log_flushed ∷ []) text text h all holds in
-          let last = a.1.rest in
-          let done = flush a.0 last.0 (Ok tt) text (with_hints text s.pending) a.1.was_honest last.1 a.1.holds in
-          let hints = sym (with_hints_in text s.pending) ∙ sym (append-nil (hints_in (with_hints text s.pending))) in
+      flush_goes {was = was} {log = log} text (writes x made ok after) other c h is holds =
+          let k = flush_kept history honest faults dig append flush was log text (record { made = made; after = after }) c h holds in
           record {
             logged = ap (λ z. z.logged) after ∙ is;
-            now = with_hints text s.pending;
-            holds = subst (λ l. Holds history honest faults l (with_hints text s.pending) (with_hints text s.pending)) (sym last.2) done.0;
-            backed = λ x old. subst (λ z. IsBacked dig z (hints_in (with_hints text s.pending) ++ z.pending)) (sym after)
-                (subst (IsBacked dig (record s { pending = [] })) hints (record { marks = old.marks; trees = old.trees }));
+            now = k.now;
+            holds = k.holds;
+            backed = λ x old. nothing_pending k.now (k.backed old) refl (ap (λ z. z.pending) after);
             again = λ e. absurd (other e);
           }
       flush_goes text (fails before file after files made refused same) other c h is holds =
@@ -253,7 +249,7 @@ module _ {D : Type 0} (history : D → History) (honest : D → Type 0) (faults 
         -- ---- lists of events
 
         -- the log holds a text, whether it backs the engine or not
-        abbrev HasText : EngineView D → Type 0
+        abbrev pub HasText : EngineView D → Type 0
         HasText e = (log : LogView D) → e.log ≡ Some log → honest log.disk
             → (e.state.logged ≡ true) × ((text : LogText) × Holds history honest faults log text text)
 
@@ -275,47 +271,64 @@ module _ {D : Type 0} (history : D → History) (honest : D → Type 0) (faults 
                 let held = texts was.0 was.1 (calls_back history honest faults was.0 step.calls.log log c h) in
                 (held.1.0, step_goes event step.calls answer held.1.0 (own_roots shaped) sparse step.step c h held.0 held.1.1)
 
-        backs_still : (old new : EngineView D) → new.state ≡ old.state → HaveLogCalls history honest faults old.log [] new.log
-            → HasBacking history honest faults dig old → HasBacking history honest faults dig new
-        backs_still old new state c backing log is h =
+        -- what is said of an engine and of an honest log stands where neither changes
+        still : (P : EngineState → LogView D → Type 0) (old new : EngineView D) → new.state ≡ old.state
+            → HaveLogCalls history honest faults old.log [] new.log → ((log : LogView D) → old.log ≡ Some log → honest log.disk → P old.state log)
+            → (log : LogView D) → new.log ≡ Some log → honest log.disk → P new.state log
+        still P old new state c holds log is h =
             let was = old_log history honest faults old.log new.log [] is c in
             let same : log ≡ was.0 = logs_are history honest faults old.log new.log [] was.1 is c in
-            let b = backing was.0 was.1 (subst (λ (l : LogView D). honest l.disk) same h) in (
-              ap (λ z. z.logged) state ∙ b.0,
-              subst (λ z. IsBackedBy history honest faults dig z log) (sym state)
-                  (subst (λ l. IsBackedBy history honest faults dig old.state l) (sym same) b.1),
-            )
+            let held = holds was.0 was.1 (subst (λ (l : LogView D). honest l.disk) same h) in
+            subst (λ z. P z log) (sym state) (subst (P old.state) (sym same) held)
+
+        -- after any list of events it holds a text, and backs the engine where no restart came to nothing
+        pub record AfterRun (backed : Bool) (answers : List Answer) (new : EngineView D) : Type 0 where
+          pub texts : HasText new
+          pub backs : is_backed_after backed answers ≡ true → HasBacking history honest faults dig new
 
         run_backed : StepKeepsShape dig → StepKeepsSparse dig → (torrent : Metainfo) → IsLawful torrent.piece_length torrent.files → (events : List Event)
             (calls : List EventCalls) (answers : List Answer) (backed : Bool) (old new : EngineView D) → IsShaped torrent old.state
             → AreSparseTrees dig old.state → HasText old → (backed ≡ true → HasBacking history honest faults dig old)
             → RunOn history honest faults dig old.state old.disks events calls answers new.state new.disks
-            → HaveLogCalls history honest faults old.log (flat_map (λ c. c.log) calls) new.log → is_backed_after backed answers ≡ true
-            → HasBacking history honest faults dig new
-        run_backed shape keep torrent lawful [] [] [] backed old new shaped sparse texts before run logs after = backs_still old new run.0 logs (before after)
-        run_backed shape keep torrent lawful (e ∷ es) (c ∷ cs) (a ∷ rest) backed old new shaped sparse texts before run logs after =
+            → HaveLogCalls history honest faults old.log (flat_map (λ c. c.log) calls) new.log → AfterRun backed answers new
+        run_backed shape keep torrent lawful [] [] [] backed old new shaped sparse texts before run logs = record {
+          texts = still (λ s log. (s.logged ≡ true) × ((text : LogText) × Holds history honest faults log text text)) old new run.0 logs texts;
+          backs = λ after. still (λ s log. (s.logged ≡ true) × IsBackedBy history honest faults dig s log) old new run.0 logs (before after);
+        }
+        run_backed shape keep torrent lawful (e ∷ es) (c ∷ cs) (a ∷ rest) backed old new shaped sparse texts before run logs =
             let split = log_split old.log new.log c.log (flat_map (λ c. c.log) cs) logs in
             let mid : EngineView D = record { state = run.0; disks = run.1; log = split.0 } in
             let step : StepsTo history honest faults dig old e a mid = record { calls = c; step = run.2; made = run.3; logged = split.1 } in
             let own_lawful = subst (λ (t : Metainfo). IsLawful t.piece_length t.files) (sym shaped.same) lawful in
+            let own_shape = subst (λ t. IsShaped t old.state) (sym shaped.same) shaped in
+            let mid_shape = shape torrent old.state run.0 e c a shaped run.2 in
+            let mid_sparse = keep old.state run.0 e c a own_lawful run.2 sparse in
             let next = after_step old mid e a shaped sparse step texts in
-            let go = λ (b : Bool). run_backed shape keep torrent lawful es cs rest b mid new (shape torrent old.state run.0 e c a shaped run.2) (keep old.state run.0 e c a own_lawful run.2 sparse) next.texts in
-            elim (answer_cases backed a rest after) [
-              | inl again ↦ go true (λ x. next.again again.0) run.4 split.2 again.1
-              | inr others_too ↦ elim others_too [
-                | inl other ↦
-                    go backed
-                    (λ x. step_backed old mid e a own_lawful (subst (λ t. IsShaped t old.state) (sym shaped.same) shaped) sparse other.0 step (before x))
-                    run.4 split.2 other.1
-                | inr lost ↦ go false (λ x. absurd cc) run.4 split.2 lost
-              ]
-            ]
-        run_backed shape keep torrent lawful _ _ _ backed old new shaped sparse texts before run logs after = absurd run
+            let go = λ (b : Bool) (now : b ≡ true → HasBacking history honest faults dig mid).
+            run_backed shape keep torrent lawful es cs rest b mid new mid_shape mid_sparse next.texts now run.4 split.2 in
+            record {
+              texts = (go false (λ x. absurd cc)).texts;
+              backs = λ after. elim (answer_cases backed a rest after) [
+                | inl again ↦ (go true (λ x. next.again again.0)).backs again.1
+                | inr one ↦ elim one [
+                  | inl other ↦ (go backed (λ x. step_backed old mid e a own_lawful own_shape sparse other.0 step (before x))).backs other.1
+                  | inr lost ↦ (go false (λ x. absurd cc)).backs lost
+                ]
+              ];
+            }
+        run_backed shape keep torrent lawful _ _ _ backed old new shaped sparse texts before run logs = absurd run
 
-        pub runs_backed : AttachHolds history honest faults → StartsInShape dig → StartsSparse dig → StepKeepsShape dig → StepKeepsSparse dig
-            → RunsAreBacked history honest faults dig
-        runs_backed attach shaped sparse shape keep torrent given disk log first last events answers lawful size attached begins run after =
-            let backing = start_backed attach torrent given disk log first lawful size attached begins in
-            run_backed shape keep torrent lawful events run.calls answers true first last (shaped torrent first.state (begins_of begins))
-            (sparse torrent first.state lawful (begins_of begins)) (λ l is h. (let b = backing l is h in (b.0, (b.1.text, b.1.holds)))) (λ x. backing) run.run
-            run.logged after
+        module _ (attach : AttachHolds history honest faults) (starts : StartsInShape dig) (sparse : StartsSparse dig) (shape : StepKeepsShape dig) (keep : StepKeepsSparse dig) where
+          pub after_run : (torrent : Metainfo) (given : List (Option D)) (disk : D) (log : LogView D) (first last : EngineView D) (events : List Event)
+              (answers : List Answer) → IsLawful torrent.piece_length torrent.files → length torrent.infohash ≡ digest_length
+              → IsAttached history honest faults torrent.infohash disk log → BeginsOn history honest faults dig torrent given (Some log) first
+              → RunsTo history honest faults dig first events answers last → AfterRun true answers last
+          after_run torrent given disk log first last events answers lawful size attached begins run =
+              let backing = start_backed attach torrent given disk log first lawful size attached begins in
+              run_backed shape keep torrent lawful events run.calls answers true first last (starts torrent first.state (begins_of begins))
+              (sparse torrent first.state lawful (begins_of begins)) (λ l is h. (let b = backing l is h in (b.0, (b.1.text, b.1.holds)))) (λ x. backing)
+              run.run run.logged
+
+          pub runs_backed : RunsAreBacked history honest faults dig
+          runs_backed torrent given disk log first last events answers lawful size attached begins run =
+              (after_run torrent given disk log first last events answers lawful size attached begins run).backs

@@ -7,12 +7,13 @@ returns g c =
     let dig = g.H.NodeHash.digest in
     let hold = c.logs_hold_hints.ensures in
     let groups = c.group_proofs_follow.ensures in
-    let starts = c.starts_keep_laws.ensures in
-    let steps = c.steps_keep_laws.ensures in
+    let first = c.starts_keep_laws.ensures in
+    let next = c.steps_keep_laws.ensures in
     let sizes = g.met.H.NodeHash.has_32_bytes in
+    let rooted = c.keeps_rooted.ensures in
     record {
       starts = start_backed d.history d.honest d.faults dig hold.attach;
-      steps = step_backed d.history d.honest d.faults dig hold.reload hold.append hold.flush sizes c.keeps_rooted.ensures groups.lead groups.others;
-      runs = runs_backed d.history d.honest d.faults dig hold.reload hold.append hold.flush sizes c.keeps_rooted.ensures groups.lead groups.others
-          hold.attach starts.shaped starts.sparse steps.shaped steps.sparse;
+      steps = step_backed d.history d.honest d.faults dig hold.reload hold.append hold.flush sizes rooted groups.lead groups.others;
+      runs = runs_backed d.history d.honest d.faults dig hold.reload hold.append hold.flush sizes rooted groups.lead groups.others
+          hold.attach first.shaped first.sparse next.shaped next.sparse;
     }
