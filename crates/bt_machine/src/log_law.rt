@@ -2,7 +2,7 @@
 //! begin anew with. The functions do nothing when they run.
 ghost use Rattle.bt_machine.specs.Hints.{HintsStayRecorded, JoinedRunsAreLongest};
 ghost use Rattle.bt_machine.specs.Backing.{SameTreesTakeSame, HintsAreSplit, JoiningKeepsTrees, HintsForgetNothing, AcceptedProofsFollow, ClaimsThatAddNothing, PendingKeepsBacking, TorrentTreesAreOne, RecoveredIsBacked, GroupProofsFollow, OtherRootsStay, StartIsBacked, StepKeepsBacking, RunsAreBacked};
-ghost use Rattle.bt_machine.specs.Reopening.{BackedBlocksAreMarkedAgain, StepKeepsLog, FlushKeepsHints, FlushedBlocksAreMarkedAgain};
+ghost use Rattle.bt_machine.specs.Reopening.{BackedBlocksAreMarkedAgain, StepKeepsLog, FlushKeepsHints, FlushedLogsAreKept, FlushedBlocksAreMarkedAgain};
 
 use crate::law::{
     runs_compose, runs_keep_flushed_blocks, runs_keep_shape, starts_keep_laws, steps_keep_laws,
@@ -56,15 +56,19 @@ pub fn group_proofs_follow<H: NodeHash>(hash: H)
     answers_are_taken(hash);
 }
 
-/// A log that was opened for an engine backs it from its start on: with what is pending, it has a proof of all
-/// that the trees know, and each mark. Every event keeps it so, but for a restart that ran out of memory, and
-/// so does every list of events in which no such restart was the last.
+/// A log that was opened for an engine backs it from its start on: with what is pending, it has each mark, and
+/// leads a torrent's trees to what the engine's know. Every event keeps it so, but for a restart that ran out
+/// of memory, until one is accepted. From a flush that answered Ok on, what the log held then is in whatever a
+/// stop leaves of it.
 pub fn logs_back_engines<D: Disk, H: NodeHash>(hash: H)
     ensures starts { StartIsBacked D.history D.honest D.faults H.digest }
     ensures steps { StepKeepsBacking D.history D.honest D.faults H.digest }
     ensures runs { RunsAreBacked D.history D.honest D.faults H.digest }
+    ensures flushed { FlushedLogsAreKept D.history D.honest D.faults H.digest }
 {
     logs_hold_hints::<D>();
+    kept_hints_stand::<D>();
+    kept_devices_open::<D>();
     group_proofs_follow(hash);
     keeps_rooted(hash);
     starts_keep_laws::<D, H>(hash);
