@@ -6,13 +6,13 @@ use Rattle.bt_resume.specs.ResumeLog.{LogView, IsAttached, Opens, opened, unmeas
 use Rattle.bt_resume.specs.Law.{Holds, AttachHolds, ReloadHolds, AppendHolds, FlushHolds}
 use Rattle.bt_resume.specs.declared.hint.Hint.{Hint}
 use Rattle.bt_machine.specs.declared.event.Event.TheVariants.{Restart}
-use Rattle.bt_machine.specs.declared.event.Answer.TheVariants.{Flushed, Restarted}
+use Rattle.bt_machine.specs.declared.event.Answer.TheVariants.{Restarted}
 use Rattle.bt_machine.specs.declared.error.FlushError.{FlushError}
 use Rattle.bt_machine.specs.declared.error.RestartError.{RestartError}
-use Rattle.bt_machine.specs.declared.error.RestartError.TheVariants.{Log, OutOfMemory}
+use Rattle.bt_machine.specs.declared.error.RestartError.TheVariants.{OutOfMemory}
 use Rattle.bt_machine.specs.State.{EngineView}
 use Rattle.bt_machine.specs.Devices.{HaveCalls}
-use Rattle.bt_machine.specs.LogCalls.{LogCall, hints_read, reload_fault, append_fault, flush_fault, EventCalls, AreLogCalls, HaveLogCalls}
+use Rattle.bt_machine.specs.LogCalls.{LogCall, append_fault, flush_fault, EventCalls, AreLogCalls, HaveLogCalls}
 use Rattle.bt_machine.specs.Flush.{StepFlush, syncs, writes, fails, unwritten, unflushed}
 use Rattle.bt_machine.specs.Restart.{read as read_again, none as no_log, StepRestart, restarts, unread, no_memory as not_restarted}
 use Rattle.bt_machine.specs.Recovery.{Recovers}

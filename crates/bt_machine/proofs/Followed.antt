@@ -3,7 +3,7 @@ use Rattle.std.specs.FinMap as finite
 use Rattle.std.specs.Prelude.{nat_lt}
 use Rattle.std.proofs.lemmas.List.{append_assoc}
 use Rattle.std.proofs.lemmas.List.Elements.{All-from_get_or}
-use Rattle.bt_machine.proofs.Base.{[], ◌≡◌, ◌≢◌, ℕ, zero, suc, ◌+◌, ◌*◌, ◌/◌, ◌<◌, ◌⊎◌, inl, inr, Bool, true, false, List, ◌∷◌, ◌++◌, length, map, Option, Some, None, Result, Ok, Err, refl, sym, ap, ◌∙◌, subst, arith, slice_get, slice_set, Contains, All, ◌&&◌, if◌then◌else◌, option_and_then, lt-ltb, cases_lt, append-nil, IsDigest, KeepsRooted, Accepts, Facts, HashKey, Adopts, accepted, Adopted, states_after_put, PutMarked, PutWaiting, Wrong, Already, Range, DeviceFault, StoreError, Put, Marked, BlockId, planned_key, PeerMessage as Sent, KeepAlive, Have, Bitfield, Request, Piece, Cancel, HashRequest, Hashes, HashReject, WireEvent, Hello, Message}
+use Rattle.bt_machine.proofs.Base.{[], ◌≡◌, ◌≢◌, ℕ, zero, suc, ◌*◌, ◌/◌, ◌⊎◌, inl, inr, Bool, true, false, List, ◌∷◌, ◌++◌, length, map, Option, Some, None, Result, Ok, Err, refl, sym, ap, ◌∙◌, subst, arith, slice_get, slice_set, Contains, All, ◌&&◌, if◌then◌else◌, option_and_then, lt-ltb, cases_lt, append-nil, IsDigest, KeepsRooted, Accepts, Facts, HashKey, Adopts, accepted, Adopted, states_after_put, PutMarked, PutWaiting, Wrong, Already, Range, DeviceFault, StoreError, Put, Marked, BlockId, planned_key, PeerMessage as Sent, KeepAlive, Have, Bitfield, Request, Piece, Cancel, HashRequest, Hashes, HashReject, WireEvent, Hello, Message}
 use Rattle.bt_sparse.specs.SparseTree.{IsSound}
 use Rattle.bt_sparse.specs.Answer.{answer_size}
 use Rattle.bt_hashreq.specs.Claim.{IsClaimBy, digests_in}
@@ -15,10 +15,10 @@ use Rattle.bt_machine.specs.Hints.{is_recorded}
 use Rattle.bt_machine.specs.Start.{IsTorrentTree}
 use Rattle.bt_machine.specs.Adopting.{proof_keys, run_starts, group_blocks}
 use Rattle.bt_machine.specs.HashMessages.{AcceptsHashes, new_proofs}
-use Rattle.bt_machine.specs.Recovery.{claim_of_proof, TakesProof, accepted as taken, passed, TakesHints}
+use Rattle.bt_machine.specs.Recovery.{TakesProof, accepted as taken, passed, TakesHints}
 use Rattle.bt_machine.specs.Frames.{AreSparseTrees}
 use Rattle.bt_machine.specs.Backing.{HoldSame, IsBacked, FollowFrom, GroupProofsFollow, OtherRootsStay}
-use Rattle.bt_machine.proofs.Machine.{Digest, PeerState, FileState, EngineState, DeviceCalls, Effect, state_at, with_file, with_tree, with_peer, FindsFault, damaged, fault, HandlesRequest, ignored, no_place, not_marked, served, stopped, HasPutEffect, HandlesPiece, stale, arrives, HandlesHashRequest, answered, rejected, HandlesHashes, unknown_root, no_claim, refused, accepts_hashes, HandlesHello, ours, other, HandlesHave, in_range, out_of_range, HandlesBitfield, right, wrong, HandlesMessage, Handles, FollowsUp, with_pending, StepNext, no_peer, waits, keeps_peer, closes, faulty, no_memory, StepConnect, joins, full, spent, no_room, StepFeed, feeds, not_fed, no_room as no_room_to_feed, StepLost, goes, not_fed as not_lost, FollowsEach, StepRechoke, rechokes, not_rechoked, rechoked, AdoptsGroup, AdoptsGroups, StepAdopt, no_file, busy, empty, adopts, not_adopted}
+use Rattle.bt_machine.proofs.Machine.{Digest, PeerState, FileState, EngineState, DeviceCalls, Effect, state_at, with_file, with_tree, with_peer, FindsFault, damaged, fault, HandlesRequest, ignored, no_place, not_marked, served, stopped, HasPutEffect, HandlesPiece, stale, arrives, HandlesHashRequest, answered, rejected, HandlesHashes, unknown_root, no_claim, refused, accepts_hashes, HandlesHello, ours, other, HandlesHave, in_range, out_of_range, HandlesBitfield, right, wrong, HandlesMessage, Handles, with_pending, StepNext, no_peer, waits, keeps_peer, closes, faulty, no_memory, StepConnect, joins, full, spent, no_room, StepFeed, feeds, not_fed, no_room as no_room_to_feed, StepLost, goes, not_fed as not_lost, FollowsEach, StepRechoke, rechokes, not_rechoked, rechoked, AdoptsGroup, AdoptsGroups, StepAdopt, no_file, busy, empty, adopts, not_adopted}
 use Rattle.bt_machine.proofs.Lists.{same_some, contains_map, contains_none, set_cases}
 use Rattle.bt_machine.proofs.Pairs.{Pairs, pairs_at, pairs_set}
 use Rattle.bt_machine.proofs.Marks.{state_is, file_marked}

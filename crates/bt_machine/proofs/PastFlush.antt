@@ -1,12 +1,12 @@
 -- What a log kept at a flush that answered Ok, over the events that follow and in what a stop leaves.
-use Rattle.bt_machine.proofs.Base.{[], ◌≡◌, ℕ, true, List, ◌∷◌, flat_map, Option, Some, Ok, sym, ap, ◌∙◌, subst, IsDigest, KeepsRooted, Metainfo}
+use Rattle.bt_machine.proofs.Base.{[], ◌≡◌, ℕ, true, List, ◌∷◌, flat_map, Some, ap, ◌∙◌, subst, IsDigest, KeepsRooted, Metainfo}
 use Rattle.bt_disk.specs.History.{History, moment_of}
 use Rattle.bt_resume.specs.LogText.{LogText}
 use Rattle.bt_resume.specs.ResumeLog.{LogView}
-use Rattle.bt_resume.specs.Law.{IsTextKeptSince, KeepsText, KeptDevicesOpen, AttachHolds, ReloadHolds, AppendHolds, FlushHolds, Holds, ReloadStands, AppendStands, FlushStands, FlushedStand}
+use Rattle.bt_resume.specs.Law.{IsTextKeptSince, KeptDevicesOpen, AttachHolds, ReloadHolds, AppendHolds, FlushHolds, Holds, ReloadStands, AppendStands, FlushStands, FlushedStand}
 use Rattle.bt_resume.specs.declared.error.AppendError.TheVariants.{Full, Device as AppendDevice}
 use Rattle.bt_machine.specs.State.{EngineView}
-use Rattle.bt_machine.specs.LogCalls.{LogCall, hints_read, reload_fault, hint_appended, append_fault, log_flushed, flush_fault, IsLogCall, AreLogCalls, HaveLogCalls}
+use Rattle.bt_machine.specs.LogCalls.{LogCall, hints_read, reload_fault, hint_appended, append_fault, log_flushed, flush_fault, IsLogCall, AreLogCalls}
 use Rattle.bt_machine.specs.Frames.{StartsSparse, StepKeepsSparse}
 use Rattle.bt_machine.specs.Shape.{StartsInShape, StepKeepsShape}
 use Rattle.bt_machine.specs.Backing.{GroupProofsFollow, OtherRootsStay}
