@@ -318,7 +318,8 @@ module _ {D : Type 0} (history : D → History) (honest : D → Type 0) (faults 
             }
         run_backed shape keep torrent lawful _ _ _ backed old new shaped sparse texts before run logs = absurd run
 
-        module _ (attach : AttachHolds history honest faults) (starts : StartsInShape dig) (sparse : StartsSparse dig) (shape : StepKeepsShape dig) (keep : StepKeepsSparse dig) where
+        module _ (attach : AttachHolds history honest faults) (starts : StartsInShape dig) (sparse : StartsSparse dig) (shape : StepKeepsShape dig)
+            (keep : StepKeepsSparse dig) where
           pub after_run : (torrent : Metainfo) (given : List (Option D)) (disk : D) (log : LogView D) (first last : EngineView D) (events : List Event)
               (answers : List Answer) → IsLawful torrent.piece_length torrent.files → length torrent.infohash ≡ digest_length
               → IsAttached history honest faults torrent.infohash disk log → BeginsOn history honest faults dig torrent given (Some log) first
