@@ -60,7 +60,7 @@ module _ {D : Type 0} (history : D → History) (honest : D → Type 0) (faults 
   none_first [] more e = (refl, e)
   none_first (call ∷ first) more e = absurd cc
 
-  log_split : (o n : Option (LogView D)) (first more : List LogCall) → HaveLogCalls history honest faults o (first ++ more) n
+  pub log_split : (o n : Option (LogView D)) (first more : List LogCall) → HaveLogCalls history honest faults o (first ++ more) n
       → (m : Option (LogView D)) × HaveLogCalls history honest faults o first m × HaveLogCalls history honest faults m more n
   log_split (Some old) (Some new) first more c =
       let split = calls_split old first more new c in

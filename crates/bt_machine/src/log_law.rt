@@ -1,6 +1,7 @@
 //! What follows for logs: what hints say of trees and marks, and that what a flush has written is enough to
 //! begin anew with. The functions do nothing when they run.
 ghost use Rattle.bt_machine.specs.Hints.{HintsStayRecorded, JoinedRunsAreLongest};
+ghost use Rattle.bt_machine.specs.View.{StartsOfLog, StepKeepsOfLog, RunKeepsOfLog};
 ghost use Rattle.bt_machine.specs.Backing.{SameTreesTakeSame, HintsAreSplit, JoiningKeepsTrees, HintsForgetNothing, AcceptedProofsFollow, ClaimsThatAddNothing, PendingKeepsBacking, TorrentTreesAreOne, RecoveredIsBacked, GroupProofsFollow, OtherRootsStay, StartIsBacked, StepKeepsBacking, RunsAreBacked};
 ghost use Rattle.bt_machine.specs.Reopening.{BackedBlocksAreMarkedAgain, StepKeepsLog, FlushKeepsHints, FlushedLogsAreKept, FlushedBlocksAreMarkedAgain};
 
@@ -29,6 +30,15 @@ pub fn hints_lead_trees<H: NodeHash>()
     ensures pending { PendingKeepsBacking H.digest }
     ensures one { TorrentTreesAreOne H.digest }
     ensures recovered { RecoveredIsBacked H.digest }
+{}
+
+/// An engine and its log go together, from a start on, over each event and over any list of them, whatever
+/// they answer: there is a log where the engine says so, it is the torrent's, and the engine's hints are those
+/// that were last read from it.
+pub fn engines_are_of_logs<D: Disk, H: NodeHash>()
+    ensures starts { StartsOfLog D.history D.honest D.faults H.digest }
+    ensures steps { StepKeepsOfLog D.history D.honest D.faults H.digest }
+    ensures runs { RunKeepsOfLog D.history D.honest D.faults H.digest }
 {}
 
 /// What a log backs is marked again, when all is begun anew with its hints and the reads are right.
