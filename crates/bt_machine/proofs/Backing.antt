@@ -49,7 +49,7 @@ module _ {D : Type 0} (history : D → History) (honest : D → Type 0) (faults 
 
   -- ---- lists of calls
 
-  calls_split : (old : LogView D) (first more : List LogCall) (new : LogView D) → AreLogCalls history honest faults old (first ++ more) new
+  pub calls_split : (old : LogView D) (first more : List LogCall) (new : LogView D) → AreLogCalls history honest faults old (first ++ more) new
       → (mid : LogView D) × AreLogCalls history honest faults old first mid × AreLogCalls history honest faults mid more new
   calls_split old [] more new c = (old, refl, c)
   calls_split old (call ∷ first) more new c =

@@ -5,12 +5,11 @@ use Rattle.bt_resume.specs.declared.hint.Hint.{Hint}
 use Rattle.bt_resume.specs.declared.error.AppendError.TheVariants.{Full, Device as AppendDevice}
 use Rattle.bt_machine.specs.declared.error.FlushError.{FlushError}
 use Rattle.bt_machine.specs.declared.error.RestartError.{RestartError}
-use Rattle.bt_machine.specs.State.{EngineView}
 use Rattle.bt_machine.specs.LogCalls.{LogCall, hints_read, reload_fault, hint_appended, append_fault, log_flushed, flush_fault, IsLogCall, AreLogCalls}
 use Rattle.bt_machine.specs.Flush.{appended}
 use Rattle.bt_machine.specs.Restart.{read as read_again, none as no_log, StepRestart, restarts, unread, no_memory as not_restarted}
-use Rattle.bt_machine.specs.View.{StepsTo, RunsTo, HasLog, IsOfLog, StartsOfLog, StepKeepsOfLog, RunKeepsOfLog}
-use Rattle.bt_machine.proofs.Machine.{Digest, Event, Connect, Feed, Next, Lost, Rechoke, Adopt, Flush, Restart, Answer, EngineState, EventCalls, HaveLogCalls, StepFlush, syncs, writes, fails, unwritten, unflushed, Step, RunOn, Recovers, BeginsOn, bare_on, with_log_on}
+use Rattle.bt_machine.specs.View.{HasLog, IsOfLog, StartsOfLog, StepKeepsOfLog, RunKeepsOfLog}
+use Rattle.bt_machine.proofs.Machine.{Digest, Event, Connect, Feed, Next, Lost, Rechoke, Adopt, Flush, Restart, Answer, EngineState, EventCalls, HaveLogCalls, StepFlush, syncs, writes, fails, unwritten, unflushed, Step, RunOn, Recovers, bare_on, with_log_on}
 use Rattle.bt_machine.proofs.Restarts.{restart_or, recovered}
 use Rattle.bt_machine.proofs.Shape.{step_keeps}
 use Rattle.bt_machine.proofs.Backing.{log_split}

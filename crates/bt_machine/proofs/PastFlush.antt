@@ -36,7 +36,7 @@ module _ {D : Type 0} (history : D → History) (honest : D → Type 0) (faults 
 
   module _ (dig : Digest) (torrent : Metainfo) (flushed last : EngineView D) (synced stopped : LogView D)
       (r : RunsPastFlush history honest faults dig torrent flushed last synced stopped) (h : honest stopped.disk) where
-    later_calls : AreLogCalls history honest faults synced (flat_map (λ c. c.log) r.goes_on.calls) stopped
+    pub later_calls : AreLogCalls history honest faults synced (flat_map (λ c. c.log) r.goes_on.calls) stopped
     later_calls = logs_are history honest faults flushed.log last.log (flat_map (λ c. c.log) r.goes_on.calls) r.synced_is r.stopped_is r.goes_on.logged
 
     pub synced_honest : honest synced.disk

@@ -506,6 +506,9 @@ module _ (dig : Digest) where
   pub step_torrent : (s new e calls a : _) → Step dig s e calls a new → new.torrent ≡ s.torrent
   step_torrent s new e calls a t = (step_log {s = s} {new = new} e calls a t).torrent
 
+  pub step_logged : (s new e calls a : _) → Step dig s e calls a new → new.logged ≡ s.logged
+  step_logged s new e calls a t = (step_log {s = s} {new = new} e calls a t).logged
+
   log_at_first : {torrent first : _} → Begins dig torrent first → HasHintsOfLog first
   log_at_first (bare starts) = record { read = λ none. ap (λ z. z.hints) starts.is; written = λ none. ap (λ z. z.pending) starts.is }
   log_at_first (with_log hints calls starts) =
