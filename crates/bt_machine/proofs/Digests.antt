@@ -2,12 +2,14 @@
 use Rattle.std.proofs.lemmas.Nat.{div-add-mod', mod_below}
 use Rattle.std.proofs.lemmas.List.{get_or-replicate}
 use Rattle.bt_tree.specs.Peaks.{row_node}
+use Rattle.bt_sparse.specs.NodeMap.{HasDigests}
 use Rattle.bt_sparse.specs.SparseTree.{IsSound}
 use Rattle.bt_sparse.specs.Claim.{HasShape, Claims, in_run, on_path, uncle, run_height, run_node, run_digest, path_node, parent_digest, path_digest}
 use Rattle.bt_hashreq.specs.Claim.{IsClaimBy, digests_in}
 use Rattle.bt_store.specs.Adoption.{Adopts, accepted, claimed_digest}
-use Rattle.bt_machine.proofs.Base.{[], ◌≡◌, ℕ, zero, suc, ◌+◌, ◌-◌, ◌*◌, ◌/◌, ◌%◌, ◌^◌, ◌<◌, ◌≤◌, inl, inr, Bool, true, false, List, ◌∷◌, ◌++◌, map, take, drop, replicate, length, refl, sym, ap, ◌∙◌, arith, ◌==◌, if◌then◌else◌, cases_lt, get_or, get_or-take, get_or-drop, get_or_append_left, get_or-append_right, length-append, length-take, length-drop, length-replicate, first_chunks, IsDigest, length-padding_digest, padding_digest, Facts, KeepsRooted, Accepts, Claim, HashKey, BlockRead, given, failed, block_length, BlockState, Adopted}
+use Rattle.bt_machine.proofs.Base.{[], ◌≡◌, ℕ, zero, suc, ◌+◌, ◌-◌, ◌*◌, ◌/◌, ◌%◌, ◌^◌, ◌<◌, ◌≤◌, inl, inr, Bool, true, false, List, ◌∷◌, ◌++◌, map, take, drop, replicate, length, refl, sym, ap, ◌∙◌, arith, ◌==◌, if◌then◌else◌, cases_lt, get_or, get_or-take, get_or-drop, get_or_append_left, get_or-append_right, length-append, length-take, length-drop, length-replicate, first_chunks, IsDigest, length-padding_digest, padding_digest, Facts, KeepsRooted, Accepts, Claim, HashKey, BlockRead, given, failed, block_length, BlockState, Adopted, Some, value_at, value_covers, value_padding, cases_node, value_inside, blocks_of}
 use Rattle.bt_machine.proofs.Machine.{Digest}
+use Rattle.bt_machine.proofs.Lists.{some_is}
 use Rattle.bt_machine.specs.Recovery.{claim_of_proof, IsProofFor}
 
 pub chunk_length : (count i : ℕ) (bytes : List ℕ) → i < count → 32 * count ≤ length bytes → length (get_or (first_chunks 32 count bytes) i []) ≡ 32
@@ -24,6 +26,13 @@ pub row_length : (dig : Digest) → IsDigest dig → (row : ℕ → List ℕ) (u
 unfolding row_node
 row_length dig sizes row zero i first = first i refl refl
 row_length dig sizes row (suc up) i first = sizes _
+
+-- what is known of a node has 32 bytes where what is held has
+pub value_length : (dig : Digest) → IsDigest dig → (k : Facts) (layer i : ℕ) (d : List ℕ) → HasDigests k.nodes → value_at dig k layer i ≡ Some d → length d ≡ 32
+value_length dig is k layer i d digests value = elim (cases_node (blocks_of k) layer i (value_inside dig k layer i d value)) [
+  | inl covers ↦ digests layer i d (sym (value_covers dig k layer i covers) ∙ value)
+  | inr past ↦ ap length (some_is (sym value ∙ value_padding dig k layer i past)) ∙ length-padding_digest dig is layer
+]
 
 module _ (dig : Digest) (is : IsDigest dig) (keeps : KeepsRooted dig) where
   abbrev Each : List (List ℕ) → Type 0
