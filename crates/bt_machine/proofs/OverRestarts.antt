@@ -17,14 +17,14 @@ use Rattle.bt_machine.proofs.Lists.{same_some, and_then_some}
 use Rattle.bt_machine.proofs.Marks.{state_is}
 use Rattle.bt_machine.proofs.Restarts.{restart_or}
 use Rattle.bt_machine.proofs.Shape.{step_keeps_files, step_torrent, step_logged}
-use Rattle.bt_machine.proofs.Sound.{step_sound}
+use Rattle.bt_machine.proofs.Sound.{of_all, step_sound}
 use Rattle.bt_machine.proofs.Crash.{images_kept}
 use Rattle.bt_machine.proofs.Unmarks.{marks_kept, device_before}
 use Rattle.bt_machine.proofs.Survival.{block_stands}
 use Rattle.bt_machine.proofs.LogCalls.{calls_back, calls_stand}
 use Rattle.bt_machine.proofs.Backing.{calls_split}
 use Rattle.bt_machine.proofs.Reopening.{marked_again}
-use Rattle.bt_machine.proofs.Reading.{of_all, files_read, never_less, device_after, block_read}
+use Rattle.bt_machine.proofs.Reading.{files_read, never_less, device_after, block_read}
 
 -- ---- failures
 
@@ -117,7 +117,7 @@ module _ {D : Type 0} (history : D → History) (honest : D → Type 0) (faults 
             → (bytes : List ℕ) × (read ≡ given b.block bytes) × IsRight dig k b.block bytes
         good read of_block among =
             let only : (c : Call) → Contains (calls_of b.file calls.devices) c → IsRead c =
-            λ c inside. files_read dig hints _ _ new calls.devices recovers.restores b.file c (of_all b.file calls.devices inside) in
+            λ c inside. files_read dig hints _ _ new calls.devices recovers.restores b.file c (of_all calls.devices inside) in
             let r = block_read history honest faults calls.devices b.file k.file_length b.block read h few same has only of_block among in
             (r.0, r.1, subst (IsRight dig k b.block) (sym (r.2 ∙ stands)) f.right)
     restart_marks b k bytes text t was log d e f torrent logged marked was_honest kept logs h few same has stands

@@ -1,5 +1,5 @@
 -- What reads of honest devices gave, and how many calls failed.
-use Rattle.bt_machine.proofs.Base.{[], ◌≡◌, ℕ, ◌*◌, ◌<◌, ◌≤◌, inl, inr, List, ◌∷◌, filter, take, drop, Option, Some, None, refl, sym, ap, ◌∙◌, subst, arith, slice_get, Contains, Contains-append_cases, ◌==◌, eqb-true, eq-eqb, cases_lt, block_length, BlockRead, given, failed, block_of, call_of, Call, bytes_given, sync_made, AreAnswered, History}
+use Rattle.bt_machine.proofs.Base.{[], ◌≡◌, ℕ, ◌*◌, ◌<◌, ◌≤◌, inl, inr, List, ◌∷◌, take, drop, Option, Some, None, refl, sym, ap, ◌∙◌, subst, arith, slice_get, Contains, Contains-append_cases, cases_lt, block_length, BlockRead, given, failed, block_of, call_of, Call, bytes_given, sync_made, AreAnswered, History}
 use Rattle.bt_disk.specs.Limits.{one_more, max_count}
 use Rattle.bt_disk.specs.Calls.{HasCalls, IsAnswered, IsRead, length_given, length_fault, read_fault, bytes_written, write_fault, length_set, resize_fault, sync_fault, count_after_call, count_after_calls}
 use Rattle.bt_resume.specs.declared.hint.Hint.{Hint}
@@ -12,22 +12,8 @@ use Rattle.bt_machine.specs.Recovery.{RestoresFile, empty, restored, RestoresFil
 use Rattle.bt_machine.specs.Stored.{stored_block}
 use Rattle.bt_machine.specs.Sound.{RunOn}
 use Rattle.bt_machine.proofs.Machine.{Digest}
-use Rattle.bt_machine.proofs.Lists.{same_some, get_some, some_below, here, later, contains_none, contains_cases, contains_map, map_contains, contains_filter, filter_contains}
-
--- ---- calls of one file
-
-pair_is : {file : ℕ} {c : Call} (a : ℕ × Call) → a.0 ≡ file → a.1 ≡ c → a ≡ (file, c)
-pair_is (g, y) e same = cc
-
-pub of_all : (file : ℕ) (calls : DeviceCalls) {c : Call} → Contains (calls_of file calls) c → Contains calls (file, c)
-of_all file calls {c} among =
-    let m = contains_map (λ a. a.1) (filter (λ a. a.0 == file) calls) among in
-    let t = contains_filter (λ a. a.0 == file) calls m.1 in
-    subst (Contains calls) (pair_is m.0 (eqb-true m.0.0 file t.1) m.2) t.0
-
-among_file : (file : ℕ) (calls : DeviceCalls) {c : Call} → Contains calls (file, c) → Contains (calls_of file calls) c
-among_file file calls {c} among =
-    map_contains (λ a. a.1) (filter (λ a. a.0 == file) calls) (filter_contains (λ a. a.0 == file) calls among (eq-eqb file file refl))
+use Rattle.bt_machine.proofs.Sound.{among_file}
+use Rattle.bt_machine.proofs.Lists.{same_some, get_some, some_below, here, later, contains_none, contains_cases, contains_map}
 
 -- ---- reads
 
@@ -147,10 +133,10 @@ module _ {D : Type 0} (history : D → History) (honest : D → Type 0) (faults 
       → block_of read ≡ i → Contains calls (file, call_of n read)
       → (bytes : List ℕ) × (read ≡ given i bytes) × (bytes ≡ stored_block n (history old).now.bytes i)
   block_read {old} {new} calls file n i (given b bytes) is_honest few same has all block among =
-      let at : Contains (calls_of file calls) (bytes_given (16384 * b) (block_length n b) bytes) = among_file file calls among in
+      let at : Contains (calls_of file calls) (bytes_given (16384 * b) (block_length n b) bytes) = among_file calls among in
       let are = bytes_are (calls_of file calls) (history old) (history new) all (has.answered is_honest) (16384 * b) (block_length n b) bytes at in
       (bytes, ap (λ j. given j bytes) block, are ∙ ap (λ j. stored_block n (history old).now.bytes j) block)
   block_read {old} {new} calls file n i (failed b) is_honest few same has all block among =
-      let at : Contains (calls_of file calls) (read_fault (16384 * b) (block_length n b)) = among_file file calls among in
+      let at : Contains (calls_of file calls) (read_fault (16384 * b) (block_length n b)) = among_file calls among in
       let more = fault_counts (calls_of file calls) (faults old) (16384 * b) (block_length n b) few at in
       absurd (omega (arith, more, has.counted, same))

@@ -34,8 +34,8 @@ pub fn hints_lead_trees<H: NodeHash>()
 {}
 
 /// An engine and its log go together, from a start on, over each event and over any list of them, whatever
-/// they answer: there is a log where the engine says so, it is the torrent's, and the engine's hints are those
-/// that were last read from it.
+/// they answer: there is a log exactly where the engine says so, it is the torrent's, and the engine's hints
+/// are those that were last read from it.
 pub fn engines_are_of_logs<D: Disk, H: NodeHash>()
     ensures starts { StartsOfLog D.history D.honest D.faults H.digest }
     ensures steps { StepKeepsOfLog D.history D.honest D.faults H.digest }
@@ -88,8 +88,8 @@ pub fn logs_back_engines<D: Disk, H: NodeHash>(hash: H)
 
 /// Once a flush answered Ok on an engine with a log, a stop at any later moment, also within an event, leaves
 /// enough: all blocks that were marked at the flush are marked where the devices and the log are opened again
-/// and no read fails. A restart since the flush counts as a reopening: where there was one, no call of a device
-/// failed since then.
+/// and no read fails. A restart since the flush counts as a reopening: where there was one, no call of a
+/// device failed since the flush.
 pub fn flushed_blocks_are_marked_again<D: Disk, H: NodeHash>(hash: H)
     ensures { FlushedBlocksAreMarkedAgain D.history D.honest D.faults H.digest }
 {
