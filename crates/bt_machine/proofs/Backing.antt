@@ -49,7 +49,7 @@ module _ {D : Type 0} (history : D → History) (honest : D → Type 0) (faults 
 
   -- ---- lists of calls
 
-  calls_split : (old : LogView D) (first more : List LogCall) (new : LogView D) → AreLogCalls history honest faults old (first ++ more) new
+  pub calls_split : (old : LogView D) (first more : List LogCall) (new : LogView D) → AreLogCalls history honest faults old (first ++ more) new
       → (mid : LogView D) × AreLogCalls history honest faults old first mid × AreLogCalls history honest faults mid more new
   calls_split old [] more new c = (old, refl, c)
   calls_split old (call ∷ first) more new c =
@@ -60,7 +60,7 @@ module _ {D : Type 0} (history : D → History) (honest : D → Type 0) (faults 
   none_first [] more e = (refl, e)
   none_first (call ∷ first) more e = absurd cc
 
-  log_split : (o n : Option (LogView D)) (first more : List LogCall) → HaveLogCalls history honest faults o (first ++ more) n
+  pub log_split : (o n : Option (LogView D)) (first more : List LogCall) → HaveLogCalls history honest faults o (first ++ more) n
       → (m : Option (LogView D)) × HaveLogCalls history honest faults o first m × HaveLogCalls history honest faults m more n
   log_split (Some old) (Some new) first more c =
       let split = calls_split old first more new c in

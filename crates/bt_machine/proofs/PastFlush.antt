@@ -27,7 +27,7 @@ module _ {D : Type 0} (history : D → History) (honest : D → Type 0) (faults 
   infohash_same old log_flushed new c = ap (λ (l : LogView D). l.infohash) c.1
   infohash_same old flush_fault new c = ap (λ (l : LogView D). l.infohash) c.1.1
 
-  infohash_stays : (old : LogView D) (calls : List LogCall) (new : LogView D) → AreLogCalls history honest faults old calls new
+  pub infohash_stays : (old : LogView D) (calls : List LogCall) (new : LogView D) → AreLogCalls history honest faults old calls new
       → new.infohash ≡ old.infohash
   infohash_stays old [] new c = ap (λ (l : LogView D). l.infohash) c
   infohash_stays old (call ∷ calls) new c = infohash_stays c.0 calls new c.2 ∙ infohash_same old call c.0 c.1
@@ -36,7 +36,7 @@ module _ {D : Type 0} (history : D → History) (honest : D → Type 0) (faults 
 
   module _ (dig : Digest) (torrent : Metainfo) (flushed last : EngineView D) (synced stopped : LogView D)
       (r : RunsPastFlush history honest faults dig torrent flushed last synced stopped) (h : honest stopped.disk) where
-    later_calls : AreLogCalls history honest faults synced (flat_map (λ c. c.log) r.goes_on.calls) stopped
+    pub later_calls : AreLogCalls history honest faults synced (flat_map (λ c. c.log) r.goes_on.calls) stopped
     later_calls = logs_are history honest faults flushed.log last.log (flat_map (λ c. c.log) r.goes_on.calls) r.synced_is r.stopped_is r.goes_on.logged
 
     pub synced_honest : honest synced.disk

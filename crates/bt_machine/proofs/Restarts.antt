@@ -1,13 +1,16 @@
 -- What is begun anew, and which events do so.
-use Rattle.bt_machine.proofs.Base.{[], ◌≡◌, ◌≢◌, ℕ, zero, suc, ◌<◌, ◌⊎◌, inl, inr, false, List, ◌∷◌, length, replicate, Some, refl, sym, ap, ◌∙◌, subst, arith, slice_get, Contains, ◌&&◌, is_some, range_with_len, length-set, value_at, Facts, HashKey, call_of, judged, Accepts, Missing, Marked, BlockId}
-use Rattle.bt_machine.proofs.Machine.{Digest, Connect, Feed, Next, Lost, Rechoke, Adopt, Flush, Restart, Event, FileState, EngineState, DeviceCalls, state_at, IsRecovered}
+use Rattle.bt_machine.proofs.Base.{[], ◌≡◌, ◌≢◌, ℕ, zero, suc, ◌<◌, ◌⊎◌, inl, inr, false, List, ◌∷◌, length, replicate, Some, Result, Ok, refl, sym, ap, ◌∙◌, subst, arith, slice_get, Contains, ◌&&◌, is_some, range_with_len, length-set, value_at, Facts, HashKey, call_of, judged, Accepts, Missing, Marked, BlockId}
+use Rattle.bt_machine.proofs.Machine.{Digest, Connect, Feed, Next, Lost, Rechoke, Adopt, Flush, Restart, Event, FileState, EngineState, DeviceCalls, EventCalls, state_at, IsRecovered}
 use Rattle.bt_resume.specs.declared.hint.Hint.{Hint}
 use Rattle.bt_resume.specs.declared.hint.Hint.TheVariants.{Proof, Marks}
+use Rattle.bt_machine.specs.declared.error.RestartError.{RestartError}
+use Rattle.bt_machine.specs.declared.event.Answer.TheVariants.{Restarted}
 use Rattle.bt_machine.specs.Blocks.{block_id}
 use Rattle.bt_machine.specs.Hints.{is_recorded}
 use Rattle.bt_machine.specs.Recovery.{claim_of_proof, IsProofFor, TakesProof, accepted, passed, TakesHints, RestoresFile, empty, restored, RestoresFiles, Recovers}
 use Rattle.bt_machine.specs.Restart.{StepRestart, restarts, unread, no_memory, ReadsAgain, read as reread, none as bare, KeepsPlaces}
 use Rattle.bt_machine.specs.Start.{IsTorrentTree}
+use Rattle.bt_machine.specs.Law.{RestartMarksByBytes}
 use Rattle.bt_machine.proofs.Lists.{same_some, and_then_some, and_true, get_some, some_below, set_same, contains_filter, map_contains}
 use Rattle.bt_machine.proofs.Marks.{judged_marks}
 use Rattle.bt_machine.proofs.Restoring.{step_of}
@@ -163,3 +166,22 @@ module _ (dig : Digest) where
       file_marks new b step.step (step.first.files ∙ f.1) (λ x. all_missing _ b.block (ap (λ xs. slice_get xs b.block) (sym missing) ∙ x))
       step.last.files step.last.trees (ap (λ z. z.hints) all.is) step.among
       (record { file = m.0; here = m.1; marked = m.2 })
+
+  -- ---- a restart that answered Ok
+
+  restart_ok : {r : Result (Unit {0}) RestartError} → Restarted (Ok tt) ≡ Restarted r → r ≡ Ok tt
+  restart_ok e = cc
+
+  -- it began all anew, with hints that it read
+  pub record BeganAnew (s : EngineState) (calls : EventCalls) (new : EngineState) : Type 0 where
+    pub hints : List Hint
+    pub reads : ReadsAgain s calls.log hints
+    pub recovers : Recovers dig s hints calls.devices new
+
+  pub began_anew : {s new : EngineState} {calls : EventCalls} {r : Result (Unit {0}) RestartError} → StepRestart dig s calls r new → r ≡ Ok tt → BeganAnew s calls new
+  began_anew (restarts hints reads recovers places x) ok = record { hints = hints; reads = reads; recovers = recovers }
+  began_anew (unread cause logged made x e) ok = absurd cc
+  began_anew (no_memory hints reads made x e) ok = absurd cc
+
+  pub restart_marks : RestartMarksByBytes dig
+  restart_marks old new calls t b m = recovered_marks (began_anew t.2 (restart_ok t.1)).recovers b m

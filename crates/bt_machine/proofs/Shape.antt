@@ -3,7 +3,7 @@ use Rattle.bt_machine.proofs.Base.{[], ◌≡◌, ◌≢◌, ℕ, zero, suc, ◌
 use Rattle.bt_machine.proofs.Machine.{Digest, Connect, Feed, Next, Lost, Rechoke, Adopt, Flush, Restart, FileState, EngineState, mark_of, add_hints, with_file, with_tree, with_peer, new_marked_blocks, FindsFault, damaged, fault, HandlesRequest, ignored, no_place, not_marked, served, stopped, HandlesPiece, stale, arrives, judged_file, SettlesIn, HandlesHashes, unknown_root, no_claim, refused, accepts_hashes, HandlesHave, in_range, out_of_range, HandlesBitfield, right, wrong, HandlesMessage, Handles, FollowsUp, without_peer, with_pending, TakesEvent, StepNext, no_peer, waits, keeps_peer, closes, faulty, no_memory, StepConnect, joins, full, spent, no_room, StepFeed, feeds, not_fed, no_room as no_room_to_feed, StepLost, goes, not_fed as not_lost, FollowsEach, StepRechoke, rechokes, not_rechoked, AdoptsGroup, AdoptsGroups, StepAdopt, no_file, busy, empty, adopts, not_adopted, StepFlush, syncs, writes, fails, unwritten, unflushed, Begins, bare, with_log, Recovers, Step, Run, IsShaped, HasShapeOf, RunsKeepShape}
 use Rattle.std.proofs.lemmas.Option.{slice_get-map}
 use Rattle.bt_store.specs.Adoption.{marked_group}
-use Rattle.bt_machine.specs.Shape.{StepKeepsFiles, HasHintsOfLog, HasOldTree, HasNewTree}
+use Rattle.bt_machine.specs.Shape.{StepKeepsFiles, HasHintsWithLogOnly, HasOldTree, HasNewTree}
 use Rattle.bt_machine.specs.Recovery.{RestoresFile, empty as no_block, restored, RestoresFiles}
 use Rattle.bt_machine.proofs.Lists.{set_get, set_cases, map_some, same_some, get_map}
 use Rattle.bt_machine.proofs.Adopting.{group_extends}
@@ -460,7 +460,7 @@ module _ (dig : Digest) where
   record KeepsLog (s m : EngineState) : Type 0 where
     torrent : m.torrent ≡ s.torrent
     logged : m.logged ≡ s.logged
-    hints : HasHintsOfLog s → HasHintsOfLog m
+    hints : HasHintsWithLogOnly s → HasHintsWithLogOnly m
 
   log_kept : {s m : _} → Keeps s m → KeepsLog s m
   log_kept k = record {
@@ -506,7 +506,10 @@ module _ (dig : Digest) where
   pub step_torrent : (s new e calls a : _) → Step dig s e calls a new → new.torrent ≡ s.torrent
   step_torrent s new e calls a t = (step_log {s = s} {new = new} e calls a t).torrent
 
-  log_at_first : {torrent first : _} → Begins dig torrent first → HasHintsOfLog first
+  pub step_logged : (s new e calls a : _) → Step dig s e calls a new → new.logged ≡ s.logged
+  step_logged s new e calls a t = (step_log {s = s} {new = new} e calls a t).logged
+
+  log_at_first : {torrent first : _} → Begins dig torrent first → HasHintsWithLogOnly first
   log_at_first (bare starts) = record { read = λ none. ap (λ z. z.hints) starts.is; written = λ none. ap (λ z. z.pending) starts.is }
   log_at_first (with_log hints calls starts) =
       let logged = (anew_keeps starts).logged in
@@ -515,8 +518,8 @@ module _ (dig : Digest) where
       both : {b : Bool} → b ≡ true → b ≡ false → ⊥
       both is other = absurd cc
 
-  run_shape : {torrent : _} (s : _) {new : _} (es calls answers : _) → IsShaped torrent s → HasHintsOfLog s → Run dig s es calls answers new
-      → IsShaped torrent new × HasHintsOfLog new × (new.logged ≡ s.logged)
+  run_shape : {torrent : _} (s : _) {new : _} (es calls answers : _) → IsShaped torrent s → HasHintsWithLogOnly s → Run dig s es calls answers new
+      → IsShaped torrent new × HasHintsWithLogOnly new × (new.logged ≡ s.logged)
   run_shape s [] [] [] shaped hints run = rw run (shaped, hints, refl)
   run_shape s (e ∷ es) (c ∷ calls) (a ∷ answers) shaped hints run =
       let log = step_log e c a run.1 in

@@ -28,7 +28,7 @@ stands_in n xs i j {byte} at =
     ∙ ap (λ x. Some x) (sym (index_at n xs i j (omega arith)) ∙ get_or_from_slice_get _ j byte 0 at)
 
 -- where each of its bytes stands there, the block does
-block_stands : (n i bytes image : _) → length bytes ≡ block_length n i
+pub block_stands : (n i bytes image : _) → length bytes ≡ block_length n i
     → ((j byte : ℕ) → slice_get bytes j ≡ Some byte → slice_get image (16384 * i + j) ≡ Some byte) → stored_block n image i ≡ bytes
 block_stands n i bytes image size each =
     let at : (j : ℕ) → j < length bytes → slice_get image (16384 * i + j) ≡ Some (get_or bytes j 0) = λ j lt. each j _ (slice_get-get_or bytes j 0 lt) in
@@ -80,7 +80,7 @@ flushed (unwritten before hint after cause x y z is same) ok = absurd cc
 flushed (unflushed x y is same) ok = absurd cc
 
 -- a file with a block has a device
-has_device : (s : EngineState) (file i : ℕ) {f : FileState} → slice_get s.files file ≡ Some f → slice_get f.states i ≡ Some Marked
+pub has_device : (s : EngineState) (file i : ℕ) {f : FileState} → slice_get s.files file ≡ Some f → slice_get f.states i ≡ Some Marked
     → Contains (data_files s) file
 has_device s file i {f} at marked =
     let below = some_below s.files file at in

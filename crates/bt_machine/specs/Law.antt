@@ -180,6 +180,12 @@ StartMarksByBytes dig = (torrent : Metainfo) (hints : List Hint) (calls : Device
     → StartsWith dig torrent hints calls new → (b : BlockId) → state_at new b ≡ Some Marked
     → IsRecovered dig calls new b
 
+-- So was each that is marked after a restart that answered Ok, in that restart, whatever it was before.
+abbrev pub RestartMarksByBytes : (List ℕ → List ℕ) → Type 0
+RestartMarksByBytes dig = (old new : EngineState) (calls : EventCalls)
+    → Step dig old Restart calls (Restarted (Ok tt)) new → (b : BlockId) → state_at new b ≡ Some Marked
+    → IsRecovered dig calls.devices new b
+
 -- Of a run that answers so, at the event of this one answer: this is so of the step there, of the engine
 -- before it, the event, the calls of devices and the engine after it. The run came to it with the answers
 -- before, and goes on from it with those after.

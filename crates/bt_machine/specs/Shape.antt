@@ -56,7 +56,7 @@ pub record StepKeepsFiles (dig : List ℕ → List ℕ) : Type 0 where
       → (t : ℕ) (k : Facts) → slice_get old.trees t ≡ Some k → HasNewTree new t k
 
 -- without a log there is no hint from one, and none that is to be written
-pub record HasHintsOfLog (s : EngineState) : Type 0 where
+pub record HasHintsWithLogOnly (s : EngineState) : Type 0 where
   pub read : s.logged ≡ false → s.hints ≡ []
   pub written : s.logged ≡ false → s.pending ≡ []
 
@@ -65,4 +65,4 @@ abbrev pub RunsKeepShape : (List ℕ → List ℕ) → Type 0
 RunsKeepShape dig = (torrent : Metainfo) (first last : EngineState)
     (events : List Event) (calls : List EventCalls) (answers : List Answer)
     → Begins dig torrent first → Run dig first events calls answers last
-    → IsShaped torrent last × HasHintsOfLog last × (last.logged ≡ first.logged)
+    → IsShaped torrent last × HasHintsWithLogOnly last × (last.logged ≡ first.logged)

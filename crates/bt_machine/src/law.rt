@@ -1,4 +1,4 @@
-ghost use Rattle.bt_machine.specs.Law.{StartsRooted, StepKeepsRooted, RunsAreChecked, RightIsChecked, RunMarksByBytes, StepMarksByBytes, StartMarksByBytes, RunSendsReadBytes};
+ghost use Rattle.bt_machine.specs.Law.{StartsRooted, StepKeepsRooted, RunsAreChecked, RightIsChecked, RunMarksByBytes, StepMarksByBytes, StartMarksByBytes, RestartMarksByBytes, RunSendsReadBytes};
 ghost use Rattle.bt_machine.specs.Sound.{StartsSound, StepKeepsSound, HonestDevicesWereSo, CompleteFilesStand};
 ghost use Rattle.bt_machine.specs.Writes.{StepWritesMissing};
 ghost use Rattle.bt_machine.specs.Unmarks.{StepUnmarksByBytes, RunKeepsMarks};
@@ -87,6 +87,12 @@ pub fn step_marks_by_bytes<H: NodeHash>(hash: H)
 /// A block that is marked when an engine is started with a log is recorded in it, and was read then.
 pub fn start_marks_by_bytes<H: NodeHash>()
     ensures { StartMarksByBytes H.digest }
+{}
+
+/// A block that is marked after a restart that answered Ok is recorded in the log, and was read in this
+/// restart, whatever it was before.
+pub fn restart_marks_by_bytes<H: NodeHash>()
+    ensures { RestartMarksByBytes H.digest }
 {}
 
 /// What an answer of a list of events sends of data was asked for in that answer's own event, and is cut from

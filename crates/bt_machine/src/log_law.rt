@@ -1,15 +1,17 @@
 //! What follows for logs: what hints say of trees and marks, and that what a flush has written is enough to
 //! begin anew with. The functions do nothing when they run.
 ghost use Rattle.bt_machine.specs.Hints.{HintsStayRecorded, JoinedRunsAreLongest};
+ghost use Rattle.bt_machine.specs.View.{StartsOfLog, StepKeepsOfLog, RunKeepsOfLog};
 ghost use Rattle.bt_machine.specs.Backing.{SameTreesTakeSame, HintsAreSplit, JoiningKeepsTrees, HintsForgetNothing, AcceptedProofsFollow, ClaimsThatAddNothing, PendingKeepsBacking, TorrentTreesAreOne, RecoveredIsBacked, GroupProofsFollow, OtherRootsStay, StartIsBacked, StepKeepsBacking, RunsAreBacked};
 ghost use Rattle.bt_machine.specs.Reopening.{BackedBlocksAreMarkedAgain, StepKeepsLog, FlushKeepsHints, FlushedLogsAreKept, FlushedBlocksAreMarkedAgain};
 
 use crate::law::{
     runs_compose, runs_keep_flushed_blocks, runs_keep_shape, starts_keep_laws, steps_keep_laws,
 };
-use bt_disk::Disk;
+use bt_disk::{Disk, calls_keep_bytes};
 use bt_resume::{hints_are_read_back, kept_devices_open, kept_hints_stand, logs_hold_hints};
 use bt_sparse::{answers_agree, answers_are_taken, keeps_rooted};
+use bt_store::adopt_marks_by_bytes;
 use bt_tree::{NodeHash, heights_are_least};
 
 /// What hints record they go on to record when others are added, and their marks are in runs as long as may be.
@@ -29,6 +31,15 @@ pub fn hints_lead_trees<H: NodeHash>()
     ensures pending { PendingKeepsBacking H.digest }
     ensures one { TorrentTreesAreOne H.digest }
     ensures recovered { RecoveredIsBacked H.digest }
+{}
+
+/// An engine and its log go together, from a start on, over each event and over any list of them, whatever
+/// they answer: there is a log exactly where the engine says so, it is the torrent's, and the engine's hints
+/// are those that were last read from it.
+pub fn engines_are_of_logs<D: Disk, H: NodeHash>()
+    ensures starts { StartsOfLog D.history D.honest D.faults H.digest }
+    ensures steps { StepKeepsOfLog D.history D.honest D.faults H.digest }
+    ensures runs { RunKeepsOfLog D.history D.honest D.faults H.digest }
 {}
 
 /// What a log backs is marked again, when all is begun anew with its hints and the reads are right.
@@ -77,7 +88,8 @@ pub fn logs_back_engines<D: Disk, H: NodeHash>(hash: H)
 
 /// Once a flush answered Ok on an engine with a log, a stop at any later moment, also within an event, leaves
 /// enough: all blocks that were marked at the flush are marked where the devices and the log are opened again
-/// and no read fails.
+/// and no read fails. A restart since the flush counts as a reopening: where there was one, no call of a
+/// device failed since the flush.
 pub fn flushed_blocks_are_marked_again<D: Disk, H: NodeHash>(hash: H)
     ensures { FlushedBlocksAreMarkedAgain D.history D.honest D.faults H.digest }
 {
@@ -89,4 +101,6 @@ pub fn flushed_blocks_are_marked_again<D: Disk, H: NodeHash>(hash: H)
     kept_hints_stand::<D>();
     logs_hold_hints::<D>();
     hints_are_read_back();
+    adopt_marks_by_bytes(hash);
+    calls_keep_bytes();
 }
