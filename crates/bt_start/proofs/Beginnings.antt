@@ -158,9 +158,9 @@ module _ {D H : Type 0} {file : File} {slot : Slot D H} (new : IsNewSlot file sl
 
 module _ {D H : Type 0} {dig : List ℕ → List ℕ} (parts : Parts D H) (is : AreNewParts dig parts) (count : length parts.slots.items ≡ length parts.torrent.files)
     (all_new : (i : ℕ) (file : File) (slot : Slot D H) → slice_get parts.torrent.files i ≡ Some file → slice_get parts.slots.items i ≡ Some slot
-      → (file_of slot).states ≡ new_states file.length)
+    → (file_of slot).states ≡ new_states file.length)
     (have_trees : (i : ℕ) (file : File) (slot : Slot D H) → slice_get parts.torrent.files i ≡ Some file → slice_get parts.slots.items i ≡ Some slot
-      → HasTreeAt file (map root_and_length parts.trees.items) slot.tree) where
+    → HasTreeAt file (map root_and_length parts.trees.items) slot.tree) where
   new_file : (i : ℕ) (file : File) (f : FileState) → slice_get parts.torrent.files i ≡ Some file → slice_get (map file_of parts.slots.items) i ≡ Some f
       → IsNewFile file parts.trees.items f
   new_file i file f listed at =
@@ -262,10 +262,10 @@ module _ {D H : Type 0} {dig : List ℕ → List ℕ} (bare next : Parts D H) (i
 
   tied : LiesInItsPiece → IsTied begun
   tied lies = tied_anew begun new_parts as_many slot_states slot_tree lies (λ i slot at. (
-    let file = get_some bare.torrent.files i (omega (arith, as_many, some_below next.slots.items i at)) in
-    let own = new i file.0 slot file.1 at in
-    record { file = file.0; listed = file.1; empty = empty_without own; some = fits_tree own (slot_tree i file.0 slot file.1 at) }
-    ))
+      let file = get_some bare.torrent.files i (omega (arith, as_many, some_below next.slots.items i at)) in
+      let own = new i file.0 slot file.1 at in
+      record { file = file.0; listed = file.1; empty = empty_without own; some = fits_tree own (slot_tree i file.0 slot file.1 at) }
+      ))
 
 -- ---- the same, where the slots were lent and made
 

@@ -233,7 +233,7 @@ trees_apart trees roots are apart =
     (pairs_of_map (λ r s. r ≢ s) (λ (k : Facts). k.root) trees (subst (λ rs. Pairs (λ r s. r ≢ s) rs) (sym are) (to_pairs (λ r s. r ≢ s) roots apart)))
 
 -- the first file that is read at i
-module _ {files : List File} {entries : List FileEntry} {numbers : List ℕ} (said : map file_of entries ≡ files) (firsts : EachIsFirst files numbers)
+module _ {files : List File} (entries : List FileEntry) (numbers : List ℕ) (said : map file_of entries ≡ files) (firsts : EachIsFirst files numbers)
     (i : ℕ) (lt : i < length numbers) where
   first : IsFirstFile files (get_or numbers i 0)
   first = firsts i (get_or numbers i 0) (get_at numbers i 0 lt)
@@ -256,11 +256,11 @@ module _ {files : List File} {entries : List FileEntry} {numbers : List ℕ} (sa
     pub tree_pushed : {dig : List ℕ → List ℕ} {torrent : Metainfo} (trees : List Facts) {more : List Facts} {k : Facts} → torrent.files ≡ files
         → length trees ≡ i → AreTreesSoFar dig torrent numbers trees → IsTreeFrom dig torrent (file_of entry) k → more ≡ trees ++ k ∷ []
         → AreTreesSoFar dig torrent numbers more
-    tree_pushed {dig} {torrent} trees {more} {k} same size so_far of shape t number l there at =
+    tree_pushed {dig} {torrent} trees {more} {k} same long so_far of shape t number l there at =
         elim (get_cases trees t (ap (λ (ks : List Facts). slice_get ks t) (sym shape) ∙ at)) [
           | inl before ↦ so_far t number l there before
           | inr last ↦ (
-              let own : number ≡ get_or numbers i 0 = some_is (sym there ∙ ap (λ n. slice_get numbers n) (last.0 ∙ size) ∙ get_at numbers i 0 lt) in
+              let own : number ≡ get_or numbers i 0 = some_is (sym there ∙ ap (λ n. slice_get numbers n) (last.0 ∙ long) ∙ get_at numbers i 0 lt) in
               record {
                 file = file_of entry;
                 listed = ap (λ (fs : List File). slice_get fs number) same ∙ ap (λ n. slice_get files n) own ∙ first_read;
@@ -272,10 +272,10 @@ module _ {files : List File} {entries : List FileEntry} {numbers : List ℕ} (sa
 module _ {dig : List ℕ → List ℕ} {torrent : Metainfo} {firsts : List ℕ} {trees : List Facts} (are : AreTreesOf dig torrent firsts trees) where
   pub names_of_trees : map root_and_length trees ≡ roots_and_lengths torrent.files firsts
   names_of_trees = names_agree torrent.files trees firsts are.count (λ t n k there at. (
-    let of = are.each t n k there at in
-    let is = tree_is of.says in
-    ap (λ root. (root, k.file_length)) is.0 ∙ ap (λ m. (of.file.root, m)) is.1 ∙ sym (listed_root torrent.files n of.listed)
-    ))
+      let of = are.each t n k there at in
+      let is = tree_is of.says in
+      ap (λ root. (root, k.file_length)) is.0 ∙ ap (λ m. (of.file.root, m)) is.1 ∙ sym (listed_root torrent.files n of.listed)
+      ))
 
   pub roots_of_trees : map (λ k. k.root) trees ≡ roots_of torrent.files firsts
   roots_of_trees =

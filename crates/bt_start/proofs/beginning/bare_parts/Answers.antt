@@ -1,20 +1,17 @@
-use Rattle.std.proofs.Common.{List, map, refl, sym, ap, ◌∙◌, subst}
-use Rattle.bt_meta.specs.Files.{File}
-use Rattle.bt_state.specs.Ties.{EachIsFirst, root_and_length}
-use Rattle.bt_start.specs.TreeSteps.{AreBareSlots, roots_of, roots_and_lengths}
+use Rattle.std.proofs.Common.{refl}
 use Rattle.bt_start.proofs.RootTrees.{names_of_trees, roots_of_trees, torrent_trees, trees_apart}
 use Rattle.bt_start.proofs.beginning.bare_parts.Goals as goal
 
 pub new_trees-requires-clause-firsts : goal.new_trees-requires-clause-firsts
 new_trees-requires-clause-firsts g c =
-    rw (c.deref.ensures.value, ← c.files.ensures.said) c.in_ok-bare_slots.ensures.firsts
+    rw (c.deref.ensures.value, ← c.files.ensures.said) c.in_ok-first_files.ensures.firsts
 
 pub returns-clause-bare : goal.returns-clause-bare
 returns-clause-bare g c =
     let said = c.files.ensures.said in
     let are = rw c.deref.ensures.value at c.in_ok-trees.ensures in
-    let each = rw said at c.in_ok-bare_slots.ensures.firsts in
-    let apart = rw said at c.in_ok-bare_slots.ensures.apart in
+    let each = rw said at c.in_ok-first_files.ensures.firsts in
+    let apart = rw said at c.in_ok-first_files.ensures.apart in
     record {
       new = record {
         lawful = c.keeps_laws.ensures.lawful;
@@ -22,7 +19,7 @@ returns-clause-bare g c =
         firsts = record { each = each; same = names_of_trees are };
         books = c.in_ok-books.ensures;
       };
-      slots = rw (names_of_trees are) (rw said at c.in_ok-bare_slots.ensures.slots);
+      slots = rw (names_of_trees are) (rw said at c.in_ok-first_files.ensures.slots);
       first_key = refl;
       first_turn = refl;
     }

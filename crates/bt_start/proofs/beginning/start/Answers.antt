@@ -1,6 +1,6 @@
 use Rattle.std.proofs.Common.{None, refl, sym, ap, ◌∙◌, subst}
 use Rattle.bt_meta.specs.Torrent.{Metainfo, IsLawful}
-use Rattle.bt_machine.specs.Opening.{bare as begins, bare as begins_on, HandsBack, starts, other_count, no_memory}
+use Rattle.bt_machine.specs.Opening.{bare as begins, bare as begins_on, starts, other_count, no_memory}
 use Rattle.bt_machine.specs.Start.{Starts, AreDevicesOf, device_count}
 use Rattle.bt_state.specs.Parts.{state_of, disks_of}
 use Rattle.bt_start.proofs.beginning.start.Goals as goal
