@@ -1,64 +1,60 @@
 -- Parts that begin anew tell a machine that does.
-use Rattle.bt_machine.proofs.Base.{[], ◌≡◌, ◌≢◌, ℕ, zero, suc, ◌+◌, ◌<◌, inl, inr, ◌&&◌, is_some, false, List, ◌∷◌, length, map, filter, Option, Some, None, refl, sym, ap, ◌∙◌, subst, arith, slice_get, option_map, option_map_or, range_with_len, length-map, cases_lt, File, Facts, BlockState, value_at}
-use Rattle.std.specs.Vec.{with_items}
+use Rattle.bt_machine.proofs.Base.{[], ◌≡◌, ◌≢◌, ℕ, zero, suc, ◌+◌, ◌<◌, inl, inr, ◌&&◌, is_some, Bool, false, List, ◌∷◌, length, map, filter, Option, Some, None, refl, sym, ap, ◌∙◌, subst, arith, slice_get, option_map, option_map_or, range_with_len, length-map, cases_lt, File, Facts, BlockState, value_at}
 use Rattle.std.specs.Global.{Vec}
 use Rattle.std.proofs.lemmas.Simd.{map-map}
-use Rattle.bt_meta.specs.Torrent.{Metainfo, IsLawful}
+use Rattle.bt_meta.specs.Torrent.{IsLawful}
 use Rattle.bt_meta.specs.Law.{LiesInItsPiece}
 use Rattle.bt_store.specs.FileStore.{StoreView, new_states}
 use Rattle.bt_machine.proofs.Lists.{some_is, some_below, get_some, get_map, set_id, map_some}
 use Rattle.bt_machine.proofs.Pairs.{to_pairs, pairs_map, from_pairs}
 use Rattle.bt_machine.specs.State.{EngineState, FileState, PeerState}
-use Rattle.bt_machine.specs.Blocks.{block_id}
-use Rattle.bt_machine.specs.Hints.{is_recorded}
-use Rattle.bt_machine.specs.Recovery.{recorded_blocks, RestoresFile, empty, restored, RestoresFiles, Recovers}
+use Rattle.bt_machine.specs.Recovery.{RestoresFile, empty, restored, RestoresFiles, Recovers}
 use Rattle.bt_machine.specs.Restart.{KeepsPlaces}
 use Rattle.bt_machine.specs.Shape.{IsShaped}
 use Rattle.bt_machine.specs.Start.{IsNew}
 use Rattle.bt_state.specs.Parts.{state_of, disks_of, file_of, disk_of, peer_of}
-use Rattle.bt_state.specs.Ties.{IsTied, FitsTree, FitsFile, root_and_length}
+use Rattle.bt_state.specs.Ties.{IsTied, FitsFile, root_and_length}
 use Rattle.bt_state.specs.declared.peer.Peer.{Peer}
 use Rattle.bt_state.specs.declared.slot.Slot.{Slot}
 use Rattle.bt_state.specs.declared.parts.Parts.{Parts}
-use Rattle.bt_state.proofs.Lists.{get_mapped, map_agree}
+use Rattle.bt_state.proofs.Lists.{get_mapped}
 use Rattle.bt_start.specs.declared.books.Books.{Books}
 use Rattle.bt_start.specs.Books.{AreNewBooks}
-use Rattle.bt_start.specs.BeginningSteps.{AreNewParts, books_of}
+use Rattle.bt_start.specs.BeginningSteps.{AreNewParts}
 use Rattle.bt_start.specs.Trees.{AreTreesOf}
 use Rattle.bt_start.specs.TreeSteps.{HasTreeAt}
 use Rattle.bt_start.proofs.Beginnings.{are_new, tied_anew}
 use Rattle.bt_start.proofs.RootTrees.{names_of_trees, torrent_trees, trees_apart, tree_named}
-use Rattle.bt_restart.specs.RestartSteps.{cleared}
+use Rattle.bt_restart.specs.AnewSteps.{cleared_store, cleared}
 
 -- ---- without a hint no block is read
 
-none_filtered : (p : ℕ → _) (xs : List ℕ) → filter (λ i. false && p i) xs ≡ []
+none_filtered : (p : ℕ → Bool) (xs : List ℕ) → filter (λ i. false && p i) xs ≡ []
 none_filtered p [] = refl
 none_filtered p (x ∷ xs) = none_filtered p xs
 
 module _ {dig : List ℕ → List ℕ} (s : EngineState) (is : IsNew dig s.torrent s.trees s.files) where
+  file_restored : (i : ℕ) (f : FileState) → slice_get s.files i ≡ Some f → (states : List BlockState) → f.states ≡ states → RestoresFile dig [] i s [] s
+  file_restored i f at [] none = empty f at none refl refl
+  file_restored i f at (x ∷ states) some =
+      let file = get_some s.torrent.files i (omega (arith, some_below s.files i at, is.count)) in
+      let new = is.each_file i file.0 f file.1 at in
+      elim (cases_lt 0 file.0.length) [
+        | inl long ↦ (
+            let k = new.has_tree long in
+            restored f k.0 [] (record { here = at; has_tree = k.1 }) (λ none. absurd (let clash = sym some ∙ none in cc))
+            (sym (none_filtered (λ j. is_some (value_at dig k.0 0 j)) (range_with_len 0 (length f.states)))) refl
+            (ap (λ (fs : List FileState). record s { files = fs }) (sym (set_id s.files i at)))
+            )
+        | inr short ↦ absurd (
+            let none : file.0.length ≡ 0 = omega arith in
+            let clash = sym some ∙ new.missing ∙ ap new_states none in
+            cc
+            )
+      ]
+
   one_restored : (i : ℕ) → i < length s.files → RestoresFile dig [] i s [] s
-  one_restored i lt = by f.0.states refl
-    where
-      f = get_some s.files i lt
-      by : (states : List BlockState) → f.0.states ≡ states → RestoresFile dig [] i s [] s
-      by [] none = empty f.0 f.1 none refl refl
-      by (x ∷ states) some =
-          let file = get_some s.torrent.files i (omega (arith, lt, is.count)) in
-          let new = is.each_file i file.0 f.0 file.1 f.1 in
-          elim (cases_lt 0 file.0.length) [
-            | inl long ↦ (
-                let k = new.has_tree long in
-                restored f.0 k.0 [] (record { here = f.1; has_tree = k.1 }) (λ none. absurd (let clash = sym some ∙ none in cc))
-                (sym (none_filtered (λ j. is_some (value_at dig k.0 0 j)) (range_with_len 0 (length f.0.states)))) refl
-                (ap (λ (fs : List FileState). record s { files = fs }) (sym (set_id s.files i f.1)))
-                )
-            | inr short ↦ absurd (
-                let none : file.0.length ≡ 0 = omega arith in
-                let clash = sym some ∙ new.missing ∙ ap new_states none in
-                cc
-                )
-          ]
+  one_restored i lt = let f = get_some s.files i lt in file_restored i f.0 f.1 f.0.states refl
 
   all_restored : (a n : ℕ) → ((i : ℕ) → i < a + n → RestoresFile dig [] i s [] s) → RestoresFiles dig [] (range_with_len a n) s [] s
   all_restored a zero each = (refl, refl)
@@ -69,11 +65,27 @@ module _ {dig : List ℕ → List ℕ} (s : EngineState) (is : IsNew dig s.torre
 
 -- ---- slots that are cleared
 
+none_before : {D : Type 0} (o : Option (StoreView D)) → option_map cleared_store o ≡ None → o ≡ None
+none_before None e = refl
+none_before (Some store) e = absurd cc
+
 module _ {D H : Type 0} where
+  pub cleared_some : {slot : Slot D H} {store new : StoreView D} → slot.store ≡ Some store → new ≡ record store { states = new.states }
+      → new.states ≡ new_states store.file_length → record slot { store = Some new } ≡ cleared slot
+  cleared_some {slot} {store} has others states =
+      ap {A = Option (StoreView D)} {B = Slot D H} (λ o. record slot { store = o })
+      (ap (λ (s : StoreView D). Some s) (others ∙ ap (λ xs. record store { states = xs }) states)
+      ∙ sym (ap (option_map (cleared_store {D = D})) has))
+
+  pub cleared_none : {slot : Slot D H} → slot.store ≡ None → slot ≡ cleared slot
+  cleared_none {slot} none =
+      ap {A = Option (StoreView D)} {B = Slot D H} (λ o. record slot { store = o })
+      (none ∙ sym (ap (option_map (cleared_store {D = D})) none))
+
   device_kept : (slot : Slot D H) → disk_of (cleared slot) ≡ disk_of slot
   device_kept slot = by slot.store
     where
-      by : (o : Option (StoreView D)) → option_map (λ (store : StoreView D). store.disk) (option_map (λ store. record store { states = new_states store.file_length }) o)
+      by : (o : Option (StoreView D)) → option_map (λ (store : StoreView D). store.disk) (option_map (cleared_store {D = D}) o)
           ≡ option_map (λ store. store.disk) o
       by None = refl
       by (Some store) = refl
@@ -86,27 +98,22 @@ module _ {D H : Type 0} where
   trees_kept [] = refl
   trees_kept (slot ∷ slots) = ap (λ ts. slot.tree ∷ ts) (trees_kept slots)
 
-  none_before : (o : Option (StoreView D)) → option_map (λ (store : StoreView D). record store { states = new_states store.file_length }) o ≡ None → o ≡ None
-  none_before None e = refl
-  none_before (Some store) e = absurd cc
-
-  module _ {files : List File} {old new : List Facts} {i : ℕ} {slot : Slot D H} (fits : FitsFile files old i slot)
-      (names : map root_and_length new ≡ map root_and_length old) where
+  module _ {files : List File} {old : List Facts} {i : ℕ} {slot : Slot D H} (fits : FitsFile files old i slot) where
     cleared_states : {file : File} → slice_get files i ≡ Some file → (file_of (cleared slot)).states ≡ new_states file.length
     cleared_states {file} listed = by slot.store refl ∙ ap (λ (f : File). new_states f.length) (some_is (sym fits.listed ∙ listed))
       where
         by : (o : Option (StoreView D)) → slot.store ≡ o
-            → option_map_or (λ (store : StoreView D). store.states) (option_map (λ store. record store { states = new_states store.file_length }) o) [] ≡ new_states fits.file.length
+            → option_map_or (λ (store : StoreView D). store.states) (option_map (cleared_store {D = D}) o) [] ≡ new_states fits.file.length
         by None has = sym (ap new_states (fits.empty has))
         by (Some store) has = ap new_states (fits.some store has).long
 
-    cleared_fits : FitsFile files new i (cleared slot)
-    cleared_fits = record {
+    cleared_fits : {new : List Facts} → map root_and_length new ≡ map root_and_length old → FitsFile files new i (cleared slot)
+    cleared_fits {new} names = record {
       file = fits.file;
       listed = fits.listed;
       empty = λ none. fits.empty (none_before slot.store none);
       some = λ store at. (
-          let was = map_some (λ (store : StoreView D). record store { states = new_states store.file_length }) slot.store at in
+          let was = map_some (cleared_store {D = D}) slot.store at in
           let fit = fits.some was.0 was.1 in
           let long = ap (λ (store : StoreView D). store.file_length) was.2 in
           let k = tree_named new slot.tree (ap (λ ps. slice_get ps slot.tree) names ∙ get_mapped root_and_length old slot.tree fit.stands) in
@@ -149,7 +156,7 @@ module _ {D H : Type 0} {dig : List ℕ → List ℕ} (old : Parts D H) (slots :
   all_new : (i : ℕ) (file : File) (slot : Slot D H) → slice_get old.torrent.files i ≡ Some file → slice_get slots.items i ≡ Some slot → (file_of slot).states ≡ new_states file.length
   all_new i file slot listed at =
       let was = slot_before i at in
-      ap (λ (s : Slot D H). (file_of s).states) (sym was.2) ∙ cleared_states (tied.each i was.0 was.1) names listed
+      ap (λ (s : Slot D H). (file_of s).states) (sym was.2) ∙ cleared_states (tied.each i was.0 was.1) listed
 
   have_trees : (i : ℕ) (file : File) (slot : Slot D H) → slice_get old.torrent.files i ≡ Some file → slice_get slots.items i ≡ Some slot
       → HasTreeAt file (map root_and_length trees.items) slot.tree
@@ -191,6 +198,6 @@ module _ {D H : Type 0} {dig : List ℕ → List ℕ} (old : Parts D H) (slots :
 
   pub tied_next : LiesInItsPiece → IsTied next
   tied_next lies = tied_anew next new_parts count all_new have_trees lies (λ i slot at. (
-    let was = slot_before i at in
-    subst (λ (s : Slot D H). FitsFile old.torrent.files trees.items i s) was.2 (cleared_fits (tied.each i was.0 was.1) names)
-    ))
+      let was = slot_before i at in
+      subst (λ (s : Slot D H). FitsFile old.torrent.files trees.items i s) was.2 (cleared_fits (tied.each i was.0 was.1) names)
+      ))

@@ -1,1 +1,1 @@
-pub mod RestartSteps
+pub mod AnewSteps

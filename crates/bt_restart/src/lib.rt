@@ -1,6 +1,6 @@
 //! All of an engine is begun anew.
 #![tactic(auto)]
 
-mod restart;
+mod anew;
 
-pub use restart::restart;
+pub use anew::restart;

@@ -8,7 +8,7 @@ ghost use Rattle.bt_state.specs.Parts.{state_of, disks_of};
 ghost use Rattle.bt_state.specs.Ties.{IsTied};
 ghost use Rattle.bt_start.specs.Books.{AreNewBooks};
 ghost use Rattle.bt_start.specs.Trees.{AreTreesOf};
-ghost use Rattle.bt_restart.specs.RestartSteps.{cleared};
+ghost use Rattle.bt_restart.specs.AnewSteps.{cleared};
 
 use bt_disk::Disk;
 use bt_machine::RestartError;
