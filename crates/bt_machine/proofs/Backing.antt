@@ -106,7 +106,7 @@ module _ {D : Type 0} (history : D → History) (honest : D → Type 0) (faults 
         subst (IsBacked dig new) (is ∙ sym (append-nil (hints_in text)) ∙ ap (λ hs. hints_in text ++ hs) (sym none)) backed
 
     pub start_backed : AttachHolds history honest faults → StartIsBacked history honest faults dig
-    start_backed attach torrent given disk log new lawful size attached begins now is h =
+    start_backed attach torrent given disk log new size attached begins now is h =
         let o = opened_by begins in
         let same : log ≡ now = inner (sym (log_of begins) ∙ is) in
         let was_honest = opens_back attached.opens (subst (λ (l : LogView D). honest l.disk) (sym same) h) in
@@ -239,7 +239,7 @@ module _ {D : Type 0} (history : D → History) (honest : D → Type 0) (faults 
         own_roots {s = s} shaped = to_pairs (λ (j k : Facts). j.root ≢ k.root) s.trees shaped.roots
 
         pub step_backed : StepKeepsBacking history honest faults dig
-        step_backed old new event answer lawful shaped sparse other step backing log is h =
+        step_backed old new event answer shaped sparse other step backing log is h =
             let was = old_log history honest faults old.log new.log step.calls.log is step.logged in
             let c = logs_are history honest faults old.log new.log step.calls.log was.1 is step.logged in
             let b = backing was.0 was.1 (calls_back history honest faults was.0 step.calls.log log c h) in
@@ -311,20 +311,21 @@ module _ {D : Type 0} (history : D → History) (honest : D → Type 0) (faults 
               backs = λ after. elim (answer_cases backed a rest after) [
                 | inl again ↦ (go true (λ x. next.again again.0)).backs again.1
                 | inr one ↦ elim one [
-                  | inl other ↦ (go backed (λ x. step_backed old mid e a own_lawful own_shape sparse other.0 step (before x))).backs other.1
+                  | inl other ↦ (go backed (λ x. step_backed old mid e a own_shape sparse other.0 step (before x))).backs other.1
                   | inr lost ↦ (go false (λ x. absurd cc)).backs lost
                 ]
               ];
             }
         run_backed shape keep torrent lawful _ _ _ backed old new shaped sparse texts before run logs = absurd run
 
-        module _ (attach : AttachHolds history honest faults) (starts : StartsInShape dig) (sparse : StartsSparse dig) (shape : StepKeepsShape dig) (keep : StepKeepsSparse dig) where
+        module _ (attach : AttachHolds history honest faults) (starts : StartsInShape dig) (sparse : StartsSparse dig) (shape : StepKeepsShape dig)
+            (keep : StepKeepsSparse dig) where
           pub after_run : (torrent : Metainfo) (given : List (Option D)) (disk : D) (log : LogView D) (first last : EngineView D) (events : List Event)
               (answers : List Answer) → IsLawful torrent.piece_length torrent.files → length torrent.infohash ≡ digest_length
               → IsAttached history honest faults torrent.infohash disk log → BeginsOn history honest faults dig torrent given (Some log) first
               → RunsTo history honest faults dig first events answers last → AfterRun true answers last
           after_run torrent given disk log first last events answers lawful size attached begins run =
-              let backing = start_backed attach torrent given disk log first lawful size attached begins in
+              let backing = start_backed attach torrent given disk log first size attached begins in
               run_backed shape keep torrent lawful events run.calls answers true first last (starts torrent first.state (begins_of begins))
               (sparse torrent first.state lawful (begins_of begins)) (λ l is h. (let b = backing l is h in (b.0, (b.1.text, b.1.holds)))) (λ x. backing)
               run.run run.logged

@@ -216,10 +216,11 @@ module _ (dig : Digest) where
           quiet keeps (ap (λ (e : Effect). e.proofs) is)
           (λ why e. record {
             keeps = keeps;
-            marks = λ b marked. elim (file_marked s (record a.puts.file { states = a.puts.file.states }) b (marks_in (with_file s a.block.file (record a.puts.file { states = a.puts.file.states })) mid files b marked)) [
-              | inl now ↦ state_is s b (ap (slice_get s.files) now.0 ∙ a.puts.is_file.here) now.1
-              | inr old ↦ old
-            ];
+            marks = λ b marked. elim (file_marked s (record a.puts.file { states = a.puts.file.states }) b
+                (marks_in (with_file s a.block.file (record a.puts.file { states = a.puts.file.states })) mid files b marked)) [
+                  | inl now ↦ state_is s b (ap (slice_get s.files) now.0 ∙ a.puts.is_file.here) now.1
+                  | inr old ↦ old
+                ];
           })
       by sent (Ok Already) is files = absurd is
       by sent (Err Range) is files = absurd is
@@ -285,7 +286,8 @@ module _ (dig : Digest) where
           let of_old = subst (λ x. IsTorrentTree dig x base) torrent of_torrent in
           let proofs : effect.proofs ≡ new_proofs key digests l.old l.new = ap (λ (e : Effect). e.proofs) l.has_effect in
           let hints = written ++ s.pending in
-          let all = subst (λ hs. TakesHints dig base hs j) (ap (λ ps. written ++ (s.pending ++ ps)) proofs ∙ sym (append_assoc written s.pending (new_proofs key digests l.old l.new))) takes in
+          let all = subst (λ hs. TakesHints dig base hs j)
+          (ap (λ ps. written ++ (s.pending ++ ps)) proofs ∙ sym (append_assoc written s.pending (new_proofs key digests l.old l.new))) takes in
           elim (set_parts s.trees l.tree t (ap (λ ts. slice_get ts t) (sym trees) ∙ at)) [
             | inl now ↦
                 let old_root : base.root ≡ l.old.root = root ∙ ap (λ z. z.root) now.1 ∙ l.accepts.joins.root in
