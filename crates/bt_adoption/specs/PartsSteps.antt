@@ -39,9 +39,9 @@ pub record KeepsRest {D H : Type 0} (old new : Parts D H) : Type 0 where
   pub leaves : LeavesStay (state_of old) (state_of new)
   pub peers : peers_of new.book ≡ peers_of old.book
 
--- Nothing changed but slots and trees. There are as many slots as before, and the trees are of the same roots,
--- lengths and blocks. Each leaf that was known is. Of the files only this one has changed, and has as many
--- blocks as before.
+-- Nothing changed but slots and trees. There are as many slots as before, and the trees are of the same
+-- roots, lengths and blocks. Each leaf that was known is. Of the files only this one has changed, and has as
+-- many blocks as before.
 pub record ChangesFile {D H : Type 0} (file : ℕ) (old new : Parts D H) : Type 0 where
   pub others : new ≡ record old { slots = new.slots; trees = new.trees }
   pub count : length new.slots.items ≡ length old.slots.items

@@ -49,7 +49,8 @@ pub record AreTorrentTrees (dig : List ℕ → List ℕ) (torrent : Metainfo) (t
   pub each : (t : ℕ) (k : Facts) → slice_get trees t ≡ Some k → IsTorrentTree dig torrent k
 
 -- it has the file's tree, and no device
-pub record IsBareSlot {D H : Type 0} (file : File) (trees : List (List ℕ × ℕ)) (slot : Slot D H) : Type 0 where
+pub record IsBareSlot {D H : Type 0} (file : File) (trees : List (List ℕ × ℕ)) (slot : Slot D H)
+    : Type 0 where
   pub bare : slot.store ≡ None
   pub has_tree : HasTreeAt file trees slot.tree
 

@@ -32,8 +32,8 @@ impl Roots {
         requires limit { length self.old.first_files.items ≤ index }
         requires by_root { AreByRoot (map file_of files.now) index self.old.first_files.items
             self.old.numbers }
-        ensures by_root { OnOk result (AreByRoot (map file_of files.now) (index + 1) self.new.first_files.items
-            self.new.numbers) }
+        ensures by_root { OnOk result (AreByRoot (map file_of files.now) (index + 1)
+            self.new.first_files.items self.new.numbers) }
         ensures grown { OnOk result (Extends self.old.first_files.items self.new.first_files.items) }
         ensures limit { OnOk result (length self.new.first_files.items ≤ index + 1) }
         ensures number { IfOk result (λ t. (file : File) → slice_get (map file_of files.now) index ≡ Some file
@@ -53,8 +53,8 @@ impl Roots {
     }
 }
 
-/// For each root of files the first that has it and a byte; and for each of the files a slot without a device.
-/// Errors: out of memory.
+/// For each root of files the first that has it and a byte; and for each of the files a slot without a
+/// device. Errors: out of memory.
 pub(crate) fn bare_slots<D: Disk + Drop, H: NodeHash>(
     alloc: Global,
     files: &[FileEntry],

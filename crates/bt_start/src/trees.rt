@@ -9,8 +9,8 @@ use bt_sparse::SparseTree;
 use bt_tree::{Geometry, NodeHash};
 use std::alloc::{AllocError, Global};
 
-/// The trees that a torrent has of these files, each of which is the first of its root that has a byte. Errors:
-/// out of memory.
+/// The trees that a torrent has of these files, each of which is the first of its root that has a byte.
+/// Errors: out of memory.
 pub fn new_trees<H: NodeHash>(
     alloc: Global,
     hash: H,

@@ -107,8 +107,8 @@ HaveFirstFiles parts =
 -- ---- all
 
 -- The peers are the book's, in its order, which is that of their keys, and there is room for all that may be.
--- A block is wanted exactly while it is missing. There is a slot for each file, and a count for each piece, and
--- each tree has its first file. The leaves of the blocks in the pieces of the set are known.
+-- A block is wanted exactly while it is missing. There is a slot for each file, and a count for each piece,
+-- and each tree has its first file. The leaves of the blocks in the pieces of the set are known.
 pub record IsTied {D H : Type 0} (parts : Parts D H) : Type 0 where
   pub joined : map (λ p. p.key) parts.peers.items ≡ map (λ r. r.peer) parts.book.peers
   pub in_order : AllPairs (λ p q. p.key.0 < q.key.0) parts.peers.items
