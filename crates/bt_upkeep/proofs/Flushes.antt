@@ -1,17 +1,17 @@
 -- Slots whose devices are synced, one after the other.
-use Rattle.bt_machine.proofs.Base.{[], ◌≡◌, ℕ, suc, ◌+◌, ◌-◌, ◌<◌, ◌≤◌, Bool, true, false, not, ◌==◌, cond, List, ◌∷◌, ◌++◌, length, map, filter, Option, Some, None, option_map_or, option_map, slice_get, slice_set, Result, Ok, Err, refl, sym, ap, ◌∙◌, subst, arith, range_with_len, filter-append, append-nil, length-map, History, Call}
-use Rattle.std.specs.Prelude.{IsErr}
+use Rattle.bt_machine.proofs.Base.{[], ◌≡◌, ℕ, suc, ◌+◌, ◌-◌, ◌<◌, ◌≤◌, Bool, true, false, not, ◌==◌, cond, List, ◌∷◌, ◌++◌, length, map, filter, Option, Some, None, option_map_or, option_map, slice_get, slice_set, Ok, Err, refl, sym, ap, ◌∙◌, subst, arith, range_with_len, filter-append, append-nil, length-map, History, Call}
 use Rattle.std.proofs.lemmas.Bool.{ne_eqb}
 use Rattle.std.proofs.lemmas.List.{map-append}
 use Rattle.bt_disk.specs.Calls.{HasCalls}
+use Rattle.bt_disk.specs.declared.disk.DeviceFault.{DeviceFault}
 use Rattle.bt_store.proofs.Reviews.{range_split}
 use Rattle.bt_store.specs.FileStore.{StoreView}
 use Rattle.bt_machine.proofs.Lists.{set_id, set_other, some_below}
 use Rattle.bt_machine.proofs.Shape.{map_set as map_stays}
-use Rattle.bt_machine.specs.declared.error.FlushError.{FlushError}
 use Rattle.bt_machine.specs.declared.error.FlushError.TheVariants.{Device}
 use Rattle.bt_machine.specs.State.{FileState}
 use Rattle.bt_machine.specs.Devices.{DeviceCalls, HaveCalls}
+use Rattle.bt_machine.specs.LogCalls.{on_devices}
 use Rattle.bt_machine.specs.Flush.{syncs as all_made, fails, syncs_of}
 use Rattle.bt_state.specs.Parts.{file_of, disk_of}
 use Rattle.bt_state.specs.declared.slot.Slot.{Slot}
@@ -66,11 +66,6 @@ module _ {D H : Type 0} (slot : Slot D H) where
   at_file slots i here is =
       ap (λ (o : Option FileState). not (length (option_map_or (λ f. f.states) o []) == 0)) (get_mapped file_of slots i here) ∙ is
 
--- there is but one error
-only_device : (r : Result (Unit {0}) FlushError) → IsErr r → r ≡ Err Device
-only_device (Ok _) err = absurd cc
-only_device (Err Device) err = refl
-
 -- ---- the slots before one were synced
 
 module _ {D H : Type 0} (history : D → History) (honest : D → Type 0) (faults : D → ℕ) where
@@ -123,7 +118,7 @@ module _ {D H : Type 0} (history : D → History) (honest : D → Type 0) (fault
           after = λ j le. below.after j (omega arith);
         })
 
-    sync_failed : (e : FlushError) → SyncsSlot history honest faults slot (Err e) new → SyncsSlots history honest faults old (Err Device) (slice_set now i new)
+    pub sync_failed : (e : DeviceFault) → SyncsSlot history honest faults slot (Err e) new → SyncsSlots history honest faults old (Err Device) (slice_set now i new)
     sync_failed e (syncs store disk has some calls is) =
         let files = map file_of old in
         let lt : i < length files = rw (length-map old file_of) (some_below old i before) in
@@ -131,7 +126,7 @@ module _ {D H : Type 0} (history : D → History) (honest : D → Type 0) (fault
         record {
           calls = syncs_of (data_below files i) ++ (i, _) ∷ [];
           have = have_call store disk has is _ calls;
-          step = λ s logged same. fails (data_below files i) i (data_after files i (length files) lt) logged
+          step = λ s logged same. fails (data_below files i) i (data_after files i (length files) lt)
               (ap (λ (fs : List FileState). data_below fs (length fs)) same ∙ data_at files i (length files) lt
               ∙ ap (λ t. data_below files i ++ cond t (i ∷ data_after files i (length files) lt) (data_after files i (length files) lt)) stands)
               refl refl refl;
@@ -139,17 +134,12 @@ module _ {D H : Type 0} (history : D → History) (honest : D → Type 0) (fault
         }
     sync_failed e (rests has answer is) = absurd cc
 
-    pub failed_so : (e : FlushError) → SyncsSlot history honest faults slot (Err e) new → (r : Result (Unit {0}) FlushError) → IsErr r
-        → SyncsSlots history honest faults old r (slice_set now i new)
-    failed_so e failed r err =
-        subst (λ (answer : Result (Unit {0}) FlushError). SyncsSlots history honest faults old answer (slice_set now i new)) (sym (only_device r err)) (sync_failed e failed)
-
   pub all_synced : (old now : List (Slot D H)) (i : ℕ) → i ≡ length old → AreSyncedBelow old now i → SyncsSlots history honest faults old (Ok tt) now
   all_synced old now i all below = record {
     calls = syncs_of (data_below (map file_of old) i);
     have = below.have;
     step = λ s logged same. all_made logged
-        (ap (λ n. syncs_of (data_below (map file_of old) n)) (all ∙ sym (length-map old file_of))
-        ∙ sym (ap (λ (fs : List FileState). syncs_of (data_below fs (length fs))) same)) refl refl;
+        (ap on_devices (ap (λ n. syncs_of (data_below (map file_of old) n)) (all ∙ sym (length-map old file_of))
+        ∙ sym (ap (λ (fs : List FileState). syncs_of (data_below fs (length fs))) same))) refl refl;
     others = below.others;
   }

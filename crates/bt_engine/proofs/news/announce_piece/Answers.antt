@@ -1,4 +1,4 @@
-use Rattle.std.proofs.Common.{[], ◌∷◌, ◌≡◌, ◌++◌, ◌+◌, ◌<◌, ◌≤◌, List, map, take, length, get_or, sym, ap, ◌∙◌, arith, true, false, if◌then◌else◌, append_assoc}
+use Rattle.std.proofs.Common.{[], ◌∷◌, ◌≡◌, ◌++◌, ◌<◌, ◌≤◌, List, map, take, length, get_or, sym, ap, ◌∙◌, arith, true, false, if◌then◌else◌, append_assoc}
 use Rattle.std.proofs.lemmas.Bool.{eq-eqb, ne_eqb}
 use Rattle.std.proofs.lemmas.List.{append-nil, map_more, take_all}
 use Rattle.bt_machine.specs.Output.{Sent, sent_to}

@@ -13,7 +13,7 @@ use Rattle.bt_state.specs.Parts.{state_of}
 use Rattle.bt_machine.proofs.Pairs.{contains_at}
 use Rattle.bt_engine.specs.NewsSteps.{marked_piece, unless_last}
 use Rattle.bt_engine.proofs.NewWholes.{has_block, piece_inside, whole_news}
-use Rattle.bt_engine.proofs.Announcements.{told, unless_some, skipped, taken, finished}
+use Rattle.bt_engine.proofs.Announcements.{unless_some, skipped, taken, finished}
 use Rattle.bt_engine.proofs.news.announce_pieces.Goals as goal
 
 abbrev blank : Note

@@ -1,7 +1,8 @@
+use Rattle.std.proofs.Common.{refl}
 use Rattle.bt_engine.proofs.engine.Engine.keeps_laws.Goals as goal
 
 pub returns-clause-lawful : goal.returns-clause-lawful
-returns-clause-lawful g c = rw (← c.self.view_is) c.keeps_laws.ensures.lawful
+returns-clause-lawful g c = rw (← c.self.view_is) c.self.invariant.lawful
 
 pub returns-clause-shaped : goal.returns-clause-shaped
 returns-clause-shaped g c = rw (← c.self.view_is) c.self.invariant.shaped
@@ -17,3 +18,6 @@ returns-clause-sparse g c = rw (← c.self.view_is) c.self.invariant.sparse
 
 pub returns-clause-sound : goal.returns-clause-sound
 returns-clause-sound g c = rw (← c.self.view_is) c.self.invariant.sound
+
+pub returns-clause-unlogged : goal.returns-clause-unlogged
+returns-clause-unlogged g c = rw (← c.self.view_is) refl
