@@ -1,5 +1,5 @@
 -- What is said of a fault that is passed on.
-use Rattle.std.proofs.Common.{◌≡◌, ◌⊎◌, inl, inr, Bool, Result, Ok, Err, IfOk, IfErr, sym, subst, ap, ◌∙◌}
+use Rattle.std.proofs.Common.{◌≡◌, ◌⊎◌, inl, inr, ℕ, Bool, Result, Ok, Err, IfOk, IfErr, sym, subst, ap, ◌∙◌}
 use Rattle.std.specs.Prelude.{IsErrAnd}
 use Rattle.bt_check.specs.Fault.{device, out_of_memory, status_of}
 use Rattle.bt_files.specs.Loading.{IsStoreFault}
@@ -33,7 +33,7 @@ while_loading is_info usage fault (inl at_device) = inl (inl at_device)
 while_loading is_info usage fault (inr short) = inl (inr (inl short))
 
 -- as its files are opened, and before
-pub while_opening : (is_info : Bool) (usage : FileUse) (fault : Fault) → IsOpeningFault usage fault → IsStoreFault is_info usage fault
-while_opening is_info usage fault (inl at_device) = inl (inl at_device)
-while_opening is_info usage fault (inr (inl short)) = inl (inr (inl short))
-while_opening is_info usage fault (inr (inr same)) = inr same
+pub while_opening : (is_info : Bool) (usage : FileUse) (count : ℕ) (fault : Fault) → IsOpeningFault usage count fault → IsStoreFault is_info usage fault
+while_opening is_info usage count fault (inl (inl at_device)) = inl (inl at_device)
+while_opening is_info usage count fault (inl (inr short)) = inl (inr (inl short))
+while_opening is_info usage count fault (inr same) = inr (same.0, same.1.0)

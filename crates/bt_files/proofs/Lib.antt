@@ -3,3 +3,4 @@ pub mod Waits
 pub mod Devices
 pub mod ReportLines
 pub mod Faults
+pub mod Refusals

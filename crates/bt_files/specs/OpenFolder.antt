@@ -1,15 +1,42 @@
 -- Why a torrent's data files are not opened.
-use Rattle.std.specs.Prelude.{◌≡◌, ◌⊎◌, false}
+use Rattle.std.specs.Prelude.{◌≡◌, ◌⊎◌, ◌↔◌, ℕ, ◌<◌, false, List, Option, Some, IsSomeAnd}
+use Rattle.bt_disk.specs.declared.opening.FileIdentity.{FileIdentity}
+use Rattle.bt_folder.specs.CasePaths.{HasNameOfAnother, HasNoPath}
+use Rattle.bt_folder.specs.KnownFiles.{IsKnown}
+use Rattle.bt_folder.specs.declared.known_files.KnownFiles.{KnownFiles}
 use Rattle.bt_check.specs.Fault.{device, out_of_memory, same_file}
 use Rattle.bt_check.specs.declared.fault.Fault.{Fault}
 use Rattle.bt_files.specs.FileUse.{is_read_only}
 use Rattle.bt_files.specs.declared.file_use.FileUse.{FileUse}
+use Rattle.bt_files.specs.declared.open_folder.OpenFolder.{OpenFolder}
 
 -- a call failed, or memory was refused
 abbrev pub IsCallFault : Fault → Type 0
 IsCallFault fault = (fault ≡ device) ⊎ (fault ≡ out_of_memory)
 
--- or two paths are one file, which is no fault where both are only read
-abbrev pub IsOpeningFault : FileUse → Fault → Type 0
-IsOpeningFault usage fault =
-    (fault ≡ device) ⊎ (fault ≡ out_of_memory) ⊎ ((fault ≡ same_file) × (is_read_only usage ≡ false))
+-- or two paths are one file, for this reason
+abbrev pub IsCallFaultOr : Type 0 → Fault → Type 0
+IsCallFaultOr reason fault = IsCallFault fault ⊎ ((fault ≡ same_file) × reason)
+
+-- no file was opened
+abbrev pub IsUnused : OpenFolder → Type 0
+IsUnused folder = ((file : FileIdentity) → ¬ IsKnown folder.files file) × HasNoPath folder.paths
+
+-- what the system tells of one more file is added
+abbrev pub IsAdded : KnownFiles → Option FileIdentity → KnownFiles → Type 0
+IsAdded before identity after =
+    (file : FileIdentity) → IsKnown after file ↔ (IsKnown before file ⊎ (identity ≡ Some file))
+
+-- The file has the device and the inode of one before, or a name on its path is that of another by a folder's listing.
+abbrev pub IsOfAnotherPath : OpenFolder → OpenFolder → List (List ℕ) → Option FileIdentity → Type 0
+IsOfAnotherPath old new path identity =
+    IsSomeAnd identity (IsKnown old.files) ⊎ HasNameOfAnother old.paths new.paths path
+
+-- why a file is refused that was opened: that it is of another path is no fault where both are only read
+abbrev pub IsFileFault : FileUse → OpenFolder → OpenFolder → List (List ℕ) → Option FileIdentity → Fault → Type 0
+IsFileFault usage old new path identity =
+    IsCallFaultOr ((is_read_only usage ≡ false) × IsOfAnotherPath old new path identity)
+
+-- why so many files are not opened: one alone is never of another path
+abbrev pub IsOpeningFault : FileUse → ℕ → Fault → Type 0
+IsOpeningFault usage count = IsCallFaultOr ((is_read_only usage ≡ false) × (1 < count))

@@ -8,7 +8,7 @@ ghost use Rattle.bt_check.specs.Fault.{device};
 ghost use Rattle.bt_files.specs.DataFiles.{AreNewDevices, IsNewDevice, IsNewFile};
 ghost use Rattle.bt_files.specs.DataFilesSteps.{IsOpenedFor, IsPushed};
 ghost use Rattle.bt_files.specs.FileUse.{is_read_only};
-ghost use Rattle.bt_files.specs.OpenFolder.{IsOpeningFault};
+ghost use Rattle.bt_files.specs.OpenFolder.{IsCallFault, IsOpeningFault};
 
 use crate::device_context::DeviceContext;
 use crate::file_use::FileUse;
@@ -84,7 +84,7 @@ pub(crate) fn open_devices<'a, R: Files + AllocGlobal + Clone + Drop, P: Watch>(
     ensures devices { IfOk result (λ files.
         AreNewDevices context.entry.usage dir.now (map file_of entries.now) files.disks.items) }
     ensures each { IfOk result (λ files. length files.filled.items ≡ length entries.now) }
-    ensures fault { IfErr result (IsOpeningFault context.entry.usage) }
+    ensures fault { IfErr result (IsOpeningFault context.entry.usage (length entries.now)) }
 {
     let mut pool = HandlePool::new(rt.alloc(), rt.clone()?, OPEN_FILES)?;
     let mut files = OpenFiles::new(rt.alloc());
@@ -108,7 +108,7 @@ fn push_devices<'a, R: Files + AllocGlobal + Clone + Drop, P: Watch>(
     ensures devices { OnOk result
         (AreNewDevices context.entry.usage dir.now (map file_of entries.now) files.new.disks.items) }
     ensures each { OnOk result (length files.new.filled.items ≡ length entries.now) }
-    ensures fault { IfErr result (IsOpeningFault context.entry.usage) }
+    ensures fault { IfErr result (IsOpeningFault context.entry.usage (length entries.now)) }
 {
     let mut folder = OpenFolder::new(rt.alloc());
     for entry in entries {
@@ -145,7 +145,7 @@ fn open_entry<'a, R: Files + AllocGlobal + Drop, P: Watch>(
 ) -> Result<OpenFile<DataDisk<'a, R, P>>, Fault>
     ensures opened { IfOk result (λ file.
         IsOpenedFor context.entry.usage dir.now (file_of entry.now) pool.old.made file.disk pool.new.made) }
-    ensures fault { IfErr result (IsOpeningFault context.entry.usage) }
+    ensures fault { IfErr result IsCallFault }
 {
     let path = data_path(rt.alloc(), dir, &entry.path)?;
     if entry.length == 0 {
@@ -174,7 +174,7 @@ fn open_device<'a, R: Files + Drop, P: Watch>(
     ensures device { IfOk result (λ file.
         IfSome file.disk (IsNewDevice context.entry.usage pool.new.made (path_buf_bytes path))) }
     ensures one_more { OnOk result (pool.new.made ≡ pool.old.made + 1) }
-    ensures fault { IfErr result (IsOpeningFault context.entry.usage) }
+    ensures fault { IfErr result IsCallFault }
 {
     let name = fault_name(alloc, watch, path.as_path().as_str())?;
     match pooled(pool, context.usage, path.into_string()) {

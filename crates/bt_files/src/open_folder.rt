@@ -1,7 +1,10 @@
 //! A folder whose files are opened, one after the other.
-ghost use Rattle.std.specs.Prelude.{◌≡◌, ◌↔◌, IfErr, IfOk, IfSome, IsTrue};
+ghost use Rattle.std.specs.Prelude.{◌≡◌, false, IfErr, IfOk, IfSome, IsSomeAnd, MatchBool, OnOk};
+ghost use Rattle.std.specs.Bool.{OnFalse};
+ghost use Rattle.bt_folder.specs.CasePaths.{HasNameOfAnother};
 ghost use Rattle.bt_folder.specs.KnownFiles.{IsKnown};
-ghost use Rattle.bt_files.specs.OpenFolder.{IsCallFault, IsOpeningFault};
+ghost use Rattle.bt_files.specs.FileUse.{is_read_only};
+ghost use Rattle.bt_files.specs.OpenFolder.{IsAdded, IsCallFault, IsCallFaultOr, IsFileFault, IsUnused};
 
 use crate::file_use::FileUse;
 use crate::folder_trail::FolderTrail;
@@ -25,7 +28,7 @@ pub(crate) struct OpenFolder {
 impl OpenFolder {
     /// No file was opened.
     pub(crate) fn new(alloc: Global) -> Self
-        ensures { (file : FileIdentity) → ¬ IsKnown result.files file }
+        ensures { IsUnused result }
     {
         OpenFolder {
             files: KnownFiles::new(alloc),
@@ -43,7 +46,9 @@ impl OpenFolder {
         dir: &str,
         path: &FilePath,
     ) -> Result<(), Fault>
-        ensures { IfErr result IsCallFault }
+        ensures files { self.new.files ≡ self.old.files }
+        ensures paths { self.new.paths ≡ self.old.paths }
+        ensures fault { IfErr result IsCallFault }
     {
         if usage.is_read_only() {
             return Ok(());
@@ -51,8 +56,8 @@ impl OpenFolder {
         self.trail.go_to(rt, watch, dir, path)
     }
 
-    /// The file was opened. Errors: it is one of those before, which is told by its name; a folder can't be listed;
-    /// memory is refused.
+    /// The file was opened. Errors: it is one of those before, by what the system tells of it or by the listings of the
+    /// folders on its path, which is told by its name; a folder can't be listed; memory is refused.
     pub(crate) fn add<R: Files + AllocGlobal + Clone + Drop, P: Watch>(
         &mut self,
         rt: &R,
@@ -62,18 +67,19 @@ impl OpenFolder {
         path: &FilePath,
         opening: Opening,
     ) -> Result<(), Fault>
-        ensures fault { IfErr result (IsOpeningFault usage) }
+        ensures further { OnOk result (is_read_only usage ≡ false
+            → IfSome opening.identity (λ file. ¬ IsKnown self.old.files file)) }
+        ensures added { OnOk result (is_read_only usage ≡ false
+            → IsAdded self.old.files opening.identity self.new.files) }
+        ensures fault { IfErr result (IsFileFault usage self.old self.new path.now opening.identity) }
     {
         if usage.is_read_only() {
             return Ok(());
         }
-        let is_own = self.is_own_file(opening.identity)? && self.is_own_path(rt, watch, dir, path)?;
-        if is_own {
-            self.keep(opening.was_made);
-            return Ok(());
-        }
-        tell_same_file(rt.alloc(), watch, dir, path)?;
-        Err(Fault::SameFile)
+        self.add_file(rt.alloc(), watch, dir, path, opening.identity)?;
+        self.add_path(rt, watch, dir, path)?;
+        self.keep(opening.was_made);
+        Ok(())
     }
 
     /// All files were opened: what was made is kept. Errors: a folder can't be synced; memory is refused.
@@ -93,21 +99,68 @@ impl OpenFolder {
     }
 
     /// A file that was made is to be kept.
-    fn keep(&mut self, was_made: bool) {
+    fn keep(&mut self, was_made: bool)
+        ensures { self.new.files ≡ self.old.files }
+    {
         if was_made {
             self.trail.add_new();
         }
     }
 
-    /// Whether a file is none of those before, by what the system tells of it. Where that is nothing, it counts as none.
+    /// Adds a file by what the system tells of it. Errors: it is one of those before; memory is refused.
+    fn add_file<P: Watch>(
+        &mut self,
+        alloc: Global,
+        watch: &P,
+        dir: &str,
+        path: &FilePath,
+        identity: Option<FileIdentity>,
+    ) -> Result<(), Fault>
+        ensures further { OnOk result (IfSome identity (λ file. ¬ IsKnown self.old.files file)) }
+        ensures added { OnOk result (IsAdded self.old.files identity self.new.files) }
+        ensures fault { IfErr result (IsCallFaultOr (IsSomeAnd identity (IsKnown self.old.files))) }
+        ensures paths { self.new.paths ≡ self.old.paths }
+    {
+        if self.is_own_file(identity)? {
+            return Ok(());
+        }
+        tell_same_file(alloc, watch, dir, path)?;
+        Err(Fault::SameFile)
+    }
+
+    /// Whether a file is none of those before, by what the system tells of it, to which it is added. Where that is
+    /// nothing, it counts as none.
     fn is_own_file(&mut self, identity: Option<FileIdentity>) -> Result<bool, AllocError>
-        ensures { IfOk result
-            (λ is_own. IsTrue is_own ↔ IfSome identity (λ file. ¬ IsKnown self.old.files file)) }
+        ensures is_own { IfOk result (λ is_own. MatchBool is_own
+            (IfSome identity (λ file. ¬ IsKnown self.old.files file))
+            (IsSomeAnd identity (IsKnown self.old.files))) }
+        ensures added { OnOk result (IsAdded self.old.files identity self.new.files) }
+        ensures paths { self.new.paths ≡ self.old.paths }
     {
         match identity {
             Some(file) => self.files.insert(file),
             None => Ok(true),
         }
+    }
+
+    /// Adds the names on a path. Errors: one is another's, in a folder that has one file for names which differ in case;
+    /// a folder can't be listed; memory is refused.
+    fn add_path<R: Files + AllocGlobal + Clone + Drop, P: Watch>(
+        &mut self,
+        rt: &R,
+        watch: &P,
+        dir: &str,
+        path: &FilePath,
+    ) -> Result<(), Fault>
+        ensures files { self.new.files ≡ self.old.files }
+        ensures fault { IfErr result
+            (IsCallFaultOr (HasNameOfAnother self.old.paths self.new.paths path.now)) }
+    {
+        if self.is_own_path(rt, watch, dir, path)? {
+            return Ok(());
+        }
+        tell_same_file(rt.alloc(), watch, dir, path)?;
+        Err(Fault::SameFile)
     }
 
     /// Whether each name on a path is its own, in a folder that may have one file for names which differ in case.
@@ -118,7 +171,10 @@ impl OpenFolder {
         dir: &str,
         path: &FilePath,
     ) -> Result<bool, Fault>
-        ensures { IfErr result IsCallFault }
+        ensures files { self.new.files ≡ self.old.files }
+        ensures is_own { IfOk result
+            (λ is_own. OnFalse is_own (HasNameOfAnother self.old.paths self.new.paths path.now)) }
+        ensures fault { IfErr result IsCallFault }
     {
         let elements = path.elements();
         let is_own = match self.paths.is_own(rt, dir, elements.as_slice()) {

@@ -1,5 +1,5 @@
 //! The store of a torrent's files: an engine over them, from its opening to its flush.
-ghost use Rattle.std.specs.Prelude.{◌≡◌, ◌⊎◌, Ok, Err, length, IfOk, IfErr, OnOk};
+ghost use Rattle.std.specs.Prelude.{◌≡◌, Ok, Err, length, IfOk, IfErr, OnOk};
 ghost use Rattle.sha2.specs.Sha256.{sha256};
 ghost use Rattle.bt_machine.specs.declared.error.FlushError.TheVariants.{Device};
 ghost use Rattle.bt_machine.specs.declared.event.Event.TheVariants.{Flush};
@@ -7,8 +7,8 @@ ghost use Rattle.bt_machine.specs.declared.event.Answer.TheVariants.{Flushed};
 ghost use Rattle.bt_machine.specs.Start.{device_count};
 ghost use Rattle.bt_machine.specs.View.{StepsTo};
 ghost use Rattle.bt_runs.specs.Leads.{LeadsTo};
-ghost use Rattle.bt_check.specs.Fault.{device, out_of_memory};
-ghost use Rattle.bt_files.specs.OpenFolder.{IsOpeningFault};
+ghost use Rattle.bt_check.specs.Fault.{device};
+ghost use Rattle.bt_files.specs.OpenFolder.{IsCallFault, IsOpeningFault};
 ghost use Rattle.bt_files.specs.Store.{HasBegun, IsOpened};
 
 use crate::adoption::adopt_files;
@@ -37,7 +37,7 @@ pub(crate) fn open_store<'a, R: Files + AllocGlobal + Clone + Drop, P: Watch>(
     dir: &str,
 ) -> Result<Store<'a, R, P>, Fault>
     ensures opened { IfOk result (IsOpened context.entry.usage dir.now torrent) }
-    ensures fault { IfErr result (IsOpeningFault context.entry.usage) }
+    ensures fault { IfErr result (IsOpeningFault context.entry.usage (length torrent.files)) }
 {
     let files = open_devices(rt, watch, context, dir, torrent.files())?;
     begin(
@@ -59,7 +59,7 @@ pub(crate) fn begin<'a, D: Disk + Drop>(
     requires each { length files.filled.items ≡ length torrent.files }
     ensures begun { IfOk result
         (HasBegun D.history D.honest D.faults sha256 torrent files.disks.items files.filled.items) }
-    ensures fault { IfErr result (λ fault. (fault ≡ device) ⊎ (fault ≡ out_of_memory)) }
+    ensures fault { IfErr result IsCallFault }
 {
     let OpenFiles { disks, filled } = files;
     match Engine::start(alloc, torrent, hash, disks) {

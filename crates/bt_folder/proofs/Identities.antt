@@ -1,5 +1,6 @@
 -- A set of files, as the list of those that are in it.
 use Rattle.std.proofs.Common.{◌≡◌, ◌↔◌, ◌⊎◌, ◌∙◌, ℕ, Bool, true, false, not, cond, inl, inr, refl, sym, ap}
+use Rattle.std.specs.Bool.{OnFalse}
 use Rattle.std.proofs.lemmas.Bool.{false≢true}
 use Rattle.std.proofs.lemmas.Cmp.{eq_by_cmp_equiv, nat_cmp_total, on_total, then_total}
 use Rattle.std.proofs.lemmas.Map.Lookups.{CmpEqualImpliesEq, exact_pairs, exact_unsigned}
@@ -48,3 +49,10 @@ there_now false x y Before Now Same e now before same = (
     | inr s ↦ absurd (false≢true (same.1 s))
   ],
 )
+
+-- what is no further one was there
+pub known_before : (b r : Bool) (There : Type 0) → r ≡ not b → (b ≡ true) ↔ There → OnFalse r There
+known_before true true There e iff = absurd (false≢true (sym e))
+known_before true false There e iff = iff.0 refl
+known_before false true There e iff = tt
+known_before false false There e iff = absurd (false≢true e)

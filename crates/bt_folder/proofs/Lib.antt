@@ -2,3 +2,5 @@
 pub mod Names
 -- Files that were opened.
 pub mod Identities
+-- Names of the folders on a path.
+pub mod Twins

@@ -1,4 +1,6 @@
 pub mod SealedDisk
 pub mod CaseNames
 pub mod FolderNames
+pub mod CasePaths
+pub mod CasePathsSteps
 pub mod KnownFiles

@@ -1,5 +1,8 @@
 //! Paths on which a name is one with another of its folder but for case.
-ghost use Rattle.std.specs.Prelude.{◌≡◌, ◌&&◌};
+ghost use Rattle.std.specs.Prelude.{◌≡◌, ◌&&◌, ◌+◌, ◌≤◌, ◌<◌, length, map, take, string_bytes, vec_len, IfOk, OnOk, IsSomeAnd};
+ghost use Rattle.std.specs.Bool.{OnFalse};
+ghost use Rattle.bt_folder.specs.CasePaths.{HasNameOfAnother, HasNoPath, IsOfAnother, IsOfAnotherAt, texts};
+ghost use Rattle.bt_folder.specs.CasePathsSteps.{HasFurther, HasNoName};
 ghost use Rattle.bt_folder.specs.FolderNames.{has_name};
 
 use crate::case_names::CaseNames;
@@ -22,14 +25,17 @@ pub struct CasePaths {
 
 impl CasePaths {
     /// No path was looked at.
-    pub fn new(alloc: Global) -> Self {
+    pub fn new(alloc: Global) -> Self
+        ensures { HasNoPath result }
+    {
         CasePaths {
             path: Vec::new(alloc),
             folders: Vec::new(alloc),
         }
     }
 
-    /// Whether each name of the next path is its own. The path's folders and its file have to be there.
+    /// Whether each name of the next path is its own. The path's folders and its file have to be there. None is another's
+    /// unless the folder's listing lacks it, or the name that it is one with.
     ///
     /// Errors: a folder can't be listed, or memory is refused. No path is looked at after that, or after a path of which
     /// a name is not its own.
@@ -38,11 +44,14 @@ impl CasePaths {
         rt: &R,
         dir: &str,
         elements: &[&str],
-    ) -> Result<bool, ListingError> {
+    ) -> Result<bool, ListingError>
+        ensures { IfOk result
+            (λ is_own. OnFalse is_own (HasNameOfAnother self.old self.new (texts elements.now))) }
+    {
         let shared = self.shared_len(elements);
         self.path.truncate(shared);
         self.folders.truncate(shared.saturating_add(1));
-        for element in elements.iter().skip(shared) {
+        for element in &elements[shared..] {
             if !self.is_own_name(rt, dir, element)? {
                 return Ok(false);
             }
@@ -51,7 +60,11 @@ impl CasePaths {
     }
 
     /// How many elements the path begins with as the last one did.
-    fn shared_len(&self, elements: &[&str]) -> usize {
+    fn shared_len(&self, elements: &[&str]) -> usize
+        ensures in_path { result ≤ vec_len self.now.path }
+        ensures in_elements { result ≤ length elements.now }
+        ensures same { map string_bytes (take result self.now.path.items) ≡ texts (take result elements.now) }
+    {
         for (place, element) in elements.iter().enumerate() {
             match self.path.get(place) {
                 Some(last) if last.as_str() == *element => {}
@@ -67,7 +80,13 @@ impl CasePaths {
         rt: &R,
         dir: &str,
         name: &str,
-    ) -> Result<bool, ListingError> {
+    ) -> Result<bool, ListingError>
+        ensures path { OnOk result (vec_len self.new.path ≡ vec_len self.old.path + 1) }
+        ensures folders { OnOk result (vec_len self.old.folders ≤ vec_len self.old.path + 1
+            → vec_len self.new.folders ≤ vec_len self.old.path + 1) }
+        ensures of_another { IfOk result (λ is_own. OnFalse is_own
+            (IsOfAnotherAt self.old.folders.items self.new.folders.items (vec_len self.old.path) name.now)) }
+    {
         let depth = self.path.len();
         let folder = folder_path(rt.alloc(), dir, &self.path)?;
         self.go_to(rt.alloc(), name)?;
@@ -78,7 +97,13 @@ impl CasePaths {
     }
 
     /// Puts a name behind the path so far, whose folder it lies in.
-    fn go_to(&mut self, alloc: Global, name: &str) -> Result<(), AllocError> {
+    fn go_to(&mut self, alloc: Global, name: &str) -> Result<(), AllocError>
+        ensures path { OnOk result (vec_len self.new.path ≡ vec_len self.old.path + 1) }
+        ensures known { OnOk result (vec_len self.old.path < vec_len self.old.folders
+            → self.new.folders.items ≡ self.old.folders.items) }
+        ensures further { OnOk result (vec_len self.old.folders ≤ vec_len self.old.path
+            → HasFurther self.old.folders.items self.new.folders.items) }
+    {
         if self.folders.len() <= self.path.len() {
             self.folders.push(CaseFolder::new(alloc))?;
         }
@@ -104,7 +129,9 @@ struct CaseFolder {
 }
 
 impl CaseFolder {
-    fn new(alloc: Global) -> Self {
+    fn new(alloc: Global) -> Self
+        ensures { HasNoName result }
+    {
         CaseFolder {
             names: CaseNames::new(alloc),
             listing: None,
@@ -116,7 +143,9 @@ impl CaseFolder {
         rt: &R,
         folder: &str,
         name: &str,
-    ) -> Result<bool, ListingError> {
+    ) -> Result<bool, ListingError>
+        ensures { IfOk result (λ is_own. OnFalse is_own (IsOfAnother self.old self.new name.now)) }
+    {
         let Some(twin) = self.names.insert(rt.alloc(), name)? else {
             return Ok(true);
         };
@@ -130,7 +159,10 @@ impl CaseFolder {
         folder: &str,
         twin: &str,
         name: &str,
-    ) -> Result<bool, ListingError> {
+    ) -> Result<bool, ListingError>
+        ensures { IfOk result (λ stand. IsSomeAnd self.new.listing (λ listing.
+            stand ≡ (has_name listing twin.now && has_name listing name.now))) }
+    {
         if let Some(listing) = &self.listing {
             return Ok(have_both(listing, twin, name));
         }

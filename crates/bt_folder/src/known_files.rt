@@ -1,5 +1,6 @@
 //! Files that were opened already, as the system tells them apart.
 ghost use Rattle.std.specs.Prelude.{◌≡◌, ◌↔◌, ◌⊎◌, IfOk, OnOk, OnErr, IsTrue};
+ghost use Rattle.std.specs.Bool.{OnFalse};
 ghost use Rattle.bt_disk.specs.declared.opening.FileIdentity.{FileIdentity};
 ghost use Rattle.bt_folder.specs.KnownFiles.{IsKnown};
 
@@ -27,6 +28,7 @@ impl KnownFiles {
     /// Adds a file, and says whether it is a further one: no, where it was there already.
     pub fn insert(&mut self, file: FileIdentity) -> Result<bool, AllocError>
         ensures is_further { IfOk result (λ is_further. IsTrue is_further ↔ ¬ IsKnown self.old file) }
+        ensures known { IfOk result (λ is_further. OnFalse is_further (IsKnown self.old file)) }
         ensures added { OnOk result ((other : FileIdentity)
             → IsKnown self.new other ↔ (IsKnown self.old other ⊎ (other ≡ file))) }
         ensures failed { OnErr result ((other : FileIdentity)
