@@ -1,7 +1,7 @@
--- What a flush kept of a marked block stands over restarts too, where no read failed.
+-- What a flush kept of a marked block stands over restarts too, where no read of theirs failed.
 use Rattle.bt_machine.proofs.Base.{[], ◌≡◌, ℕ, ◌<◌, ◌≤◌, inl, inr, true, List, ◌∷◌, ◌++◌, length, flat_map, Option, Some, Result, Ok, sym, ap, ◌∙◌, subst, arith, slice_get, Contains, block_length, AdoptMarksByBytes, CallsKeepBytes, IsImage, IsRight, BlockRead, given, block_of, call_of, Missing, Marked, BlockId, Facts, Call, History}
 use Rattle.bt_disk.specs.Limits.{max_count}
-use Rattle.bt_disk.specs.Calls.{HasCalls, IsRead, count_after_call, count_after_calls}
+use Rattle.bt_disk.specs.Calls.{HasCalls, IsRead, read_fault, count_after_call, count_after_calls}
 use Rattle.bt_resume.specs.LogText.{LogText, hints_in}
 use Rattle.bt_resume.specs.ResumeLog.{LogView}
 use Rattle.bt_resume.specs.Law.{Begin, KeepsFirst, HintsComeFirst, ReloadHolds, ReloadStands, AppendStands, FlushStands}
@@ -12,6 +12,7 @@ use Rattle.bt_machine.specs.LogCalls.{AreLogCalls}
 use Rattle.bt_machine.specs.Restart.{read as read_again, none as no_log, StepRestart, restarts, unread, no_memory as not_restarted}
 use Rattle.bt_machine.specs.Crash.{IsBlockKept}
 use Rattle.bt_machine.specs.Backing.{IsBacked}
+use Rattle.bt_machine.specs.Reopening.{NoReadFailed, RestartsReadAll, NoRestartsReadAll, CountsTellReads}
 use Rattle.bt_machine.proofs.Machine.{Digest, Event, Answer, EngineState, FileState, EventCalls, calls_of, state_at, tree_of, IsFile, IsShaped, IsSound, Step, RunOn, stored_block}
 use Rattle.bt_machine.proofs.Lists.{same_some, and_then_some}
 use Rattle.bt_machine.proofs.Marks.{state_is}
@@ -19,12 +20,12 @@ use Rattle.bt_machine.proofs.Restarts.{restart_or}
 use Rattle.bt_machine.proofs.Shape.{step_keeps_files, step_torrent, step_logged}
 use Rattle.bt_machine.proofs.Sound.{of_all, step_sound}
 use Rattle.bt_machine.proofs.Crash.{images_kept}
-use Rattle.bt_machine.proofs.Unmarks.{marks_kept, device_before}
+use Rattle.bt_machine.proofs.Unmarks.{first_is, others_are, marks_kept, device_before}
 use Rattle.bt_machine.proofs.Survival.{block_stands}
 use Rattle.bt_machine.proofs.LogCalls.{calls_back, calls_stand}
 use Rattle.bt_machine.proofs.Backing.{calls_split}
 use Rattle.bt_machine.proofs.Reopening.{marked_again}
-use Rattle.bt_machine.proofs.Reading.{files_read, never_less, device_after, block_read}
+use Rattle.bt_machine.proofs.Reading.{files_read, never_less, none_failed, device_after, devices_run, block_read}
 
 -- ---- failures
 
@@ -41,6 +42,12 @@ same_device e f = cc
 then_begins : (a b c : List Hint) → Begin a b → Begin b c → Begin a c
 then_begins a b c x y = (x.0 ++ y.0, y.1 ∙ ap (λ l. l ++ y.0) x.1 ∙ append_assoc a x.0 y.0)
 
+-- where there is no restart, none of its reads failed
+pub no_restarts : NoRestartsReadAll
+no_restarts [] calls none = tt
+no_restarts (x ∷ xs) [] none = tt
+no_restarts (x ∷ xs) (c ∷ cs) none = ((λ is. absurd (first_is x xs none is)), no_restarts xs cs (others_are x xs none))
+
 module _ {D : Type 0} (history : D → History) (honest : D → Type 0) (faults : D → ℕ) (dig : Digest) where
   run_faults : (events : List Event) (calls : List EventCalls) (answers : List Answer) (old new : EngineState) (disks after : List (Option D)) (file : ℕ) (d e : D)
       → RunOn history honest faults dig old disks events calls answers new after → slice_get disks file ≡ Some (Some d) → slice_get after file ≡ Some (Some e)
@@ -56,6 +63,42 @@ module _ {D : Type 0} (history : D → History) (honest : D → Type 0) (faults 
       let more = run_faults xs cs rest run.0 new run.1 after file one.0 e run.4 one.1 there (omega (arith, grown.1, counted)) in
       omega (arith, grown.0, counted, more)
   run_faults _ _ _ old new disks after file d e run at there le = absurd run
+
+  -- a device whose count stayed over events had it between them too
+  between : (calls : List Call) (events : List Event) (more : List EventCalls) (answers : List Answer) (mid new : EngineState) (disks after : List (Option D))
+      (file : ℕ) (d m e : D) → HasCalls history honest faults d calls m → RunOn history honest faults dig mid disks events more answers new after
+      → slice_get disks file ≡ Some (Some m) → slice_get after file ≡ Some (Some e) → (faults d < max_count) × (faults e ≡ faults d) → faults m ≡ faults d
+  between calls events more answers mid new disks after file d m e has run at there calm =
+      let few = calm.0 in
+      let same = calm.1 in
+      let counted = has.counted in
+      let grown = bounded calls (faults d) (omega (arith, few)) in
+      let later_on = run_faults events more answers mid new disks after file m e run at there (omega (arith, grown.1, counted)) in
+      omega (arith, grown.0, counted, later_on, same)
+
+  pub counts_tell : CountsTellReads history honest faults dig
+  counts_tell old new [] [] [] disks after run none = tt
+  counts_tell old new (x ∷ xs) (c ∷ cs) (a ∷ rest) disks after run none =
+      ((λ is file at wanted among. fine file at wanted among), counts_tell run.0 new xs cs rest run.1 after run.4 (record { none = calm }))
+    where
+      fine : (file at wanted : ℕ) → Contains c.devices (file, read_fault at wanted) → ⊥
+      fine file at wanted among =
+          let m = run.3.of_devices file (read_fault at wanted) among in
+          let d = run.3.each file m.0 m.1 in
+          let e = devices_run history honest faults dig xs cs rest run.0 new run.1 after file run.4 m.1 in
+          let count = none.none file d.0 e.0 d.1 e.1 in
+          let same = between (calls_of file c.devices) xs cs rest run.0 new run.1 after file d.0 m.0 e.0 d.2 run.4 m.1 e.1 count in
+          none_failed history honest faults c.devices file count.0 same d.2 at wanted among
+
+      calm : (file : ℕ) (m e : D) → slice_get run.1 file ≡ Some (Some m) → slice_get after file ≡ Some (Some e)
+          → (faults m < max_count) × (faults e ≡ faults m)
+      calm file m e at there =
+          let d = run.3.each file m at in
+          let count = none.none file d.0 e d.1 there in
+          let same = between (calls_of file c.devices) xs cs rest run.0 new run.1 after file d.0 m e d.2 run.4 at there count in
+          let few = count.0 in
+          (omega (arith, same, few), count.1 ∙ sym same)
+  counts_tell old new _ _ _ disks after run none = absurd run
 
   -- ---- what a flush left of a block and of the hints
 
@@ -102,9 +145,9 @@ module _ {D : Type 0} (history : D → History) (honest : D → Type 0) (faults 
     restart_marks : {flushed s new : EngineState} {calls : EventCalls} {r : Result (Unit {0}) RestartError} (b : BlockId) (k : Facts) (bytes : List ℕ) (text : LogText)
         (t : ℕ) (was log : LogView D) (d e : D) → WasFlushed flushed b k bytes text → s.torrent ≡ flushed.torrent → s.logged ≡ true
         → state_at s b ≡ Some Marked → honest was.disk → KeepsFirst history honest faults t text was → AreLogCalls history honest faults was calls.log log
-        → honest d → faults d < max_count → faults e ≡ faults d → HasCalls history honest faults d (calls_of b.file calls.devices) e
+        → honest d → NoReadFailed calls.devices → HasCalls history honest faults d (calls_of b.file calls.devices) e
         → stored_block k.file_length (history d).now.bytes b.block ≡ bytes → StepRestart dig s calls r new → state_at new b ≡ Some Marked
-    restart_marks {flushed} {s} {new} {calls} b k bytes text t was log d e f torrent logged marked was_honest kept logs h few same has stands
+    restart_marks {flushed} {s} {new} {calls} b k bytes text t was log d e f torrent logged marked was_honest kept logs h fine has stands
         (restarts hints (read_again is made) recovers places ok) =
         let c = subst (λ l. AreLogCalls history honest faults was l log) made logs in
         let held = reload was c.0 (Ok tt) kept.kept kept.all was_honest c.1.0 kept.holds in
@@ -118,13 +161,13 @@ module _ {D : Type 0} (history : D → History) (honest : D → Type 0) (faults 
         good read of_block among =
             let only : (c : Call) → Contains (calls_of b.file calls.devices) c → IsRead c =
             λ c inside. files_read dig hints _ _ new calls.devices recovers.restores b.file c (of_all calls.devices inside) in
-            let r = block_read history honest faults calls.devices b.file k.file_length b.block read h few same has only of_block among in
+            let r = block_read history honest faults calls.devices b.file k.file_length b.block read h (fine b.file) has only of_block among in
             (r.0, r.1, subst (IsRight dig k b.block) (sym (r.2 ∙ stands)) f.right)
-    restart_marks b k bytes text t was log d e f torrent logged marked was_honest kept logs h few same has stands
+    restart_marks b k bytes text t was log d e f torrent logged marked was_honest kept logs h fine has stands
         (restarts hints (no_log is made none) recovers places ok) = absurd cc
-    restart_marks b k bytes text t was log d e f torrent logged marked was_honest kept logs h few same has stands (unread cause is made refused after) =
+    restart_marks b k bytes text t was log d e f torrent logged marked was_honest kept logs h fine has stands (unread cause is made refused after) =
         ap (λ z. state_at z b) after ∙ marked
-    restart_marks b k bytes text t was log d e f torrent logged marked was_honest kept logs h few same has stands (not_restarted hints again none refused after) =
+    restart_marks b k bytes text t was log d e f torrent logged marked was_honest kept logs h fine has stands (not_restarted hints again none refused after) =
         ap (λ z. state_at z b) after ∙ marked
 
     -- what every image has of the block since the flush, every image goes on to have
@@ -133,10 +176,10 @@ module _ {D : Type 0} (history : D → History) (honest : D → Type 0) (faults 
         → StaysMarked flushed s b k → RunOn history honest faults dig s disks events calls answers new after
         → AreLogCalls history honest faults was (flat_map (λ c. c.log) calls) log → honest log.disk → KeepsFirst history honest faults t_log text was
         → IsSound history honest dig s disks → slice_get disks b.file ≡ Some (Some d) → slice_get after b.file ≡ Some (Some e) → honest e
-        → faults d < max_count → faults e ≡ faults d → IsBlockKept (history d) t b.block bytes → IsBlockKept (history e) t b.block bytes
-    kept_over flushed b k bytes text t t_log [] [] [] s new disks after was log d e f g run logs h first sound at there honest_now few same kept =
+        → RestartsReadAll events calls → IsBlockKept (history d) t b.block bytes → IsBlockKept (history e) t b.block bytes
+    kept_over flushed b k bytes text t t_log [] [] [] s new disks after was log d e f g run logs h first sound at there honest_now all_read kept =
         subst (λ x. IsBlockKept (history x) t b.block bytes) (same_device at (ap (λ l. slice_get l b.file) (sym run.1) ∙ there)) kept
-    kept_over flushed b k bytes text t t_log (x ∷ xs) (c ∷ cs) (a ∷ rest) s new disks after was log d e f g run logs h first sound at there honest_now few same kept =
+    kept_over flushed b k bytes text t t_log (x ∷ xs) (c ∷ cs) (a ∷ rest) s new disks after was log d e f g run logs h first sound at there honest_now all_read kept =
         let back = device_before history honest faults dig run.0 new xs cs rest run.1 after b.file run.4 there honest_now in
         let one = device_after history honest faults disks run.1 c.devices b.file run.3 at in
         let honest_then = subst honest (same_device back.1 one.1) back.2 in
@@ -145,17 +188,13 @@ module _ {D : Type 0} (history : D → History) (honest : D → Type 0) (faults 
         let log_then = calls_back history honest faults split.0 (flat_map (λ z. z.log) cs) log split.2 h in
         let log_before = calls_back history honest faults was c.log split.0 split.1 log_then in
         let first_then = calls_stand history honest faults reload_stands append_stands flush_stands t_log text was c.log split.0 log_then split.1 first in
-        let grown = bounded (calls_of b.file c.devices) (faults d) (omega (arith, few)) in
-        let counted = one.2.counted in
-        let more = run_faults xs cs rest run.0 new run.1 after b.file one.0 e run.4 one.1 there (omega (arith, grown.1, counted)) in
-        let same_then : faults one.0 ≡ faults d = omega (arith, grown.0, counted, more, same) in
         let size : length bytes ≡ block_length k.file_length b.block = f.right.whole in
         let stands = block_stands k.file_length b.block bytes (history d).now.bytes size (λ j byte inside. kept j byte inside (history d).now.bytes (inl (reads d honest_before))) in
         let before = state_is s b g.is_file.here g.marked in
         let marked : state_at run.0 b ≡ Some Marked = elim (restart_or x) [
           | inl is ↦ (
               let r = subst (λ z. Step dig s z c a run.0) is run.2 in
-              restart_marks b k bytes text t_log was split.0 d one.0 f g.torrent g.logged before log_before first split.1 honest_before few same_then one.2 stands r.2
+              restart_marks b k bytes text t_log was split.0 d one.0 f g.torrent g.logged before log_before first split.1 honest_before (all_read.0 is) one.2 stands r.2
               )
           | inr apart ↦ marks_kept history honest faults dig s run.0 x c a disks run.1 b one.0 apart run.2 run.3 sound one.1 honest_then before
         ] in
@@ -164,8 +203,8 @@ module _ {D : Type 0} (history : D → History) (honest : D → Type 0) (faults 
         (λ y there_y. subst (λ z. IsBlockKept (history z) t b.block bytes) (same_device at there_y) kept) in
         kept_over flushed b k bytes text t t_log xs cs rest run.0 new run.1 after split.0 log one.0 e f (stays_next x c a run.2 g marked) run.4 split.2 h first_then
         (step_sound history honest faults dig marks s run.0 x c a disks run.1 run.2 run.3 sound) one.1 there honest_now
-        (omega (arith, same_then, few)) (same ∙ sym same_then) kept_then
+        all_read.1 kept_then
       where
         present : {o : Option _} → o ≡ Some Marked → o ≡ Some Missing → ⊥
         present m n = absurd cc
-    kept_over flushed b k bytes text t t_log _ _ _ s new disks after was log d e f g run logs h first sound at there honest_now few same kept = absurd run
+    kept_over flushed b k bytes text t t_log _ _ _ s new disks after was log d e f g run logs h first sound at there honest_now all_read kept = absurd run

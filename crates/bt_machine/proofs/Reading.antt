@@ -127,16 +127,21 @@ module _ {D : Type 0} (history : D → History) (honest : D → Type 0) (faults 
 
   -- ---- blocks
 
+  -- where its count stayed, no read of a device failed
+  pub none_failed : {old new : D} (calls : DeviceCalls) (file : ℕ) → faults old < max_count → faults new ≡ faults old
+      → HasCalls history honest faults old (calls_of file calls) new → (at wanted : ℕ) → Contains calls (file, read_fault at wanted) → ⊥
+  none_failed {old} calls file few same has at wanted among =
+      let more = fault_counts (calls_of file calls) (faults old) at wanted few (among_file calls among) in
+      omega (arith, more, has.counted, same)
+
   -- a read of a block that did not fail gave the bytes that an honest device has of it
-  pub block_read : {old new : D} (calls : DeviceCalls) (file n i : ℕ) (read : BlockRead) → honest old → faults old < max_count → faults new ≡ faults old
+  pub block_read : {old new : D} (calls : DeviceCalls) (file n i : ℕ) (read : BlockRead) → honest old
+      → ((at wanted : ℕ) → Contains calls (file, read_fault at wanted) → ⊥)
       → HasCalls history honest faults old (calls_of file calls) new → ((c : Call) → Contains (calls_of file calls) c → IsRead c)
       → block_of read ≡ i → Contains calls (file, call_of n read)
       → (bytes : List ℕ) × (read ≡ given i bytes) × (bytes ≡ stored_block n (history old).now.bytes i)
-  block_read {old} {new} calls file n i (given b bytes) is_honest few same has all block among =
+  block_read {old} {new} calls file n i (given b bytes) is_honest fine has all block among =
       let at : Contains (calls_of file calls) (bytes_given (16384 * b) (block_length n b) bytes) = among_file calls among in
       let are = bytes_are (calls_of file calls) (history old) (history new) all (has.answered is_honest) (16384 * b) (block_length n b) bytes at in
       (bytes, ap (λ j. given j bytes) block, are ∙ ap (λ j. stored_block n (history old).now.bytes j) block)
-  block_read {old} {new} calls file n i (failed b) is_honest few same has all block among =
-      let at : Contains (calls_of file calls) (read_fault (16384 * b) (block_length n b)) = among_file calls among in
-      let more = fault_counts (calls_of file calls) (faults old) (16384 * b) (block_length n b) few at in
-      absurd (omega (arith, more, has.counted, same))
+  block_read calls file n i (failed b) is_honest fine has all block among = absurd (fine (16384 * b) (block_length n b) among)

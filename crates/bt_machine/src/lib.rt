@@ -29,5 +29,6 @@ pub use law::{
 pub use log_law::{
     backed_blocks_are_marked_again, engines_are_of_logs, flushed_blocks_are_marked_again,
     group_proofs_follow, hints_lead_trees, hints_record_marks, logs_back_engines, logs_stand,
+    restarts_read_all,
 };
 pub use report::FileReport;

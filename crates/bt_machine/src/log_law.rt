@@ -3,11 +3,9 @@
 ghost use Rattle.bt_machine.specs.Hints.{HintsStayRecorded, JoinedRunsAreLongest};
 ghost use Rattle.bt_machine.specs.View.{StartsOfLog, StepKeepsOfLog, RunKeepsOfLog};
 ghost use Rattle.bt_machine.specs.Backing.{SameTreesTakeSame, HintsAreSplit, JoiningKeepsTrees, HintsForgetNothing, AcceptedProofsFollow, ClaimsThatAddNothing, PendingKeepsBacking, TorrentTreesAreOne, RecoveredIsBacked, GroupProofsFollow, OtherRootsStay, StartIsBacked, StepKeepsBacking, RunsAreBacked};
-ghost use Rattle.bt_machine.specs.Reopening.{BackedBlocksAreMarkedAgain, StepKeepsLog, FlushKeepsHints, FlushedLogsAreKept, FlushedBlocksAreMarkedAgain};
+ghost use Rattle.bt_machine.specs.Reopening.{BackedBlocksAreMarkedAgain, StepKeepsLog, FlushKeepsHints, FlushedLogsAreKept, FlushedBlocksAreMarkedAgain, NoRestartsReadAll, CountsTellReads};
 
-use crate::law::{
-    runs_compose, runs_keep_flushed_blocks, runs_keep_shape, starts_keep_laws, steps_keep_laws,
-};
+use crate::law::{runs_compose, runs_keep_shape, starts_keep_laws, steps_keep_laws};
 use bt_disk::{Disk, calls_keep_bytes};
 use bt_resume::{hints_are_read_back, kept_devices_open, kept_hints_stand, logs_hold_hints};
 use bt_sparse::{answers_agree, answers_are_taken, keeps_rooted};
@@ -86,15 +84,20 @@ pub fn logs_back_engines<D: Disk, H: NodeHash>(hash: H)
     steps_keep_laws::<D, H>(hash);
 }
 
+/// No read of a restart failed where there was no restart, and where the count of failed calls of each device
+/// stayed what it was.
+pub fn restarts_read_all<D: Disk, H: NodeHash>()
+    ensures none { NoRestartsReadAll }
+    ensures counted { CountsTellReads D.history D.honest D.faults H.digest }
+{}
+
 /// Once a flush answered Ok on an engine with a log, a stop at any later moment, also within an event, leaves
 /// enough: all blocks that were marked at the flush are marked where the devices and the log are opened again
-/// and no read fails. A restart since the flush counts as a reopening: where there was one, no call of a
-/// device failed since the flush.
+/// and no read fails. A restart since the flush counts as a reopening: no read of it failed either.
 pub fn flushed_blocks_are_marked_again<D: Disk, H: NodeHash>(hash: H)
     ensures { FlushedBlocksAreMarkedAgain D.history D.honest D.faults H.digest }
 {
     logs_back_engines::<D, H>(hash);
-    runs_keep_flushed_blocks::<D, H>(hash);
     runs_keep_shape::<H>();
     runs_compose::<D, H>();
     kept_devices_open::<D>();
