@@ -1,12 +1,12 @@
 -- Where a file is cut.
-use Rattle.std.proofs.Common.{◌≡◌, ℕ, ◌+◌, ◌-◌, ◌*◌, ◌/◌, ◌%◌, ◌<◌, ◌≤◌, ◌⊎◌, zero, suc, min, inl, inr, arith, refl, sym, ap, subst, ◌∙◌}
+use Rattle.std.proofs.Common.{◌≡◌, ℕ, ◌+◌, ◌-◌, ◌*◌, ◌/◌, ◌%◌, ◌<◌, ◌≤◌, ◌⊎◌, zero, suc, min, inl, inr, arith, refl, ap, subst}
 use Rattle.std.specs.Int.{div_ceil}
 use Rattle.std.proofs.Math.Nat.{div-le_of_le-mul, div-mul-le_self, le-div_iff_mul-le, mod-lt, mul_comm, mul-div_cancel, mul-le-mul_right}
 use Rattle.std.proofs.lemmas.Bool.{cases_lt}
 use Rattle.std.proofs.lemmas.Nat.{div-add-mod'}
 use Rattle.bt_tree.specs.Limits.{full_block_length}
 use Rattle.bt_parts.specs.Division.{cut_at, edge_of}
-use Rattle.bt_parts.specs.Law.{IsDivided, SharesAreWhole}
+use Rattle.bt_parts.specs.Law.{SharesAreWhole}
 use Rattle.bt_parts.specs.declared.cut.Cut.{Cut}
 
 min_one : (r : ℕ) → ((r ≡ 0) × (min 1 r ≡ 0)) ⊎ ((0 < r) × (min 1 r ≡ 1))

@@ -1,5 +1,5 @@
 -- Lemmas on the fields of a line.
-use Rattle.std.proofs.Common.{[], ◌≡◌, ℕ, true, List, ◌∷◌, Option, Some, None, length, sym, ap, subst, ◌∙◌, arith}
+use Rattle.std.proofs.Common.{[], ◌≡◌, ℕ, true, List, ◌∷◌, Option, Some, None, length, sym, ap, ◌∙◌, arith}
 use Rattle.std.specs.Prelude.{◌==◌, is_some}
 use Rattle.std.specs.Borrow.{Bor}
 use Rattle.std.proofs.lemmas.List.Splits.{length-slice_split}

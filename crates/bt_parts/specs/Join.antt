@@ -1,5 +1,5 @@
 -- Runs of a file, told by several parts, and what they come to together.
-use Rattle.std.specs.Prelude.{◌≡◌, ◌≢◌, ℕ, ◌+◌, ◌-◌, ◌||◌, Bool, List, [], ◌∷◌, sum_by}
+use Rattle.std.specs.Prelude.{◌≡◌, ◌≢◌, ⊤, ℕ, ◌-◌, Bool, List, [], ◌∷◌, sum_by}
 use Rattle.std.specs.List.{All, count_by, list_any, range_with_len}
 use Rattle.bt_check.specs.declared.data_file.Finding.{Finding}
 use Rattle.bt_parts.specs.Run.{IsWithin, is_fault, is_longer}
@@ -11,6 +11,11 @@ pub data IsChain (blocks : ℕ) : (at : ℕ) → List Run → (reached : ℕ) �
   none : (at : ℕ) → IsChain blocks at [] at
   more : (at : ℕ) (run : Run) (rest : List Run) (reached : ℕ) → run.from ≡ at → IsWithin blocks run
       → IsChain blocks run.to rest reached → IsChain blocks at (run ∷ rest) reached
+
+-- the first of these runs, where there is one, is none of the file's
+abbrev pub BeginsElsewhere : ℕ → List Run → Type 0
+BeginsElsewhere file [] = ⊤
+BeginsElsewhere file (run ∷ rest) = run.file ≢ file
 
 -- how many blocks are right, by some runs
 abbrev pub marked_in : List Run → ℕ

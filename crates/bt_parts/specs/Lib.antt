@@ -2,7 +2,7 @@ pub mod Run
 pub mod Field
 pub mod Line
 pub mod Division
-pub mod Layout
+pub mod Unit
 pub mod Join
 pub mod Law
 -- what private steps cite

@@ -1,8 +1,9 @@
 //! Runs that several parts told of one file are joined to what a check of the whole file finds.
 ghost use Rattle.std.specs.Prelude.{◌≡◌, ◌++◌, ◌≤◌, List, IfSome, IfNone, take};
-ghost use Rattle.bt_parts.specs.Join.{IsJoined};
+ghost use Rattle.bt_check.specs.declared.data_file.Finding.{Finding as Found};
+ghost use Rattle.bt_parts.specs.Join.{BeginsElsewhere, IsJoined};
 ghost use Rattle.bt_parts.specs.JoinSteps.{Continues};
-ghost use Rattle.bt_parts.specs.declared.join.Joined.{Joined as JoinedRuns};
+ghost use Rattle.bt_parts.specs.Run.{IsWithin};
 ghost use Rattle.bt_parts.specs.declared.run.Run.{Run as BlockRun};
 
 use crate::run::{Met, Run};
@@ -20,7 +21,7 @@ impl Joined {
     fn with(self, run: Run) -> Option<Joined>
         requires { self.finding.marked ≤ self.reached }
         ensures some { IfSome result (Continues self run) }
-        ensures none { IfNone result ((next : JoinedRuns) → ¬ Continues self run next) }
+        ensures none { IfNone result (run.from ≡ self.reached → ¬ IsWithin self.finding.blocks run) }
     {
         let finding = self.finding;
         if run.from != self.reached || !run.is_within(finding.blocks) {
@@ -42,7 +43,9 @@ impl Joined {
 /// found this, and the runs of the other files. None where they are not the blocks of the whole file, each once.
 pub fn join_runs(file: u32, blocks: u32, runs: &[Run]) -> Option<(Finding, &[Run])>
     ensures some { IfSome result (λ x. (own : List BlockRun) × (runs.now ≡ own ++ x.1.now)
-        × IsJoined file blocks own x.0) }
+        × BeginsElsewhere file x.1.now × IsJoined file blocks own x.0) }
+    ensures none { IfNone result ((own rest : List BlockRun) (finding : Found) → runs.now ≡ own ++ rest
+        → BeginsElsewhere file rest → ¬ IsJoined file blocks own finding) }
 {
     let mut joined = Joined {
         reached: 0,

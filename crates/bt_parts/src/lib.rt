@@ -7,14 +7,14 @@ mod division;
 mod field;
 mod join;
 mod law;
-mod layout;
 mod line;
 mod run;
+mod unit;
 
 pub use cut::{Cut, MAX_PARTS, Part, Share};
 pub use division::share_of;
 pub use join::join_runs;
 pub use law::{lines_are_read_back, shares_are_whole, sums_are_whole};
-pub use layout::{Layout, Place, blocks_of, unit_of};
 pub use line::{push_line, run_in};
 pub use run::{Met, Run};
+pub use unit::{blocks_of, unit_of};
