@@ -35,7 +35,8 @@ pub record IsJoined (file blocks : ℕ) (runs : List Run) (finding : Finding) : 
 abbrev pub IsCountOf : (ℕ → Bool) → Run → Type 0
 IsCountOf is_right run = run.marked ≡ count_by is_right (range_with_len run.from (run.to - run.from))
 
--- Where each part counted the blocks that pass one test, the sum over all runs is the count over the whole file.
+-- Where each part counted the blocks that pass one test, the sum over all runs is the count over all blocks
+-- from the first on to the last, as those of a whole file.
 abbrev pub SumsAreWhole : Type 0
 SumsAreWhole = (is_right : ℕ → Bool) (blocks at reached : ℕ) (runs : List Run) → IsChain blocks at runs reached
     → All (IsCountOf is_right) runs

@@ -17,13 +17,14 @@ pub record IsSmall (run : Run) : Type 0 where
 abbrev pub LinesAreReadBack : Type 0
 LinesAreReadBack = (run : Run) → IsSmall run → IsRunLine (line_before [] run) run
 
--- A file whose last block begins on a line of `total` bytes is cut at its first block by the begin of the first part and behind its
--- last block by the end of the last, and each further part begins no earlier. So the shares of the parts, each of which
--- ends where the next begins, are the whole file.
+-- A file whose last block begins on a line of `total` bytes is cut at its first block by the begin of the
+-- first part and behind its last block by the end of the last, and each further part begins no earlier. So
+-- the shares of the parts, each of which ends where the next begins, are the whole file.
 pub record IsDivided (file : Cut) (total count : ℕ) : Type 0 where
   pub begin : cut_at file (edge_of total count 0) ≡ 0
   pub finish : cut_at file (edge_of total count count) ≡ file.blocks
-  pub forward : (index : ℕ) → cut_at file (edge_of total count index) ≤ cut_at file (edge_of total count (index + 1))
+  pub forward : (index : ℕ)
+      → cut_at file (edge_of total count index) ≤ cut_at file (edge_of total count (index + 1))
 
 abbrev pub SharesAreWhole : Type 0
 SharesAreWhole = (file : Cut) (total count : ℕ) → 0 < count
