@@ -13,8 +13,8 @@ use Rattle.bt_folder.specs.SealedDisk.{fault_count}
 use Rattle.bt_files.specs.DataFiles.{AreNewDevices, DeviceView}
 use Rattle.bt_files.specs.declared.file_use.FileUse.{FileUse}
 
--- An engine of the torrent, which began with these devices and without a log, and has taken in what those files have of which bytes are
--- there, by events of the machine: no read of them failed. No peer is connected.
+-- An engine of the torrent, which began with these devices and without a log, and has taken in what those files
+-- have of which bytes are there, by events of the machine: no read of them failed. No peer is connected.
 pub record HasBegun {D : Type 0} (history : D → History) (honest : D → Type 0) (faults : D → ℕ)
     (dig : List ℕ → List ℕ) (torrent : Metainfo) (given : List D) (filled : List Bool)
     (engine : EngineView D) : Type 0 where

@@ -1,5 +1,5 @@
--- Events that lead from one engine to another, however many: none, one, and some and then others. None of them
--- is a restart.
+-- Events that lead from one engine to another, however many: none, one, and some and then others. None is a
+-- restart.
 use Rattle.std.specs.Prelude.{◌≢◌, ℕ, List}
 use Rattle.bt_disk.specs.History.{History}
 use Rattle.bt_machine.specs.declared.event.Event.{Event}

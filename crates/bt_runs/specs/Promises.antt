@@ -111,8 +111,8 @@ abbrev pub KeepsMarks : {D : Type 0} → (D → Type 0) → EngineView D → Eng
 KeepsMarks {D} honest old new = (b : BlockId) (d : D) → slice_get new.disks b.file ≡ Some (Some d)
     → honest d → state_at old.state b ≡ Some Marked → state_at new.state b ≡ Some Marked
 
--- What every image of an honest device since a moment has of a marked block, every image goes on to have, where
--- no event is a restart; also those that a crash within an event leaves.
+-- What every image of an honest device since a moment has of a marked block, every image goes on to have,
+-- where no event is a restart; also those that a crash within an event leaves.
 abbrev pub KeepsImages : {D : Type 0} → (D → History) → (D → Type 0) → EngineView D → EngineView D → Type 0
 KeepsImages {D} history honest old new =
     (file i moment : ℕ) (f : FileState) (k : Facts) (bytes : List ℕ) (d : D)

@@ -46,10 +46,10 @@ CompleteIsPublished {D} history honest dig torrent s = (number : ℕ) (file : Fi
 -- ---- the run
 
 -- Events, none of them a restart, led from the engine that began with a torrent to this one. Each block that
--- is marked became so at one of them, by bytes of that event whose digest lies at the block's leaf, on a checked
--- path to the pieces root of its file. All data that an answer sends is cut from blocks that were read in its own event, and the digest
--- of each lies so. Of a file that is complete each block became marked so, and the file is the published one.
--- What was marked at a flush that answered Ok no later stop loses.
+-- is marked became so at one of them, by bytes of that event whose digest lies at the block's leaf, on a
+-- checked path to the pieces root of its file. All data that an answer sends is cut from blocks that were read
+-- in its own event, and the digest of each lies so. Of a file that is complete each block became marked so, and
+-- the file is the published one. What was marked at a flush that answered Ok no later stop loses.
 pub record IsWholeRun {D : Type 0} (history : D → History) (honest : D → Type 0) (faults : D → ℕ)
     (dig : List ℕ → List ℕ) (torrent : Metainfo) (first last : EngineView D) : Type 0 where
   pub events : List Event
