@@ -3,7 +3,7 @@ use Rattle.bt_machine.proofs.Base.{[], ◌≡◌, ◌≢◌, ℕ, ◌+◌, ◌*�
 use Rattle.bt_machine.proofs.Machine.{Digest, EngineState, calls_of, IsFile, KeepsBytes, StepKeepsImages}
 use Rattle.bt_machine.proofs.Lists.{some_below, contains_none, contains_cases}
 use Rattle.bt_machine.proofs.Pairs.{contains_at}
-use Rattle.bt_machine.proofs.Tame.{Touches, keeping, putting, step_tame}
+use Rattle.bt_machine.proofs.Tame.{Touches, keeping, putting, step_touches}
 use Rattle.bt_machine.proofs.Sound.{of_all}
 
 keeps_spare : (n : ℕ) (c : Call) → KeepsBytes c → Spares n c
@@ -50,5 +50,5 @@ module _ {D : Type 0} (history : D → History) (honest : D → Type 0) (faults 
       let d = have.each file e there in
       let honest_before = d.2.as_honest.1 honest_now in
       let inside : j < block_length k.file_length i = (let lt = some_below bytes j at in omega arith) in
-      let spares = all_of _ _ (λ c among. step_spares i j (step_tame dig old new event calls _ step).1 is present inside (of_all calls among)) in
-      calls_keep (history d.0) (history e) (calls_of file calls) t (16384 * i + j) byte (reads d.0 honest_before) (d.2.answered honest_before) spares (kept d.0 d.1 j byte at)
+      let spares = all_of _ _ (λ c among. step_spares i j (step_touches dig old new event calls _ step) is present inside (of_all calls.devices among)) in
+      calls_keep (history d.0) (history e) (calls_of file calls.devices) t (16384 * i + j) byte (reads d.0 honest_before) (d.2.answered honest_before) spares (kept d.0 d.1 j byte at)

@@ -8,6 +8,7 @@ use Rattle.bt_hashreq.specs.Claim.{IsClaimBy, digests_in}
 use Rattle.bt_store.specs.Adoption.{Adopts, accepted, claimed_digest}
 use Rattle.bt_machine.proofs.Base.{[], ◌≡◌, ℕ, zero, suc, ◌+◌, ◌-◌, ◌*◌, ◌/◌, ◌%◌, ◌^◌, ◌<◌, ◌≤◌, inl, inr, Bool, true, false, List, ◌∷◌, ◌++◌, map, take, drop, replicate, length, refl, sym, ap, ◌∙◌, arith, ◌==◌, if◌then◌else◌, cases_lt, get_or, get_or-take, get_or-drop, get_or_append_left, get_or-append_right, length-append, length-take, length-drop, length-replicate, first_chunks, IsDigest, length-padding_digest, padding_digest, Facts, KeepsRooted, Accepts, Claim, HashKey, BlockRead, given, failed, block_length, BlockState, Adopted}
 use Rattle.bt_machine.proofs.Machine.{Digest}
+use Rattle.bt_machine.specs.Recovery.{claim_of_proof, IsProofFor}
 
 pub chunk_length : (count i : ℕ) (bytes : List ℕ) → i < count → 32 * count ≤ length bytes → length (get_or (first_chunks 32 count bytes) i []) ≡ 32
 chunk_length zero i bytes lt room = absurd (omega arith)
@@ -107,6 +108,14 @@ module _ (dig : Digest) (is : IsDigest dig) (keeps : KeepsRooted dig) where
       accepted_sound k new claim a
       (rw by.claim_is (take_each key.length (digests_in digests) all))
       (rw by.claim_is (drop_each key.length (digests_in digests) all)) sound
+
+  -- ---- proofs of a log
+
+  pub proof_sound : (k new : Facts) (key : HashKey) (digests : List (List ℕ)) → IsProofFor dig k key digests → Accepts dig k (claim_of_proof key digests) new
+      → IsSound dig k → IsSound dig new
+  proof_sound k new key digests is a sound =
+      let all : Each digests = λ i lt. is.whole i [] lt in
+      accepted_sound k new (claim_of_proof key digests) a (take_each key.length digests all) (drop_each key.length digests all) sound
 
   -- ---- claims of reads
 

@@ -1,46 +1,16 @@
 -- A complete file on an honest device is the published one.
-use Rattle.bt_machine.proofs.Base.{[], ◌≡◌, ℕ, suc, ◌<◌, List, ◌∷◌, length, take, replicate, Option, Some, sym, ap, ◌∙◌, slice_get, History, block_count, file_root, AdoptMarksByBytes, RootsTellFiles, LayersAreSound, RootsAreSound, KeepsRooted, File, Metainfo, Facts, Missing, Marked}
-use Rattle.bt_machine.proofs.Machine.{Digest, FileState, EngineState, Starts, Step, Run, HasFile, IsSound, IsPublished, CompleteFilesArePublished}
-use Rattle.bt_machine.proofs.Lists.{get_some, some_below}
+use Rattle.bt_machine.proofs.Base.{◌≡◌, ℕ, length, take, sym, ap, ◌∙◌, History, file_root, AdoptMarksByBytes, RootsTellFiles, LayersAreSound, RootsAreSound, KeepsRooted, File, Facts}
+use Rattle.bt_machine.proofs.Machine.{Digest, Begins, bare, with_log, BeginsOn, bare_on, with_log_on, HasFile, IsPublished, CompleteFilesArePublished}
+use Rattle.bt_machine.proofs.Lists.{same_some}
 use Rattle.bt_machine.proofs.Rooted.{run_rooted}
-use Rattle.bt_machine.proofs.Start.{start_rooted}
-use Rattle.bt_machine.proofs.Tame.{step_tame}
-use Rattle.bt_machine.proofs.Sound.{run_sound, complete_stands}
+use Rattle.bt_machine.proofs.Shape.{shape_kept}
+use Rattle.bt_machine.proofs.Sound.{start_sound, run_sound, complete_stands}
 use Rattle.bt_machine.proofs.View.{without_devices}
 
--- each file's tree has the length and the root that the torrent says
-abbrev IsOf : Metainfo → EngineState → Type 0
-IsOf torrent s = (i : ℕ) (file : File) (f : FileState) (k : Facts) → slice_get torrent.files i ≡ Some file → 0 < file.length → slice_get s.files i ≡ Some f → slice_get s.trees f.tree ≡ Some k
-    → (k.file_length ≡ file.length) × (k.root ≡ file.root)
-
-none_marked : (n i : ℕ) → slice_get (replicate n Missing) i ≡ Some Marked → ⊥
-none_marked (suc n) (suc i) e = none_marked n i e
-none_marked _ _ e = absurd cc
-
 module _ {D : Type 0} (history : D → History) (honest : D → Type 0) (faults : D → ℕ) (dig : Digest) where
-  pub start_sound : {torrent s : _} (disks : List (Option D)) → Starts dig torrent s → IsSound history honest dig s disks
-  start_sound {torrent} {s} disks starts i f k d is_file there honest_now j marked =
-      let lt : i < length torrent.files = rw (← starts.is_new.count) (some_below s.files i is_file.here) in
-      let file = get_some torrent.files i lt in
-      let new = starts.is_new.each_file i file.0 f file.1 is_file.here in
-      absurd (none_marked (block_count file.0.length) j (cc))
-
-  start_of : {torrent s : _} → Starts dig torrent s → IsOf torrent s
-  start_of starts i file f k listed some here has_tree =
-      let tree = (starts.is_new.each_file i file f listed here).has_tree some in
-      let same : tree.0 ≡ k = cc in
-      (ap (λ l. l.file_length) (sym same) ∙ tree.3, ap (λ l. l.root) (sym same) ∙ tree.2)
-
-  step_of : (torrent : Metainfo) (old new e calls a : _) → Step dig old e calls a new → IsOf torrent old → IsOf torrent new
-  step_of torrent old new e calls a step of i file f k listed some here has_tree =
-      let g = (step_tame dig old new e calls a step).0 i f k here has_tree in
-      let before = of i file g.old_file g.old_tree listed some g.here g.has_tree in
-      (g.same_length ∙ before.0, g.same_root ∙ before.1)
-
-  run_of : (torrent : Metainfo) (old new es calls answers : _) → Run dig old es calls answers new → IsOf torrent old → IsOf torrent new
-  run_of torrent old new [] [] [] run of = rw run of
-  run_of torrent old new (e ∷ es) (c ∷ calls) (a ∷ answers) run of = run_of torrent run.0 new es calls answers run.2 (step_of torrent old run.0 e c a run.1 of)
-  run_of torrent old new _ _ _ run of = absurd run
+  begins_of : {torrent given log first : _} → BeginsOn history honest faults dig torrent given log first → Begins dig torrent first.state
+  begins_of (bare_on no_log starts disks none) = bare starts
+  begins_of (with_log_on l calls is same starts have log_is) = with_log l.hints calls starts
 
   published : RootsTellFiles dig → {file : File} {k : Facts} {bytes : _} → k.file_length ≡ file.length → k.root ≡ file.root → HasFile dig k bytes
       → IsPublished dig file bytes
@@ -54,11 +24,16 @@ module _ {D : Type 0} (history : D → History) (honest : D → Type 0) (faults 
       }
 
   pub files_published : AdoptMarksByBytes dig → KeepsRooted dig → LayersAreSound dig → RootsAreSound dig → RootsTellFiles dig → CompleteFilesArePublished history honest faults dig
-  files_published marks keeps layers roots tell torrent first last events calls answers disks after number file d lawful starts run complete there honest_now =
-      let plain = without_devices history honest faults dig first last disks after events calls answers run in
-      let rooted = run_rooted dig keeps first last events calls answers plain (start_rooted layers roots lawful starts) in
-      let sound = run_sound history honest faults dig marks first last events calls answers disks after run (start_sound disks starts) in
-      let of = run_of torrent first last events calls answers plain (start_of starts) number file complete.state complete.tree complete.listed complete.some complete.here complete.has_tree in
-      published tell of.0 of.1
-      (complete_stands history honest faults dig last after number complete.state complete.tree d rooted sound (record { here = complete.here; has_tree = complete.has_tree }) (rw of.0 complete.some)
-      (λ i lt. complete.marked i (rw (← of.0) lt)) there honest_now)
+  files_published marks keeps layers roots tell torrent given log first last events calls answers after number file d lawful starts run complete there honest_now =
+      let begins = begins_of starts in
+      let plain = without_devices history honest faults dig first.state last first.disks after events calls answers run in
+      let rooted = run_rooted dig keeps layers roots last events calls answers lawful begins plain in
+      let sound = run_sound history honest faults dig marks first.state last events calls answers first.disks after run (start_sound history honest faults dig torrent given log first starts) in
+      let shaped = (shape_kept dig torrent first.state last events calls answers begins plain).0 in
+      let own = (shaped.each number file complete.state complete.listed complete.here).has_tree complete.some in
+      let is : own.0 ≡ complete.tree = same_some own.1 complete.has_tree in
+      let root = ap (λ (k : Facts). k.root) (sym is) ∙ own.2 in
+      let size = ap (λ (k : Facts). k.file_length) (sym is) ∙ own.3 in
+      published tell size root
+      (complete_stands history honest faults dig last after number complete.state complete.tree d rooted sound (record { here = complete.here; has_tree = complete.has_tree }) (rw size complete.some)
+      (λ i lt. complete.marked i (rw (← size) lt)) there honest_now)

@@ -1,9 +1,11 @@
 -- A step marks a block by bytes of that step alone.
 use Rattle.bt_machine.proofs.Base.{[], ◌≡◌, ◌≢◌, ℕ, ◌+◌, ◌*◌, ◌<◌, ◌≤◌, ◌⊎◌, inl, inr, Bool, true, false, List, ◌∷◌, length, Some, refl, sym, ap, ◌∙◌, slice_get, slice_set, Contains, Result, Ok, Err, ◌==◌, if◌then◌else◌, option_and_then, range_with_len, eqb-true, full_block_length, Facts, Accepts, Claim, bytes_written, IsClaimBy, HashKey, AdoptMarksByBytes, IsRight, PutIsDue, states_after_put, Marked, StoreError, Put, Already, Wrong, PutMarked, PutWaiting, BlockId, PeerMessage as Sent, KeepAlive, Choke, Unchoke, Interested, NotInterested, Have, Bitfield, Request, Piece, Cancel, HashRequest, Hashes, HashReject, WireEvent, Hello, Message, Skipped}
-use Rattle.bt_machine.proofs.Machine.{Digest, Event, Connect, Feed, Next, Lost, Rechoke, Adopt, Flush, PeerState, FileState, EngineState, DeviceCalls, state_at, tree_of, with_file, with_peer, with_tree, IsRangeOf, FindsFault, damaged, fault, HandlesRequest, ignored, no_place, not_marked, served, stopped, Arrives, HandlesPiece, stale, arrives, IsTreeOf, settled_count, HandlesHashes, unknown_root, no_claim, refused, accepts_hashes, HandlesHave, in_range, out_of_range, HandlesBitfield, right, wrong, HandlesMessage, Handles, IsPeer, TakesEvent, StepNext, no_peer, waits, keeps_peer, closes, faulty, no_memory, StepConnect, joins, full, spent, no_room, StepFeed, feeds, not_fed, no_room as no_room_to_feed, StepLost, goes, not_fed as not_lost, FollowsEach, StepRechoke, rechokes, not_rechoked, StepFlush, syncs, fails, Answer, Step, Run, StepMarksByBytes, IsMarkedBy, brought, read_back, IsSoAt, IsMarkedIn}
+use Rattle.bt_machine.proofs.Machine.{Digest, Event, Connect, Feed, Next, Lost, Rechoke, Adopt, Flush, Restart, PeerState, FileState, EngineState, DeviceCalls, state_at, tree_of, with_file, with_peer, with_tree, IsRangeOf, FindsFault, damaged, fault, HandlesRequest, ignored, no_place, not_marked, served, stopped, Arrives, HandlesPiece, stale, arrives, IsTreeOf, settled_count, HandlesHashes, unknown_root, no_claim, refused, accepts_hashes, HandlesHave, in_range, out_of_range, HandlesBitfield, right, wrong, HandlesMessage, Handles, IsPeer, TakesEvent, StepNext, no_peer, waits, keeps_peer, closes, faulty, no_memory, StepConnect, joins, full, spent, no_room, StepFeed, feeds, not_fed, no_room as no_room_to_feed, StepLost, goes, not_fed as not_lost, FollowsEach, StepRechoke, rechokes, not_rechoked, StepFlush, syncs, writes, fails, unwritten, unflushed, EventCalls, Answer, Step, Run, StepMarksByBytes, IsMarkedBy, brought, read_back, recovered, IsSoAt, IsMarkedIn}
 use Rattle.bt_machine.proofs.Lists.{contains_none, range_limits, set_cases, set_same}
 use Rattle.bt_machine.proofs.Marks.{state_is, file_marked, missing_marks, IsSettled, settle_marks}
+use Rattle.bt_machine.specs.Law.{StartMarksByBytes}
 use Rattle.bt_machine.proofs.Adopting.{adopt_marks}
+use Rattle.bt_machine.proofs.Restarts.{IsRestart, anew, as_before as hints_alone, restart_is, recovered_marks}
 
 block_is : {b c : BlockId} → b.file ≡ c.file → b.block ≡ c.block → b ≡ c
 block_is {b} {c} e f = ap (λ n. record b { file = n }) e ∙ ap (λ n. record c { block = n }) f
@@ -252,16 +254,27 @@ module _ (dig : Digest) (marks : AdoptMarksByBytes dig) (b : BlockId) where
 
   flush_marks : {s new calls answer : _} → StepFlush s calls answer new → state_at new b ≡ Some Marked → state_at s b ≡ Some Marked
   flush_marks (syncs x y z e) m = as_before e m
-  flush_marks (fails before file after none x y z e) m = as_before e m
+  flush_marks (writes x y z e) m = as_before e m
+  flush_marks (fails before file after x y z e) m = as_before e m
+  flush_marks (unwritten before hint after cause x y z w e) m = as_before e m
+  flush_marks (unflushed x y z e) m = as_before e m
 
-  pub step_cases : (s new e calls a : _) → Step dig s e calls a new → state_at new b ≡ Some Marked → Now s e calls new
+  restart_marks : {s new calls : _} → IsRestart dig s calls new → state_at new b ≡ Some Marked → Now s Restart calls new
+  restart_marks (anew hints none recovers places) m = inr (recovered refl (recovered_marks dig recovers b m))
+  restart_marks (hints_alone none made e) m = inl (as_before e m)
+
+  pub step_cases : (s new e calls a : _) → Step dig s e calls a new → state_at new b ≡ Some Marked → Now s e calls.devices new
   step_cases s new Connect calls a t m = inl (connect_marks t.3 m)
   step_cases s new (Feed key bytes) calls a t m = inl (feed_marks t.3 m)
-  step_cases s new (Next key) calls a t m = next_marks t.2 m
+  step_cases s new (Next key) calls a t m = next_marks t.3 m
   step_cases s new (Lost key) calls a t m = inl (lost_marks t.3 m)
   step_cases s new Rechoke calls a t m = inl (rechoke_marks t.3 m)
-  step_cases s new (Adopt file) calls a t m = adopt_marks dig marks b t.2 m
+  step_cases s new (Adopt file) calls a t m = adopt_marks dig marks b t.3 m
   step_cases s new Flush calls a t m = inl (flush_marks t.2 m)
+  step_cases s new Restart calls a t m = restart_marks (restart_is t.2) m
+
+pub start_marks : (dig : Digest) → StartMarksByBytes dig
+start_marks dig torrent hints calls new starts b m = recovered_marks dig starts b m
 
 pub step_marks : {dig : Digest} → AdoptMarksByBytes dig → StepMarksByBytes dig
 step_marks {dig} marks s new e calls a t b m before = elim (step_cases dig marks b s new e calls a t m) [ inl old ↦ absurd (before old) | inr now ↦ now ]
@@ -287,8 +300,8 @@ after_step {mid} {e} {c} t i = record {
 }
 
 -- at the first event
-pub at_first : {dig : Digest} {P : EngineState → Event → DeviceCalls → EngineState → Type 0} {s : EngineState} (mid : _) {last : EngineState} {e : Event} {es : List Event} {c : DeviceCalls} {calls : List DeviceCalls} {a : Answer} {after : List Answer}
-    → Step dig s e c a mid → Run dig mid es calls after last → P s e c mid → IsSoAt dig s (e ∷ es) (c ∷ calls) [] a after last P
+pub at_first : {dig : Digest} {P : EngineState → Event → DeviceCalls → EngineState → Type 0} {s : EngineState} (mid : _) {last : EngineState} {e : Event} {es : List Event} {c : EventCalls} {calls : List EventCalls} {a : Answer} {after : List Answer}
+    → Step dig s e c a mid → Run dig mid es calls after last → P s e c.devices mid → IsSoAt dig s (e ∷ es) (c ∷ calls) [] a after last P
 at_first {s} mid {e} {es} {c} {calls} t rest by = record {
   events_before = [];
   calls_before = [];

@@ -1,18 +1,25 @@
 -- Trees stay rooted, and with digests of 32 bytes.
-use Rattle.bt_machine.proofs.Base.{[], ◌≡◌, ◌-◌, arith, inl, inr, ◌∷◌, sym, ◌<◌, ◌∙◌, blocks_of, height, IsRooted, IsChecked, KeepsRooted, HeldIsChecked, value_covers, value_inside, CoversBlock, real_width, IsRight, PeerMessage as Sent, Have, Bitfield, Request, Piece, Hashes, HashReject, Message, ℕ, List, Some, slice_get, Facts, HashKey, Claim, Accepts, BlockState, BlockRead, Adopted, IsDigest}
-use Rattle.bt_machine.proofs.Machine.{Digest, Connect, Feed, Next, Lost, Rechoke, Adopt, Flush, with_tree, FindsFault, damaged, fault, HandlesRequest, ignored, no_place, not_marked, served, stopped, HandlesPiece, stale, arrives, HandlesHashes, unknown_root, no_claim, refused, accepts_hashes, HandlesHave, in_range, out_of_range, HandlesBitfield, right, wrong, HandlesMessage, Handles, StepNext, no_peer, waits, keeps_peer, closes, faulty, no_memory, StepConnect, joins, full, spent, no_room, StepFeed, feeds, not_fed, no_room as no_room_to_feed, StepLost, goes, not_fed as not_lost, FollowsEach, StepRechoke, rechokes, not_rechoked, AdoptsGroup, AdoptsGroups, StepAdopt, no_file, busy, empty, adopts, not_adopted, StepFlush, syncs, fails, Run, AreRooted, StepKeepsRooted, AreChecked, EngineState, Event, Answer, DeviceCalls, Step}
+use Rattle.bt_machine.proofs.Base.{[], ◌≡◌, ◌-◌, arith, inl, inr, ◌∷◌, sym, ◌<◌, ◌∙◌, blocks_of, height, IsRooted, IsChecked, KeepsRooted, LayersAreSound, RootsAreSound, Metainfo, IsLawful, HeldIsChecked, value_covers, value_inside, CoversBlock, real_width, IsRight, PeerMessage as Sent, Have, Bitfield, Request, Piece, Hashes, HashReject, Message, ℕ, List, Some, slice_get, Facts, HashKey, Claim, Accepts, BlockState, BlockRead, Adopted, IsDigest}
+use Rattle.bt_machine.proofs.Machine.{Digest, Connect, Feed, Next, Lost, Rechoke, Adopt, Flush, Restart, with_tree, FindsFault, damaged, fault, HandlesRequest, ignored, no_place, not_marked, served, stopped, HandlesPiece, stale, arrives, HandlesHashes, unknown_root, no_claim, refused, accepts_hashes, HandlesHave, in_range, out_of_range, HandlesBitfield, right, wrong, HandlesMessage, Handles, StepNext, no_peer, waits, keeps_peer, closes, faulty, no_memory, StepConnect, joins, full, spent, no_room, StepFeed, feeds, not_fed, no_room as no_room_to_feed, StepLost, goes, not_fed as not_lost, FollowsEach, StepRechoke, rechokes, not_rechoked, AdoptsGroup, AdoptsGroups, StepAdopt, no_file, busy, empty, adopts, not_adopted, StepFlush, syncs, writes, fails, unwritten, unflushed, Begins, bare, with_log, IsTorrentTree, Recovers, Run, AreRooted, StepKeepsRooted, AreChecked, EngineState, Event, Answer, EventCalls, Step}
 use Rattle.bt_machine.proofs.Lists.{set_cases}
 use Rattle.bt_sparse.specs.SparseTree.{IsSound}
 use Rattle.bt_store.specs.Adoption.{Adopts, accepted}
 use Rattle.bt_hashreq.specs.Claim.{IsClaimBy}
-use Rattle.bt_machine.specs.Frames.{AreSparseTrees}
-use Rattle.bt_machine.proofs.Digests.{key_sound, group_sound}
+use Rattle.bt_machine.specs.Frames.{AreSparseTrees, StartsSparse, StepKeepsSparse}
+use Rattle.bt_machine.specs.Law.{StartsRooted}
+use Rattle.bt_machine.specs.Recovery.{claim_of_proof, IsProofFor}
+use Rattle.bt_machine.proofs.Digests.{key_sound, group_sound, proof_sound}
+use Rattle.bt_machine.proofs.Start.{torrent_sound}
+use Rattle.bt_machine.proofs.Restarts.{IsRestart, anew, as_before as hints_alone, restart_is, hints_keep, has_base}
+use Rattle.bt_machine.proofs.Shape.{step_torrent, torrent_at_first}
 
 -- what claims that are accepted keep of a tree, every event keeps of all trees
 module _ (dig : Digest) (P : Facts → Type 0)
     (by_key : (k new : Facts) (key : HashKey) (digests : List ℕ) (claim : Claim) → IsClaimBy key digests claim → Accepts dig k claim new → P k → P new)
     (by_group : (k grown : Facts) (from : ℕ) (old new : List BlockState) (reads : List BlockRead) (adopted : Adopted)
-    → Adopts dig k from old reads adopted grown new → P k → P grown) where
+    → Adopts dig k from old reads adopted grown new → P k → P grown)
+    (by_proof : (k new : Facts) (key : HashKey) (digests : List (List ℕ)) → IsProofFor dig k key digests → Accepts dig k (claim_of_proof key digests) new → P k → P new)
+    (by_torrent : (torrent : Metainfo) → IsLawful torrent.piece_length torrent.files → (k : Facts) → IsTorrentTree dig torrent k → P k) where
   abbrev AllTrees : EngineState → Type 0
   AllTrees s = (t : ℕ) (k : Facts) → slice_get s.trees t ≡ Some k → P k
 
@@ -116,43 +123,91 @@ module _ (dig : Digest) (P : Facts → Type 0)
 
   flush_keep : {s new calls answer : _} → StepFlush s calls answer new → AllTrees s → AllTrees new
   flush_keep (syncs a b c e) r = as_before e r
-  flush_keep (fails before file after none a b c e) r = as_before e r
+  flush_keep (writes a b c e) r = as_before e r
+  flush_keep (fails before file after a b c e) r = as_before e r
+  flush_keep (unwritten before hint after cause a b c d e) r = as_before e r
+  flush_keep (unflushed a b c e) r = as_before e r
 
-  step_trees : (s new : EngineState) (event : Event) (calls : DeviceCalls) (answer : Answer) → Step dig s event calls answer new → AllTrees s → AllTrees new
-  step_trees s new Connect calls a t r = connect_keep t.3 r
-  step_trees s new (Feed key bytes) calls a t r = feed_keep t.3 r
-  step_trees s new (Next key) calls a t r = next_keep t.2 r
-  step_trees s new (Lost key) calls a t r = lost_keep t.3 r
-  step_trees s new Rechoke calls a t r = rechoke_keep t.3 r
-  step_trees s new (Adopt file) calls a t r = adopt_keep t.2 r
-  step_trees s new Flush calls a t r = flush_keep t.2 r
+  abbrev IsOfLawful : EngineState → Type 0
+  IsOfLawful s = IsLawful s.torrent.piece_length s.torrent.files
 
-  run_trees : (s new es calls answers : _) → Run dig s es calls answers new → AllTrees s → AllTrees new
-  run_trees s new [] [] [] run r = as_before run r
-  run_trees s new (e ∷ es) (c ∷ calls) (a ∷ answers) run r = run_trees run.0 new es calls answers run.2 (step_trees s run.0 e c a run.1 r)
-  run_trees s new _ _ _ run r = absurd run
+  anew_trees : {s new : EngineState} {hints calls : _} → IsOfLawful s → Recovers dig s hints calls new → AllTrees new
+  anew_trees {s} {hints = hints} lawful r t k at =
+      let base = has_base dig r t k at in
+      hints_keep dig P by_proof hints base.base k base.takes (by_torrent s.torrent lawful base.base base.says)
+
+  restart_keep : {s new : EngineState} {calls : _} → IsOfLawful s → IsRestart dig s calls new → AllTrees s → AllTrees new
+  restart_keep lawful (anew hints none recovers places) r = anew_trees lawful recovers
+  restart_keep lawful (hints_alone none made e) r = as_before e r
+
+  step_trees : (s new : EngineState) (event : Event) (calls : EventCalls) (answer : Answer) → IsOfLawful s → Step dig s event calls answer new → AllTrees s → AllTrees new
+  step_trees s new Connect calls a lawful t r = connect_keep t.3 r
+  step_trees s new (Feed key bytes) calls a lawful t r = feed_keep t.3 r
+  step_trees s new (Next key) calls a lawful t r = next_keep t.3 r
+  step_trees s new (Lost key) calls a lawful t r = lost_keep t.3 r
+  step_trees s new Rechoke calls a lawful t r = rechoke_keep t.3 r
+  step_trees s new (Adopt file) calls a lawful t r = adopt_keep t.3 r
+  step_trees s new Flush calls a lawful t r = flush_keep t.2 r
+  step_trees s new Restart calls a lawful t r = restart_keep lawful (restart_is t.2) r
+
+  run_trees : (s new es calls answers : _) → IsOfLawful s → Run dig s es calls answers new → AllTrees s → AllTrees new
+  run_trees s new [] [] [] lawful run r = as_before run r
+  run_trees s new (e ∷ es) (c ∷ calls) (a ∷ answers) lawful run r =
+      let same = step_torrent dig s run.0 e c a run.1 in
+      run_trees run.0 new es calls answers (rw same lawful) run.2 (step_trees s run.0 e c a lawful run.1 r)
+  run_trees s new _ _ _ lawful run r = absurd run
+
+  -- from the start of a torrent
+  first_trees : {torrent : Metainfo} {s : EngineState} → IsLawful torrent.piece_length torrent.files → Begins dig torrent s → AllTrees s
+  first_trees {torrent} lawful (bare starts) t k at = by_torrent torrent lawful k (starts.is_new.each_tree t k at)
+  first_trees lawful (with_log hints calls starts) t k at = anew_trees lawful starts t k at
+
+  from_first : {torrent : Metainfo} {s : EngineState} (new es calls answers : _) → IsLawful torrent.piece_length torrent.files → Begins dig torrent s → Run dig s es calls answers new → AllTrees new
+  from_first new es calls answers lawful begins run =
+      run_trees _ new es calls answers (rw (torrent_at_first dig begins) lawful) run (first_trees lawful begins)
 
 -- ---- trees stay rooted
-
-key_rooted : (dig : Digest) → KeepsRooted dig → (k new : Facts) (key : HashKey) (digests : List ℕ) (claim : Claim) → IsClaimBy key digests claim → Accepts dig k claim new
-    → IsRooted dig k → IsRooted dig new
-key_rooted dig keeps k new key digests claim by a r = keeps k new claim a r
 
 group_rooted : (dig : Digest) → KeepsRooted dig → (k grown : Facts) (from : ℕ) (old new : List BlockState) (reads : List BlockRead) (adopted : Adopted)
     → Adopts dig k from old reads adopted grown new → IsRooted dig k → IsRooted dig grown
 group_rooted dig keeps k grown from old new reads adopted (accepted anchor first count rs g group whole accepts) r = keeps k grown _ accepts r
 group_rooted dig keeps k grown from old new reads adopted _ r = r
 
-pub step_rooted : (dig : Digest) → KeepsRooted dig → StepKeepsRooted dig
-step_rooted dig keeps s new event calls answer = step_trees dig (IsRooted dig) (key_rooted dig keeps) (group_rooted dig keeps) s new event calls answer
+module _ (dig : Digest) (keeps : KeepsRooted dig) (layers : LayersAreSound dig) (roots : RootsAreSound dig) where
+  key_rooted : (k new : Facts) (key : HashKey) (digests : List ℕ) (claim : Claim) → IsClaimBy key digests claim → Accepts dig k claim new
+      → IsRooted dig k → IsRooted dig new
+  key_rooted k new key digests claim by a r = keeps k new claim a r
 
-pub run_rooted : (dig : Digest) → KeepsRooted dig → (s new es calls answers : _) → Run dig s es calls answers new → AreRooted dig s → AreRooted dig new
-run_rooted dig keeps = run_trees dig (IsRooted dig) (key_rooted dig keeps) (group_rooted dig keeps)
+  proof_rooted : (k new : Facts) (key : HashKey) (digests : List (List ℕ)) → IsProofFor dig k key digests → Accepts dig k (claim_of_proof key digests) new
+      → IsRooted dig k → IsRooted dig new
+  proof_rooted k new key digests is a r = keeps k new _ a r
 
--- ---- and what sparse trees are
+  torrent_rooted : (torrent : Metainfo) → IsLawful torrent.piece_length torrent.files → (k : Facts) → IsTorrentTree dig torrent k → IsRooted dig k
+  torrent_rooted torrent lawful k tree = (torrent_sound layers roots torrent lawful k tree).rooted
 
-pub run_sparse : (dig : Digest) → IsDigest dig → KeepsRooted dig → (s new es calls answers : _) → Run dig s es calls answers new → AreSparseTrees dig s → AreSparseTrees dig new
-run_sparse dig is keeps = run_trees dig (IsSound dig) (key_sound dig is keeps) (group_sound dig is keeps)
+  pub step_rooted : StepKeepsRooted dig
+  step_rooted = step_trees dig (IsRooted dig) key_rooted (group_rooted dig keeps) proof_rooted torrent_rooted
+
+  pub start_rooted : StartsRooted dig
+  start_rooted torrent first lawful begins = first_trees dig (IsRooted dig) key_rooted (group_rooted dig keeps) proof_rooted torrent_rooted lawful begins
+
+  pub run_rooted : {torrent : Metainfo} {s : EngineState} (new es calls answers : _) → IsLawful torrent.piece_length torrent.files → Begins dig torrent s → Run dig s es calls answers new
+      → AreRooted dig new
+  run_rooted = from_first dig (IsRooted dig) key_rooted (group_rooted dig keeps) proof_rooted torrent_rooted
+
+  -- and what sparse trees are
+
+  module _ (is : IsDigest dig) where
+    pub step_sparse : StepKeepsSparse dig
+    step_sparse = step_trees dig (IsSound dig) (key_sound dig is keeps) (group_sound dig is keeps) (proof_sound dig is keeps) (torrent_sound layers roots)
+
+    pub start_sparse : StartsSparse dig
+    start_sparse torrent first lawful begins =
+        first_trees dig (IsSound dig) (key_sound dig is keeps) (group_sound dig is keeps) (proof_sound dig is keeps) (torrent_sound layers roots) lawful begins
+
+    pub run_sparse : {torrent : Metainfo} {s : EngineState} (new es calls answers : _) → IsLawful torrent.piece_length torrent.files → Begins dig torrent s → Run dig s es calls answers new
+        → AreSparseTrees dig new
+    run_sparse = from_first dig (IsSound dig) (key_sound dig is keeps) (group_sound dig is keeps) (proof_sound dig is keeps) (torrent_sound layers roots)
 
 pub rooted_checked : (dig : Digest) → HeldIsChecked dig → (s : _) → AreRooted dig s → AreChecked dig s
 rooted_checked dig is_checked s rooted t k at layer i d held = is_checked k (rooted t k at) layer i d held

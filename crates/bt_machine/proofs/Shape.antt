@@ -1,10 +1,15 @@
 -- What stays over all events.
-use Rattle.bt_machine.proofs.Base.{[], ◌≡◌, ◌≢◌, ℕ, zero, suc, ◌+◌, ◌<◌, inl, inr, Bool, true, false, List, ◌∷◌, ◌++◌, length, map, get_or, Some, refl, sym, ap, ◌∙◌, arith, slice_get, slice_set, option_map, if◌then◌else◌, Result, Ok, AllPairs, length-set, length-map, length-replicate, append-nil, get_or-map, block_count, Facts, given, failed, judged, Adopts, known, accepted, states_after_put, Missing, Waiting, Marked, StoreError, Put, PutMarked, PutWaiting, PeerMessage as Sent, KeepAlive, Have, Bitfield, Request, Piece, Cancel, HashRequest, Hashes, HashReject, Message}
-use Rattle.bt_machine.proofs.Machine.{Digest, Connect, Feed, Next, Lost, Rechoke, Adopt, Flush, FileState, EngineState, mark_of, add_hints, with_file, with_tree, with_peer, new_marked_blocks, FindsFault, damaged, fault, HandlesRequest, ignored, no_place, not_marked, served, stopped, HandlesPiece, stale, arrives, judged_file, SettlesIn, HandlesHashes, unknown_root, no_claim, refused, accepts_hashes, HandlesHave, in_range, out_of_range, HandlesBitfield, right, wrong, HandlesMessage, Handles, FollowsUp, without_peer, with_pending, TakesEvent, StepNext, no_peer, waits, keeps_peer, closes, faulty, no_memory, StepConnect, joins, full, spent, no_room, StepFeed, feeds, not_fed, no_room as no_room_to_feed, StepLost, goes, not_fed as not_lost, FollowsEach, StepRechoke, rechokes, not_rechoked, AdoptsGroup, AdoptsGroups, StepAdopt, no_file, busy, empty, adopts, not_adopted, StepFlush, syncs, fails, Starts, Step, Run, IsShaped, HasShapeOf, RunsKeepShape}
+use Rattle.bt_machine.proofs.Base.{[], ◌≡◌, ◌≢◌, ℕ, zero, suc, ◌+◌, ◌<◌, inl, inr, Bool, true, false, List, ◌∷◌, ◌++◌, length, map, get_or, Some, refl, sym, ap, ◌∙◌, arith, slice_get, slice_set, option_map, if◌then◌else◌, Result, Ok, AllPairs, length-set, length-map, length-replicate, append-nil, get_or-map, block_count, subst, Facts, given, failed, judged, Adopts, known, accepted, states_after_put, Missing, Waiting, Marked, StoreError, Put, PutMarked, PutWaiting, PeerMessage as Sent, KeepAlive, Have, Bitfield, Request, Piece, Cancel, HashRequest, Hashes, HashReject, Message}
+use Rattle.bt_machine.proofs.Machine.{Digest, Connect, Feed, Next, Lost, Rechoke, Adopt, Flush, Restart, FileState, EngineState, mark_of, add_hints, with_file, with_tree, with_peer, new_marked_blocks, FindsFault, damaged, fault, HandlesRequest, ignored, no_place, not_marked, served, stopped, HandlesPiece, stale, arrives, judged_file, SettlesIn, HandlesHashes, unknown_root, no_claim, refused, accepts_hashes, HandlesHave, in_range, out_of_range, HandlesBitfield, right, wrong, HandlesMessage, Handles, FollowsUp, without_peer, with_pending, TakesEvent, StepNext, no_peer, waits, keeps_peer, closes, faulty, no_memory, StepConnect, joins, full, spent, no_room, StepFeed, feeds, not_fed, no_room as no_room_to_feed, StepLost, goes, not_fed as not_lost, FollowsEach, StepRechoke, rechokes, not_rechoked, AdoptsGroup, AdoptsGroups, StepAdopt, no_file, busy, empty, adopts, not_adopted, StepFlush, syncs, writes, fails, unwritten, unflushed, Begins, bare, with_log, Recovers, Step, Run, IsShaped, HasShapeOf, RunsKeepShape}
+use Rattle.std.proofs.lemmas.Option.{slice_get-map}
 use Rattle.bt_store.specs.Adoption.{marked_group}
-use Rattle.bt_machine.specs.Shape.{StepKeepsFiles}
-use Rattle.bt_machine.proofs.Lists.{set_get, set_cases, map_some}
+use Rattle.bt_resume.specs.declared.hint.Hint.{Hint}
+use Rattle.bt_machine.specs.Shape.{StepKeepsFiles, HasHintsOfLog, HasOldTree, HasNewTree}
+use Rattle.bt_machine.specs.Recovery.{RestoresFile, empty as no_block, restored, RestoresFiles}
+use Rattle.bt_machine.specs.Restart.{KeepsPlaces}
+use Rattle.bt_machine.proofs.Lists.{set_get, set_cases, map_some, same_some, get_map}
 use Rattle.bt_machine.proofs.Adopting.{group_extends}
+use Rattle.bt_machine.proofs.Restarts.{restart_or, IsRestart, anew, as_before, restart_is, hints_root, hints_length, begun}
 
 -- a file of the new engine has the tree and the count of blocks that it had
 pub record SameFile (files : List FileState) (i : ℕ) (f : FileState) : Type 0 where
@@ -53,6 +58,18 @@ same_all torrent files trees logged hints pending = record {
   logged = logged;
   hints = hints;
   pending = λ none. pending;
+}
+
+nothing_pending : {s : EngineState} → s.logged ≡ true → Keeps s (record s { pending = [] })
+nothing_pending logged = record {
+  torrent = refl;
+  count = refl;
+  files = λ i f at. record { before = f; here = at; tree = refl; blocks = refl };
+  roots = refl;
+  trees = λ t k at. record { after = k; here = at; root = refl; length = refl };
+  logged = refl;
+  hints = refl;
+  pending = λ none. absurd (cc);
 }
 
 is_same : {s m : _} → m ≡ s → Keeps s m
@@ -292,23 +309,35 @@ module _ (dig : Digest) where
 
   flush_keeps : {s new calls answer : _} → StepFlush s calls answer new → Keeps s new
   flush_keeps (syncs x y z e) = is_same e
-  flush_keeps (fails before file after none x y z e) = is_same e
+  flush_keeps (writes logged y z e) = keeps_then (nothing_pending logged) (is_same e)
+  flush_keeps (fails before file after x y z e) = is_same e
+  flush_keeps (unwritten before hint after cause x y z w e) = is_same e
+  flush_keeps (unflushed x y z e) = is_same e
 
-  pub step_keeps : {s new : _} (e calls a : _) → Step dig s e calls a new → Keeps s new
-  step_keeps Connect calls a t = connect_keeps t.3
-  step_keeps (Feed key bytes) calls a t = feed_keeps t.3
-  step_keeps (Next key) calls a t = next_keeps t.2
-  step_keeps (Lost key) calls a t = lost_keeps t.3
-  step_keeps Rechoke calls a t = rechoke_keeps t.3
-  step_keeps (Adopt file) calls a t = adopt_keeps t.2
-  step_keeps Flush calls a t = flush_keeps t.2
+  -- every event but a restart
+  pub step_keeps : {s new : _} (e calls a : _) → e ≢ Restart → Step dig s e calls a new → Keeps s new
+  step_keeps Connect calls a apart t = connect_keeps t.3
+  step_keeps (Feed key bytes) calls a apart t = feed_keeps t.3
+  step_keeps (Next key) calls a apart t = next_keeps t.3
+  step_keeps (Lost key) calls a apart t = lost_keeps t.3
+  step_keeps Rechoke calls a apart t = rechoke_keeps t.3
+  step_keeps (Adopt file) calls a apart t = adopt_keeps t.3
+  step_keeps Flush calls a apart t = flush_keeps t.2
+  step_keeps Restart calls a apart t = absurd (apart refl)
 
-  run_keeps : (s : _) {new : _} (es calls answers : _) → Run dig s es calls answers new → Keeps s new
-  run_keeps s [] [] [] run = is_same run
-  run_keeps s (e ∷ es) (c ∷ calls) (a ∷ answers) run = keeps_then (step_keeps e c a run.1) (run_keeps run.0 es calls answers run.2)
-  run_keeps s _ _ _ run = absurd run
+  -- ---- all is begun anew
 
-  -- ---- from the start
+  file_restored : {hints file s calls new : _} → RestoresFile dig hints file s calls new → Keeps s new
+  file_restored (no_block f at nothing made e) = is_same e
+  file_restored {file = file} (restored f k rs is some order made e) =
+      keeps_then (file_keeps file _ is.here refl (length-judged dig k false rs f.states)) (is_same e)
+
+  files_restored : (hints : _) (files : List ℕ) {s new : _} (calls : _) → RestoresFiles dig hints files s calls new → Keeps s new
+  files_restored hints [] calls r = is_same r.1
+  files_restored hints (file ∷ files) calls r = keeps_then (file_restored r.3) (files_restored hints files r.2 r.4)
+
+  anew_keeps : {s new hints calls : _} (r : Recovers dig s hints calls new) → Keeps (begun dig r) new
+  anew_keeps {hints = hints} r = files_restored hints _ _ r.restores
 
   root_at : (trees i : _) (d : Facts) → i < length trees → get_or (map (λ (k : Facts). k.root) trees) i d.root ≡ (get_or trees i d).root
   root_at trees i d lt = get_or-map (λ k. k.root) trees i d d.root lt
@@ -319,6 +348,18 @@ module _ (dig : Digest) where
       let size = sym (length-map ys (λ k. k.root)) ∙ ap length same ∙ length-map xs (λ k. k.root) in
       let at : (n : ℕ) → n < length ys → (get_or xs n d).root ≡ (get_or ys n d).root = λ n below. sym (root_at xs n d (omega arith)) ∙ ap (λ rs. get_or rs n d.root) (sym same) ∙ root_at ys n d below in
       apart i j d lt (omega arith) (at i (omega arith) ∙ e ∙ sym (at j within))
+
+  same_roots : (xs ys : List Facts) → length ys ≡ length xs
+      → ((t : ℕ) (k : Facts) → slice_get xs t ≡ Some k → (j : Facts) × (slice_get ys t ≡ Some j) × (j.root ≡ k.root))
+      → map (λ (k : Facts). k.root) ys ≡ map (λ (k : Facts). k.root) xs
+  same_roots [] [] same each = refl
+  same_roots (x ∷ xs) (y ∷ ys) same each =
+      let first = each 0 x refl in
+      let root : y.root ≡ x.root = ap (λ (k : Facts). k.root) (same_some refl first.1) ∙ first.2 in
+      let rest = same_roots xs ys (omega (arith, same)) (λ t k at. each (suc t) k at) in
+      rw root (ap (λ rs. x.root ∷ rs) rest)
+  same_roots [] (y ∷ ys) same each = absurd (omega arith)
+  same_roots (x ∷ xs) [] same each = absurd (omega arith)
 
   file_shape : {file trees : _} (m : EngineState) {f : FileState} {before : _} → HasShapeOf file trees before → f.tree ≡ before.tree
       → length f.states ≡ length before.states → ((t : ℕ) (k : Facts) → slice_get trees t ≡ Some k → SameTree m.trees t k) → HasShapeOf file m.trees f
@@ -339,8 +380,26 @@ module _ (dig : Digest) where
     each = λ i file f listed at. (let g = k.files i f at in file_shape new (shaped.each i file g.before listed g.here) g.tree g.blocks k.trees);
   }
 
-  pub shape_at_first : {torrent first : _} → Starts dig torrent first → IsShaped torrent first
-  shape_at_first starts = record {
+  pub anew_shape : {torrent : _} {s new : EngineState} {hints calls : _} → s.torrent ≡ torrent → Recovers dig s hints calls new → IsShaped torrent new
+  anew_shape {torrent} {s} {hints = hints} same r = shape_after (record {
+    same = same;
+    roots = roots_apart r.bases r.trees (same_roots r.bases r.trees r.count (λ t k at. let j = r.proves t k at in (j.0, j.1, hints_root dig hints k j.0 j.2))) r.is_new.roots;
+    count = r.is_new.count ∙ ap (λ z. length z.files) same;
+    each = λ i file f listed at. (
+        let new = r.is_new.each_file i file f (ap (λ z. slice_get z.files i) same ∙ listed) at in
+        record {
+          blocks = ap length new.missing ∙ length-replicate (block_count file.length) Missing;
+          has_tree = λ some. (
+              let k = new.has_tree some in
+              let j = r.proves f.tree k.0 k.1 in
+              (j.0, j.1, hints_root dig hints k.0 j.0 j.2 ∙ k.2, hints_length dig hints k.0 j.0 j.2 ∙ k.3)
+              );
+        }
+        );
+  }) (anew_keeps r)
+
+  pub shape_at_first : {torrent first : _} → Begins dig torrent first → IsShaped torrent first
+  shape_at_first (bare starts) = record {
     same = cc;
     roots = starts.is_new.roots;
     count = starts.is_new.count;
@@ -349,25 +408,124 @@ module _ (dig : Digest) where
         record { blocks = ap length new.missing ∙ length-replicate (block_count file.length) Missing; has_tree = new.has_tree }
         );
   }
+  shape_at_first (with_log hints calls starts) = anew_shape refl starts
+
+  pub torrent_at_first : {torrent : _} {first : EngineState} → Begins dig torrent first → first.torrent ≡ torrent
+  torrent_at_first begins = (shape_at_first begins).same
+
+  -- where hints are read again and nothing else happens
+  hints_shape : {torrent : _} (s : EngineState) {new : _} → IsShaped torrent s → new ≡ record s { hints = new.hints } → IsShaped torrent new
+  hints_shape s shaped e = rw e (record { same = shaped.same; roots = shaped.roots; count = shaped.count; each = shaped.each })
+
+  restart_shape : {torrent s calls new : _} → IsShaped torrent s → IsRestart dig s calls new → IsShaped torrent new
+  restart_shape shaped (anew hints none recovers places) = anew_shape shaped.same recovers
+  restart_shape {s = s} shaped (as_before none made e) = hints_shape s shaped e
 
   pub step_shape : {torrent s new : _} (e calls a : _) → IsShaped torrent s → Step dig s e calls a new → IsShaped torrent new
-  step_shape e calls a shaped t = shape_after shaped (step_keeps e calls a t)
+  step_shape {s = s} {new = new} e calls a shaped t = elim (restart_or e) [
+    | inl is ↦ (let r = subst (λ x. Step dig s x calls a new) is t in restart_shape shaped (restart_is r.2))
+    | inr apart ↦ shape_after shaped (step_keeps e calls a apart t)
+  ]
+
+  -- ---- files and trees of any engine
+
+  map_get : {X Y : Type 0} (f : X → Y) (xs ys : List X) (i : ℕ) {x : X} → map f ys ≡ map f xs → slice_get ys i ≡ Some x
+      → (z : X) × (slice_get xs i ≡ Some z) × (f z ≡ f x)
+  map_get f xs ys i {x} same at = get_map f xs i (ap (λ l. slice_get l i) (sym same) ∙ slice_get-map f ys i ∙ ap (option_map f) at)
+
+  restart_files : {s calls new : _} → IsRestart dig s calls new → (i : ℕ) (f : FileState) → slice_get new.files i ≡ Some f → HasOldTree s i f
+  restart_files {s} {new = new} (anew hints none recovers places) i f at =
+      let g = map_get (λ (q : FileState). q.tree) s.files new.files i places.trees at in
+      record { before = g.0; here = g.1; tree = sym g.2 }
+  restart_files (as_before none made e) i f at = record { before = f; here = ap (λ z. slice_get z.files i) (sym e) ∙ at; tree = refl }
+
+  restart_trees : {s calls new : _} → IsRestart dig s calls new → (t : ℕ) (k : Facts) → slice_get s.trees t ≡ Some k → HasNewTree new t k
+  restart_trees {s} {new = new} (anew hints none recovers places) t k at =
+      let g = map_get (λ (l : Facts). l.file_length) new.trees s.trees t (sym places.lengths) at in
+      record { after = g.0; here = g.1; length = g.2 }
+  restart_trees (as_before none made e) t k at = record { after = k; here = ap (λ z. slice_get z.trees t) e ∙ at; length = refl }
 
   pub step_keeps_files : StepKeepsFiles dig
   step_keeps_files = record {
-    files = λ old new event calls answer step i f at.
-        let g = (step_keeps event calls answer step).files i f at in record { before = g.before; here = g.here; tree = g.tree };
-    trees = λ old new event calls answer step t k at.
-        let g = (step_keeps event calls answer step).trees t k at in record { after = g.after; here = g.here; length = g.length };
+    files = λ old new event calls answer step i f at. elim (restart_or event) [
+      | inl is ↦ (let r = subst (λ x. Step dig old x calls answer new) is step in restart_files (restart_is r.2) i f at)
+      | inr apart ↦ (let g = (step_keeps event calls answer apart step).files i f at in record { before = g.before; here = g.here; tree = g.tree })
+    ];
+    trees = λ old new event calls answer step t k at. elim (restart_or event) [
+      | inl is ↦ (let r = subst (λ x. Step dig old x calls answer new) is step in restart_trees (restart_is r.2) t k at)
+      | inr apart ↦ (let g = (step_keeps event calls answer apart step).trees t k at in record { after = g.after; here = g.here; length = g.length })
+    ];
   }
 
+  -- ---- whether there is a log
+
+  record KeepsLog (s m : EngineState) : Type 0 where
+    torrent : m.torrent ≡ s.torrent
+    logged : m.logged ≡ s.logged
+    hints : HasHintsOfLog s → HasHintsOfLog m
+
+  log_kept : {s m : _} → Keeps s m → KeepsLog s m
+  log_kept k = record {
+    torrent = k.torrent;
+    logged = k.logged;
+    hints = λ h. record {
+      read = λ none. k.hints ∙ h.read (sym k.logged ∙ none);
+      written = λ none. k.pending (sym k.logged ∙ none) ∙ h.written (sym k.logged ∙ none);
+    };
+  }
+
+  anew_log : {s new hints calls : _} → Recovers dig s hints calls new → (s.logged ≡ false → hints ≡ []) → KeepsLog s new
+  anew_log r none_read =
+      let k = anew_keeps r in
+      record {
+        torrent = k.torrent;
+        logged = k.logged;
+        hints = λ h. record {
+          read = λ none. k.hints ∙ none_read (sym k.logged ∙ none);
+          written = λ none. k.pending (sym k.logged ∙ none);
+        };
+      }
+
+  restart_log : {s calls new : _} → IsRestart dig s calls new → KeepsLog s new
+  restart_log (anew hints none_read recovers places) = anew_log recovers none_read
+  restart_log (as_before none_read made e) =
+      let logged = ap (λ z. z.logged) e in
+      record {
+        torrent = ap (λ z. z.torrent) e;
+        logged = logged;
+        hints = λ h. record {
+          read = λ none. none_read (sym logged ∙ none) (h.read (sym logged ∙ none));
+          written = λ none. ap (λ z. z.pending) e ∙ h.written (sym logged ∙ none);
+        };
+      }
+
+  step_log : {s new : _} (e calls a : _) → Step dig s e calls a new → KeepsLog s new
+  step_log {s} {new} e calls a t = elim (restart_or e) [
+    | inl is ↦ (let r = subst (λ x. Step dig s x calls a new) is t in restart_log (restart_is r.2))
+    | inr apart ↦ log_kept (step_keeps e calls a apart t)
+  ]
+
+  pub step_torrent : (s new e calls a : _) → Step dig s e calls a new → new.torrent ≡ s.torrent
+  step_torrent s new e calls a t = (step_log {s = s} {new = new} e calls a t).torrent
+
+  log_at_first : {torrent first : _} → Begins dig torrent first → HasHintsOfLog first
+  log_at_first (bare starts) = record { read = λ none. ap (λ z. z.hints) starts.is; written = λ none. ap (λ z. z.pending) starts.is }
+  log_at_first (with_log hints calls starts) =
+      let logged = (anew_keeps starts).logged in
+      record { read = λ none. absurd (both logged none); written = λ none. absurd (both logged none) }
+    where
+      both : {b : Bool} → b ≡ true → b ≡ false → ⊥
+      both is other = absurd cc
+
+  run_shape : {torrent : _} (s : _) {new : _} (es calls answers : _) → IsShaped torrent s → HasHintsOfLog s → Run dig s es calls answers new
+      → IsShaped torrent new × HasHintsOfLog new × (new.logged ≡ s.logged)
+  run_shape s [] [] [] shaped hints run = rw run (shaped, hints, refl)
+  run_shape s (e ∷ es) (c ∷ calls) (a ∷ answers) shaped hints run =
+      let log = step_log e c a run.1 in
+      let rest = run_shape run.0 es calls answers (step_shape e c a shaped run.1) (log.hints hints) run.2 in
+      (rest.0, rest.1, rest.2 ∙ log.logged)
+  run_shape s _ _ _ shaped hints run = absurd run
+
   pub shape_kept : RunsKeepShape dig
-  shape_kept torrent first last events calls answers starts run =
-      let k = run_keeps first _ calls _ run in (
-        shape_after (shape_at_first starts) k,
-        record {
-          none = cc;
-          read = cc;
-          written = k.pending (cc) ∙ ap (λ z. z.pending) starts.is;
-        },
-      )
+  shape_kept torrent first last events calls answers begins run =
+      run_shape first events calls answers (shape_at_first begins) (log_at_first begins) run

@@ -1,11 +1,15 @@
 -- Marked blocks stay right on honest devices.
-use Rattle.bt_machine.proofs.Base.{[], ◌≡◌, ◌≢◌, ℕ, ◌*◌, ◌⊎◌, inl, inr, Bool, true, false, List, ◌∷◌, length, take, drop, Option, Some, refl, sym, ap, ◌∙◌, subst, slice_get, Contains, ◌==◌, eqb-true, eq-eqb, full_block_length, block_length, History, after_write, Call, bytes_given, bytes_written, write_fault, length_set, resize_fault, sync_made, AreAnswered, AfterWriteFault, Facts, value_at, given, call_of, IsRight, Missing, Marked, AdoptMarksByBytes}
-use Rattle.bt_machine.proofs.Machine.{Digest, FileState, DeviceCalls, calls_of, block_id, state_at, tree_of, stored_block, AreRight, Step, brought, read_back, found, IsSound, StepKeepsSound, RunOn, CompleteFilesStand, KeepsBytes}
+use Rattle.bt_machine.proofs.Base.{[], ◌≡◌, ◌≢◌, ℕ, suc, ◌*◌, ◌<◌, ◌⊎◌, inl, inr, Bool, true, false, List, ◌∷◌, length, take, drop, replicate, Option, Some, refl, sym, ap, ◌∙◌, subst, slice_get, Contains, ◌==◌, option_and_then, eqb-true, eq-eqb, full_block_length, block_count, block_length, History, after_write, Call, bytes_given, bytes_written, write_fault, length_set, resize_fault, sync_made, AreAnswered, AfterWriteFault, Facts, value_at, given, call_of, IsRight, Missing, Marked, BlockId, AdoptMarksByBytes}
+use Rattle.bt_machine.proofs.Machine.{Digest, Event, Flush, Restart, FileState, EngineState, DeviceCalls, calls_of, block_id, state_at, tree_of, stored_block, AreRight, BeginsOn, bare_on, with_log_on, Recovers, Step, IsMarkedBy, brought, read_back, found, recovered, IsSound, StepKeepsSound, RunOn, CompleteFilesStand, KeepsBytes, AllKeepBytes}
 use Rattle.bt_disk.specs.Calls.{IsAnswered}
-use Rattle.bt_machine.proofs.Lists.{here, later, contains_none, contains_cases, contains_filter, contains_map}
+use Rattle.bt_machine.specs.Devices.{HaveCalls}
+use Rattle.bt_machine.specs.Sound.{StartsSound}
+use Rattle.bt_machine.proofs.Lists.{here, later, contains_none, contains_cases, contains_filter, contains_map, get_some, some_below}
+use Rattle.bt_machine.proofs.Marks.{state_is}
 use Rattle.bt_machine.proofs.Marking.{step_cases}
 use Rattle.bt_machine.proofs.Stored.{own_bytes, other_bytes, torn_bytes, complete_root}
-use Rattle.bt_machine.proofs.Tame.{Touches, keeping, putting, step_tame}
+use Rattle.bt_machine.proofs.Tame.{Tame, Touches, keeping, putting, step_tame, hints_tame, anew_reads}
+use Rattle.bt_machine.proofs.Restarts.{restart_or, IsRestart, anew, as_before, restart_is, recovered_marks}
 
 -- ---- calls of one device
 
@@ -128,66 +132,116 @@ kept_block dig {files} {trees} file i {f} {k} {calls} old new at has_tree marked
           | inr failed ↦ torn _ i _ old new bytes apart long whole (let x = subst (λ c. IsAnswered old c new) failed answer in x)
         ]
 
-module _ {D : Type 0} (history : D → History) (honest : D → Type 0) (faults : D → ℕ) (dig : Digest) (marks : AdoptMarksByBytes dig) where
-  block_right : (old new event calls answer file : _) {i f k : _} (before after : History) → Step dig old event calls answer new
-      → slice_get new.files file ≡ Some f → slice_get new.trees f.tree ≡ Some k → AreAnswered before (calls_of file calls) after
-      → ((g : FileState) (l : Facts) → slice_get old.files file ≡ Some g → slice_get old.trees g.tree ≡ Some l → AreRight dig l before.now.bytes g.states)
-      → slice_get f.states i ≡ Some Marked → IsRight dig k i (stored_block k.file_length after.now.bytes i)
-  block_right old new event calls answer file {i} {f} {k} before after step at has_tree answered sound marked =
-      let tame = step_tame dig old new event calls _ step in
-      let grown = tame.0 file f k at has_tree in
-      let b = block_id file i in
-      let now : state_at new b ≡ Some Marked = cc in
-      let tree : tree_of new file ≡ Some k = cc in
-      elim (step_cases dig marks b old new event calls _ step now) [
-        | inl was ↦
-            let marked_before : slice_get grown.old_file.states i ≡ Some Marked = cc in
-            let r = sound grown.old_file grown.old_tree grown.here grown.has_tree i marked_before in
-            moved _ _ grown.same_length (grown.kept i)
-            (kept_block dig file i _ after grown.here grown.has_tree marked_before tame.1 answered r.whole) r
-        | inr (brought x) ↦
-            let same : x.tree ≡ k = cc in
-            let r : IsRight dig k i x.bytes = rw (← same) x.right in
-            let one = ap (calls_of file) x.written ∙ one_true _ file (eq-eqb file file refl) in
-            let a = subst (λ cs. AreAnswered before cs after) one answered in
-            let is = stands _ i _ _ r.whole (a.2 ∙ a.1) in
-            rw is r
-        | inr (read_back x) ↦ read_right x.has_tree x.read x.right tree tame.1
-        | inr (found x) ↦ read_right x.has_tree x.read x.right tree tame.1
-      ]
-    where
-      read_right : {l bytes : _} → tree_of new file ≡ Some l → Contains calls (file, call_of l.file_length (given i bytes)) → IsRight dig l i bytes
-          → tree_of new file ≡ Some k → Touches old.files old.trees calls → IsRight dig k i (stored_block k.file_length after.now.bytes i)
-      read_right {l} {bytes} l_hung l_read l_right tree (keeping keep) =
-          let same : l ≡ k = cc in
-          let reads = calls_keep _ _ (λ c among. keep (file, c) (of_all calls among)) answered in
-          let there = reads.read _ _ bytes (among_file calls l_read) in
-          let is : bytes ≡ stored_block k.file_length after.now.bytes i = cc in
-          rw (← is) (rw (← same) l_right)
-      read_right {l} {bytes} l_hung l_read l_right tree (putting c more g m call there rooted missing size made is) =
-          let one = subst (λ cs. Contains cs (file, call_of l.file_length (given i bytes))) made l_read in
-          elim (contains_cases {x = (c.file, call)} {y = (file, call_of l.file_length (given i bytes))} [] one) [
-            | inl same ↦
-                let call_is = ap (λ a. a.1) same in
-                absurd (elim is [ inl wrote ↦ no_write (sym call_is ∙ wrote) | inr failed ↦ no_fault (sym call_is ∙ failed) ])
-            | inr none ↦ absurd (contains_none none)
-          ]
+-- what was read of a block, and is right, stands there
+read_stands : {dig : Digest} (new : EngineState) {file i : ℕ} {k l : Facts} {bytes : List ℕ} (calls : DeviceCalls) (before after : History)
+    → AllKeepBytes calls → AreAnswered before (calls_of file calls) after → tree_of new file ≡ Some k → tree_of new file ≡ Some l
+    → Contains calls (file, call_of l.file_length (given i bytes)) → IsRight dig l i bytes → IsRight dig k i (stored_block k.file_length after.now.bytes i)
+read_stands new {file} {i} {k} {l} {bytes} calls before after keep answered tree has_tree read right =
+    let same : l ≡ k = cc in
+    let reads = calls_keep _ _ (λ c among. keep (file, c) (of_all calls among)) answered in
+    let there = reads.read _ _ bytes (among_file calls read) in
+    let is : bytes ≡ stored_block k.file_length after.now.bytes i = cc in
+    rw (← is) (rw (← same) right)
 
-  pub step_sound : StepKeepsSound history honest faults dig
-  step_sound old new event calls answer disks after step have sound file f k e is_file there honest_now i marked =
+-- the marked blocks of one file are right on its device, where they were so, or were marked by this event
+block_right : {dig : Digest} (old new : EngineState) (event : Event) {calls : DeviceCalls} (file : ℕ) {i : ℕ} {f : FileState} {k : Facts} (before after : History) → Tame dig old.files old.trees calls new
+    → ((b : BlockId) → state_at new b ≡ Some Marked → (state_at old b ≡ Some Marked) ⊎ IsMarkedBy dig old event calls new b) → event ≢ Restart
+    → slice_get new.files file ≡ Some f → slice_get new.trees f.tree ≡ Some k → AreAnswered before (calls_of file calls) after
+    → ((g : FileState) (l : Facts) → slice_get old.files file ≡ Some g → slice_get old.trees g.tree ≡ Some l → AreRight dig l before.now.bytes g.states)
+    → slice_get f.states i ≡ Some Marked → IsRight dig k i (stored_block k.file_length after.now.bytes i)
+block_right {dig} old new event {calls} file {i} {f} {k} before after tame cases apart at has_tree answered sound marked =
+    let grown = tame.0 file f k at has_tree in
+    let b = block_id file i in
+    let now : state_at new b ≡ Some Marked = cc in
+    let tree : tree_of new file ≡ Some k = cc in
+    elim (cases b now) [
+      | inl was ↦
+          let marked_before : slice_get grown.old_file.states i ≡ Some Marked = cc in
+          let r = sound grown.old_file grown.old_tree grown.here grown.has_tree i marked_before in
+          moved _ _ grown.same_length (grown.kept i)
+          (kept_block dig file i _ after grown.here grown.has_tree marked_before tame.1 answered r.whole) r
+      | inr (brought x) ↦
+          let same : x.tree ≡ k = cc in
+          let r : IsRight dig k i x.bytes = rw (← same) x.right in
+          let one = ap (calls_of file) x.written ∙ one_true _ file (eq-eqb file file refl) in
+          let a = subst (λ cs. AreAnswered before cs after) one answered in
+          let is = stands _ i _ _ r.whole (a.2 ∙ a.1) in
+          rw is r
+      | inr (read_back x) ↦ read_right x.has_tree x.read x.right tree tame.1
+      | inr (found x) ↦ read_right x.has_tree x.read x.right tree tame.1
+      | inr (recovered is x) ↦ absurd (apart is)
+    ]
+  where
+    read_right : {l bytes : _} → tree_of new file ≡ Some l → Contains calls (file, call_of l.file_length (given i bytes)) → IsRight dig l i bytes
+        → tree_of new file ≡ Some k → Touches old.files old.trees calls → IsRight dig k i (stored_block k.file_length after.now.bytes i)
+    read_right l_hung l_read l_right tree (keeping keep) = read_stands new calls before after keep answered tree l_hung l_read l_right
+    read_right {l} {bytes} l_hung l_read l_right tree (putting c more g m call there rooted missing size made is) =
+        let one = subst (λ cs. Contains cs (file, call_of l.file_length (given i bytes))) made l_read in
+        elim (contains_cases {x = (c.file, call)} {y = (file, call_of l.file_length (given i bytes))} [] one) [
+          | inl same ↦
+              let call_is = ap (λ a. a.1) same in
+              absurd (elim is [ inl wrote ↦ no_write (sym call_is ∙ wrote) | inr failed ↦ no_fault (sym call_is ∙ failed) ])
+          | inr none ↦ absurd (contains_none none)
+        ]
+
+none_marked : (n i : ℕ) → slice_get (replicate n Missing) i ≡ Some Marked → ⊥
+none_marked (suc n) (suc i) e = none_marked n i e
+none_marked _ _ e = absurd cc
+
+module _ {D : Type 0} (history : D → History) (honest : D → Type 0) (faults : D → ℕ) (dig : Digest) where
+  -- where all is begun anew, what is marked was read
+  pub anew_sound : {s new hints calls disks after : _} → Recovers dig s hints calls new → HaveCalls history honest faults disks calls after
+      → IsSound history honest dig new after
+  anew_sound {new = new} {calls = calls} r have file f k e is_file there honest_now i marked =
       let d = have.each file e there in
-      let was_honest = d.2.as_honest.1 honest_now in
-      block_right old new event calls _ file _ _ step is_file.here is_file.has_tree (d.2.answered was_honest)
-      (λ g l at has_tree. sound file g l d.0 (record { here = at; has_tree = has_tree }) d.1 was_honest) marked
+      let now : state_at new (block_id file i) ≡ Some Marked = state_is new (block_id file i) is_file.here marked in
+      let tree : tree_of new file ≡ Some k = ap (option_and_then (λ g. slice_get new.trees g.tree)) is_file.here ∙ is_file.has_tree in
+      let x = recovered_marks dig r (block_id file i) now in
+      read_stands new calls _ _ (anew_reads dig r) (d.2.answered (d.2.as_honest.1 honest_now)) tree x.has_tree x.read x.right
 
-  pub run_sound : (old new events calls answers : _) (disks after : List (Option D)) → RunOn history honest faults dig old disks events calls answers new after
-      → IsSound history honest dig old disks → IsSound history honest dig new after
-  run_sound old new [] [] [] disks after run sound = λ file f k e is_file there honest_now.
-      sound file f k e (record { here = cc; has_tree = cc })
-      (cc) honest_now
-  run_sound old new (e ∷ es) (c ∷ calls) (a ∷ answers) disks after run sound =
-      run_sound run.0 new es calls answers run.1 after run.4 (step_sound old run.0 e c a disks run.1 run.2 run.3 sound)
-  run_sound old new _ _ _ disks after run sound = absurd run
+  pub start_sound : StartsSound history honest faults dig
+  start_sound torrent placed log first (bare_on no_log starts disks none) file f k d is_file there honest_now j marked =
+      let lt : file < length torrent.files = rw (← starts.is_new.count) (some_below first.state.files file is_file.here) in
+      let listed = get_some torrent.files file lt in
+      let new = starts.is_new.each_file file listed.0 f listed.1 is_file.here in
+      absurd (none_marked (block_count listed.0.length) j (cc))
+  start_sound torrent placed log first (with_log_on l calls is same starts have log_is) file f k d is_file there honest_now j marked =
+      anew_sound starts have file f k d is_file there honest_now j marked
+
+  module _ (marks : AdoptMarksByBytes dig) where
+    -- where each file's blocks are right by what becomes of one of them
+    by_blocks : {old new : EngineState} {disks calls after : _} → HaveCalls history honest faults disks calls after → IsSound history honest dig old disks
+        → ((file i : ℕ) (f : FileState) (k : Facts) (before now : History) → slice_get new.files file ≡ Some f → slice_get new.trees f.tree ≡ Some k
+        → AreAnswered before (calls_of file calls) now
+        → ((g : FileState) (l : Facts) → slice_get old.files file ≡ Some g → slice_get old.trees g.tree ≡ Some l → AreRight dig l before.now.bytes g.states)
+        → slice_get f.states i ≡ Some Marked → IsRight dig k i (stored_block k.file_length now.now.bytes i)) → IsSound history honest dig new after
+    by_blocks have sound right file f k e is_file there honest_now i marked =
+        let d = have.each file e there in
+        let was_honest = d.2.as_honest.1 honest_now in
+        right file i f k _ _ is_file.here is_file.has_tree (d.2.answered was_honest)
+        (λ g l at has_tree. sound file g l d.0 (record { here = at; has_tree = has_tree }) d.1 was_honest) marked
+
+    restart_sound : {old new disks calls after : _} → IsRestart dig old calls new → HaveCalls history honest faults disks calls after
+        → IsSound history honest dig old disks → IsSound history honest dig new after
+    restart_sound (anew hints none recovers places) have sound = anew_sound recovers have
+    restart_sound {old} {new} (as_before none made e) have sound = by_blocks have sound (λ file i f k before now.
+        block_right old new Flush file before now (hints_tame dig old new made e) (λ b m. inl (ap (λ z. state_at z b) (sym e) ∙ m)) (λ x. absurd cc))
+
+    pub step_sound : StepKeepsSound history honest faults dig
+    step_sound old new event calls answer disks after step have sound = elim (restart_or event) [
+      | inl is ↦ (let r = subst (λ x. Step dig old x calls answer new) is step in restart_sound (restart_is r.2) have sound)
+      | inr apart ↦ by_blocks have sound (λ file i f k before now.
+          block_right old new event file before now (step_tame dig old new event calls answer apart step) (λ b m. step_cases dig marks b old new event calls answer step m) apart)
+    ]
+
+    pub run_sound : (old new events calls answers : _) (disks after : List (Option D)) → RunOn history honest faults dig old disks events calls answers new after
+        → IsSound history honest dig old disks → IsSound history honest dig new after
+    run_sound old new [] [] [] disks after run sound = λ file f k e is_file there honest_now.
+        sound file f k e (record { here = cc; has_tree = cc })
+        (cc) honest_now
+    run_sound old new (e ∷ es) (c ∷ calls) (a ∷ answers) disks after run sound =
+        run_sound run.0 new es calls answers run.1 after run.4 (step_sound old run.0 e c a disks run.1 run.2 run.3 sound)
+    run_sound old new _ _ _ disks after run sound = absurd run
 
 module _ {D : Type 0} (history : D → History) (honest : D → Type 0) (faults : D → ℕ) (dig : Digest) where
   pub complete_stands : CompleteFilesStand history honest dig

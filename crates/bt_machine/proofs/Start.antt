@@ -1,8 +1,7 @@
--- The trees of an engine that has just started are rooted.
+-- What a lawful torrent says of a tree is rooted.
 use Rattle.bt_machine.proofs.Base.{[], ◌≡◌, ℕ, zero, suc, ◌<◌, List, ◌∷◌, length, get_or, Some, slice_get, arith, IsFileLength, LayersAreSound, RootsAreSound, All-get_or, File, Metainfo, IsLawful, IsLawfulFile}
-use Rattle.bt_machine.proofs.Machine.{Digest, IsTreeFrom, by_layer, by_root, Starts, AreRooted}
+use Rattle.bt_machine.proofs.Machine.{IsTreeFrom, by_layer, by_root, IsTorrentTree}
 use Rattle.bt_sparse.specs.SparseTree.{IsSound}
-use Rattle.bt_machine.specs.Frames.{AreSparseTrees}
 
 get_is : {X : Type 0} (xs : List X) (i : ℕ) {x : X} → slice_get xs i ≡ Some x → (i < length xs) × (get_or xs i x ≡ x)
 get_is [] zero e = absurd cc
@@ -18,14 +17,10 @@ tree_sound : {dig : _} → LayersAreSound dig → RootsAreSound dig → {file : 
 tree_sound layers roots {file} lawful size (by_layer layer some piece h) = layers file.length layer file.root file.layer _ lawful h
 tree_sound layers roots {file} lawful size (by_root none is) = rw is (roots file.length file.root lawful size)
 
-pub start_sparse : {dig : _} → LayersAreSound dig → RootsAreSound dig → {torrent : Metainfo} {s : _} → IsLawful torrent.piece_length torrent.files → Starts dig torrent s
-    → AreSparseTrees dig s
-start_sparse layers roots {torrent} lawful starts t k at =
-    let tree = starts.is_new.each_tree t k at in
+-- what a lawful torrent says of a tree
+pub torrent_sound : {dig : _} → LayersAreSound dig → RootsAreSound dig → (torrent : Metainfo) → IsLawful torrent.piece_length torrent.files
+    → (k : _) → IsTorrentTree dig torrent k → IsSound dig k
+torrent_sound layers roots torrent lawful k tree =
     let found = get_is _ _ tree.listed in
     let file : IsLawfulFile torrent.piece_length tree.file = rw (← found.1) (All-get_or (IsLawfulFile torrent.piece_length) torrent.files tree.number tree.file found.0 lawful.each) in
     tree_sound layers roots (record { some = tree.some; limit = file.short }) file.rooted tree.says
-
-pub start_rooted : {dig : _} → LayersAreSound dig → RootsAreSound dig → {torrent : Metainfo} {s : _} → IsLawful torrent.piece_length torrent.files → Starts dig torrent s
-    → AreRooted dig s
-start_rooted layers roots lawful starts t k at = (start_sparse layers roots lawful starts t k at).rooted

@@ -5,7 +5,7 @@ use Rattle.bt_disk.specs.State.{synced_state}
 use Rattle.bt_disk.specs.History.{moment_of, after_sync}
 use Rattle.bt_disk.specs.Calls.{IsAnswered}
 use Rattle.bt_machine.proofs.Base.{[], ◌≡◌, ℕ, ◌+◌, ◌-◌, ◌*◌, ◌<◌, Bool, true, false, not, inl, inr, List, ◌∷◌, length, get_or, Some, Ok, refl, sym, ap, ◌∙◌, subst, arith, slice_get, Contains, ◌==◌, cases_lt, eqb-true, same_number_lists, block_length, CallsKeepBytes, KeptFromNow, AdoptMarksByBytes, IsImage, History, Call, sync_made, AreAnswered, Facts, IsRight, BlockState, Marked, option_map_or}
-use Rattle.bt_machine.proofs.Machine.{Digest, Flush, FileState, EngineState, DeviceCalls, calls_of, state_at, block_id, file_numbers, IsFile, StepFlush, syncs, fails, syncs_of, data_files, Flushed, stored_block}
+use Rattle.bt_machine.proofs.Machine.{Digest, Flush, FileState, EngineState, EventCalls, calls_of, state_at, block_id, file_numbers, IsFile, StepFlush, syncs, writes, fails, unwritten, unflushed, syncs_of, data_files, Flushed, stored_block}
 use Rattle.bt_machine.specs.Blocks.{states_of}
 use Rattle.bt_machine.specs.Crash.{IsBlockKept}
 use Rattle.bt_machine.specs.Survival.{RunKeepsImages, FlushKeepsBlocks, FlushedBlocksSurvive, RunsKeepFlushedBlocks}
@@ -13,9 +13,8 @@ use Rattle.bt_machine.proofs.Lists.{contains_none, contains_map, map_contains, h
 use Rattle.bt_machine.proofs.Marks.{state_is}
 use Rattle.bt_machine.proofs.Shape.{Keeps, step_keeps}
 use Rattle.bt_machine.proofs.Stored.{length_at, index_at}
-use Rattle.bt_machine.proofs.Sound.{of_all, among_file, step_sound, run_sound}
-use Rattle.bt_machine.proofs.Unmarks.{marks_kept, device_before}
-use Rattle.bt_machine.proofs.Headline.{start_sound}
+use Rattle.bt_machine.proofs.Sound.{of_all, among_file, start_sound, step_sound, run_sound}
+use Rattle.bt_machine.proofs.Unmarks.{first_is, others_are, marks_kept, device_before}
 use Rattle.bt_machine.proofs.Crash.{images_kept}
 
 -- ---- bytes of a block
@@ -68,13 +67,17 @@ some_synced old new (call ∷ calls) among are a = synced old new call calls are
 flush_ok : {r : _} → Flushed (Ok tt) ≡ Flushed r → r ≡ Ok tt
 flush_ok e = cc
 
-record IsFlushed (s : EngineState) (calls : DeviceCalls) (new : EngineState) : Type 0 where
-  made : calls ≡ syncs_of (data_files s)
-  same : new ≡ s
+record IsFlushed (s : EngineState) (calls : EventCalls) (new : EngineState) : Type 0 where
+  made : calls.devices ≡ syncs_of (data_files s)
+  files : new.files ≡ s.files
+  trees : new.trees ≡ s.trees
 
 flushed : {s calls answer new : _} → StepFlush s calls answer new → answer ≡ Ok tt → IsFlushed s calls new
-flushed (syncs none made is after) e = record { made = made; same = after }
-flushed (fails before file after none x y is same) e = absurd cc
+flushed (syncs none made is e) ok = record { made = ap (λ c. c.devices) made; files = ap (λ z. z.files) e; trees = ap (λ z. z.trees) e }
+flushed (writes logged made is e) ok = record { made = ap (λ c. c.devices) made; files = ap (λ z. z.files) e; trees = ap (λ z. z.trees) e }
+flushed (fails before file after x y is same) ok = absurd cc
+flushed (unwritten before hint after cause x y z is same) ok = absurd cc
+flushed (unflushed x y is same) ok = absurd cc
 
 -- a file with a block has a device
 has_device : (s : EngineState) (file i : ℕ) {f : FileState} → slice_get s.files file ≡ Some f → slice_get f.states i ≡ Some Marked
@@ -99,11 +102,11 @@ module _ {D : Type 0} (history : D → History) (honest : D → Type 0) (faults 
   pub flush_kept : FlushKeepsBlocks history honest faults dig
   flush_kept old new calls disks after file i f k e step have is marked there honest_now j byte at =
       let f_is = flushed step.2 (flush_ok step.1) in
-      let old_here : slice_get old.files file ≡ Some f = ap (λ z. slice_get z.files file) (sym f_is.same) ∙ is.here in
-      let among : Contains calls (file, sync_made) = rw f_is.made (map_contains (λ n. (n, sync_made)) (data_files old) (has_device old file i old_here marked)) in
+      let old_here : slice_get old.files file ≡ Some f = ap (λ l. slice_get l file) (sym f_is.files) ∙ is.here in
+      let among : Contains calls.devices (file, sync_made) = rw f_is.made (map_contains (λ n. (n, sync_made)) (data_files old) (has_device old file i old_here marked)) in
       let d = have.each file e there in
-      let are : (c : Call) → Contains (calls_of file calls) c → c ≡ sync_made = λ c one. only_syncs (data_files old) file (subst (λ cs. Contains cs (file, c)) f_is.made (of_all calls one)) in
-      let medium = some_synced _ _ _ (among_file calls among) are (d.2.answered (d.2.as_honest.1 honest_now)) in
+      let are : (c : Call) → Contains (calls_of file calls.devices) c → c ≡ sync_made = λ c one. only_syncs (data_files old) file (subst (λ cs. Contains cs (file, c)) f_is.made (of_all calls.devices one)) in
+      let medium = some_synced _ _ _ (among_file calls.devices among) are (d.2.answered (d.2.as_honest.1 honest_now)) in
       kept_from_now (history e) (16384 * i + j) byte (λ image left.
       rw (synced_image (history e).now.bytes image (subst (λ s. IsImage s image) medium left)) (stands_in k.file_length (history e).now.bytes i j at))
 
@@ -133,38 +136,38 @@ goes_on file i {f} {k} keeps is marked =
 
 module _ {D : Type 0} (history : D → History) (honest : D → Type 0) (faults : D → ℕ) (dig : Digest) (marks : AdoptMarksByBytes dig) (calls_keep : CallsKeepBytes) (reads : (d : D) → honest d → IsImage (history d).now (history d).now.bytes) where
   pub images_run : RunKeepsImages history honest faults dig
-  images_run old new [] [] [] disks after file i t f k bytes e run sound is marked size there honest_now kept =
+  images_run old new [] [] [] disks after file i t f k bytes e none run sound is marked size there honest_now kept =
       kept e (ap (λ l. slice_get l file) (sym run.1) ∙ there)
-  images_run old new (x ∷ xs) (c ∷ calls) (a ∷ answers) disks after file i t f k bytes e run sound is marked size there honest_now kept =
+  images_run old new (x ∷ xs) (c ∷ calls) (a ∷ answers) disks after file i t f k bytes e none run sound is marked size there honest_now kept =
       let mid = device_before history honest faults dig run.0 new xs calls answers run.1 after file run.4 there honest_now in
       let marked_now = state_is old (block_id file i) is.here marked in
-      let still = marks_kept history honest faults dig old run.0 x c a disks run.1 (block_id file i) mid.0 run.2 run.3 sound mid.1 mid.2 marked_now in
-      let then = goes_on file i (step_keeps dig x c a run.2) is still in
+      let still = marks_kept history honest faults dig old run.0 x c a disks run.1 (block_id file i) mid.0 (first_is x xs none) run.2 run.3 sound mid.1 mid.2 marked_now in
+      let then = goes_on file i (step_keeps dig x c a (first_is x xs none) run.2) is still in
       let one : (d : D) → slice_get run.1 file ≡ Some (Some d) → IsBlockKept (history d) t i bytes = λ d at.
       (let same : d ≡ mid.0 = cc in
       images_kept history honest faults dig calls_keep reads old run.0 x c a disks run.1 file i t f k bytes d run.2 run.3 is (λ gone. absurd cc) size at (rw same mid.2) kept) in
-      images_run run.0 new xs calls answers run.1 after file i t then.state then.tree bytes e run.4
+      images_run run.0 new xs calls answers run.1 after file i t then.state then.tree bytes e (others_are x xs none) run.4
       (step_sound history honest faults dig marks old run.0 x c a disks run.1 run.2 run.3 sound) then.is_file then.marked (size ∙ ap (λ n. block_length n i) (sym then.same_length)) there honest_now one
-  images_run old new _ _ _ disks after file i t f k bytes e run sound is marked size there honest_now kept = absurd run
+  images_run old new _ _ _ disks after file i t f k bytes e none run sound is marked size there honest_now kept = absurd run
 
   pub flushed_survive : KeptFromNow → FlushedBlocksSurvive history honest faults dig
-  flushed_survive kept_from_now old mid new made events calls answers disks flushed_disks after file i f k d e sound step have run is marked there_then there honest_now image left =
+  flushed_survive kept_from_now old mid new made events calls answers disks flushed_disks after file i f k d e sound none step have run is marked there_then there honest_now image left =
       let back = device_before history honest faults dig mid new events calls answers flushed_disks after file run there honest_now in
       let same : d ≡ back.0 = cc in
       let honest_then : honest d = rw same back.2 in
       let f_is = flushed step.2 (flush_ok step.1) in
-      let is_then : IsFile mid file f k = rw f_is.same is in
+      let is_then : IsFile mid file f k = record { here = ap (λ l. slice_get l file) f_is.files ∙ is.here; has_tree = ap (λ l. slice_get l f.tree) f_is.trees ∙ is.has_tree } in
       let sound_then = step_sound history honest faults dig marks old mid Flush made _ disks flushed_disks step have sound in
       let right = sound_then file f k d is_then there_then honest_then i marked in
       let kept = flush_kept history honest faults dig kept_from_now old mid made disks flushed_disks file i f k d step have is_then marked there_then honest_then in
       let each : (x : D) → slice_get flushed_disks file ≡ Some (Some x) → IsBlockKept (history x) (moment_of (history d)) i (stored_block k.file_length (history d).now.bytes i) = λ x at.
       (let one : x ≡ d = cc in rw one kept) in
-      let last = images_run mid new events calls answers flushed_disks after file i (moment_of (history d)) f k _ e run sound_then is_then marked right.whole there honest_now each in
+      let last = images_run mid new events calls answers flushed_disks after file i (moment_of (history d)) f k _ e none run sound_then is_then marked right.whole there honest_now each in
       subst (IsRight dig k i)
       (sym (block_stands k.file_length i (stored_block k.file_length (history d).now.bytes i) image right.whole (λ j byte at. last j byte at image left))) right
 
   pub flushes_kept : KeptFromNow → RunsKeepFlushedBlocks history honest faults dig
-  flushes_kept kept_from_now torrent first old mid new events later calls later_calls made answers later_answers disks before flushed_disks after file i f k d e starts run step have goes is marked there_then there honest_now =
+  flushes_kept kept_from_now torrent given log first old mid new events later calls later_calls made answers later_answers before flushed_disks after file i f k d e begins none run step have goes is marked there_then there honest_now =
       flushed_survive kept_from_now old mid new made later later_calls later_answers before flushed_disks after file i f k d e
-      (run_sound history honest faults dig marks first old events calls answers disks before run (start_sound history honest faults dig disks starts))
-      step have goes is marked there_then there honest_now
+      (run_sound history honest faults dig marks first.state old events calls answers first.disks before run (start_sound history honest faults dig torrent given log first begins))
+      none step have goes is marked there_then there honest_now

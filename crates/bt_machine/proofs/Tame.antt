@@ -1,8 +1,11 @@
 -- What a step does to trees, files and devices: trees grow, and it reads blocks, or syncs, or writes one missing block.
-use Rattle.bt_machine.proofs.Base.{[], ◌≡◌, ℕ, ◌*◌, ◌⊎◌, inl, inr, List, ◌∷◌, ◌++◌, length, Some, Result, Ok, Err, refl, sym, ap, ◌∙◌, slice_get, slice_set, flat_map, Contains-append_cases, full_block_length, block_length, Call, bytes_written, write_fault, sync_made, sync_fault, Facts, blocks_of, held_at, value_at, value_inside, value_covers, value_padding, cases_node, BlockRead, given, failed, call_of, PutIsDue, calls_of_put, states_after_put, Missing, StoreError, Range, DeviceFault, Put, Already, Wrong, PutMarked, PutWaiting, BlockId, PeerMessage as Sent, KeepAlive, Choke, Unchoke, Interested, NotInterested, Have, Bitfield, Request, Piece, Cancel, HashRequest, Hashes, HashReject, Hello, Message, Skipped}
-use Rattle.bt_machine.proofs.Machine.{Digest, Connect, Feed, Next, Lost, Rechoke, Adopt, Flush, FileState, EngineState, DeviceCalls, calls_at, reads_at, with_file, with_tree, SettlesIn, FindsFault, damaged, fault, HandlesRequest, ignored, no_place, not_marked, served, stopped, Arrives, HandlesPiece, stale, arrives, HandlesHashes, unknown_root, no_claim, refused, accepts_hashes, HandlesHave, in_range, out_of_range, HandlesBitfield, right, wrong, HandlesMessage, Handles, StepNext, no_peer, waits, keeps_peer, closes, faulty, no_memory, StepConnect, joins, full, spent, no_room, StepFeed, feeds, not_fed, no_room as no_room_to_feed, StepLost, goes, not_fed as not_lost, FollowsEach, StepRechoke, rechokes, not_rechoked, AdoptsGroup, AdoptsGroups, StepAdopt, no_file, busy, empty, adopts, not_adopted, StepFlush, syncs_of, syncs, fails, Step, KeepsBytes, AllKeepBytes, IsWriteOfMissing, StepWritesMissing}
+use Rattle.bt_machine.proofs.Base.{[], ◌≡◌, ◌≢◌, ℕ, ◌*◌, ◌⊎◌, inl, inr, List, ◌∷◌, ◌++◌, length, Some, Result, Ok, Err, refl, sym, ap, ◌∙◌, subst, slice_get, slice_set, flat_map, Contains-append_cases, full_block_length, block_length, Call, bytes_written, write_fault, sync_made, sync_fault, Facts, blocks_of, held_at, value_at, value_inside, value_covers, value_padding, cases_node, BlockRead, given, failed, call_of, PutIsDue, calls_of_put, states_after_put, Missing, StoreError, Range, DeviceFault, Put, Already, Wrong, PutMarked, PutWaiting, BlockId, PeerMessage as Sent, KeepAlive, Choke, Unchoke, Interested, NotInterested, Have, Bitfield, Request, Piece, Cancel, HashRequest, Hashes, HashReject, Hello, Message, Skipped}
+use Rattle.bt_machine.proofs.Machine.{Digest, Connect, Feed, Next, Lost, Rechoke, Adopt, Flush, Restart, Event, Answer, FileState, EngineState, DeviceCalls, EventCalls, calls_at, reads_at, with_file, with_tree, SettlesIn, FindsFault, damaged, fault, HandlesRequest, ignored, no_place, not_marked, served, stopped, Arrives, HandlesPiece, stale, arrives, HandlesHashes, unknown_root, no_claim, refused, accepts_hashes, HandlesHave, in_range, out_of_range, HandlesBitfield, right, wrong, HandlesMessage, Handles, StepNext, no_peer, waits, keeps_peer, closes, faulty, no_memory, StepConnect, joins, full, spent, no_room, StepFeed, feeds, not_fed, no_room as no_room_to_feed, StepLost, goes, not_fed as not_lost, FollowsEach, StepRechoke, rechokes, not_rechoked, AdoptsGroup, AdoptsGroups, StepAdopt, no_file, busy, empty, adopts, not_adopted, StepFlush, syncs_of, data_files, syncs, writes as logs, fails, unwritten, unflushed, Recovers, Step, KeepsBytes, AllKeepBytes, IsWriteOfMissing, StepWritesMissing}
+use Rattle.bt_resume.specs.declared.hint.Hint.{Hint}
+use Rattle.bt_machine.specs.Recovery.{RestoresFile, empty as no_block, restored, RestoresFiles}
 use Rattle.bt_machine.proofs.Lists.{set_cases, map_some, contains_none, contains_cases, contains_map, contains_flat_map}
 use Rattle.bt_machine.proofs.Adopting.{value_kept, group_extends}
+use Rattle.bt_machine.proofs.Restarts.{restart_or, IsRestart, anew, as_before, restart_is}
 
 -- where a file's tree comes from
 pub record GrownFrom (dig : Digest) (files : List FileState) (trees : List Facts) (file : ℕ) (new : Facts) : Type 0 where
@@ -46,6 +49,9 @@ syncs_keep : (files : _) → AllKeepBytes (syncs_of files)
 syncs_keep files c among =
     let m = contains_map (λ file. (file, sync_made)) files among in
     rw (← m.2) tt
+
+all_synced : (s : EngineState) {files trees calls : _} → calls ≡ syncs_of (data_files s) → Touches files trees calls
+all_synced s e = keeping (keep_is e (syncs_keep (data_files s)))
 
 append_keeps : (xs ys : _) → AllKeepBytes xs → AllKeepBytes ys → AllKeepBytes (xs ++ ys)
 append_keeps xs ys f g c among = elim (Contains-append_cases xs ys c among) [ inl one ↦ f c one | inr more ↦ g c more ]
@@ -265,24 +271,57 @@ module _ (dig : Digest) where
       let groups = groups_tame s new file 0 a.groups a.done a.adopts in
       (groups.0, keeping (keep_is a.made (append_keeps (flat_map (λ c. c) a.groups) _ groups.1 (reads_keep file a.tree.file_length a.reads))))
 
-  flush_tame : {s new calls answer : _} → StepFlush s calls answer new → Tame dig s.files s.trees calls new
-  flush_tame {s} {new} (syncs x y z e) = (stays s new (cc) (cc), keeping (keep_is y (syncs_keep _)))
-  flush_tame {s} {new} (fails before file after none x y z e) = (
+  flush_tame : {s new calls answer : _} → StepFlush s calls answer new → Tame dig s.files s.trees calls.devices new
+  flush_tame {s} {new} (syncs x y z e) = (stays s new (cc) (cc), all_synced s (ap (λ c. c.devices) y))
+  flush_tame {s} {new} (logs x y z e) = (stays s new (cc) (cc), all_synced s (ap (λ c. c.devices) y))
+  flush_tame {s} {new} (fails before file after x y z e) = (
     stays s new (cc) (cc),
-    keeping (keep_is y (append_keeps (syncs_of before) ((file, sync_fault) ∷ []) (syncs_keep before) (λ c among. elim (contains_cases [] among) [
+    keeping (keep_is (ap (λ c. c.devices) y) (append_keeps (syncs_of before) ((file, sync_fault) ∷ []) (syncs_keep before) (λ c among. elim (contains_cases [] among) [
       | inl one ↦ rw (← one) tt
       | inr none ↦ absurd (contains_none none)
     ]))),
   )
+  flush_tame {s} {new} (unwritten before hint after cause x y z w e) = (stays s new (cc) (cc), all_synced s (ap (λ c. c.devices) z))
+  flush_tame {s} {new} (unflushed x y z e) = (stays s new (cc) (cc), all_synced s (ap (λ c. c.devices) y))
 
-  pub step_tame : (s new e calls a : _) → Step dig s e calls a new → Tame dig s.files s.trees calls new
-  step_tame s new Connect calls a t = connect_tame t.2 t.3
-  step_tame s new (Feed key bytes) calls a t = feed_tame t.2 t.3
-  step_tame s new (Next key) calls a t = next_tame t.2
-  step_tame s new (Lost key) calls a t = lost_tame t.2 t.3
-  step_tame s new Rechoke calls a t = rechoke_tame t.2 t.3
-  step_tame s new (Adopt file) calls a t = adopt_tame t.2
-  step_tame s new Flush calls a t = flush_tame t.2
+  -- every event but a restart
+  pub step_tame : (s new e calls a : _) → e ≢ Restart → Step dig s e calls a new → Tame dig s.files s.trees calls.devices new
+  step_tame s new Connect calls a apart t = connect_tame (ap (λ c. c.devices) t.2) t.3
+  step_tame s new (Feed key bytes) calls a apart t = feed_tame (ap (λ c. c.devices) t.2) t.3
+  step_tame s new (Next key) calls a apart t = next_tame t.3
+  step_tame s new (Lost key) calls a apart t = lost_tame (ap (λ c. c.devices) t.2) t.3
+  step_tame s new Rechoke calls a apart t = rechoke_tame (ap (λ c. c.devices) t.2) t.3
+  step_tame s new (Adopt file) calls a apart t = adopt_tame t.3
+  step_tame s new Flush calls a apart t = flush_tame t.2
+  step_tame s new Restart calls a apart t = absurd (apart refl)
+
+  -- ---- a restart only reads
+
+  file_reads : {hints file s calls new : _} → RestoresFile dig hints file s calls new → AllKeepBytes calls
+  file_reads (no_block f at nothing made e) = keep_is made no_calls
+  file_reads (restored f k rs is some order made e) = keep_is made (reads_keep _ _ _)
+
+  files_read : (hints : List Hint) (files : List ℕ) (s new : EngineState) (calls : DeviceCalls) → RestoresFiles dig hints files s calls new → AllKeepBytes calls
+  files_read hints [] s new calls r = keep_is r.0 no_calls
+  files_read hints (file ∷ files) s new calls r =
+      keep_is r.5 (append_keeps r.1 r.2 (file_reads r.3) (files_read hints files r.0 new r.2 r.4))
+
+  pub anew_reads : {s new hints calls : _} → Recovers dig s hints calls new → AllKeepBytes calls
+  anew_reads {new = new} {hints = hints} {calls = calls} r = files_read hints _ _ new calls r.restores
+
+  restart_reads : {s new calls : _} → IsRestart dig s calls new → AllKeepBytes calls
+  restart_reads (anew hints none recovers places) = anew_reads recovers
+  restart_reads (as_before none made e) = keep_is made no_calls
+
+  -- where hints are read again and nothing else happens
+  pub hints_tame : (s new : EngineState) {calls : _} → calls ≡ [] → new ≡ record s { hints = new.hints } → Tame dig s.files s.trees calls new
+  hints_tame s new none e = quiet s new (ap (λ z. z.files) e) (ap (λ z. z.trees) e) none
+
+  pub step_touches : (s new : EngineState) (e : Event) (calls : EventCalls) (a : Answer) → Step dig s e calls a new → Touches s.files s.trees calls.devices
+  step_touches s new e calls a t = elim (restart_or e) [
+    | inl is ↦ (let r = subst (λ x. Step dig s x calls a new) is t in keeping (restart_reads (restart_is r.2)))
+    | inr apart ↦ (step_tame s new e calls a apart t).1
+  ]
 
   writes_of : {s : EngineState} {calls : _} → Touches s.files s.trees calls → AllKeepBytes calls ⊎ IsWriteOfMissing s calls
   writes_of (keeping keep) = inl keep
@@ -299,4 +338,4 @@ module _ (dig : Digest) where
   })
 
   pub writes_missing : StepWritesMissing dig
-  writes_missing s new e calls a step = writes_of (step_tame s new e calls a step).1
+  writes_missing s new e calls a step = writes_of (step_touches s new e calls a step)

@@ -1,12 +1,13 @@
 -- How a block ceases to be marked.
-use Rattle.bt_machine.proofs.Base.{[], ◌≡◌, ◌≢◌, ℕ, zero, suc, ◌+◌, ◌⊎◌, inl, inr, Bool, true, false, List, ◌∷◌, ◌++◌, map, Option, Some, refl, sym, ap, ◌∙◌, subst, slice_get, slice_set, option_map, Contains, flat_map, ◌==◌, if◌then◌else◌, Result, Ok, option_and_then, eqb-true, eq-eqb, Contains-append_left, Contains-append_right, History, Call, AreAnswered, Facts, BlockRead, given, failed, block_of, call_of, is_right, judged, IsRight, Adopts, known, accepted, PutIsDue, states_after_put, Missing, Waiting, Marked, StoreError, Put, PutMarked, PutWaiting, Adopted, BlockId, PeerMessage as Sent, KeepAlive, Choke, Unchoke, Interested, NotInterested, Have, Bitfield, Request, Piece, Cancel, HashRequest, Hashes, HashReject, Hello, Message, Skipped, AdoptMarksByBytes}
-use Rattle.bt_machine.proofs.Machine.{Digest, Connect, Feed, Next, Lost, Rechoke, Adopt, Flush, FileState, EngineState, DeviceCalls, calls_of, state_at, tree_of, with_file, IsFile, FindsFault, damaged, fault, StopsAtFault, HandlesRequest, ignored, no_place, not_marked, served, stopped, HandlesPiece, stale, arrives, judged_file, SettlesIn, HandlesHashes, unknown_root, no_claim, refused, accepts_hashes, HandlesHave, in_range, out_of_range, HandlesBitfield, right, wrong, HandlesMessage, Handles, TakesEvent, StepNext, no_peer, waits, keeps_peer, closes, faulty, no_memory, StepConnect, joins, full, spent, no_room, StepFeed, feeds, not_fed, no_room as no_room_to_feed, StepLost, goes, not_fed as not_lost, FollowsEach, StepRechoke, rechokes, not_rechoked, AdoptsGroup, AdoptsGroups, StepAdopt, no_file, busy, empty, adopts, not_adopted, StepFlush, syncs, fails, Step, stored_block, RunOn, IsFoundWrong, StepUnmarksByBytes, StepKeepsMarks, RunKeepsMarks}
+use Rattle.bt_machine.proofs.Base.{[], ◌≡◌, ◌≢◌, ℕ, zero, suc, ◌+◌, ◌⊎◌, inl, inr, Bool, true, false, List, ◌∷◌, ◌++◌, map, Option, Some, refl, sym, ap, ◌∙◌, subst, arith, slice_get, slice_set, option_map, Contains, flat_map, ◌==◌, if◌then◌else◌, Result, Ok, option_and_then, eqb-true, eq-eqb, Contains-append_left, Contains-append_right, History, Call, AreAnswered, Facts, BlockRead, given, failed, block_of, call_of, is_right, judged, IsRight, Adopts, known, accepted, PutIsDue, states_after_put, Missing, Waiting, Marked, StoreError, Put, PutMarked, PutWaiting, Adopted, BlockId, PeerMessage as Sent, KeepAlive, Choke, Unchoke, Interested, NotInterested, Have, Bitfield, Request, Piece, Cancel, HashRequest, Hashes, HashReject, Hello, Message, Skipped, AdoptMarksByBytes}
+use Rattle.bt_machine.proofs.Machine.{Digest, Event, Connect, Feed, Next, Lost, Rechoke, Adopt, Flush, Restart, FileState, EngineState, DeviceCalls, calls_of, state_at, tree_of, with_file, IsFile, FindsFault, damaged, fault, StopsAtFault, HandlesRequest, ignored, no_place, not_marked, served, stopped, HandlesPiece, stale, arrives, judged_file, SettlesIn, HandlesHashes, unknown_root, no_claim, refused, accepts_hashes, HandlesHave, in_range, out_of_range, HandlesBitfield, right, wrong, HandlesMessage, Handles, TakesEvent, StepNext, no_peer, waits, keeps_peer, closes, faulty, no_memory, StepConnect, joins, full, spent, no_room, StepFeed, feeds, not_fed, no_room as no_room_to_feed, StepLost, goes, not_fed as not_lost, FollowsEach, StepRechoke, rechokes, not_rechoked, AdoptsGroup, AdoptsGroups, StepAdopt, no_file, busy, empty, adopts, not_adopted, StepFlush, syncs, writes as logs, fails, unwritten, unflushed, Step, stored_block, RunOn, IsFoundWrong, StepUnmarksByBytes, StepKeepsMarks, RunKeepsMarks}
 use Rattle.bt_store.specs.Adoption.{marked_group}
+use Rattle.bt_machine.specs.Unmarks.{HasNoRestart}
 use Rattle.bt_machine.proofs.Lists.{same_some, set_get, set_other, set_same, and_then_some, contains_none, contains_cases, here, later, map_contains}
 use Rattle.bt_machine.proofs.Marks.{state_is, meant_then, right_true}
 use Rattle.bt_machine.proofs.PeerChanges.{judged_other}
 use Rattle.bt_machine.proofs.Adopting.{right_in, group_forward}
-use Rattle.bt_machine.proofs.Tame.{Touches, keeping, putting, step_tame}
+use Rattle.bt_machine.proofs.Tame.{Touches, keeping, putting, step_touches}
 use Rattle.bt_machine.proofs.Sound.{no_write, no_fault, calls_keep, of_all, among_file, step_sound}
 
 -- ---- states
@@ -223,7 +224,10 @@ module _ (dig : Digest) (b : BlockId) where
 
   flush_stays : {s new calls answer : _} → StepFlush s calls answer new → state_at new b ≡ state_at s b
   flush_stays (syncs x y z e) = cc
-  flush_stays (fails before file after none x y z e) = cc
+  flush_stays (logs x y z e) = cc
+  flush_stays (fails before file after x y z e) = cc
+  flush_stays (unwritten before hint after cause x y z w e) = cc
+  flush_stays (unflushed x y z e) = cc
 
   -- ---- a file that is taken in
 
@@ -296,19 +300,27 @@ module _ (dig : Digest) (b : BlockId) where
     | inr w ↦ inr (found_in refl (λ c among. rw a.made (Contains-append_left (flat_map (λ c. c) a.groups) _ c among)) w.1)
   ]
 
-  step_stays : (s new e calls a : _) → Step dig s e calls a new → state_at s b ≡ Some Marked → Stays s calls new
-  step_stays s new Connect calls a t m = inl (connect_stays t.3 ∙ m)
-  step_stays s new (Feed key bytes) calls a t m = inl (feed_stays t.3 ∙ m)
-  step_stays s new (Next key) calls a t m = next_stays t.2 m
-  step_stays s new (Lost key) calls a t m = inl (lost_stays t.3 ∙ m)
-  step_stays s new Rechoke calls a t m = inl (rechoke_stays t.3 ∙ m)
-  step_stays s new (Adopt file) calls a t m = adopt_stays t.2 m
-  step_stays s new Flush calls a t m = inl (flush_stays t.2 ∙ m)
+  step_stays : (s new e calls a : _) → e ≢ Restart → Step dig s e calls a new → state_at s b ≡ Some Marked → Stays s calls.devices new
+  step_stays s new Connect calls a apart t m = inl (connect_stays t.3 ∙ m)
+  step_stays s new (Feed key bytes) calls a apart t m = inl (feed_stays t.3 ∙ m)
+  step_stays s new (Next key) calls a apart t m = next_stays t.3 m
+  step_stays s new (Lost key) calls a apart t m = inl (lost_stays t.3 ∙ m)
+  step_stays s new Rechoke calls a apart t m = inl (rechoke_stays t.3 ∙ m)
+  step_stays s new (Adopt file) calls a apart t m = adopt_stays t.3 m
+  step_stays s new Flush calls a apart t m = inl (flush_stays t.2 ∙ m)
+  step_stays s new Restart calls a apart t m = absurd (apart refl)
 
 pub step_unmarks : (dig : Digest) → StepUnmarksByBytes dig
-step_unmarks dig s new e calls a step b before after = elim (step_stays dig b s new e calls a step before) [ inl kept ↦ absurd (after kept) | inr w ↦ w ]
+step_unmarks dig s new e calls a apart step b before after = elim (step_stays dig b s new e calls a apart step before) [ inl kept ↦ absurd (after kept) | inr w ↦ w ]
 
 -- ---- on an honest device
+
+-- no event of the list is a restart
+pub first_is : (event : Event) (events : List Event) → HasNoRestart (event ∷ events) → event ≢ Restart
+first_is event events none = none 0 event (omega arith)
+
+pub others_are : (event : Event) (events : List Event) → HasNoRestart (event ∷ events) → HasNoRestart events
+others_are event events none i d lt = none (suc i) d (omega arith)
 
 module _ {D : Type 0} (history : D → History) (honest : D → Type 0) (faults : D → ℕ) (dig : Digest) where
   -- what an honest device gave stands there
@@ -326,7 +338,7 @@ module _ {D : Type 0} (history : D → History) (honest : D → Type 0) (faults 
       ]
 
   pub marks_kept : StepKeepsMarks history honest faults dig
-  marks_kept old new event calls answer disks after b e step have sound there honest_now before = elim (step_stays dig b old new event calls _ step before) [
+  marks_kept old new event calls answer disks after b e apart step have sound there honest_now before = elim (step_stays dig b old new event calls _ apart step before) [
     | inl kept ↦ kept
     | inr w ↦
         let d = have.each b.file e there in
@@ -334,7 +346,7 @@ module _ {D : Type 0} (history : D → History) (honest : D → Type 0) (faults 
         let f = and_then_some (λ q. slice_get q.states b.block) _ before in
         let has_tree : slice_get old.trees f.0.tree ≡ Some w.tree = cc in
         let there_before = sound b.file f.0 w.tree d.0 (record { here = f.1; has_tree = has_tree }) d.1 honest_before b.block f.2 in
-        let stands = given_stands old _ _ _ _ (step_tame dig old new event calls _ step).1 (d.2.answered honest_before) w.read in
+        let stands = given_stands old _ _ _ _ (step_touches dig old new event calls _ step) (d.2.answered honest_before) w.read in
         absurd (w.wrong (rw stands there_before))
   ]
 
@@ -351,9 +363,9 @@ module _ {D : Type 0} (history : D → History) (honest : D → Type 0) (faults 
 
 module _ {D : Type 0} (history : D → History) (honest : D → Type 0) (faults : D → ℕ) (dig : Digest) (marks : AdoptMarksByBytes dig) where
   pub run_marks_kept : RunKeepsMarks history honest faults dig
-  run_marks_kept old new [] [] [] disks after b e run sound there honest_now before = cc
-  run_marks_kept old new (x ∷ xs) (c ∷ calls) (a ∷ answers) disks after b e run sound there honest_now before =
+  run_marks_kept old new [] [] [] disks after b e none run sound there honest_now before = cc
+  run_marks_kept old new (x ∷ xs) (c ∷ calls) (a ∷ answers) disks after b e none run sound there honest_now before =
       let mid = device_before history honest faults dig run.0 new xs calls answers run.1 after b.file run.4 there honest_now in
-      let kept = marks_kept history honest faults dig old run.0 x c a disks run.1 b mid.0 run.2 run.3 sound mid.1 mid.2 before in
-      run_marks_kept run.0 new xs calls answers run.1 after b e run.4 (step_sound history honest faults dig marks old run.0 x c a disks run.1 run.2 run.3 sound) there honest_now kept
-  run_marks_kept old new _ _ _ disks after b e run sound there honest_now before = absurd run
+      let kept = marks_kept history honest faults dig old run.0 x c a disks run.1 b mid.0 (first_is x xs none) run.2 run.3 sound mid.1 mid.2 before in
+      run_marks_kept run.0 new xs calls answers run.1 after b e (others_are x xs none) run.4 (step_sound history honest faults dig marks old run.0 x c a disks run.1 run.2 run.3 sound) there honest_now kept
+  run_marks_kept old new _ _ _ disks after b e none run sound there honest_now before = absurd run

@@ -31,7 +31,8 @@ StartsSparse dig = (torrent : Metainfo) (first : EngineState)
 
 abbrev pub StepKeepsSparse : (List ℕ → List ℕ) → Type 0
 StepKeepsSparse dig = (old new : EngineState) (event : Event) (calls : EventCalls) (answer : Answer)
-    → IsLawful old.torrent.piece_length old.torrent.files → Step dig old event calls answer new → AreSparseTrees dig old → AreSparseTrees dig new
+    → IsLawful old.torrent.piece_length old.torrent.files
+    → Step dig old event calls answer new → AreSparseTrees dig old → AreSparseTrees dig new
 
 abbrev pub StepSendsWhatFits : (List ℕ → List ℕ) → Type 0
 StepSendsWhatFits dig = (torrent : Metainfo) (old new : EngineState) (event : Event) (calls : EventCalls)

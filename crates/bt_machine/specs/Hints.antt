@@ -68,8 +68,9 @@ HintsStayRecorded = (hints more : List Hint) (b : BlockId)
     → (is_recorded hints b ≡ true → is_recorded (add_hints hints more) b ≡ true)
     × (is_recorded more b ≡ true → is_recorded (add_hints hints more) b ≡ true)
 
--- Joined hints say the same in the same order, and each longest sequence of marks that follow each other is one
--- run.
+-- Joined hints say the same in the same order, and each longest sequence of marks that follow each other is
+-- one run.
 abbrev pub JoinedRunsAreLongest : Type 0
 JoinedRunsAreLongest = (hints more : List Hint) → AreApart hints → AreApart (add_hints hints more)
-    × (flat_map single_hints (add_hints hints more) ≡ flat_map single_hints hints ++ flat_map single_hints more)
+    × (flat_map single_hints (add_hints hints more)
+    ≡ flat_map single_hints hints ++ flat_map single_hints more)

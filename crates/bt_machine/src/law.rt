@@ -1,4 +1,4 @@
-ghost use Rattle.bt_machine.specs.Law.{StartsRooted, StepKeepsRooted, RunsAreChecked, RightIsChecked, RunMarksByBytes, StepMarksByBytes, RunSendsReadBytes};
+ghost use Rattle.bt_machine.specs.Law.{StartsRooted, StepKeepsRooted, RunsAreChecked, RightIsChecked, RunMarksByBytes, StepMarksByBytes, StartMarksByBytes, RunSendsReadBytes};
 ghost use Rattle.bt_machine.specs.Sound.{StartsSound, StepKeepsSound, HonestDevicesWereSo, CompleteFilesStand};
 ghost use Rattle.bt_machine.specs.Writes.{StepWritesMissing};
 ghost use Rattle.bt_machine.specs.Unmarks.{StepUnmarksByBytes, RunKeepsMarks};
@@ -18,9 +18,9 @@ use bt_sparse::{held_is_checked, keeps_rooted, layers_are_sound, roots_are_sound
 use bt_store::adopt_marks_by_bytes;
 use bt_tree::{NodeHash, heights_are_least, roots_tell_files};
 
-/// What holds of every engine holds of one that begins with a lawful torrent: it has the torrent's shape, its
-/// peers are in order, its trees are rooted and have digests of 32 bytes, and the marked blocks of honest
-/// devices are right, since there are none.
+/// What holds of every engine holds of one that begins with a lawful torrent, with a log or without: it has
+/// the torrent's shape, its peers are in order, its trees are rooted and have digests of 32 bytes, and the
+/// marked blocks of honest devices are right, since each was read, and without a log there are none.
 pub fn starts_keep_laws<D: Disk, H: NodeHash>(hash: H)
     ensures shaped { StartsInShape H.digest }
     ensures orderly { StartsInOrder H.digest }
@@ -30,10 +30,11 @@ pub fn starts_keep_laws<D: Disk, H: NodeHash>(hash: H)
 {
     layers_are_sound(hash);
     roots_are_sound(hash);
+    keeps_rooted(hash);
 }
 
-/// And it goes on to hold over each event, whatever peers send and devices answer. A file keeps its tree, and
-/// a tree the length of its file.
+/// And it goes on to hold over each event, a restart among them, whatever peers send, devices answer and the
+/// log says. A file keeps its tree, and a tree the length of its file.
 pub fn steps_keep_laws<D: Disk, H: NodeHash>(hash: H)
     ensures shaped { StepKeepsShape H.digest }
     ensures files { StepKeepsFiles H.digest }
@@ -42,6 +43,8 @@ pub fn steps_keep_laws<D: Disk, H: NodeHash>(hash: H)
     ensures sparse { StepKeepsSparse H.digest }
     ensures sound { StepKeepsSound D.history D.honest D.faults H.digest }
 {
+    layers_are_sound(hash);
+    roots_are_sound(hash);
     keeps_rooted(hash);
     adopt_marks_by_bytes(hash);
 }
@@ -64,10 +67,10 @@ pub fn right_is_checked<H: NodeHash>(hash: H)
     held_is_checked(hash);
 }
 
-/// Each block that a list of events has marked became so at one of them, in one of three ways: it came from
-/// a peer that was asked for it and was written; it waited, and was read back as its leaf was told or
-/// another file of its tree was taken in; or its file was taken in and it was read. In each its digest is
-/// its leaf, and its bytes are of that event.
+/// Each block that a list of events has marked became so at one of them, in one of four ways: it came from a
+/// peer that was asked for it and was written; it waited, and was read back as its leaf was told or another
+/// file of its tree was taken in; its file was taken in and it was read; or the log records it, and it was
+/// read as all was begun anew. In each its digest is its leaf, and its bytes are of that event.
 pub fn run_marks_by_bytes<H: NodeHash>(hash: H)
     ensures { RunMarksByBytes H.digest }
 {
@@ -80,6 +83,11 @@ pub fn step_marks_by_bytes<H: NodeHash>(hash: H)
 {
     adopt_marks_by_bytes(hash);
 }
+
+/// A block that is marked when an engine is started with a log is recorded in it, and was read then.
+pub fn start_marks_by_bytes<H: NodeHash>()
+    ensures { StartMarksByBytes H.digest }
+{}
 
 /// What an answer of a list of events sends of data was asked for in that answer's own event, and is cut from
 /// blocks that were read in it with the digests of their leaves.
@@ -121,8 +129,8 @@ pub fn flush_keeps_blocks<D: Disk, H: NodeHash>()
 }
 
 /// After any list of events from the start of a torrent, whatever peers send and devices answer: a crash at
-/// any moment after a flush that answered Ok, also within an event, leaves each block right on an honest
-/// device that was marked at the flush.
+/// any moment after a flush that answered Ok and before a restart, also within an event, leaves each block
+/// right on an honest device that was marked at the flush.
 pub fn runs_keep_flushed_blocks<D: Disk, H: NodeHash>(hash: H)
     ensures { RunsKeepFlushedBlocks D.history D.honest D.faults H.digest }
 {
@@ -131,7 +139,7 @@ pub fn runs_keep_flushed_blocks<D: Disk, H: NodeHash>(hash: H)
 }
 
 /// Where marked blocks are right on honest devices: what every image since a moment has of a marked block,
-/// every image goes on to have over a list of events, also those of a crash within one.
+/// every image goes on to have over a list of events without a restart, also those of a crash within one.
 pub fn run_keeps_images<D: Disk, H: NodeHash>(hash: H)
     ensures { RunKeepsImages D.history D.honest D.faults H.digest }
 {
@@ -139,15 +147,16 @@ pub fn run_keeps_images<D: Disk, H: NodeHash>(hash: H)
     adopt_marks_by_bytes(hash);
 }
 
-/// Where marked blocks are right on honest devices, a marked block on one stays marked over a list of events.
+/// Where marked blocks are right on honest devices, a marked block on one stays marked over a list of events
+/// without a restart.
 pub fn run_keeps_marks<D: Disk, H: NodeHash>(hash: H)
     ensures { RunKeepsMarks D.history D.honest D.faults H.digest }
 {
     adopt_marks_by_bytes(hash);
 }
 
-/// Whatever devices do, a marked block ceases to be so in one way only: it was read in this event, and its
-/// device gave other bytes than those of its leaf.
+/// Whatever devices do, and but for a restart, a marked block ceases to be so in one way only: it was read in
+/// this event, and its device gave other bytes than those of its leaf.
 pub fn step_unmarks_by_bytes<H: NodeHash>()
     ensures { StepUnmarksByBytes H.digest }
 {}
@@ -166,7 +175,8 @@ pub fn runs_are_orderly<H: NodeHash>()
 {}
 
 /// After any list of events from the start of a torrent there are its files, each with a state for each block
-/// and, where it has one, the tree of its root, one tree for each root, and no hint for a log.
+/// and, where it has one, the tree of its root, and one tree for each root. A log is there as at the start,
+/// and without one there is no hint.
 pub fn runs_keep_shape<H: NodeHash>()
     ensures { RunsKeepShape H.digest }
 {}

@@ -22,8 +22,9 @@ pub use law::{
     events_send_what_fits, flush_keeps_blocks, honest_devices_were_so, news_is_of_changes,
     proof_keys_are_answered, right_is_checked, run_keeps_images, run_keeps_marks,
     run_marks_by_bytes, run_sends_read_bytes, runs_are_checked, runs_are_orderly, runs_compose,
-    runs_keep_flushed_blocks, runs_keep_shape, starts_keep_laws, step_marks_by_bytes,
-    step_unmarks_by_bytes, step_writes_missing, steps_keep_laws, whole_pieces_are_marked,
+    runs_keep_flushed_blocks, runs_keep_shape, start_marks_by_bytes, starts_keep_laws,
+    step_marks_by_bytes, step_unmarks_by_bytes, step_writes_missing, steps_keep_laws,
+    whole_pieces_are_marked,
 };
 pub use log_law::{
     backed_blocks_are_marked_again, group_proofs_follow, hints_lead_trees, hints_record_marks,
