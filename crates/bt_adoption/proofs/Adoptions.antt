@@ -12,7 +12,7 @@ use Rattle.bt_machine.specs.Settling.{SettlesIn}
 use Rattle.bt_machine.specs.Shape.{IsShaped}
 use Rattle.bt_machine.specs.Adopting.{is_other, nothing_adopted, StepAdopt, no_file, busy, empty, adopts, no_memory}
 use Rattle.bt_state.specs.Parts.{state_of, file_of, peer_of, disks_of}
-use Rattle.bt_state.specs.Ties.{IsTied}
+use Rattle.bt_state.specs.Ties.{IsTied, AreFirstFiles, root_and_length}
 use Rattle.bt_state.specs.declared.slot.Slot.{Slot}
 use Rattle.bt_state.specs.declared.parts.Parts.{Parts}
 use Rattle.bt_state.proofs.BlockChanges.{followed_tied, tied_followed}
@@ -43,7 +43,9 @@ module _ {D H : Type 0} (old : Parts D H) (tied : IsTied old) where
   pub tied_last : (new : Parts D H) → KeepsRest old new → AreInLine new → IsTied new
   tied_last new rest in_line =
       tied_followed old new tied (ap (λ (p : Parts D H). p.torrent) rest.others) (ap (λ (p : Parts D H). map (λ q. q.key) p.peers.items) rest.others)
-      (subst (λ (p : Parts D H). max_peers ≤ vec_capacity p.peers) (sym rest.others) tied.room) rest.peers rest.count in_line.fits in_line.follows
+      (subst (λ (p : Parts D H). max_peers ≤ vec_capacity p.peers) (sym rest.others) tied.room) rest.peers rest.count in_line.fits
+      (subst (λ (p : Parts D H). AreFirstFiles p.torrent.files (map root_and_length new.trees.items) p.first_files.items) (sym rest.others)
+      (rw rest.trees tied.firsts)) in_line.follows
       (ap (λ (p : Parts D H). p.known) rest.others) rest.leaves
 
 -- ---- the answers

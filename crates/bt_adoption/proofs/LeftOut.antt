@@ -9,7 +9,7 @@ use Rattle.bt_machine.specs.Adopting.{AdoptsGroups, StopsAdopting}
 use Rattle.bt_state.specs.Parts.{state_of, disks_of, peer_of}
 use Rattle.bt_state.specs.declared.peer.Peer.{Peer}
 use Rattle.bt_state.specs.declared.parts.Parts.{Parts}
-use Rattle.bt_state.specs.Ties.{LeavesStay}
+use Rattle.bt_state.specs.Ties.{LeavesStay, root_and_length}
 use Rattle.bt_state.proofs.BlockChanges.{followed_alike}
 use Rattle.bt_state.proofs.Leaves.{leaves_alike, leaves_then}
 use Rattle.bt_adoption.specs.RecountSteps.{with_marked_file, Follows, LeavesOut, CountsIn}
@@ -71,7 +71,7 @@ module _ {D H : Type 0} {file : ℕ} {old left : Parts D H} (out : LeavesOut fil
             ∙ ap (λ (p : Parts D H). record p { slots = mid.slots; trees = mid.trees; book = new.book; unmarked = new.unmarked }) out.others
             ∙ sym (ap (λ (p : Parts D H). record old { slots = p.slots; trees = p.trees; book = new.book; unmarked = new.unmarked }) back.others);
         count = through (λ p. length p.slots.items) changes.count refl;
-        trees = through (λ p. length p.trees.items) changes.trees refl;
+        trees = through (λ p. map root_and_length p.trees.items) changes.trees refl;
         blocks = λ tree. through (λ p. blocks_in (state_of p) tree) (changes.blocks tree) refl;
         leaves = leaves_then (state_of old) (state_of left) (state_of new) (leaves_alike (state_of old) (state_of left) (ap (λ (p : Parts D H). p.trees.items) out.others) (ap (λ (p : Parts D H). (state_of p).files) out.others))
             (subst (λ (s : EngineState). LeavesStay (state_of left) s) (sym last) changes.leaves);

@@ -5,6 +5,7 @@ use Rattle.bt_machine.proofs.Lists.{get_some}
 use Rattle.bt_machine.specs.Settling.{SettlesIn}
 use Rattle.bt_machine.specs.Adopting.{is_other}
 use Rattle.bt_state.specs.Parts.{state_of, file_of, disks_of}
+use Rattle.bt_state.specs.Ties.{root_and_length}
 use Rattle.bt_state.specs.declared.parts.Parts.{Parts}
 use Rattle.bt_state.proofs.DeviceCalls.{have_none, have_then}
 use Rattle.bt_state.proofs.Leaves.{leaves_alike, leaves_then}
@@ -17,6 +18,10 @@ use Rattle.bt_adoption.proofs.Settlements.{before, same_meant, settles_none, set
 module _ {D H : Type 0} where
   pub rest_none : (old : Parts D H) → KeepsRest old old
   rest_none old = record { others = refl; count = refl; trees = refl; blocks = λ tree. refl; leaves = leaves_alike (state_of old) (state_of old) refl refl; peers = refl }
+
+  pub as_many_trees : {old new : Parts D H} → KeepsRest old new → length new.trees.items ≡ length old.trees.items
+  as_many_trees {old} {new} rest =
+      sym (length-map new.trees.items root_and_length) ∙ ap (λ xs. length xs) rest.trees ∙ length-map old.trees.items root_and_length
 
   pub rest_then : {old mid new : Parts D H} → KeepsRest old mid → KeepsRest mid new → KeepsRest old new
   rest_then {old} {mid} {new} one two = record {

@@ -16,7 +16,7 @@ use Rattle.bt_state.specs.Parts.{state_of, file_of}
 use Rattle.bt_state.specs.Ties.{FitsFile, StillKnows}
 use Rattle.bt_state.specs.declared.slot.Slot.{Slot}
 use Rattle.bt_state.specs.declared.parts.Parts.{Parts}
-use Rattle.bt_state.proofs.Leaves.{still, leaves_by, one_grown}
+use Rattle.bt_state.proofs.Leaves.{still, leaves_by, one_grown, same_names}
 use Rattle.bt_state.proofs.Lists.{get_mapped, get_read}
 use Rattle.bt_state.proofs.SlotChanges.{file_here, files_changed, have_changed, fits_changed, fits_trees, set_again}
 use Rattle.bt_adoption.specs.GroupsSteps.{all_reads, file_with, AreTaken, TakesGroups, StopsTaking}
@@ -173,7 +173,7 @@ module _ {D H : Type 0} {old : Parts D H} {file : ℕ} {slot : Slot D H} {store 
     both_changed = record {
       others = refl;
       count = length-set old.slots.items file (record slot { store = Some after });
-      trees = length-set old.trees.items slot.tree grown;
+      trees = same_names old.trees.items slot.tree grown at.there kept.still;
       alike = alike (record old { slots = with_item old.slots file (record slot { store = Some after }); trees = with_item old.trees slot.tree grown }) refl;
       blocks = blocks_kept;
       leaves = leaves_by (state_of old)
@@ -206,7 +206,7 @@ module _ {D H : Type 0} {old : Parts D H} {file : ℕ} {slot : Slot D H} {store 
       → AdoptsGroups dig (state_of old) file 0 (map (reads_at file k.file_length) groups) total (state_of (parts_with old file slot after grown))
   taken_in dig after grown groups total taken is =
       rw (files_changed old.slots.items file at.here at.has after, is)
-      (taken (state_of old) file slot.tree (record { none = refl; read = refl; written = refl })
+      (taken (state_of old) file slot.tree refl
       (record { here = file_here old.slots.items file at.here at.has store; has_tree = at.there }))
 
   module _ {history : D → History} {honest : D → Type 0} {faults : D → ℕ} {dig : List ℕ → List ℕ} {after : StoreView D} {grown : Facts} where

@@ -16,7 +16,6 @@ use Rattle.bt_machine.specs.Devices.{DeviceCalls, reads_at}
 use Rattle.bt_machine.specs.Blocks.{with_file, with_tree, new_marked_blocks}
 use Rattle.bt_machine.specs.Next.{with_pending}
 use Rattle.bt_machine.specs.Request.{IsFile}
-use Rattle.bt_machine.specs.Shape.{HasNoLog}
 use Rattle.bt_machine.specs.ProofKeys.{HasAnswer, ProofKeysAreAnswered}
 use Rattle.bt_machine.specs.Adopting.{IsProof, AdoptsGroup, AdoptsGroups, nothing_adopted, adopted_together, unread, read}
 use Rattle.bt_state.specs.Ties.{StillKnows}
@@ -95,7 +94,7 @@ module _ {dig : List ℕ → List ℕ} where
   )
 
   group_in : {k grown : Facts} {from : ℕ} {old new : List BlockState} {reads : List BlockRead} {adopted : Adopted} {s : EngineState} {file tree : ℕ}
-      → ProofKeysAreAnswered dig → HasNoLog s
+      → ProofKeysAreAnswered dig → s.logged ≡ false
       → IsFile s file (file_with tree old) k → from < blocks_of k → Adopts dig k from old reads adopted grown new
       → AdoptsGroup dig s file from (reads_at file k.file_length reads) adopted (with_tree (with_file s file (file_with tree new)) tree grown)
   group_in {k} {grown} {from} {old} {new} {reads} {adopted} {s} {file} {tree} answered no_log is left adopts =
@@ -112,7 +111,7 @@ module _ {dig : List ℕ → List ℕ} where
         adopts = adopts;
         made = refl;
         proves = hints.1;
-        after = sym (pending_by s (with_tree (with_file s file (file_with tree new)) tree grown) hints.0 no_log.none);
+        after = sym (pending_by s (with_tree (with_file s file (file_with tree new)) tree grown) hints.0 no_log);
       }
 
   taken_more : (k : Facts) {mid grown : Facts} (old : List BlockState) {states new : List BlockState} (groups : List (List BlockRead)) {reads : List BlockRead} (total : Adopted) {one : Adopted}
@@ -120,8 +119,7 @@ module _ {dig : List ℕ → List ℕ} where
       → Adopts dig mid total.next states reads one grown new → AreTaken dig k old (groups ++ reads ∷ []) (adopted_together total one) grown new
   taken_more k {mid} {grown} old {states} {new} groups {reads} total {one} answered taken same left adopts = λ s file tree no_log is.
       let before = with_tree (with_file s file (file_with tree states)) tree mid in
-      let unlogged : HasNoLog before = record { none = no_log.none; read = no_log.read; written = no_log.written } in
-      let group = group_in answered unlogged (record { here = set_same s.files file is.here; has_tree = set_same s.trees tree is.has_tree }) left adopts in
+      let group = group_in answered no_log (record { here = set_same s.files file is.here; has_tree = set_same s.trees tree is.has_tree }) left adopts in
       let after : with_tree (with_file before file (file_with tree new)) tree grown ≡ with_tree (with_file s file (file_with tree new)) tree grown =
       ap (λ fs. record s { files = fs; trees = slice_set (slice_set s.trees tree mid) tree grown }) (set-set s.files file (file_with tree states) (file_with tree new))
       ∙ ap (λ ts. record s { files = slice_set s.files file (file_with tree new); trees = ts }) (set-set s.trees tree mid grown) in

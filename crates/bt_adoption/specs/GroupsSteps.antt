@@ -1,5 +1,5 @@
 -- The groups of a file, taken in one after the other by its store.
-use Rattle.std.specs.Prelude.{◌≡◌, ℕ, List, length, map, flat_map}
+use Rattle.std.specs.Prelude.{◌≡◌, ℕ, false, List, length, map, flat_map}
 use Rattle.bt_disk.specs.History.{History}
 use Rattle.bt_disk.specs.Calls.{HasCalls}
 use Rattle.bt_sparse.specs.SparseTree.{Facts}
@@ -11,7 +11,6 @@ use Rattle.bt_machine.specs.State.{FileState, EngineState}
 use Rattle.bt_machine.specs.Devices.{reads_at}
 use Rattle.bt_machine.specs.Blocks.{with_file, with_tree}
 use Rattle.bt_machine.specs.Request.{IsFile}
-use Rattle.bt_machine.specs.Shape.{HasNoLog}
 use Rattle.bt_machine.specs.Adopting.{AdoptsGroups, StopsAt}
 use Rattle.bt_state.specs.Ties.{StillKnows}
 
@@ -26,7 +25,7 @@ file_with tree states = record { tree = tree; states = states }
 -- groups so, from the first block on.
 abbrev pub AreTaken : (List ℕ → List ℕ) → Facts → List BlockState → List (List BlockRead) → Adopted → Facts
     → List BlockState → Type 0
-AreTaken dig k old groups total grown new = (s : EngineState) (file tree : ℕ) → HasNoLog s
+AreTaken dig k old groups total grown new = (s : EngineState) (file tree : ℕ) → s.logged ≡ false
     → IsFile s file (file_with tree old) k
     → AdoptsGroups dig s file 0 (map (reads_at file k.file_length) groups) total
     (with_tree (with_file s file (file_with tree new)) tree grown)

@@ -1,17 +1,16 @@
 -- What holds of the parts of an engine holds after an event.
-use Rattle.std.proofs.Common.{[], ◌≡◌, List, ℕ, Option, Ok, subst, sym}
+use Rattle.std.proofs.Common.{[], ◌≡◌, List, ℕ, Option, refl, subst, sym}
 use Rattle.bt_disk.specs.History.{History}
-use Rattle.bt_meta.specs.Torrent.{Metainfo}
+use Rattle.bt_meta.specs.Torrent.{Metainfo, IsLawful}
 use Rattle.bt_machine.specs.declared.event.Event.{Event}
 use Rattle.bt_machine.specs.declared.event.Answer.{Answer}
-use Rattle.bt_machine.specs.Devices.{HaveCalls}
+use Rattle.bt_machine.specs.Devices.{DeviceCalls, HaveCalls}
+use Rattle.bt_machine.specs.LogCalls.{no_calls, on_devices}
 use Rattle.bt_machine.specs.Frames.{StepKeepsSparse}
 use Rattle.bt_machine.specs.Law.{StepKeepsRooted}
 use Rattle.bt_machine.specs.Orderly.{StepKeepsOrder}
 use Rattle.bt_machine.specs.Shape.{IsShaped, StepKeepsShape}
 use Rattle.bt_machine.specs.Sound.{StepKeepsSound}
-use Rattle.bt_machine.specs.Start.{Starts, AnswersStart, starts, other_count, no_memory}
-use Rattle.bt_machine.specs.State.{EngineView}
 use Rattle.bt_machine.specs.Step.{Step}
 use Rattle.bt_machine.specs.View.{StepsTo}
 use Rattle.bt_state.specs.Parts.{state_of, disks_of}
@@ -23,30 +22,30 @@ use Rattle.bt_engine.specs.Kept.{view_of, IsKept}
 module _ {D H : Type 0} (history : D → History) (honest : D → Type 0) (faults : D → ℕ) (dig : List ℕ → List ℕ)
     (old new : Parts D H) (event : Event) (answer : Answer) where
   -- an event that calls no device
-  pub steps_without : Step dig (state_of old) event [] answer (state_of new) → disks_of new ≡ disks_of old
+  pub steps_without : Step dig (state_of old) event no_calls answer (state_of new) → disks_of new ≡ disks_of old
       → StepsTo history honest faults dig (view_of old) event answer (view_of new)
   steps_without step devices = record {
-    calls = [];
+    calls = no_calls;
     step = step;
     made = subst (λ (ds : List (Option D)). HaveCalls history honest faults (disks_of old) [] ds) (sym devices) (have_none history honest faults (disks_of old));
+    logged = refl;
   }
+
+  -- an event that calls devices alone
+  pub steps_with : (calls : DeviceCalls) → Step dig (state_of old) event (on_devices calls) answer (state_of new)
+      → HaveCalls history honest faults (disks_of old) calls (disks_of new) → StepsTo history honest faults dig (view_of old) event answer (view_of new)
+  steps_with calls step made = record { calls = on_devices calls; step = step; made = made; logged = refl }
 
   pub kept_after : StepKeepsShape dig → StepKeepsOrder dig → StepKeepsSparse dig → StepKeepsRooted dig → StepKeepsSound history honest faults dig
       → IsKept history honest dig old → StepsTo history honest faults dig (view_of old) event answer (view_of new)
       → new.torrent ≡ old.torrent → IsTied new → IsKept history honest dig new
   kept_after shape order sparse rooted sound kept s same tied = record {
+    digest = kept.digest;
+    lawful = subst (λ (t : Metainfo). IsLawful t.piece_length t.files) (sym same) kept.lawful;
     tied = tied;
     shaped = subst (λ (t : Metainfo). IsShaped t (state_of new)) (sym same) (shape old.torrent (state_of old) (state_of new) event s.calls answer kept.shaped s.step);
     orderly = order (state_of old) (state_of new) event s.calls answer s.step kept.orderly;
-    sparse = sparse (state_of old) (state_of new) event s.calls answer s.step kept.sparse;
-    rooted = rooted (state_of old) (state_of new) event s.calls answer s.step kept.rooted;
+    sparse = sparse (state_of old) (state_of new) event s.calls answer kept.lawful s.step kept.sparse;
+    rooted = rooted (state_of old) (state_of new) event s.calls answer kept.lawful s.step kept.rooted;
     sound = sound (state_of old) (state_of new) event s.calls answer (disks_of old) (disks_of new) s.step s.made kept.sound;
   }
-
--- an engine that was started begins as the machine does
-pub begun : {D : Type 0} {dig : List ℕ → List ℕ} {torrent : Metainfo} {given : List D} (engine : EngineView D) → AnswersStart dig torrent given (Ok engine)
-    → Starts dig torrent engine.state
-begun {D = D} {dig = dig} {torrent = torrent} engine (starts other begins devices is) =
-    subst (λ (e : EngineView D). Starts dig torrent e.state) (let same : other ≡ engine = cc in same) begins
-begun engine (other_count refused differ is cause back) = absurd cc
-begun engine (no_memory refused same is cause back) = absurd cc

@@ -1,4 +1,4 @@
-ghost use Rattle.std.specs.Prelude.{◌≡◌, slice_get};
+ghost use Rattle.std.specs.Prelude.{◌≡◌, None, slice_get};
 ghost use Rattle.std.specs.Option.{option_and_then, option_copied};
 ghost use Rattle.sha2.specs.Sha256.{sha256};
 ghost use Rattle.bt_meta.specs.Torrent.{IsLawful};
@@ -8,7 +8,7 @@ ghost use Rattle.bt_machine.specs.Orderly.{IsOrderly};
 ghost use Rattle.bt_machine.specs.Report.{report as file_report, all_complete, peer_count};
 ghost use Rattle.bt_machine.specs.Shape.{IsShaped};
 ghost use Rattle.bt_machine.specs.Sound.{IsSound};
-ghost use Rattle.bt_machine.specs.Start.{AnswersStart};
+ghost use Rattle.bt_machine.specs.Opening.{AnswersStart};
 ghost use Rattle.bt_machine.specs.View.{StepsTo};
 
 use crate::greeting::connect;
@@ -17,9 +17,10 @@ use bt_book::PeerKey;
 use bt_disk::Disk;
 use bt_machine::{
     AdoptError, Answer, ConnectError, EngineError, Event, FileReport, FlushError, Output,
-    StartRefused, starts_keep_laws, steps_keep_laws,
+    RestartError, StartRefused, steps_keep_laws,
 };
 use bt_meta::Torrent;
+use bt_resume::ResumeLog;
 use bt_state::Parts;
 use bt_store::Adopted;
 use bt_tree::NodeHash;
@@ -53,7 +54,7 @@ impl<D: Disk + Drop, H: NodeHash> Model for Engine<D, H> {
 
 impl<D: Disk + Drop, H: NodeHash> Engine<D, H> {
     /// Starts an engine of a torrent over the devices of its files that have a byte, in the torrent's order.
-    /// All blocks are missing, no peer is connected, and no device is called.
+    /// All blocks are missing, no peer is connected, and no device is called. It has no log.
     ///
     /// Errors: there is not one device for each file that has a byte, or out of memory. The devices are given
     /// back.
@@ -62,12 +63,10 @@ impl<D: Disk + Drop, H: NodeHash> Engine<D, H> {
         torrent: Torrent,
         hash: H,
         disks: Vec<D>,
-    ) -> Result<Self, StartRefused<D>>
+    ) -> Result<Self, StartRefused<D, ResumeLog<D>>>
         requires { H.digest ≡ sha256 }
-        ensures { AnswersStart H.digest torrent disks.items result }
+        ensures { AnswersStart D.history D.honest D.faults H.digest torrent disks.items None result }
     {
-        torrent.keeps_laws();
-        starts_keep_laws::<D, H>(hash);
         match bt_start::start(alloc, torrent, hash, disks) {
             Ok(parts) => Ok(Engine { alloc, parts, hash }),
             Err(refused) => Err(refused),
@@ -150,6 +149,17 @@ impl<D: Disk + Drop, H: NodeHash> Engine<D, H> {
         bt_upkeep::flush(&mut self.parts)
     }
 
+    /// Begins all anew: each tree is what the torrent says of it, all blocks are missing, and no peer is
+    /// connected. No device is called, and keys go on. Errors: out of memory; nothing changed then.
+    pub fn restart(&mut self) -> Result<(), RestartError>
+        ensures step { StepsTo D.history D.honest D.faults H.digest
+            self.old Event.Restart (Answer.Restarted result) self.new }
+        ensures devices { self.new.disks ≡ self.old.disks }
+    {
+        steps_keep_laws::<D, H>(self.hash);
+        bt_restart::restart(self.alloc, self.hash, &mut self.parts)
+    }
+
     /// The digest of its trees. A law of digests is called with it.
     pub fn hash(&self) -> H {
         self.hash
@@ -201,6 +211,7 @@ impl<D: Disk + Drop, H: NodeHash> Engine<D, H> {
         ensures sparse { AreSparseTrees H.digest self.now.state }
         ensures sound { IsSound D.history D.honest H.digest self.now.state self.now.disks }
     {
-        self.parts.torrent.keeps_laws();
+        // A proof knows what holds of an engine only from a step that looks at its parts.
+        let _ = &self.parts;
     }
 }

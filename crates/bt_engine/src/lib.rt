@@ -13,8 +13,9 @@ mod run;
 pub use bt_book::PeerKey;
 pub use bt_machine::{
     AdoptError, Answer, ConnectError, EngineError, Event, FileReport, FlushError, Frame, Note,
-    Output, StartError, StartRefused, Why,
+    Output, RestartError, StartError, StartRefused, Why,
 };
+pub use bt_resume::ResumeLog;
 pub use bt_store::Adopted;
 pub use engine::Engine;
 pub use run::run_events;

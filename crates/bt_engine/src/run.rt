@@ -41,5 +41,6 @@ fn run_event<D: Disk + Drop, H: NodeHash>(engine: &mut Engine<D, H>, event: &Eve
         Event::Rechoke => Answer::Rechoked(engine.rechoke()),
         Event::Adopt(file) => Answer::Adopted(engine.adopt(*file)),
         Event::Flush => Answer::Flushed(engine.flush()),
+        Event::Restart => Answer::Restarted(engine.restart()),
     }
 }

@@ -1,6 +1,6 @@
 -- What is begun anew, and which events do so.
-use Rattle.bt_machine.proofs.Base.{[], ◌≡◌, ◌≢◌, ℕ, zero, suc, ◌+◌, ◌<◌, ◌⊎◌, inl, inr, true, false, List, ◌∷◌, length, map, replicate, Some, refl, sym, ap, ◌∙◌, subst, arith, slice_get, slice_set, Contains, ◌&&◌, is_some, range_with_len, length-set, value_at, Facts, HashKey, given, call_of, judged, Accepts, Missing, Marked, BlockId}
-use Rattle.bt_machine.proofs.Machine.{Digest, Connect, Feed, Next, Lost, Rechoke, Adopt, Flush, Restart, Event, FileState, EngineState, DeviceCalls, state_at, tree_of, IsRecovered}
+use Rattle.bt_machine.proofs.Base.{[], ◌≡◌, ◌≢◌, ℕ, zero, suc, ◌<◌, ◌⊎◌, inl, inr, false, List, ◌∷◌, length, replicate, Some, refl, sym, ap, ◌∙◌, subst, arith, slice_get, Contains, ◌&&◌, is_some, range_with_len, length-set, value_at, Facts, HashKey, call_of, judged, Accepts, Missing, Marked, BlockId}
+use Rattle.bt_machine.proofs.Machine.{Digest, Connect, Feed, Next, Lost, Rechoke, Adopt, Flush, Restart, Event, FileState, EngineState, DeviceCalls, state_at, IsRecovered}
 use Rattle.bt_resume.specs.declared.hint.Hint.{Hint}
 use Rattle.bt_resume.specs.declared.hint.Hint.TheVariants.{Proof, Marks}
 use Rattle.bt_machine.specs.Blocks.{block_id}

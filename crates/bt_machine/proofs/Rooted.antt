@@ -1,5 +1,5 @@
 -- Trees stay rooted, and with digests of 32 bytes.
-use Rattle.bt_machine.proofs.Base.{[], ◌≡◌, ◌-◌, arith, inl, inr, ◌∷◌, sym, ◌<◌, ◌∙◌, blocks_of, height, IsRooted, IsChecked, KeepsRooted, LayersAreSound, RootsAreSound, Metainfo, IsLawful, HeldIsChecked, value_covers, value_inside, CoversBlock, real_width, IsRight, PeerMessage as Sent, Have, Bitfield, Request, Piece, Hashes, HashReject, Message, ℕ, List, Some, slice_get, Facts, HashKey, Claim, Accepts, BlockState, BlockRead, Adopted, IsDigest}
+use Rattle.bt_machine.proofs.Base.{[], ◌≡◌, arith, inl, inr, ◌∷◌, sym, ◌<◌, ◌∙◌, blocks_of, IsRooted, IsChecked, KeepsRooted, LayersAreSound, RootsAreSound, Metainfo, IsLawful, HeldIsChecked, value_covers, value_inside, CoversBlock, real_width, IsRight, PeerMessage as Sent, Have, Bitfield, Request, Piece, Hashes, HashReject, Message, ℕ, List, Some, slice_get, Facts, HashKey, Claim, Accepts, BlockState, BlockRead, Adopted, IsDigest}
 use Rattle.bt_machine.proofs.Machine.{Digest, Connect, Feed, Next, Lost, Rechoke, Adopt, Flush, Restart, with_tree, FindsFault, damaged, fault, HandlesRequest, ignored, no_place, not_marked, served, stopped, HandlesPiece, stale, arrives, HandlesHashes, unknown_root, no_claim, refused, accepts_hashes, HandlesHave, in_range, out_of_range, HandlesBitfield, right, wrong, HandlesMessage, Handles, StepNext, no_peer, waits, keeps_peer, closes, faulty, no_memory, StepConnect, joins, full, spent, no_room, StepFeed, feeds, not_fed, no_room as no_room_to_feed, StepLost, goes, not_fed as not_lost, FollowsEach, StepRechoke, rechokes, not_rechoked, AdoptsGroup, AdoptsGroups, StepAdopt, no_file, busy, empty, adopts, not_adopted, StepFlush, syncs, writes, fails, unwritten, unflushed, Begins, bare, with_log, IsTorrentTree, Recovers, Run, AreRooted, StepKeepsRooted, AreChecked, EngineState, Event, Answer, EventCalls, Step}
 use Rattle.bt_machine.proofs.Lists.{set_cases}
 use Rattle.bt_sparse.specs.SparseTree.{IsSound}

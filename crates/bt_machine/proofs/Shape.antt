@@ -1,12 +1,10 @@
 -- What stays over all events.
-use Rattle.bt_machine.proofs.Base.{[], ◌≡◌, ◌≢◌, ℕ, zero, suc, ◌+◌, ◌<◌, inl, inr, Bool, true, false, List, ◌∷◌, ◌++◌, length, map, get_or, Some, refl, sym, ap, ◌∙◌, arith, slice_get, slice_set, option_map, if◌then◌else◌, Result, Ok, AllPairs, length-set, length-map, length-replicate, append-nil, get_or-map, block_count, subst, Facts, given, failed, judged, Adopts, known, accepted, states_after_put, Missing, Waiting, Marked, StoreError, Put, PutMarked, PutWaiting, PeerMessage as Sent, KeepAlive, Have, Bitfield, Request, Piece, Cancel, HashRequest, Hashes, HashReject, Message}
+use Rattle.bt_machine.proofs.Base.{[], ◌≡◌, ◌≢◌, ℕ, zero, suc, ◌+◌, ◌<◌, inl, inr, Bool, true, false, List, ◌∷◌, ◌++◌, length, map, get_or, Some, refl, sym, ap, ◌∙◌, arith, slice_get, slice_set, option_map, if◌then◌else◌, Result, Ok, AllPairs, length-set, length-map, length-replicate, get_or-map, block_count, subst, Facts, given, failed, judged, Adopts, known, accepted, states_after_put, Missing, Waiting, Marked, StoreError, Put, PutMarked, PutWaiting, PeerMessage as Sent, KeepAlive, Have, Bitfield, Request, Piece, Cancel, HashRequest, Hashes, HashReject, Message}
 use Rattle.bt_machine.proofs.Machine.{Digest, Connect, Feed, Next, Lost, Rechoke, Adopt, Flush, Restart, FileState, EngineState, mark_of, add_hints, with_file, with_tree, with_peer, new_marked_blocks, FindsFault, damaged, fault, HandlesRequest, ignored, no_place, not_marked, served, stopped, HandlesPiece, stale, arrives, judged_file, SettlesIn, HandlesHashes, unknown_root, no_claim, refused, accepts_hashes, HandlesHave, in_range, out_of_range, HandlesBitfield, right, wrong, HandlesMessage, Handles, FollowsUp, without_peer, with_pending, TakesEvent, StepNext, no_peer, waits, keeps_peer, closes, faulty, no_memory, StepConnect, joins, full, spent, no_room, StepFeed, feeds, not_fed, no_room as no_room_to_feed, StepLost, goes, not_fed as not_lost, FollowsEach, StepRechoke, rechokes, not_rechoked, AdoptsGroup, AdoptsGroups, StepAdopt, no_file, busy, empty, adopts, not_adopted, StepFlush, syncs, writes, fails, unwritten, unflushed, Begins, bare, with_log, Recovers, Step, Run, IsShaped, HasShapeOf, RunsKeepShape}
 use Rattle.std.proofs.lemmas.Option.{slice_get-map}
 use Rattle.bt_store.specs.Adoption.{marked_group}
-use Rattle.bt_resume.specs.declared.hint.Hint.{Hint}
 use Rattle.bt_machine.specs.Shape.{StepKeepsFiles, HasHintsOfLog, HasOldTree, HasNewTree}
 use Rattle.bt_machine.specs.Recovery.{RestoresFile, empty as no_block, restored, RestoresFiles}
-use Rattle.bt_machine.specs.Restart.{KeepsPlaces}
 use Rattle.bt_machine.proofs.Lists.{set_get, set_cases, map_some, same_some, get_map}
 use Rattle.bt_machine.proofs.Adopting.{group_extends}
 use Rattle.bt_machine.proofs.Restarts.{restart_or, IsRestart, anew, as_before, restart_is, hints_root, hints_length, begun}

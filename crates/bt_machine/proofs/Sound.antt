@@ -1,6 +1,6 @@
 -- Marked blocks stay right on honest devices.
 use Rattle.bt_machine.proofs.Base.{[], ◌≡◌, ◌≢◌, ℕ, suc, ◌*◌, ◌<◌, ◌⊎◌, inl, inr, Bool, true, false, List, ◌∷◌, length, take, drop, replicate, Option, Some, refl, sym, ap, ◌∙◌, subst, slice_get, Contains, ◌==◌, option_and_then, eqb-true, eq-eqb, full_block_length, block_count, block_length, History, after_write, Call, bytes_given, bytes_written, write_fault, length_set, resize_fault, sync_made, AreAnswered, AfterWriteFault, Facts, value_at, given, call_of, IsRight, Missing, Marked, BlockId, AdoptMarksByBytes}
-use Rattle.bt_machine.proofs.Machine.{Digest, Event, Flush, Restart, FileState, EngineState, DeviceCalls, calls_of, block_id, state_at, tree_of, stored_block, AreRight, BeginsOn, bare_on, with_log_on, Recovers, Step, IsMarkedBy, brought, read_back, found, recovered, IsSound, StepKeepsSound, RunOn, CompleteFilesStand, KeepsBytes, AllKeepBytes}
+use Rattle.bt_machine.proofs.Machine.{Digest, Event, Flush, Restart, FileState, EngineState, DeviceCalls, calls_of, block_id, state_at, tree_of, stored_block, AreRight, bare_on, with_log_on, Recovers, Step, IsMarkedBy, brought, read_back, found, recovered, IsSound, StepKeepsSound, RunOn, CompleteFilesStand, KeepsBytes, AllKeepBytes}
 use Rattle.bt_disk.specs.Calls.{IsAnswered}
 use Rattle.bt_machine.specs.Devices.{HaveCalls}
 use Rattle.bt_machine.specs.Sound.{StartsSound}

@@ -27,7 +27,7 @@ pub use law::{
     whole_pieces_are_marked,
 };
 pub use log_law::{
-    backed_blocks_are_marked_again, group_proofs_follow, hints_lead_trees, hints_record_marks,
-    logs_stand,
+    backed_blocks_are_marked_again, flushed_blocks_are_marked_again, group_proofs_follow,
+    hints_lead_trees, hints_record_marks, logs_back_engines, logs_stand,
 };
 pub use report::FileReport;

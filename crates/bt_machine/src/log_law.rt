@@ -1,11 +1,14 @@
 //! What follows for logs: what hints say of trees and marks, and that what a flush has written is enough to
 //! begin anew with. The functions do nothing when they run.
 ghost use Rattle.bt_machine.specs.Hints.{HintsStayRecorded, JoinedRunsAreLongest};
-ghost use Rattle.bt_machine.specs.Backing.{SameTreesTakeSame, HintsAreSplit, JoiningKeepsTrees, HintsForgetNothing, AcceptedProofsFollow, ClaimsThatAddNothing, PendingKeepsBacking, TorrentTreesAreOne, RecoveredIsBacked, GroupProofsFollow, OtherRootsStay};
-ghost use Rattle.bt_machine.specs.Reopening.{BackedBlocksAreMarkedAgain, StepKeepsLog, FlushKeepsHints};
+ghost use Rattle.bt_machine.specs.Backing.{SameTreesTakeSame, HintsAreSplit, JoiningKeepsTrees, HintsForgetNothing, AcceptedProofsFollow, ClaimsThatAddNothing, PendingKeepsBacking, TorrentTreesAreOne, RecoveredIsBacked, GroupProofsFollow, OtherRootsStay, StartIsBacked, StepKeepsBacking, RunsAreBacked};
+ghost use Rattle.bt_machine.specs.Reopening.{BackedBlocksAreMarkedAgain, StepKeepsLog, FlushKeepsHints, FlushedLogsAreKept, FlushedBlocksAreMarkedAgain};
 
+use crate::law::{
+    runs_compose, runs_keep_flushed_blocks, runs_keep_shape, starts_keep_laws, steps_keep_laws,
+};
 use bt_disk::Disk;
-use bt_resume::{kept_hints_stand, logs_hold_hints};
+use bt_resume::{hints_are_read_back, kept_devices_open, kept_hints_stand, logs_hold_hints};
 use bt_sparse::{answers_agree, answers_are_taken, keeps_rooted};
 use bt_tree::{NodeHash, heights_are_least};
 
@@ -51,4 +54,39 @@ pub fn group_proofs_follow<H: NodeHash>(hash: H)
     keeps_rooted(hash);
     answers_agree(hash);
     answers_are_taken(hash);
+}
+
+/// A log that was opened for an engine backs it from its start on: with what is pending, it has each mark, and
+/// leads a torrent's trees to what the engine's know. Every event keeps it so, but for a restart that ran out
+/// of memory, until one is accepted. From a flush that answered Ok on, what the log held then is in whatever a
+/// stop leaves of it.
+pub fn logs_back_engines<D: Disk, H: NodeHash>(hash: H)
+    ensures starts { StartIsBacked D.history D.honest D.faults H.digest }
+    ensures steps { StepKeepsBacking D.history D.honest D.faults H.digest }
+    ensures runs { RunsAreBacked D.history D.honest D.faults H.digest }
+    ensures flushed { FlushedLogsAreKept D.history D.honest D.faults H.digest }
+{
+    logs_hold_hints::<D>();
+    kept_hints_stand::<D>();
+    kept_devices_open::<D>();
+    group_proofs_follow(hash);
+    keeps_rooted(hash);
+    starts_keep_laws::<D, H>(hash);
+    steps_keep_laws::<D, H>(hash);
+}
+
+/// Once a flush answered Ok on an engine with a log, a stop at any later moment, also within an event, leaves
+/// enough: all blocks that were marked at the flush are marked where the devices and the log are opened again
+/// and no read fails.
+pub fn flushed_blocks_are_marked_again<D: Disk, H: NodeHash>(hash: H)
+    ensures { FlushedBlocksAreMarkedAgain D.history D.honest D.faults H.digest }
+{
+    logs_back_engines::<D, H>(hash);
+    runs_keep_flushed_blocks::<D, H>(hash);
+    runs_keep_shape::<H>();
+    runs_compose::<D, H>();
+    kept_devices_open::<D>();
+    kept_hints_stand::<D>();
+    logs_hold_hints::<D>();
+    hints_are_read_back();
 }

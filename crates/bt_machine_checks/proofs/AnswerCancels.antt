@@ -1,7 +1,7 @@
 -- Who is sent a cancel of a block that comes.
-use Rattle.bt_machine_checks.proofs.Base.{[], ◌≡◌, ◌≢◌, ℕ, ◌⊎◌, inl, inr, ◌↔◌, Bool, true, false, not, List, ◌∷◌, ◌++◌, length, map, filter, Option, Some, None, Result, Ok, Err, refl, sym, ap, ◌∙◌, subst, slice_get, slice_set, Contains, ◌&&◌, ◌==◌, Contains-append_cases, PeerKey, BlockId, Ask, Stream, Message, Piece, Cancel, Have, Range, DeviceFault, StoreError, Put, Already, Wrong, PutMarked, PutWaiting}
+use Rattle.bt_machine_checks.proofs.Base.{[], ◌≡◌, ◌≢◌, ℕ, ◌⊎◌, inl, inr, Bool, true, false, not, List, ◌++◌, length, map, filter, Some, None, Result, Ok, Err, refl, sym, ap, ◌∙◌, subst, slice_get, slice_set, Contains, ◌&&◌, ◌==◌, Contains-append_cases, PeerKey, BlockId, Ask, Stream, Message, Piece, Cancel, Have, Range, DeviceFault, StoreError, Put, Already, Wrong, PutMarked, PutWaiting}
 use Rattle.std.proofs.lemmas.Bool.{ne_eqb, eq-eqb, true≢false}
-use Rattle.bt_machine_checks.proofs.Machine.{Digest, Frame, message_frame, Note, NowMarked, Device, Complete, PeerState, EngineState, DeviceCalls, with_peer, new_complete_files, IsRangeOf, Sent, Output, Effect, sent_to, haves, HasPutEffect, Arrives, HandlesPiece, stale, arrives, KeepsPeer, Closes, Answer, Stepped, sent_by, NotedBy, output_of, IsOnlyPeer}
+use Rattle.bt_machine_checks.proofs.Machine.{Digest, Frame, message_frame, Note, NowMarked, Complete, PeerState, EngineState, DeviceCalls, with_peer, new_complete_files, IsRangeOf, Sent, Output, Effect, sent_to, haves, HasPutEffect, HandlesPiece, stale, arrives, KeepsPeer, Closes, Answer, Stepped, sent_by, NotedBy, output_of, IsOnlyPeer}
 use Rattle.bt_machine.specs.Arrival.{cancels}
 use Rattle.bt_machine.specs.Blocks.{is_asked}
 use Rattle.bt_machine.specs.declared.answer.Note.TheVariants.{Waiting as NowWaiting}
@@ -190,6 +190,6 @@ pub next_cancels : (dig : Digest) → RangeIsPlace → NextCancelsStoredBlock di
 next_cancels dig law s new key i p calls a piece begin bytes rest b lawful one takes whole asked step other ask =
     let tell = ranges_tell law s.torrent lawful.piece lawful.laid_out in
     let taken = step_taken dig new calls one takes step in (
-      to dig s new key i p calls a piece begin bytes rest b one whole asked tell other ask taken,
-      from dig s new key i p calls a piece begin bytes rest b one whole asked tell other ask taken,
+      to dig s new key i p calls.devices a piece begin bytes rest b one whole asked tell other ask taken,
+      from dig s new key i p calls.devices a piece begin bytes rest b one whole asked tell other ask taken,
     )

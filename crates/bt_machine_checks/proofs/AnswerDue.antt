@@ -1,6 +1,6 @@
 -- What a message must lead to: the event that stands first is the one that is taken.
 use Rattle.bt_machine_checks.proofs.Base.{[], ◌≡◌, ℕ, ◌⊎◌, inl, inr, List, ◌++◌, Some, Ok, ap, ◌∙◌, Contains, Contains-append_left, PeerKey, HashKey, Stream, Takes, Waits, WireEvent, Message, HashRequest, same_event, fault_alone}
-use Rattle.bt_machine_checks.proofs.Machine.{Digest, Next, PeerState, EngineState, DeviceCalls, with_peer, Output, Effect, haves, IsAnswered, HandlesHashRequest, answered, rejected, Handles, IsPeer, KeepsPeer, Closes, ShowsFault, StepNext, no_peer, waits, keeps_peer, closes, faulty, no_memory, Answer, Stepped, Step, sent_by, IsOnlyPeer, AnswersHashes, unknown, NextAnswersHashRequest}
+use Rattle.bt_machine_checks.proofs.Machine.{Digest, Next, PeerState, EngineState, DeviceCalls, EventCalls, with_peer, Output, Effect, haves, IsAnswered, HandlesHashRequest, answered, rejected, Handles, IsPeer, KeepsPeer, Closes, ShowsFault, StepNext, no_peer, waits, keeps_peer, closes, faulty, no_memory, Answer, Stepped, Step, sent_by, IsOnlyPeer, AnswersHashes, unknown, NextAnswersHashRequest}
 use Rattle.bt_machine_checks.specs.AnswerDue.{NextLacksMemory, known}
 use Rattle.bt_machine.proofs.Lists.{here}
 
@@ -54,8 +54,9 @@ module _ (dig : Digest) {s : EngineState} (new : EngineState) {key : PeerKey} {i
       absurd (fault_alone p.stream.greeted p.stream.unread h.fault h.fails.shown e takes.bytes rest.unread takes.event takes.front)
   next_taken (no_memory j q is g y) = no_room (cc)
 
-  pub step_taken : {a : _} → Step dig s (Next key) calls a new → Taken dig s i p e rest calls a new
-  step_taken t = rw t.1 (next_taken t.2)
+pub step_taken : (dig : Digest) {s : EngineState} (new : EngineState) {key : PeerKey} {i : ℕ} {p : PeerState} (calls : EventCalls) {e : WireEvent} {rest : Stream}
+    → IsOnlyPeer s key i p → Takes p.stream e rest → {a : Answer} → Step dig s (Next key) calls a new → Taken dig s i p e rest calls.devices a new
+step_taken dig new calls one takes t = rw t.1 (next_taken dig new calls.devices one takes t.3)
 
 -- what the event itself sends is sent
 pub sent_with : {dig s new i p calls out a : _} (g : KeepsPeer dig s i p calls out new) → a ≡ Stepped (Ok (Some out))
@@ -92,4 +93,4 @@ module _ (dig : Digest) {s : EngineState} (new : EngineState) {key : PeerKey} {i
   hashes_answered (shuts out g h is) = not_shut g h.1
 
 pub next_answers : (dig : Digest) → NextAnswersHashRequest dig
-next_answers dig s new key i p calls a asked rest one takes t = hashes_answered dig new calls asked rest one a (step_taken dig new calls one takes t)
+next_answers dig s new key i p calls a asked rest one takes t = hashes_answered dig new calls.devices asked rest one a (step_taken dig new calls one takes t)

@@ -1,6 +1,8 @@
 -- Haves and completed files are told exactly where pieces became whole and files complete.
 use Rattle.bt_machine_checks.proofs.Base.{[], ◌≡◌, ℕ, zero, suc, ◌+◌, ◌<◌, ◌⊎◌, inl, inr, ◌↔◌, Bool, true, false, ◌∷◌, ◌++◌, length, map, Some, None, Ok, refl, sym, ap, ◌∙◌, subst, arith, slice_get, Contains, not, ◌&&◌, range_with_len, Contains-append_left, Contains-append_right, Contains-append_cases, total_pieces, Adopted, PeerKey, Have}
-use Rattle.bt_machine_checks.proofs.Machine.{Digest, Frame, message_frame, Complete, Connect, Feed, Next, Lost, Rechoke, Adopt, Flush, PeerState, EngineState, DeviceCalls, with_peer, is_whole, is_complete, has_become, new_whole_pieces, new_complete_files, piece_numbers, file_numbers, Output, sent_to, haves, IsPeer, KeepsPeer, StepNext, no_peer, waits, keeps_peer, closes, faulty, no_memory, StepConnect, joins, full, spent, no_room, StepFeed, feeds, not_fed, no_room as no_room_to_feed, StepLost, goes, not_fed as not_lost, FollowsEach, StepRechoke, rechokes, not_rechoked, rechoked, AdoptsGroups, AdoptsFile, StepAdopt, no_file, busy, empty, adopts, not_adopted as adopt_memory, StepFlush, syncs, fails, Answer, Connected, Fed, Stepped, LostAnswer, Rechoked, AdoptedAnswer, Flushed, Step, sent_by, output_of, IsConnected, BecomesSo, NotedBy, StepAnnouncesWholePieces, NextNotesCompleteFiles}
+use Rattle.bt_machine_checks.proofs.Machine.{Digest, Frame, message_frame, Complete, Connect, Feed, Next, Lost, Rechoke, Adopt, Flush, Restart, Restarted, PeerState, EngineState, DeviceCalls, with_peer, is_whole, is_complete, has_become, new_whole_pieces, new_complete_files, piece_numbers, file_numbers, Output, sent_to, haves, IsPeer, KeepsPeer, StepNext, no_peer, waits, keeps_peer, closes, faulty, no_memory, StepConnect, joins, full, spent, no_room, StepFeed, feeds, not_fed, no_room as no_room_to_feed, StepLost, goes, not_fed as not_lost, FollowsEach, StepRechoke, rechokes, not_rechoked, rechoked, AdoptsGroups, AdoptsFile, StepAdopt, no_file, busy, empty, adopts, not_adopted as adopt_memory, StepFlush, syncs, writes, fails, unwritten, unflushed, Answer, Connected, Fed, Stepped, LostAnswer, Rechoked, AdoptedAnswer, Flushed, Step, sent_by, output_of, IsConnected, BecomesSo, NotedBy, StepAnnouncesWholePieces, NextNotesCompleteFiles}
+use Rattle.bt_machine.specs.Restart.{StepRestart, restarts, unread, no_memory as no_room_again}
+use Rattle.bt_machine.proofs.Restarts.{recovered}
 use Rattle.bt_machine.proofs.Lists.{filter_contains, contains_none, contains_cases, contains_map, contains_flat_map, contains_filter, map_contains, flat_map_contains, range_contains, and_true, set_cases, set_same}
 use Rattle.bt_machine_checks.proofs.AnswerParts.{greets, replies, announces, NoComplete, Leaves, event_leaves}
 use Rattle.bt_machine.proofs.Pairs.{contains_some, some_at}
@@ -83,7 +85,15 @@ module _ (dig : Digest) (s new : EngineState) where
 
   flush_keeps : {calls r : _} → StepFlush s calls r new → Keeps dig s (Flushed r) new
   flush_keeps (syncs x y e z) = same_state (ap (λ x. Flushed x) e) refl z
-  flush_keeps (fails before file after none x y e z) = same_state (ap (λ x. Flushed x) e) refl z
+  flush_keeps (writes x y e z) = like_state (ap (λ x. Flushed x) e) refl refl refl z
+  flush_keeps (fails before file after x y e z) = same_state (ap (λ x. Flushed x) e) refl z
+  flush_keeps (unwritten before hint after cause x y w e z) = same_state (ap (λ x. Flushed x) e) refl z
+  flush_keeps (unflushed x y e z) = same_state (ap (λ x. Flushed x) e) refl z
+
+  restart_keeps : {calls r : _} → StepRestart dig s calls r new → Keeps dig s (Restarted r) new ⊎ (new.peers ≡ [])
+  restart_keeps (restarts hints reads recovers places e) = inr (ap (λ x. x.peers) (recovered dig recovers).is)
+  restart_keeps (unread cause logged made e z) = inl (same_state (ap (λ x. Restarted x) e) refl z)
+  restart_keeps (no_room_again hints reads made e z) = inl (like_state (ap (λ x. Restarted x) e) refl refl refl z)
 
 each_keeps : (dig : Digest) (places s new sent : _) → FollowsEach dig places s sent new → (new.files ≡ s.files) × (new.torrent ≡ s.torrent)
 each_keeps dig [] s new sent f = (ap (λ x. x.files) f.1, ap (λ x. x.torrent) f.1)
@@ -121,11 +131,12 @@ adopt_keeps {dig} {s} {new} {file} (adopt_memory alone f e) = inr (groups_peers 
 step_keeps : {dig s new : _} (e calls : _) {a : _} → Step dig s e calls a new → Keeps dig s a new ⊎ (new.peers ≡ [])
 step_keeps {dig} {s} {new} Connect calls t = inl (keeps_as t.1 (connect_keeps dig s new t.3))
 step_keeps {dig} {s} {new} (Feed key bytes) calls t = inl (keeps_as t.1 (feed_keeps dig s new t.3))
-step_keeps {dig} {s} {new} (Next key) calls t = inl (keeps_as t.1 (next_keeps dig s new t.2))
+step_keeps {dig} {s} {new} (Next key) calls t = inl (keeps_as t.1 (next_keeps dig s new t.3))
 step_keeps {dig} {s} {new} (Lost key) calls t = inl (keeps_as t.1 (lost_keeps dig s new t.3))
 step_keeps Rechoke calls t = inl (keeps_as t.1 (rechoke_keeps t.3))
-step_keeps (Adopt file) calls t = elim (adopt_keeps t.2) [ inl kept ↦ inl (keeps_as t.1 kept) | inr alone ↦ inr alone ]
+step_keeps (Adopt file) calls t = elim (adopt_keeps t.3) [ inl kept ↦ inl (keeps_as t.1 kept) | inr alone ↦ inr alone ]
 step_keeps {dig} {s} {new} Flush calls t = inl (keeps_as t.1 (flush_keeps dig s new t.2))
+step_keeps {dig} {s} {new} Restart calls t = elim (restart_keeps dig s new t.2) [ inl kept ↦ inl (keeps_as t.1 kept) | inr alone ↦ inr alone ]
 
 -- ---- where a peer goes on
 
@@ -260,4 +271,4 @@ module _ (dig : Digest) where
   )
 
   pub next_notes : NextNotesCompleteFiles dig
-  next_notes s new key calls a t file = complete_cases (keeps_as t.1 (next_keeps dig s new t.2))
+  next_notes s new key calls a t file = complete_cases (keeps_as t.1 (next_keeps dig s new t.3))

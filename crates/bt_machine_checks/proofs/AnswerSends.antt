@@ -272,7 +272,7 @@ module _ (dig : Digest) where
 
   pub step_sent : (s new e calls a : _) → Step dig s e calls a new → Sent_by s new (sent_by a)
   step_sent s new Connect calls a t = sent_is s new (ap sent_by t.1) (connect_sent t.3)
-  step_sent s new (Next key) calls a t = sent_is s new (ap sent_by t.1) (next_sent t.2)
+  step_sent s new (Next key) calls a t = sent_is s new (ap sent_by t.1) (next_sent t.3)
   step_sent s new Rechoke calls a t = sent_is s new (ap sent_by t.1) (rechoke_sent t.3)
   step_sent s new event calls a t = nothing_sent s new t.1 refl
 

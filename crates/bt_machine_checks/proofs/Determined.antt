@@ -1,6 +1,6 @@
 -- What is left to an engine.
 use Rattle.bt_machine_checks.proofs.Base.{[], ◌≡◌, ◌≢◌, ℕ, suc, inl, inr, List, ◌∷◌, length, refl, sym, ap, ◌∙◌, arith, map, ⊤, cases_lt, block_count, Metainfo, blocks_of}
-use Rattle.bt_machine_checks.proofs.Machine.{Digest, Connect, Feed, Next, Lost, Rechoke, Adopt, Flush, EngineState, IsFile, Answer, Connected, Fed, Stepped, Rechoked, AdoptedAnswer, Step, Run, IsOrderly, IsShaped, sent_by, IsOutOfMemory, IsReached, StepIsDetermined, block_requests, StepIsForced, HaveMemory, RunsAreDetermined}
+use Rattle.bt_machine_checks.proofs.Machine.{Digest, Connect, Feed, Next, Lost, Rechoke, Adopt, Flush, Restart, Restarted, EngineState, IsFile, Answer, Connected, Fed, Stepped, Rechoked, AdoptedAnswer, Step, Run, IsOrderly, IsShaped, sent_by, IsOutOfMemory, IsReached, StepIsDetermined, block_requests, StepIsForced, HaveMemory, RunsAreDetermined}
 use Rattle.bt_machine.proofs.Lists.{heads, tails, get_some, same_some, some_below}
 use Rattle.bt_meta.specs.Law.{RangeIsPlace}
 use Rattle.bt_machine.proofs.Orderly.{order_kept, order_of_runs}
@@ -10,6 +10,7 @@ use Rattle.bt_machine_checks.proofs.DeterminedAsks.{SameAsks, by_requests, by_no
 use Rattle.bt_machine_checks.proofs.DeterminedNext.{next_one}
 use Rattle.bt_machine_checks.proofs.DeterminedPeers.{connect_one, feed_one, lost_one, rechoke_one, flush_one}
 use Rattle.bt_machine_checks.proofs.DeterminedAdopt.{adopt_one}
+use Rattle.bt_machine_checks.proofs.DeterminedRestart.{restart_one}
 
 nil_of : {X : Type 0} (xs : List X) → length xs ≡ 0 → xs ≡ []
 nil_of [] e = refl
@@ -51,16 +52,18 @@ module _ (dig : Digest) where
   step_one (Feed key bytes) calls tell shaped o x y memory room =
       answers x.1 y.1 (feed_one o x.3 y.3 (λ e. remembers (x.1 ∙ ap Fed e) tt memory) (λ e. remembers (y.1 ∙ ap Fed e) tt room))
   step_one (Next key) calls tell shaped o x y memory room =
-      answers x.1 y.1 (next_one dig key calls (tells shaped tell) shaped.roots o x.2 y.2
+      answers x.1 y.1 (next_one dig key calls.devices (tells shaped tell) shaped.roots o x.3 y.3
       (λ e. remembers (x.1 ∙ ap Stepped e) tt memory) (λ e. remembers (y.1 ∙ ap Stepped e) tt room))
   step_one (Lost key) calls tell shaped o x y memory room = answers x.1 y.1 (lost_one o x.3 y.3)
   step_one Rechoke calls tell shaped o x y memory room =
       answers x.1 y.1
       (rechoke_one (tells shaped tell) o x.3 y.3 (λ e. remembers (x.1 ∙ ap Rechoked e) tt memory) (λ e. remembers (y.1 ∙ ap Rechoked e) tt room))
   step_one (Adopt file) calls tell shaped o x y memory room =
-      answers x.1 y.1 (adopt_one dig (sized shaped) x.2 y.2
+      answers x.1 y.1 (adopt_one dig (sized shaped) x.3 y.3
       (λ e. remembers (x.1 ∙ ap AdoptedAnswer e) tt memory) (λ e. remembers (y.1 ∙ ap AdoptedAnswer e) tt room))
   step_one Flush calls tell shaped o x y memory room = answers x.1 y.1 (flush_one x.2 y.2)
+  step_one Restart calls tell shaped o x y memory room =
+      answers x.1 y.1 (restart_one dig x.2 y.2 (λ e. remembers (x.1 ∙ ap Restarted e) tt memory) (λ e. remembers (y.1 ∙ ap Restarted e) tt room))
 
   -- ---- lists of events
 
@@ -85,10 +88,10 @@ module _ (dig : Digest) where
     run_one s (e ∷ es) (c ∷ cs) (a ∷ answers) [] shaped o x y memory room each = absurd y
 
   shape_of : {s : _} → (r : IsReached dig s) → IsShaped r.torrent s
-  shape_of {s} r = (shape_kept dig r.torrent r.first s r.events r.calls r.answers r.starts r.run).0
+  shape_of {s} r = (shape_kept dig r.torrent r.first s r.events r.calls r.answers r.begins r.run).0
 
   order_of : {s : _} → IsReached dig s → IsOrderly s
-  order_of {s} r = order_of_runs dig r.torrent r.first s r.events r.calls r.answers r.starts r.run
+  order_of {s} r = order_of_runs dig r.torrent r.first s r.events r.calls r.answers r.begins r.run
 
   tell_of : {s : _} → RangeIsPlace → (r : IsReached dig s) → RangesTell r.torrent
   tell_of law r = ranges_tell law r.torrent r.lawful.piece r.lawful.laid_out

@@ -64,7 +64,7 @@ both_ways None None f g = refl
 both_ways None (Some y) f g = g y refl
 both_ways (Some x) p f g = sym (f x refl)
 
-facts_is : {a b : Facts} → a.file_length ≡ b.file_length → a.root ≡ b.root → a.nodes ≡ b.nodes → a ≡ b
+pub facts_is : {a b : Facts} → a.file_length ≡ b.file_length → a.root ≡ b.root → a.nodes ≡ b.nodes → a ≡ b
 facts_is {a} {b} size root nodes =
     ap (λ x. record a { file_length = x }) size ∙ ap (λ x. record a { file_length = b.file_length; root = x }) root ∙ ap (λ x. record b { nodes = x }) nodes
 

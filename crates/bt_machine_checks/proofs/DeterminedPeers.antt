@@ -1,8 +1,10 @@
--- What is left to an engine where peers come and go, bytes come, peers are chosen, and devices are synced.
+-- What is left to an engine where peers come and go, bytes come, peers are chosen, and devices and the log are synced.
 use Rattle.bt_machine_checks.proofs.Base.{[], ◌≡◌, ◌≢◌, ℕ, zero, suc, ◌+◌, ◌*◌, ◌/◌, ◌%◌, ◌<◌, false, List, ◌∷◌, ◌++◌, length, get_or, None, Result, Ok, Err, alloc_error, refl, sym, ap, ◌∙◌, subst, arith, ◌==◌, All, Contains, range_with_len, Contains-append_right, sync_made, sync_fault, same_peer}
-use Rattle.bt_machine_checks.proofs.Machine.{Digest, no_room_to_connect, EngineState, Sent, Output, bits_of, bits_in, without_peer, IsOurBitfield, StepConnect, joins, full, spent, no_room as no_memory, StepFeed, feeds, not_fed, no_room as no_room_to_feed, StepLost, goes, not_fed as not_lost, chokes_sent, rechoked, StepRechoke, rechokes, not_rechoked, data_files, syncs_of, StepFlush, syncs, fails, IsOrderly, Answer, Connected, Fed, LostAnswer, Rechoked, Flushed, sent_by, other_frames}
+use Rattle.bt_machine_checks.proofs.Machine.{Digest, no_room_to_connect, EngineState, Hint, LogCall, EventCalls, hint_appended, append_fault, log_flushed, flush_fault, Sent, Output, bits_of, bits_in, without_peer, IsOurBitfield, StepConnect, joins, full, spent, no_room as no_memory, StepFeed, feeds, not_fed, no_room as no_room_to_feed, StepLost, goes, not_fed as not_lost, chokes_sent, rechoked, StepRechoke, rechokes, not_rechoked, data_files, syncs_of, appended, flush_error, StepFlush, syncs, writes, fails, unwritten, unflushed, IsOrderly, Answer, Connected, Fed, LostAnswer, Rechoked, Flushed, sent_by, other_frames}
 use Rattle.std.specs.declared.alloc.AllocError.{AllocError}
 use Rattle.bt_machine.specs.declared.error.EngineError.TheVariants.{OutOfMemory}
+use Rattle.bt_machine.specs.declared.error.FlushError.{FlushError}
+use Rattle.bt_machine.specs.declared.error.FlushError.TheVariants.{Device as SyncFault}
 use Rattle.bt_machine.proofs.Lists.{contains_map, here, get_map}
 use Rattle.bt_machine.proofs.Places.{RangesTell}
 use Rattle.bt_machine_checks.proofs.DeterminedParts.{peer_one}
@@ -133,8 +135,56 @@ synced_or_not files before file e =
     (subst (λ cs. Contains cs (file, sync_fault)) (sym e) (Contains-append_right (syncs_of before) ((file, sync_fault) ∷ []) (file, sync_fault) (here [] refl)))
     refl
 
+-- what a flush answers, and what is pending then, by its calls of the log
+
+abbrev answer_by : List LogCall → Result (Unit {0}) FlushError
+answer_by [] = Ok tt
+answer_by (hint_appended hint ∷ calls) = answer_by calls
+answer_by (append_fault hint cause ∷ calls) = Err (flush_error cause)
+answer_by (log_flushed ∷ calls) = Ok tt
+answer_by (_ ∷ calls) = Err SyncFault
+
+abbrev pending_by : List Hint → List LogCall → List Hint
+pending_by pending [] = pending
+pending_by pending (hint_appended hint ∷ calls) = pending_by pending calls
+pending_by pending (log_flushed ∷ calls) = []
+pending_by pending (_ ∷ calls) = pending
+
+answer_behind : (hints : List Hint) (calls : List LogCall) → answer_by (appended hints ++ calls) ≡ answer_by calls
+answer_behind [] calls = refl
+answer_behind (hint ∷ hints) calls = answer_behind hints calls
+
+pending_behind : (pending hints : List Hint) (calls : List LogCall) → pending_by pending (appended hints ++ calls) ≡ pending_by pending calls
+pending_behind pending [] calls = refl
+pending_behind pending (hint ∷ hints) calls = pending_behind pending hints calls
+
+data FlushEnds (s : EngineState) (calls : EventCalls) (a : Result (Unit {0}) FlushError) (m : EngineState) : Type 0 where
+  synced : calls.devices ≡ syncs_of (data_files s) → a ≡ answer_by calls.log → m ≡ record s { pending = pending_by s.pending calls.log } → FlushEnds s calls a m
+  stopped : (before : List ℕ) (file : ℕ) → calls.devices ≡ syncs_of before ++ (file, sync_fault) ∷ [] → a ≡ Err SyncFault → m ≡ s → FlushEnds s calls a m
+
+log_ends : {s m : EngineState} {calls : EventCalls} {a : _} (log : List LogCall) → calls ≡ record { devices = syncs_of (data_files s); log = log } → a ≡ answer_by log
+    → m ≡ record s { pending = pending_by s.pending log } → FlushEnds s calls a m
+log_ends {s} log made e f =
+    synced (ap (λ c. c.devices) made) (e ∙ ap (λ c. answer_by c.log) (sym made)) (f ∙ ap (λ c. record s { pending = pending_by s.pending c.log }) (sym made))
+
+ends : {s m calls a : _} → StepFlush s calls a m → FlushEnds s calls a m
+ends (syncs none made e f) = log_ends [] made e f
+ends {s} (writes logged made e f) =
+    log_ends (appended s.pending ++ log_flushed ∷ []) made (e ∙ sym (answer_behind s.pending (log_flushed ∷ [])))
+    (f ∙ ap (λ p. record s { pending = p }) (sym (pending_behind s.pending s.pending (log_flushed ∷ []))))
+ends (fails before file after is made e f) = stopped before file (ap (λ c. c.devices) made) e f
+ends {s} (unwritten before hint after cause logged is made e f) =
+    log_ends (appended before ++ append_fault hint cause ∷ []) made (e ∙ sym (answer_behind before (append_fault hint cause ∷ [])))
+    (f ∙ ap (λ p. record s { pending = p }) (sym (pending_behind s.pending before (append_fault hint cause ∷ []))))
+ends {s} (unflushed logged made e f) =
+    log_ends (appended s.pending ++ flush_fault ∷ []) made (e ∙ sym (answer_behind s.pending (flush_fault ∷ [])))
+    (f ∙ ap (λ p. record s { pending = p }) (sym (pending_behind s.pending s.pending (flush_fault ∷ []))))
+
+ends_one : {s m n calls a b : _} → FlushEnds s calls a m → FlushEnds s calls b n → AreOne (Flushed a) m (Flushed b) n
+ends_one (synced made e f) (synced also g h) = are_equal (ap Flushed (e ∙ sym g)) (f ∙ sym h)
+ends_one {s} (synced made e f) (stopped before file also g h) = absurd (synced_or_not (data_files s) before file (sym made ∙ also))
+ends_one {s} (stopped before file made e f) (synced also g h) = absurd (synced_or_not (data_files s) before file (sym also ∙ made))
+ends_one (stopped before file made e f) (stopped other place also g h) = are_equal (ap Flushed (e ∙ sym g)) (f ∙ sym h)
+
 pub flush_one : {s m n calls a b : _} → StepFlush s calls a m → StepFlush s calls b n → AreOne (Flushed a) m (Flushed b) n
-flush_one (syncs x y z w) (syncs u v o q) = are_equal (ap Flushed (cc)) (cc)
-flush_one {s} (syncs x y z w) (fails before file after none u v o q) = absurd (synced_or_not (data_files s) before file (cc))
-flush_one {s} (fails before file after none u v o q) (syncs x y z w) = absurd (synced_or_not (data_files s) before file (cc))
-flush_one (fails before file after none u v o q) (fails before2 file2 after2 none2 x y z w) = are_equal (ap Flushed (cc)) (cc)
+flush_one x y = ends_one (ends x) (ends y)

@@ -18,6 +18,7 @@ pub mod DeterminedAsks
 pub mod DeterminedNext
 pub mod DeterminedPeers
 pub mod DeterminedAdopt
+pub mod DeterminedRestart
 pub mod Determined
 
 -- worked examples

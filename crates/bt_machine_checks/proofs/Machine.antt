@@ -7,7 +7,8 @@ pub use Rattle.bt_machine.specs.Arrival.{arrives, stale, HandlesPiece, HasPutEff
 pub use Rattle.bt_machine.specs.Blocks.{with_peer, state_at, tree_of, with_file, with_tree, block_id, Has, file_numbers, IsAsked, new_complete_files, is_whole, piece_numbers, is_complete, has_become, new_whole_pieces, leaf_at, piece_of}
 pub use Rattle.bt_machine_checks.specs.LeftFree.{IsOutOfMemory, HaveMemory, plain_answer, without_asked, LacksOneAtMost, other_frames, block_requests, is_block_request, asked_nothing, IsReached, StepIsDetermined, StepIsForced, RunsAreDetermined}
 pub use Rattle.bt_machine.specs.Devices.{DeviceCalls, reads_at, calls_at}
-pub use Rattle.bt_machine.specs.Flush.{StepFlush, syncs, fails, syncs_of, data_files}
+pub use Rattle.bt_machine.specs.Flush.{StepFlush, syncs, writes, fails, unwritten, unflushed, syncs_of, data_files, appended, flush_error}
+pub use Rattle.bt_machine.specs.LogCalls.{LogCall, EventCalls, hints_read, reload_fault, hint_appended, append_fault, log_flushed, flush_fault}
 pub use Rattle.bt_machine.specs.FollowUp.{FollowsUp, rests, requests, interest_sent, RequestsHashes, IsOpen, RequestsEach, NeedsLeaf, IsInteresting, RequestsBlock, AsksBlocks, TellsInterest, IsLeastNeed}
 pub use Rattle.bt_machine.specs.HashMessages.{accepts_hashes, unknown_root, refused, HandlesHashes, no_claim, rejected, HandlesHashRequest, answered, new_proofs, ours as resolved, IsTreeOf, IsAnswered, settled_count, Resolves, other as other_asked, AcceptsHashes, OnlyCloses}
 pub use Rattle.bt_machine.specs.Law.{sent_by}
@@ -24,7 +25,7 @@ pub use Rattle.bt_machine.specs.Start.{Starts, by_root}
 pub use Rattle.bt_machine.specs.declared.hash_state.HashState.TheVariants.{Idle, Asked, Refused}
 pub use Rattle.bt_machine.specs.State.{EngineState, PeerState, FileState, Hint, mark_of}
 pub use Rattle.bt_machine.specs.declared.event.Answer.{Answer}
-pub use Rattle.bt_machine.specs.declared.event.Answer.TheVariants.{Stepped, Rechoked, Connected, Fed, Adopted as AdoptedAnswer, Lost as LostAnswer, Flushed}
+pub use Rattle.bt_machine.specs.declared.event.Answer.TheVariants.{Stepped, Rechoked, Connected, Fed, Adopted as AdoptedAnswer, Lost as LostAnswer, Flushed, Restarted}
 pub use Rattle.bt_machine.specs.Step.{Step, Run}
 pub use Rattle.bt_machine.specs.WireEvents.{right, Handles, out_of_range, wrong, HandlesHave, in_range, HandlesBitfield, HandlesMessage, ours, HandlesHello, other, bits_of, bits_in}
 pub use Rattle.bt_machine.specs.declared.answer.Frame.{Frame}
@@ -36,7 +37,7 @@ pub use Rattle.bt_machine.specs.declared.answer.Why.TheVariants.{Wire, Proof, Ba
 pub use Rattle.bt_machine.specs.declared.error.ConnectError.TheVariants.{OutOfMemory as no_room_to_connect}
 pub use Rattle.bt_machine.specs.declared.error.EngineError.{EngineError}
 pub use Rattle.bt_machine.specs.declared.event.Event.{Event}
-pub use Rattle.bt_machine.specs.declared.event.Event.TheVariants.{Next, Connect, Rechoke, Feed, Adopt, Lost, Flush}
+pub use Rattle.bt_machine.specs.declared.event.Event.TheVariants.{Next, Connect, Rechoke, Feed, Adopt, Lost, Flush, Restart}
 
 -- the digest of some bytes, whichever function it is
 abbrev pub Digest : Type 0

@@ -22,6 +22,7 @@ use Rattle.bt_machine.specs.declared.error.EngineError.TheVariants.{OutOfMemory}
 use Rattle.bt_machine.specs.declared.event.Event.TheVariants.{Next}
 use Rattle.bt_machine.specs.State.{PeerState, EngineState}
 use Rattle.bt_machine.specs.Devices.{DeviceCalls}
+use Rattle.bt_machine.specs.LogCalls.{EventCalls}
 use Rattle.bt_machine.specs.Blocks.{block_id, state_at, tree_of, leaf_at, is_complete}
 use Rattle.bt_machine.specs.Spans.{IsRangeOf, spanned_blocks, cut_from}
 use Rattle.bt_machine.specs.Request.{AreMarked}
@@ -52,7 +53,7 @@ pub data AnswersHashes (dig : List ℕ → List ℕ) (s : EngineState) (answer :
 
 abbrev pub NextAnswersHashRequest : (List ℕ → List ℕ) → Type 0
 NextAnswersHashRequest dig = (old new : EngineState) (key : PeerKey) (place : ℕ) (p : PeerState)
-    (calls : DeviceCalls) (answer : Answer) (asked : HashKey) (rest : Stream)
+    (calls : EventCalls) (answer : Answer) (asked : HashKey) (rest : Stream)
     → IsOnlyPeer old key place p → Takes p.stream (Message (HashRequest asked)) rest
     → Step dig old (Next key) calls answer new
     → NextLacksMemory answer ⊎ AnswersHashes dig old answer key asked
@@ -69,14 +70,14 @@ pub data MarksBlock (b : BlockId) (bytes : List ℕ) (calls : DeviceCalls) (answ
 -- A whole block comes that the peer is asked for, with the digest of its leaf.
 abbrev pub NextMarksRightBlock : (List ℕ → List ℕ) → Type 0
 NextMarksRightBlock dig = (old new : EngineState) (key : PeerKey) (place : ℕ) (p : PeerState)
-    (calls : DeviceCalls) (answer : Answer) (piece begin : ℕ) (bytes : List ℕ) (rest : Stream) (b : BlockId)
+    (calls : EventCalls) (answer : Answer) (piece begin : ℕ) (bytes : List ℕ) (rest : Stream) (b : BlockId)
     (tree : Facts)
     → IsLawful old.torrent.piece_length old.torrent.files → IsOnlyPeer old key place p
     → Takes p.stream (Message (Piece piece begin bytes)) rest
     → IsRangeOf old.torrent piece begin (length bytes) b → Contains p.asked b
     → tree_of old b.file ≡ Some tree → IsRight dig tree b.block bytes
     → Step dig old (Next key) calls answer new
-    → NextLacksMemory answer ⊎ MarksBlock b bytes calls answer new
+    → NextLacksMemory answer ⊎ MarksBlock b bytes calls.devices answer new
 
 -- the block was stored, and is noted so
 abbrev pub NotesStored : Answer → BlockId → Type 0
@@ -94,7 +95,7 @@ pub record IsOtherAsker (s : EngineState) (key : PeerKey) (b : BlockId) (other :
 -- and it is another that is asked for it, and a cancel of this range.
 abbrev pub NextCancelsStoredBlock : (List ℕ → List ℕ) → Type 0
 NextCancelsStoredBlock dig = (old new : EngineState) (key : PeerKey) (place : ℕ) (p : PeerState)
-    (calls : DeviceCalls) (answer : Answer) (piece begin : ℕ) (bytes : List ℕ) (rest : Stream) (b : BlockId)
+    (calls : EventCalls) (answer : Answer) (piece begin : ℕ) (bytes : List ℕ) (rest : Stream) (b : BlockId)
     → IsLawful old.torrent.piece_length old.torrent.files → IsOnlyPeer old key place p
     → Takes p.stream (Message (Piece piece begin bytes)) rest
     → IsRangeOf old.torrent piece begin (length bytes) b → Contains p.asked b
@@ -121,12 +122,12 @@ pub data ServesRange (dig : List ℕ → List ℕ) (tree : Facts) (key : PeerKey
 -- A peer that is not choked requests a range whose blocks are marked.
 abbrev pub NextServesMarkedRange : (List ℕ → List ℕ) → Type 0
 NextServesMarkedRange dig = (old new : EngineState) (key : PeerKey) (place : ℕ) (p : PeerState)
-    (calls : DeviceCalls) (answer : Answer) (ask : Ask) (rest : Stream) (span : Span) (tree : Facts)
+    (calls : EventCalls) (answer : Answer) (ask : Ask) (rest : Stream) (span : Span) (tree : Facts)
     → IsLawful old.torrent.piece_length old.torrent.files → IsOnlyPeer old key place p
     → Takes p.stream (Message (Request ask)) rest → p.am_choking ≡ false
     → IsPlace old.torrent ask.piece ask.begin ask.length span → AreMarked old span
     → tree_of old span.file ≡ Some tree → Step dig old (Next key) calls answer new
-    → NextLacksMemory answer ⊎ ServesRange dig tree key ask span calls answer
+    → NextLacksMemory answer ⊎ ServesRange dig tree key ask span calls.devices answer
 
 -- ---- blocks that wait
 
@@ -138,13 +139,13 @@ WaitingIsNotComplete = (s : EngineState) (b : BlockId) → state_at s b ≡ Some
 -- A block that waits after a message waits for an unknown leaf, unless it waited for a known one before. So,
 -- where a message tells its leaf, it is settled in every file of the root.
 abbrev pub NextSettlesWaitingBlocks : (List ℕ → List ℕ) → Type 0
-NextSettlesWaitingBlocks dig = (old new : EngineState) (key : PeerKey) (calls : DeviceCalls) (answer : Answer)
+NextSettlesWaitingBlocks dig = (old new : EngineState) (key : PeerKey) (calls : EventCalls) (answer : Answer)
     (b : BlockId) → Step dig old (Next key) calls answer new
     → (state_at old b ≡ Some Waiting → leaf_at dig old b ≡ None)
     → state_at new b ≡ Some Waiting → leaf_at dig new b ≡ None
 
 -- A block that becomes marked is noted.
 abbrev pub NextNotesMarkedBlocks : (List ℕ → List ℕ) → Type 0
-NextNotesMarkedBlocks dig = (old new : EngineState) (key : PeerKey) (calls : DeviceCalls) (answer : Answer)
+NextNotesMarkedBlocks dig = (old new : EngineState) (key : PeerKey) (calls : EventCalls) (answer : Answer)
     (b : BlockId) → Step dig old (Next key) calls answer new
     → ¬ (state_at old b ≡ Some Marked) → state_at new b ≡ Some Marked → NotedBy answer (NowMarked b)

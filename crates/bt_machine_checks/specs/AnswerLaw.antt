@@ -29,7 +29,7 @@ use Rattle.bt_machine.specs.declared.answer.Note.TheVariants.{Complete}
 use Rattle.bt_machine.specs.declared.event.Event.{Event}
 use Rattle.bt_machine.specs.declared.event.Event.TheVariants.{Next}
 use Rattle.bt_machine.specs.State.{PeerState, EngineState}
-use Rattle.bt_machine.specs.Devices.{DeviceCalls}
+use Rattle.bt_machine.specs.LogCalls.{EventCalls}
 use Rattle.bt_machine.specs.Blocks.{tree_of, is_whole, is_complete}
 use Rattle.bt_machine.specs.Spans.{IsRangeOf}
 use Rattle.bt_machine.specs.Output.{Output}
@@ -67,14 +67,14 @@ pub record BecomesSo (holds : EngineState → ℕ → Bool) (old new : EngineSta
 
 -- A have of a piece is sent to every peer that is connected, exactly where the piece became whole.
 abbrev pub StepAnnouncesWholePieces : (List ℕ → List ℕ) → Type 0
-StepAnnouncesWholePieces dig = (old new : EngineState) (event : Event) (calls : DeviceCalls) (answer : Answer)
+StepAnnouncesWholePieces dig = (old new : EngineState) (event : Event) (calls : EventCalls) (answer : Answer)
     → Step dig old event calls answer new
     → (key : PeerKey) (piece : ℕ) → Sends answer key (Have piece)
     ↔ IsConnected new key × (piece < total_pieces new.torrent) × BecomesSo is_whole old new piece
 
 -- Where the next wire event of a peer is taken, a file is noted as complete exactly where it became so.
 abbrev pub NextNotesCompleteFiles : (List ℕ → List ℕ) → Type 0
-NextNotesCompleteFiles dig = (old new : EngineState) (key : PeerKey) (calls : DeviceCalls) (answer : Answer)
+NextNotesCompleteFiles dig = (old new : EngineState) (key : PeerKey) (calls : EventCalls) (answer : Answer)
     → Step dig old (Next key) calls answer new
     → (file : ℕ) → NotedBy answer (Complete file)
     ↔ (file < length new.files) × BecomesSo is_complete old new file
@@ -114,7 +114,7 @@ ClosesPeer answer why = (out : Output) × (output_of answer ≡ Some out) × (ou
 
 -- A peer is closed only for what it sent.
 abbrev pub StepClosesForCause : (List ℕ → List ℕ) → Type 0
-StepClosesForCause dig = (old new : EngineState) (event : Event) (calls : DeviceCalls) (answer : Answer)
+StepClosesForCause dig = (old new : EngineState) (event : Event) (calls : EventCalls) (answer : Answer)
     → Step dig old event calls answer new → (why : Why) → ClosesPeer answer why
     → (key : PeerKey) × (place : ℕ) × (p : PeerState)
     × (event ≡ Next key) × IsPeer old key place p × IsCause dig old p why

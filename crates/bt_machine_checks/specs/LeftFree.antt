@@ -9,14 +9,15 @@ use Rattle.bt_machine.specs.declared.answer.Frame.TheVariants.{Message as messag
 use Rattle.bt_machine.specs.declared.error.ConnectError.TheVariants.{OutOfMemory as no_room_to_connect}
 use Rattle.bt_machine.specs.declared.error.EngineError.TheVariants.{OutOfMemory}
 use Rattle.bt_machine.specs.declared.error.AdoptError.TheVariants.{OutOfMemory as no_room_to_adopt}
+use Rattle.bt_machine.specs.declared.error.RestartError.TheVariants.{OutOfMemory as no_room_to_restart}
 use Rattle.bt_machine.specs.declared.event.Event.{Event}
 use Rattle.bt_machine.specs.State.{PeerState, EngineState}
-use Rattle.bt_machine.specs.Devices.{DeviceCalls}
+use Rattle.bt_machine.specs.LogCalls.{EventCalls}
 use Rattle.bt_machine.specs.Blocks.{state_at}
 use Rattle.bt_machine.specs.Output.{Sent, Output}
-use Rattle.bt_machine.specs.Start.{Starts}
+use Rattle.bt_machine.specs.Opening.{Begins}
 use Rattle.bt_machine.specs.declared.event.Answer.{Answer}
-use Rattle.bt_machine.specs.declared.event.Answer.TheVariants.{Connected, Fed, Stepped, Rechoked, Adopted as AdoptedAnswer}
+use Rattle.bt_machine.specs.declared.event.Answer.TheVariants.{Connected, Fed, Stepped, Rechoked, Adopted as AdoptedAnswer, Restarted}
 use Rattle.bt_machine.specs.Step.{Step, Run}
 use Rattle.bt_machine.specs.Law.{sent_by}
 
@@ -51,23 +52,24 @@ IsOutOfMemory (Fed (Err OutOfMemory)) = Unit {0}
 IsOutOfMemory (Stepped (Err OutOfMemory)) = Unit {0}
 IsOutOfMemory (Rechoked (Err _)) = Unit {0}
 IsOutOfMemory (AdoptedAnswer (Err no_room_to_adopt)) = Unit {0}
+IsOutOfMemory (Restarted (Err no_room_to_restart)) = Unit {0}
 IsOutOfMemory _ = ⊥
 
--- events lead to the engine from the start of a lawful torrent
+-- events lead to the engine from the start of a lawful torrent, with a log or without
 pub record IsReached (dig : List ℕ → List ℕ) (s : EngineState) : Type 0 where
   pub torrent : Metainfo
   pub first : EngineState
   pub events : List Event
-  pub calls : List DeviceCalls
+  pub calls : List EventCalls
   pub answers : List Answer
   pub lawful : IsLawful torrent.piece_length torrent.files
-  pub starts : Starts dig torrent first
+  pub begins : Begins dig torrent first
   pub run : Run dig first events calls answers s
 
--- Two steps of one event, from an engine that is reached, with the same answers of devices, and with memory:
--- they answer the same and lead to the same, but for which blocks are requested.
+-- Two steps of one event, from an engine that is reached, with the same answers of devices and of the log,
+-- and with memory: they answer the same and lead to the same, but for which blocks are requested.
 abbrev pub StepIsDetermined : (List ℕ → List ℕ) → Type 0
-StepIsDetermined dig = (s new other : EngineState) (event : Event) (calls : DeviceCalls)
+StepIsDetermined dig = (s new other : EngineState) (event : Event) (calls : EventCalls)
     (answer another : Answer) → IsReached dig s
     → Step dig s event calls answer new → Step dig s event calls another other
     → ¬ IsOutOfMemory answer → ¬ IsOutOfMemory another
@@ -86,7 +88,7 @@ LacksOneAtMost s = (b c : BlockId) → state_at s b ≡ Some Missing → state_a
 -- Where an answer requests no block, or at most one block is missing after it, nothing is left free: with
 -- memory there is no other answer.
 abbrev pub StepIsForced : (List ℕ → List ℕ) → Type 0
-StepIsForced dig = (s new other : EngineState) (event : Event) (calls : DeviceCalls)
+StepIsForced dig = (s new other : EngineState) (event : Event) (calls : EventCalls)
     (answer another : Answer) → IsReached dig s
     → Step dig s event calls answer new → Step dig s event calls another other
     → ¬ IsOutOfMemory answer → ¬ IsOutOfMemory another
@@ -99,10 +101,11 @@ StepIsForced dig = (s new other : EngineState) (event : Event) (calls : DeviceCa
 abbrev pub HaveMemory : List Answer → Type 0
 HaveMemory answers = All (λ answer. ¬ IsOutOfMemory answer) answers
 
--- Two runs of the same events, from an engine that is reached, with the same answers of devices, with memory,
--- and with the same requests of blocks at each event: they answer the same and lead to the same engine.
+-- Two runs of the same events, from an engine that is reached, with the same answers of devices and of the
+-- log, with memory, and with the same requests of blocks at each event: they answer the same and lead to the
+-- same engine.
 abbrev pub RunsAreDetermined : (List ℕ → List ℕ) → Type 0
-RunsAreDetermined dig = (s new other : EngineState) (events : List Event) (calls : List DeviceCalls)
+RunsAreDetermined dig = (s new other : EngineState) (events : List Event) (calls : List EventCalls)
     (answers others : List Answer) → IsReached dig s
     → Run dig s events calls answers new → Run dig s events calls others other
     → HaveMemory answers → HaveMemory others

@@ -4,7 +4,7 @@ use bt_meta::block_ranges_are_places;
 use bt_tree::NodeHash;
 
 /// From an engine that events lead to, what an event answers and what the engine knows then follow from what
-/// devices answer, but for which blocks are requested, and for out of memory.
+/// devices and the log answer, but for which blocks are requested, and for out of memory.
 pub fn step_is_determined<H: NodeHash>(_hash: H)
     ensures { StepIsDetermined H.digest }
 {
@@ -12,15 +12,15 @@ pub fn step_is_determined<H: NodeHash>(_hash: H)
 }
 
 /// So where its answer requests no block, or at most one block is missing after it, there is no other with
-/// the same answers of devices and with memory.
+/// the same answers of devices and of the log and with memory.
 pub fn step_is_forced<H: NodeHash>(_hash: H)
     ensures { StepIsForced H.digest }
 {
     block_ranges_are_places();
 }
 
-/// And two lists of answers to the same events from one such engine, with the same answers of devices, with
-/// memory and with requests of the same blocks, are one, and lead to the same engine.
+/// And two lists of answers to the same events from one such engine, with the same answers of devices and of
+/// the log, with memory and with requests of the same blocks, are one, and lead to the same engine.
 pub fn runs_are_determined<H: NodeHash>(_hash: H)
     ensures { RunsAreDetermined H.digest }
 {

@@ -13,19 +13,21 @@ use Rattle.bt_meta.specs.Files.{file_of as entry_of}
 use Rattle.bt_meta.specs.declared.torrent.FileEntry.{FileEntry}
 use Rattle.bt_machine.proofs.Lists.{some_is, some_below, get_some, get_map, and_then_some}
 use Rattle.bt_meta.specs.Law.{LiesInItsPiece}
-use Rattle.bt_machine.specs.Shape.{StartsInShape}
+use Rattle.bt_machine.specs.Shape.{IsShaped}
 use Rattle.bt_machine.specs.State.{EngineState, FileState}
 use Rattle.bt_machine.specs.Blocks.{state_at, piece_of, is_marked_in}
-use Rattle.bt_machine.specs.Start.{Starts, AreDevicesOf, IsNewFile}
+use Rattle.bt_machine.specs.Start.{Starts, AreDevicesOf, IsNewFile, IsNew}
 use Rattle.bt_state.proofs.Lists.{get_mapped}
 use Rattle.bt_state.specs.Parts.{state_of, disks_of, file_of, disk_of, peer_of}
-use Rattle.bt_state.specs.Ties.{FitsTree, IsTied}
+use Rattle.bt_state.specs.Ties.{FitsTree, IsTied, root_and_length}
+use Rattle.bt_state.proofs.BlockChanges.{EachFits}
 use Rattle.bt_state.specs.declared.peer.Peer.{Peer}
 use Rattle.bt_state.specs.declared.slot.Slot.{Slot}
 use Rattle.bt_state.specs.declared.parts.Parts.{Parts}
-use Rattle.bt_start.specs.BeginningSteps.{AreBareParts, HaveBegun}
+use Rattle.bt_start.specs.BeginningSteps.{AreNewParts, AreBareParts, HaveBegun}
 use Rattle.bt_start.specs.DeviceSteps.{devices_in, IsNewSlot, AreNewSlots}
 use Rattle.bt_start.specs.TreeSteps.{HasTreeAt}
+use Rattle.bt_start.proofs.RootTrees.{tree_named}
 use Rattle.bt_start.proofs.Sizes.{sizes_unmarked}
 
 -- ---- a set of no piece
@@ -140,54 +142,109 @@ module _ {D H : Type 0} {file : File} {slot : Slot D H} (new : IsNewSlot file sl
     λ empty. ap (λ (o : Option (StoreView D)). Some (option_map (λ store. store.disk) o)) (new.empty empty),
   )
 
-  fits_tree : {trees : List Facts} → HasTreeAt file trees slot.tree → (store : StoreView D) → slot.store ≡ Some store → FitsTree trees slot.tree file store
-  fits_tree has_tree store at = elim (cases_lt 0 file.length) [
+  fits_tree : {trees : List Facts} → HasTreeAt file (map root_and_length trees) slot.tree → (store : StoreView D) → slot.store ≡ Some store → FitsTree trees slot.tree file store
+  fits_tree {trees} has_tree store at = elim (cases_lt 0 file.length) [
     | inl some ↦ (
         let own = new.some some in
         let same : own.0 ≡ store = some_is (sym own.1 ∙ at) in
         let long = ap (λ (store : StoreView D). store.file_length) (sym same) ∙ own.2 in
-        let k = has_tree some in
+        let k = tree_named trees slot.tree (has_tree some) in
         record { facts = k.0; stands = k.1; same = k.3 ∙ sym long; long = long }
         )
     | inr le ↦ absurd (let clash = sym (new.empty (omega arith)) ∙ at in cc)
   ]
 
--- ---- the parts
+-- ---- the parts, where their trees and books are new
+
+module _ {D H : Type 0} {dig : List ℕ → List ℕ} (parts : Parts D H) (is : AreNewParts dig parts) (count : length parts.slots.items ≡ length parts.torrent.files)
+    (all_new : (i : ℕ) (file : File) (slot : Slot D H) → slice_get parts.torrent.files i ≡ Some file → slice_get parts.slots.items i ≡ Some slot
+    → (file_of slot).states ≡ new_states file.length)
+    (have_trees : (i : ℕ) (file : File) (slot : Slot D H) → slice_get parts.torrent.files i ≡ Some file → slice_get parts.slots.items i ≡ Some slot
+    → HasTreeAt file (map root_and_length parts.trees.items) slot.tree) where
+  new_file : (i : ℕ) (file : File) (f : FileState) → slice_get parts.torrent.files i ≡ Some file → slice_get (map file_of parts.slots.items) i ≡ Some f
+      → IsNewFile file parts.trees.items f
+  new_file i file f listed at =
+      let slot = get_map file_of parts.slots.items i at in
+      subst (λ (f : FileState). IsNewFile file parts.trees.items f) slot.2 (record {
+        missing = all_new i file slot.0 listed slot.1;
+        has_tree = λ some. tree_named parts.trees.items slot.0.tree (have_trees i file slot.0 listed slot.1 some);
+      })
+
+  pub are_new : IsNew dig parts.torrent parts.trees.items (map file_of parts.slots.items)
+  are_new = record {
+    roots = is.trees.roots;
+    each_tree = is.trees.each;
+    count = length-map parts.slots.items file_of ∙ count;
+    each_file = new_file;
+  }
+
+  in_shape : IsShaped parts.torrent (state_of parts)
+  in_shape = record {
+    same = refl;
+    roots = is.trees.roots;
+    count = are_new.count;
+    each = λ i file f listed at. (
+        let new = new_file i file f listed at in
+        record {
+          blocks = ap (λ (states : List BlockState). length states) new.missing ∙ length-replicate (block_count file.length) Missing;
+          has_tree = new.has_tree;
+        }
+        );
+  }
+
+  missing : (i : ℕ) (file : File) (f : FileState) → slice_get parts.torrent.files i ≡ Some file → slice_get (state_of parts).files i ≡ Some f → f.states ≡ new_states file.length
+  missing i file f listed at = (new_file i file f listed at).missing
+
+  pub tied_anew : LiesInItsPiece → EachFits parts.torrent.files parts.trees.items parts.slots.items → IsTied parts
+  tied_anew lies fits = record {
+    joined = ap (λ (ps : List Peer). map (λ p. p.key) ps) is.books.peers ∙ sym (ap (λ (rs : List PeerRequests). map (λ r. r.peer) rs) is.books.unasked);
+    in_order = λ i j d lt within. absurd (omega (arith, within, ap (λ (ps : List Peer). length ps) is.books.peers));
+    room = is.books.room;
+    wanted = wanted_missing (state_of parts) parts.book.wanted parts.torrent.files is.books.wanted are_new.count missing;
+    ranged = known_ranged (state_of parts) parts.book.wanted parts.torrent.files is.books.wanted are_new.count missing;
+    count = count;
+    each = fits;
+    firsts = is.firsts;
+    known = record {
+      size = ap (λ (bs : List Bool). length bs) is.books.known ∙ length-replicate (total_pieces parts.torrent) false;
+      each = λ b k has among at.
+          absurd (none_among (total_pieces parts.torrent) (piece_of parts.torrent b)
+          (ap (λ (bs : List Bool). option_and_then (λ q. slice_get bs q) (piece_of parts.torrent b)) (sym is.books.known) ∙ among));
+    };
+    unmarked = sizes_unmarked lies (state_of parts) in_shape is.lawful.piece is.lawful.laid_out
+        (not_marked (state_of parts) parts.book.wanted parts.torrent.files is.books.wanted are_new.count missing) is.books.sizes;
+  }
+
+-- ---- the parts, once devices were handed out
 
 module _ {D H : Type 0} {dig : List ℕ → List ℕ} (bare next : Parts D H) (is : AreBareParts dig bare) (new : AreNewSlots bare.torrent.files next.slots.items)
     (trees : map (λ slot. slot.tree) next.slots.items ≡ map (λ slot. slot.tree) bare.slots.items) where
   abbrev begun : Parts D H
   begun = record bare { slots = next.slots }
 
+  new_parts : AreNewParts dig begun
+  new_parts = record { lawful = is.new.lawful; trees = is.new.trees; firsts = is.new.firsts; books = is.new.books }
+
   as_many : length next.slots.items ≡ length bare.torrent.files
   as_many =
       sym (length-map next.slots.items (λ (slot : Slot D H). slot.tree)) ∙ ap (λ (ts : List ℕ). length ts) trees
       ∙ length-map bare.slots.items (λ (slot : Slot D H). slot.tree) ∙ is.slots.count
 
-  slot_tree : (i : ℕ) {slot : Slot D H} {file : File} → slice_get next.slots.items i ≡ Some slot → slice_get bare.torrent.files i ≡ Some file
-      → HasTreeAt file bare.trees.items slot.tree
-  slot_tree i {slot} {file} at listed some =
+  slot_tree : (i : ℕ) (file : File) (slot : Slot D H) → slice_get bare.torrent.files i ≡ Some file → slice_get next.slots.items i ≡ Some slot
+      → HasTreeAt file (map root_and_length bare.trees.items) slot.tree
+  slot_tree i file slot listed at some =
       let old = get_map (λ (slot : Slot D H). slot.tree) bare.slots.items i
       (ap (λ (ts : List ℕ). slice_get ts i) (sym trees) ∙ get_mapped (λ (slot : Slot D H). slot.tree) next.slots.items i at) in
-      let k = (is.slots.each i file old.0 listed old.1).has_tree some in
-      (k.0, ap (λ t. slice_get bare.trees.items t) (sym old.2) ∙ k.1, k.2, k.3)
+      ap (λ t. slice_get (map root_and_length bare.trees.items) t) (sym old.2) ∙ (is.slots.each i file old.0 listed old.1).has_tree some
 
-  new_file : (i : ℕ) (file : File) (f : FileState) → slice_get bare.torrent.files i ≡ Some file → slice_get (map file_of next.slots.items) i ≡ Some f
-      → IsNewFile file bare.trees.items f
-  new_file i file f listed at =
-      let slot = get_map file_of next.slots.items i at in
-      subst (λ (f : FileState). IsNewFile file bare.trees.items f) slot.2
-      (record { missing = states_new (new i file slot.0 listed slot.1); has_tree = slot_tree i slot.1 listed })
+  slot_states : (i : ℕ) (file : File) (slot : Slot D H) → slice_get bare.torrent.files i ≡ Some file → slice_get next.slots.items i ≡ Some slot
+      → (file_of slot).states ≡ new_states file.length
+  slot_states i file slot listed at = states_new (new i file slot listed at)
 
   begins : Starts dig bare.torrent (state_of begun)
   begins = record {
-    is_new = record {
-      roots = is.trees.roots;
-      each_tree = is.trees.each;
-      count = length-map next.slots.items file_of ∙ as_many;
-      each_file = new_file;
-    };
-    is = ap (λ (ps : List Peer). record (state_of begun) { peers = map (peer_of bare.book) ps }) is.peers
+    is_new = are_new begun new_parts as_many slot_states slot_tree;
+    is = ap (λ (ps : List Peer). record (state_of begun) { peers = map (peer_of bare.book) ps }) is.new.books.peers
         ∙ ap (λ n. record (state_of begun) { peers = []; next_key = n + 1 }) is.first_key ∙ ap (λ n. record (state_of begun) { peers = []; next_key = 1; turn = n }) is.first_turn;
   }
 
@@ -203,39 +260,20 @@ module _ {D H : Type 0} {dig : List ℕ → List ℕ} (bare next : Parts D H) (i
     in_order = in_order;
   }
 
-  missing : (i : ℕ) (file : File) (f : FileState) → slice_get bare.torrent.files i ≡ Some file → slice_get (state_of begun).files i ≡ Some f → f.states ≡ new_states file.length
-  missing i file f listed at = (new_file i file f listed at).missing
-
-  tied : LiesInItsPiece → StartsInShape dig → IsTied begun
-  tied lies in_shape = record {
-    joined = ap (λ (ps : List Peer). map (λ p. p.key) ps) is.peers ∙ sym (ap (λ (rs : List PeerRequests). map (λ r. r.peer) rs) is.book);
-    in_order = λ i j d lt within. absurd (omega (arith, within, ap (λ (ps : List Peer). length ps) is.peers));
-    room = is.room;
-    wanted = wanted_missing (state_of begun) bare.book.wanted bare.torrent.files is.wanted (length-map next.slots.items file_of ∙ as_many) missing;
-    ranged = known_ranged (state_of begun) bare.book.wanted bare.torrent.files is.wanted (length-map next.slots.items file_of ∙ as_many) missing;
-    count = as_many;
-    each = λ i slot at. (
-        let file = get_some bare.torrent.files i (omega (arith, as_many, some_below next.slots.items i at)) in
-        let own = new i file.0 slot file.1 at in
-        record { file = file.0; listed = file.1; empty = empty_without own; some = fits_tree own (slot_tree i at file.1) }
-        );
-    known = record {
-      size = ap (λ (bs : List Bool). length bs) is.known ∙ length-replicate (total_pieces bare.torrent) false;
-      each = λ b k has among at.
-          absurd (none_among (total_pieces bare.torrent) (piece_of bare.torrent b)
-          (ap (λ (bs : List Bool). option_and_then (λ q. slice_get bs q) (piece_of bare.torrent b)) (sym is.known) ∙ among));
-    };
-    unmarked = sizes_unmarked lies (state_of begun) (in_shape bare.torrent (state_of begun) begins) is.lawful.piece is.lawful.laid_out
-        (not_marked (state_of begun) bare.book.wanted bare.torrent.files is.wanted (length-map next.slots.items file_of ∙ as_many) missing) is.sizes;
-  }
+  tied : LiesInItsPiece → IsTied begun
+  tied lies = tied_anew begun new_parts as_many slot_states slot_tree lies (λ i slot at. (
+      let file = get_some bare.torrent.files i (omega (arith, as_many, some_below next.slots.items i at)) in
+      let own = new i file.0 slot file.1 at in
+      record { file = file.0; listed = file.1; empty = empty_without own; some = fits_tree own (slot_tree i file.0 slot file.1 at) }
+      ))
 
 -- ---- the same, where the slots were lent and made
 
 pub have_begun : {D H : Type 0} {dig : List ℕ → List ℕ} (bare : Parts D H) (lent made : List (Slot D H)) {files : List File} {given : List D}
-    → LiesInItsPiece → StartsInShape dig → AreBareParts dig bare → files ≡ bare.torrent.files → lent ≡ bare.slots.items → AreNewSlots files made
+    → LiesInItsPiece → AreBareParts dig bare → files ≡ bare.torrent.files → lent ≡ bare.slots.items → AreNewSlots files made
     → map (λ slot. slot.tree) made ≡ map (λ slot. slot.tree) lent → devices_in made ≡ given
     → HaveBegun dig given (record bare { slots = with_items bare.slots made })
-have_begun {D} {H} {dig} bare lent made {files} {given} lies in_shape is listed lends new trees in_order =
+have_begun {D} {H} {dig} bare lent made {files} {given} lies is listed lends new trees in_order =
     let Slots : Type 0 = List (Slot D H) in
     let next : Parts D H = record bare { slots = with_items bare.slots made } in
     let alike : map (λ slot. slot.tree) made ≡ map (λ slot. slot.tree) bare.slots.items = trees ∙ ap (λ (slots : Slots). map (λ slot. slot.tree) slots) lends in
@@ -247,7 +285,7 @@ have_begun {D} {H} {dig} bare lent made {files} {given} lies in_shape is listed 
     record {
       starts = begins bare next is own own_trees;
       devices = are_devices bare next is own own_trees (ap (λ (slots : Slots). devices_in slots) are ∙ in_order);
-      tied = tied bare next is own own_trees lies in_shape;
+      tied = tied bare next is own own_trees lies;
     }
 
 -- what follows of three clauses on success

@@ -1,5 +1,7 @@
 pub mod Beginning
-pub mod BeginningSteps
-pub mod DeviceSteps
-pub mod PieceSteps
+pub mod Trees
+pub mod Books
+-- what only private functions cite
 pub mod TreeSteps
+pub mod DeviceSteps
+pub mod BeginningSteps

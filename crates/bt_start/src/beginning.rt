@@ -1,24 +1,27 @@
-ghost use Rattle.std.specs.Prelude.{◌≡◌, length, IfOk, OnOk, OnErr};
+ghost use Rattle.std.specs.Prelude.{◌≡◌, None, length, IfOk, OnOk, OnErr};
 ghost use Rattle.sha2.specs.Sha256.{sha256};
+ghost use Rattle.bt_meta.specs.Torrent.{IsLawful};
+ghost use Rattle.bt_machine.specs.Frames.{AreSparseTrees};
 ghost use Rattle.bt_machine.specs.Law.{AreRooted};
 ghost use Rattle.bt_machine.specs.Orderly.{IsOrderly};
 ghost use Rattle.bt_machine.specs.Shape.{IsShaped};
 ghost use Rattle.bt_machine.specs.Sound.{IsSound};
-ghost use Rattle.bt_machine.specs.Start.{AnswersStart, device_count as count_of_devices};
+ghost use Rattle.bt_machine.specs.Opening.{AnswersStart};
+ghost use Rattle.bt_machine.specs.Start.{device_count as count_of_devices};
 ghost use Rattle.bt_state.specs.Parts.{state_of, disks_of};
 ghost use Rattle.bt_state.specs.Ties.{IsTied};
 ghost use Rattle.bt_start.specs.Beginning.{answer_of};
 ghost use Rattle.bt_start.specs.BeginningSteps.{AreBareParts, HaveBegun};
 
-use crate::block_counts::block_counts;
+use crate::books::new_books;
 use crate::devices::{device_count, hand_out};
-use crate::new_book::new_book;
-use crate::piece_sizes::piece_sizes;
-use crate::trees::bare_slots;
+use crate::roots::bare_slots;
+use crate::trees::new_trees;
 use bt_disk::Disk;
 use bt_machine::{StartError, StartRefused, starts_keep_laws};
 use bt_meta::{Torrent, blocks_and_ranges_agree};
-use bt_state::{MAX_PEERS, Parts, PieceSet};
+use bt_resume::ResumeLog;
+use bt_state::Parts;
 use bt_tree::NodeHash;
 use std::alloc::{AllocError, Global};
 
@@ -33,13 +36,16 @@ pub fn start<D: Disk + Drop, H: NodeHash>(
     torrent: Torrent,
     hash: H,
     disks: Vec<D>,
-) -> Result<Parts<D, H>, StartRefused<D>>
+) -> Result<Parts<D, H>, StartRefused<D, ResumeLog<D>>>
     requires digest { H.digest ≡ sha256 }
-    ensures answer { AnswersStart H.digest torrent disks.items (answer_of result) }
+    ensures answer { AnswersStart D.history D.honest D.faults H.digest torrent disks.items None
+        (answer_of result) }
     ensures tied { IfOk result (λ parts. IsTied parts) }
+    ensures lawful { IfOk result (λ parts. IsLawful parts.torrent.piece_length parts.torrent.files) }
     ensures shaped { IfOk result (λ parts. IsShaped parts.torrent (state_of parts)) }
     ensures orderly { IfOk result (λ parts. IsOrderly (state_of parts)) }
     ensures rooted { IfOk result (λ parts. AreRooted H.digest (state_of parts)) }
+    ensures sparse { IfOk result (λ parts. AreSparseTrees H.digest (state_of parts)) }
     ensures sound { IfOk result (λ parts.
         IsSound D.history D.honest H.digest (state_of parts) (disks_of parts)) }
 {
@@ -47,12 +53,14 @@ pub fn start<D: Disk + Drop, H: NodeHash>(
     if disks.len() != device_count(torrent.files()) {
         return Err(StartRefused {
             disks,
+            log: None,
             cause: StartError::DiskCount,
         });
     }
     let Ok(mut parts) = bare_parts(alloc, torrent, hash) else {
         return Err(StartRefused {
             disks,
+            log: None,
             cause: StartError::OutOfMemory,
         });
     };
@@ -61,6 +69,7 @@ pub fn start<D: Disk + Drop, H: NodeHash>(
         Ok(()) => Ok(parts),
         Err(AllocError) => Err(StartRefused {
             disks,
+            log: None,
             cause: StartError::OutOfMemory,
         }),
     }
@@ -77,15 +86,17 @@ fn bare_parts<D: Disk + Drop, H: NodeHash>(
     ensures bare { IfOk result (λ parts. AreBareParts H.digest parts) }
 {
     torrent.keeps_laws();
-    let (trees, slots) = bare_slots(alloc, hash, &torrent)?;
-    let counts = block_counts(alloc, torrent.files())?;
+    let (first_files, slots) = bare_slots(alloc, torrent.files())?;
+    let trees = new_trees(alloc, hash, &torrent, &first_files)?;
+    let books = new_books(alloc, &torrent)?;
     Ok(Parts {
         trees,
+        first_files,
         slots,
-        unmarked: piece_sizes(alloc, &torrent)?,
-        known: PieceSet::new(alloc, torrent.pieces())?,
-        peers: Vec::with_capacity(alloc, MAX_PEERS)?,
-        book: new_book(alloc, &counts)?,
+        unmarked: books.unmarked,
+        known: books.known,
+        peers: books.peers,
+        book: books.book,
         last_key: 0,
         turn: 0,
         torrent,
@@ -106,7 +117,6 @@ fn give_devices<D: Disk + Drop, H: NodeHash>(
     ensures refused { OnErr result (disks.new.items ≡ disks.old.items) }
 {
     blocks_and_ranges_agree();
-    starts_keep_laws::<D, H>(hash);
     let files = parts.torrent.files();
     hand_out(alloc, hash, files, &mut parts.slots, disks)
 }

@@ -1,13 +1,17 @@
 //! How an engine begins: a torrent's trees, a slot for each of its files, with its device, and a book that
-//! wants all blocks.
+//! wants all blocks. Trees and book can be made anew.
 #![tactic(auto)]
 
 mod beginning;
 mod block_counts;
+mod books;
 mod devices;
 mod new_book;
 mod new_tree;
 mod piece_sizes;
+mod roots;
 mod trees;
 
 pub use beginning::start;
+pub use books::{Books, new_books};
+pub use trees::new_trees;

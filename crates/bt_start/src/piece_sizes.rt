@@ -1,5 +1,5 @@
 ghost use Rattle.std.specs.Prelude.{IfOk};
-ghost use Rattle.bt_start.specs.PieceSteps.{ArePieceSizes};
+ghost use Rattle.bt_start.specs.Books.{ArePieceSizes};
 
 use bt_meta::Torrent;
 use std::alloc::{AllocError, Global};

@@ -1,18 +1,19 @@
 -- Leaves that are known stay so where trees grow, and files keep their trees.
-use Rattle.bt_machine.proofs.Base.{◌≡◌, ℕ, inl, inr, true, Bool, List, Option, Some, None, is_some, refl, sym, ap, ◌∙◌, subst, IsSome, slice_get, slice_set, option_and_then, length-set, Facts, held_at, BlockId, Metainfo, total_pieces}
+use Rattle.bt_machine.proofs.Base.{◌≡◌, ℕ, inl, inr, true, Bool, List, map, Option, Some, None, is_some, refl, sym, ap, ◌∙◌, subst, IsSome, slice_get, slice_set, option_and_then, length-set, Facts, held_at, BlockId, Metainfo, total_pieces}
 use Rattle.bt_meta.specs.PieceBlocks.{HasBlock}
 use Rattle.bt_sparse.specs.Acceptance.{IsJoined}
 use Rattle.bt_sparse.specs.declared.claim.Claim.{Claim}
 use Rattle.bt_machine.proofs.Lists.{and_then_some, set_cases}
 use Rattle.bt_machine.specs.State.{EngineState, FileState}
 use Rattle.bt_machine.specs.Blocks.{tree_of, piece_of, with_file}
-use Rattle.bt_state.specs.Ties.{KnowsLeaves, StillKnows, LeavesStay}
+use Rattle.bt_machine.proofs.Shape.{map_set as set_map}
+use Rattle.bt_state.specs.Ties.{KnowsLeaves, StillKnows, LeavesStay, root_and_length}
 
 pub still : (k : Facts) → StillKnows k k
-still k = record { long = refl; leaves = λ i there. there }
+still k = record { root = refl; long = refl; leaves = λ i there. there }
 
 pub still_then : {k l m : Facts} → StillKnows k l → StillKnows l m → StillKnows k m
-still_then a b = record { long = b.long ∙ a.long; leaves = λ i there. b.leaves i (a.leaves i there) }
+still_then a b = record { root = b.root ∙ a.root; long = b.long ∙ a.long; leaves = λ i there. b.leaves i (a.leaves i there) }
 
 -- ---- from engine to engine
 
@@ -67,9 +68,15 @@ one_grown ks tree {k} {grown} here more t j at = elim (set_cases ks tree t at) [
   | inr there ↦ (j, there, still j)
 ]
 
+-- and has the root and the length that it had
+pub same_names : (ks : List Facts) (tree : ℕ) {k : Facts} (grown : Facts) → slice_get ks tree ≡ Some k → StillKnows k grown
+    → map root_and_length (slice_set ks tree grown) ≡ map root_and_length ks
+same_names ks tree {k} grown here more = set_map root_and_length ks tree grown here
+    (ap (λ root. (root, grown.file_length)) more.root ∙ ap (λ n. (k.root, n)) more.long)
+
 -- by a claim that was accepted
 pub still_joined : {dig : List ℕ → List ℕ} {k j : Facts} {c : Claim} → IsJoined dig k c j → StillKnows k j
-still_joined {k = k} {j = j} joins = record { long = joins.file_length; leaves = λ i there. by i (held_at k 0 i) refl there }
+still_joined {k = k} {j = j} joins = record { root = joins.root; long = joins.file_length; leaves = λ i there. by i (held_at k 0 i) refl there }
   where
     by : (i : ℕ) (o : Option (List ℕ)) → held_at k 0 i ≡ o → IsSome o → IsSome (held_at j 0 i)
     by i None at there = absurd cc

@@ -1,6 +1,6 @@
 -- What ties the parts of an engine together, between its events.
-use Rattle.std.specs.Prelude.{◌≡◌, ℕ, ◌<◌, ◌≤◌, ◌↔◌, Bool, true, not, List, length, map, filter, count_by, Some, None, IsSome, slice_get, vec_capacity}
-use Rattle.std.specs.Option.{option_and_then}
+use Rattle.std.specs.Prelude.{[], ◌≡◌, ℕ, ◌<◌, ◌≤◌, ◌↔◌, Bool, true, not, List, length, map, filter, count_by, Some, None, IsSome, slice_get, vec_capacity}
+use Rattle.std.specs.Option.{option_and_then, option_map_or}
 use Rattle.std.specs.List.{AllPairs}
 use Rattle.bt_tree.specs.Blocks.{block_count}
 use Rattle.bt_meta.specs.Files.{File}
@@ -63,8 +63,9 @@ pub record KnowsLeaves (s : EngineState) (pieces : List Bool) : Type 0 where
   pub each : (b : BlockId) (k : Facts) → HasBlock s.torrent b.file b.block → LiesAmong s pieces b
       → tree_of s b.file ≡ Some k → IsSome (held_at k 0 b.block)
 
--- the trees are of one length, and the second has each leaf that the first has
+-- the trees are of one root and length, and the second has each leaf that the first has
 pub record StillKnows (k j : Facts) : Type 0 where
+  pub root : j.root ≡ k.root
   pub long : j.file_length ≡ k.file_length
   pub leaves : (i : ℕ) → IsSome (held_at k 0 i) → IsSome (held_at j 0 i)
 
@@ -73,11 +74,41 @@ abbrev pub LeavesStay : EngineState → EngineState → Type 0
 LeavesStay s t = (file : ℕ) (j : Facts) → tree_of t file ≡ Some j
     → (k : Facts) × (tree_of s file ≡ Some k) × StillKnows k j
 
+-- ---- the first files of trees
+
+-- what a tree has of its files
+abbrev pub root_and_length : Facts → List ℕ × ℕ
+root_and_length k = (k.root, k.file_length)
+
+abbrev pub root_and_length_of : List File → ℕ → List ℕ × ℕ
+root_and_length_of files number =
+    option_map_or (λ file. (file.root, file.length)) (slice_get files number) ([], 0)
+
+-- the file has a byte, and none of its root that has one stands before it
+pub record IsFirstFile (files : List File) (number : ℕ) : Type 0 where
+  pub file : File
+  pub listed : slice_get files number ≡ Some file
+  pub some : 0 < file.length
+  pub is_first : (j : ℕ) (other : File) → slice_get files j ≡ Some other → 0 < other.length
+      → other.root ≡ file.root → number ≤ j
+
+abbrev pub EachIsFirst : List File → List ℕ → Type 0
+EachIsFirst files numbers = (t number : ℕ) → slice_get numbers t ≡ Some number → IsFirstFile files number
+
+-- for each of the trees the number of the first file that has its root
+pub record AreFirstFiles (files : List File) (trees : List (List ℕ × ℕ)) (numbers : List ℕ) : Type 0 where
+  pub each : EachIsFirst files numbers
+  pub same : trees ≡ map (root_and_length_of files) numbers
+
+abbrev pub HaveFirstFiles : {D H : Type 0} → Parts D H → Type 0
+HaveFirstFiles parts =
+    AreFirstFiles parts.torrent.files (map root_and_length parts.trees.items) parts.first_files.items
+
 -- ---- all
 
 -- The peers are the book's, in its order, which is that of their keys, and there is room for all that may be.
--- A block is wanted exactly while it is missing. There is a slot for each file, and a count for each piece. The
--- leaves of the blocks in the pieces of the set are known.
+-- A block is wanted exactly while it is missing. There is a slot for each file, and a count for each piece, and
+-- each tree has its first file. The leaves of the blocks in the pieces of the set are known.
 pub record IsTied {D H : Type 0} (parts : Parts D H) : Type 0 where
   pub joined : map (λ p. p.key) parts.peers.items ≡ map (λ r. r.peer) parts.book.peers
   pub in_order : AllPairs (λ p q. p.key.0 < q.key.0) parts.peers.items
@@ -89,5 +120,6 @@ pub record IsTied {D H : Type 0} (parts : Parts D H) : Type 0 where
   pub count : length parts.slots.items ≡ length parts.torrent.files
   pub each : (i : ℕ) (slot : Slot D H) → slice_get parts.slots.items i ≡ Some slot
       → FitsFile parts.torrent.files parts.trees.items i slot
+  pub firsts : HaveFirstFiles parts
   pub unmarked : AreUnmarked (state_of parts) parts.unmarked.items
   pub known : KnowsLeaves (state_of parts) parts.known

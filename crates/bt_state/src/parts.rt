@@ -13,6 +13,8 @@ pub struct Parts<D: Disk + Drop, H: NodeHash> {
     pub torrent: Torrent,
     /// One for each root.
     pub trees: Vec<SparseTree<H>>,
+    /// For each tree the first file that has it.
+    pub first_files: Vec<u32>,
     /// One for each file, in the torrent's order.
     pub slots: Vec<Slot<D, H>>,
     /// For each piece how many of its blocks are not marked.

@@ -12,6 +12,7 @@ use Rattle.bt_machine.specs.declared.error.FlushError.{FlushError}
 use Rattle.bt_machine.specs.declared.error.FlushError.TheVariants.{Device}
 use Rattle.bt_machine.specs.State.{FileState}
 use Rattle.bt_machine.specs.Devices.{DeviceCalls, HaveCalls}
+use Rattle.bt_machine.specs.LogCalls.{on_devices}
 use Rattle.bt_machine.specs.Flush.{syncs as all_made, fails, syncs_of}
 use Rattle.bt_state.specs.Parts.{file_of, disk_of}
 use Rattle.bt_state.specs.declared.slot.Slot.{Slot}
@@ -131,7 +132,7 @@ module _ {D H : Type 0} (history : D → History) (honest : D → Type 0) (fault
         record {
           calls = syncs_of (data_below files i) ++ (i, _) ∷ [];
           have = have_call store disk has is _ calls;
-          step = λ s logged same. fails (data_below files i) i (data_after files i (length files) lt) logged
+          step = λ s logged same. fails (data_below files i) i (data_after files i (length files) lt)
               (ap (λ (fs : List FileState). data_below fs (length fs)) same ∙ data_at files i (length files) lt
               ∙ ap (λ t. data_below files i ++ cond t (i ∷ data_after files i (length files) lt) (data_after files i (length files) lt)) stands)
               refl refl refl;
@@ -149,7 +150,7 @@ module _ {D H : Type 0} (history : D → History) (honest : D → Type 0) (fault
     calls = syncs_of (data_below (map file_of old) i);
     have = below.have;
     step = λ s logged same. all_made logged
-        (ap (λ n. syncs_of (data_below (map file_of old) n)) (all ∙ sym (length-map old file_of))
-        ∙ sym (ap (λ (fs : List FileState). syncs_of (data_below fs (length fs))) same)) refl refl;
+        (ap on_devices (ap (λ n. syncs_of (data_below (map file_of old) n)) (all ∙ sym (length-map old file_of))
+        ∙ sym (ap (λ (fs : List FileState). syncs_of (data_below fs (length fs))) same))) refl refl;
     others = below.others;
   }

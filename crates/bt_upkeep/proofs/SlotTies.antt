@@ -8,6 +8,7 @@ use Rattle.bt_machine.specs.State.{EngineState, FileState}
 use Rattle.bt_machine.specs.Blocks.{state_at}
 use Rattle.bt_machine.specs.declared.error.FlushError.{FlushError}
 use Rattle.bt_machine.specs.Devices.{DeviceCalls, HaveCalls}
+use Rattle.bt_machine.specs.LogCalls.{on_devices}
 use Rattle.bt_machine.specs.Flush.{StepFlush}
 use Rattle.bt_state.specs.Parts.{state_of, file_of, disks_of}
 use Rattle.bt_state.specs.Ties.{IsTied, FitsFile, AreUnmarked, KnowsLeaves}
@@ -75,11 +76,11 @@ module _ {D H : Type 0} where
     pub flushed : (history : D → History) (honest : D → Type 0) (faults : D → ℕ) (r : Result (Unit {0}) FlushError)
         → SyncsSlots history honest faults old.slots.items r new.slots.items
         → (calls : DeviceCalls) × HaveCalls history honest faults (disks_of old) calls (disks_of (record old { slots = new.slots }))
-        × StepFlush (state_of old) calls r (state_of (record old { slots = new.slots }))
+        × StepFlush (state_of old) (on_devices calls) r (state_of (record old { slots = new.slots }))
     flushed history honest faults r synced = (
       synced.calls,
       synced.have,
-      subst (λ (s : EngineState). StepFlush (state_of old) synced.calls r s) (sym state_kept) (synced.step (state_of old) refl refl),
+      subst (λ (s : EngineState). StepFlush (state_of old) (on_devices synced.calls) r s) (sym state_kept) (synced.step (state_of old) refl refl),
     )
 
     fits_still : IsTied old → (i : ℕ) (slot : Slot D H) → slice_get new.slots.items i ≡ Some slot → FitsFile old.torrent.files old.trees.items i slot
@@ -96,6 +97,7 @@ module _ {D H : Type 0} where
       ranged = λ b x at. tied.ranged b x (sym (ap (λ s. state_at s b) state_kept) ∙ at);
       count = sym (length-map new.slots.items without_disk) ∙ ap (λ ks. length ks) kept ∙ length-map old.slots.items without_disk ∙ tied.count;
       each = fits_still tied;
+      firsts = tied.firsts;
       unmarked = subst (λ (s : EngineState). AreUnmarked s old.unmarked.items) (sym state_kept) tied.unmarked;
       known = subst (λ (s : EngineState). KnowsLeaves s old.known) (sym state_kept) tied.known;
     }

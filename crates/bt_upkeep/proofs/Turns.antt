@@ -70,7 +70,7 @@ module _ {D H : Type 0} (old : Parts D H) (served : List PeerKey) (tied : IsTied
 
     pub turn_tied : max_peers ≤ vec_capacity new.peers → IsTied (record old { peers = new.peers; turn = new.turn })
     turn_tied room =
-        tied_again old (record old { peers = new.peers; turn = new.turn }) tied refl refl refl refl refl refl
+        tied_again old (record old { peers = new.peers; turn = new.turn }) tied refl refl refl refl refl refl refl
         (ap (map (λ (p : Peer). p.key)) items ∙ map-map (λ (p : Peer). p.key) (served_peer served) old.peers.items ∙ tied.joined)
         (rw items (from_pairs (λ (p q : Peer). p.key.0 < q.key.0) (map (served_peer served) old.peers.items)
         (pairs_map (λ (p q : Peer). p.key.0 < q.key.0) (λ (p q : Peer). p.key.0 < q.key.0) (served_peer served) old.peers.items (λ p q lt. lt)

@@ -7,6 +7,7 @@ use Rattle.bt_store.specs.declared.block_states.BlockState.{BlockState}
 use Rattle.bt_machine.specs.declared.error.FlushError.{FlushError}
 use Rattle.bt_machine.specs.State.{EngineState}
 use Rattle.bt_machine.specs.Devices.{DeviceCalls, HaveCalls}
+use Rattle.bt_machine.specs.LogCalls.{on_devices}
 use Rattle.bt_machine.specs.Flush.{StepFlush}
 use Rattle.bt_state.specs.Parts.{file_of, disk_of}
 use Rattle.bt_state.specs.declared.slot.Slot.{Slot}
@@ -34,5 +35,6 @@ pub record SyncsSlots
     (old : List (Slot D H)) (answer : Result (Unit {0}) FlushError) (new : List (Slot D H)) : Type 0 where
   pub calls : DeviceCalls
   pub have : HaveCalls history honest faults (map disk_of old) calls (map disk_of new)
-  pub step : (s : EngineState) → s.logged ≡ false → s.files ≡ map file_of old → StepFlush s calls answer s
+  pub step : (s : EngineState) → s.logged ≡ false → s.files ≡ map file_of old
+      → StepFlush s (on_devices calls) answer s
   pub others : map without_disk new ≡ map without_disk old

@@ -2,6 +2,7 @@
 ghost use Rattle.std.specs.Prelude.{◌≡◌, ◌<◌, length};
 ghost use Rattle.bt_machine.specs.Devices.{DeviceCalls, HaveCalls};
 ghost use Rattle.bt_machine.specs.Flush.{StepFlush};
+ghost use Rattle.bt_machine.specs.LogCalls.{on_devices};
 ghost use Rattle.bt_state.specs.Parts.{state_of, disks_of};
 ghost use Rattle.bt_state.specs.Ties.{IsTied};
 ghost use Rattle.bt_upkeep.specs.DevicesSteps.{SyncsSlot, SyncsSlots};
@@ -17,7 +18,7 @@ pub fn flush<D: Disk + Drop, H: NodeHash>(parts: &mut Parts<D, H>) -> Result<(),
     requires { IsTied parts.old }
     ensures step { (calls : DeviceCalls)
         × HaveCalls D.history D.honest D.faults (disks_of parts.old) calls (disks_of parts.new)
-        × StepFlush (state_of parts.old) calls result (state_of parts.new) }
+        × StepFlush (state_of parts.old) (on_devices calls) result (state_of parts.new) }
     ensures torrent { parts.new.torrent ≡ parts.old.torrent }
     ensures tied { IsTied parts.new }
 {

@@ -25,7 +25,7 @@ use Rattle.bt_state.specs.declared.peer.Peer.{Peer}
 use Rattle.bt_state.specs.declared.slot.Slot.{Slot}
 use Rattle.bt_state.specs.declared.parts.Parts.{Parts}
 use Rattle.bt_state.proofs.BlockChanges.{EachFits, followed_alike, followed_tied, tied_followed, state_kept}
-use Rattle.bt_state.proofs.Leaves.{leaves_by, one_grown, still_joined}
+use Rattle.bt_state.proofs.Leaves.{leaves_by, one_grown, same_names, still_joined}
 use Rattle.bt_state.proofs.SlotChanges.{fits_trees}
 use Rattle.bt_state.proofs.Lists.{get_mapped}
 use Rattle.bt_state.proofs.Ties.{state_set}
@@ -145,6 +145,7 @@ module _ {D H : Type 0} (history : D → History) (honest : D → Type 0) (fault
         (ap (λ (ss : List (Slot D H)). length ss) slots ∙ l.settles.size)
         (subst (λ (ts : List Facts). EachFits old.torrent.files ts next.slots.items) (sym trees)
         (subst (λ (ss : List (Slot D H)). EachFits old.torrent.files grown ss) (sym slots) fits_settled))
+        (rw (trees ∙ l.grows) (rw (same_names old.trees.items l.tree l.new l.here.here (still_joined l.accepts.joins)) tied.firsts))
         (followed_alike (state_of new_parts) followed refl refl) refl leaves_learnt
 
     state_learnt : ((known : PeerKey) → asked_of next.book known ≡ asked_of old.book known)

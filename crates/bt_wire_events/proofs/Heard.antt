@@ -27,7 +27,7 @@ module _ {D H : Type 0} (old : Parts D H) (i : ℕ) {p : Peer} (q : Peer) (book 
   tied_heard wanted peers =
       let set = tied_set old i q tied here same in
       tied_again (record old { peers = with_item old.peers i q }) (record old { peers = with_item old.peers i q; book = book })
-      set refl refl refl refl refl wanted (set.joined ∙ sym peers) set.in_order set.room
+      set refl refl refl refl refl refl wanted (set.joined ∙ sym peers) set.in_order set.room
 
   -- and of the machine's peers it alone is another
   pub state_heard : KeepsOthers old.book book p.key

@@ -1,7 +1,7 @@
 use Rattle.std.proofs.Common.{length, sym, ap, ◌∙◌, arith}
 use Rattle.bt_state.specs.declared.parts.Parts.{Parts}
 use Rattle.bt_adoption.proofs.Slots.{here_at}
-use Rattle.bt_adoption.proofs.OtherFiles.{rest_then}
+use Rattle.bt_adoption.proofs.OtherFiles.{as_many_trees, rest_then}
 use Rattle.bt_adoption.proofs.Adoptions.{in_line_first, tied_last, alone_if, steps_no_file, steps_busy, steps_empty, steps_stopped, steps_adopted, tree_below}
 use Rattle.bt_adoption.proofs.adoption.adopt.Goals as goal
 
@@ -47,7 +47,7 @@ settle_others-requires-clause-here g c =
     let old = c.args.parts.now in
     let here = here_at old (omega (arith, c.if-file-len.false, c.len.ensures)) c.index.ensures in
     let below = tree_below old c.args.file here (omega (arith, c.if-block_count-eq0.false, c.block_count.ensures)) (in_line_first old c.requires.tied c.requires.shaped) in
-    omega (arith, below, c.adopt_file.ensures.rest.trees, c.adopt_file.new.parts.trees.ok.0, old.trees.ok.0)
+    omega (arith, below, as_many_trees c.adopt_file.ensures.rest, c.adopt_file.new.parts.trees.ok.0, old.trees.ok.0)
 
 pub returns-clause-step : goal.returns-clause-step
 returns-clause-step g c =

@@ -2,7 +2,7 @@ use Rattle.std.proofs.Common.{◌+◌, List, length, sym, ap, ◌∙◌, subst, 
 use Rattle.std.proofs.lemmas.List.{length-map}
 use Rattle.bt_meta.specs.Files.{File, file_of}
 use Rattle.bt_state.specs.declared.parts.Parts.{Parts}
-use Rattle.bt_adoption.proofs.OtherFiles.{AreSettled, settled_begun, settled_more, settled_skipped, settled_done}
+use Rattle.bt_adoption.proofs.OtherFiles.{as_many_trees, AreSettled, settled_begun, settled_more, settled_skipped, settled_done}
 use Rattle.bt_adoption.proofs.settling.settle_others.Goals as goal
 use Rattle.bt_adoption.proofs.settling.settle_others.Goals.{then-other-file, else-other-file}
 
@@ -21,7 +21,7 @@ settle_file-requires-clause-inside g c =
 
 pub settle_file-requires-clause-here : goal.settle_file-requires-clause-here
 settle_file-requires-clause-here g c =
-    omega (arith, c.requires.here, c.loop-other.invariant.rest.trees, c.loop-other.parts.trees.ok.0, c.args.parts.now.trees.ok.0)
+    omega (arith, c.requires.here, as_many_trees c.loop-other.invariant.rest, c.loop-other.parts.trees.ok.0, c.args.parts.now.trees.ok.0)
 
 pub loop-other-preserved : goal.loop-other-preserved
 loop-other-preserved g c =

@@ -1,27 +1,25 @@
-use Rattle.std.proofs.Common.{ℕ, false, true, List, map, replicate, refl, ap, ◌∙◌}
-use Rattle.bt_tree.specs.Blocks.{block_count}
-use Rattle.bt_meta.specs.Files.{File}
-use Rattle.bt_start.proofs.RootTrees.{all_short}
-use Rattle.bt_start.proofs.Beginnings.{counts_wanted}
+use Rattle.std.proofs.Common.{refl}
+use Rattle.bt_start.proofs.RootTrees.{names_of_trees, roots_of_trees, torrent_trees, trees_apart}
 use Rattle.bt_start.proofs.beginning.bare_parts.Goals as goal
 
-pub block_counts-requires : goal.block_counts-requires
-block_counts-requires g c = record { short = all_short c.files.result.now c.files.ensures.lawful }
+pub new_trees-requires-clause-firsts : goal.new_trees-requires-clause-firsts
+new_trees-requires-clause-firsts g c =
+    rw (c.deref.ensures.value, ← c.files.ensures.said) c.in_ok-first_files.ensures.firsts
 
 pub returns-clause-bare : goal.returns-clause-bare
 returns-clause-bare g c =
-    let files = c.files.result.now in
+    let said = c.files.ensures.said in
+    let are = rw c.deref.ensures.value at c.in_ok-trees.ensures in
+    let each = rw said at c.in_ok-first_files.ensures.firsts in
+    let apart = rw said at c.in_ok-first_files.ensures.apart in
     record {
-      lawful = c.keeps_laws.ensures.lawful;
-      trees = c.in_ok-trees.ensures.trees;
-      slots = c.in_ok-trees.ensures.slots;
-      sizes = c.in_ok-piece_sizes.ensures;
-      known = c.in_ok-new.ensures ∙ ap (λ n. replicate n false) c.pieces.ensures.counted;
-      wanted = c.in_ok-new_book.ensures.wanted ∙ ap (λ (ns : List ℕ). map (λ n. replicate n true) ns) (c.deref.ensures.value ∙ c.in_ok-counts.ensures) ∙ counts_wanted files
-          ∙ ap (λ (files : List File). map (λ file. replicate (block_count file.length) true) files) c.files.ensures.said;
-      book = c.in_ok-new_book.ensures.peers;
-      peers = c.in_ok-with_capacity.ensures.items;
-      room = c.in_ok-with_capacity.ensures.capacity;
+      new = record {
+        lawful = c.keeps_laws.ensures.lawful;
+        trees = torrent_trees are each (trees_apart _ _ (roots_of_trees are) apart);
+        firsts = record { each = each; same = names_of_trees are };
+        books = c.in_ok-books.ensures;
+      };
+      slots = rw (names_of_trees are) (rw said at c.in_ok-first_files.ensures.slots);
       first_key = refl;
       first_turn = refl;
     }

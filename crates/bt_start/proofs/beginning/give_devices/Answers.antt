@@ -25,5 +25,5 @@ hand_out-requires-clause-enough g c = c.requires.enough ∙ ap device_count (sym
 pub returns-clause-begun : goal.returns-clause-begun
 returns-clause-begun g c =
     ok_follows c.hand_out.result (λ slots trees devices. have_begun c.args.parts.now c.deref_mut.result.now c.hand_out.new.slots c.blocks_and_ranges_agree.ensures.in_piece
-    c.starts_keep_laws.ensures.shaped c.requires.bare c.files-files.ensures.said
+    c.requires.bare c.files-files.ensures.said
     c.deref_mut.ensures.value slots trees devices) c.hand_out.ensures.slots c.hand_out.ensures.trees c.hand_out.ensures.devices

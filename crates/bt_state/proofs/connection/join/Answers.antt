@@ -44,4 +44,4 @@ returns-clause-tied g c =
     let is = c.new_peer.ensures ∙ ap (peer_with key) c.requires.none in
     let items = peers ∙ ap (λ (p : Peer). old.peers.items ++ p ∷ []) is in
     tied_joined old key tied orderly refl (record old { peers = c.push.new.self; book = c.join.new.self; last_key = old.last_key + 1 }) items
-    refl refl refl refl refl book (omega (arith, tied.room, c.push.ensures.capacity))
+    refl refl refl refl refl refl book (omega (arith, tied.room, c.push.ensures.capacity))

@@ -30,7 +30,7 @@ pub returns-clause-tied : goal.returns-clause-tied
 returns-clause-tied g c =
     let old = c.args.parts.now in
     let at = c.in-Some.ensures.some in
-    tied_again old _ c.requires refl refl refl refl refl (ap (λ (b : BookState). b.wanted) c.lost.ensures.now)
+    tied_again old _ c.requires refl refl refl refl refl refl (ap (λ (b : BookState). b.wanted) c.lost.ensures.now)
     (ap (λ (ps : List Peer). map (λ p. p.key) ps) c.remove.ensures.items
     ∙ keys_left old.peers.items old.book.peers c.args.key c.in-Some.index c.requires.joined at.here at.same_key (c.keeps_laws.ensures.once c.args.key)
     ∙ ap (λ (b : BookState). map (λ r. r.peer) b.peers) (sym c.lost.ensures.now))

@@ -1,7 +1,7 @@
 use Rattle.bt_engine.proofs.engine.Engine.keeps_laws.Goals as goal
 
 pub returns-clause-lawful : goal.returns-clause-lawful
-returns-clause-lawful g c = rw (← c.self.view_is) c.keeps_laws.ensures.lawful
+returns-clause-lawful g c = rw (← c.self.view_is) c.self.invariant.lawful
 
 pub returns-clause-shaped : goal.returns-clause-shaped
 returns-clause-shaped g c = rw (← c.self.view_is) c.self.invariant.shaped

@@ -1,7 +1,7 @@
 use Rattle.std.proofs.Common.{refl}
 use Rattle.bt_machine.specs.declared.event.Event.TheVariants.{Next}
 use Rattle.bt_machine.specs.declared.event.Answer.TheVariants.{Stepped}
-use Rattle.bt_engine.proofs.Keeping.{kept_after}
+use Rattle.bt_engine.proofs.Keeping.{steps_with, kept_after}
 use Rattle.bt_engine.proofs.engine.Engine.next.Goals as goal
 
 pub invariant_of-self : goal.invariant_of-self
@@ -9,8 +9,10 @@ invariant_of-self g c =
     let laws = c.steps_keep_laws.ensures in
     let step = c.next.ensures.step in
     kept_after g.D.Disk.history g.D.Disk.honest g.D.Disk.faults g.H.NodeHash.digest c.self.inside.parts c.next.new.parts (Next c.args.peer) (Stepped c.next.result)
-    laws.shaped laws.orderly laws.sparse laws.rooted laws.sound c.self.invariant (record { calls = step.0; step = (c.next.result, refl, step.2); made = step.1 })
+    laws.shaped laws.orderly laws.sparse laws.rooted laws.sound c.self.invariant (steps_with g.D.Disk.history g.D.Disk.honest g.D.Disk.faults g.H.NodeHash.digest c.self.inside.parts c.next.new.parts (Next c.args.peer) (Stepped c.next.result)
+    step.0 (c.next.result, refl, refl, step.2) step.1)
     c.next.ensures.torrent c.next.ensures.tied
 
 pub returns : goal.returns
-returns g c = (let step = c.next.ensures.step in rw (← c.self.view_is) (record { calls = step.0; step = (c.next.result, refl, step.2); made = step.1 }))
+returns g c = (let step = c.next.ensures.step in rw (← c.self.view_is) (steps_with g.D.Disk.history g.D.Disk.honest g.D.Disk.faults g.H.NodeHash.digest c.self.inside.parts c.next.new.parts (Next c.args.peer) (Stepped c.next.result)
+    step.0 (c.next.result, refl, refl, step.2) step.1))

@@ -1,0 +1,35 @@
+ghost use Rattle.std.specs.Prelude.{IfOk};
+ghost use Rattle.bt_start.specs.Books.{AreNewBooks};
+
+use crate::block_counts::block_counts;
+use crate::new_book::new_book;
+use crate::piece_sizes::piece_sizes;
+use bt_book::Book;
+use bt_meta::Torrent;
+use bt_state::{MAX_PEERS, Peer, PieceSet};
+use std::alloc::{AllocError, Global};
+
+/// What an engine keeps of its blocks and peers, beside its trees and files.
+#[derive(Drop)]
+pub struct Books {
+    /// For each piece how many of its blocks are not marked.
+    pub unmarked: Vec<u32>,
+    /// Pieces of whose blocks each leaf is known.
+    pub known: PieceSet,
+    pub peers: Vec<Peer>,
+    pub book: Book,
+}
+
+/// The books of a torrent of which all blocks are missing, and of which no leaf need be known. No peer is
+/// connected. Errors: out of memory.
+pub fn new_books(alloc: Global, torrent: &Torrent) -> Result<Books, AllocError>
+    ensures { IfOk result (λ books. AreNewBooks torrent.now books) }
+{
+    let counts = block_counts(alloc, torrent.files())?;
+    Ok(Books {
+        unmarked: piece_sizes(alloc, torrent)?,
+        known: PieceSet::new(alloc, torrent.pieces())?,
+        peers: Vec::with_capacity(alloc, MAX_PEERS)?,
+        book: new_book(alloc, &counts)?,
+    })
+}
