@@ -210,6 +210,7 @@ impl<D: Disk + Drop, H: NodeHash> Engine<D, H> {
         ensures rooted { AreRooted H.digest self.now.state }
         ensures sparse { AreSparseTrees H.digest self.now.state }
         ensures sound { IsSound D.history D.honest H.digest self.now.state self.now.disks }
+        ensures unlogged { self.now.log ≡ None }
     {
         // A proof knows what holds of an engine only from a step that looks at its parts.
         let _ = &self.parts;

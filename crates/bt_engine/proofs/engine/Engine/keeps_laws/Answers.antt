@@ -1,3 +1,4 @@
+use Rattle.std.proofs.Common.{refl}
 use Rattle.bt_engine.proofs.engine.Engine.keeps_laws.Goals as goal
 
 pub returns-clause-lawful : goal.returns-clause-lawful
@@ -17,3 +18,6 @@ returns-clause-sparse g c = rw (← c.self.view_is) c.self.invariant.sparse
 
 pub returns-clause-sound : goal.returns-clause-sound
 returns-clause-sound g c = rw (← c.self.view_is) c.self.invariant.sound
+
+pub returns-clause-unlogged : goal.returns-clause-unlogged
+returns-clause-unlogged g c = rw (← c.self.view_is) refl
