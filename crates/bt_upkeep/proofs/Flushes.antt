@@ -1,14 +1,13 @@
 -- Slots whose devices are synced, one after the other.
 use Rattle.bt_machine.proofs.Base.{[], ◌≡◌, ℕ, suc, ◌+◌, ◌-◌, ◌<◌, ◌≤◌, Bool, true, false, not, ◌==◌, cond, List, ◌∷◌, ◌++◌, length, map, filter, Option, Some, None, option_map_or, option_map, slice_get, slice_set, Result, Ok, Err, refl, sym, ap, ◌∙◌, subst, arith, range_with_len, filter-append, append-nil, length-map, History, Call}
-use Rattle.std.specs.Prelude.{IsErr}
 use Rattle.std.proofs.lemmas.Bool.{ne_eqb}
 use Rattle.std.proofs.lemmas.List.{map-append}
 use Rattle.bt_disk.specs.Calls.{HasCalls}
+use Rattle.bt_disk.specs.declared.disk.DeviceFault.{DeviceFault}
 use Rattle.bt_store.proofs.Reviews.{range_split}
 use Rattle.bt_store.specs.FileStore.{StoreView}
 use Rattle.bt_machine.proofs.Lists.{set_id, set_other, some_below}
 use Rattle.bt_machine.proofs.Shape.{map_set as map_stays}
-use Rattle.bt_machine.specs.declared.error.FlushError.{FlushError}
 use Rattle.bt_machine.specs.declared.error.FlushError.TheVariants.{Device}
 use Rattle.bt_machine.specs.State.{FileState}
 use Rattle.bt_machine.specs.Devices.{DeviceCalls, HaveCalls}
@@ -67,11 +66,6 @@ module _ {D H : Type 0} (slot : Slot D H) where
   at_file slots i here is =
       ap (λ (o : Option FileState). not (length (option_map_or (λ f. f.states) o []) == 0)) (get_mapped file_of slots i here) ∙ is
 
--- there is but one error
-only_device : (r : Result (Unit {0}) FlushError) → IsErr r → r ≡ Err Device
-only_device (Ok _) err = absurd cc
-only_device (Err Device) err = refl
-
 -- ---- the slots before one were synced
 
 module _ {D H : Type 0} (history : D → History) (honest : D → Type 0) (faults : D → ℕ) where
@@ -124,7 +118,7 @@ module _ {D H : Type 0} (history : D → History) (honest : D → Type 0) (fault
           after = λ j le. below.after j (omega arith);
         })
 
-    sync_failed : (e : FlushError) → SyncsSlot history honest faults slot (Err e) new → SyncsSlots history honest faults old (Err Device) (slice_set now i new)
+    pub sync_failed : (e : DeviceFault) → SyncsSlot history honest faults slot (Err e) new → SyncsSlots history honest faults old (Err Device) (slice_set now i new)
     sync_failed e (syncs store disk has some calls is) =
         let files = map file_of old in
         let lt : i < length files = rw (length-map old file_of) (some_below old i before) in
@@ -139,11 +133,6 @@ module _ {D H : Type 0} (history : D → History) (honest : D → Type 0) (fault
           others = all_others store disk has is;
         }
     sync_failed e (rests has answer is) = absurd cc
-
-    pub failed_so : (e : FlushError) → SyncsSlot history honest faults slot (Err e) new → (r : Result (Unit {0}) FlushError) → IsErr r
-        → SyncsSlots history honest faults old r (slice_set now i new)
-    failed_so e failed r err =
-        subst (λ (answer : Result (Unit {0}) FlushError). SyncsSlots history honest faults old answer (slice_set now i new)) (sym (only_device r err)) (sync_failed e failed)
 
   pub all_synced : (old now : List (Slot D H)) (i : ℕ) → i ≡ length old → AreSyncedBelow old now i → SyncsSlots history honest faults old (Ok tt) now
   all_synced old now i all below = record {

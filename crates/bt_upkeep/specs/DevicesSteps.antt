@@ -2,6 +2,7 @@
 use Rattle.std.specs.Prelude.{[], ◌≡◌, ℕ, ◌<◌, false, List, ◌∷◌, map, length, Option, Some, None, option_map, Result, Ok}
 use Rattle.bt_disk.specs.History.{History}
 use Rattle.bt_disk.specs.Calls.{HasCalls, sync_call}
+use Rattle.bt_disk.specs.declared.disk.DeviceFault.{DeviceFault}
 use Rattle.bt_store.specs.FileStore.{StoreView}
 use Rattle.bt_store.specs.declared.block_states.BlockState.{BlockState}
 use Rattle.bt_machine.specs.declared.error.FlushError.{FlushError}
@@ -15,7 +16,7 @@ use Rattle.bt_state.specs.declared.slot.Slot.{Slot}
 -- the slot's device was synced, where it has one, and nothing else changed; a store has a block
 pub data SyncsSlot
     {D H : Type 0} (history : D → History) (honest : D → Type 0) (faults : D → ℕ)
-    (old : Slot D H) (answer : Result (Unit {0}) FlushError) (new : Slot D H) : Type 0 where
+    (old : Slot D H) (answer : Result (Unit {0}) DeviceFault) (new : Slot D H) : Type 0 where
   syncs : (store : StoreView D) (disk : D) → old.store ≡ Some store → 0 < length store.states
       → HasCalls history honest faults store.disk (sync_call answer ∷ []) disk
       → new ≡ record old { store = Some (record store { disk = disk }) }

@@ -7,7 +7,7 @@ ghost use Rattle.bt_state.specs.Parts.{state_of, disks_of};
 ghost use Rattle.bt_state.specs.Ties.{IsTied};
 ghost use Rattle.bt_upkeep.specs.DevicesSteps.{SyncsSlot, SyncsSlots};
 
-use bt_disk::Disk;
+use bt_disk::{DeviceFault, Disk};
 use bt_machine::FlushError;
 use bt_state::{Parts, Slot};
 use bt_store::FileStore;
@@ -30,23 +30,22 @@ fn sync_slots<D: Disk + Drop, H: NodeHash>(slots: &mut [Slot<D, H>]) -> Result<(
     ensures { SyncsSlots D.history D.honest D.faults slots.old result slots.new }
 {
     for slot in slots.iter_mut() {
-        sync_slot(slot)?;
+        if let Err(DeviceFault) = sync_slot(slot) {
+            return Err(FlushError::Device);
+        }
     }
     Ok(())
 }
 
 /// Syncs the slot's device, where it has one.
-fn sync_slot<D: Disk + Drop, H: NodeHash>(slot: &mut Slot<D, H>) -> Result<(), FlushError>
+fn sync_slot<D: Disk + Drop, H: NodeHash>(slot: &mut Slot<D, H>) -> Result<(), DeviceFault>
     ensures { SyncsSlot D.history D.honest D.faults slot.old result slot.new }
 {
     let Some(store) = &mut slot.store else {
         return Ok(());
     };
     has_block(store);
-    if let Err(_) = store.sync() {
-        return Err(FlushError::Device);
-    }
-    Ok(())
+    store.sync()
 }
 
 /// A store has a block. It does nothing when it runs.

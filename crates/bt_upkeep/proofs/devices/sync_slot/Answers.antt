@@ -3,12 +3,7 @@ use Rattle.bt_store.specs.FileStore.{StoreView}
 use Rattle.bt_upkeep.specs.DevicesSteps.{syncs}
 use Rattle.bt_upkeep.proofs.devices.sync_slot.Goals as goal
 
-pub returns-in-Err : goal.returns-in-Err
-returns-in-Err g c =
-    syncs c.in-Some.store c.sync.new.self.disk c.in-Some.is c.has_block.ensures c.in-Err.ensures.call
-    (ap (λ (store : StoreView g.row.D.Denot). record c.args.slot.now { store = Some store }) c.sync.ensures.others)
-
 pub returns : goal.returns
 returns g c =
-    syncs c.in-Some.store c.sync.new.self.disk c.in-Some.is c.has_block.ensures c.in_default-sync.ensures.call
+    syncs c.in-Some.store c.sync.new.self.disk c.in-Some.is c.has_block.ensures c.sync.ensures.call
     (ap (λ (store : StoreView g.row.D.Denot). record c.args.slot.now { store = Some store }) c.sync.ensures.others)

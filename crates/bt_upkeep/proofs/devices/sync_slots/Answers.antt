@@ -1,18 +1,17 @@
 use Rattle.std.proofs.Common.{arith, sym, subst, Ok, Err}
 use Rattle.bt_state.proofs.Lists.{get_read}
 use Rattle.bt_upkeep.specs.DevicesSteps.{SyncsSlot}
-use Rattle.bt_upkeep.proofs.Flushes.{one_synced, all_synced, failed_so}
+use Rattle.bt_upkeep.proofs.Flushes.{one_synced, all_synced, sync_failed}
 use Rattle.bt_upkeep.proofs.devices.sync_slots.Goals as goal
 
-pub returns-in_err-sync_slot : goal.returns-in_err-sync_slot
-returns-in_err-sync_slot g c =
+pub returns-in-Err : goal.returns-in-Err
+returns-in-Err g c =
     let d = g.D.Disk in
     let now = c.loop-slot.slots in
     let i = c.loop-slot.slot-index in
-    failed_so d.history d.honest d.faults c.args.slots.now now i c.slot-item.result c.sync_slot.new.slot c.loop-slot.invariant
-    (get_read now i c.slot-item.result (omega (arith, c.loop-slot-test.true, c.loop-slot.auto.slots)) c.slot-item.is) c.in_err-sync_slot.field-0.0
-    (subst (λ s. SyncsSlot d.history d.honest d.faults s (Err c.in_err-sync_slot.field-0.0) c.sync_slot.new.slot) (sym c.slot-item.is) c.in_err-sync_slot.ensures)
-    c.from_residual.result c.from_residual.ensures.0
+    sync_failed d.history d.honest d.faults c.args.slots.now now i c.slot-item.result c.sync_slot.new.slot c.loop-slot.invariant
+    (get_read now i c.slot-item.result (omega (arith, c.loop-slot-test.true, c.loop-slot.auto.slots)) c.slot-item.is) c.in-Err.field-0
+    (subst (λ s. SyncsSlot d.history d.honest d.faults s (Err c.in-Err.field-0) c.sync_slot.new.slot) (sym c.slot-item.is) c.in-Err.ensures)
 
 pub loop-slot-preserved : goal.loop-slot-preserved
 loop-slot-preserved g c =
@@ -21,7 +20,7 @@ loop-slot-preserved g c =
     let i = c.loop-slot.slot-index in
     one_synced d.history d.honest d.faults c.args.slots.now now i c.slot-item.result c.sync_slot.new.slot c.loop-slot.invariant
     (get_read now i c.slot-item.result (omega (arith, c.loop-slot-test.true, c.loop-slot.auto.slots)) c.slot-item.is)
-    (subst (λ s. SyncsSlot d.history d.honest d.faults s (Ok tt) c.sync_slot.new.slot) (sym c.slot-item.is) c.in_ok-sync_slot.ensures)
+    (subst (λ s. SyncsSlot d.history d.honest d.faults s (Ok tt) c.sync_slot.new.slot) (sym c.slot-item.is) c.in_default.ensures)
 
 pub returns : goal.returns
 returns g c =
