@@ -16,7 +16,7 @@ use Rattle.bt_machine.specs.declared.event.Answer.{Answer}
 use Rattle.bt_machine.specs.declared.event.Answer.TheVariants.{Flushed}
 use Rattle.bt_machine.proofs.Machine.{Digest, FileState, EngineState, Step, RunOn, IsFile, stored_block}
 use Rattle.bt_machine.proofs.Lists.{and_then_some, same_some}
-use Rattle.bt_runs.specs.Flushes.{LosesNoBlock, LosesNoBlockFrom, IsFlushedAt, FlushesLoseNoBlock, KeepsFlushed, FlushedBlocksStay}
+use Rattle.bt_runs.specs.Flushes.{LosesNoBlockFrom, IsFlushedAt, FlushesLoseNoBlock, KeepsFlushed, FlushedBlocksStay}
 use Rattle.bt_runs.proofs.Logs.{logs_parted, logs_joined, no_log_calls}
 
 -- this is the answer of a flush
