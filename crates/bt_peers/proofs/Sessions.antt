@@ -13,20 +13,20 @@ use Rattle.bt_session.specs.Session.{Session, Follows, begins, goes_on}
 use Rattle.bt_runs.specs.Leads.{LeadsTo, one, both}
 
 -- a session makes no restart
-no_restart : {key until s : _} (last : Answer) (event : Event) → Follows key until s last event → event ≢ Restart
-no_restart (Connected (Ok joined)) event follows e = let fed = follows.1.3 in absurd cc
-no_restart (Fed (Ok done)) event follows e = absurd cc
-no_restart (Stepped (Ok (Some out))) event follows e = let is = follows.2 in absurd cc
-no_restart (Stepped (Ok None)) event follows e = absurd cc
-no_restart (Rechoked (Ok out)) event follows e = let fed = follows.3 in absurd cc
-no_restart _ event follows e = absurd follows
+no_restart : (key until s : _) (last : Answer) (event : Event) → Follows key until s last event → event ≢ Restart
+no_restart key until s (Connected (Ok joined)) event follows e = let fed = follows.1.3 in absurd cc
+no_restart key until s (Fed (Ok done)) event follows e = absurd cc
+no_restart key until s (Stepped (Ok (Some out))) event follows e = let is = follows.2 in absurd cc
+no_restart key until s (Stepped (Ok None)) event follows e = absurd cc
+no_restart key until s (Rechoked (Ok out)) event follows e = let fed = follows.3 in absurd cc
+no_restart key until s _ event follows e = absurd follows
 
 module _ {D : Type 0} (history : D → History) (honest : D → Type 0) (faults : D → ℕ) (dig : List ℕ → List ℕ) where
   events_lead : {key until first events answers last now : _} → Session history honest faults dig key until first events answers last now
       → LeadsTo history honest faults dig first now
   events_lead {first} (begins out answer now is step) = one first now Connect answer (λ e. absurd cc) step
   events_lead {first} (goes_on events answers last answer event mid now session follows step) =
-      both first mid now (events_lead session) (one mid now event answer (no_restart last event follows) step)
+      both first mid now (events_lead session) (one mid now event answer (no_restart _ _ _ last event follows) step)
 
   -- a whole session, with the removal of its peer
   pub session_leads : (until : _) (turns : ℕ) (old new : EngineView D) (end : SessionEnd) (remaining left contents written : Option (List ℕ))
