@@ -25,8 +25,8 @@ module _ {D : Type 0} (history : D → History) (honest : D → Type 0) (faults 
   events_lead : {key until first events answers last now : _} → Session history honest faults dig key until first events answers last now
       → LeadsTo history honest faults dig first now
   events_lead {first} (begins out answer now is step) = one first now Connect answer (λ e. absurd cc) step
-  events_lead {first} (goes_on events answers last answer event mid now session follows step) =
-      both first mid now (events_lead session) (one mid now event answer (no_restart _ _ _ last event follows) step)
+  events_lead {key} {until} {first} (goes_on events answers last answer event mid now session follows step) =
+      both first mid now (events_lead session) (one mid now event answer (no_restart key until mid.state last event follows) step)
 
   -- a whole session, with the removal of its peer
   pub session_leads : (until : _) (turns : ℕ) (old new : EngineView D) (end : SessionEnd) (remaining left contents written : Option (List ℕ))
