@@ -1,4 +1,6 @@
 pub mod Adoptions
+pub mod Starting
+pub mod Unlogged
 pub mod Waits
 pub mod Devices
 pub mod ReportLines

@@ -8,7 +8,7 @@ use Rattle.bt_meta.specs.Torrent.{Metainfo}
 use Rattle.bt_machine.specs.declared.event.Event.{Event}
 use Rattle.bt_machine.specs.declared.event.Answer.{Answer}
 use Rattle.bt_machine.specs.State.{FileState, EngineState, EngineView}
-use Rattle.bt_machine.specs.Devices.{DeviceCalls}
+use Rattle.bt_machine.specs.LogCalls.{EventCalls}
 use Rattle.bt_machine.specs.Report.{all_complete}
 use Rattle.bt_runs.specs.WholeRuns.{IsFileMarkedOnPath, IsPublishedOn}
 use Rattle.bt_check.specs.Finding.{is_complete_finding}
@@ -49,7 +49,7 @@ pub record IsCalledComplete (torrent : Metainfo) (s : EngineState) (number : ℕ
 
 -- Each block of such a file became marked in a run, by bytes whose digest lies at its leaf, on a checked path
 -- to the file's root.
-abbrev pub ReportsMarked : (List ℕ → List ℕ) → Metainfo → EngineState → List Event → List DeviceCalls
+abbrev pub ReportsMarked : (List ℕ → List ℕ) → Metainfo → EngineState → List Event → List EventCalls
     → List Answer → EngineState → Type 0
 ReportsMarked dig torrent first events calls answers last = (number : ℕ) (file : File)
     → IsCalledComplete torrent last number file

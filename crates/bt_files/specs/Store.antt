@@ -1,5 +1,5 @@
 -- The engine that a store is opened with.
-use Rattle.std.specs.Prelude.{[], ◌≡◌, ℕ, Bool, List, length}
+use Rattle.std.specs.Prelude.{[], ◌≡◌, ℕ, Bool, List, length, None}
 use Rattle.sha2.specs.Sha256.{sha256}
 use Rattle.bt_ahead.specs.Disk.{AheadView}
 use Rattle.bt_disk.specs.History.{History, new_history}
@@ -13,13 +13,14 @@ use Rattle.bt_folder.specs.SealedDisk.{fault_count}
 use Rattle.bt_files.specs.DataFiles.{AreNewDevices, DeviceView}
 use Rattle.bt_files.specs.declared.file_use.FileUse.{FileUse}
 
--- An engine of the torrent, which began with these devices and has taken in what those files have of which bytes are
--- there, by events of the machine: no read of them failed. No peer is connected.
+-- An engine of the torrent, which began with these devices and without a log, and has taken in what those files
+-- have of which bytes are there, by events of the machine: no read of them failed. No peer is connected.
 pub record HasBegun {D : Type 0} (history : D → History) (honest : D → Type 0) (faults : D → ℕ)
     (dig : List ℕ → List ℕ) (torrent : Metainfo) (given : List D) (filled : List Bool)
     (engine : EngineView D) : Type 0 where
   pub first : EngineView D
   pub starts : Starts dig torrent first.state
+  pub unlogged : first.log ≡ None
   pub devices : AreDevicesOf torrent.files given first.disks
   pub taken_in : TakesIn history honest faults dig first filled engine
   pub run : LeadsTo history honest faults dig first engine

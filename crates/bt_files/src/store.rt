@@ -69,7 +69,7 @@ pub(crate) fn begin<'a, D: Disk + Drop>(
         }
         Err(refused) => match refused.cause {
             StartError::OutOfMemory => Err(Fault::OutOfMemory),
-            StartError::DiskCount => unreachable!(),
+            StartError::DiskCount | StartError::OtherLog => unreachable!(),
         },
     }
 }
@@ -84,8 +84,11 @@ pub fn finish<D: Disk + Drop, H: NodeHash>(engine: &mut Engine<D, H>) -> Result<
     ensures run { LeadsTo D.history D.honest D.faults H.digest engine.old engine.new }
     ensures fault { IfErr result (λ fault. fault ≡ device) }
 {
+    engine.keeps_laws();
     match engine.flush() {
         Ok(()) => Ok(()),
         Err(FlushError::Device) => Err(Fault::Device),
+        // The engine has no log.
+        Err(FlushError::LogFull) => unreachable!(),
     }
 }

@@ -18,9 +18,11 @@ use Rattle.bt_machine.specs.declared.error.EngineError.TheVariants.{NoPeer, OutO
 use Rattle.bt_machine.specs.declared.error.AdoptError.{AdoptError}
 use Rattle.bt_machine.specs.declared.error.AdoptError.TheVariants.{NoFile, Busy, OutOfMemory as no_group_memory}
 use Rattle.bt_machine.specs.declared.error.FlushError.{FlushError}
-use Rattle.bt_machine.specs.declared.error.FlushError.TheVariants.{Device as device_failed}
+use Rattle.bt_machine.specs.declared.error.FlushError.TheVariants.{Device as device_failed, LogFull}
+use Rattle.bt_machine.specs.declared.error.RestartError.{RestartError}
+use Rattle.bt_machine.specs.declared.error.RestartError.TheVariants.{Log, OutOfMemory as no_restart_memory}
 use Rattle.bt_machine.specs.declared.event.Answer.{Answer}
-use Rattle.bt_machine.specs.declared.event.Answer.TheVariants.{Connected, Fed, Stepped, Lost, Rechoked, Adopted, Flushed}
+use Rattle.bt_machine.specs.declared.event.Answer.TheVariants.{Connected, Fed, Stepped, Lost, Rechoked, Adopted, Flushed, Restarted}
 use Rattle.bt_machine.specs.declared.report.FileReport.{FileReport}
 use Rattle.bt_machine.specs.Blocks.{file_numbers}
 use Rattle.bt_machine.specs.Frames.{CanBeWritten}
@@ -99,6 +101,12 @@ adopt_refusal no_group_memory = codes "OutOfMemory"
 
 abbrev pub flush_refusal : FlushError → List ℕ
 flush_refusal device_failed = codes "Device"
+flush_refusal LogFull = codes "LogFull"
+
+-- of a log that could not be read again only that is told
+abbrev pub restart_refusal : RestartError → List ℕ
+restart_refusal (Log cause) = codes "Log"
+restart_refusal no_restart_memory = codes "OutOfMemory"
 
 -- what each event answered
 abbrev pub answer_text : Answer → List ℕ
@@ -117,6 +125,8 @@ answer_text (Adopted (Ok adopted)) = line_text (codes "adopted " ++ decimal adop
 answer_text (Adopted (Err error)) = refused_text (adopt_refusal error)
 answer_text (Flushed (Ok _)) = line_text (codes "done")
 answer_text (Flushed (Err error)) = refused_text (flush_refusal error)
+answer_text (Restarted (Ok _)) = line_text (codes "done")
+answer_text (Restarted (Err error)) = refused_text (restart_refusal error)
 
 -- each of these frames can be written
 abbrev pub AllFit : List Sent → Type 0

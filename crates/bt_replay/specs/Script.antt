@@ -9,7 +9,7 @@ use Rattle.bt_meta.specs.Faults.{first_fault}
 use Rattle.bt_meta.specs.Reader.{IsRefused}
 use Rattle.bt_meta.specs.Torrent.{Metainfo, IsTorrent}
 use Rattle.bt_meta.specs.declared.error.MetaError.{MetaError}
-use Rattle.bt_machine.specs.Start.{AnswersStart}
+use Rattle.bt_machine.specs.Opening.{AnswersStart}
 use Rattle.bt_machine.specs.State.{EngineView}
 use Rattle.bt_replay.specs.Devices.{Device, SetsFront, first_device}
 use Rattle.bt_replay.specs.Event.{peer_handshake}
@@ -59,13 +59,6 @@ pub data NamesNone (text : List ℕ) (fault : ReplayFault) : Type 0 where
 
 -- ---- the engine
 
--- an engine is started for the torrent, on the devices that the settings at the front of these lines make
-pub record BeginsOn (torrent : Metainfo) (lines : List (List ℕ)) (engine : EngineView Device)
-    (rest : List (List ℕ)) (count : ℕ) : Type 0 where
-  pub devices : List (Option Device)
-  pub set : SetsFront (map first_device torrent.files) lines count rest devices
-  pub starts : AnswersStart sha256 torrent (filter_map (λ device. device) devices) (Ok engine)
-
 abbrev pub device_history : Device → History
 device_history device = history_of device.inner.kept
 
@@ -74,6 +67,15 @@ device_honest device = IsHonest (λ _. ⊤) device
 
 abbrev pub device_faults : Device → ℕ
 device_faults device = fault_count (λ disk. disk.failed) device
+
+-- an engine is started for the torrent without a log, on the devices that the settings at the front of these
+-- lines make
+pub record BeginsOn (torrent : Metainfo) (lines : List (List ℕ)) (engine : EngineView Device)
+    (rest : List (List ℕ)) (count : ℕ) : Type 0 where
+  pub devices : List (Option Device)
+  pub set : SetsFront (map first_device torrent.files) lines count rest devices
+  pub starts : AnswersStart device_history device_honest device_faults sha256 torrent
+      (filter_map (λ device. device) devices) None (Ok engine)
 
 -- ---- the whole
 

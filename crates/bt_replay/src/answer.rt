@@ -1,12 +1,14 @@
 //! The lines that tell what an event answered, and how far the files are.
 ghost use Rattle.std.specs.Prelude.{◌≡◌, ◌++◌, OnOk, IfErr, Ok, Some, string_bytes};
 ghost use Rattle.bt_machine.specs.Law.{sent_by};
-ghost use Rattle.bt_machine.specs.declared.event.Answer.TheVariants.{Connected, Fed, Stepped, Lost, Rechoked, Adopted as AdoptedAnswer, Flushed};
-ghost use Rattle.bt_replay.specs.Answer.{AllFit, answer_text, refused_text, connect_refusal, event_refusal, adopt_refusal, flush_refusal, report_text, file_line, line_text};
+ghost use Rattle.bt_machine.specs.declared.event.Answer.TheVariants.{Connected, Fed, Stepped, Lost, Rechoked, Adopted as AdoptedAnswer, Flushed, Restarted};
+ghost use Rattle.bt_replay.specs.Answer.{AllFit, answer_text, refused_text, connect_refusal, event_refusal, adopt_refusal, flush_refusal, restart_refusal, report_text, file_line, line_text};
 
 use crate::output::push_output;
 use bt_book::PeerKey;
-use bt_machine::{AdoptError, Answer, ConnectError, EngineError, FileReport, FlushError, Output};
+use bt_machine::{
+    AdoptError, Answer, ConnectError, EngineError, FileReport, FlushError, Output, RestartError,
+};
 use bt_store::Adopted;
 use std::alloc::{AllocError, Global};
 use std::fmt::Write;
@@ -24,6 +26,7 @@ pub fn push_answer(alloc: Global, text: &mut String, answer: &Answer) -> Result<
         Answer::Rechoked(choice) => push_choice(alloc, text, choice),
         Answer::Adopted(adopted) => push_adopted(text, adopted),
         Answer::Flushed(flushed) => push_flushed(text, flushed),
+        Answer::Restarted(restarted) => push_restarted(text, restarted),
     }
 }
 
@@ -124,7 +127,20 @@ fn push_flushed(text: &mut String, flushed: &Result<(), FlushError>) -> Result<(
 {
     match flushed {
         Ok(()) => text.push_str("done\n"),
-        Err(FlushError::Device) => push_refusal(text, "Device"),
+        Err(error) => push_refusal(text, flush_refusal(*error)),
+    }
+}
+
+fn push_restarted(
+    text: &mut String,
+    restarted: &Result<(), RestartError>,
+) -> Result<(), AllocError>
+    ensures { OnOk result
+        (string_bytes text.new ≡ string_bytes text.old ++ answer_text (Restarted restarted.now)) }
+{
+    match restarted {
+        Ok(()) => text.push_str("done\n"),
+        Err(error) => push_refusal(text, restart_refusal(*error)),
     }
 }
 
@@ -161,6 +177,25 @@ fn adopt_refusal(error: AdoptError) -> &'static str
         AdoptError::NoFile => "NoFile",
         AdoptError::Busy => "Busy",
         AdoptError::OutOfMemory => "OutOfMemory",
+    }
+}
+
+fn flush_refusal(error: FlushError) -> &'static str
+    ensures { result.now ≡ flush_refusal error }
+{
+    match error {
+        FlushError::Device => "Device",
+        FlushError::LogFull => "LogFull",
+    }
+}
+
+/// Of a log that could not be read again only that is told.
+fn restart_refusal(error: RestartError) -> &'static str
+    ensures { result.now ≡ restart_refusal error }
+{
+    match error {
+        RestartError::Log(_) => "Log",
+        RestartError::OutOfMemory => "OutOfMemory",
     }
 }
 

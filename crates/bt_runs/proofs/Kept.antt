@@ -1,20 +1,23 @@
 -- What is promised of lists of events follows from the machine's laws.
-use Rattle.std.specs.Prelude.{OnOk, OnErr}
+use Rattle.std.specs.Prelude.{OnOk, OnErr, flat_map}
+use Rattle.std.proofs.lemmas.List.Elements.{All-nil}
 use Rattle.std.specs.declared.alloc.AllocError.{AllocError}
-use Rattle.bt_machine.proofs.Base.{[], ◌≡◌, ℕ, List, length, take, Result, Ok, Err, sym, ap, ◌∙◌, History, file_root, File, Facts}
+use Rattle.bt_machine.proofs.Base.{[], ◌≡◌, ℕ, List, length, take, Result, Ok, Err, sym, ap, ◌∙◌, History, file_root, File, Facts, IsLawful, ◌≢◌}
 use Rattle.bt_tree.specs.Law.{RootsTellFiles}
 use Rattle.bt_machine.specs.Headline.{IsPublished}
 use Rattle.bt_machine.specs.Law.{AreRooted, StepKeepsRooted, RightIsChecked, StepMarksByBytes, RunSendsReadBytes}
 use Rattle.bt_machine.specs.Shape.{IsShaped, StepKeepsShape}
 use Rattle.bt_machine.specs.Sound.{IsSound, CompleteFilesStand}
 use Rattle.bt_machine.specs.Survival.{RunKeepsImages}
-use Rattle.bt_machine.specs.Unmarks.{RunKeepsMarks}
+use Rattle.bt_machine.specs.Unmarks.{HasNoRestart, RunKeepsMarks}
+use Rattle.bt_machine.specs.LogCalls.{EventCalls, HaveLogCalls}
 use Rattle.bt_machine.specs.State.{EngineView}
 use Rattle.bt_machine.specs.Stored.{HasFile}
 use Rattle.bt_machine.specs.View.{RunsTo, NoEventsRun, RunsAreRuns}
 use Rattle.bt_machine.specs.declared.event.Event.{Event}
+use Rattle.bt_machine.specs.declared.event.Event.TheVariants.{Restart}
 use Rattle.bt_machine.specs.declared.event.Answer.{Answer}
-use Rattle.bt_machine.proofs.Machine.{Digest, DeviceCalls, RunOn}
+use Rattle.bt_machine.proofs.Machine.{Digest, RunOn}
 use Rattle.bt_machine.proofs.Lists.{same_some}
 use Rattle.bt_engine.specs.Run.{RunsEvents}
 use Rattle.bt_runs.specs.Promises.{RunsAsPromised, ArePublished, KeepsMarks, KeepsImages}
@@ -34,14 +37,14 @@ published dig tell {file} {k} {bytes} size root has =
 
 module _ {D : Type 0} (history : D → History) (honest : D → Type 0) (faults : D → ℕ) (dig : Digest) where
   pub as_promised : (old new : EngineView D) (events : List Event) (before after : List Answer)
-      → IsShaped old.state.torrent old.state → AreRooted dig old.state
+      → IsLawful old.state.torrent.piece_length old.state.torrent.files → IsShaped old.state.torrent old.state → AreRooted dig old.state
       → RunsAreRuns history honest faults dig → RightIsChecked dig → StepKeepsShape dig → StepKeepsRooted dig → StepMarksByBytes dig → RunSendsReadBytes dig
-      → ((es : List Event) (calls : List DeviceCalls) (answers : List Answer) → RunOn history honest faults dig old.state old.disks es calls answers new.state new.disks
-      → FlushesLoseNoBlock history honest faults dig old es calls answers new)
+      → ((es : List Event) (calls : List EventCalls) (answers : List Answer) → RunOn history honest faults dig old.state old.disks es calls answers new.state new.disks
+      → HaveLogCalls history honest faults old.log (flat_map (λ c. c.log) calls) new.log → FlushesLoseNoBlock history honest faults dig old es calls answers new)
       → (result : Result (Unit {0}) AllocError) → OnOk result (RunsEvents history honest faults dig old events before after new)
       → OnOk result (RunsAsPromised history honest faults dig old events before after new)
-  as_promised old new events before after shaped rooted are_runs right keeps_shape keeps_rooted marks sends flushes (Err error) ran = tt
-  as_promised old new events before after shaped rooted are_runs right keeps_shape keeps_rooted marks sends flushes (Ok done) ran =
+  as_promised old new events before after lawful shaped rooted are_runs right keeps_shape keeps_rooted marks sends flushes (Err error) ran = tt
+  as_promised old new events before after lawful shaped rooted are_runs right keeps_shape keeps_rooted marks sends flushes (Ok done) ran =
       let run = ran.runs in
       let plain = are_runs old.state new.state old.disks new.disks events run.calls ran.said run.run in
       record {
@@ -49,19 +52,23 @@ module _ {D : Type 0} (history : D → History) (honest : D → Type 0) (faults 
         behind = ran.behind;
         calls = run.calls;
         run = run.run;
-        marks = run_marks dig old.state.torrent right keeps_shape keeps_rooted marks old.state new.state events run.calls ran.said shaped rooted plain;
+        logged = run.logged;
+        marks = run_marks dig old.state.torrent right lawful keeps_shape keeps_rooted marks old.state new.state events run.calls ran.said shaped rooted plain;
         sends = λ first answer rest is key piece begin bytes sent.
-            sends_on_path dig old.state.torrent right keeps_shape keeps_rooted events run.calls first answer rest key piece begin bytes shaped rooted
+            sends_on_path dig old.state.torrent right lawful keeps_shape keeps_rooted events run.calls first answer rest key piece begin bytes shaped rooted
             (sends old.state new.state events run.calls first answer rest (rw (← is) plain) key piece begin bytes sent);
-        flushes = flushes events run.calls ran.said run.run;
+        flushes = flushes events run.calls ran.said run.run run.logged;
       }
 
   -- the events happened, or none did
+  abbrev pub SomeRun : EngineView D → EngineView D → Type 0
+  SomeRun old new = (es : List Event) × (answers : List Answer) × RunsTo history honest faults dig old es answers new × HasNoRestart es
+
   pub some_run : NoEventsRun history honest faults dig → (old new : EngineView D) (events : List Event) (before after : List Answer)
       (result : Result (Unit {0}) AllocError) → OnOk result (RunsEvents history honest faults dig old events before after new) → OnErr result (new ≡ old)
-      → (es : List Event) × (answers : List Answer) × RunsTo history honest faults dig old es answers new
-  some_run none_run old new events before after (Ok done) ran none = (events, ran.said, ran.runs)
-  some_run none_run old new events before after (Err error) ran none = ([], [], rw none (none_run old))
+      → HasNoRestart events → SomeRun old new
+  some_run none_run old new events before after (Ok done) ran none no_restart = (events, ran.said, ran.runs, no_restart)
+  some_run none_run old new events before after (Err error) ran none no_restart = ([], [], rw none (none_run old), All-nil (λ event. event ≢ Restart))
 
   pub files_published : RootsTellFiles dig → CompleteFilesStand history honest dig → (s : EngineView D) → IsShaped s.state.torrent s.state → AreRooted dig s.state → IsSound history honest dig s.state s.disks
       → ArePublished history honest dig s
@@ -75,11 +82,11 @@ module _ {D : Type 0} (history : D → History) (honest : D → Type 0) (faults 
       (λ i lt. complete.marked i (rw (← size) lt)) there honest_now)
 
   pub marks_kept : RunKeepsMarks history honest faults dig → (old new : EngineView D) → IsSound history honest dig old.state old.disks
-      → (es : List Event) × (answers : List Answer) × RunsTo history honest faults dig old es answers new → KeepsMarks honest old new
+      → SomeRun old new → KeepsMarks honest old new
   marks_kept keeps old new sound ran b d there honest_now before =
-      keeps old.state new.state ran.0 ran.2.calls ran.1 old.disks new.disks b d ran.2.run sound there honest_now before
+      keeps old.state new.state ran.0 ran.2.calls ran.1 old.disks new.disks b d ran.3 ran.2.run sound there honest_now before
 
   pub images_kept : RunKeepsImages history honest faults dig → (old new : EngineView D) → IsSound history honest dig old.state old.disks
-      → (es : List Event) × (answers : List Answer) × RunsTo history honest faults dig old es answers new → KeepsImages history honest old new
+      → SomeRun old new → KeepsImages history honest old new
   images_kept keeps old new sound ran file i moment f k bytes d is marked size there honest_now kept =
-      keeps old.state new.state ran.0 ran.2.calls ran.1 old.disks new.disks file i moment f k bytes d ran.2.run sound is marked size there honest_now kept
+      keeps old.state new.state ran.0 ran.2.calls ran.1 old.disks new.disks file i moment f k bytes d ran.3 ran.2.run sound is marked size there honest_now kept

@@ -1,3 +1,4 @@
+pub mod Logs
 pub mod Paths
 pub mod Flushes
 pub mod Kept

@@ -1,12 +1,13 @@
 -- A block that becomes marked, and one that is served, lie on checked paths.
 use Rattle.std.specs.Prelude.{Contains, ◌/◌}
 use Rattle.std.specs.List.{range_with_len}
-use Rattle.bt_machine.proofs.Base.{[], ◌≡◌, ◌≢◌, Option, None, Missing, Waiting, BlockState, ℕ, zero, suc, ◌+◌, ◌-◌, ◌<◌, ◌≤◌, ◌⊎◌, inl, inr, List, ◌∷◌, Some, refl, sym, ap, ◌∙◌, subst, arith, get_or, slice_get, block_count, File, Metainfo, Facts, IsRight, Marked, BlockId, PeerKey}
+use Rattle.bt_machine.proofs.Base.{[], ◌≡◌, ◌≢◌, Option, None, Missing, Waiting, BlockState, ℕ, zero, suc, ◌+◌, ◌-◌, ◌<◌, ◌≤◌, ◌⊎◌, inl, inr, List, ◌∷◌, Some, refl, sym, ap, ◌∙◌, subst, arith, get_or, slice_get, block_count, File, Metainfo, IsLawful, Facts, IsRight, Marked, BlockId, PeerKey}
 use Rattle.bt_meta.specs.Place.{IsPlace}
-use Rattle.bt_machine.specs.Law.{AreRooted, StepKeepsRooted, RightIsChecked, StepMarksByBytes, IsSoAt, IsServed, found}
+use Rattle.bt_machine.specs.Law.{AreRooted, StepKeepsRooted, RightIsChecked, StepMarksByBytes, IsSoAt, IsServed, found, recovered}
 use Rattle.bt_machine.specs.Shape.{IsShaped, StepKeepsShape}
 use Rattle.bt_machine.specs.Spans.{spanned_blocks}
 use Rattle.bt_machine.specs.Blocks.{block_id}
+use Rattle.bt_machine.specs.LogCalls.{EventCalls}
 use Rattle.bt_machine.specs.declared.event.Event.{Event}
 use Rattle.bt_machine.specs.declared.event.Answer.{Answer}
 use Rattle.bt_machine.proofs.Machine.{Digest, EngineState, DeviceCalls, state_at, tree_of, Step, Run, IsMarkedBy, brought, read_back}
@@ -40,7 +41,7 @@ is_or_not (Some Marked) = inl refl
 
 -- one event further on
 after_step : {dig : Digest} {P : EngineState → Event → DeviceCalls → EngineState → Type 0} {s mid last : EngineState} {e : Event} {es : List Event}
-    {c : DeviceCalls} {calls : List DeviceCalls} {a : Answer} {before : List Answer} {answer : Answer} {after : List Answer}
+    {c : EventCalls} {calls : List EventCalls} {a : Answer} {before : List Answer} {answer : Answer} {after : List Answer}
     → Step dig s e c a mid → IsSoAt dig mid es calls before answer after last P → IsSoAt dig s (e ∷ es) (c ∷ calls) (a ∷ before) answer after last P
 after_step {mid = mid} {e = e} {c = c} step i = record {
   events_before = e ∷ i.events_before;
@@ -61,8 +62,8 @@ after_step {mid = mid} {e = e} {c = c} step i = record {
 
 -- at the first event
 at_first : {dig : Digest} {P : EngineState → Event → DeviceCalls → EngineState → Type 0} {s : EngineState} (mid : EngineState) {last : EngineState}
-    {e : Event} {es : List Event} {c : DeviceCalls} {calls : List DeviceCalls} {a : Answer} {after : List Answer}
-    → Step dig s e c a mid → Run dig mid es calls after last → P s e c mid → IsSoAt dig s (e ∷ es) (c ∷ calls) [] a after last P
+    {e : Event} {es : List Event} {c : EventCalls} {calls : List EventCalls} {a : Answer} {after : List Answer}
+    → Step dig s e c a mid → Run dig mid es calls after last → P s e c.devices mid → IsSoAt dig s (e ∷ es) (c ∷ calls) [] a after last P
 at_first {s = s} mid {e = e} {es = es} {c = c} {calls = calls} step rest is_so = record {
   events_before = [];
   calls_before = [];
@@ -109,15 +110,20 @@ module _ (dig : Digest) (torrent : Metainfo) (right_is_checked : RightIsChecked 
       right_path s place.file (block_id served.span.file i) served.tree (served.blocks i) shaped rooted
       (file.1 ∙ ap (λ x. Some x) is) below served.has_tree (served.right i c)
 
-  module _ (keeps_shape : StepKeepsShape dig) (keeps_rooted : StepKeepsRooted dig) where
-    run_keeps : {new : EngineState} (s : EngineState) (es : List Event) (calls : List DeviceCalls) (answers : List Answer) → IsShaped torrent s → AreRooted dig s
+  -- the torrent is the lawful one
+  own_lawful : IsLawful torrent.piece_length torrent.files → (s : EngineState) → IsShaped torrent s → IsLawful s.torrent.piece_length s.torrent.files
+  own_lawful lawful s shaped = subst (λ (t : Metainfo). IsLawful t.piece_length t.files) (sym shaped.same) lawful
+
+  module _ (lawful : IsLawful torrent.piece_length torrent.files) (keeps_shape : StepKeepsShape dig) (keeps_rooted : StepKeepsRooted dig) where
+    run_keeps : {new : EngineState} (s : EngineState) (es : List Event) (calls : List EventCalls) (answers : List Answer) → IsShaped torrent s → AreRooted dig s
         → Run dig s es calls answers new → IsShaped torrent new × AreRooted dig new
     run_keeps s [] [] [] shaped rooted run = (rw run shaped, rw run rooted)
     run_keeps s (e ∷ es) (c ∷ calls) (a ∷ answers) shaped rooted run =
-        run_keeps run.0 es calls answers (keeps_shape torrent s run.0 e c a shaped run.1) (keeps_rooted s run.0 e c a run.1 rooted) run.2
+        run_keeps run.0 es calls answers (keeps_shape torrent s run.0 e c a shaped run.1)
+        (keeps_rooted s run.0 e c a (own_lawful lawful s shaped) run.1 rooted) run.2
     run_keeps s _ _ _ shaped rooted run = absurd run
 
-    pub sends_on_path : {first last : EngineState} (events : List Event) (calls : List DeviceCalls) (before : List Answer) (answer : Answer) (after : List Answer)
+    pub sends_on_path : {first last : EngineState} (events : List Event) (calls : List EventCalls) (before : List Answer) (answer : Answer) (after : List Answer)
         (key : PeerKey) (piece begin : ℕ) (bytes : List ℕ) → IsShaped torrent first → AreRooted dig first
         → IsSoAt dig first events calls before answer after last (λ s event calls_then next. IsServed dig s event calls_then key piece begin bytes)
         → IsSoAt dig first events calls before answer after last (λ s event calls_then next. IsServedOnPath dig s event calls_then key piece begin bytes)
@@ -157,16 +163,17 @@ module _ (dig : Digest) (torrent : Metainfo) (right_is_checked : RightIsChecked 
   on_path s shaped rooted marked (brought by) = path_of s by.tree by.bytes shaped rooted marked by.has_tree by.right
   on_path s shaped rooted marked (read_back by) = path_of s by.tree by.bytes shaped rooted marked by.has_tree by.right
   on_path s shaped rooted marked (found by) = path_of s by.tree by.bytes shaped rooted marked by.has_tree by.right
+  on_path s shaped rooted marked (recovered is by) = path_of s by.tree by.bytes shaped rooted marked by.has_tree by.right
 
   -- a block that is marked after a run was so before it, or became so within it
-  run_cases : StepKeepsShape dig → StepKeepsRooted dig → StepMarksByBytes dig → {new : EngineState} (s : EngineState) (es : List Event) (calls : List DeviceCalls)
+  run_cases : IsLawful torrent.piece_length torrent.files → StepKeepsShape dig → StepKeepsRooted dig → StepMarksByBytes dig → {new : EngineState} (s : EngineState) (es : List Event) (calls : List EventCalls)
       (answers : List Answer) → IsShaped torrent s → AreRooted dig s → Run dig s es calls answers new → state_at new b ≡ Some Marked
       → (state_at s b ≡ Some Marked) ⊎ IsMarkedOnPath dig s es calls answers new b
-  run_cases keeps_shape keeps_rooted marks s [] [] [] shaped rooted run m = inl (rw (← run) m)
-  run_cases keeps_shape keeps_rooted marks s (e ∷ es) (c ∷ calls) (a ∷ answers) shaped rooted run m =
+  run_cases lawful keeps_shape keeps_rooted marks s [] [] [] shaped rooted run m = inl (rw (← run) m)
+  run_cases lawful keeps_shape keeps_rooted marks s (e ∷ es) (c ∷ calls) (a ∷ answers) shaped rooted run m =
       let shape = keeps_shape torrent s run.0 e c a shaped run.1 in
-      let trees = keeps_rooted s run.0 e c a run.1 rooted in
-      elim (run_cases keeps_shape keeps_rooted marks run.0 es calls answers shape trees run.2 m) [
+      let trees = keeps_rooted s run.0 e c a (own_lawful dig torrent right_is_checked lawful s shaped) run.1 rooted in
+      elim (run_cases lawful keeps_shape keeps_rooted marks run.0 es calls answers shape trees run.2 m) [
         | inl mid ↦ elim (is_or_not (state_at s b)) [
           | inl old ↦ inl old
           | inr unmarked ↦ inr (record {
@@ -186,10 +193,10 @@ module _ (dig : Digest) (torrent : Metainfo) (right_is_checked : RightIsChecked 
           marked = after_step run.1 i.marked;
         })
       ]
-  run_cases keeps_shape keeps_rooted marks s _ _ _ shaped rooted run m = absurd run
+  run_cases lawful keeps_shape keeps_rooted marks s _ _ _ shaped rooted run m = absurd run
 
-pub run_marks : (dig : Digest) (torrent : Metainfo) → RightIsChecked dig → StepKeepsShape dig → StepKeepsRooted dig → StepMarksByBytes dig
-    → (s new : EngineState) (es : List Event) (calls : List DeviceCalls) (answers : List Answer) → IsShaped torrent s
+pub run_marks : (dig : Digest) (torrent : Metainfo) → RightIsChecked dig → IsLawful torrent.piece_length torrent.files → StepKeepsShape dig → StepKeepsRooted dig → StepMarksByBytes dig
+    → (s new : EngineState) (es : List Event) (calls : List EventCalls) (answers : List Answer) → IsShaped torrent s
     → AreRooted dig s → Run dig s es calls answers new → MarksByBytes dig s es calls answers new
-run_marks dig torrent right_is_checked keeps_shape keeps_rooted marks s new es calls answers shaped rooted run b m before =
-    elim (run_cases dig torrent right_is_checked b keeps_shape keeps_rooted marks s es calls answers shaped rooted run m) [ inl old ↦ absurd (before old) | inr now ↦ now ]
+run_marks dig torrent right_is_checked lawful keeps_shape keeps_rooted marks s new es calls answers shaped rooted run b m before =
+    elim (run_cases dig torrent right_is_checked b lawful keeps_shape keeps_rooted marks s es calls answers shaped rooted run m) [ inl old ↦ absurd (before old) | inr now ↦ now ]

@@ -1,20 +1,26 @@
 -- What is promised of a whole run follows from what is promised of its events.
 use Rattle.std.specs.List.{list_all}
+use Rattle.std.proofs.lemmas.List.Elements.{All-append, All-nil, All-push}
 use Rattle.bt_store.specs.BlockStates.{is_marked}
-use Rattle.bt_machine.proofs.Base.{[], ◌≡◌, ℕ, zero, suc, ◌<◌, true, List, ◌∷◌, ◌++◌, length, replicate, Option, Some, None, refl, sym, ap, ◌∙◌, arith, slice_get, History, File, Metainfo, IsLawful, BlockState, Missing, Waiting, Marked, BlockId, block_count}
+use Rattle.bt_machine.proofs.Base.{[], ◌≡◌, ◌≢◌, ℕ, zero, suc, ◌<◌, true, List, ◌∷◌, ◌++◌, length, replicate, Option, Some, None, refl, sym, ap, ◌∙◌, arith, slice_get, History, File, Metainfo, IsLawful, BlockState, Missing, Waiting, Marked, BlockId, block_count}
 use Rattle.bt_machine.specs.Blocks.{block_id, is_complete}
 use Rattle.bt_machine.specs.Headline.{CompleteFilesArePublished}
 use Rattle.bt_machine.specs.Law.{StartsRooted, StepKeepsRooted, RightIsChecked, StepMarksByBytes, RunSendsReadBytes}
 use Rattle.bt_machine.specs.Shape.{IsShaped, StartsInShape, StepKeepsShape, RunsKeepShape}
 use Rattle.bt_machine.specs.Sound.{StartsSound, StepKeepsSound, HonestDevicesWereSo}
 use Rattle.bt_machine.specs.Survival.{FlushKeepsBlocks, RunKeepsImages}
-use Rattle.bt_machine.specs.Unmarks.{RunKeepsMarks}
+use Rattle.bt_machine.specs.Unmarks.{HasNoRestart, RunKeepsMarks}
+use Rattle.bt_machine.specs.LogCalls.{EventCalls}
+use Rattle.bt_machine.specs.Opening.Begins.{bare}
+use Rattle.bt_machine.specs.Opening.BeginsOn.{bare as bare_on}
+use Rattle.bt_machine.specs.Opening.{BeginsOn}
 use Rattle.bt_machine.specs.Start.{AreDevicesOf}
 use Rattle.bt_machine.specs.State.{EngineView}
 use Rattle.bt_machine.specs.View.{RunsTo, NoEventsRun, OneMoreEventRuns, RunsCompose, RunsAreRuns}
 use Rattle.bt_machine.specs.declared.event.Event.{Event}
+use Rattle.bt_machine.specs.declared.event.Event.TheVariants.{Restart}
 use Rattle.bt_machine.specs.declared.event.Answer.{Answer}
-use Rattle.bt_machine.proofs.Machine.{Digest, EngineState, DeviceCalls, RunOn, Starts, state_at}
+use Rattle.bt_machine.proofs.Machine.{Digest, EngineState, RunOn, Starts, state_at}
 use Rattle.bt_machine.proofs.Lists.{and_then_some, get_some, some_below}
 use Rattle.bt_runs.specs.Leads.{LeadsTo, none, one, both}
 use Rattle.bt_runs.specs.Promises.{IsMarkedOnPath}
@@ -65,14 +71,19 @@ module _ {D : Type 0} (history : D → History) (honest : D → Type 0) (faults 
     pub events : List Event
     pub answers : List Answer
     pub runs : RunsTo history honest faults dig old events answers new
+    pub no_restart : HasNoRestart events
+
+  abbrev IsNoRestart : Event → Type 0
+  IsNoRestart event = event ≢ Restart
 
   -- what leads on is a list of events
   leads_run : NoEventsRun history honest faults dig → OneMoreEventRuns history honest faults dig → RunsCompose history honest faults dig → {old new : EngineView D} → LeadsTo history honest faults dig old new → SomeRun old new
-  leads_run none_run one_more compose (none engine) = record { events = []; answers = []; runs = none_run engine }
-  leads_run none_run one_more compose (one old new event answer step) = record {
+  leads_run none_run one_more compose (none engine) = record { events = []; answers = []; runs = none_run engine; no_restart = All-nil IsNoRestart }
+  leads_run none_run one_more compose (one old new event answer is_other step) = record {
     events = event ∷ [];
     answers = answer ∷ [];
     runs = one_more old old new [] [] event answer (none_run old) step;
+    no_restart = All-push IsNoRestart [] event (All-nil IsNoRestart) is_other;
   }
   leads_run none_run one_more compose (both old mid new first then) =
       let a = leads_run none_run one_more compose first in
@@ -80,19 +91,24 @@ module _ {D : Type 0} (history : D → History) (honest : D → Type 0) (faults 
         events = a.events ++ b.events;
         answers = a.answers ++ b.answers;
         runs = compose old mid new a.events b.events a.answers b.answers a.runs b.runs;
+        no_restart = All-append IsNoRestart a.events b.events a.no_restart b.no_restart;
       }
+
+  -- an engine without a log began on its devices
+  began_on : {torrent : Metainfo} (first : EngineView D) → Starts dig torrent first.state → BeginsOn history honest faults dig torrent first.disks None (record first { log = None })
+  began_on first starts = bare_on refl starts refl refl
 
   -- ---- devices
 
   -- a file has a device where it had one
-  none_before : (old new : EngineState) (events : List Event) (calls : List DeviceCalls) (answers : List Answer) (disks after : List (Option D)) (i : ℕ)
+  none_before : (old new : EngineState) (events : List Event) (calls : List EventCalls) (answers : List Answer) (disks after : List (Option D)) (i : ℕ)
       → RunOn history honest faults dig old disks events calls answers new after → slice_get after i ≡ Some None → slice_get disks i ≡ Some None
   none_before old new [] [] [] disks after i run at = rw (← run.1) at
   none_before old new (e ∷ es) (c ∷ calls) (a ∷ answers) disks after i run at =
       (run.3.none i).1 (none_before run.0 new es calls answers run.1 after i run.4 at)
   none_before old new _ _ _ disks after i run at = absurd run
 
-  none_after : (old new : EngineState) (events : List Event) (calls : List DeviceCalls) (answers : List Answer) (disks after : List (Option D)) (i : ℕ)
+  none_after : (old new : EngineState) (events : List Event) (calls : List EventCalls) (answers : List Answer) (disks after : List (Option D)) (i : ℕ)
       → RunOn history honest faults dig old disks events calls answers new after → slice_get disks i ≡ Some None → slice_get after i ≡ Some None
   none_after old new [] [] [] disks after i run at = rw run.1 at
   none_after old new (e ∷ es) (c ∷ calls) (a ∷ answers) disks after i run at =
@@ -100,7 +116,7 @@ module _ {D : Type 0} (history : D → History) (honest : D → Type 0) (faults 
   none_after old new _ _ _ disks after i run at = absurd run
 
   -- a complete file is the published one
-  published_on : CompleteFilesArePublished history honest faults dig → (torrent : Metainfo) (given : List D) (first last : EngineView D) (events : List Event) (calls : List DeviceCalls) (answers : List Answer)
+  published_on : CompleteFilesArePublished history honest faults dig → (torrent : Metainfo) (given : List D) (first last : EngineView D) (events : List Event) (calls : List EventCalls) (answers : List Answer)
       → IsLawful torrent.piece_length torrent.files → Starts dig torrent first.state → AreDevicesOf torrent.files given first.disks
       → RunOn history honest faults dig first.state first.disks events calls answers last.state last.disks → IsShaped torrent last.state
       → (number : ℕ) (file : File) (disk : Option D) → slice_get torrent.files number ≡ Some file → is_complete last.state number ≡ true
@@ -115,7 +131,7 @@ module _ {D : Type 0} (history : D → History) (honest : D → Type 0) (faults 
       let shape = shaped.each number file f.0 listed f.1 in
       let tree = shape.has_tree some in
       let all : list_all is_marked f.0.states ≡ true = rw f.1 at done in
-      publish torrent first.state last.state events calls answers first.disks last.disks number file d lawful starts run
+      publish torrent first.disks None (record first { log = None }) last.state events calls answers last.disks number file d lawful (began_on first starts) run
       (record {
         listed = listed;
         some = some;
@@ -128,7 +144,7 @@ module _ {D : Type 0} (history : D → History) (honest : D → Type 0) (faults 
 
   -- ---- the whole
 
-  module _ (right : RightIsChecked dig) (starts_in_shape : StartsInShape dig) (starts_rooted : StartsRooted dig) (starts_sound : StartsSound history honest dig)
+  module _ (right : RightIsChecked dig) (starts_in_shape : StartsInShape dig) (starts_rooted : StartsRooted dig) (starts_sound : StartsSound history honest faults dig)
       (keeps_shape : StepKeepsShape dig) (keeps_rooted : StepKeepsRooted dig) (keeps_sound : StepKeepsSound history honest faults dig)
       (step_marks : StepMarksByBytes dig) (run_sends : RunSendsReadBytes dig) (run_shape : RunsKeepShape dig)
       (none_run : NoEventsRun history honest faults dig) (one_more : OneMoreEventRuns history honest faults dig) (compose : RunsCompose history honest faults dig)
@@ -143,22 +159,24 @@ module _ {D : Type 0} (history : D → History) (honest : D → Type 0) (faults 
         let calls = some.runs.calls in
         let run = some.runs.run in
         let plain = are_runs first.state last.state first.disks last.disks events calls answers run in
-        let began : IsShaped torrent first.state = starts_in_shape torrent first.state starts in
-        let shaped : IsShaped torrent last.state = (run_shape torrent first.state last.state events calls answers starts plain).0 in
-        let rooted = starts_rooted torrent first.state lawful starts in
+        let began : IsShaped torrent first.state = starts_in_shape torrent first.state (bare starts) in
+        let shaped : IsShaped torrent last.state = (run_shape torrent first.state last.state events calls answers (bare starts) plain).0 in
+        let rooted = starts_rooted torrent first.state lawful (bare starts) in
         let marks : (b : BlockId) → state_at last.state b ≡ Some Marked → IsMarkedOnPath dig first.state events calls answers last.state b = λ b marked.
-        run_marks dig torrent right keeps_shape keeps_rooted step_marks first.state last.state events calls answers began rooted plain b marked (unmarked_first dig torrent first.state b starts) in
+        run_marks dig torrent right lawful keeps_shape keeps_rooted step_marks first.state last.state events calls answers began rooted plain b marked (unmarked_first dig torrent first.state b starts) in
         record {
           events = events;
           calls = calls;
           answers = answers;
+          no_restart = some.no_restart;
           run = run;
+          logged = some.runs.logged;
           marks = marks;
           sends = λ before answer after is key piece begin bytes sent.
-              sends_on_path dig torrent right keeps_shape keeps_rooted events calls before answer after key piece begin bytes began rooted
+              sends_on_path dig torrent right lawful keeps_shape keeps_rooted events calls before answer after key piece begin bytes began rooted
               (run_sends first.state last.state events calls before answer after (rw (← is) plain) key piece begin bytes sent);
           complete = λ number file listed done i inside. marks (block_id number i) (complete_marked torrent last.state number file i shaped listed done inside);
           published = published_on publish torrent given first last events calls answers lawful starts devices run shaped;
           flushes = flushes history honest faults dig were_so keeps_images keeps_marks flush_keeps keeps_sound first last events calls answers
-              (starts_sound torrent first.state first.disks starts) run;
+              (starts_sound torrent first.disks None (record first { log = None }) (began_on first starts)) run some.runs.logged;
         }

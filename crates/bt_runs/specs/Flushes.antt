@@ -10,12 +10,11 @@ use Rattle.bt_machine.specs.declared.event.Event.TheVariants.{Flush}
 use Rattle.bt_machine.specs.declared.event.Answer.{Answer}
 use Rattle.bt_machine.specs.declared.event.Answer.TheVariants.{Flushed}
 use Rattle.bt_machine.specs.State.{EngineState, EngineView}
-use Rattle.bt_machine.specs.Devices.{DeviceCalls, HaveCalls}
+use Rattle.bt_machine.specs.LogCalls.{EventCalls}
 use Rattle.bt_machine.specs.Blocks.{state_at, tree_of}
-use Rattle.bt_machine.specs.Step.{Step}
 use Rattle.bt_machine.specs.Stored.{stored_block}
 use Rattle.bt_machine.specs.Crash.{IsBlockKept}
-use Rattle.bt_machine.specs.Sound.{RunOn}
+use Rattle.bt_machine.specs.Unmarks.{HasNoRestart}
 use Rattle.bt_machine.specs.View.{StepsTo, RunsTo}
 
 -- A block of a device since a flush: as `was` has it at the flush, it has the digest of its leaf; whatever a
@@ -36,40 +35,42 @@ LosesNoBlock {D} history honest dig flushed new = (b : BlockId) (tree : Facts) (
     → slice_get flushed.disks b.file ≡ Some (Some was) → slice_get new.disks b.file ≡ Some (Some now)
     → honest now → IsNotLost history dig new.state b tree was now
 
+-- So it is of whatever events follow on a flush, up to a restart: what that marks it reads anew.
+abbrev pub LosesNoBlockFrom : {D : Type 0} → (D → History) → (D → Type 0) → (D → ℕ) → (List ℕ → List ℕ)
+    → EngineView D → Type 0
+LosesNoBlockFrom {D} history honest faults dig flushed = (events : List Event) (answers : List Answer)
+    (new : EngineView D) → HasNoRestart events → RunsTo history honest faults dig flushed events answers new
+    → LosesNoBlock history honest dig flushed new
+
 -- ---- a flush among events
 
 -- A run came to a flush that answered Ok with these answers before it, and went on from it with those after.
--- From it to the end of the run no block is lost that was marked at it.
+-- From it on, up to a restart, no block is lost that was marked at it.
 pub record IsFlushedAt {D : Type 0} (history : D → History) (honest : D → Type 0) (faults : D → ℕ)
-    (dig : List ℕ → List ℕ) (first : EngineView D) (events : List Event) (calls : List DeviceCalls)
+    (dig : List ℕ → List ℕ) (first : EngineView D) (events : List Event) (calls : List EventCalls)
     (before after : List Answer) (last : EngineView D) : Type 0 where
   pub events_before : List Event
-  pub calls_before : List DeviceCalls
-  pub old : EngineView D
-  pub syncs : DeviceCalls
-  pub flushed : EngineView D
   pub events_after : List Event
-  pub calls_after : List DeviceCalls
+  pub old : EngineView D
+  pub flushed : EngineView D
+  pub comes : RunsTo history honest faults dig first events_before before old
+  pub flushes : StepsTo history honest faults dig old Flush (Flushed (Ok tt)) flushed
+  pub goes_on : RunsTo history honest faults dig flushed events_after after last
   pub events_are : events ≡ events_before ++ Flush ∷ events_after
-  pub calls_are : calls ≡ calls_before ++ syncs ∷ calls_after
-  pub run : RunOn history honest faults dig first.state first.disks events_before calls_before before
-      old.state old.disks
-  pub step : Step dig old.state Flush syncs (Flushed (Ok tt)) flushed.state
-  pub made : HaveCalls history honest faults old.disks syncs flushed.disks
-  pub goes_on : RunOn history honest faults dig flushed.state flushed.disks events_after calls_after after
-      last.state last.disks
-  pub none_lost : LosesNoBlock history honest dig flushed last
+  pub calls_are : calls ≡ comes.calls ++ flushes.calls ∷ goes_on.calls
+  pub none_lost : LosesNoBlockFrom history honest faults dig flushed
 
--- Once a flush answered Ok, a stop at any later moment loses no block that was marked then.
+-- Once a flush answered Ok, a stop at any later moment up to a restart loses no block that was marked then.
 abbrev pub FlushesLoseNoBlock : {D : Type 0} → (D → History) → (D → Type 0) → (D → ℕ) → (List ℕ → List ℕ)
-    → EngineView D → List Event → List DeviceCalls → List Answer → EngineView D → Type 0
+    → EngineView D → List Event → List EventCalls → List Answer → EngineView D → Type 0
 FlushesLoseNoBlock history honest faults dig old events calls answers new = (before after : List Answer)
     → answers ≡ before ++ Flushed (Ok tt) ∷ after
     → IsFlushedAt history honest faults dig old events calls before after new
 
 -- ---- a flush before them
 
--- Of a flush before these events: what is not lost until then, no stop within them or after them loses.
+-- Of a flush before these events: what is not lost until then, no stop within them or after them loses. None
+-- of these events is a restart.
 abbrev pub KeepsFlushed : {D : Type 0} → (D → History) → (D → Type 0) → (D → ℕ) → (List ℕ → List ℕ)
     → EngineView D → EngineView D → Type 0
 KeepsFlushed {D} history honest faults dig old new = (flushed : EngineView D) (events : List Event)
@@ -77,10 +78,9 @@ KeepsFlushed {D} history honest faults dig old new = (flushed : EngineView D) (e
     → LosesNoBlock history honest dig flushed old → LosesNoBlock history honest dig flushed new
 
 -- Where a flush that answered Ok led to this engine: whatever events follow, a stop at any moment from then
--- on loses no block that is marked now.
+-- on, up to a restart, loses no block that is marked now.
 abbrev pub FlushedBlocksStay : {D : Type 0} → (D → History) → (D → Type 0) → (D → ℕ) → (List ℕ → List ℕ)
     → EngineView D → Type 0
-FlushedBlocksStay {D} history honest faults dig flushed = (old new : EngineView D) (events : List Event)
-    (answers : List Answer) → StepsTo history honest faults dig old Flush (Flushed (Ok tt)) flushed
-    → RunsTo history honest faults dig flushed events answers new
-    → LosesNoBlock history honest dig flushed new
+FlushedBlocksStay {D} history honest faults dig flushed = (old : EngineView D)
+    → StepsTo history honest faults dig old Flush (Flushed (Ok tt)) flushed
+    → LosesNoBlockFrom history honest faults dig flushed

@@ -1,5 +1,5 @@
 -- What is promised of every list of events, whatever peers send and devices answer.
-use Rattle.std.specs.Prelude.{◌≡◌, ◌≢◌, ℕ, List, ◌∷◌, ◌++◌, length, Some, slice_get, Contains}
+use Rattle.std.specs.Prelude.{◌≡◌, ◌≢◌, ℕ, List, ◌∷◌, ◌++◌, flat_map, length, Some, slice_get, Contains}
 use Rattle.bt_tree.specs.Blocks.{block_length}
 use Rattle.bt_disk.specs.History.{History}
 use Rattle.bt_meta.specs.Files.{File}
@@ -13,10 +13,11 @@ use Rattle.bt_machine.specs.declared.event.Event.{Event}
 use Rattle.bt_machine.specs.declared.event.Answer.{Answer}
 use Rattle.bt_machine.specs.State.{FileState, EngineState, EngineView}
 use Rattle.bt_machine.specs.Devices.{DeviceCalls}
+use Rattle.bt_machine.specs.LogCalls.{EventCalls, HaveLogCalls}
 use Rattle.bt_machine.specs.Blocks.{block_id, state_at, tree_of}
 use Rattle.bt_machine.specs.Crash.{IsBlockKept}
 use Rattle.bt_machine.specs.Headline.{IsComplete, IsPublished}
-use Rattle.bt_machine.specs.Law.{IsMarkedBy, IsServed, IsSoAt, brought, read_back, found, sent_by}
+use Rattle.bt_machine.specs.Law.{IsMarkedBy, IsServed, IsSoAt, brought, read_back, found, recovered, sent_by}
 use Rattle.bt_machine.specs.Request.{IsFile}
 use Rattle.bt_machine.specs.Spans.{spanned_blocks}
 use Rattle.bt_machine.specs.Sound.{RunOn}
@@ -30,6 +31,7 @@ abbrev pub marking_bytes : {dig : List ℕ → List ℕ} {old : EngineState} {ev
 marking_bytes (brought by) = by.bytes
 marking_bytes (read_back by) = by.bytes
 marking_bytes (found by) = by.bytes
+marking_bytes (recovered is by) = by.bytes
 
 -- the digest of these bytes lies at the block's leaf, on a checked path to the pieces root of its file
 pub record IsOnCheckedPath (dig : List ℕ → List ℕ) (s : EngineState) (b : BlockId) (bytes : List ℕ) : Type 0
@@ -41,7 +43,7 @@ pub record IsOnCheckedPath (dig : List ℕ → List ℕ) (s : EngineState) (b : 
 -- The block became marked at one of the events of a run, by bytes of that event, whose digest lies on a
 -- checked path in the tree that the engine has after the event.
 pub record IsMarkedOnPath (dig : List ℕ → List ℕ) (first : EngineState) (events : List Event)
-    (calls : List DeviceCalls) (answers : List Answer) (last : EngineState) (b : BlockId) : Type 0 where
+    (calls : List EventCalls) (answers : List Answer) (last : EngineState) (b : BlockId) : Type 0 where
   pub before : List Answer
   pub answer : Answer
   pub after : List Answer
@@ -51,7 +53,7 @@ pub record IsMarkedOnPath (dig : List ℕ → List ℕ) (first : EngineState) (e
       × IsOnCheckedPath dig new b (marking_bytes by))
 
 -- so each block did that is marked after the events and was not before
-abbrev pub MarksByBytes : (List ℕ → List ℕ) → EngineState → List Event → List DeviceCalls → List Answer
+abbrev pub MarksByBytes : (List ℕ → List ℕ) → EngineState → List Event → List EventCalls → List Answer
     → EngineState → Type 0
 MarksByBytes dig old events calls answers new = (b : BlockId) → state_at new b ≡ Some Marked
     → state_at old b ≢ Some Marked → IsMarkedOnPath dig old events calls answers new b
@@ -67,7 +69,7 @@ pub record IsServedOnPath (dig : List ℕ → List ℕ) (s : EngineState) (event
       → IsOnCheckedPath dig s (block_id served.span.file i) (served.blocks i)
 
 -- so all data is that an answer sends, at that answer's own event
-abbrev pub SendsReadBytes : (List ℕ → List ℕ) → EngineState → List Event → List DeviceCalls → List Answer
+abbrev pub SendsReadBytes : (List ℕ → List ℕ) → EngineState → List Event → List EventCalls → List Answer
     → EngineState → Type 0
 SendsReadBytes dig old events calls answers new =
     (before : List Answer) (answer : Answer) (after : List Answer)
@@ -79,15 +81,17 @@ SendsReadBytes dig old events calls answers new =
 -- ---- the run
 
 -- The events led from one engine to the other, as the machine's steps do, by calls that were made of the
--- devices, and their answers stand behind those before. By the bytes of these calls and of the peers blocks
--- are marked and data is sent; and what is marked at a flush that answers Ok, no later stop loses.
+-- devices and of the log, and their answers stand behind those before. By the bytes of these calls and of the
+-- peers blocks are marked and data is sent; and what is marked at a flush that answers Ok, no later stop
+-- loses, up to a restart.
 pub record RunsAsPromised {D : Type 0} (history : D → History) (honest : D → Type 0) (faults : D → ℕ)
     (dig : List ℕ → List ℕ) (old : EngineView D) (events : List Event) (before after : List Answer)
     (new : EngineView D) : Type 0 where
   pub answers : List Answer
   pub behind : after ≡ before ++ answers
-  pub calls : List DeviceCalls
+  pub calls : List EventCalls
   pub run : RunOn history honest faults dig old.state old.disks events calls answers new.state new.disks
+  pub logged : HaveLogCalls history honest faults old.log (flat_map (λ c. c.log) calls) new.log
   pub marks : MarksByBytes dig old.state events calls answers new.state
   pub sends : SendsReadBytes dig old.state events calls answers new.state
   pub flushes : FlushesLoseNoBlock history honest faults dig old events calls answers new
@@ -102,13 +106,13 @@ ArePublished {D} history honest dig s = (number : ℕ) (file : File) (d : D)
     → IsComplete s.state.torrent s.state number file → slice_get s.disks number ≡ Some (Some d) → honest d
     → IsPublished dig file (history d).now.bytes
 
--- on an honest device a marked block stays marked
+-- on an honest device a marked block stays marked, where no event is a restart
 abbrev pub KeepsMarks : {D : Type 0} → (D → Type 0) → EngineView D → EngineView D → Type 0
 KeepsMarks {D} honest old new = (b : BlockId) (d : D) → slice_get new.disks b.file ≡ Some (Some d)
     → honest d → state_at old.state b ≡ Some Marked → state_at new.state b ≡ Some Marked
 
 -- What every image of an honest device since a moment has of a marked block, every image goes on to have,
--- also those that a crash within an event leaves.
+-- where no event is a restart; also those that a crash within an event leaves.
 abbrev pub KeepsImages : {D : Type 0} → (D → History) → (D → Type 0) → EngineView D → EngineView D → Type 0
 KeepsImages {D} history honest old new =
     (file i moment : ℕ) (f : FileState) (k : Facts) (bytes : List ℕ) (d : D)

@@ -1,5 +1,6 @@
 //! What is promised of lists of events.
 ghost use Rattle.std.specs.Prelude.{◌≡◌, OnOk, OnErr};
+ghost use Rattle.bt_machine.specs.Unmarks.{HasNoRestart};
 ghost use Rattle.bt_runs.specs.Flushes.{KeepsFlushed, FlushedBlocksStay};
 ghost use Rattle.bt_runs.specs.Promises.{RunsAsPromised, ArePublished, KeepsMarks, KeepsImages};
 
@@ -15,7 +16,8 @@ use std::alloc::AllocError;
 
 /// Lets the events happen to the engine, one after the other, and puts the answer of each behind those that
 /// are there, as `run_events` does. Its contract says what is promised of that, whatever peers send and
-/// devices answer. Errors: there is no memory for so many answers, and then no event happened.
+/// devices answer; some of it only where no event is a restart. Errors: there is no memory for so many
+/// answers, and then no event happened.
 pub fn run_as_promised<D: Disk + Drop, H: NodeHash>(
     engine: &mut Engine<D, H>,
     events: &[Event],
@@ -26,9 +28,10 @@ pub fn run_as_promised<D: Disk + Drop, H: NodeHash>(
     ensures kept { OnErr result (engine.new ≡ engine.old) }
     ensures unanswered { OnErr result (answers.new.items ≡ answers.old.items) }
     ensures published { ArePublished D.history D.honest H.digest engine.new }
-    ensures marks { KeepsMarks D.honest engine.old engine.new }
-    ensures images { KeepsImages D.history D.honest engine.old engine.new }
-    ensures flushed { KeepsFlushed D.history D.honest D.faults H.digest engine.old engine.new }
+    ensures marks { HasNoRestart events.now → KeepsMarks D.honest engine.old engine.new }
+    ensures images { HasNoRestart events.now → KeepsImages D.history D.honest engine.old engine.new }
+    ensures flushed { HasNoRestart events.now
+        → KeepsFlushed D.history D.honest D.faults H.digest engine.old engine.new }
 {
     // The laws of a run, and what holds of an engine before the events and after them.
     let hash = engine.hash();
@@ -50,8 +53,8 @@ pub fn run_as_promised<D: Disk + Drop, H: NodeHash>(
 }
 
 /// Once a flush answered Ok, a stop at any later moment loses no block that was marked then: this says so of
-/// an engine, where it stands right behind the flush. Its contract is of whatever events follow, and of stops
-/// between them and within them. It does nothing when it runs.
+/// an engine, where it stands right behind the flush. Its contract is of whatever events follow, up to a
+/// restart, and of stops between them and within them. It does nothing when it runs.
 pub fn flushed_blocks_stay<D: Disk + Drop, H: NodeHash>(engine: &Engine<D, H>)
     ensures { FlushedBlocksStay D.history D.honest D.faults H.digest engine.now }
 {

@@ -1,7 +1,8 @@
 -- The step that an event with this answer is, by the definition of its own event.
-use Rattle.std.specs.Prelude.{◌≡◌, ℕ, List, Option, Result}
-use Rattle.std.proofs.Common.{ap, sym, subst}
+use Rattle.std.specs.Prelude.{[], ◌≡◌, ℕ, List, ◌∷◌, Option, Some, None, Result}
+use Rattle.std.proofs.Common.{ap, refl, sym, subst}
 use Rattle.std.specs.declared.alloc.AllocError.{AllocError}
+use Rattle.bt_disk.specs.History.{History}
 use Rattle.bt_book.specs.declared.names.PeerKey.{PeerKey}
 use Rattle.bt_machine.specs.declared.event.Event.TheVariants.{Connect, Feed, Next, Lost as LostEvent, Rechoke}
 use Rattle.bt_machine.specs.declared.event.Answer.{Answer}
@@ -9,7 +10,7 @@ use Rattle.bt_machine.specs.declared.event.Answer.TheVariants.{Connected, Fed, S
 use Rattle.bt_machine.specs.declared.error.ConnectError.{ConnectError}
 use Rattle.bt_machine.specs.declared.error.EngineError.{EngineError}
 use Rattle.bt_machine.specs.State.{EngineState}
-use Rattle.bt_machine.specs.Devices.{DeviceCalls}
+use Rattle.bt_machine.specs.LogCalls.{EventCalls, LogCall, HaveLogCalls}
 use Rattle.bt_machine.specs.Output.{Output}
 use Rattle.bt_machine.specs.Next.{StepNext}
 use Rattle.bt_machine.specs.Peers.{StepConnect, StepFeed, StepLost}
@@ -36,7 +37,7 @@ abbrev rechoked_in : Result Output AllocError → Answer → Result Output Alloc
 rechoked_in other (Rechoked r) = r
 rechoked_in other _ = other
 
-module _ (dig : List ℕ → List ℕ) {old new : EngineState} {calls : DeviceCalls} where
+module _ (dig : List ℕ → List ℕ) {old new : EngineState} {calls : EventCalls} where
   pub own_connect : (r : Result (PeerKey × Output) ConnectError) → Step dig old Connect calls (Connected r) new → StepConnect old r new
   own_connect r step = subst (λ (q : Result (PeerKey × Output) ConnectError). StepConnect old q new) (sym (ap (connected_in r) step.1)) step.3
 
@@ -45,8 +46,8 @@ module _ (dig : List ℕ → List ℕ) {old new : EngineState} {calls : DeviceCa
   own_feed {key} {bytes} r step = subst (λ (q : Result (Unit {0}) EngineError). StepFeed old key bytes q new) (sym (ap (fed_in r) step.1)) step.3
 
   pub own_next : {key : PeerKey} (r : Result (Option Output) EngineError) → Step dig old (Next key) calls (Stepped r) new
-      → StepNext dig old key calls r new
-  own_next {key} r step = subst (λ (q : Result (Option Output) EngineError). StepNext dig old key calls q new) (sym (ap (stepped_in r) step.1)) step.2
+      → StepNext dig old key calls.devices r new
+  own_next {key} r step = subst (λ (q : Result (Option Output) EngineError). StepNext dig old key calls.devices q new) (sym (ap (stepped_in r) step.1)) step.3
 
   pub own_lost : {key : PeerKey} (r : Result (Unit {0}) EngineError) → Step dig old (LostEvent key) calls (LostAnswer r) new
       → StepLost old key r new
@@ -54,3 +55,12 @@ module _ (dig : List ℕ → List ℕ) {old new : EngineState} {calls : DeviceCa
 
   pub own_rechoke : (r : Result Output AllocError) → Step dig old Rechoke calls (Rechoked r) new → StepRechoke dig old r new
   own_rechoke r step = subst (λ (q : Result Output AllocError). StepRechoke dig old q new) (sym (ap (rechoked_in r) step.1)) step.3
+
+-- a log of which no call is made stays
+pub log_stays : {D : Type 0} (history : D → History) (honest : D → Type 0) (faults : D → ℕ) (old new : Option _) (calls : List LogCall)
+    → HaveLogCalls history honest faults old calls new → calls ≡ [] → new ≡ old
+log_stays history honest faults (Some old) (Some new) [] made none = ap (λ l. Some l) made
+log_stays history honest faults None None calls made none = refl
+log_stays history honest faults (Some old) (Some new) (call ∷ calls) made none = absurd cc
+log_stays history honest faults (Some old) None calls made none = absurd made
+log_stays history honest faults None (Some new) calls made none = absurd made

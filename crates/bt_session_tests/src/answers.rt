@@ -3,7 +3,7 @@
 use crate::bytes::tell_hex;
 use bt_book::{BlockId, PeerKey};
 use bt_machine::{
-    AdoptError, Answer, ConnectError, EngineError, FlushError, Frame, Note, Output, Why,
+    AdoptError, Answer, ConnectError, EngineError, FlushError, Frame, Note, Output, RestartError, Why,
 };
 use bt_store::Adopted;
 use bt_wire::{Message, fits, write_message};
@@ -20,6 +20,7 @@ pub fn tell_answer(alloc: Global, out: &mut String, answer: &Answer) -> Result<(
         Answer::Rechoked(told) => tell_rechoked(alloc, out, told),
         Answer::Adopted(told) => tell_adopted(out, told),
         Answer::Flushed(told) => tell_flushed(out, told),
+        Answer::Restarted(told) => tell_restarted(out, told),
     }
 }
 
@@ -89,6 +90,13 @@ fn tell_adopted(out: &mut String, told: &Result<Adopted, AdoptError>) -> Result<
 }
 
 fn tell_flushed(out: &mut String, told: &Result<(), FlushError>) -> Result<(), AllocError> {
+    match told {
+        Ok(()) => out.push_str("done\n"),
+        Err(error) => writeln!(out, "refused {error}"),
+    }
+}
+
+fn tell_restarted(out: &mut String, told: &Result<(), RestartError>) -> Result<(), AllocError> {
     match told {
         Ok(()) => out.push_str("done\n"),
         Err(error) => writeln!(out, "refused {error}"),

@@ -18,6 +18,7 @@ pub fn event_of(alloc: Global, name: &str, rest: &str) -> Result<Option<Event>, 
         "rechoke" => Ok(Some(Event::Rechoke)),
         "adopt" => Ok(Some(Event::Adopt(first.parse().unwrap_or(u32::MAX)))),
         "flush" => Ok(Some(Event::Flush)),
+        "restart" => Ok(Some(Event::Restart)),
         _ => Ok(None),
     }
 }

@@ -16,7 +16,7 @@ returns-in_err-adopt_file-clause-torrent g c =
 pub returns-in_err-adopt_file-clause-run : goal.returns-in_err-adopt_file-clause-run
 returns-in_err-adopt_file-clause-run g c =
     both c.args.engine.now c.loop-file.engine c.adopt_file.new.engine c.loop-file.invariant.3
-    (one c.loop-file.engine c.adopt_file.new.engine (Adopt c.loop-file.file) c.in_err-adopt_file.ensures.step.0 c.in_err-adopt_file.ensures.step.1)
+    (one c.loop-file.engine c.adopt_file.new.engine (Adopt c.loop-file.file) c.in_err-adopt_file.ensures.step.0 (λ e. absurd cc) c.in_err-adopt_file.ensures.step.1)
 
 pub loop-file-preserved : goal.loop-file-preserved
 loop-file-preserved g c =
@@ -35,7 +35,7 @@ loop-file-preserved g c =
         c.loop-file.invariant.2,
         subst leads (sym w.engine-is)
             (both c.args.engine.now c.loop-file.engine w.adopt_file.new.engine c.loop-file.invariant.3
-            (one c.loop-file.engine w.adopt_file.new.engine (Adopt c.loop-file.file) w.in_ok-adopt_file.ensures.step.0 w.in_ok-adopt_file.ensures.step.1)),
+            (one c.loop-file.engine w.adopt_file.new.engine (Adopt c.loop-file.file) w.in_ok-adopt_file.ensures.step.0 (λ e. absurd cc) w.in_ok-adopt_file.ensures.step.1)),
       )
       | else-is_filled w ↦ (
         subst taking (sym w.engine-is)

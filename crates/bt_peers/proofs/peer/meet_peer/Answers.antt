@@ -16,4 +16,4 @@ returns-in-Ok-clause-run g c =
     c.in-Ok.ensures.session
 
 pub returns-clause-run : goal.returns-clause-run
-returns-clause-run g c = one c.args.engine.now c.run_session.new.engine Connect _ c.in-Err.ensures.refused
+returns-clause-run g c = one c.args.engine.now c.run_session.new.engine Connect _ (λ e. absurd cc) c.in-Err.ensures.refused

@@ -9,10 +9,10 @@ returns-clause-run g c =
     let old = c.args.engine.now in
     let new = c.run_events-result.new.engine in
     as_promised g.D.Disk.history g.D.Disk.honest g.D.Disk.faults g.H.NodeHash.digest old new c.args.events.now c.args.answers.now.items
-    c.run_events-result.new.answers.items laws.shaped laws.rooted c.runs_compose.ensures.are_runs c.right_is_checked.ensures steps.shaped steps.rooted
+    c.run_events-result.new.answers.items laws.lawful laws.shaped laws.rooted c.runs_compose.ensures.are_runs c.right_is_checked.ensures steps.shaped steps.rooted
     c.step_marks_by_bytes.ensures c.run_sends_read_bytes.ensures
-    (λ events calls answers run. flushes g.D.Disk.history g.D.Disk.honest g.D.Disk.faults g.H.NodeHash.digest c.honest_devices_were_so.ensures
-    c.run_keeps_images.ensures c.run_keeps_marks.ensures c.flush_keeps_blocks.ensures steps.sound old new events calls answers laws.sound run)
+    (λ events calls answers run logged. flushes g.D.Disk.history g.D.Disk.honest g.D.Disk.faults g.H.NodeHash.digest c.honest_devices_were_so.ensures
+    c.run_keeps_images.ensures c.run_keeps_marks.ensures c.flush_keeps_blocks.ensures steps.sound old new events calls answers laws.sound run logged)
     c.run_events-result.result c.run_events-result.ensures.runs
 
 pub returns-clause-published : goal.returns-clause-published
@@ -22,27 +22,27 @@ returns-clause-published g c =
     c.run_events-result.new.engine after.shaped after.rooted after.sound
 
 pub returns-clause-marks : goal.returns-clause-marks
-returns-clause-marks g c =
+returns-clause-marks g c = λ no_restart.
     marks_kept g.D.Disk.history g.D.Disk.honest g.D.Disk.faults g.H.NodeHash.digest c.run_keeps_marks.ensures c.args.engine.now c.run_events-result.new.engine
     c.keeps_laws.ensures.sound
     (some_run g.D.Disk.history g.D.Disk.honest g.D.Disk.faults g.H.NodeHash.digest c.runs_compose.ensures.none c.args.engine.now c.run_events-result.new.engine
     c.args.events.now c.args.answers.now.items c.run_events-result.new.answers.items c.run_events-result.result c.run_events-result.ensures.runs
-    c.run_events-result.ensures.kept)
+    c.run_events-result.ensures.kept no_restart)
 
 pub returns-clause-images : goal.returns-clause-images
-returns-clause-images g c =
+returns-clause-images g c = λ no_restart.
     images_kept g.D.Disk.history g.D.Disk.honest g.D.Disk.faults g.H.NodeHash.digest c.run_keeps_images.ensures c.args.engine.now
     c.run_events-result.new.engine c.keeps_laws.ensures.sound
     (some_run g.D.Disk.history g.D.Disk.honest g.D.Disk.faults g.H.NodeHash.digest c.runs_compose.ensures.none c.args.engine.now c.run_events-result.new.engine
     c.args.events.now c.args.answers.now.items c.run_events-result.new.answers.items c.run_events-result.result c.run_events-result.ensures.runs
-    c.run_events-result.ensures.kept)
+    c.run_events-result.ensures.kept no_restart)
 
 pub returns-clause-flushed : goal.returns-clause-flushed
-returns-clause-flushed g c =
+returns-clause-flushed g c = λ no_restart.
     let ran = some_run g.D.Disk.history g.D.Disk.honest g.D.Disk.faults g.H.NodeHash.digest c.runs_compose.ensures.none c.args.engine.now
     c.run_events-result.new.engine c.args.events.now c.args.answers.now.items c.run_events-result.new.answers.items c.run_events-result.result
-    c.run_events-result.ensures.runs c.run_events-result.ensures.kept in
+    c.run_events-result.ensures.runs c.run_events-result.ensures.kept no_restart in
     λ flushed events answers came none.
     none_lost_then g.D.Disk.history g.D.Disk.honest g.D.Disk.faults g.H.NodeHash.digest c.honest_devices_were_so.ensures c.run_keeps_images.ensures
-    c.run_keeps_marks.ensures c.steps_keep_laws.ensures.files c.args.engine.now c.run_events-result.new.engine ran.0 ran.2.calls ran.1
+    c.run_keeps_marks.ensures c.steps_keep_laws.ensures.files c.args.engine.now c.run_events-result.new.engine ran.0 ran.2.calls ran.1 ran.3
     c.keeps_laws.ensures.sound ran.2.run flushed events answers came none

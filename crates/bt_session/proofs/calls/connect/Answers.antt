@@ -1,7 +1,9 @@
+use Rattle.std.proofs.Common.{ap}
+use Rattle.bt_machine.specs.LogCalls.{EventCalls}
 use Rattle.bt_machine.specs.declared.event.Event.TheVariants.{Connect}
 use Rattle.bt_machine.specs.declared.event.Answer.TheVariants.{Connected}
 use Rattle.bt_session.proofs.OnePeer.{connect_alone, refused_same}
-use Rattle.bt_session.proofs.OwnSteps.{own_connect}
+use Rattle.bt_session.proofs.OwnSteps.{own_connect, log_stays}
 use Rattle.bt_session.proofs.calls.connect.Goals as goal
 
 pub returns-clause-step : goal.returns-clause-step
@@ -18,4 +20,7 @@ returns-clause-fit g c =
 
 pub returns-clause-kept : goal.returns-clause-kept
 returns-clause-kept g c =
-    refused_same c.connect.result (own_connect g.H.NodeHash.digest c.connect.result c.connect.ensures.step.step) c.connect.ensures.devices
+    let step = c.connect.ensures.step in
+    refused_same c.connect.result (own_connect g.H.NodeHash.digest c.connect.result step.step) c.connect.ensures.devices
+    (log_stays g.D.Disk.history g.D.Disk.honest g.D.Disk.faults c.args.engine.now.log c.connect.new.self.log step.calls.log step.logged
+    (ap (λ (calls : EventCalls). calls.log) step.step.2))

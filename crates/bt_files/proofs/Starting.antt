@@ -1,0 +1,37 @@
+-- What a start without a log comes to.
+use Rattle.std.proofs.Common.{◌≡◌, ◌≢◌, ℕ, List, Option, Some, None, Result, Ok, Err, length, ap, sym, subst, ◌∙◌}
+use Rattle.bt_disk.specs.History.{History}
+use Rattle.bt_meta.specs.Torrent.{Metainfo}
+use Rattle.bt_machine.specs.declared.error.StartError.TheVariants.{OutOfMemory}
+use Rattle.bt_machine.specs.Opening.{AnswersStart, starts, other_count, other_log, no_memory}
+use Rattle.bt_machine.specs.Opening.BeginsOn.{bare, with_log}
+use Rattle.bt_machine.specs.Start.{AreDevicesOf, Starts, device_count}
+use Rattle.bt_machine.specs.State.{EngineView}
+
+module _ {D : Type 0} (history : D → History) (honest : D → Type 0) (faults : D → ℕ) (dig : List ℕ → List ℕ) (torrent : Metainfo) (given : List D) where
+  -- an engine that was started so
+  pub record IsStarted (engine : EngineView D) : Type 0 where
+    pub starts : Starts dig torrent engine.state
+    pub devices : AreDevicesOf torrent.files given engine.disks
+    pub unlogged : engine.log ≡ None
+
+  pub started : {answer : _} (engine : EngineView D) → AnswersStart history honest faults dig torrent given None answer → answer ≡ Ok engine → IsStarted engine
+  started engine (starts first placed are (bare none begun same unlogged) is) ok =
+      let one : first ≡ engine = cc in record {
+        starts = subst (λ (e : EngineView D). Starts dig torrent e.state) one begun;
+        devices = subst (λ (e : EngineView D). AreDevicesOf torrent.files given e.disks) one (subst (AreDevicesOf torrent.files given) (sym same) are);
+        unlogged = subst (λ (e : EngineView D). e.log ≡ None) one unlogged;
+      }
+  started engine (starts first placed are (with_log l calls some of_torrent begun made same) is) ok = absurd cc
+  started engine (other_count other back) ok = let is = back.is in absurd cc
+  started engine (other_log l so_many some other back) ok = absurd cc
+  started engine (no_memory so_many own back) ok = let is = back.is in absurd cc
+
+  -- it is refused for want of memory alone
+  pub not_started : {answer : _} {refused : _} → AnswersStart history honest faults dig torrent given None answer → answer ≡ Err refused
+      → length given ≡ device_count torrent.files → refused.cause ≡ OutOfMemory
+  not_started (starts first placed are begun is) err so_many = absurd cc
+  not_started (other_count other back) err so_many = absurd (other so_many)
+  not_started (other_log l count some other back) err so_many = absurd cc
+  not_started {refused = refused} (no_memory count own back) err so_many =
+      let one : back.refused ≡ refused = (let is = back.is in cc) in subst (λ r. r.cause ≡ OutOfMemory) one back.same_cause

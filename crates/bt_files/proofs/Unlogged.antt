@@ -1,0 +1,51 @@
+-- Lemmas on an engine that has no log.
+use Rattle.std.proofs.Common.{[], ◌≡◌, ℕ, List, ◌∷◌, ◌++◌, Option, Some, None, Result, Ok, Err, ap, sym, ◌∙◌}
+use Rattle.bt_disk.specs.History.{History}
+use Rattle.bt_machine.specs.declared.error.FlushError.TheVariants.{LogFull}
+use Rattle.bt_machine.specs.declared.event.Event.TheVariants.{Flush}
+use Rattle.bt_machine.specs.declared.event.Answer.TheVariants.{Flushed}
+use Rattle.bt_machine.specs.Flush.{StepFlush, appended, syncs, writes, fails, unwritten, unflushed}
+use Rattle.bt_machine.specs.LogCalls.{EventCalls, LogCall, HaveLogCalls}
+use Rattle.bt_machine.specs.State.{EngineState, EngineView}
+use Rattle.bt_machine.specs.View.{StepsTo}
+
+some_last : {X : Type 0} (xs : List X) (x : X) → xs ++ x ∷ [] ≡ [] → ⊥
+some_last [] x none = absurd cc
+some_last (y ∷ xs) x none = absurd cc
+
+-- the log's calls of a flush
+log_of : {calls made : EventCalls} → calls ≡ made → calls.log ≡ [] → made.log ≡ []
+log_of is none = ap (λ (c : EventCalls). c.log) (sym is) ∙ none
+
+flush_same : {s new : EngineState} {calls : EventCalls} {answer : _} → StepFlush s calls answer new → calls.log ≡ [] → new ≡ s
+flush_same (syncs off made answer same) none = same
+flush_same {s} (writes on made answer after) none = absurd (some_last (appended s.pending) _ (log_of made none))
+flush_same (fails before file after files made answer same) none = same
+flush_same (unwritten before hint after cause on pending made answer same) none = same
+flush_same (unflushed on made answer same) none = same
+
+flush_not_full : {s new : EngineState} {calls : EventCalls} {answer : _} → StepFlush s calls answer new → answer ≡ Err LogFull → calls.log ≡ [] → ⊥
+flush_not_full (syncs off made answer same) full none = absurd cc
+flush_not_full (writes on made answer after) full none = absurd cc
+flush_not_full (fails before file after files made answer same) full none = absurd cc
+flush_not_full (unwritten before hint after cause on pending made answer same) full none = some_last (appended before) _ (log_of made none)
+flush_not_full (unflushed on made answer same) full none = absurd cc
+
+module _ {D : Type 0} (history : D → History) (honest : D → Type 0) (faults : D → ℕ) (dig : List ℕ → List ℕ) where
+  none_called : (old new : Option _) (calls : List LogCall) → old ≡ None → HaveLogCalls history honest faults old calls new → calls ≡ []
+  none_called None None calls none made = made
+  none_called None (Some new) calls none made = absurd made
+  none_called (Some old) new calls none made = absurd cc
+
+  -- its flush changes nothing of its state
+  pub unlogged_same : (old new : EngineView D) (answer : _) → old.log ≡ None → StepsTo history honest faults dig old Flush (Flushed answer) new
+      → new.state ≡ old.state
+  unlogged_same old new answer none step = flush_same step.step.2 (none_called old.log new.log step.calls.log none step.logged)
+
+  -- and no log is full
+  pub unlogged_not_full : (old new : EngineView D) → old.log ≡ None → StepsTo history honest faults dig old Flush (Flushed (Err LogFull)) new → ⊥
+  unlogged_not_full old new none step =
+      flush_not_full step.step.2 (own step.step.1) (none_called old.log new.log step.calls.log none step.logged)
+    where
+      own : {answer : Result (Unit {0}) _} → Flushed (Err LogFull) ≡ Flushed answer → answer ≡ Err LogFull
+      own e = cc

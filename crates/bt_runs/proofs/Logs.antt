@@ -1,0 +1,42 @@
+-- The calls of a log, parted and put together.
+use Rattle.std.proofs.Common.{[], ◌≡◌, ℕ, List, ◌∷◌, ◌++◌, Option, Some, None, refl, ap, ◌∙◌}
+use Rattle.bt_disk.specs.History.{History}
+use Rattle.bt_machine.specs.LogCalls.{LogCall, AreLogCalls, HaveLogCalls}
+
+module _ {D : Type 0} (history : D → History) (honest : D → Type 0) (faults : D → ℕ) where
+  calls_parted : (old new : _) (calls more : List LogCall) → AreLogCalls history honest faults old (calls ++ more) new
+      → (mid : _) × AreLogCalls history honest faults old calls mid × AreLogCalls history honest faults mid more new
+  calls_parted old new [] more made = (old, refl, made)
+  calls_parted old new (call ∷ calls) more made =
+      let rest = calls_parted made.0 new calls more made.2 in (rest.0, (made.0, made.1, rest.1), rest.2)
+
+  calls_joined : (old mid new : _) (calls more : List LogCall) → AreLogCalls history honest faults old calls mid
+      → AreLogCalls history honest faults mid more new → AreLogCalls history honest faults old (calls ++ more) new
+  calls_joined old mid new [] more first then = rw first at then
+  calls_joined old mid new (call ∷ calls) more first then = (first.0, first.1, calls_joined first.0 mid new calls more first.2 then)
+
+  none_parted : (calls more : List LogCall) → calls ++ more ≡ [] → (calls ≡ []) × (more ≡ [])
+  none_parted [] more none = (refl, none)
+  none_parted (call ∷ calls) more none = absurd cc
+
+  -- some calls and then others are those of a log between
+  pub logs_parted : (old new : Option _) (calls more : List LogCall) → HaveLogCalls history honest faults old (calls ++ more) new
+      → (mid : Option _) × HaveLogCalls history honest faults old calls mid × HaveLogCalls history honest faults mid more new
+  logs_parted (Some old) (Some new) calls more made = let both = calls_parted old new calls more made in (Some both.0, both.1, both.2)
+  logs_parted None None calls more made = let none = none_parted calls more made in (None, none.0, none.1)
+  logs_parted (Some old) None calls more made = absurd made
+  logs_parted None (Some new) calls more made = absurd made
+
+  pub logs_joined : (old mid new : Option _) (calls more : List LogCall) → HaveLogCalls history honest faults old calls mid
+      → HaveLogCalls history honest faults mid more new → HaveLogCalls history honest faults old (calls ++ more) new
+  logs_joined (Some old) (Some mid) (Some new) calls more first then = calls_joined old mid new calls more first then
+  logs_joined None None None calls more first then = ap (λ l. l ++ more) first ∙ then
+  logs_joined (Some old) None new calls more first then = absurd first
+  logs_joined None (Some mid) new calls more first then = absurd first
+  logs_joined (Some old) (Some mid) None calls more first then = absurd then
+  logs_joined None None (Some new) calls more first then = absurd then
+
+  -- none is made
+  pub no_log_calls : (log : Option _) → HaveLogCalls history honest faults log [] log
+  no_log_calls (Some log) = refl
+  no_log_calls None = refl
