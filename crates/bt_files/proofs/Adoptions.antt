@@ -1,5 +1,5 @@
 -- Lemmas on the files of an engine that are taken in, one after the other.
-use Rattle.std.proofs.Common.{[], ◌≡◌, ℕ, ◌+◌, ◌<◌, ◌≤◌, Bool, true, false, List, ◌∷◌, ◌++◌, Some, length, map, filter, take, get_or, sym, ap, subst, ◌∙◌, zero-add, append-nil, arith}
+use Rattle.std.proofs.Common.{[], ◌≡◌, ◌⊎◌, inl, inr, Ok, Err, ℕ, ◌+◌, ◌<◌, ◌≤◌, Bool, true, false, List, ◌∷◌, ◌++◌, Some, length, map, filter, take, get_or, sym, ap, subst, ◌∙◌, zero-add, append-nil, arith}
 use Rattle.std.specs.List.{enumerate_from}
 use Rattle.std.specs.Prelude.{slice_get}
 use Rattle.std.proofs.lemmas.List.{length-take-le, map-append, take_all, take_more}
@@ -9,13 +9,17 @@ use Rattle.bt_disk.specs.History.{History}
 use Rattle.bt_machine.specs.declared.event.Event.{Event}
 use Rattle.bt_machine.specs.declared.event.Event.TheVariants.{Adopt}
 use Rattle.bt_machine.specs.declared.event.Answer.{Answer}
+use Rattle.bt_machine.specs.declared.event.Answer.TheVariants.{Adopted}
+use Rattle.bt_machine.specs.declared.error.AdoptError.TheVariants.{OutOfMemory}
+use Rattle.bt_check.specs.Fault.{device, out_of_memory}
+use Rattle.bt_check.specs.declared.fault.Fault.{Fault}
 use Rattle.bt_machine.specs.State.{EngineView}
 use Rattle.bt_machine.specs.Shape.{IsShaped}
 use Rattle.bt_machine.specs.View.{RunsTo, StepsTo}
 use Rattle.bt_machine.specs.Adopting.{AdoptsGroups, StepAdopt, no_file, busy, empty, adopts, no_memory}
 use Rattle.bt_machine.proofs.Shape.{step_shape}
 use Rattle.bt_machine.proofs.View.{none_run, one_more_runs}
-use Rattle.bt_files.specs.Adoption.{IsTakenIn, TakesIn, adoptions}
+use Rattle.bt_files.specs.Adoption.{IsAdoptionFault, IsTakenIn, TakesIn, adoptions}
 use Rattle.bt_files.proofs.Devices.{enumerate_from-append}
 
 -- ---- the files of which this is said, one more
@@ -65,6 +69,12 @@ events_passed : (filled : List Bool) (file : ℕ) → file < length filled → �
     → adoptions (take (file + 1) filled) ≡ adoptions (take file filled)
 events_passed filled file inside other =
     ap adoptions (one_more filled file false inside (not_chosen filled file inside other)) ∙ adoptions_passed (take file filled)
+
+-- a file that is not taken in without a fault fails by a device or memory
+pub adoption_fault : (answer : Answer) (fault : Fault) → IsAdoptionFault answer fault → (fault ≡ device) ⊎ (fault ≡ out_of_memory)
+adoption_fault (Adopted (Ok adopted)) fault is = inl is.1
+adoption_fault (Adopted (Err OutOfMemory)) fault is = inr is
+adoption_fault _ fault is = absurd is
 
 module _ (dig : List ℕ → List ℕ) where
   groups_peers : (s new file from groups total : _) → AdoptsGroups dig s file from groups total new → new.peers ≡ s.peers
