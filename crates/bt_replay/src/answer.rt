@@ -131,10 +131,7 @@ fn push_flushed(text: &mut String, flushed: &Result<(), FlushError>) -> Result<(
     }
 }
 
-fn push_restarted(
-    text: &mut String,
-    restarted: &Result<(), RestartError>,
-) -> Result<(), AllocError>
+fn push_restarted(text: &mut String, restarted: &Result<(), RestartError>) -> Result<(), AllocError>
     ensures { OnOk result
         (string_bytes text.new ≡ string_bytes text.old ++ answer_text (Restarted restarted.now)) }
 {

@@ -3,7 +3,8 @@
 use crate::bytes::tell_hex;
 use bt_book::{BlockId, PeerKey};
 use bt_machine::{
-    AdoptError, Answer, ConnectError, EngineError, FlushError, Frame, Note, Output, RestartError, Why,
+    AdoptError, Answer, ConnectError, EngineError, FlushError, Frame, Note, Output, RestartError,
+    Why,
 };
 use bt_store::Adopted;
 use bt_wire::{Message, fits, write_message};
