@@ -1,4 +1,5 @@
-//! What a log's hints make of trees and stores: trees take its proofs, and blocks that it records wait to be read.
+//! What a log's hints make of trees and stores: trees take its proofs, and blocks that it records wait to be
+//! read.
 #![tactic(auto)]
 
 mod places;
