@@ -10,6 +10,7 @@ mod device;
 mod ends;
 mod engine;
 mod event;
+mod hints;
 mod links;
 mod lists;
 mod names;

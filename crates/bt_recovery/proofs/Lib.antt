@@ -1,0 +1,2 @@
+pub mod Recallings
+pub mod Takings

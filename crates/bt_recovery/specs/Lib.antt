@@ -1,0 +1,3 @@
+pub mod Recalling
+pub mod Taking
+pub mod TakingSteps

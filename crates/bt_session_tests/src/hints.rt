@@ -1,0 +1,103 @@
+//! Trees that take the proofs of a log.
+ghost use Rattle.std.specs.Prelude.{◌≢◌, IfOk};
+ghost use Rattle.std.specs.List.{AllPairs};
+
+use crate::words::{RowError, Words, tell_answer};
+use bt_disk::MemoryDisk;
+use bt_recovery::take_proofs;
+use bt_resume::ResumeLog;
+use bt_sparse::SparseTree;
+use bt_tree::{Geometry, Hash32, Plain};
+use std::alloc::{AllocError, Global};
+
+/// Adds what a row answers. What is no row says so.
+pub fn hints_row(alloc: Global, row: &str, out: &mut String) -> Result<(), AllocError> {
+    let mut words = Words::new(row);
+    let answer = answer_of(alloc, &mut words);
+    tell_answer(answer, words.is_at_end(), row, out)
+}
+
+/// Two trees take the proofs of a log of these bytes.
+fn answer_of(alloc: Global, words: &mut Words) -> Result<String, RowError> {
+    let log = log_from(alloc, words)?;
+    let trees = trees_from(alloc, words)?;
+    told_by(alloc, &log, trees)
+}
+
+fn log_from(alloc: Global, words: &mut Words) -> Result<ResumeLog<MemoryDisk>, RowError> {
+    let disk = MemoryDisk::new(alloc, words.bytes(alloc)?);
+    match ResumeLog::attach(alloc, disk, [5; 32]) {
+        Ok(log) => Ok(log),
+        Err(_) => Err(RowError::Unread),
+    }
+}
+
+/// Two trees, of other roots.
+fn trees_from(alloc: Global, words: &mut Words) -> Result<Vec<SparseTree<Plain>>, RowError>
+    ensures { IfOk result (λ trees. AllPairs (λ j k. j.root ≢ k.root) trees.items) }
+{
+    let first = tree_from(alloc, words)?;
+    let second = tree_from(alloc, words)?;
+    if first.root() == second.root() {
+        return Err(RowError::Unread);
+    }
+    Ok(both(alloc, first, second)?)
+}
+
+fn both(
+    alloc: Global,
+    first: SparseTree<Plain>,
+    second: SparseTree<Plain>,
+) -> Result<Vec<SparseTree<Plain>>, AllocError>
+    requires apart { first.root ≢ second.root }
+    ensures { IfOk result (λ trees. AllPairs (λ j k. j.root ≢ k.root) trees.items) }
+{
+    let mut trees = Vec::with_capacity(alloc, 2)?;
+    trees.push(first)?;
+    trees.push(second)?;
+    Ok(trees)
+}
+
+/// The tree of a file of so many bytes, of which the root alone is known.
+fn tree_from(alloc: Global, words: &mut Words) -> Result<SparseTree<Plain>, RowError> {
+    let Some(geometry) = Geometry::new(u64::from(words.number()?)) else {
+        return Err(RowError::Unread);
+    };
+    let root = root_from(alloc, words)?;
+    Ok(SparseTree::new(alloc, Plain, geometry, root)?)
+}
+
+fn root_from(alloc: Global, words: &mut Words) -> Result<Hash32, RowError> {
+    let bytes = words.bytes(alloc)?;
+    match bytes.as_chunks::<32>() {
+        ([root], []) => Ok(*root),
+        _ => Err(RowError::Unread),
+    }
+}
+
+/// Tells of each tree which leaves it knows once it has taken the log's proofs.
+fn told_by(
+    alloc: Global,
+    log: &ResumeLog<MemoryDisk>,
+    trees: Vec<SparseTree<Plain>>,
+) -> Result<String, RowError>
+    requires apart { AllPairs (λ j k. j.root ≢ k.root) trees.items }
+{
+    let mut trees = trees;
+    take_proofs(alloc, &mut trees, log.hints())?;
+    let mut out = String::new(alloc);
+    out.push_str("known")?;
+    for tree in &trees {
+        tell_known(&mut out, tree)?;
+    }
+    Ok(out)
+}
+
+fn tell_known(out: &mut String, tree: &SparseTree<Plain>) -> Result<(), AllocError> {
+    out.push_str(" ")?;
+    for block in 0..tree.geometry().blocks() {
+        let is_known = tree.known(0, block).is_some();
+        out.push_str(if is_known { "1" } else { "0" })?;
+    }
+    Ok(())
+}
