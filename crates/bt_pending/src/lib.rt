@@ -6,5 +6,6 @@ mod pending;
 mod sizes;
 mod writing;
 
+pub use bt_machine::FlushError;
 pub use law::writing_flushes;
 pub use pending::Pending;
