@@ -3,13 +3,14 @@
 use crate::bytes::tell_bytes;
 use crate::words::{RowError, Words, tell};
 use bt_hashreq::HashKey;
-use bt_resume::{Hints, LentHint};
+use bt_resume::{Hint, Hints, LentHint};
+use bt_sparse::Digests;
 use bt_tree::Hash32;
 use std::alloc::Global;
 use std::fmt::Write;
 
 /// The key of the next words: root, base, index, length and layers.
-pub fn key_from(alloc: Global, words: &mut Words) -> Result<HashKey, RowError> {
+fn key_from(alloc: Global, words: &mut Words) -> Result<HashKey, RowError> {
     let root = words.digest(alloc)?;
     numbered_key(root, words)
 }
@@ -26,6 +27,21 @@ fn numbered_key(root: Hash32, words: &mut Words) -> Result<HashKey, RowError> {
         length,
         layers,
     })
+}
+
+/// The marks of the next words: their file, the first block, and how many.
+pub fn run_from(words: &mut Words) -> Result<Hint, RowError> {
+    let file = words.number()?;
+    let first = words.number()?;
+    let count = words.number()?;
+    Ok(Hint::Marks { file, first, count })
+}
+
+/// The proof of the next words: its key and its digests.
+pub fn proof_from(alloc: Global, words: &mut Words) -> Result<Hint, RowError> {
+    let key = key_from(alloc, words)?;
+    let digests = words.digests(alloc)?;
+    Ok(Hint::Proof(key, Digests::new(digests)))
 }
 
 /// Tells how many hints there are.

@@ -2,12 +2,11 @@
 
 use crate::calls::tell_done;
 use crate::device::{Device, put, taken};
-use crate::hints::{key_from, tell_count, tell_hints};
+use crate::hints::{proof_from, run_from, tell_count, tell_hints};
 use crate::unreadable::Unreadable;
 use crate::words::{RowError, Words, tell};
 use bt_disk::{DeviceFault, Disk, FaultDisk, MemoryDisk};
 use bt_resume::{AppendError, Hint, Hints, LogError, Refused, ResumeLog};
-use bt_sparse::Digests;
 use bt_tree::Hash32;
 use std::alloc::Global;
 use std::fmt::Write;
@@ -209,10 +208,8 @@ fn marks_row<D: Disk + Drop>(
     words: &mut Words,
     out: &mut String,
 ) -> Result<(), RowError> {
-    let file = words.number()?;
-    let first = words.number()?;
-    let count = words.number()?;
-    tell_appended(out, appended(log, &Hint::Marks { file, first, count }))
+    let hint = run_from(words)?;
+    tell_appended(out, appended(log, &hint))
 }
 
 fn tell_format<D: Disk + Drop>(out: &mut String, log: &ResumeLog<D>) -> Result<(), RowError> {
@@ -227,9 +224,7 @@ fn proof_row<D: Disk + Drop>(
     words: &mut Words,
     out: &mut String,
 ) -> Result<(), RowError> {
-    let key = key_from(alloc, words)?;
-    let digests = words.digests(alloc)?;
-    let hint = Hint::Proof(key, Digests::new(digests));
+    let hint = proof_from(alloc, words)?;
     tell_appended(out, appended(log, &hint))
 }
 

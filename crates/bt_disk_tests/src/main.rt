@@ -11,6 +11,7 @@ mod folders;
 mod hints;
 mod logs;
 mod many;
+mod pending;
 mod shop;
 mod stage;
 mod store;

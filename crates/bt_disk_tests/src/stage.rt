@@ -2,14 +2,17 @@
 
 use crate::device::{Device, device_row, put};
 use crate::logs::{Log, log_row};
+use crate::pending::pending_row;
 use crate::shop::{Shop, shop_row};
 use crate::store::{Store, store_row};
 use crate::system::Counts;
 use crate::words::{RowError, Words};
 use bt_folder::Seal;
+use bt_pending::Pending;
 use std::alloc::{AllocError, Global};
 
-/// What the rows work on: three devices, and a store and a log, which take the first of them.
+/// What the rows work on: three devices, a store and a log, which take the first of them, and the hints that wait
+/// to be written to the log.
 #[derive(Drop)]
 pub struct Stage<'a> {
     first: Device<'a>,
@@ -17,6 +20,7 @@ pub struct Stage<'a> {
     third: Device<'a>,
     store: Store,
     log: Log,
+    pending: Pending,
     shop: Shop<'a>,
 }
 
@@ -28,6 +32,7 @@ impl<'a> Stage<'a> {
             third: Device::Empty,
             store: Store::Empty,
             log: Log::Empty,
+            pending: Pending::new(rt.alloc()),
             shop: Shop::new(rt, counts, seal, top),
         }
     }
@@ -91,6 +96,7 @@ impl<'a> Stage<'a> {
         match words.word() {
             "store" => self.store_row(words, out),
             "log" => self.log_row(words, out),
+            "pending" => self.pending_row(words, out),
             "system" => self.system_row(words, out),
             name => self.device_row(name, words, out),
         }
@@ -119,6 +125,11 @@ impl<'a> Stage<'a> {
     fn log_row(&mut self, words: &mut Words, out: &mut String) -> Result<(), RowError> {
         let alloc = self.shop.alloc();
         log_row(alloc, &mut self.log, &mut self.first, words, out)
+    }
+
+    fn pending_row(&mut self, words: &mut Words, out: &mut String) -> Result<(), RowError> {
+        let alloc = self.shop.alloc();
+        pending_row(alloc, &mut self.pending, &mut self.log, words, out)
     }
 
     /// Another system. All devices that were there are gone.
