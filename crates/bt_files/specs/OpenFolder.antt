@@ -27,13 +27,15 @@ abbrev pub IsAdded : KnownFiles → Option FileIdentity → KnownFiles → Type 
 IsAdded before identity after =
     (file : FileIdentity) → IsKnown after file ↔ (IsKnown before file ⊎ (identity ≡ Some file))
 
--- The file has the device and the inode of one before, or a name on its path is that of another by a folder's listing.
+-- The file has the device and the inode of one before, or a name on its path is that of another by a folder's
+-- listing.
 abbrev pub IsOfAnotherPath : OpenFolder → OpenFolder → List (List ℕ) → Option FileIdentity → Type 0
 IsOfAnotherPath old new path identity =
     IsSomeAnd identity (IsKnown old.files) ⊎ HasNameOfAnother old.paths new.paths path
 
 -- why a file is refused that was opened: that it is of another path is no fault where both are only read
-abbrev pub IsFileFault : FileUse → OpenFolder → OpenFolder → List (List ℕ) → Option FileIdentity → Fault → Type 0
+abbrev pub IsFileFault : FileUse → OpenFolder → OpenFolder → List (List ℕ) → Option FileIdentity → Fault
+    → Type 0
 IsFileFault usage old new path identity =
     IsCallFaultOr ((is_read_only usage ≡ false) × IsOfAnotherPath old new path identity)
 

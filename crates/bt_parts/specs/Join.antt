@@ -38,6 +38,6 @@ IsCountOf is_right run = run.marked ≡ count_by is_right (range_with_len run.fr
 -- Where each part counted the blocks that pass one test, the sum over all runs is the count over all blocks
 -- from the first on to the last, as those of a whole file.
 abbrev pub SumsAreWhole : Type 0
-SumsAreWhole = (is_right : ℕ → Bool) (blocks at reached : ℕ) (runs : List Run) → IsChain blocks at runs reached
-    → All (IsCountOf is_right) runs
+SumsAreWhole = (is_right : ℕ → Bool) (blocks at reached : ℕ) (runs : List Run)
+    → IsChain blocks at runs reached → All (IsCountOf is_right) runs
     → marked_in runs ≡ count_by is_right (range_with_len at (reached - at))
