@@ -47,6 +47,7 @@ pub fn take_piece<D: Disk + Drop, H: NodeHash>(
     ensures takes { TakesPiece D.history D.honest D.faults H.digest parts.old index piece begin bytes.now
         result parts.new }
     ensures torrent { parts.new.torrent ≡ parts.old.torrent }
+    ensures log { parts.new.log ≡ parts.old.log }
     ensures peers { map (λ p. p.key) parts.new.peers.items ≡ map (λ p. p.key) parts.old.peers.items }
     ensures len { vec_len parts.new.peers ≡ vec_len parts.old.peers }
     ensures tied { IsTied parts.new }
@@ -83,6 +84,7 @@ fn put_block<D: Disk + Drop, H: NodeHash>(
     ensures puts { PutsBlock D.history D.honest D.faults H.digest parts.old block ask bytes.now result
         parts.new }
     ensures torrent { parts.new.torrent ≡ parts.old.torrent }
+    ensures log { parts.new.log ≡ parts.old.log }
     ensures peers { parts.new.peers ≡ parts.old.peers }
     ensures tied { IsTied parts.new }
 {

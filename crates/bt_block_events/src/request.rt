@@ -54,6 +54,7 @@ pub fn take_request<D: Disk + Drop, H: NodeHash>(
     ensures kept { IfErr result (λ _. parts.new ≡ parts.old) }
     ensures needed { IfErr result (λ _. IsToServe (state_of parts.old) index ask) }
     ensures torrent { parts.new.torrent ≡ parts.old.torrent }
+    ensures log { parts.new.log ≡ parts.old.log }
     ensures peers { map (λ p. p.key) parts.new.peers.items ≡ map (λ p. p.key) parts.old.peers.items }
     ensures len { vec_len parts.new.peers ≡ vec_len parts.old.peers }
     ensures tied { IsTied parts.new }
@@ -87,6 +88,7 @@ fn serve<D: Disk + Drop, H: NodeHash>(
     requires room { IsRoomFor span room }
     ensures takes { TakesRequest D.history D.honest D.faults H.digest parts.old index ask result parts.new }
     ensures torrent { parts.new.torrent ≡ parts.old.torrent }
+    ensures log { parts.new.log ≡ parts.old.log }
     ensures peers { map (λ p. p.key) parts.new.peers.items ≡ map (λ p. p.key) parts.old.peers.items }
     ensures len { vec_len parts.new.peers ≡ vec_len parts.old.peers }
     ensures tied { IsTied parts.new }

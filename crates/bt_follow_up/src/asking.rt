@@ -27,6 +27,7 @@ pub(crate) fn ask_blocks<D: Disk + Drop, H: NodeHash>(
     ensures asked { AreBlocksAsked (state_of parts.old) index result.items (state_of parts.new) }
     ensures devices { disks_of parts.new ≡ disks_of parts.old }
     ensures torrent { parts.new.torrent ≡ parts.old.torrent }
+    ensures log { parts.new.log ≡ parts.old.log }
     ensures peers { parts.new.peers ≡ parts.old.peers }
     ensures tied { IsTied parts.new }
 {

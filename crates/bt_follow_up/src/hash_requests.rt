@@ -37,6 +37,7 @@ pub(crate) fn request_hashes<D: Disk + Drop, H: NodeHash>(
         (state_of parts.new) }
     ensures devices { disks_of parts.new ≡ disks_of parts.old }
     ensures torrent { parts.new.torrent ≡ parts.old.torrent }
+    ensures log { parts.new.log ≡ parts.old.log }
     ensures keys { map (λ p. p.key) parts.new.peers.items ≡ map (λ p. p.key) parts.old.peers.items }
     ensures peers { vec_len parts.new.peers ≡ vec_len parts.old.peers }
     ensures tied { IsTied parts.new }

@@ -28,6 +28,7 @@ pub(crate) fn tell_interest<D: Disk + Drop, H: NodeHash>(
     ensures told { IsInterestTold (state_of parts.old) index result (state_of parts.new) }
     ensures devices { disks_of parts.new ≡ disks_of parts.old }
     ensures torrent { parts.new.torrent ≡ parts.old.torrent }
+    ensures log { parts.new.log ≡ parts.old.log }
     ensures keys { map (λ p. p.key) parts.new.peers.items ≡ map (λ p. p.key) parts.old.peers.items }
     ensures peers { vec_len parts.new.peers ≡ vec_len parts.old.peers }
     ensures tied { IsTied parts.new }

@@ -32,6 +32,7 @@ pub fn connect<D: Disk + Drop, H: NodeHash>(
         (state_of parts.new) }
     ensures devices { disks_of parts.new ≡ disks_of parts.old }
     ensures torrent { parts.new.torrent ≡ parts.old.torrent }
+    ensures log { parts.new.log ≡ parts.old.log }
     ensures tied { IsTied parts.new }
 {
     if parts.peers.len() >= MAX_PEERS {
@@ -64,6 +65,7 @@ fn join<D: Disk + Drop, H: NodeHash>(
     ensures joined { HasJoined (state_of parts.old) result (state_of parts.new) }
     ensures devices { disks_of parts.new ≡ disks_of parts.old }
     ensures torrent { parts.new.torrent ≡ parts.old.torrent }
+    ensures log { parts.new.log ≡ parts.old.log }
     ensures tied { IsTied parts.new }
 {
     let key = PeerKey(parts.last_key + 1);

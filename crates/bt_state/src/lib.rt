@@ -7,6 +7,7 @@ mod block_change;
 mod comparison;
 mod connection;
 mod greeting;
+mod open_log;
 mod parts;
 mod peer;
 mod peers;
@@ -16,6 +17,7 @@ mod slot;
 
 pub use block_change::follow_block;
 pub use connection::{MAX_PEERS, connect};
+pub use open_log::OpenLog;
 pub use parts::Parts;
 pub use peer::Peer;
 pub use peers::{feed, index_of, lost};

@@ -1,3 +1,4 @@
+use crate::open_log::OpenLog;
 use crate::peer::Peer;
 use crate::piece_set::PieceSet;
 use crate::slot::Slot;
@@ -28,4 +29,5 @@ pub struct Parts<D: Disk + Drop, H: NodeHash> {
     /// How many keys were given out.
     pub last_key: u64,
     pub turn: u64,
+    pub log: Option<OpenLog<D>>,
 }

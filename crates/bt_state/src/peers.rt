@@ -36,6 +36,7 @@ pub fn feed<D: Disk + Drop, H: NodeHash>(
     ensures step { StepFeed (state_of parts.old) key bytes.now result (state_of parts.new) }
     ensures devices { disks_of parts.new ≡ disks_of parts.old }
     ensures torrent { parts.new.torrent ≡ parts.old.torrent }
+    ensures log { parts.new.log ≡ parts.old.log }
     ensures tied { IsTied parts.new }
 {
     let Some(index) = index_of(parts, key) else {
@@ -61,6 +62,7 @@ pub fn lost<D: Disk + Drop, H: NodeHash>(
     ensures step { StepLost (state_of parts.old) key result (state_of parts.new) }
     ensures devices { disks_of parts.new ≡ disks_of parts.old }
     ensures torrent { parts.new.torrent ≡ parts.old.torrent }
+    ensures log { parts.new.log ≡ parts.old.log }
     ensures tied { IsTied parts.new }
 {
     let Some(index) = index_of(parts, key) else {

@@ -1,0 +1,11 @@
+use bt_disk::Disk;
+use bt_pending::Pending;
+use bt_resume::ResumeLog;
+
+/// A log that an engine has.
+#[derive(Drop)]
+pub struct OpenLog<D: Disk + Drop> {
+    pub log: ResumeLog<D>,
+    /// What the next flush is to write to it.
+    pub pending: Pending,
+}
