@@ -26,7 +26,8 @@ pub enum Heard {
     /// There is no peer that it could have come from.
     Nothing,
     Closed(Why),
-    Noted(Vec<Note>),
+    Noted(Note),
+    Settled(Vec<Note>),
 }
 
 /// Gives parts a log, for which nothing waits.
@@ -59,7 +60,7 @@ pub fn connect<D: Disk + Drop, H: NodeHash>(
     if bt_state::connect(alloc, parts).is_err() {
         return Err(AllocError);
     }
-    open_peer(parts, pieces);
+    welcome_first(parts, pieces);
     Ok(())
 }
 
@@ -74,7 +75,7 @@ fn all_pieces(alloc: Global, count: u32) -> Result<PieceSet, AllocError> {
 }
 
 /// Takes it that the first peer has these pieces, and chokes us no longer.
-fn open_peer<D: Disk + Drop, H: NodeHash>(parts: &mut Parts<D, H>, pieces: PieceSet)
+fn welcome_first<D: Disk + Drop, H: NodeHash>(parts: &mut Parts<D, H>, pieces: PieceSet)
     requires { AreSteady parts.old }
     ensures { AreSteady parts.new }
 {
@@ -82,10 +83,10 @@ fn open_peer<D: Disk + Drop, H: NodeHash>(parts: &mut Parts<D, H>, pieces: Piece
         return;
     }
     let peer = &mut parts.peers[0];
-    open(peer, pieces);
+    welcome(peer, pieces);
 }
 
-fn open(peer: &mut Peer, pieces: PieceSet)
+fn welcome(peer: &mut Peer, pieces: PieceSet)
     ensures { peer.new.key ≡ peer.old.key }
 {
     peer.has = pieces;
@@ -128,18 +129,22 @@ pub fn take_in_hashes<D: Disk + Drop, H: NodeHash>(
     if !has_peer(parts) {
         return Ok(Heard::Nothing);
     }
-    match take_hashes(alloc, parts, 0, key, digests)? {
-        Learnt::Refused(why) => Ok(Heard::Closed(why)),
-        Learnt::Settled(notes, proof) => {
-            record(parts, proof, &notes)?;
-            Ok(Heard::Noted(notes))
-        }
+    let learnt = take_hashes(alloc, parts, 0, key, digests)?;
+    let (heard, proof) = heard_of_hashes(learnt);
+    leave_hints(parts, proof, &heard)?;
+    Ok(heard)
+}
+
+/// What came of hashes, and the proof that they leave.
+fn heard_of_hashes(learnt: Learnt) -> (Heard, Option<Hint>) {
+    match learnt {
+        Learnt::Refused(why) => (Heard::Closed(why), None),
+        Learnt::Settled(notes, proof) => (Heard::Settled(notes), proof),
     }
 }
 
 /// Takes bytes of a piece that come from the peer.
 pub fn take_in_piece<D: Disk + Drop, H: NodeHash>(
-    alloc: Global,
     parts: &mut Parts<D, H>,
     piece: u32,
     begin: u32,
@@ -152,32 +157,30 @@ pub fn take_in_piece<D: Disk + Drop, H: NodeHash>(
         return Ok(Heard::Nothing);
     }
     let effect = take_piece(parts, 0, piece, begin, bytes);
-    let heard = heard_of(alloc, effect)?;
-    if let Heard::Noted(notes) = &heard {
-        record(parts, None, notes)?;
-    }
+    let heard = heard_of_piece(effect);
+    leave_hints(parts, None, &heard)?;
     Ok(heard)
 }
 
-fn heard_of(alloc: Global, effect: Effect) -> Result<Heard, AllocError> {
+fn heard_of_piece(effect: Effect) -> Heard {
     match effect {
-        Effect::Noted(note) => Ok(Heard::Noted(vec![in alloc; note]?)),
-        Effect::Stored(note, _, _) => Ok(Heard::Noted(vec![in alloc; note]?)),
-        Effect::Closed(why) => Ok(Heard::Closed(why)),
+        Effect::Noted(note) => Heard::Noted(note),
+        Effect::Stored(note, _, _) => Heard::Noted(note),
+        Effect::Closed(why) => Heard::Closed(why),
     }
 }
 
-/// Lets hints wait for the log.
-fn record<D: Disk + Drop, H: NodeHash>(
+/// Lets a proof wait for the log, and behind it a mark of each block that has become marked.
+fn leave_hints<D: Disk + Drop, H: NodeHash>(
     parts: &mut Parts<D, H>,
     proof: Option<Hint>,
-    notes: &[Note],
+    heard: &Heard,
 ) -> Result<(), AllocError>
     requires { AreSteady parts.old }
     ensures { AreSteady parts.new }
 {
     match &mut parts.log {
-        Some(open) => put_hints(&mut open.pending, proof, notes),
+        Some(opened) => put_hints(&mut opened.pending, proof, heard),
         None => Ok(()),
     }
 }
@@ -230,7 +233,7 @@ pub fn write_to<D: Disk + Drop, H: NodeHash>(
     ensures { AreSteady parts.new }
 {
     match &mut parts.log {
-        Some(open) => open.pending.write_to(log),
+        Some(opened) => opened.pending.write_to(log),
         None => Ok(()),
     }
 }

@@ -1,6 +1,7 @@
 //! The hints that wait for a log.
 
 use crate::bytes::{tell_bytes, tell_hex};
+use crate::changes::Heard;
 use crate::device::TestDisk;
 use crate::stage::TestEngine;
 use crate::words::{RowError, tell};
@@ -20,11 +21,19 @@ const MAX_BLOCK_COUNT: u32 = 1 << 26;
 pub fn put_hints(
     pending: &mut Pending,
     proof: Option<Hint>,
-    notes: &[Note],
+    heard: &Heard,
 ) -> Result<(), AllocError> {
     if let Some(proof) = proof {
         put_proof(pending, proof)?;
     }
+    match heard {
+        Heard::Nothing | Heard::Closed(_) => Ok(()),
+        Heard::Noted(note) => put_note(pending, *note),
+        Heard::Settled(notes) => put_notes(pending, notes),
+    }
+}
+
+fn put_notes(pending: &mut Pending, notes: &[Note]) -> Result<(), AllocError> {
     for note in notes {
         put_note(pending, *note)?;
     }

@@ -87,7 +87,7 @@ impl<D: Disk + Drop, H: NodeHash> Logged<D, H> {
     }
 
     pub fn piece(&mut self, piece: u32, begin: u32, bytes: &[u8]) -> Result<Heard, AllocError> {
-        take_in_piece(self.alloc, &mut self.parts, piece, begin, bytes)
+        take_in_piece(&mut self.parts, piece, begin, bytes)
     }
 
     /// Lets the peer go.
@@ -111,14 +111,14 @@ impl<D: Disk + Drop, H: NodeHash> Logged<D, H> {
     /// How many hints wait.
     pub fn waiting(&self) -> usize {
         match &self.parts.log {
-            Some(open) => open.pending.len(),
+            Some(opened) => opened.pending.len(),
             None => 0,
         }
     }
 
     pub fn log_disk(&self) -> Option<&D> {
         match &self.parts.log {
-            Some(open) => Some(open.log.disk()),
+            Some(opened) => Some(opened.log.disk()),
             None => None,
         }
     }

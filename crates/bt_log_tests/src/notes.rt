@@ -11,7 +11,8 @@ pub fn tell_heard(out: &mut String, heard: &Heard) -> Result<(), RowError> {
     match heard {
         Heard::Nothing => Err(RowError::Unread),
         Heard::Closed(why) => tell_why(out, why),
-        Heard::Noted(notes) => tell_notes(out, notes),
+        Heard::Noted(note) => tell_notes(out, &[*note]),
+        Heard::Settled(notes) => tell_notes(out, notes),
     }
 }
 
