@@ -78,7 +78,7 @@ pub fn log_of_waiting(
     let mut bytes = Vec::from_slice(alloc, b"btseed-2")?;
     bytes.extend_from_slice(&infohash)?;
     // Opening it takes two calls, and each hint one.
-    let disk = TestDisk::in_memory(alloc, bytes, 3 + count as u64);
+    let disk = TestDisk::in_memory(alloc, bytes, (count as u64).saturating_add(3));
     let Some(mut log) = opened(alloc, disk, infohash) else {
         return Ok(None);
     };

@@ -9,7 +9,7 @@ use crate::words::{RowError, Words, tell};
 use bt_lanes::Lanes;
 use bt_machine::StartError;
 use bt_meta::{MetaError, Torrent, read_info, read_torrent};
-use bt_resume::ResumeLog;
+use bt_resume::{Refused, ResumeLog};
 use bt_tree::Hash32;
 use std::alloc::{AllocError, Global};
 use std::fmt::Write;
@@ -158,8 +158,9 @@ impl Stage {
         match ResumeLog::attach(self.alloc, disk, self.infohash) {
             Ok(log) => self.start(has_peer, log, out),
             Err(refused) => {
-                put(&mut self.log, Some(refused.disk));
-                Ok(write!(out, "refused {}", refused.cause)?)
+                let Refused { disk, cause } = refused;
+                put(&mut self.log, Some(disk));
+                Ok(write!(out, "refused {cause}")?)
             }
         }
     }
