@@ -96,7 +96,7 @@ impl Stage {
         put(&mut self.disks, Vec::new(self.alloc));
         put(&mut self.log, None);
         put(&mut self.engine, None);
-        Ok(write!(out, "{count} files")?)
+        Ok(write!(out, "files {count}")?)
     }
 
     /// The device of the next file that has a byte.
