@@ -79,19 +79,22 @@ pub fn log_of_waiting(
     bytes.extend_from_slice(&infohash)?;
     // Opening it takes two calls, and each hint one.
     let disk = TestDisk::in_memory(alloc, bytes, (count as u64).saturating_add(3));
-    let Some(mut log) = opened(alloc, disk, infohash) else {
-        return Ok(None);
-    };
+    let mut log = opened(alloc, disk, infohash)?;
     if engine.write_to(&mut log).is_ok() || engine.waiting() != count {
         return Ok(None);
     }
-    Ok(opened(alloc, log.into_disk(), infohash))
+    Ok(Some(opened(alloc, log.into_disk(), infohash)?))
 }
 
-fn opened(alloc: Global, disk: TestDisk, infohash: Hash32) -> Option<ResumeLog<TestDisk>> {
+/// A log that is refused only for want of memory.
+fn opened(
+    alloc: Global,
+    disk: TestDisk,
+    infohash: Hash32,
+) -> Result<ResumeLog<TestDisk>, AllocError> {
     match ResumeLog::attach(alloc, disk, infohash) {
-        Ok(log) => Some(log),
-        Err(_) => None,
+        Ok(log) => Ok(log),
+        Err(_) => Err(AllocError),
     }
 }
 

@@ -9,7 +9,7 @@ use crate::words::{RowError, Words, tell};
 use bt_lanes::Lanes;
 use bt_machine::StartError;
 use bt_meta::{MetaError, Torrent, read_info, read_torrent};
-use bt_resume::{Refused, ResumeLog};
+use bt_resume::{LogError, Refused, ResumeLog};
 use bt_tree::Hash32;
 use std::alloc::{AllocError, Global};
 use std::fmt::Write;
@@ -84,6 +84,7 @@ impl Stage {
         let text = words.bytes(self.alloc)?;
         match read(self.alloc, is_whole, &text) {
             Ok(torrent) => self.put_torrent(torrent, out),
+            Err(MetaError::OutOfMemory) => Err(RowError::Memory(AllocError)),
             Err(error) => Ok(write!(out, "refused {error}")?),
         }
     }
@@ -157,12 +158,22 @@ impl Stage {
         };
         match ResumeLog::attach(self.alloc, disk, self.infohash) {
             Ok(log) => self.start(has_peer, log, out),
-            Err(refused) => {
-                let Refused { disk, cause } = refused;
-                put(&mut self.log, Some(disk));
-                Ok(write!(out, "refused {cause}")?)
-            }
+            Err(refused) => self.put_back(refused, out),
         }
+    }
+
+    /// The log is refused, and its device is back.
+    fn put_back(
+        &mut self,
+        refused: Refused<TestDisk, LogError>,
+        out: &mut String,
+    ) -> Result<(), RowError> {
+        let Refused { disk, cause } = refused;
+        put(&mut self.log, Some(disk));
+        if cause == LogError::OutOfMemory {
+            return Err(RowError::Memory(AllocError));
+        }
+        Ok(write!(out, "refused {cause}")?)
     }
 
     fn start(
