@@ -56,7 +56,14 @@ pub fn take_hashes<D: Disk + Drop, H: NodeHash>(
     // A clause of this call says how many files there are at most.
     let _ = parts.torrent.files();
     let hint = hint_for(alloc, &parts.log, key, digests)?;
-    match learn_hashes(alloc, &mut parts.slots, &mut parts.trees, key, digests, hint)? {
+    match learn_hashes(
+        alloc,
+        &mut parts.slots,
+        &mut parts.trees,
+        key,
+        digests,
+        hint,
+    )? {
         Learnt::Refused(why) => Ok(Learnt::Refused(why)),
         Learnt::Settled(notes, kept) => {
             let peer = &mut parts.peers[index];
