@@ -40,6 +40,9 @@ returns-in-Err-accept-clause-trees g c =
     let here = slice_get-get_or trees c.in-Some.index c.index-trees-index.result c.in-Some.ensures.inside in
     if_err_by c.refusal-in-Err-accept.result (ap (λ k. slice_set trees c.in-Some.index k) c.in-Err-accept.ensures.unchanged ∙ set_id trees c.in-Some.index here)
 
+pub returns-in-Err-accept-clause-slots : goal.returns-in-Err-accept-clause-slots
+returns-in-Err-accept-clause-slots g c = if_err_by c.refusal-in-Err-accept.result refl
+
 pub settle_slots-requires-clause-fits : goal.settle_slots-requires-clause-fits
 settle_slots-requires-clause-fits g c =
     let trees = c.args.trees.now in
