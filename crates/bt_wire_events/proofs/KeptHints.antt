@@ -2,7 +2,7 @@
 use Rattle.std.specs.FinMap as finite
 use Rattle.std.specs.Prelude.{IfSome, nat_lt}
 use Rattle.std.specs.Option.{option_to_list}
-use Rattle.bt_machine.proofs.Base.{[], ◌≡◌, ℕ, ◌+◌, ◌*◌, ◌/◌, inl, inr, Bool, true, false, List, ◌∷◌, length, Option, Some, None, refl, sym, ap, ◌∙◌, subst, arith, if◌then◌else◌, is_some, cases_lt, lt-ltb, le-ltb, Facts, HashKey, Claim, IsClaimBy, answer_size}
+use Rattle.bt_machine.proofs.Base.{[], ◌≡◌, ℕ, ◌+◌, ◌*◌, ◌/◌, inl, inr, Bool, true, false, List, ◌∷◌, length, Option, None, refl, sym, ap, ◌∙◌, subst, arith, if◌then◌else◌, is_some, cases_lt, lt-ltb, le-ltb, Facts, HashKey, Claim, IsClaimBy, answer_size}
 use Rattle.bt_hashreq.specs.Claim.{digests_in}
 use Rattle.bt_resume.specs.Hint.{CanBeRead}
 use Rattle.bt_machine.proofs.Digests.{chunk_count}
