@@ -1,18 +1,23 @@
 -- What a group of blocks leaves for a log, by how it was taken in.
-use Rattle.bt_machine.proofs.Base.{[], ◌≡◌, ℕ, zero, suc, ◌+◌, ◌-◌, ◌*◌, ◌/◌, ◌^◌, ◌<◌, ◌≤◌, ◌⊎◌, inl, inr, min, Bool, true, false, not, ◌&&◌, if◌then◌else◌, List, ◌∷◌, length, filter, IsSome, refl, sym, ap, ◌∙◌, subst, arith, cases_lt, lt-ltb, pow_pos, div-add-mod, range_with_len, Contains, Facts, blocks_of, value_at, none, known, accepted, not_accepted as refused, short, unread, Adopts, Adopted, IsUnknownGroup, BlockRead, BlockState, HashKey}
+use Rattle.bt_machine.proofs.Base.{[], ◌≡◌, ℕ, zero, suc, ◌+◌, ◌-◌, ◌*◌, ◌/◌, ◌^◌, ◌<◌, ◌≤◌, ◌⊎◌, inl, inr, min, Bool, true, false, not, ◌&&◌, if◌then◌else◌, List, ◌∷◌, ◌++◌, length, filter, flat_map, IsSome, refl, sym, ap, ◌∙◌, subst, arith, cases_lt, lt-ltb, pow_pos, div-add-mod, range_with_len, Contains, Facts, blocks_of, value_at, none, known, accepted, not_accepted as refused, short, unread, Adopts, Adopted, IsUnknownGroup, BlockRead, BlockState, HashKey, History}
 use Rattle.std.specs.Prelude.{nat_lt}
 use Rattle.std.specs.List.{AllZip}
 use Rattle.bt_sparse.specs.Anchor.{IsAnchor}
 use Rattle.bt_sparse.proofs.Anchors.{known_above}
 use Rattle.bt_resume.specs.declared.hint.Hint.{Hint}
 use Rattle.bt_store.specs.Review.{is_marked_at}
-use Rattle.bt_store.specs.Adoption.{IsKnownGroup}
+use Rattle.bt_store.specs.FileStore.{StoreView}
+use Rattle.bt_store.specs.Adoption.{IsKnownGroup, IsAdopted}
 use Rattle.bt_machine.proofs.Lists.{here, later, some_not_none}
 use Rattle.bt_machine.specs.State.{proof_of}
+use Rattle.bt_machine.specs.Hints.{add_hints}
 use Rattle.bt_machine.specs.ProofKeys.{HasAnswer, ProofKeysAreAnswered}
 use Rattle.bt_machine.specs.Adopting.{IsProof, proof_keys}
-use Rattle.bt_adoption.specs.MarksSteps.{unmarked_blocks, newly_marked}
+use Rattle.bt_adoption.specs.declared.marks.Run.{Run}
+use Rattle.bt_adoption.specs.GroupSteps.{TakesGroup}
+use Rattle.bt_adoption.specs.MarksSteps.{unmarked_blocks, newly_marked, marks_in, run_blocks}
 use Rattle.bt_adoption.specs.RunProofsSteps.{run_keys}
+use Rattle.bt_adoption.proofs.Hints.{add_more}
 use Rattle.bt_adoption.proofs.NewMarks.{newly_none, newly_in_group, newly_known}
 
 -- ---- proofs by keys that are answered
@@ -135,3 +140,71 @@ module _ {dig : List ℕ → List ℕ} {k : Facts} {from a f n : ℕ} (at : IsUn
   of_claimed size (refused anchor first count rs error group whole why other) = inr (refl, nothing_left (nothing_found (nat_lt 0 anchor) _))
   of_claimed size (short anchor first count rs group each sound few) = inr (refl, nothing_left (nothing_found (nat_lt 0 anchor) _))
   of_claimed size (unread anchor first count rs group each some) = inr (refl, nothing_left refl)
+
+-- ---- as the machine has it
+
+module _ {D : Type 0} {history : D → History} {honest : D → Type 0} {faults : D → ℕ} {dig : List ℕ → List ℕ} {file : ℕ} {k grown : Facts} {from : ℕ} {old new : StoreView D}
+    {pending left : List Hint} {adopted : Adopted} {reads : List BlockRead} (is : IsAdopted history honest faults dig k from old reads adopted grown new) where
+  -- without a log
+  pub takes_bare : ProofKeysAreAnswered dig → TakesGroup history honest faults dig file false k from old pending adopted grown new pending
+  takes_bare answered =
+      let some = some_proofs answered is.adopts in
+      record { reads = reads; adopts = is; proofs = some.0; proves = some.1; leaves = refl }
+
+  module _ (inside : from < blocks_of k) (size : length old.states ≡ blocks_of k) where
+    pub takes_known : IsAnchor k from 0
+        → left ≡ add_hints pending (marks_in file (filter (is_marked_at new.states) (unmarked_blocks old.states from (min 8 (blocks_of k - from)))))
+        → TakesGroup history honest faults dig file true k from old pending adopted grown new left
+    takes_known zeroth left_is =
+        let leaves = of_known inside size zeroth is.adopts in
+        record {
+          reads = reads;
+          adopts = is;
+          proofs = [];
+          proves = subst (λ keys. AllZip (IsProof dig grown) keys []) (sym leaves.keys) tt;
+          leaves = left_is ∙ ap (λ blocks. add_hints pending (marks_in file blocks)) (sym leaves.marks);
+        }
+
+    module _ {a f n : ℕ} (at : IsUnknownGroup k from a f n) where
+      found_both : 0 < adopted.marked → LeavesBoth from a f n old.states new.states adopted grown
+      found_both some = elim (of_claimed at size is.adopts) [
+        | inl both ↦ both.1
+        | inr none ↦ absurd (omega (arith, some, none.0))
+      ]
+
+      found_nothing : adopted.marked ≤ 0 → LeavesNothing from old.states new.states adopted grown
+      found_nothing few = elim (of_claimed at size is.adopts) [
+        | inl both ↦ absurd (omega (arith, few, both.0))
+        | inr none ↦ none.1
+      ]
+
+      pub keys_answered : ProofKeysAreAnswered dig → 0 < adopted.marked → (key : HashKey) → Contains (run_keys grown a (range_with_len f n)) key → HasAnswer dig grown key
+      keys_answered answered some key c =
+          answered k grown from old.states new.states reads adopted key is.adopts (subst (λ keys. Contains keys key) (sym (found_both some).keys) c)
+
+      pub takes_found : {runs : List Run} {waits : List Hint} → 0 < adopted.marked
+          → (proofs : List Hint) × AllZip (IsProof dig grown) (run_keys grown a (range_with_len f n)) proofs × (waits ≡ add_hints pending proofs)
+          → flat_map run_blocks runs ≡ unmarked_blocks old.states f n → left ≡ add_hints waits (marks_in file (flat_map run_blocks runs))
+          → TakesGroup history honest faults dig file true k from old pending adopted grown new left
+      takes_found {runs} {waits} some (proofs, zip, waits_is) runs_are left_is =
+          let both = found_both some in
+          record {
+            reads = reads;
+            adopts = is;
+            proofs = proofs;
+            proves = subst (λ keys. AllZip (IsProof dig grown) keys proofs) (sym both.keys) zip;
+            leaves = left_is ∙ ap (λ hs. add_hints hs (marks_in file (flat_map run_blocks runs))) waits_is
+                ∙ sym (add_more pending proofs (marks_in file (flat_map run_blocks runs)))
+                ∙ ap (λ blocks. add_hints pending (proofs ++ marks_in file blocks)) (runs_are ∙ sym both.marks);
+          }
+
+      pub takes_unfound : adopted.marked ≤ 0 → left ≡ pending → TakesGroup history honest faults dig file true k from old pending adopted grown new left
+      takes_unfound few left_is =
+          let nothing = found_nothing few in
+          record {
+            reads = reads;
+            adopts = is;
+            proofs = [];
+            proves = subst (λ keys. AllZip (IsProof dig grown) keys []) (sym nothing.keys) tt;
+            leaves = left_is ∙ ap (λ blocks. add_hints pending (marks_in file blocks)) (sym nothing.marks);
+          }

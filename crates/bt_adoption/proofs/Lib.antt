@@ -2,6 +2,7 @@ pub mod Ranges
 pub mod Hints
 pub mod NewMarks
 pub mod News
+pub mod RunMarks
 pub mod GroupMarks
 pub mod Borders
 pub mod Takings
