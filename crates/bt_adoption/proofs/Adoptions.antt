@@ -61,7 +61,7 @@ record FileStands (s : EngineState) (file : ℕ) : Type 0 where
   is_file : IsFile s file state tree
   some : state.states ≢ []
 
-module _ {dig : List ℕ → List ℕ} {file : ℕ} where
+module _ (dig : List ℕ → List ℕ) (file : ℕ) where
   group_size : {s new : EngineState} {from : ℕ} {calls : DeviceCalls} {one : Adopted} → AdoptsGroup dig s file from calls one new
       → length (states_of new file) ≡ length (states_of s file)
   group_size {s} g =
@@ -74,6 +74,24 @@ module _ {dig : List ℕ → List ℕ} {file : ℕ} where
       → length (states_of new file) ≡ length (states_of s file)
   groups_size s new from [] total g = ap (λ (x : EngineState). length (states_of x file)) g.1
   groups_size s new from (calls ∷ more) total g = groups_size g.1 new g.0.next more g.2 g.4 ∙ group_size g.3
+
+module _ {D H : Type 0} (parts : Parts D H) (file : ℕ) {slot : Slot D H} (here : slice_get parts.slots.items file ≡ Some slot) (some : 0 < length (states_of (state_of parts) file)) where
+  has_store : (store : Option (StoreView D)) → slot.store ≡ store → (st : StoreView D) × (slot.store ≡ Some st)
+  has_store None has = absurd (not_empty parts file here some has)
+  has_store (Some st) has = (st, has)
+
+  -- the file and its tree in the machine's state
+  file_stands : AreFit parts → FileStands (state_of parts) file
+  file_stands fits =
+      let store = has_store slot.store refl in
+      let tree = (fits file slot here).some store.0 store.1 in
+      let states = ap (λ (xs : List BlockState). length xs) (states_are parts file here) in
+      record {
+        state = file_of slot;
+        tree = tree.facts;
+        is_file = record { here = get_mapped file_of parts.slots.items file here; has_tree = tree.stands };
+        some = λ none. absurd (let e = ap (λ (xs : List BlockState). length xs) none in omega (arith, some, states, e));
+      }
 
 -- ---- the answers
 
@@ -104,30 +122,13 @@ module _ {D H : Type 0} {history : D → History} {honest : D → Type 0} {fault
   steps_stopped alone s = (s.made, s.calls, no_memory (ap (map (peer_of old.book)) alone) s.stops refl)
 
 module _ {D H : Type 0} (old : Parts D H) (file : ℕ) {slot : Slot D H} (here : slice_get old.slots.items file ≡ Some slot) (some : 0 < length (states_of (state_of old) file)) where
-  has_store : (store : Option (StoreView D)) → slot.store ≡ store → (st : StoreView D) × (slot.store ≡ Some st)
-  has_store None has = absurd (not_empty old file here some has)
-  has_store (Some st) has = (st, has)
-
   pub tree_below : AreInLine old → slot.tree < old.trees.len
-  tree_below in_line = tree_there old file here in_line.fits (has_store slot.store refl).1
-
-  -- the file and its tree in the machine's state
-  file_stands : AreFit old → FileStands (state_of old) file
-  file_stands fits =
-      let store = has_store slot.store refl in
-      let tree = (fits file slot here).some store.0 store.1 in
-      let states = ap (λ (xs : List BlockState). length xs) (states_are old file here) in
-      record {
-        state = file_of slot;
-        tree = tree.facts;
-        is_file = record { here = get_mapped file_of old.slots.items file here; has_tree = tree.stands };
-        some = λ none. absurd (let e = ap (λ (xs : List BlockState). length xs) none in omega (arith, some, states, e));
-      }
+  tree_below in_line = tree_there old file here in_line.fits (has_store old file here some slot.store refl).1
 
   -- the file's tree is of as many blocks as the file has
   blocks_are : IsTied old → IsShaped old.torrent (state_of old) → blocks_in (state_of old) slot.tree ≡ length (states_of (state_of old) file)
   blocks_are tied shaped =
-      let store = has_store slot.store refl in
+      let store = has_store old file here some slot.store refl in
       let fits = (tied.each file slot here).some store.0 store.1 in
       ap (λ o. option_map_or blocks_of o 0) fits.stands ∙ ap block_count fits.same ∙ sym (states_all old tied shaped file slot here store.0 store.1)
       ∙ sym (length_is old file here store.1)
@@ -163,7 +164,7 @@ module _ {D H : Type 0} (old : Parts D H) (file : ℕ) {slot : Slot D H} (here :
   steps_unsettled {history} {honest} {faults} {dig} {mid} {total} new alone a rest in_line keeps pending =
       let same : state_of new ≡ state_of mid = state_same keeps pending in
       let there = get_some mid.slots.items file (omega (arith, some_below old.slots.items file here, rest.count)) in
-      let stands = file_stands mid file there.1 (omega (arith, some, groups_size (state_of old) (state_of mid) 0 a.groups total a.adopts)) in_line.fits in
+      let stands = file_stands mid file there.1 (omega (arith, some, groups_size dig file (state_of old) (state_of mid) 0 a.groups total a.adopts)) in_line.fits in
       let made = flat_map (λ c. c) a.groups ++ [] in (
         made,
         subst (λ ds. HaveCalls history honest faults (disks_of old) made ds) (sym (same_disks keeps))

@@ -107,16 +107,16 @@ spans {k} {from} {anchor} {first} {count} group =
     let low : first ≤ from = omega (arith, starts, div-add-mod from (2 ^ anchor)) in
     record { some = omega (arith, power, counts, low, below); inside = omega (arith, counts, low, below) }
 
-module _ {dig : List ℕ → List ℕ} {k : Facts} {from a f n : ℕ} (at : IsUnknownGroup k from a f n) where
-  same_keys : {anchor first count : ℕ} (g : Facts) → IsUnknownGroup k from anchor first count → anchor ≡ a → first ≡ f → count ≡ n
-      → run_keys g anchor (range_with_len (from / 2 ^ anchor * 2 ^ anchor) (first + count - from / 2 ^ anchor * 2 ^ anchor)) ≡ run_keys g a (range_with_len f n)
-  same_keys {anchor} {first} {count} g group same start wide =
-      let width : first + count - first ≡ count = omega arith in
-      ap (λ i. run_keys g anchor (range_with_len i (first + count - i))) (sym group.starts)
-      ∙ ap (λ m. run_keys g anchor (range_with_len first m)) width
-      ∙ ap (λ h. run_keys g h (range_with_len first count)) same ∙ ap (λ i. run_keys g a (range_with_len i count)) start
-      ∙ ap (λ m. run_keys g a (range_with_len f m)) wide
+same_keys : {k : Facts} {from anchor first count a f n : ℕ} (g : Facts) → IsUnknownGroup k from anchor first count → anchor ≡ a → first ≡ f → count ≡ n
+    → run_keys g anchor (range_with_len (from / 2 ^ anchor * 2 ^ anchor) (first + count - from / 2 ^ anchor * 2 ^ anchor)) ≡ run_keys g a (range_with_len f n)
+same_keys {k} {from} {anchor} {first} {count} {a} {f} {n} g group same start wide =
+    let width : first + count - first ≡ count = omega arith in
+    ap (λ i. run_keys g anchor (range_with_len i (first + count - i))) (sym group.starts)
+    ∙ ap (λ m. run_keys g anchor (range_with_len first m)) width
+    ∙ ap (λ h. run_keys g h (range_with_len first count)) same ∙ ap (λ i. run_keys g a (range_with_len i count)) start
+    ∙ ap (λ m. run_keys g a (range_with_len f m)) wide
 
+module _ {dig : List ℕ → List ℕ} {k : Facts} {from a f n : ℕ} (at : IsUnknownGroup k from a f n) where
   pub of_claimed : {grown : Facts} {old new : List BlockState} {reads : List BlockRead} {adopted : Adopted} → length old ≡ blocks_of k
       → Adopts dig k from old reads adopted grown new
       → ((0 < adopted.marked) × LeavesBoth from a f n old new adopted grown) ⊎ ((adopted.marked ≡ 0) × LeavesNothing from old new adopted grown)
@@ -143,19 +143,36 @@ module _ {dig : List ℕ → List ℕ} {k : Facts} {from a f n : ℕ} (at : IsUn
 
 -- ---- as the machine has it
 
-module _ {D : Type 0} {history : D → History} {honest : D → Type 0} {faults : D → ℕ} {dig : List ℕ → List ℕ} {file : ℕ} {k grown : Facts} {from : ℕ} {old new : StoreView D}
-    {pending left : List Hint} {adopted : Adopted} {reads : List BlockRead} (is : IsAdopted history honest faults dig k from old reads adopted grown new) where
+module _ {dig : List ℕ → List ℕ} {k grown : Facts} {from : ℕ} {old new : List BlockState} {reads : List BlockRead} {adopted : Adopted} (adopts : Adopts dig k from old reads adopted grown new)
+    (size : length old ≡ blocks_of k) {a f n : ℕ} (at : IsUnknownGroup k from a f n) where
+  found_both : 0 < adopted.marked → LeavesBoth from a f n old new adopted grown
+  found_both some = elim (of_claimed at size adopts) [
+    | inl both ↦ both.1
+    | inr nothing ↦ absurd (omega (arith, some, nothing.0))
+  ]
+
+  found_nothing : adopted.marked ≤ 0 → LeavesNothing from old new adopted grown
+  found_nothing few = elim (of_claimed at size adopts) [
+    | inl both ↦ absurd (omega (arith, few, both.0))
+    | inr nothing ↦ nothing.1
+  ]
+
+  pub keys_answered : ProofKeysAreAnswered dig → 0 < adopted.marked → (key : HashKey) → Contains (run_keys grown a (range_with_len f n)) key → HasAnswer dig grown key
+  keys_answered answered some key c = answered k grown from old new reads adopted key adopts (subst (λ keys. Contains keys key) (sym (found_both some).keys) c)
+
+module _ {D : Type 0} {history : D → History} {honest : D → Type 0} {faults : D → ℕ} {dig : List ℕ → List ℕ} (file : ℕ) {k grown : Facts} {from : ℕ} {old new : StoreView D}
+    (pending : List Hint) {adopted : Adopted} {reads : List BlockRead} (is : IsAdopted history honest faults dig k from old reads adopted grown new) where
   -- without a log
   pub takes_bare : ProofKeysAreAnswered dig → TakesGroup history honest faults dig file false k from old pending adopted grown new pending
   takes_bare answered =
       let some = some_proofs answered is.adopts in
       record { reads = reads; adopts = is; proofs = some.0; proves = some.1; leaves = refl }
 
-  module _ (inside : from < blocks_of k) (size : length old.states ≡ blocks_of k) where
-    pub takes_known : IsAnchor k from 0
+  module _ (left : List Hint) (size : length old.states ≡ blocks_of k) where
+    pub takes_known : from < blocks_of k → IsAnchor k from 0
         → left ≡ add_hints pending (marks_in file (filter (is_marked_at new.states) (unmarked_blocks old.states from (min 8 (blocks_of k - from)))))
         → TakesGroup history honest faults dig file true k from old pending adopted grown new left
-    takes_known zeroth left_is =
+    takes_known inside zeroth left_is =
         let leaves = of_known inside size zeroth is.adopts in
         record {
           reads = reads;
@@ -166,28 +183,12 @@ module _ {D : Type 0} {history : D → History} {honest : D → Type 0} {faults 
         }
 
     module _ {a f n : ℕ} (at : IsUnknownGroup k from a f n) where
-      found_both : 0 < adopted.marked → LeavesBoth from a f n old.states new.states adopted grown
-      found_both some = elim (of_claimed at size is.adopts) [
-        | inl both ↦ both.1
-        | inr none ↦ absurd (omega (arith, some, none.0))
-      ]
-
-      found_nothing : adopted.marked ≤ 0 → LeavesNothing from old.states new.states adopted grown
-      found_nothing few = elim (of_claimed at size is.adopts) [
-        | inl both ↦ absurd (omega (arith, few, both.0))
-        | inr none ↦ none.1
-      ]
-
-      pub keys_answered : ProofKeysAreAnswered dig → 0 < adopted.marked → (key : HashKey) → Contains (run_keys grown a (range_with_len f n)) key → HasAnswer dig grown key
-      keys_answered answered some key c =
-          answered k grown from old.states new.states reads adopted key is.adopts (subst (λ keys. Contains keys key) (sym (found_both some).keys) c)
-
-      pub takes_found : {runs : List Run} {waits : List Hint} → 0 < adopted.marked
+      pub takes_found : (runs : List Run) (waits : List Hint) → 0 < adopted.marked
           → (proofs : List Hint) × AllZip (IsProof dig grown) (run_keys grown a (range_with_len f n)) proofs × (waits ≡ add_hints pending proofs)
           → flat_map run_blocks runs ≡ unmarked_blocks old.states f n → left ≡ add_hints waits (marks_in file (flat_map run_blocks runs))
           → TakesGroup history honest faults dig file true k from old pending adopted grown new left
-      takes_found {runs} {waits} some (proofs, zip, waits_is) runs_are left_is =
-          let both = found_both some in
+      takes_found runs waits some (proofs, zip, waits_is) runs_are left_is =
+          let both = found_both is.adopts size at some in
           record {
             reads = reads;
             adopts = is;
@@ -200,7 +201,7 @@ module _ {D : Type 0} {history : D → History} {honest : D → Type 0} {faults 
 
       pub takes_unfound : adopted.marked ≤ 0 → left ≡ pending → TakesGroup history honest faults dig file true k from old pending adopted grown new left
       takes_unfound few left_is =
-          let nothing = found_nothing few in
+          let nothing = found_nothing is.adopts size at few in
           record {
             reads = reads;
             adopts = is;

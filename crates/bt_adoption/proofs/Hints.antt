@@ -4,7 +4,8 @@ use Rattle.std.proofs.lemmas.List.{map-append, take_more, append-nil}
 use Rattle.bt_resume.specs.declared.hint.Hint.{Hint}
 use Rattle.bt_resume.specs.declared.hint.Hint.TheVariants.{Proof, Marks}
 use Rattle.bt_machine.proofs.Lists.{and_true}
-use Rattle.bt_machine.specs.Hints.{continues, joined_run, add_hint, add_hints}
+use Rattle.bt_machine.specs.Hints.{mark_of, continues, joined_run, add_hint, add_hints}
+use Rattle.bt_machine.specs.Blocks.{block_id}
 use Rattle.bt_adoption.specs.declared.marks.Run.{Run}
 use Rattle.bt_adoption.specs.MarksSteps.{marks_in, run_blocks}
 use Rattle.bt_adoption.proofs.Ranges.{range_more, flat_map_more}
@@ -77,7 +78,7 @@ run_is_marks hints file a (suc n) =
     let next : suc n + 1 ≡ suc (suc n) = omega arith in
     let mark = Marks file (a + suc n) 1 in
     let range : marks_in file (range_with_len a (suc (suc n))) ≡ marks_in file (range_with_len a (suc n)) ++ Marks file (a + suc n) 1 ∷ [] =
-    ap (λ m. marks_in file (range_with_len a m)) (sym next) ∙ ap (marks_in file) (range_more a (suc n)) ∙ map-append _ (range_with_len a (suc n)) ((a + suc n) ∷ []) in
+    ap (λ m. marks_in file (range_with_len a m)) (sym next) ∙ ap (marks_in file) (range_more a (suc n)) ∙ map-append (λ i. mark_of (block_id file i)) (range_with_len a (suc n)) ((a + suc n) ∷ []) in
     ap (λ m. add_hint hints (Marks file a m)) (sym next) ∙ sym (run_longer file a (suc n) hints)
     ∙ ap (λ hs. add_hint hs mark) (run_is_marks hints file a n) ∙ sym (add_more hints (marks_in file (range_with_len a (suc n))) (mark ∷ []))
     ∙ ap (add_hints hints) (sym range)
@@ -97,4 +98,4 @@ runs_more old hints file runs i run lt is some so_far =
     ∙ flat_map_more run_blocks (take i runs) (run ∷ []) ∙ ap (λ xs. flat_map run_blocks (take i runs) ++ xs) (append-nil (run_blocks run)) in
     run_is hints file run.first run.count some ∙ ap (λ hs. add_hints hs (marks_in file (run_blocks run))) so_far
     ∙ sym (add_more old (marks_in file before) (marks_in file (run_blocks run)))
-    ∙ ap (add_hints old) (sym (map-append _ before (run_blocks run)) ∙ ap (marks_in file) (sym blocks))
+    ∙ ap (add_hints old) (sym (map-append (λ j. mark_of (block_id file j)) before (run_blocks run)) ∙ ap (marks_in file) (sym blocks))

@@ -12,5 +12,5 @@ pub mod Slots
 pub mod LeftOut
 pub mod Settlements
 pub mod OtherFiles
-pub mod Waiting
+pub mod OtherMarks
 pub mod Adoptions

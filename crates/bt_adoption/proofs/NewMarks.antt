@@ -45,7 +45,7 @@ group_there first (suc count) states i low high inside = elim (cases_eq i (first
 ]
   where
     below : i < suc (first + count) → i ≢ first + count → i < first + count
-    below lt apart = elim (cases_lt i (first + count)) [ inl yes ↦ yes | inr no ↦ absurd (apart (omega arith)) ]
+    below lt apart = elim (cases_lt i (first + count)) [ inl less ↦ less | inr past ↦ absurd (apart (omega arith)) ]
 
 pub newly_in_group : (first count : ℕ) (states : List BlockState) → first + count ≤ length states
     → newly_marked states (marked_group first count states) ≡ unmarked_blocks states first count
@@ -96,13 +96,13 @@ module _ (dig : List ℕ → List ℕ) (k : Facts) (reads : List BlockRead) (sta
     where
       -- a block that did not wait was not read
       unread : (i : ℕ) → is_waiting_at states i ≡ false → slice_get (judged dig k false reads states) i ≡ slice_get states i
-      unread i no = judged_other dig k false reads states i (λ c.
+      unread i off = judged_other dig k false reads states i (λ c.
           let due = contains_filter (λ j. is_waiting_at states j && is_some (value_at dig k 0 j)) (range_with_len from count) (subst (λ (xs : List ℕ). Contains xs i) read c) in
-          let yes = (and_true (is_waiting_at states i) due.1).0 in
+          let waits = (and_true (is_waiting_at states i) due.1).0 in
           absurd cc)
 
       still : (i : ℕ) → is_waiting_at states i ≡ false → is_marked_at states i ≡ false → is_marked_at (judged dig k false reads states) i ≡ false
-      still i no was = marked_so (judged dig k false reads states) i (unread i no) ∙ was
+      still i off was = marked_so (judged dig k false reads states) i (unread i off) ∙ was
 
       same : (i : ℕ) (a b : Bool) → is_marked_at (judged dig k false reads states) i ≡ false
           → (is_marked_at (judged dig k false reads states) i && a) ≡ (is_marked_at (judged dig k false reads states) i && b)

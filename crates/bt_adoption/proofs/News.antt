@@ -89,11 +89,8 @@ pub no_reads : (reads : List BlockRead) → map block_of reads ≡ [] → reads 
 no_reads [] e = refl
 no_reads (r ∷ reads) e = absurd (let size = ap (λ (xs : List ℕ). length xs) e in omega arith)
 
-module _ {dig : List ℕ → List ℕ} {file tree count : ℕ} {s t : EngineState} {calls : DeviceCalls} {notes : List Note}
+module _ {dig : List ℕ → List ℕ} (file : ℕ) {tree count : ℕ} {s t : EngineState} {calls : DeviceCalls} {notes : List Note}
     (settles : SettlesIn dig (is_other file) tree 0 count s calls notes t) (size : length t.files ≡ length s.files) where
-  k : Facts
-  k = settles.facts
-
   now_is : (other : ℕ) {f : FileState} → slice_get s.files other ≡ Some f → slice_get t.files other ≡ Some (judged_file dig settles.facts (settles.reads other) f)
   now_is other at = settles.files other ∙ ap (option_map (judged_file dig settles.facts (settles.reads other))) at
 

@@ -24,33 +24,33 @@ kept_more : (p : ℕ → Bool) (first i : ℕ) → filter p (range_with_len firs
 kept_more p first i = ap (filter p) (range_more first i) ∙ filter-append p (range_with_len first i) ((first + i) ∷ [])
 
 pub kept_so : (p : ℕ → Bool) (first i : ℕ) → p (first + i) ≡ true → filter p (range_with_len first (i + 1)) ≡ filter p (range_with_len first i) ++ (first + i) ∷ []
-kept_so p first i yes = kept_more p first i ∙ ap (λ b. filter p (range_with_len first i) ++ cond b ((first + i) ∷ []) []) yes
+kept_so p first i on = kept_more p first i ∙ ap (λ b. filter p (range_with_len first i) ++ cond b ((first + i) ∷ []) []) on
 
 pub dropped_so : (p : ℕ → Bool) (first i : ℕ) → p (first + i) ≡ false → filter p (range_with_len first (i + 1)) ≡ filter p (range_with_len first i)
-dropped_so p first i no =
-    kept_more p first i ∙ ap (λ b. filter p (range_with_len first i) ++ cond b ((first + i) ∷ []) []) no ∙ append-nil (filter p (range_with_len first i))
+dropped_so p first i off =
+    kept_more p first i ∙ ap (λ b. filter p (range_with_len first i) ++ cond b ((first + i) ∷ []) []) off ∙ append-nil (filter p (range_with_len first i))
 
 -- ---- blocks that are not marked
 
 module _ (states : List BlockState) (first i : ℕ) where
   pub unmarked_kept : is_marked_at states (first + i) ≡ false → unmarked_blocks states first (i + 1) ≡ unmarked_blocks states first i ++ (first + i) ∷ []
-  unmarked_kept no = kept_so (λ j. not (is_marked_at states j)) first i (ap not no)
+  unmarked_kept off = kept_so (λ j. not (is_marked_at states j)) first i (ap not off)
 
   pub unmarked_dropped : is_marked_at states (first + i) ≡ true → unmarked_blocks states first (i + 1) ≡ unmarked_blocks states first i
-  unmarked_dropped yes = dropped_so (λ j. not (is_marked_at states j)) first i (ap not yes)
+  unmarked_dropped on = dropped_so (λ j. not (is_marked_at states j)) first i (ap not on)
 
   module _ (runs : List Run) (current : Run) (so_far : flat_map run_blocks runs ++ run_blocks current ≡ unmarked_blocks states first i)
       (ends : current.first + current.count ≡ first + i) where
     pub run_goes_on : is_marked_at states (first + i) ≡ false
         → flat_map run_blocks runs ++ range_with_len current.first (current.count + 1) ≡ unmarked_blocks states first (i + 1)
-    run_goes_on no =
+    run_goes_on off =
         ap (λ xs. flat_map run_blocks runs ++ xs) (range_more current.first current.count)
         ∙ sym (append_assoc (flat_map run_blocks runs) (run_blocks current) ((current.first + current.count) ∷ []))
-        ∙ ap (λ xs. xs ++ (current.first + current.count) ∷ []) so_far ∙ ap (λ b. unmarked_blocks states first i ++ b ∷ []) ends ∙ sym (unmarked_kept no)
+        ∙ ap (λ xs. xs ++ (current.first + current.count) ∷ []) so_far ∙ ap (λ b. unmarked_blocks states first i ++ b ∷ []) ends ∙ sym (unmarked_kept off)
 
     pub run_ends : (more : List Run) → flat_map run_blocks more ≡ flat_map run_blocks runs ++ run_blocks current → is_marked_at states (first + i) ≡ true
         → flat_map run_blocks more ++ [] ≡ unmarked_blocks states first (i + 1)
-    run_ends more closed yes = append-nil (flat_map run_blocks more) ∙ closed ∙ so_far ∙ sym (unmarked_dropped yes)
+    run_ends more closed on = append-nil (flat_map run_blocks more) ∙ closed ∙ so_far ∙ sym (unmarked_dropped on)
 
 pub run_put : (runs : List Run) (run : Run) → flat_map run_blocks (runs ++ run ∷ []) ≡ flat_map run_blocks runs ++ run_blocks run
 run_put runs run = flat_map_more run_blocks runs (run ∷ []) ∙ ap (λ xs. flat_map run_blocks runs ++ xs) (append-nil (run_blocks run))
@@ -95,29 +95,29 @@ module _ (anchor first i : ℕ) where
 
   pub starts_kept : ((first + i) % 2 ^ min anchor max_run_height == 0) ≡ true
       → run_starts anchor (range_with_len first (i + 1)) ≡ run_starts anchor (range_with_len first i) ++ (first + i) ∷ []
-  starts_kept yes = kept_so (λ j. j % 2 ^ min anchor max_run_height == 0) first i yes
+  starts_kept on = kept_so (λ j. j % 2 ^ min anchor max_run_height == 0) first i on
 
   pub starts_dropped : ((first + i) % 2 ^ min anchor max_run_height == 0) ≡ false
       → run_starts anchor (range_with_len first (i + 1)) ≡ run_starts anchor (range_with_len first i)
-  starts_dropped no = dropped_so (λ j. j % 2 ^ min anchor max_run_height == 0) first i no
+  starts_dropped off = dropped_so (λ j. j % 2 ^ min anchor max_run_height == 0) first i off
 
   pub count_kept : ((first + i) % 2 ^ min anchor max_run_height == 0) ≡ true
       → length (run_starts anchor (range_with_len first (i + 1))) ≡ length (run_starts anchor (range_with_len first i)) + 1
-  count_kept yes = ap (λ xs. length xs) (starts_kept yes) ∙ length-append (run_starts anchor (range_with_len first i)) ((first + i) ∷ [])
+  count_kept on = ap (λ xs. length xs) (starts_kept on) ∙ length-append (run_starts anchor (range_with_len first i)) ((first + i) ∷ [])
 
   pub count_dropped : ((first + i) % 2 ^ min anchor max_run_height == 0) ≡ false
       → length (run_starts anchor (range_with_len first (i + 1))) ≡ length (run_starts anchor (range_with_len first i))
-  count_dropped no = ap (λ xs. length xs) (starts_dropped no)
+  count_dropped off = ap (λ xs. length xs) (starts_dropped off)
 
   module _ (k : Facts) where
     pub keys_kept : ((first + i) % 2 ^ min anchor max_run_height == 0) ≡ true
         → run_keys k anchor (range_with_len first (i + 1)) ≡ run_keys k anchor (range_with_len first i) ++ planned_key k (first + i) anchor ∷ []
-    keys_kept yes =
-        ap (map (λ j. planned_key k j anchor)) (starts_kept yes) ∙ map-append (λ j. planned_key k j anchor) (run_starts anchor (range_with_len first i)) ((first + i) ∷ [])
+    keys_kept on =
+        ap (map (λ j. planned_key k j anchor)) (starts_kept on) ∙ map-append (λ j. planned_key k j anchor) (run_starts anchor (range_with_len first i)) ((first + i) ∷ [])
 
     pub keys_dropped : ((first + i) % 2 ^ min anchor max_run_height == 0) ≡ false
         → run_keys k anchor (range_with_len first (i + 1)) ≡ run_keys k anchor (range_with_len first i)
-    keys_dropped no = ap (map (λ j. planned_key k j anchor)) (starts_dropped no)
+    keys_dropped off = ap (map (λ j. planned_key k j anchor)) (starts_dropped off)
 
   module _ (count : ℕ) (inside : i < count) where
     -- the blocks are those up to this one, and others
@@ -131,18 +131,18 @@ module _ (anchor first i : ℕ) where
 
     pub count_left : ((first + i) % 2 ^ min anchor max_run_height == 0) ≡ true
         → length (run_starts anchor (range_with_len first i)) < length (run_starts anchor (range_with_len first count))
-    count_left yes =
+    count_left on =
         let later = run_starts anchor (range_with_len (first + (i + 1)) (count - (i + 1))) in
-        omega (arith, ap (λ xs. length xs) splits, length-append (run_starts anchor (range_with_len first (i + 1))) later, count_kept yes)
+        omega (arith, ap (λ xs. length xs) splits, length-append (run_starts anchor (range_with_len first (i + 1))) later, count_kept on)
 
     pub key_among : (k : Facts) → ((first + i) % 2 ^ min anchor max_run_height == 0) ≡ true → Contains (run_keys k anchor (range_with_len first count)) (planned_key k (first + i) anchor)
-    key_among k yes =
+    key_among k on =
         let later = run_keys k anchor (range_with_len (first + (i + 1)) (count - (i + 1))) in
         let key = planned_key k (first + i) anchor in
         subst (λ xs. Contains xs key)
         (sym (ap (map (λ j. planned_key k j anchor)) splits ∙ map-append (λ j. planned_key k j anchor) (run_starts anchor (range_with_len first (i + 1))) (run_starts anchor (range_with_len (first + (i + 1)) (count - (i + 1))))))
         (Contains-append_left (run_keys k anchor (range_with_len first (i + 1))) later key
-        (subst (λ xs. Contains xs key) (sym (keys_kept k yes)) (Contains-append_right (run_keys k anchor (range_with_len first i)) (key ∷ []) key (here [] refl))))
+        (subst (λ xs. Contains xs key) (sym (keys_kept k on)) (Contains-append_right (run_keys k anchor (range_with_len first i)) (key ∷ []) key (here [] refl))))
 
 -- a proof by one key more
 pub zip_more : {X Y : Type 0} (R : X → Y → Type 0) (xs : List X) (ys : List Y) (x : X) (y : Y) → AllZip R xs ys → R x y → AllZip R (xs ++ x ∷ []) (ys ++ y ∷ [])

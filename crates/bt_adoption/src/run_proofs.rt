@@ -5,8 +5,6 @@ ghost use Rattle.std.specs.List.{AllZip, range_with_len};
 ghost use Rattle.bt_tree.specs.Limits.{max_block_count, max_height};
 ghost use Rattle.bt_sparse.specs.Answer.{HasRoom};
 ghost use Rattle.bt_hashreq.specs.Request.{max_run_height, planned_key};
-ghost use Rattle.bt_hashreq.specs.declared.key.HashKey.{HashKey};
-ghost use Rattle.bt_resume.specs.declared.hint.Hint.{Hint};
 ghost use Rattle.bt_machine.specs.Hints.{add_hint, add_hints};
 ghost use Rattle.bt_machine.specs.ProofKeys.{HasAnswer};
 ghost use Rattle.bt_machine.specs.Adopting.{run_starts, IsProof};

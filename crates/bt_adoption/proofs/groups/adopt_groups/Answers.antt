@@ -28,10 +28,20 @@ pub returns-in_err-group-clause-log : goal.returns-in_err-group-clause-log
 returns-in_err-group-clause-log g c = c.adopt_group-group.ensures.log ∙ c.loop-total.invariant.log
 
 pub together-total-requires-clause-marked : goal.together-total-requires-clause-marked
-together-total-requires-clause-marked g c = ?
+together-total-requires-clause-marked g c =
+    let same = ap block_count (c.geometry.ensures.value ∙ sym c.requires) in
+    let more = taking_more c.calls_compose.ensures.both c.root.ensures.sound.rooted c.loop-total.invariant.taking (omega (arith, c.loop-total-test.true, c.blocks-blocks.ensures.value, same))
+    (rw (← logged_same c.loop-total.log c.args.log.now c.loop-total.invariant.log) c.in_ok-group.ensures.ok)
+    (omega (arith, c.in_ok-group.ensures.within, ap block_count c.loop-total.invariant.taking.takes.same_file, ap block_count c.requires)) in
+    omega (arith, more.marked, c.in_ok-group.ensures.within)
 
 pub together-total-requires-clause-faults : goal.together-total-requires-clause-faults
-together-total-requires-clause-faults g c = ?
+together-total-requires-clause-faults g c =
+    let same = ap block_count (c.geometry.ensures.value ∙ sym c.requires) in
+    let more = taking_more c.calls_compose.ensures.both c.root.ensures.sound.rooted c.loop-total.invariant.taking (omega (arith, c.loop-total-test.true, c.blocks-blocks.ensures.value, same))
+    (rw (← logged_same c.loop-total.log c.args.log.now c.loop-total.invariant.log) c.in_ok-group.ensures.ok)
+    (omega (arith, c.in_ok-group.ensures.within, ap block_count c.loop-total.invariant.taking.takes.same_file, ap block_count c.requires)) in
+    omega (arith, more.faulty, c.in_ok-group.ensures.within)
 
 pub loop-total-preserved : goal.loop-total-preserved
 loop-total-preserved g c = ?

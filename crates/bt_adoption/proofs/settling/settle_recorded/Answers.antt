@@ -2,7 +2,7 @@ use Rattle.std.proofs.Common.{length, sym, ap, ◌∙◌, arith}
 use Rattle.bt_state.specs.declared.parts.Parts.{Parts}
 use Rattle.bt_adoption.proofs.OtherFiles.{as_many_trees, rest_then}
 use Rattle.bt_adoption.proofs.Logs.{rest_of_log, in_line_of_log}
-use Rattle.bt_adoption.proofs.Waiting.{settles_all}
+use Rattle.bt_adoption.proofs.OtherMarks.{settles_all}
 use Rattle.bt_adoption.proofs.settling.settle_recorded.Goals as goal
 
 pub plan_marks-waiting-requires : goal.plan_marks-waiting-requires

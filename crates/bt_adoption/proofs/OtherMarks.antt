@@ -137,12 +137,12 @@ marked_more ids test i b lt here old hints so_far is e new next =
 module _ {D H : Type 0} {old planned settled new : Parts D H} (first : KeepsLog old planned) (same_pending : pending_of planned.log ≡ pending_of old.log)
     (log : settled.log ≡ planned.log) (rest : KeepsRest planned settled) (last : KeepsLog settled new) where
   -- of the listed blocks those that are marked then were left for the log
-  left_is : {dig : List ℕ → List ℕ} {file tree count : ℕ} {calls : DeviceCalls} {notes : List Note} {ids : List BlockId}
+  left_is : {dig : List ℕ → List ℕ} (file : ℕ) {tree count : ℕ} {calls : DeviceCalls} {notes : List Note} {ids : List BlockId}
       → SettlesIn dig (is_other file) tree 0 count (state_of old) calls notes (state_of settled)
       → ids ≡ (if is_some old.log then waiting_others file tree (state_of old).files (length old.slots.items) else [])
       → pending_of new.log ≡ add_hints (pending_of settled.log) (map (λ b. mark_of b) (filter (is_marked_of (state_of settled).files) ids))
       → state_of new ≡ with_pending (state_of old) (state_of settled) []
-  left_is {dig} {file} {tree} {count} {calls} {notes} {ids} settles listed left =
+  left_is {dig} file {tree} {count} {calls} {notes} {ids} settles listed left =
       state_with last ∙ ap (λ hs. record (state_of settled) { pending = hs }) (left ∙ ap (add_hints (pending_of settled.log)) (by (is_some old.log) refl))
     where
       size : length (state_of settled).files ≡ length (state_of old).files
@@ -156,19 +156,19 @@ module _ {D H : Type 0} {old planned settled new : Parts D H} (first : KeepsLog 
       by true e =
           ap (λ xs. map (λ b. mark_of b) (filter (is_marked_of (state_of settled).files) xs))
           (listed ∙ ap (λ t. if t then waiting_others file tree (state_of old).files (length old.slots.items) else []) e ∙ ap (waiting_others file tree (state_of old).files) (sym (length-map old.slots.items file_of)))
-          ∙ ap (map (λ b. mark_of b)) (all_listed settles size)
+          ∙ ap (map (λ b. mark_of b)) (all_listed file settles size)
           ∙ ap (λ t. if t then map (λ b. mark_of b) (new_marked_blocks (state_of old) (state_of settled)) else []) (sym (has ∙ e))
       by false e =
           ap (λ xs. map (λ b. mark_of b) (filter (is_marked_of (state_of settled).files) xs))
           (listed ∙ ap (λ t. if t then waiting_others file tree (state_of old).files (length old.slots.items) else []) e)
           ∙ ap (λ t. if t then map (λ b. mark_of b) (new_marked_blocks (state_of old) (state_of settled)) else []) (sym (has ∙ e))
 
-  pub settles_all : {history : D → History} {honest : D → Type 0} {faults : D → ℕ} {dig : List ℕ → List ℕ} {file tree : ℕ} {ids : List BlockId}
+  pub settles_all : {history : D → History} {honest : D → Type 0} {faults : D → ℕ} {dig : List ℕ → List ℕ} (file : ℕ) {tree : ℕ} {ids : List BlockId}
       → SettlesFiles history honest faults dig (is_other file) tree planned settled
       → ids ≡ (if is_some old.log then waiting_others file tree (state_of old).files (length old.slots.items) else [])
       → pending_of new.log ≡ add_hints (pending_of settled.log) (map (λ b. mark_of b) (filter (is_marked_of (state_of settled).files) ids))
       → SettlesOthers history honest faults dig file tree old new
-  settles_all {history} {honest} {faults} {dig} {file} {tree} {ids} (calls, notes, have, settles) listed left =
+  settles_all {history} {honest} {faults} {dig} file {tree} {ids} (calls, notes, have, settles) listed left =
       let settles_old = subst (λ (s : EngineState). SettlesIn dig (is_other file) tree 0 (blocks_in s tree) s calls notes (state_of settled)) (state_same first same_pending) settles in
       record {
         calls = calls;
@@ -177,5 +177,5 @@ module _ {D H : Type 0} {old planned settled new : Parts D H} (first : KeepsLog 
         made = subst (λ ds. HaveCalls history honest faults ds calls (disks_of new)) (same_disks first)
             (subst (λ ds. HaveCalls history honest faults (disks_of planned) calls ds) (sym (same_disks last)) have);
         settles = settles_old;
-        after = left_is settles_old listed left;
+        after = left_is file settles_old listed left;
       }
