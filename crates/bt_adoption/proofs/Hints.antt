@@ -88,13 +88,13 @@ run_is hints file first zero some = absurd (omega arith)
 run_is hints file first (suc n) some = run_is_marks hints file first n
 
 -- the marks of one run more
-pub runs_more : (old hints : List Hint) (file : ℕ) (runs : List Run) (i : ℕ) (run : Run) → i < length runs → run ≡ get_or runs i run → 0 < run.count
+pub runs_more : (old hints : List Hint) (file : ℕ) (runs : List Run) (i : ℕ) {run : Run} (d : Run) → i < length runs → run ≡ get_or runs i d → 0 < run.count
     → hints ≡ add_hints old (marks_in file (flat_map run_blocks (take i runs)))
     → add_hint hints (Marks file run.first run.count) ≡ add_hints old (marks_in file (flat_map run_blocks (take (i + 1) runs)))
-runs_more old hints file runs i run lt is some so_far =
+runs_more old hints file runs i {run} d lt is some so_far =
     let before = flat_map run_blocks (take i runs) in
     let blocks : flat_map run_blocks (take (i + 1) runs) ≡ flat_map run_blocks (take i runs) ++ run_blocks run =
-    ap (flat_map run_blocks) (take_more runs i run lt ∙ ap (λ (r : Run). take i runs ++ r ∷ []) (sym is))
+    ap (flat_map run_blocks) (take_more runs i d lt ∙ ap (λ (r : Run). take i runs ++ r ∷ []) (sym is))
     ∙ flat_map_more run_blocks (take i runs) (run ∷ []) ∙ ap (λ xs. flat_map run_blocks (take i runs) ++ xs) (append-nil (run_blocks run)) in
     run_is hints file run.first run.count some ∙ ap (λ hs. add_hints hs (marks_in file (run_blocks run))) so_far
     ∙ sym (add_more old (marks_in file before) (marks_in file (run_blocks run)))

@@ -113,14 +113,14 @@ listed_more states file i ids new waits is more old so_far =
 
 -- ---- marks of those that are marked then
 
-pub marked_more : (ids : List BlockId) (test : BlockId → Bool) (i : ℕ) (b : BlockId) → i < length ids → b ≡ get_or ids i b → (old hints : List Hint)
+pub marked_more : (ids : List BlockId) (test : BlockId → Bool) (i : ℕ) {b : BlockId} (d : BlockId) → i < length ids → b ≡ get_or ids i d → (old hints : List Hint)
     → hints ≡ add_hints old (map (λ c. mark_of c) (filter test (take i ids))) → (is : Bool) → test b ≡ is
     → (new : List Hint) → new ≡ (if is then add_hint hints (mark_of b) else hints) → new ≡ add_hints old (map (λ c. mark_of c) (filter test (take (i + 1) ids)))
-marked_more ids test i b lt here old hints so_far is e new next =
+marked_more ids test i {b} d lt here old hints so_far is e new next =
     let before = filter test (take i ids) in
     next ∙ by is e
     ∙ ap (λ c. add_hints old (map (λ c. mark_of c) (before ++ cond (test c) (c ∷ []) []))) here
-    ∙ ap (λ xs. add_hints old (map (λ c. mark_of c) xs)) (sym (filter_more test ids i b lt))
+    ∙ ap (λ xs. add_hints old (map (λ c. mark_of c) xs)) (sym (filter_more test ids i d lt))
   where
     by : (t : Bool) → test b ≡ t
         → (if t then add_hint hints (mark_of b) else hints) ≡ add_hints old (map (λ c. mark_of c) (filter test (take i ids) ++ cond (test b) (b ∷ []) []))

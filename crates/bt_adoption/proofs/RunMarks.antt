@@ -1,5 +1,5 @@
 -- Loops over the blocks of a group: which are not marked, in runs and one by one, and at which a proof begins.
-use Rattle.bt_machine.proofs.Base.{[], ◌≡◌, ℕ, zero, suc, ◌+◌, ◌-◌, ◌%◌, ◌^◌, ◌<◌, ◌≤◌, min, Bool, true, false, not, cond, ◌==◌, if◌then◌else◌, List, ◌∷◌, ◌++◌, length, map, take, get_or, filter, flat_map, refl, sym, ap, ◌∙◌, subst, arith, append-nil, filter-append, length-append, range_with_len, All, Contains, Contains-append_left, Contains-append_right, max_run_height, planned_key, HashKey, Facts, BlockState}
+use Rattle.bt_machine.proofs.Base.{[], ◌≡◌, ℕ, zero, suc, ◌+◌, ◌-◌, ◌%◌, ◌^◌, ◌<◌, ◌≤◌, min, Bool, true, false, not, cond, ◌==◌, if◌then◌else◌, List, ◌∷◌, ◌++◌, length, map, take, get_or, filter, flat_map, refl, sym, ap, ◌∙◌, subst, arith, append-nil, filter-append, length-append, range_with_len, All, Contains, Contains-append_left, Contains-append_right, HeightsAreLeast, height_of-pow, answer_size, max_run_height, planned_key, HashKey, Facts, BlockState}
 use Rattle.std.specs.List.{AllZip}
 use Rattle.std.proofs.Common.{append_assoc}
 use Rattle.std.proofs.lemmas.List.{map-append}
@@ -66,15 +66,15 @@ pub are_more : (runs : List Run) (run : Run) → AreRuns runs → 0 < run.count 
 are_more runs run are some within = All-push (λ r. IsRun r.first r.count) runs run are (record { some = some; within = within })
 
 -- the mark of one block more, where it is marked
-pub marks_more : (states : List BlockState) (file : ℕ) (blocks : List ℕ) (i b : ℕ) → i < length blocks → b ≡ get_or blocks i b → (old hints : List Hint)
+pub marks_more : (states : List BlockState) (file : ℕ) (blocks : List ℕ) (i : ℕ) {b : ℕ} (d : ℕ) → i < length blocks → b ≡ get_or blocks i d → (old hints : List Hint)
     → hints ≡ add_hints old (marks_in file (filter (is_marked_at states) (take i blocks))) → (is : Bool) → is_marked_at states b ≡ is → (new : List Hint)
     → new ≡ (if is then add_hint hints (mark_of (block_id file b)) else hints) → new ≡ add_hints old (marks_in file (filter (is_marked_at states) (take (i + 1) blocks)))
-marks_more states file blocks i b lt at old hints so_far is e new next =
+marks_more states file blocks i {b} d lt at old hints so_far is e new next =
     let test = is_marked_at states in
     let before = filter test (take i blocks) in
     next ∙ by is e
     ∙ ap (λ c. add_hints old (marks_in file (before ++ cond (test c) (c ∷ []) []))) at
-    ∙ ap (λ xs. add_hints old (marks_in file xs)) (sym (filter_more test blocks i b lt))
+    ∙ ap (λ xs. add_hints old (marks_in file xs)) (sym (filter_more test blocks i d lt))
   where
     by : (t : Bool) → is_marked_at states b ≡ t → (if t then add_hint hints (mark_of (block_id file b)) else hints)
         ≡ add_hints old (marks_in file (filter (is_marked_at states) (take i blocks) ++ cond (is_marked_at states b) (b ∷ []) []))
@@ -88,6 +88,12 @@ marks_more states file blocks i b lt at old hints so_far is e new next =
         ∙ ap (λ t. add_hints old (marks_in file (filter (is_marked_at states) (take i blocks) ++ cond t (b ∷ []) []))) (sym e)
 
 -- ---- runs of proofs
+
+-- how many digests a proof has
+pub room_size : HeightsAreLeast → (anchor : ℕ) → 0 < anchor → answer_size (2 ^ min anchor max_run_height) (anchor - 1) ≡ 2 ^ min anchor 9 + (anchor - min anchor 9)
+room_size heights anchor above =
+    ap (λ h. 2 ^ min anchor 9 + (anchor - 1 - (h - 1))) (height_of-pow heights (2 ^ min anchor 9) (min anchor 9) refl)
+    ∙ ap (λ n. 2 ^ min anchor 9 + n) (omega (arith, above))
 
 module _ (anchor first i : ℕ) where
   abbrev begins : Bool
