@@ -1,11 +1,12 @@
 //! The blocks that wait in the other files of a tree. Where their marks are to be left for a log, they are
 //! listed before they are settled, and room is made for a mark of each.
-ghost use Rattle.std.specs.Prelude.{[], ◌≡◌, ◌<◌, ◌≤◌, ◌++◌, All, IfOk, OnOk, List, filter, map, length, is_some, if◌then◌else◌};
+ghost use Rattle.std.specs.Prelude.{[], ◌≡◌, ◌<◌, ◌≤◌, ◌++◌, All, IfOk, OnOk, List, filter, map, length, is_some, true, if◌then◌else◌};
 ghost use Rattle.bt_tree.specs.Limits.{max_block_count};
 ghost use Rattle.bt_machine.specs.Hints.{mark_of, add_hints};
 ghost use Rattle.bt_machine.specs.Blocks.{block_id};
-ghost use Rattle.bt_store.specs.Review.{is_marked_at};
+ghost use Rattle.bt_store.specs.Review.{is_marked_at, is_waiting_at};
 ghost use Rattle.bt_state.specs.Parts.{state_of, file_of, pending_of};
+ghost use Rattle.bt_adoption.specs.GroupSteps.{log_in};
 ghost use Rattle.bt_adoption.specs.WaitingSteps.{room_in, KeepsLog, is_marked_of, waiting_in, waiting_others};
 
 use crate::marks::is_marked;
@@ -13,8 +14,8 @@ use crate::settling::is_due;
 use bt_book::BlockId;
 use bt_disk::Disk;
 use bt_pending::Pending;
-use bt_state::{Parts, Slot};
-use bt_store::BlockState;
+use bt_state::{OpenLog, Parts, Slot};
+use bt_store::{BlockState, FileStore};
 use bt_tree::NodeHash;
 use std::alloc::{AllocError, Global};
 
@@ -34,13 +35,25 @@ pub(crate) fn plan_marks<D: Disk + Drop, H: NodeHash>(
     ensures keeps { KeepsLog parts.old parts.new }
     ensures pending { pending_of parts.new.log ≡ pending_of parts.old.log }
 {
-    let count = parts.torrent.files().len() as u32;
-    let Some(opened) = &mut parts.log else {
+    if parts.log.is_none() {
         return Ok(Vec::new(alloc));
-    };
+    }
+    let count = parts.torrent.files().len() as u32;
     let blocks = find_waiting(alloc, &parts.slots, count, tree, file)?;
-    opened.pending.reserve(blocks.len())?;
+    make_room(&mut parts.log, blocks.len())?;
     Ok(blocks)
+}
+
+/// Makes room for so many more hints, where there is a log.
+fn make_room<D: Disk + Drop>(log: &mut Option<OpenLog<D>>, count: usize) -> Result<(), AllocError>
+    ensures room { is_some log.old ≡ true → OnOk result (count ≤ room_in log.new) }
+    ensures log { log_in log.new ≡ log_in log.old }
+    ensures pending { pending_of log.new ≡ pending_of log.old }
+{
+    match log {
+        Some(opened) => opened.pending.reserve(count),
+        None => Ok(()),
+    }
 }
 
 /// The blocks that wait in the other files of a tree.
@@ -84,11 +97,21 @@ fn add_waiting<D: Disk + Drop, H: NodeHash>(
         unreachable!();
     };
     for block in 0..store.geometry().blocks() {
-        if store.state(block) == Some(BlockState::Waiting) {
+        if is_waiting(store, block) {
             blocks.push(BlockId { file, block })?;
         }
     }
     Ok(())
+}
+
+/// Whether a block waits.
+fn is_waiting<D: Disk + Drop, H: NodeHash>(store: &FileStore<D, H>, block: u32) -> bool
+    ensures { result ≡ is_waiting_at store.now.states block }
+{
+    match store.state(block) {
+        Some(BlockState::Waiting) => true,
+        Some(BlockState::Marked | BlockState::Missing) | None => false,
+    }
 }
 
 /// Leaves the marks of those of the blocks that are marked now, where there is a log.
