@@ -3,7 +3,7 @@ use Rattle.bt_machine.proofs.Base.{[], ◌≡◌, ℕ, zero, suc, ◌+◌, ◌-�
 use Rattle.std.specs.List.{AllZip}
 use Rattle.std.proofs.Common.{append_assoc}
 use Rattle.std.proofs.lemmas.List.{map-append}
-use Rattle.std.proofs.lemmas.List.Elements.{filter_more, All-push}
+use Rattle.std.proofs.lemmas.List.Elements.{filter_more, All-push, All-nil, All-cons, All-filter}
 use Rattle.bt_tree.specs.Limits.{max_block_count}
 use Rattle.bt_resume.specs.Hint.{IsRun}
 use Rattle.bt_resume.specs.declared.hint.Hint.{Hint}
@@ -86,6 +86,16 @@ marks_more states file blocks i {b} d lt at old hints so_far is e new next =
     by false e =
         so_far ∙ ap (λ xs. add_hints old (marks_in file xs)) (sym (append-nil (filter (is_marked_at states) (take i blocks))))
         ∙ ap (λ t. add_hints old (marks_in file (filter (is_marked_at states) (take i blocks) ++ cond t (b ∷ []) []))) (sym e)
+
+-- ---- they lie where a file's blocks may
+
+range_within : (a n : ℕ) → a + n ≤ max_block_count → All (λ b. b < max_block_count) (range_with_len a n)
+range_within a zero low = All-nil (λ b. b < max_block_count)
+range_within a (suc n) low = All-cons (λ b. b < max_block_count) a (range_with_len (a + 1) n) (omega arith) (range_within (a + 1) n (omega arith))
+
+pub unmarked_within : (states : List BlockState) (first count : ℕ) → first + count ≤ max_block_count → All (λ b. b < max_block_count) (unmarked_blocks states first count)
+unmarked_within states first count low =
+    All-filter (λ i. not (is_marked_at states i)) (λ b. b < max_block_count) (range_with_len first count) (range_within first count low)
 
 -- ---- runs of proofs
 

@@ -1,5 +1,5 @@
 //! A group of a file's blocks, and what it leaves for a log.
-ghost use Rattle.std.specs.Prelude.{◌≡◌, ◌+◌, ◌-◌, ◌<◌, ◌≤◌, min, is_some, true, IfOk, IfErr};
+ghost use Rattle.std.specs.Prelude.{◌≡◌, ◌+◌, ◌-◌, ◌<◌, ◌≤◌, min, is_some, true, length, IfOk, IfErr};
 ghost use Rattle.bt_tree.specs.Limits.{max_block_count, max_height};
 ghost use Rattle.bt_tree.specs.Blocks.{block_count};
 ghost use Rattle.bt_sparse.specs.SparseTree.{blocks_of};
@@ -34,6 +34,7 @@ pub(crate) fn adopt_group<D: Disk + Drop, H: NodeHash>(
     log: &mut Option<OpenLog<D>>,
 ) -> Result<Adopted, AllocError>
     requires geometry { tree.old.file_length ≡ store.old.file_length }
+    requires states { length store.old.states ≡ block_count store.old.file_length }
     requires inside { from < block_count store.old.file_length }
     ensures ok { IfOk result (λ adopted. TakesGroup D.history D.honest D.faults H.digest file
         (is_some log.old) tree.old from store.old (pending_of log.old)
@@ -63,6 +64,7 @@ fn adopt_recorded<D: Disk + Drop, H: NodeHash>(
     pending: &mut Pending,
 ) -> Result<Adopted, AllocError>
     requires geometry { tree.old.file_length ≡ store.old.file_length }
+    requires states { length store.old.states ≡ block_count store.old.file_length }
     requires inside { from < block_count store.old.file_length }
     requires answered { ProofKeysAreAnswered H.digest }
     ensures ok { IfOk result (λ adopted. TakesGroup D.history D.honest D.faults H.digest file
@@ -92,6 +94,7 @@ fn adopt_known<D: Disk + Drop, H: NodeHash>(
     pending: &mut Pending,
 ) -> Result<Adopted, AllocError>
     requires geometry { tree.old.file_length ≡ store.old.file_length }
+    requires states { length store.old.states ≡ block_count store.old.file_length }
     requires inside { from < block_count store.old.file_length }
     requires known { IsAnchor tree.old from 0 }
     ensures ok { IfOk result (λ adopted. TakesGroup D.history D.honest D.faults H.digest file
@@ -122,6 +125,7 @@ fn adopt_claimed<D: Disk + Drop, H: NodeHash>(
     pending: &mut Pending,
 ) -> Result<Adopted, AllocError>
     requires geometry { tree.old.file_length ≡ store.old.file_length }
+    requires states { length store.old.states ≡ block_count store.old.file_length }
     requires inside { from < block_count store.old.file_length }
     requires answered { ProofKeysAreAnswered H.digest }
     requires nearest { IsAnchor tree.old from anchor }
