@@ -52,26 +52,26 @@ settle_recorded-requires-clause-here g c =
     let below = tree_below old c.args.file here (omega (arith, c.if-block_count-eq0.false, c.block_count.ensures)) (in_line_first old c.requires.tied c.requires.shaped) in
     omega (arith, below, as_many_trees c.adopt_file.ensures.rest, c.adopt_file.new.parts.trees.ok.0, old.trees.ok.0)
 
-pub returns-in_default-2-clause-step : goal.returns-in_default-2-clause-step
-returns-in_default-2-clause-step g c =
+pub returns-in_default-settle_recorded-clause-step : goal.returns-in_default-settle_recorded-clause-step
+returns-in_default-settle_recorded-clause-step g c =
     let old = c.args.parts.now in
     let here = here_at old (omega (arith, c.if-file-len.false, c.len.ensures)) c.index.ensures in
     steps_unsettled old c.args.file here (omega (arith, c.if-block_count-eq0.false, c.block_count.ensures)) c.settle_recorded.new.parts (alone_if c.has_peer.ensures.1 c.if-has_peer.false)
-    c.in-Ok.ensures.ok c.adopt_file.ensures.rest c.adopt_file.ensures.in_line c.in_default-2.ensures.refused c.in_default-2.ensures.pending
+    c.in-Ok.ensures.ok c.adopt_file.ensures.rest c.adopt_file.ensures.in_line c.in_default-settle_recorded.ensures.refused c.in_default-settle_recorded.ensures.pending
 
-pub returns-in_default-2-clause-torrent : goal.returns-in_default-2-clause-torrent
-returns-in_default-2-clause-torrent g c =
+pub returns-in_default-settle_recorded-clause-torrent : goal.returns-in_default-settle_recorded-clause-torrent
+returns-in_default-settle_recorded-clause-torrent g c =
     ap (λ (p : Parts g.row.D.Denot g.row.H.Denot). p.torrent) (rest_then c.adopt_file.ensures.rest c.settle_recorded.ensures.rest).others
 
-pub returns-in_default-2-clause-peers : goal.returns-in_default-2-clause-peers
-returns-in_default-2-clause-peers g c =
+pub returns-in_default-settle_recorded-clause-peers : goal.returns-in_default-settle_recorded-clause-peers
+returns-in_default-settle_recorded-clause-peers g c =
     ap (λ (p : Parts g.row.D.Denot g.row.H.Denot). p.peers) (rest_then c.adopt_file.ensures.rest c.settle_recorded.ensures.rest).others
 
-pub returns-in_default-2-clause-log : goal.returns-in_default-2-clause-log
-returns-in_default-2-clause-log g c = (rest_then c.adopt_file.ensures.rest c.settle_recorded.ensures.rest).log
+pub returns-in_default-settle_recorded-clause-log : goal.returns-in_default-settle_recorded-clause-log
+returns-in_default-settle_recorded-clause-log g c = (rest_then c.adopt_file.ensures.rest c.settle_recorded.ensures.rest).log
 
-pub returns-in_default-2-clause-tied : goal.returns-in_default-2-clause-tied
-returns-in_default-2-clause-tied g c =
+pub returns-in_default-settle_recorded-clause-tied : goal.returns-in_default-settle_recorded-clause-tied
+returns-in_default-settle_recorded-clause-tied g c =
     tied_last c.args.parts.now c.requires.tied c.settle_recorded.new.parts (rest_then c.adopt_file.ensures.rest c.settle_recorded.ensures.rest) c.settle_recorded.ensures.in_line
 
 pub returns-clause-step : goal.returns-clause-step
@@ -79,7 +79,7 @@ returns-clause-step g c =
     let old = c.args.parts.now in
     let here = here_at old (omega (arith, c.if-file-len.false, c.len.ensures)) c.index.ensures in
     steps_adopted old c.args.file here (omega (arith, c.if-block_count-eq0.false, c.block_count.ensures)) c.settle_recorded.new.parts (alone_if c.has_peer.ensures.1 c.if-has_peer.false)
-    c.requires.tied c.requires.shaped c.in-Ok.ensures.ok c.adopt_file.ensures.rest c.in-Ok-2.ensures.settles
+    c.requires.tied c.requires.shaped c.in-Ok.ensures.ok c.adopt_file.ensures.rest c.in-Ok-settle_recorded.ensures.settles
 
 pub returns-clause-torrent : goal.returns-clause-torrent
 returns-clause-torrent g c =

@@ -35,16 +35,18 @@ returns-in_err-group-clause-log g c = c.adopt_group.ensures.log ∙ c.loop-total
 pub together-total-requires-clause-marked : goal.together-total-requires-clause-marked
 together-total-requires-clause-marked g c =
     let same = ap block_count (c.geometry.ensures.value ∙ sym c.requires) in
+    let group = rw (logged_same c.loop-total.log c.args.log.now c.loop-total.invariant.log) at c.in_ok-group.ensures.ok in
     let more = taking_more c.calls_compose.ensures.both c.root.ensures.sound.rooted c.loop-total.invariant.taking (omega (arith, c.loop-total-test.true, c.blocks-blocks.ensures.value, same))
-    (rw (← logged_same c.loop-total.log c.args.log.now c.loop-total.invariant.log) c.in_ok-group.ensures.ok)
+    group
     (omega (arith, c.in_ok-group.ensures.within, ap block_count c.loop-total.invariant.taking.takes.same_file, ap block_count c.requires)) in
     omega (arith, more.marked, c.in_ok-group.ensures.within)
 
 pub together-total-requires-clause-faults : goal.together-total-requires-clause-faults
 together-total-requires-clause-faults g c =
     let same = ap block_count (c.geometry.ensures.value ∙ sym c.requires) in
+    let group = rw (logged_same c.loop-total.log c.args.log.now c.loop-total.invariant.log) at c.in_ok-group.ensures.ok in
     let more = taking_more c.calls_compose.ensures.both c.root.ensures.sound.rooted c.loop-total.invariant.taking (omega (arith, c.loop-total-test.true, c.blocks-blocks.ensures.value, same))
-    (rw (← logged_same c.loop-total.log c.args.log.now c.loop-total.invariant.log) c.in_ok-group.ensures.ok)
+    group
     (omega (arith, c.in_ok-group.ensures.within, ap block_count c.loop-total.invariant.taking.takes.same_file, ap block_count c.requires)) in
     omega (arith, more.faulty, c.in_ok-group.ensures.within)
 
@@ -52,11 +54,12 @@ pub loop-total-preserved : goal.loop-total-preserved
 loop-total-preserved g c =
     let d = g.D.Disk in
     let same = ap block_count (c.geometry.ensures.value ∙ sym c.requires) in
+    let group = rw (logged_same c.loop-total.log c.args.log.now c.loop-total.invariant.log) at c.in_ok-group.ensures.ok in
     record {
       taking = subst (λ (t : Adopted). AreTaking d.history d.honest d.faults g.H.NodeHash.digest c.args.file (is_some c.args.log.now) c.args.tree.now c.args.store.now (pending_of c.args.log.now)
           t c.adopt_group.new.tree c.adopt_group.new.store (pending_of c.adopt_group.new.log)) (sym c.together-total.ensures)
           (taking_more c.calls_compose.ensures.both c.root.ensures.sound.rooted c.loop-total.invariant.taking (omega (arith, c.loop-total-test.true, c.blocks-blocks.ensures.value, same))
-          (rw (← logged_same c.loop-total.log c.args.log.now c.loop-total.invariant.log) c.in_ok-group.ensures.ok)
+          group
           (omega (arith, c.in_ok-group.ensures.within, ap block_count c.loop-total.invariant.taking.takes.same_file, ap block_count c.requires)));
       log = c.adopt_group.ensures.log ∙ c.loop-total.invariant.log;
     }

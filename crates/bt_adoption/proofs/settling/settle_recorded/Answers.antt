@@ -53,3 +53,6 @@ returns-clause-rest g c =
 
 pub returns-clause-in_line : goal.returns-clause-in_line
 returns-clause-in_line g c = in_line_of_log c.leave_marks.ensures.keeps c.settle_others.ensures.in_line
+
+pub returns-in_err-waiting-clause-rest : goal.returns-in_err-waiting-clause-rest
+returns-in_err-waiting-clause-rest g c = rest_of_log c.plan_marks.ensures.keeps
