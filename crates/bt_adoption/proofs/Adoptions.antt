@@ -168,7 +168,7 @@ module _ {D H : Type 0} (old : Parts D H) (file : ℕ) {slot : Slot D H} (here :
       let made = flat_map (λ c. c) a.groups ++ [] in (
         made,
         subst (λ ds. HaveCalls history honest faults (disks_of old) made ds) (sym (same_disks keeps))
-        (subst (λ cs. HaveCalls history honest faults (disks_of old) cs (disks_of mid)) (sym (append-nil (flat_map (λ c. c) a.groups))) a.calls),
+            (subst (λ cs. HaveCalls history honest faults (disks_of old) cs (disks_of mid)) (sym (append-nil (flat_map (λ c. c) a.groups))) a.calls),
         no_memory (ap (map (peer_of old.book)) alone) (record {
           state = stands.state;
           tree = stands.tree;

@@ -2,7 +2,7 @@
 use Rattle.bt_machine.proofs.Base.{[], ◌≡◌, length, map, Option, Some, None, is_some, refl, sym, ap, ◌∙◌, subst, option_map_or}
 use Rattle.bt_resume.specs.ResumeLog.{LogView}
 use Rattle.bt_book.specs.Book.{peers_of}
-use Rattle.bt_state.specs.Parts.{state_of, disks_of, log_of, pending_of, hints_of}
+use Rattle.bt_state.specs.Parts.{state_of, disks_of, pending_of, hints_of}
 use Rattle.bt_state.specs.Ties.{root_and_length}
 use Rattle.bt_state.specs.declared.open_log.OpenLog.{OpenLog}
 use Rattle.bt_state.specs.declared.parts.Parts.{Parts}

@@ -1,5 +1,5 @@
 -- Which blocks of a file have become marked.
-use Rattle.bt_machine.proofs.Base.{[], ◌≡◌, ◌≢◌, ℕ, zero, suc, ◌+◌, ◌-◌, ◌<◌, ◌≤◌, ◌⊎◌, inl, inr, Bool, true, false, not, ◌&&◌, List, ◌∷◌, length, map, filter, Option, Some, None, refl, sym, ap, ◌∙◌, subst, arith, cases_lt, length-set, slice_get, option_map_or, is_some, Contains, range_with_len, Facts, value_at, BlockRead, block_of, given, failed, judged, is_waiting, is_waiting_at, waiting_blocks, BlockState, Missing, Waiting, Marked}
+use Rattle.bt_machine.proofs.Base.{[], ◌≡◌, ◌≢◌, ℕ, zero, suc, ◌+◌, ◌<◌, ◌≤◌, ◌⊎◌, inl, inr, Bool, true, false, not, ◌&&◌, List, ◌∷◌, length, map, filter, Option, Some, None, refl, sym, ap, ◌∙◌, subst, arith, cases_lt, length-set, slice_get, option_map_or, is_some, Contains, range_with_len, Facts, value_at, BlockRead, block_of, given, failed, judged, is_waiting, is_waiting_at, waiting_blocks, BlockState, Missing, Waiting, Marked}
 use Rattle.std.proofs.lemmas.Bool.{cases_eq}
 use Rattle.bt_store.specs.BlockStates.{is_marked}
 use Rattle.bt_store.specs.Review.{is_marked_at}

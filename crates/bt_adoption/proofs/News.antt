@@ -1,5 +1,5 @@
 -- Which blocks of an engine have become marked, file by file.
-use Rattle.bt_machine.proofs.Base.{[], ◌≡◌, ◌≢◌, ℕ, zero, suc, ◌+◌, ◌<◌, ◌≤◌, inl, inr, Bool, true, false, not, ◌&&◌, ◌==◌, if◌then◌else◌, List, ◌∷◌, ◌++◌, length, map, filter, flat_map, Option, Some, None, refl, sym, ap, ◌∙◌, subst, arith, length-set, slice_get, slice_set, option_map, option_map_or, option_and_then, range_with_len, Facts, BlockRead, block_of, judged, is_waiting_at, waiting_blocks, BlockState, BlockId}
+use Rattle.bt_machine.proofs.Base.{[], ◌≡◌, ◌≢◌, ℕ, zero, suc, Bool, true, false, not, ◌&&◌, ◌==◌, if◌then◌else◌, List, ◌∷◌, length, map, filter, flat_map, Option, Some, None, refl, sym, ap, ◌∙◌, arith, length-set, slice_get, option_map, option_map_or, option_and_then, range_with_len, Facts, BlockRead, block_of, judged, is_waiting_at, waiting_blocks, BlockState, BlockId}
 use Rattle.std.proofs.lemmas.List.Elements.{filter_agree}
 use Rattle.bt_store.specs.BlockStates.{is_marked}
 use Rattle.bt_store.specs.Review.{is_marked_at}

@@ -1,5 +1,5 @@
 -- Lists over numbers that follow each other.
-use Rattle.bt_machine.proofs.Base.{[], ◌≡◌, ◌≢◌, ℕ, zero, suc, ◌+◌, ◌-◌, ◌<◌, ◌≤◌, inl, inr, Bool, true, false, not, cond, ◌&&◌, List, ◌∷◌, ◌++◌, length, map, flat_map, filter, refl, sym, ap, ◌∙◌, arith, cases_lt, append-nil, range_with_len, filter-append}
+use Rattle.bt_machine.proofs.Base.{[], ◌≡◌, ◌≢◌, ℕ, zero, suc, ◌+◌, ◌-◌, ◌<◌, ◌≤◌, inl, inr, Bool, true, false, not, cond, ◌&&◌, List, ◌∷◌, ◌++◌, flat_map, filter, refl, sym, ap, ◌∙◌, arith, cases_lt, append-nil, range_with_len, filter-append}
 use Rattle.std.proofs.Common.{append_assoc}
 use Rattle.std.proofs.lemmas.Bool.{cases_eq}
 use Rattle.bt_store.proofs.Reviews.{range_split}

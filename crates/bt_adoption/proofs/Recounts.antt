@@ -1,5 +1,5 @@
 -- A file of which block after block gets another state.
-use Rattle.bt_machine.proofs.Base.{[], ◌≡◌, ℕ, zero, suc, ◌+◌, ◌<◌, List, length, replicate, Option, Some, None, refl, sym, ap, ◌∙◌, subst, arith, slice_get, slice_set, option_and_then, option_map_or, BlockState, Marked}
+use Rattle.bt_machine.proofs.Base.{[], ◌≡◌, ℕ, zero, suc, ◌+◌, ◌<◌, List, length, replicate, Option, Some, None, refl, sym, ap, ◌∙◌, subst, arith, slice_get, slice_set, option_map_or, BlockState, Marked}
 use Rattle.bt_machine.proofs.Lists.{set_same, set_id, some_below}
 use Rattle.bt_book.specs.Book.{peers_of}
 use Rattle.bt_machine.specs.State.{EngineState, FileState}

@@ -1,5 +1,5 @@
 -- Loops over the blocks of a group: which are not marked, in runs and one by one, and at which a proof begins.
-use Rattle.bt_machine.proofs.Base.{[], ◌≡◌, ℕ, zero, suc, ◌+◌, ◌-◌, ◌%◌, ◌^◌, ◌<◌, ◌≤◌, min, Bool, true, false, not, cond, ◌==◌, if◌then◌else◌, List, ◌∷◌, ◌++◌, length, map, take, get_or, filter, flat_map, refl, sym, ap, ◌∙◌, subst, arith, append-nil, filter-append, length-append, range_with_len, All, Contains, Contains-append_left, Contains-append_right, HeightsAreLeast, height_of-pow, answer_size, max_run_height, planned_key, HashKey, Facts, BlockState}
+use Rattle.bt_machine.proofs.Base.{[], ◌≡◌, ℕ, zero, suc, ◌+◌, ◌-◌, ◌%◌, ◌^◌, ◌<◌, ◌≤◌, min, Bool, true, false, not, cond, ◌==◌, if◌then◌else◌, List, ◌∷◌, ◌++◌, length, map, take, get_or, filter, flat_map, refl, sym, ap, ◌∙◌, subst, arith, append-nil, filter-append, length-append, range_with_len, All, Contains, Contains-append_left, Contains-append_right, HeightsAreLeast, height_of-pow, answer_size, max_run_height, planned_key, Facts, BlockState}
 use Rattle.std.specs.List.{AllZip}
 use Rattle.std.proofs.Common.{append_assoc}
 use Rattle.std.proofs.lemmas.List.{map-append}

@@ -1,5 +1,5 @@
 -- Groups of a file that are taken in one after the other.
-use Rattle.bt_machine.proofs.Base.{[], ◌≡◌, ℕ, ◌+◌, ◌<◌, ◌≤◌, Bool, true, List, ◌∷◌, ◌++◌, length, map, Result, Ok, Err, refl, sym, ap, ◌∙◌, subst, arith, append-nil, if◌then◌else◌, slice_set, inl, inr, Facts, blocks_of, IsRooted, block_count, History, BlockRead, call_of, Adopts, known, accepted, Adopted, BlockState}
+use Rattle.bt_machine.proofs.Base.{[], ◌≡◌, ℕ, ◌<◌, ◌≤◌, Bool, true, List, ◌∷◌, ◌++◌, length, map, Result, Ok, Err, refl, sym, ap, ◌∙◌, subst, arith, append-nil, if◌then◌else◌, slice_set, inl, inr, Facts, blocks_of, IsRooted, block_count, History, BlockRead, call_of, Adopts, known, accepted, Adopted, BlockState}
 use Rattle.std.specs.Prelude.{IfErr}
 use Rattle.std.specs.List.{AllZip}
 use Rattle.std.proofs.lemmas.List.{map-append}
@@ -8,7 +8,6 @@ use Rattle.std.proofs.Common.{set-set}
 use Rattle.bt_disk.specs.Calls.{HasCalls}
 use Rattle.bt_disk.specs.Law.{NoCallsLead, CallsCompose}
 use Rattle.bt_store.specs.FileStore.{StoreView}
-use Rattle.bt_store.specs.Adoption.{StopsAdopting}
 use Rattle.bt_machine.proofs.Lists.{set_same, set_id}
 use Rattle.bt_machine.specs.Hints.{add_hints}
 use Rattle.bt_machine.specs.State.{EngineState, Hint, mark_of}

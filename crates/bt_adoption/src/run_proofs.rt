@@ -97,7 +97,7 @@ pub(crate) fn push_proofs<H: NodeHash>(
     requires room { length rooms.items ≤ pending.old.room }
     ensures proofs { (proofs : List Hint)
         × AllZip (IsProof H.digest tree.now)
-            (run_keys tree.now anchor (range_with_len group.first group.count)) proofs
+        (run_keys tree.now anchor (range_with_len group.first group.count)) proofs
         × (pending.new.hints ≡ add_hints pending.old.hints proofs) }
     ensures room { pending.old.room ≤ pending.new.room + length rooms.items }
 {

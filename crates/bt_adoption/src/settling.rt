@@ -41,11 +41,7 @@ pub(crate) fn settle_recorded<D: Disk + Drop, H: NodeHash>(
 }
 
 /// Settles all blocks of the other files of a tree, all but this one. No peer is connected.
-fn settle_others<D: Disk + Drop, H: NodeHash>(
-    parts: &mut Parts<D, H>,
-    tree: usize,
-    file: u32,
-)
+fn settle_others<D: Disk + Drop, H: NodeHash>(parts: &mut Parts<D, H>, tree: usize, file: u32)
     requires alone { parts.old.peers.items ≡ [] }
     requires in_line { AreInLine parts.old }
     requires count { length parts.old.slots.items ≡ length parts.old.torrent.files }

@@ -1,9 +1,8 @@
-use Rattle.std.proofs.Common.{Bool, sym, ap, ◌∙◌, refl, subst, arith}
+use Rattle.std.proofs.Common.{sym, ap, ◌∙◌, refl, subst, arith}
 use Rattle.std.specs.Prelude.{is_some}
 use Rattle.bt_tree.specs.Blocks.{block_count}
 use Rattle.bt_store.specs.declared.adoption.Adopted.{Adopted}
 use Rattle.bt_state.specs.Parts.{pending_of}
-use Rattle.bt_adoption.specs.GroupSteps.{TakesGroup}
 use Rattle.bt_adoption.proofs.Logs.{logged_same}
 use Rattle.bt_adoption.proofs.Takings.{AreTaking, taking_begun, taking_more, taking_stopped, if_err_by}
 use Rattle.bt_adoption.proofs.groups.adopt_groups.Goals as goal

@@ -1,4 +1,4 @@
-use Rattle.std.proofs.Common.{[], ◌≡◌, ◌+◌, ◌++◌, ◌∷◌, List, ℕ, sym, ap, ◌∙◌}
+use Rattle.std.proofs.Common.{[], ◌+◌, ◌++◌, ◌∷◌, List, ℕ, sym, ap, ◌∙◌}
 use Rattle.bt_adoption.proofs.RunMarks.{unmarked_kept, unmarked_dropped}
 use Rattle.bt_adoption.proofs.marks.unmarked_blocks.Goals as goal
 use Rattle.bt_adoption.proofs.marks.unmarked_blocks.Goals.{then-not-is_marked+in_ok-push, else-not-is_marked}

@@ -1,8 +1,7 @@
-use Rattle.std.proofs.Common.{[], ◌∷◌, ◌++◌, ◌+◌, List, length, sym, ap, ◌∙◌, subst, arith, All}
+use Rattle.std.proofs.Common.{[], ◌∷◌, ◌++◌, ◌+◌, length, sym, ap, ◌∙◌, subst, arith, All}
 use Rattle.std.specs.List.{AllZip, range_with_len}
 use Rattle.bt_hashreq.specs.Request.{planned_key}
 use Rattle.bt_hashreq.specs.declared.key.HashKey.{HashKey}
-use Rattle.bt_resume.specs.declared.hint.Hint.{Hint}
 use Rattle.bt_sparse.specs.Answer.{HasRoom}
 use Rattle.bt_pending.specs.Pending.{PendingView}
 use Rattle.bt_machine.specs.Hints.{add_hint}

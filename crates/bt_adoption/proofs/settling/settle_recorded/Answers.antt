@@ -7,7 +7,7 @@ use Rattle.bt_machine.specs.Hints.{mark_of, add_hints}
 use Rattle.bt_state.specs.Parts.{state_of, pending_of}
 use Rattle.bt_adoption.specs.WaitingSteps.{room_in, is_marked_of}
 use Rattle.bt_state.specs.declared.parts.Parts.{Parts}
-use Rattle.bt_adoption.proofs.OtherFiles.{as_many_trees, rest_then}
+use Rattle.bt_adoption.proofs.OtherFiles.{rest_then}
 use Rattle.bt_adoption.proofs.Logs.{rest_of_log, in_line_of_log}
 use Rattle.bt_adoption.proofs.OtherMarks.{settles_all}
 use Rattle.bt_adoption.proofs.settling.settle_recorded.Goals as goal

@@ -1,4 +1,4 @@
-use Rattle.std.proofs.Common.{[], ◌≡◌, ◌<◌, ◌++◌, ◌∷◌, List, true, false, map, append-nil, sym, ap, ◌∙◌, subst, arith, All}
+use Rattle.std.proofs.Common.{◌<◌, ◌++◌, List, true, false, map, append-nil, sym, ap, ◌∙◌, subst, arith, All}
 use Rattle.std.proofs.lemmas.List.Elements.{All-push}
 use Rattle.bt_tree.specs.Limits.{max_block_count}
 use Rattle.bt_book.specs.declared.names.BlockId.{BlockId}
@@ -18,15 +18,15 @@ loop-block-preserved g c =
     let states = c.in-Some.store.states in
     elim c.if-is_waiting.branch [
       | then-is_waiting+in_ok-push w ↦ record {
-          blocks = listed_more states c.args.file l.block l.blocks.items c.if-is_waiting.blocks.items true (sym c.is_waiting.ensures ∙ w.if-is_waiting.true)
-              (ap (λ v. v.items) w.blocks-is ∙ w.in_ok-push.ensures.items) c.args.blocks.now.items l.invariant.blocks;
-          within = subst (λ v. All (λ b. b.block < max_block_count) v.items) (sym w.blocks-is)
-              (subst (λ (xs : List BlockId). All (λ b. b.block < max_block_count) xs) (sym w.in_ok-push.ensures.items)
-              (All-push (λ (b : BlockId). b.block < max_block_count) l.blocks.items (block_id c.args.file l.block) l.invariant.within (omega (arith, c.loop-block-test.true, c.blocks-block-end.ensures.limit))));
-        }
+        blocks = listed_more states c.args.file l.block l.blocks.items c.if-is_waiting.blocks.items true (sym c.is_waiting.ensures ∙ w.if-is_waiting.true)
+            (ap (λ v. v.items) w.blocks-is ∙ w.in_ok-push.ensures.items) c.args.blocks.now.items l.invariant.blocks;
+        within = subst (λ v. All (λ b. b.block < max_block_count) v.items) (sym w.blocks-is)
+            (subst (λ (xs : List BlockId). All (λ b. b.block < max_block_count) xs) (sym w.in_ok-push.ensures.items)
+            (All-push (λ (b : BlockId). b.block < max_block_count) l.blocks.items (block_id c.args.file l.block) l.invariant.within (omega (arith, c.loop-block-test.true, c.blocks-block-end.ensures.limit))));
+      }
       | else-is_waiting w ↦ record {
-          blocks = listed_more states c.args.file l.block l.blocks.items c.if-is_waiting.blocks.items false (sym c.is_waiting.ensures ∙ w.if-is_waiting.false)
-              (ap (λ v. v.items) w.blocks-is ∙ sym (append-nil l.blocks.items)) c.args.blocks.now.items l.invariant.blocks;
-          within = subst (λ v. All (λ b. b.block < max_block_count) v.items) (sym w.blocks-is) l.invariant.within;
-        }
+        blocks = listed_more states c.args.file l.block l.blocks.items c.if-is_waiting.blocks.items false (sym c.is_waiting.ensures ∙ w.if-is_waiting.false)
+            (ap (λ v. v.items) w.blocks-is ∙ sym (append-nil l.blocks.items)) c.args.blocks.now.items l.invariant.blocks;
+        within = subst (λ v. All (λ b. b.block < max_block_count) v.items) (sym w.blocks-is) l.invariant.within;
+      }
     ]

@@ -1,4 +1,4 @@
-use Rattle.std.proofs.Common.{◌≡◌, ◌<◌, List, map, sym, ap, ◌∙◌, subst, arith, All}
+use Rattle.std.proofs.Common.{◌<◌, map, sym, ap, ◌∙◌, subst, arith, All}
 use Rattle.bt_tree.specs.Limits.{max_block_count}
 use Rattle.bt_state.specs.Parts.{file_of}
 use Rattle.bt_state.proofs.Lists.{get_mapped, get_read}
@@ -20,9 +20,9 @@ loop-other-preserved g c =
             within = subst (λ v. All (λ b. b.block < max_block_count) v.items) (sym w.blocks-is) w.in_ok-add_waiting.ensures.within;
           }
       | else-other-file w ↦ record {
-          blocks = ap (λ v. v.items) w.blocks-is ∙ listed_own c.args.file c.args.tree files l.other l.invariant.blocks w.if-other-file.false;
-          within = subst (λ v. All (λ b. b.block < max_block_count) v.items) (sym w.blocks-is) l.invariant.within;
-        }
+        blocks = ap (λ v. v.items) w.blocks-is ∙ listed_own c.args.file c.args.tree files l.other l.invariant.blocks w.if-other-file.false;
+        within = subst (λ v. All (λ b. b.block < max_block_count) v.items) (sym w.blocks-is) l.invariant.within;
+      }
     ]
 
 pub returns-clause-blocks : goal.returns-clause-blocks
