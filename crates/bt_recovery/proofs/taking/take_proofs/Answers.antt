@@ -1,7 +1,7 @@
 use Rattle.std.proofs.Common.{◌∷◌, refl, ap, ◌∙◌}
 use Rattle.bt_resume.specs.LogText.{hints_in}
 use Rattle.bt_resume.specs.LentHint.{hint_of}
-use Rattle.bt_recovery.proofs.Takings.{leads_first, leads_on, leads_past, leads_last}
+use Rattle.bt_recovery.proofs.Takings.{taken_none, taken_proof, taken_marks, taken_some, taken_all}
 use Rattle.bt_recovery.proofs.taking.take_proofs.Goals as goal
 
 pub loop-hint-init : goal.loop-hint-init
@@ -10,7 +10,7 @@ loop-hint-init g c = record {
   finite = tt;
   roots = refl;
   lengths = refl;
-  leads = leads_first g.H.NodeHash.digest (hints_in c.args.hints.now) c.into_iter-hint-iterator.result c.args.trees.now c.args.trees.now
+  taken = taken_none g.H.NodeHash.digest (hints_in c.args.hints.now) c.into_iter-hint-iterator.result c.args.trees.now c.args.trees.now
       (c.into_iter-hint-iterator.ensures.into_iter_gives ∙ c.iter-hint-items.ensures);
 }
 
@@ -20,8 +20,8 @@ loop-hint-preserved-in-Continue-branch-2 g c = record {
   finite = tt;
   roots = c.in_ok-take_proof.ensures.roots ∙ c.loop-hint.invariant.roots;
   lengths = c.in_ok-take_proof.ensures.lengths ∙ c.loop-hint.invariant.lengths;
-  leads = leads_on g.H.NodeHash.digest (hints_in c.args.hints.now) c.next.new.self c.args.trees.now c.loop-hint.trees c.take_proof.new.trees c.loop-hint.hint-iterator
-      c.in-Proof.key c.in-Proof.digests.now (c.in-Some.ensures.steps ∙ ap (λ hint. hint_of hint ∷ c.next.new.self) c.in-Proof.is) c.loop-hint.invariant.leads
+  taken = taken_proof g.H.NodeHash.digest (hints_in c.args.hints.now) c.next.new.self c.args.trees.now c.loop-hint.trees c.take_proof.new.trees c.loop-hint.hint-iterator
+      c.in-Proof.key c.in-Proof.digests.now (c.in-Some.ensures.steps ∙ ap (λ hint. hint_of hint ∷ c.next.new.self) c.in-Proof.is) c.loop-hint.invariant.taken
       c.in_ok-take_proof.ensures.taken;
 }
 
@@ -31,12 +31,12 @@ loop-hint-preserved g c = record {
   finite = tt;
   roots = c.loop-hint.invariant.roots;
   lengths = c.loop-hint.invariant.lengths;
-  leads = leads_past g.H.NodeHash.digest (hints_in c.args.hints.now) c.next.new.self c.args.trees.now c.loop-hint.trees c.loop-hint.hint-iterator
+  taken = taken_marks g.H.NodeHash.digest (hints_in c.args.hints.now) c.next.new.self c.args.trees.now c.loop-hint.trees c.loop-hint.hint-iterator
       c.in_default.field-0 c.in_default.field-1 c.in_default.field-2 (c.in-Some.ensures.steps ∙ ap (λ hint. hint_of hint ∷ c.next.new.self) c.in_default.is)
-      c.loop-hint.invariant.leads;
+      c.loop-hint.invariant.taken;
 }
 
 pub returns-clause-taken : goal.returns-clause-taken
 returns-clause-taken g c =
-    leads_last g.H.NodeHash.digest (hints_in c.args.hints.now) c.loop-hint.hint-iterator c.args.trees.now c.loop-hint.trees c.loop-hint.invariant.roots c.in-None.ensures.steps.0
-    c.loop-hint.invariant.leads
+    taken_all g.H.NodeHash.digest (hints_in c.args.hints.now) c.loop-hint.hint-iterator c.args.trees.now c.loop-hint.trees c.loop-hint.invariant.roots
+    c.in-None.ensures.steps.0 c.loop-hint.invariant.taken
