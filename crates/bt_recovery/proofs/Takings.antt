@@ -111,6 +111,10 @@ pub on_ok : {X E P Q : Type 0} (r : Result X E) → OnOk r P → (P → Q) → O
 on_ok (Ok x) p f = f p
 on_ok (Err e) p f = tt
 
+pub if_err : {X E P : Type 0} (r : Result X E) → P → IfErr r (λ _. P)
+if_err (Ok x) p = tt
+if_err (Err e) p = p
+
 pub on_err : {X E P Q : Type 0} (r : Result X E) → IfErr r (λ _. P) → (P → Q) → IfErr r (λ _. Q)
 on_err (Ok x) p f = tt
 on_err (Err e) p f = f p
@@ -237,11 +241,11 @@ module _ (trees : List Facts) (n : ℕ) (old new : Places) {own : Facts} (apart 
 -- ---- hints, one after the other
 
 -- a tree that takes some hints, and then others
-takes_more : (dig : List ℕ → List ℕ) (first more : List Hint) (k mid : Facts) {new : Facts} → TakesHints dig k first mid → TakesHints dig mid more new
+takes_more : (dig : List ℕ → List ℕ) (first more : List Hint) (k mid new : Facts) → TakesHints dig k first mid → TakesHints dig mid more new
     → TakesHints dig k (first ++ more) new
-takes_more dig [] more k mid {new} takes rest = subst (λ (j : Facts). TakesHints dig j more new) takes rest
-takes_more dig (Proof key digests ∷ first) more k mid takes rest = (takes.0, takes.1, takes_more dig first more takes.0 mid takes.2 rest)
-takes_more dig (Marks f i n ∷ first) more k mid takes rest = takes_more dig first more k mid takes rest
+takes_more dig [] more k mid new takes rest = subst (λ (j : Facts). TakesHints dig j more new) takes rest
+takes_more dig (Proof key digests ∷ first) more k mid new takes rest = (takes.0, takes.1, takes_more dig first more takes.0 mid new takes.2 rest)
+takes_more dig (Marks f i n ∷ first) more k mid new takes rest = takes_more dig first more k mid new takes rest
 
 -- the hints before these are what the trees have taken
 abbrev pub HaveTaken : (List ℕ → List ℕ) → (all rest : List Hint) → (old now : List Facts) → Type 0
@@ -264,7 +268,7 @@ module _ (dig : List ℕ → List ℕ) (all rest : List Hint) (old now : List Fa
     λ t k at. (
         let j = before.2 t k at in
         let i = takes t j.0 j.1 in
-        (i.0, i.1, takes_more dig before.0 (Proof key digests ∷ []) k j.0 j.2 (i.0, i.2, refl))
+        (i.0, i.1, takes_more dig before.0 (Proof key digests ∷ []) k j.0 i.0 j.2 (i.0, i.2, refl))
         ),
   )
 
@@ -273,22 +277,20 @@ module _ (dig : List ℕ → List ℕ) (all rest : List Hint) (old now : List Fa
   taken_marks hints file first count is before = (
     before.0 ++ (Marks file first count ∷ []),
     one_more hints (Marks file first count) is before.0 before.1,
-    λ t k at. (let j = before.2 t k at in (j.0, j.1, takes_more dig before.0 (Marks file first count ∷ []) k j.0 j.2 refl)),
+    λ t k at. (let j = before.2 t k at in (j.0, j.1, takes_more dig before.0 (Marks file first count ∷ []) k j.0 j.0 j.2 refl)),
   )
 
   module _ (roots : map (λ (k : Facts). k.root) now ≡ map (λ (k : Facts). k.root) old) where
+    taken_by : (before : HaveTaken dig all rest old now) → TakeHints dig before.0 old now
+    taken_by before = record {
+      count = sym (length-map now (λ (k : Facts). k.root)) ∙ ap (λ (rs : List (List ℕ)). length rs) roots ∙ length-map old (λ (k : Facts). k.root);
+      each = before.2;
+    }
+
     pub taken_some : HaveTaken dig all rest old now → (first : List Hint) × Begin first all × TakeHints dig first old now
-    taken_some before = (
-      before.0,
-      (rest, before.1),
-      record {
-        count = sym (length-map now (λ (k : Facts). k.root)) ∙ ap (λ (rs : List (List ℕ)). length rs) roots ∙ length-map old (λ (k : Facts). k.root);
-        each = before.2;
-      },
-    )
+    taken_some before = (before.0, (rest, before.1), taken_by before)
 
     pub taken_all : rest ≡ [] → HaveTaken dig all rest old now → TakeHints dig all old now
     taken_all none before =
-        let some = taken_some before in
         let whole : before.0 ≡ all = sym (before.1 ∙ ap (λ (hs : List Hint). before.0 ++ hs) none ∙ append-nil before.0) in
-        subst (λ (hs : List Hint). TakeHints dig hs old now) whole some.2
+        subst (λ (hs : List Hint). TakeHints dig hs old now) whole (taken_by before)

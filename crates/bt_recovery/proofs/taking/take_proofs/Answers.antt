@@ -1,7 +1,8 @@
-use Rattle.std.proofs.Common.{◌∷◌, refl, ap, ◌∙◌}
+use Rattle.std.proofs.Common.{◌∷◌, refl, sym, ap, ◌∙◌, subst}
 use Rattle.bt_resume.specs.LogText.{hints_in}
 use Rattle.bt_resume.specs.LentHint.{hint_of}
-use Rattle.bt_recovery.proofs.Takings.{taken_none, taken_proof, taken_marks, taken_some, taken_all}
+use Rattle.bt_recovery.specs.Taking.{TakeHints}
+use Rattle.bt_recovery.proofs.Takings.{if_err, taken_none, taken_proof, taken_marks, taken_some, taken_all}
 use Rattle.bt_recovery.proofs.taking.take_proofs.Goals as goal
 
 pub loop-hint-init : goal.loop-hint-init
@@ -35,6 +36,22 @@ loop-hint-preserved g c = record {
       c.in_default.field-0 c.in_default.field-1 c.in_default.field-2 (c.in-Some.ensures.steps ∙ ap (λ hint. hint_of hint ∷ c.next.new.self) c.in_default.is)
       c.loop-hint.invariant.taken;
 }
+
+pub returns-in_err-places-clause-refused : goal.returns-in_err-places-clause-refused
+returns-in_err-places-clause-refused g c =
+    let dig = g.H.NodeHash.digest in
+    let all = hints_in c.args.hints.now in
+    let trees = c.args.trees.now in
+    if_err c.from_residual.result (taken_some dig all all trees trees refl (taken_none dig all all trees trees refl))
+
+pub returns-in_err-take_proof-clause-refused : goal.returns-in_err-take_proof-clause-refused
+returns-in_err-take_proof-clause-refused g c =
+    let dig = g.H.NodeHash.digest in
+    let trees = c.args.trees.now in
+    let before =
+    taken_some dig (hints_in c.args.hints.now) c.loop-hint.hint-iterator trees c.loop-hint.trees c.loop-hint.invariant.roots c.loop-hint.invariant.taken in
+    if_err c.from_residual-in_err-take_proof.result
+    (before.0, before.1, subst (λ now. TakeHints dig before.0 trees now) (sym c.in_err-take_proof.ensures.refused) before.2)
 
 pub returns-clause-taken : goal.returns-clause-taken
 returns-clause-taken g c =
