@@ -110,9 +110,9 @@ module _ (total count : ℕ) (file : Cut) (pos : 0 < count) where
   alone i j here there = elim (cases_lt i j) [
     | inl lt ↦ absurd (omega (arith, edge_forward total count (i + 1) j pos (omega (arith, lt)), here.before, there.begun))
     | inr ge ↦ elim (cases_lt j i) [
-        | inl lt ↦ absurd (omega (arith, edge_forward total count (j + 1) i pos (omega (arith, lt)), there.before, here.begun))
-        | inr le ↦ omega (arith, ge, le)
-      ]
+      | inl lt ↦ absurd (omega (arith, edge_forward total count (j + 1) i pos (omega (arith, lt)), there.before, here.begun))
+      | inr le ↦ omega (arith, ge, le)
+    ]
   ]
 
 pub shares_whole : SharesAreWhole
