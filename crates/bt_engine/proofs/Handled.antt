@@ -1,6 +1,7 @@
 -- What the functions of one message do is what is said of an event that was handled.
-use Rattle.bt_machine.proofs.Base.{[], ◌≡◌, ℕ, ◌<◌, inl, inr, List, length, Option, Some, Ok, Err, Result, refl, sym, ap, ◌∙◌, subst, arith, slice_get, length-map, History, PeerKey, WireEvent}
+use Rattle.bt_machine.proofs.Base.{[], ◌≡◌, ℕ, ◌<◌, inl, inr, true, List, length, Option, Some, Ok, Err, Result, refl, sym, ap, ◌∙◌, subst, arith, slice_get, length-map, History, PeerKey, WireEvent}
 use Rattle.std.specs.Prelude.{IfOk, IfErr}
+use Rattle.std.specs.Option.{option_to_list}
 use Rattle.std.proofs.lemmas.Bool.{cases_eq}
 use Rattle.bt_machine.specs.declared.error.EngineError.{EngineError}
 use Rattle.bt_machine.specs.State.{PeerState, EngineState, Hint}
@@ -16,8 +17,13 @@ use Rattle.bt_state.specs.declared.parts.Parts.{Parts}
 use Rattle.bt_state.proofs.DeviceCalls.{have_none}
 use Rattle.bt_state.proofs.Lists.{get_mapped}
 use Rattle.bt_state.proofs.PeerLists.{keys_apart}
-use Rattle.bt_engine.specs.EventSteps.{effect_of, IsHandled}
+use Rattle.bt_engine.specs.EventSteps.{proof_in, effect_of, IsHandled}
 use Rattle.bt_engine.specs.declared.event.Handled.{Handled}
+use Rattle.bt_engine.specs.RoomSteps.{IsMessageBound, IsNoteBound}
+use Rattle.bt_state.specs.declared.open_log.OpenLog.{OpenLog}
+use Rattle.bt_wire.specs.declared.event.WireEvent.TheVariants.{Message}
+use Rattle.bt_wire.specs.declared.message.Message.{Message as PeerMessage}
+use Rattle.bt_wire.specs.declared.message.Message.TheVariants.{Hashes}
 
 pub if_ok : {A E : Type 0} (P Q : A → Type 0) (r : Result A E) → IfOk r P → ((x : A) → P x → Q x) → IfOk r Q
 if_ok P Q (Ok x) p f = f x p
@@ -33,14 +39,15 @@ module _ {D H : Type 0} (history : D → History) (honest : D → Type 0) (fault
   no_calls same =
       subst (λ (ds : List (Option D)). HaveCalls history honest faults (disks_of old) [] ds) (sym same) (have_none history honest faults (disks_of old))
 
-  pub handled_by : (i : ℕ) (event : WireEvent) (handled : Handled) (calls : DeviceCalls) (proofs : List Hint) → i < length old.peers.items
+  pub handled_by : (i : ℕ) (event : WireEvent) (handled : Handled) (calls : DeviceCalls) (proofs : List Hint)
+      → ((state_of old).logged ≡ true → proofs ≡ option_to_list (proof_in handled)) → i < length old.peers.items
       → HaveCalls history honest faults (disks_of old) calls (disks_of mid)
       → ((p : PeerState) → slice_get (state_of old).peers i ≡ Some p
       → Handles dig (state_of old) i p event calls (effect_of p handled proofs) (state_of mid))
       → IsHandled history honest faults dig old i event handled mid
-  handled_by i event handled calls proofs lt made handles =
+  handled_by i event handled calls proofs kept lt made handles =
       let p = get_some (state_of old).peers i (omega (arith, length-map old.peers.items (peer_of old.book))) in
-      record { peer = p.0; calls = calls; proofs = proofs; here = p.1; made = made; handles = handles p.0 p.1 }
+      record { peer = p.0; calls = calls; proofs = proofs; here = p.1; kept = kept; made = made; handles = handles p.0 p.1 }
 
 -- the peer that is lost is the one that stands there
 pub lost_at : {D H : Type 0} (parts : Parts D H) (i : ℕ) {p : Peer} {r : Result (Unit {0}) EngineError} {new : EngineState} → IsTied parts
@@ -54,3 +61,16 @@ lost_at parts i {p} tied at (goes j q is e after) = elim (cases_eq j i) [
 ]
 lost_at parts i {p} tied at (no_peer none e after) =
     absurd (none i (peer_of parts.book p) (record { here = get_mapped (peer_of parts.book) parts.peers.items i at; same_key = refl }))
+
+-- how many notes there may be is not a matter of the log
+module _ {D H : Type 0} (parts : Parts D H) (log : Option (OpenLog D)) where
+  message_logged : (message : PeerMessage) (bound : ℕ) → IsMessageBound parts message bound → IsMessageBound (record parts { log = log }) message bound
+  message_logged (Hashes key digests) bound is = record {
+    known = λ tree k has. is.known tree k (record { here = has.here; same_root = has.same_root });
+    unknown = λ none. is.unknown (λ tree k has. none tree k (record { here = has.here; same_root = has.same_root }));
+  }
+  message_logged _ bound is = is
+
+  pub bound_logged : (event : WireEvent) (bound : ℕ) → IsNoteBound parts event bound → IsNoteBound (record parts { log = log }) event bound
+  bound_logged (Message message) bound is = message_logged message bound is
+  bound_logged _ bound is = is
