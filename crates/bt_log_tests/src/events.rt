@@ -88,12 +88,14 @@ fn adopt_again(
 
 fn tell_adopted(out: &mut String, answer: Result<Adopted, AdoptError>) -> Result<(), RowError> {
     match answer {
-        Ok(Adopted {
-            next,
-            anchor,
-            marked,
-            faults,
-        }) => Ok(write!(
+        Ok(
+            Adopted {
+                next,
+                anchor,
+                marked,
+                faults,
+            },
+        ) => Ok(write!(
             out,
             "adopted {marked} of {next}, anchor {anchor}, {faults} faults"
         )?),

@@ -8,11 +8,13 @@ use std::alloc::{AllocError, Global};
 
 /// A log has at most so many bytes, of which the header takes 40.
 const MAX_LOG_LEN: u64 = 1 << 40;
+
 const HEADER_LEN: u64 = 40;
 
 /// The longest proof that an adoption leaves, of a run of 512 leaves in a tree of 26 layers: its front of 49 bytes, and
 /// 512 digests and 17.
 const PROOF_DIGESTS: usize = 529;
+
 const PROOF_LEN: u64 = 49 + 32 * 529;
 
 const RUN_LEN: u64 = 13;

@@ -2,7 +2,9 @@
 ghost use Rattle.std.specs.Prelude.{◌≡◌};
 ghost use Rattle.sha2.specs.Sha256.{sha256};
 
-use crate::changes::{Heard, adopt, connect, flush, follow, lose, take_in_hashes, take_in_piece, with_log, write_to};
+use crate::changes::{
+    Heard, adopt, connect, flush, follow, lose, take_in_hashes, take_in_piece, with_log, write_to,
+};
 use bt_disk::Disk;
 use bt_hashreq::HashKey;
 use bt_machine::{AdoptError, FileReport, FlushError, StartError};

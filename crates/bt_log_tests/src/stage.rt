@@ -2,7 +2,9 @@
 
 use crate::bytes::tell_bytes;
 use crate::device::TestDisk;
-use crate::events::{adopt_row, flush_row, follow_row, hashes_row, lost_row, pending_row, piece_row, report_row};
+use crate::events::{
+    adopt_row, flush_row, follow_row, hashes_row, lost_row, pending_row, piece_row, report_row,
+};
 use crate::fill::fill;
 use crate::logged::Logged;
 use crate::words::{RowError, Words, tell};
@@ -263,11 +265,7 @@ fn started(
 }
 
 /// The calls of the device of a file.
-fn calls_row(
-    engine: &TestEngine,
-    words: &mut Words,
-    out: &mut String,
-) -> Result<(), RowError> {
+fn calls_row(engine: &TestEngine, words: &mut Words, out: &mut String) -> Result<(), RowError> {
     let file = words.number()?;
     match engine.disk(file) {
         Some(disk) => tell_calls(out, disk),
