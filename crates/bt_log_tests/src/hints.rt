@@ -83,7 +83,13 @@ pub fn log_of_waiting(
     if engine.write_to(&mut log).is_ok() || engine.waiting() != count {
         return Ok(None);
     }
-    Ok(Some(opened(alloc, log.into_disk(), infohash)?))
+    let log = opened(alloc, log.into_disk(), infohash)?;
+    // A device in memory may have had no room for all.
+    Ok(if log.hints().len() == count {
+        Some(log)
+    } else {
+        None
+    })
 }
 
 /// A log that is refused only for want of memory.
