@@ -43,7 +43,9 @@ __attribute__((destructor)) static void tell(void) {
 
 def built():
     """The proved program."""
-    subprocess.run(["rt", "run"], cwd=CRATE, check=True, stdin=subprocess.DEVNULL, stdout=subprocess.DEVNULL)
+    run = subprocess.run(["rt", "run"], cwd=CRATE, stdin=subprocess.DEVNULL, capture_output=True, text=True)
+    if run.returncode != 0:
+        sys.exit(run.stdout + run.stderr)
     return CRATE / "out" / CRATE.name
 
 
