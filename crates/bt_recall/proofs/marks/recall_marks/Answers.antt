@@ -1,0 +1,18 @@
+use Rattle.std.proofs.Common.{◌∷◌, refl, ap, ◌∙◌}
+use Rattle.bt_resume.specs.LogText.{hints_in}
+use Rattle.bt_resume.specs.LentHint.{hint_of}
+use Rattle.bt_recall.proofs.Marks.{recall_first, recall_past, recall_on, recall_last}
+use Rattle.bt_recall.proofs.marks.recall_marks.Goals as goal
+
+pub loop-hint-init : goal.loop-hint-init
+loop-hint-init g c = record {
+  can = tt;
+  finite = tt;
+  leads = recall_first g.H.NodeHash.digest c.args.trees.now (hints_in c.args.hints.now) c.into_iter-hint-iterator.result c.args.slots.now c.args.slots.now
+      (c.into_iter-hint-iterator.ensures.into_iter_gives ∙ c.iter-hint-items.ensures);
+}
+
+pub returns : goal.returns
+returns g c =
+    recall_last g.H.NodeHash.digest c.args.trees.now (hints_in c.args.hints.now) c.loop-hint.hint-iterator c.args.slots.now c.loop-hint.slots
+    c.in-None.ensures.steps.0 c.loop-hint.invariant.leads

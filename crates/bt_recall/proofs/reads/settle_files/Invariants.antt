@@ -1,0 +1,8 @@
+use Rattle.std.proofs.Common.{◌≡◌, ℕ, ◌<◌, ◌≤◌, Some}
+use Rattle.std.specs.Prelude.{slice_get}
+use Rattle.bt_recall.proofs.Reads.{AreSettledBelow}
+use Rattle.bt_recall.proofs.reads.settle_files.Given as goal
+
+abbrev pub invariant-loop-slot : goal.invariant-loop-slot
+invariant-loop-slot g l =
+    AreSettledBelow g.D.Disk.history g.D.Disk.honest g.D.Disk.faults g.H.NodeHash.digest l.trees l.slot-index l.fn.slots l.slots
