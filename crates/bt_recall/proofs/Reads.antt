@@ -4,10 +4,11 @@ use Rattle.std.proofs.lemmas.Bool.{cases_eq}
 use Rattle.std.proofs.lemmas.Option.{slice_get-map, slice_get_past}
 use Rattle.bt_disk.specs.Calls.{HasCalls}
 use Rattle.bt_resume.specs.declared.hint.Hint.{Hint}
-use Rattle.bt_store.specs.BlockReads.{IsJudged}
+use Rattle.bt_store.specs.BlockReads.{IsJudged, after_read}
 use Rattle.bt_store.specs.FileStore.{StoreView, new_states}
 use Rattle.bt_store.specs.Law.{all_recalled}
 use Rattle.bt_store.proofs.Recalls.{recalled_alike}
+use Rattle.bt_store.proofs.Settling.{length-read}
 use Rattle.bt_machine.specs.Blocks.{block_id, with_file}
 use Rattle.bt_machine.specs.Devices.{DeviceCalls, reads_at, calls_at, HaveCalls}
 use Rattle.bt_machine.specs.Hints.{is_recorded}
@@ -21,7 +22,7 @@ use Rattle.bt_state.proofs.Lists.{get_mapped}
 use Rattle.bt_state.proofs.SlotChanges.{file_here, files_changed, have_changed}
 use Rattle.bt_recall.specs.MarksSteps.{Meant, recalled_store, recalled_in, recalled_slot}
 use Rattle.bt_recall.specs.ReadsSteps.{HasReads, IsSettled}
-use Rattle.bt_recall.specs.Restoring.{tree_and_length, HasTree, HaveTrees, AreMissing, RestoresSlots}
+use Rattle.bt_recall.specs.Restoring.{tree_and_length, block_total, HasTree, HaveTrees, AreMissing, RestoresSlots}
 use Rattle.bt_recall.proofs.Marks.{same_lists, touched, state_then, length-recalled, is_among, among_recorded, empty_kept, one_recalled}
 
 -- ---- which blocks wait
@@ -32,7 +33,7 @@ filter_within p q a (suc n) same =
     ap (λ b. cond b (a ∷ filter p (range_with_len (a + 1) n)) (filter p (range_with_len (a + 1) n))) (same a (omega arith) (omega arith))
     ∙ ap (λ xs. cond (q a) (a ∷ xs) xs) (filter_within p q (a + 1) n (λ i low high. same i (omega (arith, low)) (omega (arith, high))))
 
-missing_at : (n i : ℕ) → i < n → slice_get (replicate n Missing) i ≡ Some Missing
+pub missing_at : (n i : ℕ) → i < n → slice_get (replicate n Missing) i ≡ Some Missing
 missing_at zero i lt = absurd (omega arith)
 missing_at (suc n) zero lt = refl
 missing_at (suc n) (suc i) lt = missing_at n i (omega arith)
@@ -69,6 +70,10 @@ module _ (dig : List ℕ → List ℕ) (k : Facts) (hints : List Hint) (file : �
       → judged dig k false reads (all_recalled states blocks) ≡ judged dig k false reads states
   judged_before states blocks reads are =
       recalled_alike dig k states blocks reads (subst (λ (xs : List ℕ). All (λ i. Contains xs i) blocks) (sym are) (all_among blocks))
+
+length_judged : (dig : List ℕ → List ℕ) (k : Facts) (reads : List BlockRead) (states : List BlockState) → length (judged dig k false reads states) ≡ length states
+length_judged dig k [] states = refl
+length_judged dig k (read ∷ reads) states = length_judged dig k reads (after_read dig k false read states) ∙ length-read dig k read states
 
 -- ---- calls of a file's device
 
@@ -139,6 +144,7 @@ module _ {D H : Type 0} (history : D → History) (honest : D → Type 0) (fault
     pub restores : (s : EngineState) → s.trees ≡ trees → s.files ≡ map file_of slots
         → RestoresFile dig hints file s calls (record s { files = map file_of (slice_set slots file after) })
     pub named : tree_and_length after ≡ tree_and_length slot
+    pub sized : block_total after ≡ block_total slot
 
   module _ (slots : List (Slot D H)) (file : ℕ) {slot : Slot D H} (at : slice_get slots file ≡ Some slot) where
     empty_one : slot.store ≡ None → RestoresOne slots file slot slot
@@ -152,6 +158,7 @@ module _ {D H : Type 0} (history : D → History) (honest : D → Type 0) (fault
               (ap (λ (o : Option (StoreView D)). option_map_or (λ store. store.states) o []) none) refl
               (ap (λ (xs : List (Slot D H)). record s { files = map file_of xs }) same ∙ ap (λ (fs : List FileState). record s { files = fs }) (sym files_are));
           named = refl;
+          sized = refl;
         }
 
     module _ {store : StoreView D} {k : Facts} (of : HasStore trees slot store k) (missing : store.states ≡ new_states store.file_length) {after : Slot D H}
@@ -216,6 +223,8 @@ module _ {D H : Type 0} (history : D → History) (honest : D → Type 0) (fault
         restores = λ s trees_are files_are. restored_by s trees_are files_are store.states refl;
         named = ap (λ (x : Slot D H). tree_and_length x) read.changed ∙ ap (λ n. (slot.tree, Some n)) read.judged.same_file
             ∙ ap (λ (o : Option (StoreView D)). (slot.tree, option_map (λ store. store.file_length) o)) (sym of.has);
+        sized = ap (λ (x : Slot D H). block_total x) read.changed ∙ ap (λ (xs : List BlockState). length xs) states_then ∙ length_judged dig k read.reads store.states
+            ∙ ap (λ (o : Option (StoreView D)). length (option_map_or (λ store. store.states) o [])) (sym of.has);
       }
 
     one_file : HasTree trees (tree_and_length slot) → ((store : StoreView D) → slot.store ≡ Some store → store.states ≡ new_states store.file_length)
@@ -299,18 +308,26 @@ module _ {D H : Type 0} (history : D → History) (honest : D → Type 0) (fault
           let all = restores_from (length old) 0 (omega arith) in
           record { calls = all.calls; made = all.made; restores = all.restores }
 
-      named_by : (i : ℕ) (o : Option (Slot D H)) → slice_get old i ≡ o → option_map tree_and_length (slice_get new i) ≡ option_map tree_and_length o
-      named_by i None none = elim (cases_lt i (length old)) [
+      alike_by : {X : Type 0} (f : Slot D H → X) → ((slots : List (Slot D H)) (file : ℕ) {slot after : Slot D H} → RestoresOne slots file slot after → f after ≡ f slot)
+          → (i : ℕ) (o : Option (Slot D H)) → slice_get old i ≡ o → option_map f (slice_get new i) ≡ option_map f o
+      alike_by f same i None none = elim (cases_lt i (length old)) [
         | inl lt ↦ absurd (let slot = get_some old i lt in let clash = sym none ∙ slot.1 in cc)
-        | inr past ↦ ap (option_map tree_and_length) (slice_get_past new i (omega (arith, past, size)))
+        | inr past ↦ ap (option_map f) (slice_get_past new i (omega (arith, past, size)))
       ]
-      named_by i (Some slot) at =
+      alike_by f same i (Some slot) at =
           let after = after_of i at in
-          ap (option_map tree_and_length) after.1 ∙ ap (λ x. Some x) (one_of old i at at).named
+          ap (option_map f) after.1 ∙ ap (λ x. Some x) (same old i (one_of old i at at))
+
+      alike : {X : Type 0} (f : Slot D H → X) → ((slots : List (Slot D H)) (file : ℕ) {slot after : Slot D H} → RestoresOne slots file slot after → f after ≡ f slot)
+          → map f new ≡ map f old
+      alike f same = same_lists (map f new) (map f old)
+          (λ i. slice_get-map f new i ∙ alike_by f same i (slice_get old i) refl ∙ sym (slice_get-map f old i))
 
       pub slots_kept : map tree_and_length new ≡ map tree_and_length old
-      slots_kept = same_lists (map tree_and_length new) (map tree_and_length old)
-          (λ i. slice_get-map tree_and_length new i ∙ named_by i (slice_get old i) refl ∙ sym (slice_get-map tree_and_length old i))
+      slots_kept = alike (λ slot. tree_and_length slot) (λ slots file one. one.named)
+
+      pub sizes_kept : map block_total new ≡ map block_total old
+      sizes_kept = alike (λ slot. block_total slot) (λ slots file one. one.sized)
 
 -- ---- slot after slot
 

@@ -15,6 +15,10 @@ use Rattle.bt_state.specs.declared.slot.Slot.{Slot}
 abbrev pub tree_and_length : {D H : Type 0} → Slot D H → ℕ × Option ℕ
 tree_and_length slot = (slot.tree, option_map (λ store. store.file_length) slot.store)
 
+-- how many blocks it has
+abbrev pub block_total : {D H : Type 0} → Slot D H → ℕ
+block_total slot = length (file_of slot).states
+
 -- the file's tree is one of these, and of a file as long
 abbrev pub HasTree : List Facts → ℕ × Option ℕ → Type 0
 HasTree trees named = (n : ℕ) → named.1 ≡ Some n

@@ -1,7 +1,7 @@
 //! The blocks that wait are read.
 ghost use Rattle.std.specs.Prelude.{◌≡◌, ℕ, Some, map, slice_get};
 ghost use Rattle.bt_resume.specs.LogText.{hints_in};
-ghost use Rattle.bt_recall.specs.Restoring.{tree_and_length, HasTree, HaveTrees, AreMissing, RestoresSlots};
+ghost use Rattle.bt_recall.specs.Restoring.{tree_and_length, block_total, HasTree, HaveTrees, AreMissing, RestoresSlots};
 ghost use Rattle.bt_recall.specs.ReadsSteps.{IsSettled};
 
 use crate::marks::recall_marks;
@@ -24,6 +24,7 @@ pub fn restore_files<D: Disk + Drop, H: NodeHash>(
     ensures restores { RestoresSlots D.history D.honest D.faults H.digest (hints_in hints.now) trees.now
         slots.old slots.new }
     ensures kept { map tree_and_length slots.new ≡ map tree_and_length slots.old }
+    ensures sizes { map block_total slots.new ≡ map block_total slots.old }
 {
     recall_marks(slots, trees, hints);
     settle_files(slots, trees);
