@@ -1,5 +1,5 @@
 -- What the functions of one message do is what is said of an event that was handled.
-use Rattle.bt_machine.proofs.Base.{[], ◌≡◌, ℕ, ◌<◌, inl, inr, List, length, Option, Some, Ok, Err, Result, refl, sym, ap, ◌∙◌, subst, arith, slice_get, length-map, History, PeerKey, WireEvent}
+use Rattle.bt_machine.proofs.Base.{[], ◌≡◌, ℕ, ◌<◌, inl, inr, true, List, length, Option, Some, Ok, Err, Result, refl, sym, ap, ◌∙◌, subst, arith, slice_get, length-map, History, PeerKey, WireEvent}
 use Rattle.std.specs.Prelude.{IfOk, IfErr}
 use Rattle.std.proofs.lemmas.Bool.{cases_eq}
 use Rattle.bt_machine.specs.declared.error.EngineError.{EngineError}
@@ -16,7 +16,7 @@ use Rattle.bt_state.specs.declared.parts.Parts.{Parts}
 use Rattle.bt_state.proofs.DeviceCalls.{have_none}
 use Rattle.bt_state.proofs.Lists.{get_mapped}
 use Rattle.bt_state.proofs.PeerLists.{keys_apart}
-use Rattle.bt_engine.specs.EventSteps.{effect_of, IsHandled}
+use Rattle.bt_engine.specs.EventSteps.{proofs_in, effect_of, IsHandled}
 use Rattle.bt_engine.specs.declared.event.Handled.{Handled}
 
 pub if_ok : {A E : Type 0} (P Q : A → Type 0) (r : Result A E) → IfOk r P → ((x : A) → P x → Q x) → IfOk r Q
@@ -33,14 +33,15 @@ module _ {D H : Type 0} (history : D → History) (honest : D → Type 0) (fault
   no_calls same =
       subst (λ (ds : List (Option D)). HaveCalls history honest faults (disks_of old) [] ds) (sym same) (have_none history honest faults (disks_of old))
 
-  pub handled_by : (i : ℕ) (event : WireEvent) (handled : Handled) (calls : DeviceCalls) (proofs : List Hint) → i < length old.peers.items
+  pub handled_by : (i : ℕ) (event : WireEvent) (handled : Handled) (calls : DeviceCalls) (proofs : List Hint)
+      → ((state_of old).logged ≡ true → proofs ≡ proofs_in handled) → i < length old.peers.items
       → HaveCalls history honest faults (disks_of old) calls (disks_of mid)
       → ((p : PeerState) → slice_get (state_of old).peers i ≡ Some p
       → Handles dig (state_of old) i p event calls (effect_of p handled proofs) (state_of mid))
       → IsHandled history honest faults dig old i event handled mid
-  handled_by i event handled calls proofs lt made handles =
+  handled_by i event handled calls proofs kept lt made handles =
       let p = get_some (state_of old).peers i (omega (arith, length-map old.peers.items (peer_of old.book))) in
-      record { peer = p.0; calls = calls; proofs = proofs; here = p.1; made = made; handles = handles p.0 p.1 }
+      record { peer = p.0; calls = calls; proofs = proofs; here = p.1; kept = kept; made = made; handles = handles p.0 p.1 }
 
 -- the peer that is lost is the one that stands there
 pub lost_at : {D H : Type 0} (parts : Parts D H) (i : ℕ) {p : Peer} {r : Result (Unit {0}) EngineError} {new : EngineState} → IsTied parts

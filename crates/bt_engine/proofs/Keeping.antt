@@ -1,11 +1,12 @@
 -- What holds of the parts of an engine holds after an event.
-use Rattle.std.proofs.Common.{[], ◌≡◌, List, ℕ, Option, refl, subst, sym}
+use Rattle.std.proofs.Common.{[], ◌≡◌, List, ℕ, Option, Some, None, option_map, refl, subst, sym}
 use Rattle.bt_disk.specs.History.{History}
 use Rattle.bt_meta.specs.Torrent.{Metainfo, IsLawful}
 use Rattle.bt_machine.specs.declared.event.Event.{Event}
 use Rattle.bt_machine.specs.declared.event.Answer.{Answer}
 use Rattle.bt_machine.specs.Devices.{DeviceCalls, HaveCalls}
-use Rattle.bt_machine.specs.LogCalls.{no_calls, on_devices}
+use Rattle.bt_resume.specs.ResumeLog.{LogView}
+use Rattle.bt_machine.specs.LogCalls.{LogCall, HaveLogCalls, no_calls, on_devices}
 use Rattle.bt_machine.specs.Frames.{StepKeepsSparse}
 use Rattle.bt_machine.specs.Law.{StepKeepsRooted}
 use Rattle.bt_machine.specs.Orderly.{StepKeepsOrder}
@@ -13,28 +14,48 @@ use Rattle.bt_machine.specs.Shape.{IsShaped, StepKeepsShape}
 use Rattle.bt_machine.specs.Sound.{StepKeepsSound}
 use Rattle.bt_machine.specs.Step.{Step}
 use Rattle.bt_machine.specs.View.{StepsTo}
-use Rattle.bt_state.specs.Parts.{state_of, disks_of}
+use Rattle.bt_state.specs.Parts.{state_of, disks_of, log_of}
 use Rattle.bt_state.specs.Ties.{IsTied}
+use Rattle.bt_state.specs.declared.open_log.OpenLog.{OpenLog}
 use Rattle.bt_state.specs.declared.parts.Parts.{Parts}
 use Rattle.bt_state.proofs.DeviceCalls.{have_none}
 use Rattle.bt_engine.specs.Kept.{view_of, IsKept}
 
 module _ {D H : Type 0} (history : D → History) (honest : D → Type 0) (faults : D → ℕ) (dig : List ℕ → List ℕ)
     (old new : Parts D H) (event : Event) (answer : Answer) where
+  abbrev logs_by : Option (LogView D) → List LogCall → Option (LogView D) → Type 0
+  logs_by before calls after = HaveLogCalls history honest faults before calls after
+
+  -- the log was not called
+  not_called : (log : Option (LogView D)) → logs_by log [] log
+  not_called None = refl
+  not_called (Some log) = refl
+
+  log_same : log_of new ≡ log_of old → logs_by (log_of old) [] (log_of new)
+  log_same same = subst (λ (log : Option (LogView D)). logs_by (log_of old) [] log) (sym same) (not_called (log_of old))
+
+  -- an engine gets no log
+  none_still : (before after : Option (OpenLog D)) (calls : List LogCall) → before ≡ None
+      → logs_by (option_map (λ open. open.log) before) calls (option_map (λ open. open.log) after) → after ≡ None
+  none_still before None calls none have = refl
+  none_still before (Some open) calls none have =
+      absurd (subst (λ (log : Option (OpenLog D)). logs_by (option_map (λ open. open.log) log) calls (Some open.log)) none have)
+
   -- an event that calls no device
-  pub steps_without : Step dig (state_of old) event no_calls answer (state_of new) → disks_of new ≡ disks_of old
+  pub steps_without : Step dig (state_of old) event no_calls answer (state_of new) → disks_of new ≡ disks_of old → log_of new ≡ log_of old
       → StepsTo history honest faults dig (view_of old) event answer (view_of new)
-  steps_without step devices = record {
+  steps_without step devices log = record {
     calls = no_calls;
     step = step;
     made = subst (λ (ds : List (Option D)). HaveCalls history honest faults (disks_of old) [] ds) (sym devices) (have_none history honest faults (disks_of old));
-    logged = refl;
+    logged = log_same log;
   }
 
   -- an event that calls devices alone
   pub steps_with : (calls : DeviceCalls) → Step dig (state_of old) event (on_devices calls) answer (state_of new)
-      → HaveCalls history honest faults (disks_of old) calls (disks_of new) → StepsTo history honest faults dig (view_of old) event answer (view_of new)
-  steps_with calls step made = record { calls = on_devices calls; step = step; made = made; logged = refl }
+      → HaveCalls history honest faults (disks_of old) calls (disks_of new) → log_of new ≡ log_of old
+      → StepsTo history honest faults dig (view_of old) event answer (view_of new)
+  steps_with calls step made log = record { calls = on_devices calls; step = step; made = made; logged = log_same log }
 
   pub kept_after : StepKeepsShape dig → StepKeepsOrder dig → StepKeepsSparse dig → StepKeepsRooted dig → StepKeepsSound history honest faults dig
       → IsKept history honest dig old → StepsTo history honest faults dig (view_of old) event answer (view_of new)
@@ -43,6 +64,7 @@ module _ {D H : Type 0} (history : D → History) (honest : D → Type 0) (fault
     digest = kept.digest;
     lawful = subst (λ (t : Metainfo). IsLawful t.piece_length t.files) (sym same) kept.lawful;
     tied = tied;
+    unlogged = none_still old.log new.log s.calls.log kept.unlogged s.logged;
     shaped = subst (λ (t : Metainfo). IsShaped t (state_of new)) (sym same) (shape old.torrent (state_of old) (state_of new) event s.calls answer kept.shaped s.step);
     orderly = order (state_of old) (state_of new) event s.calls answer s.step kept.orderly;
     sparse = sparse (state_of old) (state_of new) event s.calls answer kept.lawful s.step kept.sparse;

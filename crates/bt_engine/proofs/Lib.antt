@@ -1,3 +1,4 @@
+pub mod Pending
 pub mod Keeping
 pub mod MarkNotes
 pub mod NewWholes

@@ -1,5 +1,6 @@
 pub mod Kept
 pub mod NewsSteps
+pub mod PendingSteps
 pub mod RoomSteps
 pub mod EventSteps
 pub mod NextSteps

@@ -36,6 +36,7 @@ pub record TellMarks (old new : EngineState) (notes : List Note) : Type 0 where
   pub unmarked : (b : BlockId) → Contains notes (NowMarked b) → IsUnmarked old b
   pub told : (b : BlockId) → state_at new b ≡ Some Marked → state_at old b ≢ Some Marked
       → Contains notes (NowMarked b)
+  pub marked : (b : BlockId) → Contains notes (NowMarked b) → state_at new b ≡ Some Marked
 
 -- ---- their pieces and files
 

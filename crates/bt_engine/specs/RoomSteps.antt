@@ -1,5 +1,5 @@
 -- Room for what a wire event sends and notes.
-use Rattle.std.specs.Prelude.{[], ◌≡◌, ℕ, ◌+◌, ◌*◌, vec_capacity}
+use Rattle.std.specs.Prelude.{[], ◌≡◌, ℕ, ◌+◌, ◌*◌, length, vec_capacity}
 use Rattle.bt_book.specs.Book.{max_askers}
 use Rattle.bt_wire.specs.declared.message.Message.{Message as Sent}
 use Rattle.bt_wire.specs.declared.message.Message.TheVariants.{Request, Piece, Hashes}
@@ -8,6 +8,7 @@ use Rattle.bt_wire.specs.declared.event.WireEvent.TheVariants.{Message}
 use Rattle.bt_follow_up.specs.AfterEvent.{max_frames}
 use Rattle.bt_state.specs.declared.parts.Parts.{Parts}
 use Rattle.bt_wire_events.specs.Hashes.{IsNoteRoom}
+use Rattle.bt_engine.specs.PendingSteps.{HasHintRoom}
 use Rattle.bt_engine.specs.declared.room.Room.{Room}
 
 -- a message has so many notes at most: hashes as many as blocks may have waited for them
@@ -29,3 +30,8 @@ pub record HasRoom (bound peers : ℕ) (room : Room) : Type 0 where
   pub nothing_noted : room.notes.items ≡ []
   pub send_room : vec_capacity room.send ≡ bound * peers + max_askers + max_frames
   pub note_room : vec_capacity room.notes ≡ bound + bound
+
+-- the same for such an event, and with a log for its hints: a proof and a mark for each note
+abbrev pub HasRoomFor : {D H : Type 0} → Parts D H → WireEvent → Room → Type 0
+HasRoomFor parts event room = (bound : ℕ) × IsNoteBound parts event bound
+    × HasRoom bound (length parts.peers.items) room × HasHintRoom (bound + 1) parts.log

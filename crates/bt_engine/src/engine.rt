@@ -137,7 +137,7 @@ impl<D: Disk + Drop, H: NodeHash> Engine<D, H> {
             self.old (Event.Adopt file) (Answer.Adopted result) self.new }
     {
         steps_keep_laws::<D, H>(self.hash);
-        bt_adoption::adopt(&mut self.parts, file)
+        bt_adoption::adopt(self.alloc, &mut self.parts, file)
     }
 
     /// Syncs all devices, in the order of files, up to the first that fails.

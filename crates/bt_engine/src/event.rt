@@ -1,21 +1,24 @@
 //! A wire event of a peer: what it does by itself, and what follows from it.
-ghost use Rattle.std.specs.Prelude.{◌≡◌, ◌+◌, ◌≤◌, ◌<◌, ◌++◌, ℕ, Some, IfOk, IfErr, length, vec_len, vec_capacity};
+ghost use Rattle.std.specs.Prelude.{◌≡◌, ◌+◌, ◌≤◌, ◌<◌, ◌++◌, ℕ, Some, IfOk, IfErr, IfSome, length, vec_len, vec_capacity};
 ghost use Rattle.bt_book.specs.Book.{max_askers};
+ghost use Rattle.bt_resume.specs.Hint.{CanBeRead};
 ghost use Rattle.bt_machine.specs.State.{EngineState, PeerState};
 ghost use Rattle.bt_machine.specs.Devices.{DeviceCalls, HaveCalls};
 ghost use Rattle.bt_machine.specs.Next.{without_peer};
 ghost use Rattle.bt_machine.specs.Orderly.{IsOrderly};
 ghost use Rattle.bt_machine.specs.Shape.{IsShaped};
-ghost use Rattle.bt_state.specs.Parts.{state_of, disks_of};
+ghost use Rattle.bt_state.specs.Parts.{state_of, disks_of, log_of};
 ghost use Rattle.bt_state.specs.Ties.{IsTied};
 ghost use Rattle.bt_wire_events.specs.Message.{IsPeerEvent};
 ghost use Rattle.bt_wire_events.specs.Hashes.{IsNoteRoom};
 ghost use Rattle.bt_block_events.specs.Piece.{cancels_to};
 ghost use Rattle.bt_engine.specs.NewsSteps.{TellMarks};
-ghost use Rattle.bt_engine.specs.RoomSteps.{IsNoteBound, HasRoom};
-ghost use Rattle.bt_engine.specs.EventSteps.{sent_by, notes_in, note_count, reply_count, IsHandled, FollowsReply, GoesOn, closed_output};
+ghost use Rattle.bt_engine.specs.RoomSteps.{IsNoteBound, HasRoom, HasRoomFor};
+ghost use Rattle.bt_engine.specs.PendingSteps.{HasHintRoom};
+ghost use Rattle.bt_engine.specs.EventSteps.{sent_by, notes_in, note_count, reply_count, IsReadable, IsHandled, FollowsReply, GoesOn, closed_output};
 
 use crate::news::{announce_pieces, note_complete_files};
+use crate::pending::record_hints;
 use crate::room::{Room, reserve};
 use arrayvec::ArrayVec;
 use bt_block_events::{Effect, Served, take_piece, take_request};
@@ -24,6 +27,7 @@ use bt_disk::Disk;
 use bt_follow_up::follow_up;
 use bt_hashreq::HashKey;
 use bt_machine::{Frame, Note, Output, Why};
+use bt_resume::Hint;
 use bt_state::Parts;
 use bt_tree::NodeHash;
 use bt_wire::{Ask, Bytes, Message, WireEvent};
@@ -50,11 +54,12 @@ pub(crate) enum Reply {
 pub(crate) enum Handled {
     /// The peer is closed.
     Closed(Why),
-    Stays(Reply),
+    /// The peer stays. Where there is a log, the hint is the proof that the event brought for it.
+    Stays(Reply, Option<Hint>),
 }
 
 /// Takes an event that came from the peer at `index`, to the end. Errors: out of memory; nothing changed
-/// then.
+/// then, but that there may be more room for hints.
 pub(crate) fn take_event<D: Disk + Drop, H: NodeHash>(
     alloc: Global,
     parts: &mut Parts<D, H>,
@@ -69,14 +74,43 @@ pub(crate) fn take_event<D: Disk + Drop, H: NodeHash>(
     ensures step { IfOk result (λ out. (calls : DeviceCalls)
         × HaveCalls D.history D.honest D.faults (disks_of parts.old) calls (disks_of parts.new)
         × GoesOn H.digest index event.now calls out (state_of parts.old) (state_of parts.new)) }
-    ensures kept { IfErr result (λ _. parts.new ≡ parts.old) }
+    ensures state { IfErr result (λ _. state_of parts.new ≡ state_of parts.old) }
+    ensures devices { IfErr result (λ _. disks_of parts.new ≡ disks_of parts.old) }
+    ensures peers { IfErr result (λ _. parts.new.peers ≡ parts.old.peers) }
+    ensures log { log_of parts.new ≡ log_of parts.old }
     ensures torrent { parts.new.torrent ≡ parts.old.torrent }
     ensures tied { IsTied parts.new }
 {
     let room = reserve(alloc, parts, event)?;
+    take_in_room(alloc, parts, index, event, room)
+}
+
+/// The same, where there is room for what the event sends, notes and leaves for the log. Errors: out of
+/// memory; nothing changed then.
+fn take_in_room<D: Disk + Drop, H: NodeHash>(
+    alloc: Global,
+    parts: &mut Parts<D, H>,
+    index: usize,
+    event: &WireEvent,
+    room: Room,
+) -> Result<Output, AllocError>
+    requires tied { IsTied parts.old }
+    requires shaped { IsShaped parts.old.torrent (state_of parts.old) }
+    requires orderly { IsOrderly (state_of parts.old) }
+    requires inside { index < vec_len parts.old.peers }
+    requires there { index < length parts.old.peers.items }
+    requires room { HasRoomFor parts.old event.now room }
+    ensures step { IfOk result (λ out. (calls : DeviceCalls)
+        × HaveCalls D.history D.honest D.faults (disks_of parts.old) calls (disks_of parts.new)
+        × GoesOn H.digest index event.now calls out (state_of parts.old) (state_of parts.new)) }
+    ensures kept { IfErr result (λ _. parts.new ≡ parts.old) }
+    ensures log { log_of parts.new ≡ log_of parts.old }
+    ensures torrent { parts.new.torrent ≡ parts.old.torrent }
+    ensures tied { IsTied parts.new }
+{
     match handle(alloc, parts, index, event)? {
         Handled::Closed(why) => Ok(close(alloc, parts, index, why)),
-        Handled::Stays(reply) => Ok(keep(parts, index, reply, room)),
+        Handled::Stays(reply, proof) => Ok(keep(parts, index, reply, proof, room)),
     }
 }
 
@@ -94,6 +128,7 @@ pub(crate) fn close<D: Disk + Drop, H: NodeHash>(
     ensures gone { state_of parts.new ≡ without_peer index (state_of parts.old) }
     ensures devices { disks_of parts.new ≡ disks_of parts.old }
     ensures torrent { parts.new.torrent ≡ parts.old.torrent }
+    ensures log { parts.new.log ≡ parts.old.log }
     ensures tied { IsTied parts.new }
 {
     drop_peer(parts, index);
@@ -112,6 +147,7 @@ pub(crate) fn drop_peer<D: Disk + Drop, H: NodeHash>(parts: &mut Parts<D, H>, in
     ensures gone { state_of parts.new ≡ without_peer index (state_of parts.old) }
     ensures devices { disks_of parts.new ≡ disks_of parts.old }
     ensures torrent { parts.new.torrent ≡ parts.old.torrent }
+    ensures log { parts.new.log ≡ parts.old.log }
     ensures tied { IsTied parts.new }
 {
     let key = parts.peers[index].key;
@@ -119,12 +155,13 @@ pub(crate) fn drop_peer<D: Disk + Drop, H: NodeHash>(parts: &mut Parts<D, H>, in
 }
 
 /// What follows where the peer at an index stays: it is sent its answer, or others cancels of the block that
-/// it sent; all are sent haves of the pieces that have become whole; and then the peer is sent what follows
-/// for it.
+/// it sent; all are sent haves of the pieces that have become whole; the proof and the marks wait for the
+/// log; and then the peer is sent what follows for it.
 fn keep<D: Disk + Drop, H: NodeHash>(
     parts: &mut Parts<D, H>,
     index: usize,
     reply: Reply,
+    proof: Option<Hint>,
     room: Room,
 ) -> Output
     requires tied { IsTied parts.old }
@@ -133,12 +170,17 @@ fn keep<D: Disk + Drop, H: NodeHash>(
     requires there { index < length parts.old.peers.items }
     requires told { (old : EngineState) × TellMarks old (state_of parts.old) (notes_in reply) }
     requires room { (bound : ℕ) × (reply_count reply ≤ bound)
-        × HasRoom bound (length parts.old.peers.items) room }
-    ensures follows { FollowsReply H.digest (state_of parts.old) index reply result (state_of parts.new) }
+        × HasRoom bound (length parts.old.peers.items) room × HasHintRoom (bound + 1) parts.old.log }
+    requires readable { IfSome proof CanBeRead }
+    ensures follows { FollowsReply H.digest (state_of parts.old) index reply proof result
+        (state_of parts.new) }
     ensures devices { disks_of parts.new ≡ disks_of parts.old }
+    ensures log { log_of parts.new ≡ log_of parts.old }
     ensures torrent { parts.new.torrent ≡ parts.old.torrent }
     ensures tied { IsTied parts.new }
 {
+    // What every torrent keeps to.
+    parts.torrent.keeps_laws();
     let Room {
         mut send,
         mut notes,
@@ -147,6 +189,7 @@ fn keep<D: Disk + Drop, H: NodeHash>(
     put_reply(key, reply, &mut send, &mut notes);
     announce_pieces(parts, notes.as_slice(), &mut send);
     note_complete_files(parts, &mut notes);
+    record_hints(parts, proof, &notes);
     follow_up(parts, index, &mut send);
     Output {
         send,
@@ -207,8 +250,10 @@ fn handle<D: Disk + Drop, H: NodeHash>(
         parts.old index event.now handled parts.new) }
     ensures few { IfOk result (λ handled. (bound : ℕ) → IsNoteBound parts.old event.now bound
         → note_count handled ≤ bound) }
+    ensures readable { IfOk result IsReadable }
     ensures kept { IfErr result (λ _. parts.new ≡ parts.old) }
     ensures torrent { parts.new.torrent ≡ parts.old.torrent }
+    ensures log { parts.new.log ≡ parts.old.log }
     ensures tied { IsTied parts.new }
 {
     match event {
@@ -221,7 +266,7 @@ fn handle<D: Disk + Drop, H: NodeHash>(
             } => Ok(handle_piece(parts, index, *piece, *begin, bytes)),
             Message::HashRequest(key) => {
                 let message = take_hash_request(alloc, parts, key)?;
-                Ok(Handled::Stays(Reply::Sends(message)))
+                Ok(Handled::Stays(Reply::Sends(message), None))
             }
             Message::Hashes(key, digests) => handle_hashes(alloc, parts, index, key, digests),
             _ => Ok(handle_own(parts, index, event)),
@@ -244,12 +289,14 @@ fn handle_own<D: Disk + Drop, H: NodeHash>(
     ensures handled { IsHandled D.history D.honest D.faults H.digest parts.old index event.now result
         parts.new }
     ensures few { note_count result ≡ 0 }
+    ensures readable { IsReadable result }
     ensures torrent { parts.new.torrent ≡ parts.old.torrent }
+    ensures log { parts.new.log ≡ parts.old.log }
     ensures tied { IsTied parts.new }
 {
     match take_peer_event(parts, index, event) {
         Some(why) => Handled::Closed(why),
-        None => Handled::Stays(Reply::Nothing),
+        None => Handled::Stays(Reply::Nothing, None),
     }
 }
 
@@ -268,12 +315,14 @@ fn handle_piece<D: Disk + Drop, H: NodeHash>(
     ensures handled { IsHandled D.history D.honest D.faults H.digest parts.old index
         (WireEvent.Message (Message.Piece piece begin bytes.now)) result parts.new }
     ensures few { note_count result ≤ 1 }
+    ensures readable { IsReadable result }
     ensures torrent { parts.new.torrent ≡ parts.old.torrent }
+    ensures log { parts.new.log ≡ parts.old.log }
     ensures tied { IsTied parts.new }
 {
     match take_piece(parts, index, piece, begin, bytes.as_slice()) {
-        Effect::Noted(note) => Handled::Stays(Reply::Noted(note)),
-        Effect::Stored(note, ask, others) => Handled::Stays(Reply::Stored(note, ask, others)),
+        Effect::Noted(note) => Handled::Stays(Reply::Noted(note), None),
+        Effect::Stored(note, ask, others) => Handled::Stays(Reply::Stored(note, ask, others), None),
         Effect::Closed(why) => Handled::Closed(why),
     }
 }
@@ -292,19 +341,24 @@ fn handle_request<D: Disk + Drop, H: NodeHash>(
     ensures handled { IfOk result (λ handled. IsHandled D.history D.honest D.faults H.digest parts.old index
         (WireEvent.Message (Message.Request ask)) handled parts.new) }
     ensures few { IfOk result (λ handled. note_count handled ≤ 1) }
+    ensures readable { IfOk result IsReadable }
     ensures kept { IfErr result (λ _. parts.new ≡ parts.old) }
     ensures torrent { parts.new.torrent ≡ parts.old.torrent }
+    ensures log { parts.new.log ≡ parts.old.log }
     ensures tied { IsTied parts.new }
 {
     match take_request(alloc, parts, index, ask)? {
-        Served::Nothing => Ok(Handled::Stays(Reply::Nothing)),
+        Served::Nothing => Ok(Handled::Stays(Reply::Nothing, None)),
         Served::Closed(why) => Ok(Handled::Closed(why)),
-        Served::Sent(bytes) => Ok(Handled::Stays(Reply::Sends(Message::Piece {
-            piece: ask.piece,
-            begin: ask.begin,
-            bytes: Bytes::new(bytes),
-        }))),
-        Served::Found(note) => Ok(Handled::Stays(Reply::Noted(note))),
+        Served::Sent(bytes) => {
+            let message = Message::Piece {
+                piece: ask.piece,
+                begin: ask.begin,
+                bytes: Bytes::new(bytes),
+            };
+            Ok(Handled::Stays(Reply::Sends(message), None))
+        }
+        Served::Found(note) => Ok(Handled::Stays(Reply::Noted(note), None)),
     }
 }
 
@@ -324,12 +378,14 @@ fn handle_hashes<D: Disk + Drop, H: NodeHash>(
         (WireEvent.Message (Message.Hashes key.now digests.now)) handled parts.new) }
     ensures few { IfOk result (λ handled. (bound : ℕ) → IsNoteRoom parts.old key.now bound
         → note_count handled ≤ bound) }
+    ensures readable { IfOk result IsReadable }
     ensures kept { IfErr result (λ _. parts.new ≡ parts.old) }
     ensures torrent { parts.new.torrent ≡ parts.old.torrent }
+    ensures log { parts.new.log ≡ parts.old.log }
     ensures tied { IsTied parts.new }
 {
     match take_hashes(alloc, parts, index, key, digests.as_slice())? {
         Learnt::Refused(why) => Ok(Handled::Closed(why)),
-        Learnt::Settled(notes) => Ok(Handled::Stays(Reply::Settled(notes))),
+        Learnt::Settled(notes, proof) => Ok(Handled::Stays(Reply::Settled(notes), proof)),
     }
 }

@@ -28,6 +28,7 @@ pub(crate) fn connect<D: Disk + Drop, H: NodeHash>(
     ensures step { StepConnect (state_of parts.old) result (state_of parts.new) }
     ensures devices { disks_of parts.new ≡ disks_of parts.old }
     ensures torrent { parts.new.torrent ≡ parts.old.torrent }
+    ensures log { parts.new.log ≡ parts.old.log }
     ensures tied { IsTied parts.new }
 {
     let Ok(send) = Vec::with_capacity(alloc, 2) else {

@@ -7,6 +7,7 @@ mod event;
 mod greeting;
 mod news;
 mod next;
+mod pending;
 mod room;
 mod run;
 

@@ -5,7 +5,7 @@ ghost use Rattle.bt_machine.specs.Devices.{DeviceCalls, HaveCalls};
 ghost use Rattle.bt_machine.specs.Next.{StepNext};
 ghost use Rattle.bt_machine.specs.Orderly.{IsOrderly};
 ghost use Rattle.bt_machine.specs.Shape.{IsShaped};
-ghost use Rattle.bt_state.specs.Parts.{state_of, disks_of};
+ghost use Rattle.bt_state.specs.Parts.{state_of, disks_of, log_of};
 ghost use Rattle.bt_state.specs.Ties.{IsTied};
 ghost use Rattle.bt_engine.specs.NextSteps.{IsCut};
 
@@ -32,6 +32,7 @@ pub(crate) fn next<D: Disk + Drop, H: NodeHash>(
         × HaveCalls D.history D.honest D.faults (disks_of parts.old) calls (disks_of parts.new)
         × StepNext H.digest (state_of parts.old) key calls result (state_of parts.new) }
     ensures torrent { parts.new.torrent ≡ parts.old.torrent }
+    ensures log { log_of parts.new ≡ log_of parts.old }
     ensures tied { IsTied parts.new }
 {
     let Some(index) = index_of(parts, key) else {
@@ -72,6 +73,7 @@ fn next_event<D: Disk + Drop, H: NodeHash>(
         (λ was now. IsRefusal was error now) (state_of parts.new)) }
     ensures devices { disks_of parts.new ≡ disks_of parts.old }
     ensures torrent { parts.new.torrent ≡ parts.old.torrent }
+    ensures log { parts.new.log ≡ parts.old.log }
     ensures tied { IsTied parts.new }
     ensures inside { index < vec_len parts.new.peers }
     ensures there { index < length parts.new.peers.items }

@@ -1,11 +1,12 @@
 //! Room for what a wire event sends and notes. It is made before the event changes anything.
-ghost use Rattle.std.specs.Prelude.{◌^◌, ◌≤◌, ℕ, IfOk, length};
+ghost use Rattle.std.specs.Prelude.{◌≡◌, ◌^◌, ◌≤◌, IfOk};
 ghost use Rattle.bt_machine.specs.Orderly.{IsOrderly};
 ghost use Rattle.bt_machine.specs.Shape.{IsShaped};
-ghost use Rattle.bt_state.specs.Parts.{state_of};
+ghost use Rattle.bt_state.specs.Parts.{state_of, log_of};
 ghost use Rattle.bt_state.specs.Ties.{IsTied};
-ghost use Rattle.bt_engine.specs.RoomSteps.{IsNoteBound, HasRoom};
+ghost use Rattle.bt_engine.specs.RoomSteps.{IsNoteBound, HasRoomFor};
 
+use crate::pending::reserve_hints;
 use bt_book::{MAX_ASKERS, PeerKey};
 use bt_disk::Disk;
 use bt_follow_up::MAX_FRAMES;
@@ -24,22 +25,28 @@ pub(crate) struct Room {
 }
 
 /// Makes room for whatever the event sends and notes, and no more: its answer or cancels, a have to each peer
-/// that is there for each note, and what follows; its notes, and for each a complete file.
+/// that is there for each note, and what follows; its notes, and for each a complete file. With a log there
+/// is room for its hints too: a proof, and a mark for each note. Errors: out of memory, and then nothing has
+/// changed.
 pub(crate) fn reserve<D: Disk + Drop, H: NodeHash>(
     alloc: Global,
-    parts: &Parts<D, H>,
+    parts: &mut Parts<D, H>,
     event: &WireEvent,
 ) -> Result<Room, AllocError>
-    requires tied { IsTied parts.now }
-    requires shaped { IsShaped parts.now.torrent (state_of parts.now) }
-    requires orderly { IsOrderly (state_of parts.now) }
-    ensures { IfOk result (λ room. (bound : ℕ) × IsNoteBound parts.now event.now bound
-        × HasRoom bound (length parts.now.peers.items) room) }
+    requires tied { IsTied parts.old }
+    requires shaped { IsShaped parts.old.torrent (state_of parts.old) }
+    requires orderly { IsOrderly (state_of parts.old) }
+    ensures room { IfOk result (HasRoomFor parts.new event.now) }
+    ensures state { state_of parts.new ≡ state_of parts.old }
+    ensures log { log_of parts.new ≡ log_of parts.old }
+    ensures others { parts.new ≡ record parts.old { log = parts.new.log } }
+    ensures tied { IsTied parts.new }
 {
     let bound = note_bound(parts, event);
     let peers = parts.peers.as_slice().len();
     let send = Vec::with_capacity(alloc, bound * peers + MAX_ASKERS + MAX_FRAMES)?;
     let notes = Vec::with_capacity(alloc, 2 * bound)?;
+    reserve_hints(parts, bound + 1)?;
     Ok(Room { send, notes })
 }
 

@@ -12,9 +12,10 @@ use Rattle.bt_machine.specs.Recovery.{RestoresFile, empty, restored, RestoresFil
 use Rattle.bt_machine.specs.Restart.{KeepsPlaces}
 use Rattle.bt_machine.specs.Shape.{IsShaped}
 use Rattle.bt_machine.specs.Start.{IsNew}
-use Rattle.bt_state.specs.Parts.{state_of, disks_of, file_of, disk_of, peer_of}
+use Rattle.bt_state.specs.Parts.{state_of, disks_of, file_of, disk_of, peer_of, pending_of, hints_of}
 use Rattle.bt_state.specs.Ties.{IsTied, FitsFile, root_and_length}
 use Rattle.bt_state.specs.declared.peer.Peer.{Peer}
+use Rattle.bt_state.specs.declared.open_log.OpenLog.{OpenLog}
 use Rattle.bt_state.specs.declared.slot.Slot.{Slot}
 use Rattle.bt_state.specs.declared.parts.Parts.{Parts}
 use Rattle.bt_state.proofs.Lists.{get_mapped}
@@ -126,7 +127,7 @@ module _ {D H : Type 0} where
 module _ {D H : Type 0} {dig : List ℕ → List ℕ} (old : Parts D H) (slots : Vec (Slot D H)) (trees : Vec Facts) (books : Books)
     (tied : IsTied old) (shaped : IsShaped old.torrent (state_of old)) (lawful : IsLawful old.torrent.piece_length old.torrent.files)
     (are : slots.items ≡ map cleared old.slots.items) (made : AreTreesOf dig old.torrent old.first_files.items trees.items)
-    (fresh : AreNewBooks old.torrent books) where
+    (fresh : AreNewBooks old.torrent books) (none : old.log ≡ None) where
   abbrev next : Parts D H
   next = record old { slots = slots; trees = trees; unmarked = books.unmarked; known = books.known; peers = books.peers; book = books.book }
 
@@ -171,7 +172,9 @@ module _ {D H : Type 0} {dig : List ℕ → List ℕ} (old : Parts D H) (slots :
 
   state_then : state_of next ≡ begun
   unfolding begun
-  state_then = ap (λ (ps : List PeerState). record (state_of next) { peers = ps }) (ap (λ (ps : List Peer). map (peer_of books.book) ps) fresh.peers)
+  state_then =
+      ap (λ (ps : List PeerState). record (state_of next) { peers = ps }) (ap (λ (ps : List Peer). map (peer_of books.book) ps) fresh.peers)
+      ∙ ap (λ (log : Option (OpenLog D)). record (state_of next) { peers = []; pending = pending_of log; hints = hints_of log }) none
 
   pub recovers : Recovers dig (state_of old) [] [] (state_of next)
   unfolding begun

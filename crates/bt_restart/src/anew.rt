@@ -1,4 +1,4 @@
-ghost use Rattle.std.specs.Prelude.{[], ◌≡◌, IfOk, map};
+ghost use Rattle.std.specs.Prelude.{[], ◌≡◌, None, IfOk, map};
 ghost use Rattle.sha2.specs.Sha256.{sha256};
 ghost use Rattle.bt_machine.specs.LogCalls.{no_calls};
 ghost use Rattle.bt_machine.specs.Recovery.{Recovers};
@@ -30,10 +30,12 @@ pub fn restart<D: Disk + Drop, H: NodeHash>(
 ) -> Result<(), RestartError>
     requires digest { H.digest ≡ sha256 }
     requires tied { IsTied parts.old }
+    requires unlogged { parts.old.log ≡ None }
     requires shaped { IsShaped parts.old.torrent (state_of parts.old) }
     ensures step { StepRestart H.digest (state_of parts.old) no_calls result (state_of parts.new) }
     ensures devices { disks_of parts.new ≡ disks_of parts.old }
     ensures torrent { parts.new.torrent ≡ parts.old.torrent }
+    ensures log { parts.new.log ≡ parts.old.log }
     ensures tied { IsTied parts.new }
 {
     match made_anew(alloc, hash, parts) {
@@ -69,6 +71,7 @@ fn begin_again<D: Disk + Drop, H: NodeHash>(
     books: Books,
 )
     requires tied { IsTied parts.old }
+    requires unlogged { parts.old.log ≡ None }
     requires shaped { IsShaped parts.old.torrent (state_of parts.old) }
     requires trees { AreTreesOf H.digest parts.old.torrent parts.old.first_files.items trees.items }
     requires books { AreNewBooks parts.old.torrent books }
@@ -76,6 +79,7 @@ fn begin_again<D: Disk + Drop, H: NodeHash>(
     ensures places { KeepsPlaces (state_of parts.old) (state_of parts.new) }
     ensures devices { disks_of parts.new ≡ disks_of parts.old }
     ensures torrent { parts.new.torrent ≡ parts.old.torrent }
+    ensures log { parts.new.log ≡ parts.old.log }
     ensures tied { IsTied parts.new }
 {
     blocks_and_ranges_agree();

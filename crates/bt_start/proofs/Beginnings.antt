@@ -1,5 +1,5 @@
 -- An engine begins where its parts were bare and the devices are handed out.
-use Rattle.bt_machine.proofs.Base.{[], ◌≡◌, ℕ, zero, suc, ◌+◌, ◌<◌, ◌≤◌, inl, inr, Bool, true, false, List, ◌∷◌, length, map, replicate, Option, Some, None, refl, sym, ap, ◌∙◌, subst, arith, slice_get, option_map, option_map_or, option_and_then, length-map, length-replicate, cases_lt, block_count, File, Facts, BlockId, Missing, total_pieces}
+use Rattle.bt_machine.proofs.Base.{[], ◌≡◌, ℕ, zero, suc, ◌+◌, ◌<◌, ◌≤◌, inl, inr, is_some, Bool, true, false, List, ◌∷◌, length, map, replicate, Option, Some, None, refl, sym, ap, ◌∙◌, subst, arith, slice_get, option_map, option_map_or, option_and_then, length-map, length-replicate, cases_lt, block_count, File, Facts, BlockId, Missing, total_pieces}
 use Rattle.std.specs.Prelude.{◌↔◌, slice_index_or, Result, Ok, Err, OnOk}
 use Rattle.std.specs.Vec.{with_items}
 use Rattle.std.proofs.lemmas.List.{get_or_past, with_items_is}
@@ -18,10 +18,11 @@ use Rattle.bt_machine.specs.State.{EngineState, FileState}
 use Rattle.bt_machine.specs.Blocks.{state_at, piece_of, is_marked_in}
 use Rattle.bt_machine.specs.Start.{Starts, AreDevicesOf, IsNewFile, IsNew}
 use Rattle.bt_state.proofs.Lists.{get_mapped}
-use Rattle.bt_state.specs.Parts.{state_of, disks_of, file_of, disk_of, peer_of}
+use Rattle.bt_state.specs.Parts.{state_of, disks_of, file_of, disk_of, peer_of, pending_of, hints_of}
 use Rattle.bt_state.specs.Ties.{FitsTree, IsTied, root_and_length}
 use Rattle.bt_state.proofs.BlockChanges.{EachFits}
 use Rattle.bt_state.specs.declared.peer.Peer.{Peer}
+use Rattle.bt_state.specs.declared.open_log.OpenLog.{OpenLog}
 use Rattle.bt_state.specs.declared.slot.Slot.{Slot}
 use Rattle.bt_state.specs.declared.parts.Parts.{Parts}
 use Rattle.bt_start.specs.BeginningSteps.{AreNewParts, AreBareParts, HaveBegun}
@@ -245,7 +246,9 @@ module _ {D H : Type 0} {dig : List ℕ → List ℕ} (bare next : Parts D H) (i
   begins = record {
     is_new = are_new begun new_parts as_many slot_states slot_tree;
     is = ap (λ (ps : List Peer). record (state_of begun) { peers = map (peer_of bare.book) ps }) is.new.books.peers
-        ∙ ap (λ n. record (state_of begun) { peers = []; next_key = n + 1 }) is.first_key ∙ ap (λ n. record (state_of begun) { peers = []; next_key = 1; turn = n }) is.first_turn;
+        ∙ ap (λ n. record (state_of begun) { peers = []; next_key = n + 1 }) is.first_key ∙ ap (λ n. record (state_of begun) { peers = []; next_key = 1; turn = n }) is.first_turn
+        ∙ ap (λ (log : Option (OpenLog D)). record (state_of begun) { peers = []; next_key = 1; turn = 0; logged = is_some log; pending = pending_of log; hints = hints_of log })
+        is.no_log;
   }
 
   are_devices : {given : List D} → devices_in next.slots.items ≡ given → AreDevicesOf bare.torrent.files given (disks_of begun)

@@ -1,6 +1,6 @@
 -- The parts of an engine that begins, before its devices are handed out and after. No public contract cites
 -- them.
-use Rattle.std.specs.Prelude.{◌≡◌, ℕ, List, map}
+use Rattle.std.specs.Prelude.{◌≡◌, ℕ, List, map, None}
 use Rattle.bt_meta.specs.Torrent.{IsLawful}
 use Rattle.bt_machine.specs.Start.{Starts, AreDevicesOf}
 use Rattle.bt_state.specs.Parts.{state_of, disks_of}
@@ -26,12 +26,13 @@ pub record AreNewParts {D H : Type 0} (dig : List ℕ → List ℕ) (parts : Par
   pub firsts : HaveFirstFiles parts
   pub books : AreNewBooks parts.torrent (books_of parts)
 
--- no file has its device yet, and nothing came in
+-- no file has its device yet, nothing came in, and there is no log
 pub record AreBareParts {D H : Type 0} (dig : List ℕ → List ℕ) (parts : Parts D H) : Type 0 where
   pub new : AreNewParts dig parts
   pub slots : AreBareSlots parts.torrent.files (map root_and_length parts.trees.items) parts.slots.items
   pub first_key : parts.last_key ≡ 0
   pub first_turn : parts.turn ≡ 0
+  pub no_log : parts.log ≡ None
 
 -- the torrent's engine has begun, with these devices
 pub record HaveBegun {D H : Type 0} (dig : List ℕ → List ℕ) (given : List D) (parts : Parts D H)

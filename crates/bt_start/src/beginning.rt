@@ -41,6 +41,7 @@ pub fn start<D: Disk + Drop, H: NodeHash>(
     ensures answer { AnswersStart D.history D.honest D.faults H.digest torrent disks.items None
         (answer_of result) }
     ensures tied { IfOk result (λ parts. IsTied parts) }
+    ensures unlogged { IfOk result (λ parts. parts.log ≡ None) }
     ensures lawful { IfOk result (λ parts. IsLawful parts.torrent.piece_length parts.torrent.files) }
     ensures shaped { IfOk result (λ parts. IsShaped parts.torrent (state_of parts)) }
     ensures orderly { IfOk result (λ parts. IsOrderly (state_of parts)) }
@@ -99,6 +100,7 @@ fn bare_parts<D: Disk + Drop, H: NodeHash>(
         book: books.book,
         last_key: 0,
         turn: 0,
+        log: None,
         torrent,
     })
 }
@@ -113,6 +115,7 @@ fn give_devices<D: Disk + Drop, H: NodeHash>(
     requires bare { AreBareParts H.digest parts.old }
     requires enough { length disks.old.items ≡ count_of_devices parts.old.torrent.files }
     ensures torrent { parts.new.torrent ≡ parts.old.torrent }
+    ensures log { parts.new.log ≡ parts.old.log }
     ensures begun { OnOk result (HaveBegun H.digest disks.old.items parts.new) }
     ensures refused { OnErr result (disks.new.items ≡ disks.old.items) }
 {

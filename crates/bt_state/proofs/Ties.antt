@@ -1,5 +1,5 @@
 -- What ties the parts of an engine together is kept where a peer changes, comes or goes.
-use Rattle.bt_machine.proofs.Base.{◌≡◌, ℕ, ◌<◌, ◌≤◌, Bool, true, not, ◌==◌, List, length, map, filter, get_or, Some, refl, sym, ap, ◌∙◌, arith, subst, slice_get, slice_set, PeerKey, BlockId, Metainfo, max_peers, length-map, eq-eqb}
+use Rattle.bt_machine.proofs.Base.{◌≡◌, ℕ, ◌<◌, ◌≤◌, Bool, true, not, ◌==◌, List, length, map, filter, get_or, Option, Some, refl, sym, ap, ◌∙◌, arith, subst, slice_get, slice_set, PeerKey, BlockId, Metainfo, max_peers, length-map, eq-eqb}
 use Rattle.std.specs.Prelude.{count_by}
 use Rattle.std.specs.Vec.{with_item, vec_capacity}
 use Rattle.std.specs.List.{remove}
@@ -15,6 +15,7 @@ use Rattle.bt_book.proofs.Once.{filter_one}
 use Rattle.bt_state.specs.Parts.{state_of, peer_of, file_of, IsPeerAt, LacksPeer}
 use Rattle.bt_state.specs.Ties.{AreUnmarked, KnowsLeaves, IsTied}
 use Rattle.bt_state.specs.declared.peer.Peer.{Peer}
+use Rattle.bt_state.specs.declared.open_log.OpenLog.{OpenLog}
 use Rattle.bt_state.specs.declared.slot.Slot.{Slot}
 use Rattle.bt_state.specs.declared.parts.Parts.{Parts}
 use Rattle.bt_state.proofs.Books.{counted_keys, filtered_keys}
@@ -71,6 +72,21 @@ tied_known parts pieces tied knows = record {
   firsts = tied.firsts;
   unmarked = record { size = tied.unmarked.size; each = tied.unmarked.each };
   known = record { size = knows.size; each = knows.each };
+}
+
+-- nothing that is tied speaks of the log
+pub tied_logged : {D H : Type 0} (parts : Parts D H) (log : Option (OpenLog D)) → IsTied parts → IsTied (record parts { log = log })
+tied_logged parts log tied = record {
+  joined = tied.joined;
+  in_order = tied.in_order;
+  room = tied.room;
+  wanted = tied.wanted;
+  ranged = tied.ranged;
+  count = tied.count;
+  each = tied.each;
+  firsts = tied.firsts;
+  unmarked = record { size = tied.unmarked.size; each = tied.unmarked.each };
+  known = record { size = tied.known.size; each = tied.known.each };
 }
 
 -- the peer that was found is the one that is read there

@@ -96,7 +96,7 @@ has_file f [] (suc file) i lt = absurd (omega arith)
 has_file f (x ∷ files) zero i lt = omega arith
 has_file f (x ∷ files) (suc file) i lt = let below = has_file f files file i lt in omega arith
 
-among : (s : EngineState) (b : BlockId) → b.block < length (states_of s b.file) → Contains (all_blocks s) b
+pub among : (s : EngineState) (b : BlockId) → b.block < length (states_of s b.file) → Contains (all_blocks s) b
 among s b lt =
     flat_map_contains (λ file. map (block_id file) (range_with_len 0 (length (states_of s file)))) (file_numbers s)
     (range_contains (length s.files) (has_file (λ f. f.states) s.files b.file b.block lt))

@@ -10,26 +10,26 @@ returns-clause-recovers g c =
     let old = c.args.parts.now in
     let made = c.clear_slots.new.slots in
     let are = with_items_is old.slots made (c.clear_slots.auto.slots ∙ c.deref_mut.ensures.len) ∙ c.clear_slots.ensures ∙ ap (map cleared) c.deref_mut.ensures.value in
-    recovers old (with_items old.slots made) c.args.trees c.args.books c.requires.tied c.requires.shaped c.keeps_laws.ensures.lawful are c.requires.trees c.requires.books
+    recovers old (with_items old.slots made) c.args.trees c.args.books c.requires.tied c.requires.shaped c.keeps_laws.ensures.lawful are c.requires.trees c.requires.books c.requires.unlogged
 
 pub returns-clause-places : goal.returns-clause-places
 returns-clause-places g c =
     let old = c.args.parts.now in
     let made = c.clear_slots.new.slots in
     let are = with_items_is old.slots made (c.clear_slots.auto.slots ∙ c.deref_mut.ensures.len) ∙ c.clear_slots.ensures ∙ ap (map cleared) c.deref_mut.ensures.value in
-    places old (with_items old.slots made) c.args.trees c.args.books c.requires.tied c.requires.shaped c.keeps_laws.ensures.lawful are c.requires.trees c.requires.books
+    places old (with_items old.slots made) c.args.trees c.args.books c.requires.tied c.requires.shaped c.keeps_laws.ensures.lawful are c.requires.trees c.requires.books c.requires.unlogged
 
 pub returns-clause-devices : goal.returns-clause-devices
 returns-clause-devices g c =
     let old = c.args.parts.now in
     let made = c.clear_slots.new.slots in
     let are = with_items_is old.slots made (c.clear_slots.auto.slots ∙ c.deref_mut.ensures.len) ∙ c.clear_slots.ensures ∙ ap (map cleared) c.deref_mut.ensures.value in
-    devices old (with_items old.slots made) c.args.trees c.args.books c.requires.tied c.requires.shaped c.keeps_laws.ensures.lawful are c.requires.trees c.requires.books
+    devices old (with_items old.slots made) c.args.trees c.args.books c.requires.tied c.requires.shaped c.keeps_laws.ensures.lawful are c.requires.trees c.requires.books c.requires.unlogged
 
 pub returns-clause-tied : goal.returns-clause-tied
 returns-clause-tied g c =
     let old = c.args.parts.now in
     let made = c.clear_slots.new.slots in
     let are = with_items_is old.slots made (c.clear_slots.auto.slots ∙ c.deref_mut.ensures.len) ∙ c.clear_slots.ensures ∙ ap (map cleared) c.deref_mut.ensures.value in
-    tied_next old (with_items old.slots made) c.args.trees c.args.books c.requires.tied c.requires.shaped c.keeps_laws.ensures.lawful are c.requires.trees c.requires.books
+    tied_next old (with_items old.slots made) c.args.trees c.args.books c.requires.tied c.requires.shaped c.keeps_laws.ensures.lawful are c.requires.trees c.requires.books c.requires.unlogged
     c.blocks_and_ranges_agree.ensures.in_piece

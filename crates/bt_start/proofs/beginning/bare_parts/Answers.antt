@@ -22,4 +22,5 @@ returns-clause-bare g c =
       slots = rw (names_of_trees are) (rw said at c.in_ok-first_files.ensures.slots);
       first_key = refl;
       first_turn = refl;
+      no_log = refl;
     }

@@ -1,8 +1,9 @@
-use Rattle.std.proofs.Common.{None, refl, sym, ap, ◌∙◌, subst}
+use Rattle.std.proofs.Common.{None, Option, option_map, refl, sym, ap, ◌∙◌, subst}
 use Rattle.bt_meta.specs.Torrent.{Metainfo, IsLawful}
 use Rattle.bt_machine.specs.Opening.{bare as begins, bare as begins_on, starts, other_count, no_memory}
 use Rattle.bt_machine.specs.Start.{Starts, AreDevicesOf, device_count}
-use Rattle.bt_state.specs.Parts.{state_of, disks_of}
+use Rattle.bt_state.specs.Parts.{state_of, disks_of, log_of}
+use Rattle.bt_state.specs.declared.open_log.OpenLog.{OpenLog}
 use Rattle.bt_start.proofs.beginning.start.Goals as goal
 
 pub returns-then-len-device_count-clause-answer : goal.returns-then-len-device_count-clause-answer
@@ -26,9 +27,11 @@ returns-in-Ok-give_devices-clause-answer g c =
     let begun = c.in-Ok-give_devices.ensures.begun in
     let parts = c.give_devices.new.parts in
     let same = c.give_devices.ensures.torrent ∙ c.in-Ok.ensures.torrent in
-    starts (record { state = state_of parts; disks = disks_of parts; log = None }) (disks_of parts)
+    let none = c.give_devices.ensures.log ∙ c.in-Ok.ensures.bare.no_log in
+    starts (record { state = state_of parts; disks = disks_of parts; log = log_of parts }) (disks_of parts)
     (subst (λ (torrent : Metainfo). AreDevicesOf torrent.files c.args.disks.items (disks_of parts)) same begun.devices)
-    (begins_on refl (subst (λ (torrent : Metainfo). Starts g.H.NodeHash.digest torrent (state_of parts)) same begun.starts) refl refl) refl
+    (begins_on refl (subst (λ (torrent : Metainfo). Starts g.H.NodeHash.digest torrent (state_of parts)) same begun.starts) refl
+    (ap (λ (log : Option (OpenLog g.row.D.Denot)). option_map (λ open. open.log) log) none)) refl
 
 pub returns-in-Ok-give_devices-clause-lawful : goal.returns-in-Ok-give_devices-clause-lawful
 returns-in-Ok-give_devices-clause-lawful g c =

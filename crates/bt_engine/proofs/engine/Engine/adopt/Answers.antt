@@ -10,9 +10,9 @@ invariant_of-self g c =
     let step = c.adopt.ensures.step in
     kept_after g.D.Disk.history g.D.Disk.honest g.D.Disk.faults g.H.NodeHash.digest c.self.inside.parts c.adopt.new.parts (Adopt c.args.file) (Adopted c.adopt.result)
     laws.shaped laws.orderly laws.sparse laws.rooted laws.sound c.self.invariant (steps_with g.D.Disk.history g.D.Disk.honest g.D.Disk.faults g.H.NodeHash.digest c.self.inside.parts c.adopt.new.parts (Adopt c.args.file) (Adopted c.adopt.result)
-    step.0 (c.adopt.result, refl, refl, step.2) step.1)
+    step.0 (c.adopt.result, refl, refl, step.2) step.1 c.adopt.ensures.log)
     c.adopt.ensures.torrent c.adopt.ensures.tied
 
 pub returns : goal.returns
 returns g c = (let step = c.adopt.ensures.step in rw (← c.self.view_is) (steps_with g.D.Disk.history g.D.Disk.honest g.D.Disk.faults g.H.NodeHash.digest c.self.inside.parts c.adopt.new.parts (Adopt c.args.file) (Adopted c.adopt.result)
-    step.0 (c.adopt.result, refl, refl, step.2) step.1))
+    step.0 (c.adopt.result, refl, refl, step.2) step.1 c.adopt.ensures.log))

@@ -1,6 +1,7 @@
-use Rattle.std.proofs.Common.{refl}
+use Rattle.std.proofs.Common.{Option, option_map, refl, ap}
 use Rattle.bt_machine.specs.declared.event.Event.TheVariants.{Connect}
 use Rattle.bt_machine.specs.declared.event.Answer.TheVariants.{Connected}
+use Rattle.bt_state.specs.declared.open_log.OpenLog.{OpenLog}
 use Rattle.bt_engine.proofs.Keeping.{steps_without, kept_after}
 use Rattle.bt_engine.proofs.engine.Engine.connect.Goals as goal
 
@@ -10,10 +11,12 @@ invariant_of-self g c =
     kept_after g.D.Disk.history g.D.Disk.honest g.D.Disk.faults g.H.NodeHash.digest c.self.inside.parts c.connect.new.parts Connect (Connected c.connect.result)
     laws.shaped laws.orderly laws.sparse laws.rooted laws.sound c.self.invariant
     (steps_without g.D.Disk.history g.D.Disk.honest g.D.Disk.faults g.H.NodeHash.digest c.self.inside.parts c.connect.new.parts Connect (Connected c.connect.result)
-    (c.connect.result, refl, refl, c.connect.ensures.step) c.connect.ensures.devices)
+    (c.connect.result, refl, refl, c.connect.ensures.step) c.connect.ensures.devices
+    (ap (λ (log : Option (OpenLog g.row.D.Denot)). option_map (λ open. open.log) log) c.connect.ensures.log))
     c.connect.ensures.torrent c.connect.ensures.tied
 
 pub returns-clause-step : goal.returns-clause-step
 returns-clause-step g c = rw (← c.self.view_is) (
     steps_without g.D.Disk.history g.D.Disk.honest g.D.Disk.faults g.H.NodeHash.digest c.self.inside.parts c.connect.new.parts Connect (Connected c.connect.result)
-    (c.connect.result, refl, refl, c.connect.ensures.step) c.connect.ensures.devices)
+    (c.connect.result, refl, refl, c.connect.ensures.step) c.connect.ensures.devices
+    (ap (λ (log : Option (OpenLog g.row.D.Denot)). option_map (λ open. open.log) log) c.connect.ensures.log))

@@ -1,6 +1,7 @@
-use Rattle.std.proofs.Common.{refl}
+use Rattle.std.proofs.Common.{Option, option_map, refl, ap}
 use Rattle.bt_machine.specs.declared.event.Event.TheVariants.{Feed}
 use Rattle.bt_machine.specs.declared.event.Answer.TheVariants.{Fed}
+use Rattle.bt_state.specs.declared.open_log.OpenLog.{OpenLog}
 use Rattle.bt_engine.proofs.Keeping.{steps_without, kept_after}
 use Rattle.bt_engine.proofs.engine.Engine.feed.Goals as goal
 
@@ -10,10 +11,12 @@ invariant_of-self g c =
     kept_after g.D.Disk.history g.D.Disk.honest g.D.Disk.faults g.H.NodeHash.digest c.self.inside.parts c.feed.new.parts (Feed c.args.peer c.args.bytes.now) (Fed c.feed.result)
     laws.shaped laws.orderly laws.sparse laws.rooted laws.sound c.self.invariant
     (steps_without g.D.Disk.history g.D.Disk.honest g.D.Disk.faults g.H.NodeHash.digest c.self.inside.parts c.feed.new.parts (Feed c.args.peer c.args.bytes.now) (Fed c.feed.result)
-    (c.feed.result, refl, refl, c.feed.ensures.step) c.feed.ensures.devices)
+    (c.feed.result, refl, refl, c.feed.ensures.step) c.feed.ensures.devices
+    (ap (λ (log : Option (OpenLog g.row.D.Denot)). option_map (λ open. open.log) log) c.feed.ensures.log))
     c.feed.ensures.torrent c.feed.ensures.tied
 
 pub returns-clause-step : goal.returns-clause-step
 returns-clause-step g c = rw (← c.self.view_is) (
     steps_without g.D.Disk.history g.D.Disk.honest g.D.Disk.faults g.H.NodeHash.digest c.self.inside.parts c.feed.new.parts (Feed c.args.peer c.args.bytes.now) (Fed c.feed.result)
-    (c.feed.result, refl, refl, c.feed.ensures.step) c.feed.ensures.devices)
+    (c.feed.result, refl, refl, c.feed.ensures.step) c.feed.ensures.devices
+    (ap (λ (log : Option (OpenLog g.row.D.Denot)). option_map (λ open. open.log) log) c.feed.ensures.log))

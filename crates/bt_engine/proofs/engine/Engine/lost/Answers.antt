@@ -1,6 +1,7 @@
-use Rattle.std.proofs.Common.{refl}
+use Rattle.std.proofs.Common.{Option, option_map, refl, ap}
 use Rattle.bt_machine.specs.declared.event.Event.TheVariants.{Lost}
 use Rattle.bt_machine.specs.declared.event.Answer.TheVariants.{Lost as LostAnswer}
+use Rattle.bt_state.specs.declared.open_log.OpenLog.{OpenLog}
 use Rattle.bt_engine.proofs.Keeping.{steps_without, kept_after}
 use Rattle.bt_engine.proofs.engine.Engine.lost.Goals as goal
 
@@ -10,10 +11,12 @@ invariant_of-self g c =
     kept_after g.D.Disk.history g.D.Disk.honest g.D.Disk.faults g.H.NodeHash.digest c.self.inside.parts c.lost.new.parts (Lost c.args.peer) (LostAnswer c.lost.result)
     laws.shaped laws.orderly laws.sparse laws.rooted laws.sound c.self.invariant
     (steps_without g.D.Disk.history g.D.Disk.honest g.D.Disk.faults g.H.NodeHash.digest c.self.inside.parts c.lost.new.parts (Lost c.args.peer) (LostAnswer c.lost.result)
-    (c.lost.result, refl, refl, c.lost.ensures.step) c.lost.ensures.devices)
+    (c.lost.result, refl, refl, c.lost.ensures.step) c.lost.ensures.devices
+    (ap (λ (log : Option (OpenLog g.row.D.Denot)). option_map (λ open. open.log) log) c.lost.ensures.log))
     c.lost.ensures.torrent c.lost.ensures.tied
 
 pub returns-clause-step : goal.returns-clause-step
 returns-clause-step g c = rw (← c.self.view_is) (
     steps_without g.D.Disk.history g.D.Disk.honest g.D.Disk.faults g.H.NodeHash.digest c.self.inside.parts c.lost.new.parts (Lost c.args.peer) (LostAnswer c.lost.result)
-    (c.lost.result, refl, refl, c.lost.ensures.step) c.lost.ensures.devices)
+    (c.lost.result, refl, refl, c.lost.ensures.step) c.lost.ensures.devices
+    (ap (λ (log : Option (OpenLog g.row.D.Denot)). option_map (λ open. open.log) log) c.lost.ensures.log))

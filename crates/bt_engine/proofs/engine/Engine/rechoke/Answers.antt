@@ -1,6 +1,7 @@
-use Rattle.std.proofs.Common.{refl}
+use Rattle.std.proofs.Common.{Option, option_map, refl, ap}
 use Rattle.bt_machine.specs.declared.event.Event.TheVariants.{Rechoke}
 use Rattle.bt_machine.specs.declared.event.Answer.TheVariants.{Rechoked}
+use Rattle.bt_state.specs.declared.open_log.OpenLog.{OpenLog}
 use Rattle.bt_engine.proofs.Keeping.{steps_without, kept_after}
 use Rattle.bt_engine.proofs.engine.Engine.rechoke.Goals as goal
 
@@ -10,10 +11,12 @@ invariant_of-self g c =
     kept_after g.D.Disk.history g.D.Disk.honest g.D.Disk.faults g.H.NodeHash.digest c.self.inside.parts c.rechoke.new.parts Rechoke (Rechoked c.rechoke.result)
     laws.shaped laws.orderly laws.sparse laws.rooted laws.sound c.self.invariant
     (steps_without g.D.Disk.history g.D.Disk.honest g.D.Disk.faults g.H.NodeHash.digest c.self.inside.parts c.rechoke.new.parts Rechoke (Rechoked c.rechoke.result)
-    (c.rechoke.result, refl, refl, c.rechoke.ensures.step) c.rechoke.ensures.devices)
+    (c.rechoke.result, refl, refl, c.rechoke.ensures.step) c.rechoke.ensures.devices
+    (ap (λ (log : Option (OpenLog g.row.D.Denot)). option_map (λ open. open.log) log) c.rechoke.ensures.log))
     c.rechoke.ensures.torrent c.rechoke.ensures.tied
 
 pub returns-clause-step : goal.returns-clause-step
 returns-clause-step g c = rw (← c.self.view_is) (
     steps_without g.D.Disk.history g.D.Disk.honest g.D.Disk.faults g.H.NodeHash.digest c.self.inside.parts c.rechoke.new.parts Rechoke (Rechoked c.rechoke.result)
-    (c.rechoke.result, refl, refl, c.rechoke.ensures.step) c.rechoke.ensures.devices)
+    (c.rechoke.result, refl, refl, c.rechoke.ensures.step) c.rechoke.ensures.devices
+    (ap (λ (log : Option (OpenLog g.row.D.Denot)). option_map (λ open. open.log) log) c.rechoke.ensures.log))
