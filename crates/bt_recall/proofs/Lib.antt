@@ -1,2 +1,2 @@
-pub mod Marks
-pub mod Reads
+pub mod Readings
+pub mod Recallings

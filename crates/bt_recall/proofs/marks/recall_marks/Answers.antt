@@ -1,7 +1,7 @@
 use Rattle.std.proofs.Common.{◌∷◌, refl, ap, ◌∙◌}
 use Rattle.bt_resume.specs.LogText.{hints_in}
 use Rattle.bt_resume.specs.LentHint.{hint_of}
-use Rattle.bt_recall.proofs.Marks.{recall_first, recall_past, recall_on, recall_last}
+use Rattle.bt_recall.proofs.Recallings.{recall_first, recall_past, recall_on, recall_last}
 use Rattle.bt_recall.proofs.marks.recall_marks.Goals as goal
 
 pub loop-hint-init : goal.loop-hint-init

@@ -1,5 +1,5 @@
 use Rattle.bt_resume.specs.LogText.{hints_in}
-use Rattle.bt_recall.proofs.Marks.{RecallsTo}
+use Rattle.bt_recall.proofs.Recallings.{RecallsTo}
 use Rattle.bt_recall.proofs.marks.recall_marks.Given as goal
 
 abbrev pub invariant-loop-hint : goal.invariant-loop-hint

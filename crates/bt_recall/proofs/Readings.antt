@@ -23,7 +23,7 @@ use Rattle.bt_state.proofs.SlotChanges.{file_here, files_changed, have_changed}
 use Rattle.bt_recall.specs.MarksSteps.{Meant, recalled_store, recalled_in, recalled_slot}
 use Rattle.bt_recall.specs.ReadsSteps.{HasReads, IsSettled}
 use Rattle.bt_recall.specs.Restoring.{tree_and_length, block_total, HasTree, HaveTrees, AreMissing, RestoresSlots}
-use Rattle.bt_recall.proofs.Marks.{same_lists, touched, state_then, length-recalled, is_among, among_recorded, empty_kept, one_recalled}
+use Rattle.bt_recall.proofs.Recallings.{same_lists, touched, state_then, length-recalled, is_among, among_recorded, empty_kept, one_recalled}
 
 -- ---- which blocks wait
 
@@ -56,11 +56,11 @@ module _ (dig : List ℕ → List ℕ) (k : Facts) (hints : List Hint) (file : �
       let known : ℕ → Bool = λ i. is_some (value_at dig k 0 i) in
       filter_within (λ i. is_waiting_at (all_recalled states blocks) i && known i) (λ i. is_recorded hints (block_id file i) && known i) 0 n
       (λ i low high. (
-          let lt : i < n = omega (arith, high) in
-          let here = state_then states blocks i ∙ ap (option_map (touched (is_among i blocks))) (ap (λ (xs : List BlockState). slice_get xs i) missing ∙ missing_at n i lt) in
-          ap (λ o. option_map_or is_waiting o false && known i) here ∙ ap (λ b. b && known i) (waits (is_among i blocks))
-          ∙ ap (λ b. b && known i) (among_recorded dig k hints file n i lt) ∙ both_and (is_recorded hints (block_id file i)) (known i)
-          ))
+      let lt : i < n = omega (arith, high) in
+      let here = state_then states blocks i ∙ ap (option_map (touched (is_among i blocks))) (ap (λ (xs : List BlockState). slice_get xs i) missing ∙ missing_at n i lt) in
+      ap (λ o. option_map_or is_waiting o false && known i) here ∙ ap (λ b. b && known i) (waits (is_among i blocks))
+      ∙ ap (λ b. b && known i) (among_recorded dig k hints file n i lt) ∙ both_and (is_recorded hints (block_id file i)) (known i)
+      ))
 
   all_among : (blocks : List ℕ) → All (λ i. Contains blocks i) blocks
   all_among blocks j d lt = (j, lt, get_or_default blocks j _ d lt)
@@ -127,6 +127,10 @@ module _ {D H : Type 0} (meant : Meant) (trees : List Facts) (slot : Slot D H) w
       by None = refl
       by (Some k) = ap (λ (o : Option ℕ). (slot.tree, o)) (store k slot.store)
 
+-- of a file, the blocks that hints record and whose leaves are known
+abbrev pub meant_in : (List ℕ → List ℕ) → List Hint → ℕ → Meant
+meant_in dig hints file = λ k n. recorded_blocks dig k hints file n
+
 -- the store, which has its tree
 record HasStore {D H : Type 0} (trees : List Facts) (slot : Slot D H) (store : StoreView D) (k : Facts) : Type 0 where
   pub has : slot.store ≡ Some store
@@ -134,9 +138,6 @@ record HasStore {D H : Type 0} (trees : List Facts) (slot : Slot D H) (store : S
   pub same : k.file_length ≡ store.file_length
 
 module _ {D H : Type 0} (history : D → History) (honest : D → Type 0) (faults : D → ℕ) (dig : List ℕ → List ℕ) (hints : List Hint) (trees : List Facts) where
-  abbrev meant_in : ℕ → Meant
-  meant_in file k n = recorded_blocks dig k hints file n
-
   -- one of the slots has become another, and the machine restores its file so
   record RestoresOne (slots : List (Slot D H)) (file : ℕ) (slot after : Slot D H) : Type 0 where
     pub calls : DeviceCalls
@@ -162,7 +163,7 @@ module _ {D H : Type 0} (history : D → History) (honest : D → Type 0) (fault
         }
 
     module _ {store : StoreView D} {k : Facts} (of : HasStore trees slot store k) (missing : store.states ≡ new_states store.file_length) {after : Slot D H}
-        (read : HasReads history honest faults dig k (record slot { store = Some (recalled_store (meant_in file) k store) }) (recalled_store (meant_in file) k store) after) where
+        (read : HasReads history honest faults dig k (record slot { store = Some (recalled_store (meant_in dig hints file) k store) }) (recalled_store (meant_in dig hints file) k store) after) where
       abbrev recorded : List ℕ
       recorded = recorded_blocks dig k hints file (length store.states)
 
@@ -233,23 +234,23 @@ module _ {D H : Type 0} (history : D → History) (honest : D → Type 0) (fault
       where
         by : (o : Option (StoreView D)) → slot.store ≡ o → RestoresOne slots file slot after
         by None none =
-            let same = empty_kept trees (meant_in file) slot none in
+            let same = empty_kept trees (meant_in dig hints file) slot none in
             subst (λ (x : Slot D H). RestoresOne slots file slot x) (sym (settled.empty (ap (λ (x : Slot D H). x.store) same ∙ none) ∙ same)) (empty_one none)
         by (Some store) has =
             let k = tree store.file_length (ap (option_map (λ (s : StoreView D). s.file_length)) has) in
-            let settled_then = subst (λ (x : Slot D H). IsSettled history honest faults dig trees x after) (one_recalled trees (meant_in file) slot has k.1) settled in
-            store_one (record { has = has; stands = k.1; same = k.2 }) (missing store has) (settled_then.read (recalled_store (meant_in file) k.0 store) k.0 refl k.1)
+            let settled_then = subst (λ (x : Slot D H). IsSettled history honest faults dig trees x after) (one_recalled trees (meant_in dig hints file) slot has k.1) settled in
+            store_one (record { has = has; stands = k.1; same = k.2 }) (missing store has) (settled_then.read (recalled_store (meant_in dig hints file) k.0 store) k.0 refl k.1)
 
   -- ---- all slots
 
-  module _ {old now : List (Slot D H)}
+  module _ (old now : List (Slot D H))
       (recalled : (file : ℕ) → slice_get now file ≡ option_map (recalled_slot dig hints trees file) (slice_get old file)) (have : HaveTrees trees old) where
     pub have_still : HaveTrees trees now
     have_still file slot at =
         let was = map_some (recalled_slot dig hints trees file) (slice_get old file) (sym (recalled file) ∙ at) in
-        subst (HasTree trees) (sym (kept_named (meant_in file) trees was.0) ∙ ap (λ (x : Slot D H). tree_and_length x) was.2) (have file was.0 was.1)
+        subst (HasTree trees) (sym (kept_named (meant_in dig hints file) trees was.0) ∙ ap (λ (x : Slot D H). tree_and_length x) was.2) (have file was.0 was.1)
 
-    module _ {new : List (Slot D H)} (settled : (file : ℕ) (slot : Slot D H) → slice_get now file ≡ Some slot
+    module _ (new : List (Slot D H)) (settled : (file : ℕ) (slot : Slot D H) → slice_get now file ≡ Some slot
         → (after : Slot D H) × (slice_get new file ≡ Some after) × IsSettled history honest faults dig trees slot after)
         (size : length new ≡ length old) (missing : AreMissing old) where
       after_of : (file : ℕ) {slot : Slot D H} → slice_get old file ≡ Some slot
@@ -276,9 +277,9 @@ module _ {D H : Type 0} (history : D → History) (honest : D → Type 0) (fault
             made = subst (λ (xs : List (Slot D H)). HaveCalls history honest faults (map disk_of xs) [] (map disk_of new)) (sym all)
                 (have_none history honest faults (map disk_of new));
             restores = λ s trees_are files_are. (
-                refl,
-                ap (λ (fs : List FileState). record s { files = fs }) (sym (files_are ∙ ap (λ (xs : List (Slot D H)). map file_of xs) all)),
-                );
+              refl,
+              ap (λ (fs : List FileState). record s { files = fs }) (sym (files_are ∙ ap (λ (xs : List (Slot D H)). map file_of xs) all)),
+            );
           }
       restores_from (suc n) a e =
           let lt : a < length old = omega (arith, e) in
@@ -294,13 +295,13 @@ module _ {D H : Type 0} (history : D → History) (honest : D → Type 0) (fault
             made = have_then history honest faults (map disk_of mid) (map disk_of (slice_set mid a after.0)) (map disk_of new) one.calls more.calls one.made
                 (subst (λ (xs : List (Slot D H)). HaveCalls history honest faults (map disk_of xs) more.calls (map disk_of new)) later more.made);
             restores = λ s trees_are files_are. (
-                record s { files = map file_of (slice_set mid a after.0) },
-                one.calls,
-                more.calls,
-                one.restores s trees_are files_are,
-                more.restores (record s { files = map file_of (slice_set mid a after.0) }) trees_are (ap (λ (xs : List (Slot D H)). map file_of xs) (sym later)),
-                refl,
-                );
+              record s { files = map file_of (slice_set mid a after.0) },
+              one.calls,
+              more.calls,
+              one.restores s trees_are files_are,
+              more.restores (record s { files = map file_of (slice_set mid a after.0) }) trees_are (ap (λ (xs : List (Slot D H)). map file_of xs) (sym later)),
+              refl,
+            );
           }
 
       pub all_restored : RestoresSlots history honest faults dig hints trees old new
@@ -308,7 +309,7 @@ module _ {D H : Type 0} (history : D → History) (honest : D → Type 0) (fault
           let all = restores_from (length old) 0 (omega arith) in
           record { calls = all.calls; made = all.made; restores = all.restores }
 
-      alike_by : {X : Type 0} (f : Slot D H → X) → ((slots : List (Slot D H)) (file : ℕ) {slot after : Slot D H} → RestoresOne slots file slot after → f after ≡ f slot)
+      alike_by : {X : Type 0} (f : Slot D H → X) → ((slots : List (Slot D H)) (file : ℕ) (slot after : Slot D H) → RestoresOne slots file slot after → f after ≡ f slot)
           → (i : ℕ) (o : Option (Slot D H)) → slice_get old i ≡ o → option_map f (slice_get new i) ≡ option_map f o
       alike_by f same i None none = elim (cases_lt i (length old)) [
         | inl lt ↦ absurd (let slot = get_some old i lt in let clash = sym none ∙ slot.1 in cc)
@@ -316,18 +317,18 @@ module _ {D H : Type 0} (history : D → History) (honest : D → Type 0) (fault
       ]
       alike_by f same i (Some slot) at =
           let after = after_of i at in
-          ap (option_map f) after.1 ∙ ap (λ x. Some x) (same old i (one_of old i at at))
+          ap (option_map f) after.1 ∙ ap (λ x. Some x) (same old i slot after.0 (one_of old i at at))
 
-      alike : {X : Type 0} (f : Slot D H → X) → ((slots : List (Slot D H)) (file : ℕ) {slot after : Slot D H} → RestoresOne slots file slot after → f after ≡ f slot)
+      alike : {X : Type 0} (f : Slot D H → X) → ((slots : List (Slot D H)) (file : ℕ) (slot after : Slot D H) → RestoresOne slots file slot after → f after ≡ f slot)
           → map f new ≡ map f old
       alike f same = same_lists (map f new) (map f old)
           (λ i. slice_get-map f new i ∙ alike_by f same i (slice_get old i) refl ∙ sym (slice_get-map f old i))
 
       pub slots_kept : map tree_and_length new ≡ map tree_and_length old
-      slots_kept = alike (λ slot. tree_and_length slot) (λ slots file one. one.named)
+      slots_kept = alike (λ slot. tree_and_length slot) (λ slots file slot after one. one.named)
 
       pub sizes_kept : map block_total new ≡ map block_total old
-      sizes_kept = alike (λ slot. block_total slot) (λ slots file one. one.sized)
+      sizes_kept = alike (λ slot. block_total slot) (λ slots file slot after one. one.sized)
 
 -- ---- slot after slot
 
