@@ -36,10 +36,10 @@ module _ {D H : Type 0} (history : D → History) (honest : D → Type 0) (fault
 
   -- an engine gets no log
   none_still : (before after : Option (OpenLog D)) (calls : List LogCall) → before ≡ None
-      → logs_by (option_map (λ open. open.log) before) calls (option_map (λ open. open.log) after) → after ≡ None
+      → logs_by (option_map (λ opened. opened.log) before) calls (option_map (λ opened. opened.log) after) → after ≡ None
   none_still before None calls none have = refl
-  none_still before (Some open) calls none have =
-      absurd (subst (λ (log : Option (OpenLog D)). logs_by (option_map (λ open. open.log) log) calls (Some open.log)) none have)
+  none_still before (Some opened) calls none have =
+      absurd (subst (λ (log : Option (OpenLog D)). logs_by (option_map (λ opened. opened.log) log) calls (Some opened.log)) none have)
 
   -- an event that calls no device
   pub steps_without : Step dig (state_of old) event no_calls answer (state_of new) → disks_of new ≡ disks_of old → log_of new ≡ log_of old

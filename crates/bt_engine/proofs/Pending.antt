@@ -56,11 +56,11 @@ module _ {D H : Type 0} (old : Parts D H) (hints : List Hint) where
   unfolding told_with told_before
   recorded_none none = ap told_before none ∙ sym (ap told_with none)
 
-  pub recorded_some : (open : OpenLog D) (pending : PendingView) → old.log ≡ Some open → pending.hints ≡ add_hints open.pending.hints hints
-      → state_of (record old { log = Some (record open { pending = pending }) }) ≡ with_hints (state_of old) hints
+  pub recorded_some : (opened : OpenLog D) (pending : PendingView) → old.log ≡ Some opened → pending.hints ≡ add_hints opened.pending.hints hints
+      → state_of (record old { log = Some (record opened { pending = pending }) }) ≡ with_hints (state_of old) hints
   unfolding told_with
-  recorded_some open pending some is =
-      ap (λ (hs : List Hint). record (state_of old) { logged = true; pending = hs; hints = open.log.hints }) is ∙ sym (ap told_with some)
+  recorded_some opened pending some is =
+      ap (λ (hs : List Hint). record (state_of old) { logged = true; pending = hs; hints = opened.log.hints }) is ∙ sym (ap told_with some)
 
 pub shape_recorded : {s t : EngineState} (hints : List Hint) → t ≡ with_hints s hints → IsShaped s.torrent s → IsShaped t.torrent t
 shape_recorded {s} {t} hints is shaped =

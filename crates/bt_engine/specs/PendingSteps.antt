@@ -31,7 +31,7 @@ with_hints s hints = record s { pending = add_hints s.pending (if s.logged then 
 
 -- where there is a log, there is room for so many hints more
 abbrev pub HasHintRoom : {D : Type 0} → ℕ → Option (OpenLog D) → Type 0
-HasHintRoom {D} count log = (open : OpenLog D) → log ≡ Some open → count ≤ open.pending.room
+HasHintRoom {D} count log = (opened : OpenLog D) → log ≡ Some opened → count ≤ opened.pending.room
 
 -- each block that the notes say is marked may be one of a file
 abbrev pub AreInside : List Note → Type 0

@@ -27,7 +27,7 @@ pub(crate) fn reserve_hints<D: Disk + Drop, H: NodeHash>(
     ensures others { parts.new ≡ record parts.old { log = parts.new.log } }
 {
     match &mut parts.log {
-        Some(open) => open.pending.reserve(count),
+        Some(opened) => opened.pending.reserve(count),
         None => Ok(()),
     }
 }
@@ -46,8 +46,8 @@ pub(crate) fn record_hints<D: Disk + Drop, H: NodeHash>(
     ensures log { log_of parts.new ≡ log_of parts.old }
     ensures others { parts.new ≡ record parts.old { log = parts.new.log } }
 {
-    if let Some(open) = &mut parts.log {
-        push_hints(&mut open.pending, proof, notes);
+    if let Some(opened) = &mut parts.log {
+        push_hints(&mut opened.pending, proof, notes);
     }
 }
 

@@ -100,10 +100,10 @@ impl Pending {
         });
     }
 
-    /// Lets all of them go.
+    /// Lets all of them go. The room that they had stays.
     pub fn clear(&mut self)
         ensures hints { self.new.hints ≡ [] }
-        ensures room { self.old.room ≤ self.new.room }
+        ensures room { self.new.room ≡ self.old.room + length self.old.hints }
     {
         self.hints.clear();
     }
@@ -118,7 +118,7 @@ impl Pending {
             × AreLogCalls D.history D.honest D.faults log.old calls log.new
             × WritesHints self.old.hints calls result self.new.hints }
         ensures unchanged { IfErr result (λ _. self.new ≡ self.old) }
-        ensures room { self.old.room ≤ self.new.room }
+        ensures room { IfOk result (λ _. self.new.room ≡ self.old.room + length self.old.hints) }
     {
         if let Err(cause) = append_all(&self.hints, log) {
             return Err(flush_error(cause));

@@ -1,4 +1,4 @@
-ghost use Rattle.std.specs.Prelude.{[], ◌≡◌, None, IfOk, map};
+ghost use Rattle.std.specs.Prelude.{[], ◌≡◌, None, IfOk, IfErr, map};
 ghost use Rattle.sha2.specs.Sha256.{sha256};
 ghost use Rattle.bt_machine.specs.LogCalls.{no_calls};
 ghost use Rattle.bt_machine.specs.Recovery.{Recovers};
@@ -33,6 +33,7 @@ pub fn restart<D: Disk + Drop, H: NodeHash>(
     requires unlogged { parts.old.log ≡ None }
     requires shaped { IsShaped parts.old.torrent (state_of parts.old) }
     ensures step { StepRestart H.digest (state_of parts.old) no_calls result (state_of parts.new) }
+    ensures refused { IfErr result (λ _. parts.new ≡ parts.old) }
     ensures devices { disks_of parts.new ≡ disks_of parts.old }
     ensures torrent { parts.new.torrent ≡ parts.old.torrent }
     ensures log { parts.new.log ≡ parts.old.log }

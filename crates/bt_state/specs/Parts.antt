@@ -37,10 +37,10 @@ disk_of slot = option_map (λ store. store.disk) slot.store
 
 -- the hints that wait to be written to the log, and those that were last read from it
 abbrev pub pending_of : {D : Type 0} → Option (OpenLog D) → List Hint
-pending_of log = option_map_or (λ open. open.pending.hints) log []
+pending_of log = option_map_or (λ opened. opened.pending.hints) log []
 
 abbrev pub hints_of : {D : Type 0} → Option (OpenLog D) → List Hint
-hints_of log = option_map_or (λ open. open.log.hints) log []
+hints_of log = option_map_or (λ opened. opened.log.hints) log []
 
 abbrev pub state_of : {D H : Type 0} → Parts D H → EngineState
 state_of parts = record {
@@ -61,7 +61,7 @@ disks_of parts = map disk_of parts.slots.items
 
 -- its log, if it has one
 abbrev pub log_of : {D H : Type 0} → Parts D H → Option (LogView D)
-log_of parts = option_map (λ open. open.log) parts.log
+log_of parts = option_map (λ opened. opened.log) parts.log
 
 -- the peer of this key stands at i
 pub record IsPeerAt (peers : List Peer) (key : PeerKey) (i : ℕ) : Type 0 where

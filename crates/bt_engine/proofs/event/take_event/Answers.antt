@@ -1,49 +1,28 @@
-use Rattle.std.proofs.Common.{List, Option, sym, subst, arith}
-use Rattle.bt_machine.specs.Devices.{HaveCalls}
+use Rattle.std.proofs.Common.{List, Option, sym, ap, subst, ◌<◌}
+use Rattle.std.specs.Prelude.{IfOk}
+use Rattle.bt_machine.specs.Devices.{DeviceCalls, HaveCalls}
+use Rattle.bt_machine.specs.Orderly.{IsOrderly}
+use Rattle.bt_machine.specs.Output.{Output}
+use Rattle.bt_machine.specs.Shape.{IsShaped}
+use Rattle.bt_machine.specs.State.{EngineState}
 use Rattle.bt_state.specs.Parts.{state_of, disks_of}
-use Rattle.bt_engine.proofs.Events.{shaped_then, there_then, as_many, told_then, stays_on, closes_on}
+use Rattle.bt_state.specs.declared.parts.Parts.{Parts}
+use Rattle.bt_engine.specs.EventSteps.{GoesOn}
 use Rattle.bt_engine.proofs.event.take_event.Goals as goal
 
-pub close-requires-clause-inside : goal.close-requires-clause-inside
-close-requires-clause-inside g c =
-    let lt = there_then c.in_ok-why.ensures.handled c.requires.orderly in
-    omega (arith, lt, c.handle.new.parts.peers.ok.0)
+pub take_in_room-requires-clause-shaped : goal.take_in_room-requires-clause-shaped
+take_in_room-requires-clause-shaped g c = subst (λ (s : EngineState). IsShaped s.torrent s) (sym c.reserve.ensures.state) c.requires.shaped
 
-pub close-requires-clause-there : goal.close-requires-clause-there
-close-requires-clause-there g c = there_then c.in_ok-why.ensures.handled c.requires.orderly
+pub take_in_room-requires-clause-orderly : goal.take_in_room-requires-clause-orderly
+take_in_room-requires-clause-orderly g c = subst (λ (s : EngineState). IsOrderly s) (sym c.reserve.ensures.state) c.requires.orderly
 
-pub keep-requires-clause-shaped : goal.keep-requires-clause-shaped
-keep-requires-clause-shaped g c = shaped_then c.in_ok-why.ensures.handled c.requires.orderly c.requires.shaped c.handle.ensures.torrent
-
-pub keep-requires-clause-inside : goal.keep-requires-clause-inside
-keep-requires-clause-inside g c =
-    let lt = there_then c.in_ok-why.ensures.handled c.requires.orderly in
-    omega (arith, lt, c.handle.new.parts.peers.ok.0)
-
-pub keep-requires-clause-there : goal.keep-requires-clause-there
-keep-requires-clause-there g c = there_then c.in_ok-why.ensures.handled c.requires.orderly
-
-pub keep-requires-clause-told : goal.keep-requires-clause-told
-keep-requires-clause-told g c =
-    let h = rw c.in-Stays.is at c.in_ok-why.ensures.handled in
-    (state_of c.args.parts.now, told_then h c.requires.orderly)
-
-pub keep-requires-clause-room : goal.keep-requires-clause-room
-keep-requires-clause-room g c =
-    let room = c.in_ok-room.ensures in
-    let few = rw c.in-Stays.is at c.in_ok-why.ensures.few in
-    (room.0, few room.0 room.1, rw (as_many c.in_ok-why.ensures.handled c.requires.orderly) room.2)
-
-pub returns-in-Closed-clause-step : goal.returns-in-Closed-clause-step
-returns-in-Closed-clause-step g c =
-    let h = rw c.in-Closed.is at c.in_ok-why.ensures.handled in
-    let made = subst (λ (ds : List (Option g.row.D.Denot)). HaveCalls g.D.Disk.history g.D.Disk.honest g.D.Disk.faults (disks_of c.args.parts.now) h.calls ds)
-    (sym c.close.ensures.devices) h.made in
-    (h.calls, made, closes_on c.close.new.parts h c.requires.orderly c.close.ensures.is c.close.ensures.gone)
-
-pub returns-in-Stays-clause-step : goal.returns-in-Stays-clause-step
-returns-in-Stays-clause-step g c =
-    let h = rw c.in-Stays.is at c.in_ok-why.ensures.handled in
-    let made = subst (λ (ds : List (Option g.row.D.Denot)). HaveCalls g.D.Disk.history g.D.Disk.honest g.D.Disk.faults (disks_of c.args.parts.now) h.calls ds)
-    (sym c.keep.ensures.devices) h.made in
-    (h.calls, made, stays_on c.keep.new.parts h c.requires.orderly c.keep.ensures.follows)
+pub returns-in_ok-clause-step : goal.returns-in_ok-clause-step
+returns-in_ok-clause-step g c =
+    let dig = g.H.NodeHash.digest in
+    let have = λ (ds : List (Option g.row.D.Denot)) (calls : DeviceCalls). HaveCalls g.D.Disk.history g.D.Disk.honest g.D.Disk.faults ds calls (disks_of c.take_in_room.new.parts) in
+    let mid = disks_of c.reserve.new.parts in
+    subst (λ (ds : List (Option g.row.D.Denot)). IfOk c.take_in_room.result (λ (out : Output). (calls : DeviceCalls) × have ds calls
+    × GoesOn dig c.args.index c.args.event.now calls out (state_of c.args.parts.now) (state_of c.take_in_room.new.parts)))
+    (ap (λ (p : Parts g.row.D.Denot g.row.H.Denot). disks_of p) c.reserve.ensures.others)
+    (subst (λ (s : EngineState). IfOk c.take_in_room.result (λ (out : Output). (calls : DeviceCalls) × have mid calls
+    × GoesOn dig c.args.index c.args.event.now calls out s (state_of c.take_in_room.new.parts))) c.reserve.ensures.state c.take_in_room.ensures.step)

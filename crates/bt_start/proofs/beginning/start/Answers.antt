@@ -31,7 +31,7 @@ returns-in-Ok-give_devices-clause-answer g c =
     starts (record { state = state_of parts; disks = disks_of parts; log = log_of parts }) (disks_of parts)
     (subst (λ (torrent : Metainfo). AreDevicesOf torrent.files c.args.disks.items (disks_of parts)) same begun.devices)
     (begins_on refl (subst (λ (torrent : Metainfo). Starts g.H.NodeHash.digest torrent (state_of parts)) same begun.starts) refl
-    (ap (λ (log : Option (OpenLog g.row.D.Denot)). option_map (λ open. open.log) log) none)) refl
+    (ap (λ (log : Option (OpenLog g.row.D.Denot)). option_map (λ opened. opened.log) log) none)) refl
 
 pub returns-in-Ok-give_devices-clause-lawful : goal.returns-in-Ok-give_devices-clause-lawful
 returns-in-Ok-give_devices-clause-lawful g c =

@@ -12,11 +12,11 @@ invariant_of-self g c =
     laws.shaped laws.orderly laws.sparse laws.rooted laws.sound c.self.invariant
     (steps_without g.D.Disk.history g.D.Disk.honest g.D.Disk.faults g.H.NodeHash.digest c.self.inside.parts c.connect.new.parts Connect (Connected c.connect.result)
     (c.connect.result, refl, refl, c.connect.ensures.step) c.connect.ensures.devices
-    (ap (λ (log : Option (OpenLog g.row.D.Denot)). option_map (λ open. open.log) log) c.connect.ensures.log))
+    (ap (λ (log : Option (OpenLog g.row.D.Denot)). option_map (λ opened. opened.log) log) c.connect.ensures.log))
     c.connect.ensures.torrent c.connect.ensures.tied
 
 pub returns-clause-step : goal.returns-clause-step
 returns-clause-step g c = rw (← c.self.view_is) (
     steps_without g.D.Disk.history g.D.Disk.honest g.D.Disk.faults g.H.NodeHash.digest c.self.inside.parts c.connect.new.parts Connect (Connected c.connect.result)
     (c.connect.result, refl, refl, c.connect.ensures.step) c.connect.ensures.devices
-    (ap (λ (log : Option (OpenLog g.row.D.Denot)). option_map (λ open. open.log) log) c.connect.ensures.log))
+    (ap (λ (log : Option (OpenLog g.row.D.Denot)). option_map (λ opened. opened.log) log) c.connect.ensures.log))

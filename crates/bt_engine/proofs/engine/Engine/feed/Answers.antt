@@ -12,11 +12,11 @@ invariant_of-self g c =
     laws.shaped laws.orderly laws.sparse laws.rooted laws.sound c.self.invariant
     (steps_without g.D.Disk.history g.D.Disk.honest g.D.Disk.faults g.H.NodeHash.digest c.self.inside.parts c.feed.new.parts (Feed c.args.peer c.args.bytes.now) (Fed c.feed.result)
     (c.feed.result, refl, refl, c.feed.ensures.step) c.feed.ensures.devices
-    (ap (λ (log : Option (OpenLog g.row.D.Denot)). option_map (λ open. open.log) log) c.feed.ensures.log))
+    (ap (λ (log : Option (OpenLog g.row.D.Denot)). option_map (λ opened. opened.log) log) c.feed.ensures.log))
     c.feed.ensures.torrent c.feed.ensures.tied
 
 pub returns-clause-step : goal.returns-clause-step
 returns-clause-step g c = rw (← c.self.view_is) (
     steps_without g.D.Disk.history g.D.Disk.honest g.D.Disk.faults g.H.NodeHash.digest c.self.inside.parts c.feed.new.parts (Feed c.args.peer c.args.bytes.now) (Fed c.feed.result)
     (c.feed.result, refl, refl, c.feed.ensures.step) c.feed.ensures.devices
-    (ap (λ (log : Option (OpenLog g.row.D.Denot)). option_map (λ open. open.log) log) c.feed.ensures.log))
+    (ap (λ (log : Option (OpenLog g.row.D.Denot)). option_map (λ opened. opened.log) log) c.feed.ensures.log))

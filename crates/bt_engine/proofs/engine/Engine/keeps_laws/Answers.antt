@@ -22,4 +22,4 @@ returns-clause-sound g c = rw (← c.self.view_is) c.self.invariant.sound
 
 pub returns-clause-unlogged : goal.returns-clause-unlogged
 returns-clause-unlogged g c =
-    rw (← c.self.view_is) (ap (λ (log : Option (OpenLog g.row.D.Denot)). option_map (λ open. open.log) log) c.self.invariant.unlogged)
+    rw (← c.self.view_is) (ap (λ (log : Option (OpenLog g.row.D.Denot)). option_map (λ opened. opened.log) log) c.self.invariant.unlogged)

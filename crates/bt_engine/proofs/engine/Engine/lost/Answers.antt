@@ -12,11 +12,11 @@ invariant_of-self g c =
     laws.shaped laws.orderly laws.sparse laws.rooted laws.sound c.self.invariant
     (steps_without g.D.Disk.history g.D.Disk.honest g.D.Disk.faults g.H.NodeHash.digest c.self.inside.parts c.lost.new.parts (Lost c.args.peer) (LostAnswer c.lost.result)
     (c.lost.result, refl, refl, c.lost.ensures.step) c.lost.ensures.devices
-    (ap (λ (log : Option (OpenLog g.row.D.Denot)). option_map (λ open. open.log) log) c.lost.ensures.log))
+    (ap (λ (log : Option (OpenLog g.row.D.Denot)). option_map (λ opened. opened.log) log) c.lost.ensures.log))
     c.lost.ensures.torrent c.lost.ensures.tied
 
 pub returns-clause-step : goal.returns-clause-step
 returns-clause-step g c = rw (← c.self.view_is) (
     steps_without g.D.Disk.history g.D.Disk.honest g.D.Disk.faults g.H.NodeHash.digest c.self.inside.parts c.lost.new.parts (Lost c.args.peer) (LostAnswer c.lost.result)
     (c.lost.result, refl, refl, c.lost.ensures.step) c.lost.ensures.devices
-    (ap (λ (log : Option (OpenLog g.row.D.Denot)). option_map (λ open. open.log) log) c.lost.ensures.log))
+    (ap (λ (log : Option (OpenLog g.row.D.Denot)). option_map (λ opened. opened.log) log) c.lost.ensures.log))

@@ -12,11 +12,11 @@ invariant_of-self g c =
     laws.shaped laws.orderly laws.sparse laws.rooted laws.sound c.self.invariant
     (steps_without g.D.Disk.history g.D.Disk.honest g.D.Disk.faults g.H.NodeHash.digest c.self.inside.parts c.rechoke.new.parts Rechoke (Rechoked c.rechoke.result)
     (c.rechoke.result, refl, refl, c.rechoke.ensures.step) c.rechoke.ensures.devices
-    (ap (λ (log : Option (OpenLog g.row.D.Denot)). option_map (λ open. open.log) log) c.rechoke.ensures.log))
+    (ap (λ (log : Option (OpenLog g.row.D.Denot)). option_map (λ opened. opened.log) log) c.rechoke.ensures.log))
     c.rechoke.ensures.torrent c.rechoke.ensures.tied
 
 pub returns-clause-step : goal.returns-clause-step
 returns-clause-step g c = rw (← c.self.view_is) (
     steps_without g.D.Disk.history g.D.Disk.honest g.D.Disk.faults g.H.NodeHash.digest c.self.inside.parts c.rechoke.new.parts Rechoke (Rechoked c.rechoke.result)
     (c.rechoke.result, refl, refl, c.rechoke.ensures.step) c.rechoke.ensures.devices
-    (ap (λ (log : Option (OpenLog g.row.D.Denot)). option_map (λ open. open.log) log) c.rechoke.ensures.log))
+    (ap (λ (log : Option (OpenLog g.row.D.Denot)). option_map (λ opened. opened.log) log) c.rechoke.ensures.log))

@@ -12,14 +12,14 @@ invariant_of-self g c =
     laws.shaped laws.orderly laws.sparse laws.rooted laws.sound c.self.invariant
     (steps_without g.D.Disk.history g.D.Disk.honest g.D.Disk.faults g.H.NodeHash.digest c.self.inside.parts c.restart.new.parts Restart (Restarted c.restart.result)
     (c.restart.result, refl, c.restart.ensures.step) c.restart.ensures.devices
-    (ap (λ (log : Option (OpenLog g.row.D.Denot)). option_map (λ open. open.log) log) c.restart.ensures.log))
+    (ap (λ (log : Option (OpenLog g.row.D.Denot)). option_map (λ opened. opened.log) log) c.restart.ensures.log))
     c.restart.ensures.torrent c.restart.ensures.tied
 
 pub returns-clause-step : goal.returns-clause-step
 returns-clause-step g c = rw (← c.self.view_is) (
     steps_without g.D.Disk.history g.D.Disk.honest g.D.Disk.faults g.H.NodeHash.digest c.self.inside.parts c.restart.new.parts Restart (Restarted c.restart.result)
     (c.restart.result, refl, c.restart.ensures.step) c.restart.ensures.devices
-    (ap (λ (log : Option (OpenLog g.row.D.Denot)). option_map (λ open. open.log) log) c.restart.ensures.log))
+    (ap (λ (log : Option (OpenLog g.row.D.Denot)). option_map (λ opened. opened.log) log) c.restart.ensures.log))
 
 pub restart-requires-clause-digest : goal.restart-requires-clause-digest
 restart-requires-clause-digest g c = c.self.invariant.digest
