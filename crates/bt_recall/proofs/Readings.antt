@@ -333,6 +333,17 @@ module _ {D H : Type 0} (history : D → History) (honest : D → Type 0) (fault
 -- ---- slot after slot
 
 module _ {D H : Type 0} (history : D → History) (honest : D → Type 0) (faults : D → ℕ) (dig : List ℕ → List ℕ) (trees : List Facts) where
+  pub slot_settled : {slot : Slot D H} {store after : StoreView D} {k : Facts} → slot.store ≡ Some store → slice_get trees slot.tree ≡ Some k → (reads : List BlockRead)
+      → IsJudged history honest faults dig k false (waiting_blocks dig k store.states 0 (length store.states)) store reads after
+      → IsSettled history honest faults dig trees slot (record slot { store = Some after })
+  slot_settled {slot} {store} {after} {k} has stands reads is_judged = record {
+    empty = λ none. absurd (let clash = sym has ∙ none in cc);
+    read = λ s j had stood.
+        subst (λ (x : StoreView D). HasReads history honest faults dig j slot x (record slot { store = Some after })) (some_is (sym has ∙ had))
+        (subst (λ (y : Facts). HasReads history honest faults dig y slot store (record slot { store = Some after })) (some_is (sym stands ∙ stood))
+        (record { after = after; reads = reads; judged = is_judged; changed = refl }));
+  }
+
   -- the slots below a number are settled, and those from there on are as they were
   pub record AreSettledBelow (n : ℕ) (old now : List (Slot D H)) : Type 0 where
     pub below : (i : ℕ) (slot : Slot D H) → i < n → slice_get old i ≡ Some slot
