@@ -1,4 +1,4 @@
-use Rattle.std.proofs.Common.{◌∷◌, refl, ap, ◌∙◌}
+use Rattle.std.proofs.Common.{◌∷◌, ap, ◌∙◌}
 use Rattle.bt_resume.specs.LogText.{hints_in}
 use Rattle.bt_resume.specs.LentHint.{hint_of}
 use Rattle.bt_recall.proofs.Recallings.{recall_first, recall_past, recall_on, recall_last}

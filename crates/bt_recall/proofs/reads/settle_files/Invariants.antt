@@ -1,5 +1,3 @@
-use Rattle.std.proofs.Common.{◌≡◌, ℕ, ◌<◌, ◌≤◌, Some}
-use Rattle.std.specs.Prelude.{slice_get}
 use Rattle.bt_recall.proofs.Readings.{AreSettledBelow}
 use Rattle.bt_recall.proofs.reads.settle_files.Given as goal
 
