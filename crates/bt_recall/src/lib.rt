@@ -2,7 +2,9 @@
 //! right.
 #![tactic(auto)]
 
+mod following;
 mod marks;
 mod reads;
+mod recovery;
 
-pub use reads::restore_files;
+pub use recovery::recover_files;

@@ -14,7 +14,7 @@ use bt_tree::NodeHash;
 /// File after file, each block that the hints record and whose leaf is known is read, once and upwards, eight
 /// at a time, and is marked where its bytes are right. All other blocks are missing, as all were before. Of
 /// hints the marks alone are looked at: the trees are those that have taken the proofs. Takes no memory.
-pub fn restore_files<D: Disk + Drop, H: NodeHash>(
+pub(crate) fn restore_files<D: Disk + Drop, H: NodeHash>(
     slots: &mut [Slot<D, H>],
     trees: &[SparseTree<H>],
     hints: &Hints,
