@@ -1,27 +1,19 @@
 -- Files are followed whose blocks were missing.
-use Rattle.bt_machine.proofs.Base.{[], ◌≡◌, ℕ, zero, suc, ◌+◌, ◌<◌, ◌≤◌, List, ◌∷◌, ◌++◌, length, map, take, drop, replicate, get_or, Option, Some, None, refl, sym, ap, ◌∙◌, subst, arith, slice_get, slice_set, option_map, option_map_or, length-map, length-replicate, BlockState, Missing, Facts, File, History}
+use Rattle.bt_machine.proofs.Base.{[], ◌≡◌, ℕ, zero, suc, ◌+◌, ◌<◌, List, ◌∷◌, ◌++◌, length, map, take, drop, replicate, get_or, Some, refl, sym, ap, ◌∙◌, subst, arith, slice_get, slice_set, length-map, length-replicate, BlockState, Missing}
 use Rattle.std.specs.Global.{Vec}
 use Rattle.std.proofs.Common.{add-one}
-use Rattle.bt_book.specs.Book.{BookState, peers_of}
-use Rattle.bt_store.specs.FileStore.{StoreView, new_states}
-use Rattle.bt_machine.specs.State.{EngineState, FileState, PeerState}
+use Rattle.bt_book.specs.Book.{peers_of}
+use Rattle.bt_machine.specs.State.{EngineState, FileState}
 use Rattle.bt_machine.specs.Blocks.{block_id, with_file}
-use Rattle.bt_machine.specs.Shape.{IsShaped}
-use Rattle.bt_machine.proofs.Lists.{some_is, some_below, get_some, get_map, map_some, set_same, set_id}
+use Rattle.bt_machine.proofs.Lists.{some_is, some_below, set_same, set_id}
 use Rattle.bt_state.specs.BlockChange.{AreFollowed, OneChanged, HasChanged}
-use Rattle.bt_state.specs.Parts.{state_of, disks_of, file_of, disk_of, peer_of}
-use Rattle.bt_state.specs.Ties.{IsTied, FitsFile, FitsTree, LeavesStay}
-use Rattle.bt_state.specs.declared.peer.Peer.{Peer}
+use Rattle.bt_state.specs.Parts.{state_of, file_of}
 use Rattle.bt_state.specs.declared.slot.Slot.{Slot}
 use Rattle.bt_state.specs.declared.parts.Parts.{Parts}
-use Rattle.bt_state.proofs.BlockChanges.{EachFits, followed_alike, followed_tied, tied_followed}
-use Rattle.bt_state.proofs.Leaves.{leaves_by, still}
+use Rattle.bt_state.proofs.BlockChanges.{followed_alike}
 use Rattle.bt_state.proofs.Lists.{get_mapped, get_read}
 use Rattle.bt_state.proofs.SlotChanges.{block_changed, set_again, states_up_to, all_new, still_old, next_new}
 use Rattle.bt_recall.specs.FollowingSteps.{missing_file, missing_from, FollowsTo}
-use Rattle.bt_recall.specs.Recovering.{RecoversFiles}
-use Rattle.bt_recall.specs.Restoring.{tree_and_length, block_total, AreMissing, RestoresSlots}
-use Rattle.bt_recall.proofs.Recallings.{same_lists}
 use Rattle.bt_recall.proofs.Readings.{missing_at}
 
 -- ---- files, the last of which are others

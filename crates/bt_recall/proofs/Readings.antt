@@ -21,7 +21,8 @@ use Rattle.bt_state.proofs.Lists.{get_mapped}
 use Rattle.bt_state.proofs.SlotChanges.{file_here, files_changed, have_changed}
 use Rattle.bt_recall.specs.MarksSteps.{Meant, recalled_store, recalled_in, recalled_slot}
 use Rattle.bt_recall.specs.ReadsSteps.{HasReads, IsSettled}
-use Rattle.bt_recall.specs.Restoring.{tree_and_length, block_total, HasTree, HaveTrees, AreMissing, RestoresSlots}
+use Rattle.bt_recall.specs.Recovering.{AreMissing}
+use Rattle.bt_recall.specs.RestoringSteps.{tree_and_length, block_total, HasTree, HaveTrees, RestoresSlots}
 use Rattle.bt_recall.proofs.Recallings.{same_lists, touched, state_then, length-recalled, is_among, among_recorded, empty_kept, one_recalled}
 
 -- ---- which blocks wait

@@ -1,5 +1,5 @@
 -- The files of an engine are restored in its parts.
-use Rattle.bt_machine.proofs.Base.{[], ◌≡◌, ℕ, ◌<◌, ◌≤◌, inl, inr, List, length, map, replicate, Option, Some, None, refl, sym, ap, ◌∙◌, subst, arith, slice_get, option_map, option_map_or, range_with_len, length-map, length-replicate, cases_lt, max_peers, BlockState, Missing, Facts, File, History}
+use Rattle.bt_machine.proofs.Base.{[], ◌≡◌, ℕ, ◌≤◌, inl, inr, List, length, map, replicate, Option, Some, None, refl, sym, ap, ◌∙◌, subst, arith, slice_get, option_map, option_map_or, range_with_len, length-map, length-replicate, cases_lt, max_peers, BlockState, Missing, Facts, History}
 use Rattle.std.specs.Global.{Vec}
 use Rattle.std.specs.Vec.{vec_capacity, with_items}
 use Rattle.std.proofs.lemmas.Simd.{map-map}
@@ -12,10 +12,10 @@ use Rattle.bt_machine.specs.Recovery.{RestoresFiles}
 use Rattle.bt_machine.specs.Restart.{KeepsPlaces}
 use Rattle.bt_machine.specs.Shape.{IsShaped}
 use Rattle.bt_machine.specs.State.{EngineState, FileState, PeerState}
-use Rattle.bt_machine.proofs.Lists.{some_is, some_below, get_some, get_map, map_some}
+use Rattle.bt_machine.proofs.Lists.{some_is, get_some, get_map, map_some}
 use Rattle.bt_state.specs.BlockChange.{AreFollowed}
-use Rattle.bt_state.specs.Parts.{state_of, disks_of, file_of, disk_of, peer_of}
-use Rattle.bt_state.specs.Ties.{IsTied, FitsFile, HaveFirstFiles, LeavesStay}
+use Rattle.bt_state.specs.Parts.{state_of, disks_of, file_of, peer_of}
+use Rattle.bt_state.specs.Ties.{IsTied, HaveFirstFiles, LeavesStay}
 use Rattle.bt_state.specs.declared.peer.Peer.{Peer}
 use Rattle.bt_state.specs.declared.slot.Slot.{Slot}
 use Rattle.bt_state.specs.declared.parts.Parts.{Parts}
@@ -23,8 +23,8 @@ use Rattle.bt_state.proofs.BlockChanges.{EachFits, followed_alike, followed_tied
 use Rattle.bt_state.proofs.Leaves.{leaves_by, still}
 use Rattle.bt_state.proofs.Lists.{get_mapped}
 use Rattle.bt_recall.specs.FollowingSteps.{missing_file, missing_from, FollowsTo}
-use Rattle.bt_recall.specs.Recovering.{RecoversFiles}
-use Rattle.bt_recall.specs.Restoring.{tree_and_length, block_total, HaveTrees, AreMissing, RestoresSlots}
+use Rattle.bt_recall.specs.Recovering.{RecoversFiles, AreMissing}
+use Rattle.bt_recall.specs.RestoringSteps.{tree_and_length, block_total, HaveTrees, RestoresSlots}
 use Rattle.bt_recall.proofs.Recallings.{same_lists}
 
 -- ---- a slot whose blocks are missing

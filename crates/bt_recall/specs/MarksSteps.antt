@@ -15,11 +15,13 @@ Meant = Facts → (count : ℕ) → List ℕ
 
 -- the meant blocks of a file are recalled; a file whose tree is not there stays as it is
 abbrev pub recalled_store : {D : Type 0} → Meant → Facts → StoreView D → StoreView D
-recalled_store meant k store = record store { states = all_recalled store.states (meant k (length store.states)) }
+recalled_store meant k store =
+    record store { states = all_recalled store.states (meant k (length store.states)) }
 
 abbrev pub recalled_in : {D H : Type 0} → Meant → List Facts → Slot D H → Slot D H
 recalled_in meant trees slot = option_map_or
-    (λ k. record slot { store = option_map (recalled_store meant k) slot.store }) (slice_get trees slot.tree) slot
+    (λ k. record slot { store = option_map (recalled_store meant k) slot.store })
+    (slice_get trees slot.tree) slot
 
 -- those that hints record and whose leaves are known
 abbrev pub recalled_slot : {D H : Type 0} → (List ℕ → List ℕ) → List Hint → List Facts → (file : ℕ)
@@ -30,4 +32,5 @@ recalled_slot dig hints trees file slot =
 -- those of one run
 abbrev pub with_run : {D H : Type 0} → (List ℕ → List ℕ) → List Facts → (first count : ℕ)
     → Slot D H → Slot D H
-with_run dig trees first count slot = recalled_in (λ k blocks. known_in_run dig k blocks first count) trees slot
+with_run dig trees first count slot =
+    recalled_in (λ k blocks. known_in_run dig k blocks first count) trees slot

@@ -1,7 +1,9 @@
 //! The blocks that wait are read.
 ghost use Rattle.std.specs.Prelude.{◌≡◌, ℕ, Some, map, slice_get};
 ghost use Rattle.bt_resume.specs.LogText.{hints_in};
-ghost use Rattle.bt_recall.specs.Restoring.{tree_and_length, block_total, HasTree, HaveTrees, AreMissing, RestoresSlots};
+ghost use Rattle.bt_recall.specs.Recovering.{AreMissing};
+ghost use Rattle.bt_recall.specs.RestoringSteps.{tree_and_length, block_total};
+ghost use Rattle.bt_recall.specs.RestoringSteps.{HasTree, HaveTrees, RestoresSlots};
 ghost use Rattle.bt_recall.specs.ReadsSteps.{IsSettled};
 
 use crate::marks::recall_marks;

@@ -4,8 +4,7 @@ ghost use Rattle.bt_machine.specs.Restart.{KeepsPlaces};
 ghost use Rattle.bt_machine.specs.Shape.{IsShaped};
 ghost use Rattle.bt_state.specs.Parts.{state_of};
 ghost use Rattle.bt_state.specs.Ties.{IsTied};
-ghost use Rattle.bt_recall.specs.Restoring.{AreMissing};
-ghost use Rattle.bt_recall.specs.Recovering.{RecoversFiles};
+ghost use Rattle.bt_recall.specs.Recovering.{AreMissing, RecoversFiles};
 
 use crate::following::follow_files;
 use crate::reads::restore_files;
@@ -13,8 +12,8 @@ use bt_disk::Disk;
 use bt_state::Parts;
 use bt_tree::NodeHash;
 
-/// Restores the files of an engine, by the marks of the hints that were last read from its log. All blocks are
-/// missing, no peer is connected, and the trees have taken the log's proofs. Takes no memory.
+/// Restores the files of an engine, by the marks of the hints that were last read from its log. All blocks
+/// are missing, no peer is connected, and the trees have taken the log's proofs. Takes no memory.
 pub fn recover_files<D: Disk + Drop, H: NodeHash>(parts: &mut Parts<D, H>)
     requires tied { IsTied parts.old }
     requires shaped { IsShaped parts.old.torrent (state_of parts.old) }

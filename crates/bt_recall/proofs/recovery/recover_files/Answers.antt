@@ -2,7 +2,8 @@ use Rattle.std.proofs.Common.{sym, ap, ◌∙◌, subst}
 use Rattle.std.proofs.lemmas.List.{with_items_is}
 use Rattle.std.specs.Vec.{with_items}
 use Rattle.bt_state.specs.Parts.{hints_of}
-use Rattle.bt_recall.specs.Restoring.{tree_and_length, block_total, HaveTrees, AreMissing}
+use Rattle.bt_recall.specs.Recovering.{AreMissing}
+use Rattle.bt_recall.specs.RestoringSteps.{tree_and_length, block_total, HaveTrees}
 use Rattle.bt_recall.proofs.Recovers.{trees_of_tied, seen_alike, restored_alike, follows_first, recovers, places, tied_then}
 use Rattle.bt_recall.proofs.recovery.recover_files.Goals as goal
 

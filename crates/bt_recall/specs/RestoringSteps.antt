@@ -1,10 +1,9 @@
--- Files of a torrent whose recorded blocks are read.
+-- Files of a torrent whose recorded blocks are read. No public contract cites it.
 use Rattle.std.specs.Prelude.{◌≡◌, ℕ, List, length, map, Option, Some, option_map, slice_get}
 use Rattle.std.specs.List.{range_with_len}
 use Rattle.bt_disk.specs.History.{History}
 use Rattle.bt_sparse.specs.SparseTree.{Facts}
 use Rattle.bt_resume.specs.declared.hint.Hint.{Hint}
-use Rattle.bt_store.specs.FileStore.{StoreView, new_states}
 use Rattle.bt_machine.specs.State.{EngineState}
 use Rattle.bt_machine.specs.Devices.{DeviceCalls, HaveCalls}
 use Rattle.bt_machine.specs.Recovery.{RestoresFiles}
@@ -28,12 +27,8 @@ abbrev pub HaveTrees : {D H : Type 0} → List Facts → List (Slot D H) → Typ
 HaveTrees {D} {H} trees slots = (file : ℕ) (slot : Slot D H) → slice_get slots file ≡ Some slot
     → HasTree trees (tree_and_length slot)
 
--- all blocks are missing
-abbrev pub AreMissing : {D H : Type 0} → List (Slot D H) → Type 0
-AreMissing {D} {H} slots = (file : ℕ) (slot : Slot D H) (store : StoreView D)
-    → slice_get slots file ≡ Some slot → slot.store ≡ Some store → store.states ≡ new_states store.file_length
-
--- In every engine that has these trees and files, the machine restores the files so, by calls of these devices.
+-- In every engine that has these trees and files, the machine restores the files so, by calls of these
+-- devices.
 pub record RestoresSlots {D H : Type 0} (history : D → History) (honest : D → Type 0) (faults : D → ℕ)
     (dig : List ℕ → List ℕ) (hints : List Hint) (trees : List Facts) (old new : List (Slot D H))
     : Type 0 where
