@@ -22,11 +22,11 @@ compile_for() {
     touch "$room/started"
     echo "$1" >"$room/level"
     ln -s "$(dirname -- "$(rt doc)")" "$room/kit"
-    echo 'compiling without proof, some two minutes; ./prove proves and builds it, some 35 minutes' >&2
+    echo 'compiling without proof, some two minutes; ./prove proves and builds it, some 50 minutes' >&2
     in_group "$top/scripts/without_proof" "$room" </dev/null >"$room/log" 2>&1 || status=$?
     if [[ -e $room/unknown ]]; then
         word=$(<"$room/unknown")
-        echo "what this kit compiles has no line like $word, so ./prove is done instead, some 35 minutes" >&2
+        echo "what this kit compiles has no line like $word, so ./prove is done instead, some 50 minutes" >&2
     elif ((status)); then
         cat "$room/log" >&2
         stop 'the program was not compiled: see above'
@@ -44,7 +44,7 @@ compile() {
     local kit status=0
     kit=$(rt version)
     if [[ $kit != "$tried_with" ]]; then
-        echo "compiling without proof was tried with $tried_with, and this is $kit, so ./prove is done instead, some 35 minutes" >&2
+        echo "compiling without proof was tried with $tried_with, and this is $kit, so ./prove is done instead, some 50 minutes" >&2
         return 1
     fi
     mkdir -p "${unproved%/*}" || exit 70

@@ -1,6 +1,7 @@
 -- What the functions of one message do is what is said of an event that was handled.
 use Rattle.bt_machine.proofs.Base.{[], ◌≡◌, ℕ, ◌<◌, inl, inr, true, List, length, Option, Some, Ok, Err, Result, refl, sym, ap, ◌∙◌, subst, arith, slice_get, length-map, History, PeerKey, WireEvent}
 use Rattle.std.specs.Prelude.{IfOk, IfErr}
+use Rattle.std.specs.Option.{option_to_list}
 use Rattle.std.proofs.lemmas.Bool.{cases_eq}
 use Rattle.bt_machine.specs.declared.error.EngineError.{EngineError}
 use Rattle.bt_machine.specs.State.{PeerState, EngineState, Hint}
@@ -16,7 +17,7 @@ use Rattle.bt_state.specs.declared.parts.Parts.{Parts}
 use Rattle.bt_state.proofs.DeviceCalls.{have_none}
 use Rattle.bt_state.proofs.Lists.{get_mapped}
 use Rattle.bt_state.proofs.PeerLists.{keys_apart}
-use Rattle.bt_engine.specs.EventSteps.{proofs_in, effect_of, IsHandled}
+use Rattle.bt_engine.specs.EventSteps.{proof_in, effect_of, IsHandled}
 use Rattle.bt_engine.specs.declared.event.Handled.{Handled}
 
 pub if_ok : {A E : Type 0} (P Q : A → Type 0) (r : Result A E) → IfOk r P → ((x : A) → P x → Q x) → IfOk r Q
@@ -34,7 +35,7 @@ module _ {D H : Type 0} (history : D → History) (honest : D → Type 0) (fault
       subst (λ (ds : List (Option D)). HaveCalls history honest faults (disks_of old) [] ds) (sym same) (have_none history honest faults (disks_of old))
 
   pub handled_by : (i : ℕ) (event : WireEvent) (handled : Handled) (calls : DeviceCalls) (proofs : List Hint)
-      → ((state_of old).logged ≡ true → proofs ≡ proofs_in handled) → i < length old.peers.items
+      → ((state_of old).logged ≡ true → proofs ≡ option_to_list (proof_in handled)) → i < length old.peers.items
       → HaveCalls history honest faults (disks_of old) calls (disks_of mid)
       → ((p : PeerState) → slice_get (state_of old).peers i ≡ Some p
       → Handles dig (state_of old) i p event calls (effect_of p handled proofs) (state_of mid))

@@ -11,8 +11,7 @@ use Rattle.bt_machine.proofs.Shape.{map_set as map_stays}
 use Rattle.bt_machine.specs.declared.error.FlushError.TheVariants.{Device}
 use Rattle.bt_machine.specs.State.{FileState}
 use Rattle.bt_machine.specs.Devices.{DeviceCalls, HaveCalls}
-use Rattle.bt_machine.specs.LogCalls.{on_devices}
-use Rattle.bt_machine.specs.Flush.{syncs as all_made, fails, syncs_of}
+use Rattle.bt_machine.specs.Flush.{fails, syncs_of}
 use Rattle.bt_state.specs.Parts.{file_of, disk_of}
 use Rattle.bt_state.specs.declared.slot.Slot.{Slot}
 use Rattle.bt_state.proofs.DeviceCalls.{have_none, have_then}
@@ -126,7 +125,7 @@ module _ {D H : Type 0} (history : D → History) (honest : D → Type 0) (fault
         record {
           calls = syncs_of (data_below files i) ++ (i, _) ∷ [];
           have = have_call store disk has is _ calls;
-          step = λ s logged same. fails (data_below files i) i (data_after files i (length files) lt)
+          synced = λ s same. fails (data_below files i) i (data_after files i (length files) lt)
               (ap (λ (fs : List FileState). data_below fs (length fs)) same ∙ data_at files i (length files) lt
               ∙ ap (λ t. data_below files i ++ cond t (i ∷ data_after files i (length files) lt) (data_after files i (length files) lt)) stands)
               refl refl refl;
@@ -138,8 +137,9 @@ module _ {D H : Type 0} (history : D → History) (honest : D → Type 0) (fault
   all_synced old now i all below = record {
     calls = syncs_of (data_below (map file_of old) i);
     have = below.have;
-    step = λ s logged same. all_made logged
-        (ap on_devices (ap (λ n. syncs_of (data_below (map file_of old) n)) (all ∙ sym (length-map old file_of))
-        ∙ sym (ap (λ (fs : List FileState). syncs_of (data_below fs (length fs))) same))) refl refl;
+    synced = λ s same. (
+        ap (λ n. syncs_of (data_below (map file_of old) n)) (all ∙ sym (length-map old file_of))
+        ∙ sym (ap (λ (fs : List FileState). syncs_of (data_below fs (length fs))) same)
+        );
     others = below.others;
   }

@@ -58,6 +58,7 @@ module _ (dig : List ℕ → List ℕ) where
       pub behind : after ≡ before ++ sent
       pub devices : disks_of now ≡ disks_of old
       pub torrent : now.torrent ≡ old.torrent
+      pub log : now.log ≡ old.log
       pub count : length now.peers.items ≡ length old.peers.items
       pub shaped : IsShaped now.torrent (state_of now)
       pub tied : IsTied now
@@ -70,6 +71,7 @@ module _ (dig : List ℕ → List ℕ) where
         behind = sym (append-nil before);
         devices = refl;
         torrent = refl;
+        log = refl;
         count = refl;
         shaped = shaped;
         tied = tied;
@@ -77,8 +79,9 @@ module _ (dig : List ℕ → List ℕ) where
 
       pub one_followed : (i : ℕ) (mid new : Parts D H) (so_far after : List Sent) → AreFollowedBelow old before i mid so_far
           → SendsFollowUp dig (state_of mid) i so_far after (state_of new) → disks_of new ≡ disks_of mid → new.torrent ≡ mid.torrent
+          → new.log ≡ mid.log
           → map (λ p. p.key) new.peers.items ≡ map (λ p. p.key) mid.peers.items → IsTied new → AreFollowedBelow old before (i + 1) new after
-      one_followed i mid new so_far after below sends devices torrent keys tied =
+      one_followed i mid new so_far after below sends devices torrent log keys tied =
           let place : 0 + i ≡ i = omega arith in
           record {
             sent = below.sent ++ sends.sent;
@@ -87,6 +90,7 @@ module _ (dig : List ℕ → List ℕ) where
             behind = sends.behind ∙ ap (λ xs. xs ++ sends.sent) below.behind ∙ append_assoc before below.sent sends.sent;
             devices = devices ∙ below.devices;
             torrent = torrent ∙ below.torrent;
+            log = log ∙ below.log;
             count = sym (length-map new.peers.items (λ (p : Peer). p.key)) ∙ ap (λ ks. length ks) keys ∙ length-map mid.peers.items (λ (p : Peer). p.key) ∙ below.count;
             shaped = shaped_again i _ below.shaped sends.follows.after;
             tied = tied;

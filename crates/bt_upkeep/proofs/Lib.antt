@@ -1,6 +1,7 @@
 -- devices
 pub mod Flushes
 pub mod SlotTies
+pub mod LogWrites
 -- peers
 pub mod Choices
 pub mod Turns

@@ -1,4 +1,4 @@
--- The parts of an engine of which only devices changed.
+-- The parts of an engine of which only devices and the log changed.
 use Rattle.bt_machine.proofs.Base.{◌≡◌, ℕ, List, [], ◌∷◌, length, map, Option, Some, None, option_map, option_map_or, slice_get, refl, sym, ap, ◌∙◌, BlockState, length-map, subst, History, Result}
 use Rattle.bt_meta.specs.Files.{File}
 use Rattle.bt_sparse.specs.SparseTree.{Facts}
@@ -7,14 +7,13 @@ use Rattle.bt_machine.proofs.Lists.{get_map, map_some}
 use Rattle.bt_machine.specs.State.{EngineState, FileState}
 use Rattle.bt_machine.specs.Blocks.{state_at}
 use Rattle.bt_machine.specs.declared.error.FlushError.{FlushError}
-use Rattle.bt_machine.specs.Devices.{DeviceCalls, HaveCalls}
-use Rattle.bt_machine.specs.LogCalls.{on_devices}
-use Rattle.bt_machine.specs.Flush.{StepFlush}
-use Rattle.bt_state.specs.Parts.{state_of, file_of, disks_of}
+use Rattle.bt_state.specs.Parts.{state_of, file_of}
 use Rattle.bt_state.specs.Ties.{IsTied, FitsFile, AreUnmarked, KnowsLeaves}
 use Rattle.bt_state.specs.declared.slot.Slot.{Slot}
+use Rattle.bt_state.specs.declared.open_log.OpenLog.{OpenLog}
 use Rattle.bt_state.specs.declared.parts.Parts.{Parts}
 use Rattle.bt_state.proofs.Lists.{get_mapped}
+use Rattle.bt_state.proofs.Ties.{tied_again}
 use Rattle.bt_upkeep.specs.DevicesSteps.{store_without_disk, without_disk, SyncsSlots}
 
 -- the machine's file of what is kept
@@ -73,16 +72,6 @@ module _ {D H : Type 0} where
     pub state_kept : state_of (record old { slots = new.slots }) ≡ state_of old
     state_kept = ap (λ (files : List FileState). record (state_of old) { files = files }) (files_stay old.slots.items new.slots.items kept)
 
-    pub flushed : (history : D → History) (honest : D → Type 0) (faults : D → ℕ) (r : Result (Unit {0}) FlushError)
-        → SyncsSlots history honest faults old.slots.items r new.slots.items
-        → (calls : DeviceCalls) × HaveCalls history honest faults (disks_of old) calls (disks_of (record old { slots = new.slots }))
-        × StepFlush (state_of old) (on_devices calls) r (state_of (record old { slots = new.slots }))
-    flushed history honest faults r synced = (
-      synced.calls,
-      synced.have,
-      subst (λ (s : EngineState). StepFlush (state_of old) (on_devices synced.calls) r s) (sym state_kept) (synced.step (state_of old) refl refl),
-    )
-
     fits_still : IsTied old → (i : ℕ) (slot : Slot D H) → slice_get new.slots.items i ≡ Some slot → FitsFile old.torrent.files old.trees.items i slot
     fits_still tied i slot here =
         let was = get_map without_disk old.slots.items i (ap (λ ks. slice_get ks i) (sym kept) ∙ get_mapped without_disk new.slots.items i here) in
@@ -101,3 +90,10 @@ module _ {D H : Type 0} where
       unmarked = subst (λ (s : EngineState). AreUnmarked s old.unmarked.items) (sym state_kept) tied.unmarked;
       known = subst (λ (s : EngineState). KnowsLeaves s old.known) (sym state_kept) tied.known;
     }
+
+    -- and with another log
+    pub tied_with : IsTied old → (log : Option (OpenLog D)) → IsTied (record old { slots = new.slots; log = log })
+    tied_with tied log =
+        let synced = tied_kept tied in
+        tied_again (record old { slots = new.slots }) (record old { slots = new.slots; log = log }) synced refl refl refl refl refl refl refl
+        synced.joined synced.in_order synced.room

@@ -1,28 +1,37 @@
-//! The devices of all files.
+//! The devices of all files, and the log.
 ghost use Rattle.std.specs.Prelude.{◌≡◌, ◌<◌, length};
-ghost use Rattle.bt_machine.specs.Devices.{DeviceCalls, HaveCalls};
+ghost use Rattle.bt_machine.specs.Devices.{HaveCalls};
 ghost use Rattle.bt_machine.specs.Flush.{StepFlush};
-ghost use Rattle.bt_machine.specs.LogCalls.{on_devices};
-ghost use Rattle.bt_state.specs.Parts.{state_of, disks_of};
+ghost use Rattle.bt_machine.specs.LogCalls.{EventCalls, HaveLogCalls};
+ghost use Rattle.bt_state.specs.Parts.{state_of, disks_of, log_of};
 ghost use Rattle.bt_state.specs.Ties.{IsTied};
-ghost use Rattle.bt_upkeep.specs.DevicesSteps.{SyncsSlot, SyncsSlots};
+ghost use Rattle.bt_upkeep.specs.DevicesSteps.{SyncsSlot, SyncsSlots, WritesLog};
 
 use bt_disk::{DeviceFault, Disk};
 use bt_machine::FlushError;
-use bt_state::{Parts, Slot};
+use bt_pending::writing_flushes;
+use bt_state::{OpenLog, Parts, Slot};
 use bt_store::FileStore;
 use bt_tree::NodeHash;
 
-/// Syncs the device of each file that has a byte, in the order of files, up to the first that fails.
+/// Syncs the device of each file that has a byte, in the order of files. Where there is a log, it then appends to
+/// it all hints that wait, in their order, and has it flushed: none waits any more. It ends at the first fault.
+/// Takes no memory.
+///
+/// Errors: `LogFull` where the log would get longer than 2^40 bytes; `Device`. Then all of them wait as before,
+/// also those that were appended: the log has forgotten these.
 pub fn flush<D: Disk + Drop, H: NodeHash>(parts: &mut Parts<D, H>) -> Result<(), FlushError>
     requires { IsTied parts.old }
-    ensures step { (calls : DeviceCalls)
-        × HaveCalls D.history D.honest D.faults (disks_of parts.old) calls (disks_of parts.new)
-        × StepFlush (state_of parts.old) (on_devices calls) result (state_of parts.new) }
+    ensures step { (calls : EventCalls)
+        × HaveCalls D.history D.honest D.faults (disks_of parts.old) calls.devices (disks_of parts.new)
+        × HaveLogCalls D.history D.honest D.faults (log_of parts.old) calls.log (log_of parts.new)
+        × StepFlush (state_of parts.old) calls result (state_of parts.new) }
     ensures torrent { parts.new.torrent ≡ parts.old.torrent }
     ensures tied { IsTied parts.new }
 {
-    sync_slots(&mut parts.slots)
+    writing_flushes();
+    sync_slots(&mut parts.slots)?;
+    write_log(&mut parts.log)
 }
 
 /// Syncs the device of each slot that has one, up to the first that fails.
@@ -53,4 +62,14 @@ fn has_block<D: Disk + Drop, H: NodeHash>(store: &FileStore<D, H>)
     ensures { 0 < length store.now.states }
 {
     let _ = store.geometry().blocks();
+}
+
+/// Writes what waits to the log, where there is one.
+fn write_log<D: Disk + Drop>(log: &mut Option<OpenLog<D>>) -> Result<(), FlushError>
+    ensures { WritesLog D.history D.honest D.faults log.old result log.new }
+{
+    let Some(open_log) = log else {
+        return Ok(());
+    };
+    open_log.pending.write_to(&mut open_log.log)
 }

@@ -35,6 +35,7 @@ pub fn rechoke<D: Disk + Drop, H: NodeHash>(
     ensures step { StepRechoke H.digest (state_of parts.old) result (state_of parts.new) }
     ensures devices { disks_of parts.new ≡ disks_of parts.old }
     ensures torrent { parts.new.torrent ≡ parts.old.torrent }
+    ensures log { parts.new.log ≡ parts.old.log }
     ensures tied { IsTied parts.new }
 {
     let standings = standings(alloc, &parts.peers)?;
@@ -80,6 +81,7 @@ fn begin_turn<D: Disk + Drop, H: NodeHash>(
     ensures capacity { vec_capacity send.old ≤ vec_capacity send.new }
     ensures devices { disks_of parts.new ≡ disks_of parts.old }
     ensures torrent { parts.new.torrent ≡ parts.old.torrent }
+    ensures log { parts.new.log ≡ parts.old.log }
     ensures tied { IsTied parts.new }
 {
     serve(&mut parts.peers, served, send);
@@ -146,6 +148,7 @@ fn follow_up_all<D: Disk + Drop, H: NodeHash>(
         (state_of parts.new) }
     ensures devices { disks_of parts.new ≡ disks_of parts.old }
     ensures torrent { parts.new.torrent ≡ parts.old.torrent }
+    ensures log { parts.new.log ≡ parts.old.log }
     ensures tied { IsTied parts.new }
 {
     for index in 0..parts.peers.len() {

@@ -1,5 +1,5 @@
 -- Hashes that come, over the parts of an engine.
-use Rattle.bt_machine.proofs.Base.{[], ◌≡◌, ◌≢◌, ℕ, ◌<◌, inl, inr, AllPairs, cases_lt, sum_by, List, length, map, Option, Some, None, refl, sym, ap, ◌∙◌, subst, arith, slice_get, option_map, PeerKey, Facts, History, HashKey}
+use Rattle.bt_machine.proofs.Base.{[], ◌≡◌, ◌≢◌, ℕ, ◌<◌, inl, inr, AllPairs, cases_lt, sum_by, List, length, map, is_some, Option, Some, None, refl, sym, ap, ◌∙◌, subst, arith, slice_get, option_map, PeerKey, Facts, History, HashKey}
 use Rattle.std.specs.Global.{Vec}
 use Rattle.std.specs.Vec.{with_item, with_items, vec_len}
 use Rattle.bt_book.specs.Book.{asked_of, peers_of}
@@ -7,7 +7,7 @@ use Rattle.bt_store.specs.FileStore.{StoreView}
 use Rattle.std.proofs.lemmas.Option.{get_or_from_slice_get}
 use Rattle.bt_machine.proofs.Lists.{some_is, some_below, map_some, get_map}
 use Rattle.bt_machine.proofs.Shape.{map_set}
-use Rattle.bt_machine.specs.State.{EngineState, PeerState, FileState}
+use Rattle.bt_machine.specs.State.{EngineState, PeerState, FileState, Hint}
 use Rattle.bt_machine.specs.Blocks.{with_peer}
 use Rattle.bt_machine.specs.HashMessages.{Resolves, settled_count, new_proofs}
 use Rattle.bt_machine.specs.Shape.{IsShaped}
@@ -32,10 +32,12 @@ use Rattle.bt_state.proofs.Ties.{state_set}
 use Rattle.bt_wire_events.specs.Hashes.{TakesHashes, IsNoteRoom}
 use Rattle.bt_wire_events.specs.NoteRooms.{slot_room, run_room}
 use Rattle.bt_wire_events.specs.HashesSteps.{AreNotesOf, IsBehind}
+use Rattle.bt_wire_events.specs.HintSteps.{hint_of, kept_hint}
 use Rattle.bt_wire_events.specs.LearningSteps.{HasRoot, AreRefused, Learns, ChangesByHashes, FitLengths, IsRoomFor}
 use Rattle.bt_wire_events.specs.declared.learning.Learnt.{Learnt}
 use Rattle.bt_wire_events.specs.declared.learning.Learnt.TheVariants.{Refused, Settled}
 use Rattle.bt_wire_events.proofs.HashesHandled.{at_file, nothing_called, refused_so, learning_calls, have_learning_calls, learnt_so}
+use Rattle.bt_wire_events.proofs.KeptHints.{keeps_none, keeps_proofs}
 use Rattle.bt_wire_events.proofs.NotedBlocks.{slots_noted}
 use Rattle.bt_wire_events.proofs.Vectors.{vec_kept}
 
@@ -47,14 +49,14 @@ fits_lengths {D} parts tied file slot k here stands = λ same store has.
 
 -- the lists that were lent are the parts'
 pub changes_of : {D H : Type 0} (history : D → History) (honest : D → Type 0) (faults : D → ℕ) (dig : List ℕ → List ℕ) (key : HashKey) (digests : List ℕ)
-    (old : Parts D H) (trees : List Facts) (slots : List (Slot D H)) (said learnt : Learnt) (grown : List Facts) (settled : List (Slot D H))
+    (hint : Option Hint) (old : Parts D H) (trees : List Facts) (slots : List (Slot D H)) (said learnt : Learnt) (grown : List Facts) (settled : List (Slot D H))
     → trees ≡ old.trees.items → slots ≡ old.slots.items → said ≡ learnt
-    → ChangesByHashes history honest faults dig key digests trees slots said grown settled
-    → ChangesByHashes history honest faults dig key digests old.trees.items old.slots.items learnt grown settled
-changes_of {D} {H} history honest faults dig key digests old trees slots said learnt grown settled same_trees same_slots is changes =
-    subst (λ (ts : List Facts). ChangesByHashes history honest faults dig key digests ts old.slots.items learnt grown settled) same_trees
-    (subst (λ (ss : List (Slot D H)). ChangesByHashes history honest faults dig key digests trees ss learnt grown settled) same_slots
-    (subst (λ (l : Learnt). ChangesByHashes history honest faults dig key digests trees slots l grown settled) is changes))
+    → ChangesByHashes history honest faults dig key digests hint trees slots said grown settled
+    → ChangesByHashes history honest faults dig key digests hint old.trees.items old.slots.items learnt grown settled
+changes_of {D} {H} history honest faults dig key digests hint old trees slots said learnt grown settled same_trees same_slots is changes =
+    subst (λ (ts : List Facts). ChangesByHashes history honest faults dig key digests hint ts old.slots.items learnt grown settled) same_trees
+    (subst (λ (ss : List (Slot D H)). ChangesByHashes history honest faults dig key digests hint trees ss learnt grown settled) same_slots
+    (subst (λ (l : Learnt). ChangesByHashes history honest faults dig key digests hint trees slots l grown settled) is changes))
 
 -- the same trees and slots were written over the parts'
 pub parts_kept : {D H : Type 0} (old : Parts D H) (trees : List Facts) (slots : List (Slot D H)) → length trees ≡ vec_len old.trees → trees ≡ old.trees.items
@@ -73,6 +75,7 @@ takes_refused {D} {H} history honest faults dig key digests old new i why same r
   [],
   subst (λ (x : Parts D H). HaveCalls history honest faults (disks_of old) [] (disks_of x)) (sym same) (nothing_called history honest faults (disks_of old)),
   λ p at. refused_so dig key digests old.trees.items why refusal (state_of old) i p (state_of new) refl (ap (λ (x : Parts D H). state_of x) same),
+  keeps_none old,
 )
 
 no_store : {D : Type 0} (o : Option (StoreView D)) → option_map (λ store. store.file_length) o ≡ None → o ≡ None
@@ -158,8 +161,9 @@ module _ {D H : Type 0} (history : D → History) (honest : D → Type 0) (fault
 
     pub takes_learnt : (hash : HashState) → q ≡ record p { hash = hash } → Resolves key Idle p.hash hash
         → ((known : PeerKey) → asked_of next.book known ≡ asked_of old.book known)
-        → TakesHashes history honest faults dig old i key digests (Settled notes) new_parts
-    takes_learnt hash is resolves asked =
+        → (hint kept : Option Hint) → hint ≡ hint_of (is_some old.log) key digests → kept ≡ kept_hint l.old l.new hint
+        → TakesHashes history honest faults dig old i key digests (Settled notes kept) new_parts
+    takes_learnt hash is resolves asked hint kept made keeps =
         let calls = learning_calls dig key digests old.trees.items history honest faults old.slots.items grown settled l in
         let proofs = new_proofs key digests l.old l.new in (
           calls,
@@ -175,6 +179,7 @@ module _ {D H : Type 0} (history : D → History) (honest : D → Type 0) (fault
               subst (λ (t : EngineState). HandlesHashes dig (state_of old) i x key digests calls (record no_effect { notes = notes.items; proofs = proofs }) t) (sym last)
               (learnt_so dig key digests old.trees.items history honest faults old.slots.items grown settled l (state_of old) i x hash refl refl
               (subst (λ (y : PeerState). Resolves key Idle y.hash hash) own resolves)),
+          keeps_proofs key digests old l.old l.new hint kept made keeps,
         )
 
 -- room for the notes of the parts is room for those of their trees and slots

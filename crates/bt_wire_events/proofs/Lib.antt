@@ -8,4 +8,5 @@ pub mod Vectors
 pub mod NotedBlocks
 pub mod Following
 pub mod HashesHandled
+pub mod KeptHints
 pub mod HashEvents

@@ -1,6 +1,7 @@
 -- Hashes that come to an engine.
-use Rattle.std.specs.Prelude.{◌≡◌, ℕ, List, Some, slice_get}
+use Rattle.std.specs.Prelude.{◌≡◌, ℕ, true, List, Option, Some, None, slice_get}
 use Rattle.std.specs.List.{sum_by}
+use Rattle.std.specs.Option.{option_to_list}
 use Rattle.bt_disk.specs.History.{History}
 use Rattle.bt_sparse.specs.SparseTree.{Facts}
 use Rattle.bt_hashreq.specs.declared.key.HashKey.{HashKey}
@@ -19,7 +20,18 @@ use Rattle.bt_wire_events.specs.declared.learning.Learnt.TheVariants.{Refused, S
 -- what the machine does where hashes come to this
 abbrev pub effect_of : Learnt → List Hint → Effect
 effect_of (Refused why) proofs = closing why
-effect_of (Settled notes) proofs = record no_effect { notes = notes.items; proofs = proofs }
+effect_of (Settled notes hint) proofs = record no_effect { notes = notes.items; proofs = proofs }
+
+-- the hint that is to be kept of them, if there is one
+abbrev pub hint_in : Learnt → Option Hint
+hint_in (Refused why) = None
+hint_in (Settled notes hint) = hint
+
+-- With a log the hint is the proof that the machine keeps, if it keeps one. Without a log there is none.
+pub record KeepsProofs {D H : Type 0} (parts : Parts D H) (hint : Option Hint) (proofs : List Hint)
+    : Type 0 where
+  pub logged : (state_of parts).logged ≡ true → proofs ≡ option_to_list hint
+  pub unlogged : parts.log ≡ None → hint ≡ None
 
 -- by calls of the devices the machine takes the hashes from the peer at i, and comes to the new parts
 abbrev pub TakesHashes : {D H : Type 0} → (D → History) → (D → Type 0) → (D → ℕ) → (List ℕ → List ℕ)
@@ -29,6 +41,7 @@ TakesHashes history honest faults dig old i key digests learnt new =
     × HaveCalls history honest faults (disks_of old) calls (disks_of new)
     × ((p : PeerState) → slice_get (state_of old).peers i ≡ Some p → HandlesMessage dig (state_of old) i p
     (hashes_message key digests) calls (effect_of learnt proofs) (state_of new))
+    × KeepsProofs old (hint_in learnt) proofs
 
 -- so many notes there may be: those of all files of the root's tree, and none where no tree has the root
 pub record IsNoteRoom {D H : Type 0} (parts : Parts D H) (key : HashKey) (room : ℕ) : Type 0 where

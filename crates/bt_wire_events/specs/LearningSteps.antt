@@ -1,5 +1,5 @@
 -- What hashes that come make of the trees and the files.
-use Rattle.std.specs.Prelude.{[], ◌≡◌, ◌≢◌, ◌≤◌, ℕ, List, Some, slice_get, slice_set}
+use Rattle.std.specs.Prelude.{[], ◌≡◌, ◌≢◌, ◌≤◌, ℕ, List, Option, Some, slice_get, slice_set}
 use Rattle.std.specs.List.{sum_by}
 use Rattle.bt_disk.specs.History.{History}
 use Rattle.bt_sparse.specs.SparseTree.{Facts}
@@ -13,6 +13,8 @@ use Rattle.bt_machine.specs.declared.answer.Note.{Note}
 use Rattle.bt_machine.specs.declared.answer.Why.{Why}
 use Rattle.bt_machine.specs.declared.answer.Why.TheVariants.{UnknownRoot, Proof}
 use Rattle.bt_machine.specs.HashMessages.{settled_count}
+use Rattle.bt_machine.specs.State.{Hint}
+use Rattle.bt_wire_events.specs.HintSteps.{kept_hint}
 use Rattle.bt_wire_events.specs.NoteRooms.{slot_room, run_room}
 use Rattle.bt_wire_events.specs.RunSteps.{SettlesSlots, FitsLength}
 use Rattle.bt_state.specs.declared.slot.Slot.{Slot}
@@ -52,13 +54,15 @@ pub record Learns {D H : Type 0} (history : D → History) (honest : D → Type 
   pub settles : SettlesSlots history honest faults dig new tree key.index (settled_count key) slots [] notes
       settled
 
--- refused hashes change nothing
+-- Refused hashes change nothing. Of others the hint is given back, if there is one and it is to be kept.
 abbrev pub ChangesByHashes : {D H : Type 0} → (D → History) → (D → Type 0) → (D → ℕ) → (List ℕ → List ℕ)
-    → HashKey → List ℕ → List Facts → List (Slot D H) → Learnt → List Facts → List (Slot D H) → Type 0
-ChangesByHashes history honest faults dig key digests trees slots (Refused why) grown settled =
+    → HashKey → List ℕ → Option Hint → List Facts → List (Slot D H) → Learnt → List Facts → List (Slot D H)
+    → Type 0
+ChangesByHashes history honest faults dig key digests hint trees slots (Refused why) grown settled =
     AreRefused dig trees key digests why × (grown ≡ trees) × (settled ≡ slots)
-ChangesByHashes history honest faults dig key digests trees slots (Settled notes) grown settled =
-    Learns history honest faults dig key digests trees slots notes.items grown settled
+ChangesByHashes history honest faults dig key digests hint trees slots (Settled notes kept) grown settled =
+    (l : Learns history honest faults dig key digests trees slots notes.items grown settled)
+    × (kept ≡ kept_hint l.old l.new hint)
 
 -- the blocks of a run are settled in the tree of this root with at most so many notes
 abbrev pub IsRoomFor : {D H : Type 0} → List Facts → List (Slot D H) → HashKey → ℕ → Type 0

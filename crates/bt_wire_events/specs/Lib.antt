@@ -4,6 +4,7 @@ pub mod HashRequestSteps
 pub mod SettlingSteps
 pub mod NoteRooms
 pub mod RunSteps
+pub mod HintSteps
 pub mod LearningSteps
 pub mod Hashes
 pub mod HashesSteps

@@ -32,4 +32,4 @@ run_room key = min (settled_count key) max_run_length
 -- how many notes hashes came to
 abbrev pub note_count : Learnt → ℕ
 note_count (Refused why) = 0
-note_count (Settled notes) = vec_len notes
+note_count (Settled notes hint) = vec_len notes

@@ -1,17 +1,19 @@
-ghost use Rattle.std.specs.Prelude.{◌≡◌, ◌+◌, ◌*◌, ◌<◌, ◌≤◌, ℕ, IfOk, IfErr, length, map, vec_len};
+ghost use Rattle.std.specs.Prelude.{◌≡◌, ◌+◌, ◌*◌, ◌<◌, ◌≤◌, ℕ, IfOk, IfErr, IfSome, length, map, vec_len};
 ghost use Rattle.bt_meta.specs.Limits.{max_file_count};
 ghost use Rattle.bt_book.specs.Book.{asked_of, peers_of};
 ghost use Rattle.bt_book.specs.declared.names.PeerKey.{PeerKey};
 ghost use Rattle.bt_sparse.specs.Answer.{max_run_length};
+ghost use Rattle.bt_resume.specs.Hint.{CanBeRead};
 ghost use Rattle.bt_machine.specs.Shape.{IsShaped};
 ghost use Rattle.bt_machine.specs.State.{EngineState};
 ghost use Rattle.bt_state.specs.BlockChange.{AreFollowed};
 ghost use Rattle.bt_state.specs.Parts.{state_of};
 ghost use Rattle.bt_state.specs.Ties.{IsTied};
 ghost use Rattle.bt_wire_events.specs.NoteRooms.{note_count};
-ghost use Rattle.bt_wire_events.specs.Hashes.{TakesHashes, IsNoteRoom};
+ghost use Rattle.bt_wire_events.specs.Hashes.{TakesHashes, IsNoteRoom, hint_in};
 ghost use Rattle.bt_wire_events.specs.HashesSteps.{IsNoteOf, HasNoted, IsBehind};
 
+use crate::hints::hint_for;
 use crate::learning::{Learnt, learn_hashes, settled_count, tree_of};
 use crate::message::resolved_hash_state;
 use crate::runs::room_for;
@@ -26,7 +28,8 @@ use std::alloc::{AllocError, Global};
 
 /// Takes hashes that come from the peer at `index`: the tree of their root learns them, and then the blocks
 /// of their run that waited are read back in every file of the root. Where the peer is asked for these
-/// hashes, it may be asked for others. Errors: out of memory, and nothing changes then.
+/// hashes, it may be asked for others. With a log, the hint that it is to keep of them is given, which can be
+/// read back. Errors: out of memory, and nothing changes then.
 pub fn take_hashes<D: Disk + Drop, H: NodeHash>(
     alloc: Global,
     parts: &mut Parts<D, H>,
@@ -40,23 +43,33 @@ pub fn take_hashes<D: Disk + Drop, H: NodeHash>(
     requires there { index < length parts.old.peers.items }
     ensures takes { IfOk result (λ learnt. TakesHashes D.history D.honest D.faults H.digest
         parts.old index key.now digests.now learnt parts.new) }
+    ensures readable { IfOk result (λ learnt. IfSome (hint_in learnt) CanBeRead) }
     ensures few { IfOk result (λ learnt.
         (room : ℕ) → IsNoteRoom parts.old key.now room → note_count learnt ≤ room) }
     ensures peers { map (λ p. p.key) parts.new.peers.items ≡ map (λ p. p.key) parts.old.peers.items }
     ensures len { vec_len parts.new.peers ≡ vec_len parts.old.peers }
     ensures torrent { parts.new.torrent ≡ parts.old.torrent }
+    ensures log { parts.new.log ≡ parts.old.log }
     ensures tied { IsTied parts.new }
     ensures kept { IfErr result (λ _. parts.new ≡ parts.old) }
 {
     // A clause of this call says how many files there are at most.
     let _ = parts.torrent.files();
-    match learn_hashes(alloc, &mut parts.slots, &mut parts.trees, key, digests)? {
+    let hint = hint_for(alloc, &parts.log, key, digests)?;
+    match learn_hashes(
+        alloc,
+        &mut parts.slots,
+        &mut parts.trees,
+        key,
+        digests,
+        hint,
+    )? {
         Learnt::Refused(why) => Ok(Learnt::Refused(why)),
-        Learnt::Settled(notes) => {
+        Learnt::Settled(notes, kept) => {
             let peer = &mut parts.peers[index];
             peer.hash = resolved_hash_state(peer.hash, *key, HashState::Idle);
             follow_notes(parts, &notes);
-            Ok(Learnt::Settled(notes))
+            Ok(Learnt::Settled(notes, kept))
         }
     }
 }

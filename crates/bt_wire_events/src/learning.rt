@@ -5,10 +5,12 @@ ghost use Rattle.bt_machine.specs.HashMessages.{settled_count};
 ghost use Rattle.bt_wire_events.specs.NoteRooms.{note_count};
 ghost use Rattle.bt_wire_events.specs.LearningSteps.{HasRoot, LacksRoot, FitLengths, IsRoomFor, ChangesByHashes};
 
+use crate::hints::hint_if_added;
 use crate::runs::{room_for, settle_slots};
 use bt_disk::Disk;
 use bt_hashreq::{HashKey, to_claim};
 use bt_machine::{Note, Why};
+use bt_resume::Hint;
 use bt_sparse::{ProofError, SparseTree};
 use bt_state::Slot;
 use bt_tree::{Hash32, NodeHash};
@@ -19,23 +21,26 @@ use std::alloc::{AllocError, Global};
 pub enum Learnt {
     /// They are refused, and the peer is closed.
     Refused(Why),
-    /// The tree of their root knows them, and this became of the blocks that waited for them.
-    Settled(Vec<Note>),
+    /// The tree of their root knows them, and this became of the blocks that waited for them. With a log,
+    /// where they added a node to the tree, the hint that it is to keep of them.
+    Settled(Vec<Note>, Option<Hint>),
 }
 
 /// The tree of their root learns hashes that come, and then the blocks of their run are settled in every file
-/// of the root. All room is made first. Errors: out of memory, and nothing changes then.
+/// of the root. Where they added a node to the tree, their hint is given back, if there is one. All room is
+/// made first. Errors: out of memory, and nothing changes then.
 pub(crate) fn learn_hashes<D: Disk + Drop, H: NodeHash>(
     alloc: Global,
     slots: &mut [Slot<D, H>],
     trees: &mut [SparseTree<H>],
     key: &HashKey,
     digests: &[u8],
+    hint: Option<Hint>,
 ) -> Result<Learnt, AllocError>
     requires fit { FitLengths trees.old slots.old }
     requires files { length slots.old ≤ max_file_count }
     ensures changes { IfOk result (λ learnt. ChangesByHashes D.history D.honest D.faults H.digest
-        key.now digests.now trees.old slots.old learnt trees.new slots.new) }
+        key.now digests.now hint trees.old slots.old learnt trees.new slots.new) }
     ensures few { IfOk result (λ learnt.
         (room : ℕ) → IsRoomFor trees.old slots.old key.now room → note_count learnt ≤ room) }
     ensures trees { IfErr result (λ _. trees.new ≡ trees.old) }
@@ -51,11 +56,12 @@ pub(crate) fn learn_hashes<D: Disk + Drop, H: NodeHash>(
     let count = settled_count(key);
     let mut notes = Vec::with_capacity(alloc, room_for(slots, index, count))?;
     let tree = &mut trees[index];
-    if let Err(fault) = tree.accept(&claim) {
-        return refusal(fault);
-    }
+    let added = match tree.accept(&claim) {
+        Ok(added) => added,
+        Err(fault) => return refusal(fault),
+    };
     settle_slots(&mut notes, slots, tree, index, key.index, count);
-    Ok(Learnt::Settled(notes))
+    Ok(Learnt::Settled(notes, hint_if_added(hint, added)))
 }
 
 /// Where the tree of a root stands, if there is one.

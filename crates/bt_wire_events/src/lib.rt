@@ -5,6 +5,7 @@
 mod hash_request;
 mod hashes;
 mod hello;
+mod hints;
 mod learning;
 mod message;
 mod runs;

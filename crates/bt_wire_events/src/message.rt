@@ -32,6 +32,7 @@ pub fn take_peer_event<D: Disk + Drop, H: NodeHash>(
     ensures step { HandlesOfPeer parts.old index event.now result parts.new }
     ensures devices { disks_of parts.new ≡ disks_of parts.old }
     ensures torrent { parts.new.torrent ≡ parts.old.torrent }
+    ensures log { parts.new.log ≡ parts.old.log }
     ensures tied { IsTied parts.new }
 {
     match event {
@@ -55,6 +56,7 @@ fn take_message<D: Disk + Drop, H: NodeHash>(
     ensures step { HandlesOfPeer parts.old index (WireEvent.Message message.now) result parts.new }
     ensures devices { disks_of parts.new ≡ disks_of parts.old }
     ensures torrent { parts.new.torrent ≡ parts.old.torrent }
+    ensures log { parts.new.log ≡ parts.old.log }
     ensures tied { IsTied parts.new }
 {
     let pieces = parts.torrent.pieces();

@@ -38,6 +38,7 @@ returns-in_err-key g c =
           (sends_none g.H.NodeHash.digest mid i q c.note_known_pieces.ensures.tied here (λ idle. c.in_err-key.ensures.none (peer_of mid.book q) refl)));
       devices = ap (λ (x : Parts _ _). disks_of x) others;
       torrent = ap (λ (x : Parts _ _). x.torrent) others;
+      log = ap (λ (x : Parts _ _). x.log) others;
       keys = ap (λ (x : Parts _ _). map (λ (r : Peer). r.key) x.peers.items) others;
       peers = ap (λ (x : Parts _ _). vec_len x.peers) others;
       tied = c.note_known_pieces.ensures.tied;
@@ -64,6 +65,7 @@ returns g c =
           (c.in_ok-key.ensures.some (peer_of mid.book p) (ap (λ (q : Peer). q.has) same)));
       devices = ap (λ (x : Parts _ _). disks_of x) others;
       torrent = ap (λ (x : Parts _ _). x.torrent) others;
+      log = ap (λ (x : Parts _ _). x.log) others;
       keys = map_set (λ (q : Peer). q.key) mid.peers.items i asked here refl ∙ ap (λ (x : Parts _ _). map (λ (r : Peer). r.key) x.peers.items) others;
       peers = ap (λ (x : Parts _ _). vec_len x.peers) others;
       tied = tied_set mid i asked c.note_known_pieces.ensures.tied here refl;

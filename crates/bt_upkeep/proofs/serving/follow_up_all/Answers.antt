@@ -26,7 +26,7 @@ pub loop-index-preserved : goal.loop-index-preserved
 loop-index-preserved g c = record {
   followed = one_followed g.H.NodeHash.digest c.args.parts.now c.args.send.now.items c.loop-index.index c.loop-index.parts c.follow_up.new.parts
       c.loop-index.send.items c.follow_up.new.send.items c.loop-index.invariant.followed c.follow_up.ensures.follows c.follow_up.ensures.devices
-      c.follow_up.ensures.torrent c.follow_up.ensures.keys c.follow_up.ensures.tied;
+      c.follow_up.ensures.torrent c.follow_up.ensures.log c.follow_up.ensures.keys c.follow_up.ensures.tied;
   room = omega (
     arith,
     c.loop-index-test.true,

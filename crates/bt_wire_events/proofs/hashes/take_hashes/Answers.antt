@@ -1,3 +1,4 @@
+use Rattle.std.specs.Prelude.{is_some}
 use Rattle.std.proofs.Common.{◌≤◌, List, map, ap, sym, ◌∙◌, subst, refl}
 use Rattle.std.proofs.lemmas.List.{with_items_is}
 use Rattle.std.specs.Vec.{with_items, with_item}
@@ -10,6 +11,7 @@ use Rattle.bt_state.specs.declared.parts.Parts.{Parts}
 use Rattle.bt_state.specs.declared.peer.Peer.{Peer}
 use Rattle.bt_wire_events.specs.Hashes.{TakesHashes}
 use Rattle.bt_wire_events.specs.HashesSteps.{IsBehind}
+use Rattle.bt_wire_events.proofs.KeptHints.{can_be_read}
 use Rattle.bt_wire_events.proofs.Learnings.{if_err_by}
 use Rattle.bt_wire_events.specs.NoteRooms.{note_count}
 use Rattle.bt_wire_events.specs.declared.learning.Learnt.{Learnt}
@@ -25,7 +27,7 @@ pub returns-in_err-why-clause-kept : goal.returns-in_err-why-clause-kept
 returns-in_err-why-clause-kept g c =
     let old = c.args.parts.now in
     let n = c.learn_hashes.new in
-    if_err_by c.from_residual.result
+    if_err_by c.from_residual-in_err-why.result
     (parts_kept old n.trees n.slots (c.learn_hashes.auto.trees ∙ c.deref_mut-2.ensures.len) (c.in_err-why.ensures.trees ∙ c.deref_mut-2.ensures.value)
     (c.learn_hashes.auto.slots ∙ c.deref_mut.ensures.len) (c.in_err-why.ensures.slots ∙ c.deref_mut.ensures.value))
 
@@ -43,7 +45,7 @@ returns-in-Refused-clause-takes g c =
     let dig = g.H.NodeHash.digest in
     let old = c.args.parts.now in
     let n = c.learn_hashes.new in
-    let changes = changes_of d.history d.honest d.faults dig c.args.key.now c.args.digests.now old c.deref_mut-2.result.now c.deref_mut.result.now
+    let changes = changes_of d.history d.honest d.faults dig c.args.key.now c.args.digests.now c.in_ok-hint.hint old c.deref_mut-2.result.now c.deref_mut.result.now
     c.in_ok-why.field-0 (Refused c.in-Refused.why) n.trees n.slots c.deref_mut-2.ensures.value c.deref_mut.ensures.value c.in-Refused.is c.in_ok-why.ensures.changes in
     let same = parts_kept old n.trees n.slots (c.learn_hashes.auto.trees ∙ c.deref_mut-2.ensures.len) changes.1
     (c.learn_hashes.auto.slots ∙ c.deref_mut.ensures.len) changes.2 in
@@ -55,7 +57,7 @@ returns-in-Refused-clause-tied g c =
     let d = g.D.Disk in
     let old = c.args.parts.now in
     let n = c.learn_hashes.new in
-    let changes = changes_of d.history d.honest d.faults g.H.NodeHash.digest c.args.key.now c.args.digests.now old c.deref_mut-2.result.now c.deref_mut.result.now
+    let changes = changes_of d.history d.honest d.faults g.H.NodeHash.digest c.args.key.now c.args.digests.now c.in_ok-hint.hint old c.deref_mut-2.result.now c.deref_mut.result.now
     c.in_ok-why.field-0 (Refused c.in-Refused.why) n.trees n.slots c.deref_mut-2.ensures.value c.deref_mut.ensures.value c.in-Refused.is c.in_ok-why.ensures.changes in
     let same = parts_kept old n.trees n.slots (c.learn_hashes.auto.trees ∙ c.deref_mut-2.ensures.len) changes.1
     (c.learn_hashes.auto.slots ∙ c.deref_mut.ensures.len) changes.2 in
@@ -70,8 +72,9 @@ follow_notes-requires g c =
     let old = c.args.parts.now in
     let n = c.learn_hashes.new in
     let notes = c.in-Settled.notes in
-    let l = changes_of d.history d.honest d.faults dig key digests old c.deref_mut-2.result.now c.deref_mut.result.now
-    c.in_ok-why.field-0 (Settled notes) n.trees n.slots c.deref_mut-2.ensures.value c.deref_mut.ensures.value c.in-Settled.is c.in_ok-why.ensures.changes in
+    let changes = changes_of d.history d.honest d.faults dig key digests c.in_ok-hint.hint old c.deref_mut-2.result.now c.deref_mut.result.now
+    c.in_ok-why.field-0 (Settled notes c.in-Settled.kept) n.trees n.slots c.deref_mut-2.ensures.value c.deref_mut.ensures.value c.in-Settled.is c.in_ok-why.ensures.changes in
+    let l = changes.0 in
     let next : Parts g.row.D.Denot g.row.H.Denot = record old { trees = with_items old.trees n.trees; slots = with_items old.slots n.slots } in
     let p = c.index_mut-peer.result.now in
     let q : Peer = record p { hash = c.resolved_hash_state-peer.result } in
@@ -91,18 +94,33 @@ returns-in-Settled-clause-takes g c =
     let n = c.learn_hashes.new in
     let new = c.follow_notes.new.parts in
     let notes = c.in-Settled.notes in
-    let l = changes_of d.history d.honest d.faults dig key digests old c.deref_mut-2.result.now c.deref_mut.result.now
-    c.in_ok-why.field-0 (Settled notes) n.trees n.slots c.deref_mut-2.ensures.value c.deref_mut.ensures.value c.in-Settled.is c.in_ok-why.ensures.changes in
+    let changes = changes_of d.history d.honest d.faults dig key digests c.in_ok-hint.hint old c.deref_mut-2.result.now c.deref_mut.result.now
+    c.in_ok-why.field-0 (Settled notes c.in-Settled.kept) n.trees n.slots c.deref_mut-2.ensures.value c.deref_mut.ensures.value c.in-Settled.is c.in_ok-why.ensures.changes in
+    let l = changes.0 in
     let next : Parts g.row.D.Denot g.row.H.Denot =
     record old { trees = with_items old.trees n.trees; slots = with_items old.slots n.slots; book = new.book; unmarked = new.unmarked } in
     let p = c.index_mut-peer.result.now in
     let q : Peer = record p { hash = c.resolved_hash_state-peer.result } in
-    subst (λ (x : Parts g.row.D.Denot g.row.H.Denot). TakesHashes d.history d.honest d.faults dig old c.args.index key digests (Settled notes) x) (sym c.follow_notes.ensures.others)
+    subst (λ (x : Parts g.row.D.Denot g.row.H.Denot). TakesHashes d.history d.honest d.faults dig old c.args.index key digests (Settled notes c.in-Settled.kept) x) (sym c.follow_notes.ensures.others)
     (takes_learnt d.history d.honest d.faults dig key digests old c.requires.tied notes n.trees n.slots l next c.args.index q
     (get_read old.peers.items c.args.index p c.requires.there c.index_mut-peer.ensures.value) refl
     (with_items_is old.trees n.trees (c.learn_hashes.auto.trees ∙ c.deref_mut-2.ensures.len))
     (with_items_is old.slots n.slots (c.learn_hashes.auto.slots ∙ c.deref_mut.ensures.len))
-    c.resolved_hash_state-peer.result refl c.resolved_hash_state-peer.ensures c.follow_notes.ensures.asked)
+    c.resolved_hash_state-peer.result refl c.resolved_hash_state-peer.ensures c.follow_notes.ensures.asked
+    c.in_ok-hint.hint c.in-Settled.kept c.in_ok-hint.ensures.value changes.1)
+
+pub returns-in-Settled-clause-readable : goal.returns-in-Settled-clause-readable
+returns-in-Settled-clause-readable g c =
+    let d = g.D.Disk in
+    let key = c.args.key.now in
+    let digests = c.args.digests.now in
+    let old = c.args.parts.now in
+    let n = c.learn_hashes.new in
+    let hint = c.in_ok-hint.hint in
+    let changes = changes_of d.history d.honest d.faults g.H.NodeHash.digest key digests hint old c.deref_mut-2.result.now c.deref_mut.result.now
+    c.in_ok-why.field-0 (Settled c.in-Settled.notes c.in-Settled.kept) n.trees n.slots c.deref_mut-2.ensures.value c.deref_mut.ensures.value c.in-Settled.is c.in_ok-why.ensures.changes in
+    let l = changes.0 in
+    can_be_read key digests l.claims (is_some old.log) l.old l.new c.in_ok-hint.ensures.value changes.1
 
 pub returns-in-Settled-clause-few : goal.returns-in-Settled-clause-few
 returns-in-Settled-clause-few g c = λ room enough.
@@ -128,8 +146,9 @@ returns-in-Settled-clause-tied g c =
     let n = c.learn_hashes.new in
     let new = c.follow_notes.new.parts in
     let notes = c.in-Settled.notes in
-    let l = changes_of d.history d.honest d.faults dig key digests old c.deref_mut-2.result.now c.deref_mut.result.now
-    c.in_ok-why.field-0 (Settled notes) n.trees n.slots c.deref_mut-2.ensures.value c.deref_mut.ensures.value c.in-Settled.is c.in_ok-why.ensures.changes in
+    let changes = changes_of d.history d.honest d.faults dig key digests c.in_ok-hint.hint old c.deref_mut-2.result.now c.deref_mut.result.now
+    c.in_ok-why.field-0 (Settled notes c.in-Settled.kept) n.trees n.slots c.deref_mut-2.ensures.value c.deref_mut.ensures.value c.in-Settled.is c.in_ok-why.ensures.changes in
+    let l = changes.0 in
     let next : Parts g.row.D.Denot g.row.H.Denot =
     record old { trees = with_items old.trees n.trees; slots = with_items old.slots n.slots; book = new.book; unmarked = new.unmarked } in
     let p = c.index_mut-peer.result.now in

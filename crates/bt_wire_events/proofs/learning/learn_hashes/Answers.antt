@@ -7,6 +7,7 @@ use Rattle.bt_machine.specs.declared.answer.Note.{Note}
 use Rattle.bt_wire_events.specs.RunSteps.{SettlesSlots}
 use Rattle.bt_wire_events.specs.NoteRooms.{slot_room, run_room}
 use Rattle.bt_wire_events.specs.LearningSteps.{unknown_root, no_claim, refused, ChangesByHashes}
+use Rattle.bt_wire_events.proofs.KeptHints.{kept_if_added}
 use Rattle.bt_wire_events.proofs.Learnings.{fits_all, if_ok_by, if_err_by, root_at}
 use Rattle.bt_wire_events.proofs.learning.learn_hashes.Goals as goal
 
@@ -18,7 +19,7 @@ pub returns-in-Err-clause-changes : goal.returns-in-Err-clause-changes
 returns-in-Err-clause-changes g c =
     let d = g.D.Disk in
     let has = c.in-Some.ensures.some in
-    if_ok_by (λ learnt. ChangesByHashes d.history d.honest d.faults g.H.NodeHash.digest c.args.key.now c.args.digests.now c.args.trees.now c.args.slots.now learnt c.args.trees.now c.args.slots.now)
+    if_ok_by (λ learnt. ChangesByHashes d.history d.honest d.faults g.H.NodeHash.digest c.args.key.now c.args.digests.now c.args.hint c.args.trees.now c.args.slots.now learnt c.args.trees.now c.args.slots.now)
     c.refusal.result c.refusal.ensures.ok c.refusal.ensures.other
     (λ memory. (no_claim c.in-Err.fault c.in-Some.index has.0 has.1 memory c.in-Err.ensures.refused, refl, refl))
 
@@ -29,7 +30,7 @@ returns-in-Err-accept-clause-changes g c =
     let trees = c.args.trees.now in
     let here = slice_get-get_or trees c.in-Some.index c.index-trees-index.result c.in-Some.ensures.inside in
     let same = ap (λ k. slice_set trees c.in-Some.index k) c.in-Err-accept.ensures.unchanged ∙ set_id trees c.in-Some.index here in
-    if_ok_by (λ learnt. ChangesByHashes d.history d.honest d.faults g.H.NodeHash.digest c.args.key.now c.args.digests.now trees c.args.slots.now learnt (slice_set trees c.in-Some.index c.accept.new.self) c.args.slots.now)
+    if_ok_by (λ learnt. ChangesByHashes d.history d.honest d.faults g.H.NodeHash.digest c.args.key.now c.args.digests.now c.args.hint trees c.args.slots.now learnt (slice_set trees c.in-Some.index c.accept.new.self) c.args.slots.now)
     c.refusal-in-Err-accept.result c.refusal-in-Err-accept.ensures.ok c.refusal-in-Err-accept.ensures.other
     (λ memory. (refused c.in-Err-accept.fault c.in-Some.index x c.in-Ok.claim (root_at trees c.args.key.now.root c.in-Some.index here c.in-Some.ensures.some) memory c.in-Ok.ensures.claim c.in-Err-accept.ensures.refused, same, refl))
 
@@ -39,11 +40,14 @@ returns-in-Err-accept-clause-trees g c =
     let here = slice_get-get_or trees c.in-Some.index c.index-trees-index.result c.in-Some.ensures.inside in
     if_err_by c.refusal-in-Err-accept.result (ap (λ k. slice_set trees c.in-Some.index k) c.in-Err-accept.ensures.unchanged ∙ set_id trees c.in-Some.index here)
 
+pub returns-in-Err-accept-clause-slots : goal.returns-in-Err-accept-clause-slots
+returns-in-Err-accept-clause-slots g c = if_err_by c.refusal-in-Err-accept.result refl
+
 pub settle_slots-requires-clause-fits : goal.settle_slots-requires-clause-fits
 settle_slots-requires-clause-fits g c =
     let trees = c.args.trees.now in
     let here = slice_get-get_or trees c.in-Some.index c.index-trees-index.result c.in-Some.ensures.inside in
-    fits_all trees c.args.slots.now c.in-Some.index (get_or trees c.in-Some.index c.index-trees-index.result) c.accept.new.self c.requires.fit here c.in_default-accept.ensures.ok.joins.file_length
+    fits_all trees c.args.slots.now c.in-Some.index (get_or trees c.in-Some.index c.index-trees-index.result) c.accept.new.self c.requires.fit here c.in-Ok-accept.ensures.ok.joins.file_length
 
 pub returns-clause-changes : goal.returns-clause-changes
 returns-clause-changes g c =
@@ -59,17 +63,20 @@ returns-clause-changes g c =
     let here = slice_get-get_or trees index c.index-trees-index.result c.in-Some.ensures.inside in
     let settles = subst (λ (n : ℕ). SettlesSlots d.history d.honest d.faults dig new index key.index n slots [] notes settled) c.settled_count-count.ensures.value
     (subst (λ (ns : List Note). SettlesSlots d.history d.honest d.faults dig new index key.index c.settled_count-count.result slots ns notes settled) c.in_ok-notes.ensures.items c.settle_slots.ensures.settles) in
-    record {
-      tree = index;
-      old = get_or trees index c.index-trees-index.result;
-      new = new;
-      claim = c.in-Ok.claim;
-      here = root_at trees key.root index here c.in-Some.ensures.some;
-      claims = c.in-Ok.ensures.claim;
-      accepts = c.in_default-accept.ensures.ok;
-      grows = refl;
-      settles = settles;
-    }
+    let old = get_or trees index c.index-trees-index.result in (
+      record {
+        tree = index;
+        old = old;
+        new = new;
+        claim = c.in-Ok.claim;
+        here = root_at trees key.root index here c.in-Some.ensures.some;
+        claims = c.in-Ok.ensures.claim;
+        accepts = c.in-Ok-accept.ensures.ok;
+        grows = refl;
+        settles = settles;
+      },
+      c.hint_if_added.ensures ∙ kept_if_added old new c.args.hint c.in-Ok-accept.added c.in-Ok-accept.ensures.count,
+    )
 
 pub returns-clause-few : goal.returns-clause-few
 returns-clause-few g c = λ room fits.
