@@ -2,5 +2,7 @@
 #![tactic(auto)]
 
 mod anew;
+mod with_log;
 
 pub use anew::restart;
+pub use with_log::restart_with_log;
