@@ -1,14 +1,15 @@
 -- A restart with a log is the machine's.
-use Rattle.bt_machine.proofs.Base.{[], ◌≡◌, ℕ, is_some, true, List, ◌∷◌, length, map, Option, Some, None, Ok, Err, refl, sym, ap, ◌∙◌, subst, option_map, range_with_len, Facts, History}
+use Rattle.bt_machine.proofs.Base.{[], ◌≡◌, ℕ, is_some, Bool, true, false, List, ◌∷◌, length, map, Option, Some, None, Result, Ok, Err, refl, sym, ap, ◌∙◌, subst, option_map, range_with_len, Facts, History}
 use Rattle.bt_resume.specs.ResumeLog.{LogView}
 use Rattle.bt_resume.specs.declared.hint.Hint.{Hint}
 use Rattle.bt_resume.specs.declared.error.LogError.{LogError}
+use Rattle.bt_machine.specs.declared.error.RestartError.{RestartError}
 use Rattle.bt_machine.specs.declared.error.RestartError.TheVariants.{Log, OutOfMemory}
 use Rattle.bt_machine.specs.State.{EngineState}
 use Rattle.bt_machine.specs.Devices.{HaveCalls}
-use Rattle.bt_machine.specs.LogCalls.{LogCall, hints_read, reload_fault, IsLogCall, HaveLogCalls}
+use Rattle.bt_machine.specs.LogCalls.{LogCall, hints_read, reload_fault, IsLogCall, HaveLogCalls, no_calls}
 use Rattle.bt_machine.specs.Recovery.{RestoresFiles, Recovers}
-use Rattle.bt_machine.specs.Restart.{KeepsPlaces, read as read_log, restarts, unread as unread_log, no_memory as no_room}
+use Rattle.bt_machine.specs.Restart.{StepRestart, KeepsPlaces, read as read_log, restarts, unread as unread_log, no_memory as no_room}
 use Rattle.bt_state.specs.Parts.{state_of, disks_of, log_of, pending_of, hints_of}
 use Rattle.bt_state.specs.declared.open_log.OpenLog.{OpenLog}
 use Rattle.bt_state.specs.declared.parts.Parts.{Parts}
@@ -100,3 +101,23 @@ module _ {D H : Type 0} (history : D → History) (honest : D → Type 0) (fault
             (ap (option_map (λ (held : OpenLog D). held.log)) same_log ∙ same ∙ ap (option_map (λ (held : OpenLog D). held.log)) r.has) (r.reloaded, refl);
         step = restarts r.after.hints (read_log (ap (λ (o : Option (OpenLog D)). is_some o) r.had) refl) recovered kept refl;
       }
+
+-- ---- without a log
+
+none_by : {X : Type 0} (o : Option X) → is_some o ≡ false → o ≡ None
+none_by None e = refl
+none_by (Some x) e = absurd cc
+
+pub no_log : {D H : Type 0} (parts : Parts D H) {b : Bool} → b ≡ is_some parts.log → b ≡ false → parts.log ≡ None
+no_log parts is off = none_by parts.log (sym is ∙ off)
+
+pub steps_bare : {D H : Type 0} {history : D → History} {honest : D → Type 0} {faults : D → ℕ} {dig : List ℕ → List ℕ} {old new : Parts D H}
+    {answer : Result (Unit {0}) RestartError} → old.log ≡ None → new.log ≡ old.log → disks_of new ≡ disks_of old
+    → StepRestart dig (state_of old) no_calls answer (state_of new) → RestartsWith history honest faults dig old answer new
+steps_bare {D} {H} {history} {honest} {faults} {dig} {old} {new} none same disks step = record {
+  calls = no_calls;
+  devices = subst (λ (ds : List (Option D)). HaveCalls history honest faults (disks_of old) [] ds) (sym disks) (have_none history honest faults (disks_of old));
+  log = subst (λ (o : Option (LogView D)). HaveLogCalls history honest faults o [] (log_of new)) (sym (ap (option_map (λ (held : OpenLog D). held.log)) none))
+      (subst (λ (o : Option (LogView D)). HaveLogCalls history honest faults None [] o) (sym (ap (option_map (λ (held : OpenLog D). held.log)) (same ∙ none))) refl);
+  step = step;
+}
