@@ -1,5 +1,5 @@
 -- Parts that begin anew with a log.
-use Rattle.bt_machine.proofs.Base.{[], ◌≡◌, ◌≢◌, ℕ, ◌+◌, ◌<◌, ◌≤◌, is_some, List, ◌∷◌, length, map, Option, Some, None, refl, sym, ap, ◌∙◌, subst, arith, slice_get, option_map, option_map_or, length-map, length-replicate, block_count, AllPairs, File, Facts, BlockState, Missing}
+use Rattle.bt_machine.proofs.Base.{[], ◌≡◌, ◌≢◌, ℕ, is_some, List, ◌∷◌, length, map, Option, Some, None, refl, sym, ap, ◌∙◌, subst, arith, slice_get, option_map, option_map_or, length-replicate, block_count, AllPairs, Facts, BlockState, Missing}
 use Rattle.std.specs.Global.{Vec}
 use Rattle.std.specs.Vec.{with_items}
 use Rattle.std.proofs.lemmas.List.{with_items_is}
@@ -10,7 +10,7 @@ use Rattle.bt_resume.specs.declared.hint.Hint.{Hint}
 use Rattle.bt_resume.specs.declared.hint.Hint.TheVariants.{Proof, Marks}
 use Rattle.bt_resume.specs.ResumeLog.{LogView}
 use Rattle.bt_store.specs.FileStore.{StoreView, new_states}
-use Rattle.bt_machine.specs.State.{EngineState, FileState, PeerState}
+use Rattle.bt_machine.specs.State.{PeerState}
 use Rattle.bt_machine.specs.Recovery.{TakesProof, accepted, passed, TakesHints}
 use Rattle.bt_machine.specs.Restart.{KeepsPlaces}
 use Rattle.bt_machine.specs.Shape.{IsShaped}
