@@ -1,17 +1,19 @@
 -- The event in which what the device of a file has is taken in.
-use Rattle.bt_machine.proofs.Base.{[], ◌≡◌, ℕ, zero, suc, Bool, false, ◌<◌, ◌≤◌, List, ◌∷◌, ◌++◌, length, map, flat_map, Option, Some, None, Result, Ok, Err, refl, sym, ap, ◌∙◌, subst, arith, length-map, slice_get, option_map_or, History, Adopted, BlockState, max_peers, block_count, blocks_of}
+use Rattle.bt_machine.proofs.Base.{[], ◌≡◌, ◌≢◌, ℕ, zero, suc, Bool, false, ◌<◌, ◌≤◌, List, ◌∷◌, ◌++◌, length, map, flat_map, Option, Some, None, Result, Ok, Err, refl, sym, ap, ◌∙◌, subst, arith, append-nil, length-map, slice_get, option_map_or, History, Facts, Adopted, BlockState, max_peers, block_count, blocks_of}
 use Rattle.std.specs.Prelude.{IsTrue}
 use Rattle.std.specs.Vec.{vec_capacity}
 use Rattle.bt_store.specs.FileStore.{StoreView}
-use Rattle.bt_machine.proofs.Lists.{get_some}
+use Rattle.bt_machine.proofs.Lists.{get_some, set_same, some_below}
 use Rattle.bt_machine.specs.declared.error.AdoptError.{AdoptError}
 use Rattle.bt_machine.specs.declared.error.AdoptError.TheVariants.{NoFile, Busy, OutOfMemory}
+use Rattle.bt_machine.specs.State.{EngineState, FileState}
 use Rattle.bt_machine.specs.Devices.{DeviceCalls, HaveCalls}
 use Rattle.bt_machine.specs.Blocks.{states_of}
+use Rattle.bt_machine.specs.Request.{IsFile}
 use Rattle.bt_machine.specs.Settling.{SettlesIn}
 use Rattle.bt_machine.specs.Shape.{IsShaped}
-use Rattle.bt_machine.specs.Adopting.{is_other, nothing_adopted, StepAdopt, no_file, busy, empty, adopts, no_memory}
-use Rattle.bt_state.specs.Parts.{state_of, file_of, peer_of, disks_of}
+use Rattle.bt_machine.specs.Adopting.{AdoptsGroup, AdoptsGroups, is_other, nothing_adopted, unread, StepAdopt, no_file, busy, empty, adopts, no_memory}
+use Rattle.bt_state.specs.Parts.{state_of, file_of, peer_of, disks_of, pending_of}
 use Rattle.bt_state.specs.Ties.{IsTied, AreFirstFiles, root_and_length}
 use Rattle.bt_state.specs.declared.slot.Slot.{Slot}
 use Rattle.bt_state.specs.declared.parts.Parts.{Parts}
@@ -19,9 +21,12 @@ use Rattle.bt_state.proofs.BlockChanges.{followed_tied, tied_followed}
 use Rattle.bt_state.proofs.Completeness.{states_all}
 use Rattle.bt_state.proofs.DeviceCalls.{have_none, have_then}
 use Rattle.bt_state.proofs.Lists.{get_mapped}
+use Rattle.bt_adoption.proofs.Takings.{length_adopted}
+use Rattle.bt_adoption.proofs.Logs.{same_disks, state_same}
 use Rattle.bt_adoption.proofs.Slots.{states_are, not_empty, tree_there, length_is}
-use Rattle.bt_adoption.specs.PartsSteps.{AreInLine, KeepsRest, blocks_in}
-use Rattle.bt_adoption.specs.SettlingSteps.{SettlesFiles}
+use Rattle.bt_adoption.specs.PartsSteps.{AreFit, AreInLine, KeepsRest, blocks_in}
+use Rattle.bt_adoption.specs.WaitingSteps.{KeepsLog}
+use Rattle.bt_adoption.specs.SettlingSteps.{SettlesOthers}
 use Rattle.bt_adoption.specs.AdoptionSteps.{AdoptsIn, StopsIn}
 
 no_items : {X : Type 0} (xs : List X) → length xs ≤ 0 → xs ≡ []
@@ -47,6 +52,46 @@ module _ {D H : Type 0} (old : Parts D H) (tied : IsTied old) where
       (subst (λ (p : Parts D H). AreFirstFiles p.torrent.files (map root_and_length new.trees.items) p.first_files.items) (sym rest.others)
       (rw rest.trees tied.firsts)) in_line.follows
       (ap (λ (p : Parts D H). p.known) rest.others) rest.leaves
+
+-- ---- a file that has blocks
+
+record FileStands (s : EngineState) (file : ℕ) : Type 0 where
+  state : FileState
+  tree : Facts
+  is_file : IsFile s file state tree
+  some : state.states ≢ []
+
+module _ (dig : List ℕ → List ℕ) (file : ℕ) where
+  group_size : {s new : EngineState} {from : ℕ} {calls : DeviceCalls} {one : Adopted} → AdoptsGroup dig s file from calls one new
+      → length (states_of new file) ≡ length (states_of s file)
+  group_size {s} g =
+      ap (λ (x : EngineState). length (states_of x file)) g.after
+      ∙ ap (λ o. length (option_map_or (λ (f : FileState). f.states) o [])) (set_same s.files file g.is_file.here)
+      ∙ length_adopted g.adopts ∙ sym (ap (λ o. length (option_map_or (λ (f : FileState). f.states) o [])) g.is_file.here)
+
+  -- groups leave it as many blocks as it had
+  groups_size : (s new : EngineState) (from : ℕ) (groups : List DeviceCalls) (total : Adopted) → AdoptsGroups dig s file from groups total new
+      → length (states_of new file) ≡ length (states_of s file)
+  groups_size s new from [] total g = ap (λ (x : EngineState). length (states_of x file)) g.1
+  groups_size s new from (calls ∷ more) total g = groups_size g.1 new g.0.next more g.2 g.4 ∙ group_size g.3
+
+module _ {D H : Type 0} (parts : Parts D H) (file : ℕ) {slot : Slot D H} (here : slice_get parts.slots.items file ≡ Some slot) (some : 0 < length (states_of (state_of parts) file)) where
+  has_store : (store : Option (StoreView D)) → slot.store ≡ store → (st : StoreView D) × (slot.store ≡ Some st)
+  has_store None has = absurd (not_empty parts file here some has)
+  has_store (Some st) has = (st, has)
+
+  -- the file and its tree in the machine's state
+  file_stands : AreFit parts → FileStands (state_of parts) file
+  file_stands fits =
+      let store = has_store slot.store refl in
+      let tree = (fits file slot here).some store.0 store.1 in
+      let states = ap (λ (xs : List BlockState). length xs) (states_are parts file here) in
+      record {
+        state = file_of slot;
+        tree = tree.facts;
+        is_file = record { here = get_mapped file_of parts.slots.items file here; has_tree = tree.stands };
+        some = λ none. absurd (let e = ap (λ (xs : List BlockState). length xs) none in omega (arith, some, states, e));
+      }
 
 -- ---- the answers
 
@@ -77,41 +122,63 @@ module _ {D H : Type 0} {history : D → History} {honest : D → Type 0} {fault
   steps_stopped alone s = (s.made, s.calls, no_memory (ap (map (peer_of old.book)) alone) s.stops refl)
 
 module _ {D H : Type 0} (old : Parts D H) (file : ℕ) {slot : Slot D H} (here : slice_get old.slots.items file ≡ Some slot) (some : 0 < length (states_of (state_of old) file)) where
-  has_store : (store : Option (StoreView D)) → slot.store ≡ store → (st : StoreView D) × (slot.store ≡ Some st)
-  has_store None has = absurd (not_empty old file here some has)
-  has_store (Some st) has = (st, has)
-
   pub tree_below : AreInLine old → slot.tree < old.trees.len
-  tree_below in_line = tree_there old file here in_line.fits (has_store slot.store refl).1
+  tree_below in_line = tree_there old file here in_line.fits (has_store old file here some slot.store refl).1
 
   -- the file's tree is of as many blocks as the file has
   blocks_are : IsTied old → IsShaped old.torrent (state_of old) → blocks_in (state_of old) slot.tree ≡ length (states_of (state_of old) file)
   blocks_are tied shaped =
-      let store = has_store slot.store refl in
+      let store = has_store old file here some slot.store refl in
       let fits = (tied.each file slot here).some store.0 store.1 in
       ap (λ o. option_map_or blocks_of o 0) fits.stands ∙ ap block_count fits.same ∙ sym (states_all old tied shaped file slot here store.0 store.1)
       ∙ sym (length_is old file here store.1)
 
   pub steps_adopted : {history : D → History} {honest : D → Type 0} {faults : D → ℕ} {dig : List ℕ → List ℕ} {mid : Parts D H} {total : Adopted} (new : Parts D H) → old.peers.items ≡ [] → IsTied old → IsShaped old.torrent (state_of old)
-      → AdoptsIn history honest faults dig file old total mid → KeepsRest old mid → SettlesFiles history honest faults dig (is_other file) slot.tree mid new → Steps history honest faults dig old file (Ok total) new
-  steps_adopted {history} {honest} {faults} {dig} {mid} {total} new alone tied shaped a rest (calls, notes, have, settles) =
+      → AdoptsIn history honest faults dig file old total mid → KeepsRest old mid → SettlesOthers history honest faults dig file slot.tree mid new → Steps history honest faults dig old file (Ok total) new
+  steps_adopted {history} {honest} {faults} {dig} {mid} {total} new alone tied shaped a rest s =
       let states = ap (λ (xs : List BlockState). length xs) (states_are old file here) in
       let count : blocks_in (state_of mid) slot.tree ≡ length (file_of slot).states = rest.blocks slot.tree ∙ blocks_are tied shaped ∙ states in (
-        flat_map (λ c. c) a.groups ++ calls,
-        have_then history honest faults (disks_of old) (disks_of mid) (disks_of new) (flat_map (λ c. c) a.groups) calls a.calls have,
+        flat_map (λ c. c) a.groups ++ s.calls,
+        have_then history honest faults (disks_of old) (disks_of mid) (disks_of new) (flat_map (λ c. c) a.groups) s.calls a.calls s.made,
         adopts total (ap (map (peer_of old.book)) alone) (record {
           state = file_of slot;
           groups = a.groups;
           taken_in = state_of mid;
-          settling = calls;
-          notes = notes;
-          settled = state_of new;
+          settling = s.calls;
+          notes = s.notes;
+          settled = s.settled;
           here = get_mapped file_of old.slots.items file here;
           some = λ none. absurd (let e = ap (λ (xs : List BlockState). length xs) none in omega (arith, some, states, e));
           adopts = a.adopts;
           all = a.all ∙ states;
-          settles = subst (λ n. SettlesIn dig (is_other file) slot.tree 0 n (state_of mid) calls notes (state_of new)) count settles;
+          settles = subst (λ n. SettlesIn dig (is_other file) slot.tree 0 n (state_of mid) s.calls s.notes s.settled) count s.settles;
           made = refl;
-          after = refl;
+          after = s.after;
+        }) refl,
+      )
+
+  -- all groups were taken in, and there was no room for what comes behind them
+  pub steps_unsettled : {history : D → History} {honest : D → Type 0} {faults : D → ℕ} {dig : List ℕ → List ℕ} {mid : Parts D H} {total : Adopted} (new : Parts D H) → old.peers.items ≡ []
+      → AdoptsIn history honest faults dig file old total mid → KeepsRest old mid → AreInLine mid → KeepsLog mid new → pending_of new.log ≡ pending_of mid.log
+      → Steps history honest faults dig old file (Err OutOfMemory) new
+  steps_unsettled {history} {honest} {faults} {dig} {mid} {total} new alone a rest in_line keeps pending =
+      let same : state_of new ≡ state_of mid = state_same keeps pending in
+      let there = get_some mid.slots.items file (omega (arith, some_below old.slots.items file here, rest.count)) in
+      let stands = file_stands mid file there.1 (omega (arith, some, groups_size dig file (state_of old) (state_of mid) 0 a.groups total a.adopts)) in_line.fits in
+      let made = flat_map (λ c. c) a.groups ++ [] in (
+        made,
+        subst (λ ds. HaveCalls history honest faults (disks_of old) made ds) (sym (same_disks keeps))
+            (subst (λ cs. HaveCalls history honest faults (disks_of old) cs (disks_of mid)) (sym (append-nil (flat_map (λ c. c) a.groups))) a.calls),
+        no_memory (ap (map (peer_of old.book)) alone) (record {
+          state = stands.state;
+          tree = stands.tree;
+          groups = a.groups;
+          done = total;
+          reads = [];
+          some = stands.some;
+          adopts = subst (λ (s : EngineState). AdoptsGroups dig (state_of old) file 0 a.groups total s) (sym same) a.adopts;
+          is_file = subst (λ (s : EngineState). IsFile s file stands.state stands.tree) (sym same) stands.is_file;
+          stops = unread refl;
+          made = refl;
         }) refl,
       )

@@ -6,7 +6,7 @@ use Rattle.bt_machine.specs.Devices.{DeviceCalls, HaveCalls}
 use Rattle.bt_machine.specs.Blocks.{states_of}
 use Rattle.bt_machine.specs.Settling.{SettlesIn}
 use Rattle.bt_machine.specs.Adopting.{AdoptsGroups, StopsAdopting}
-use Rattle.bt_state.specs.Parts.{state_of, disks_of, peer_of}
+use Rattle.bt_state.specs.Parts.{state_of, disks_of, peer_of, log_of}
 use Rattle.bt_state.specs.declared.peer.Peer.{Peer}
 use Rattle.bt_state.specs.declared.parts.Parts.{Parts}
 use Rattle.bt_state.specs.Ties.{LeavesStay, root_and_length}
@@ -64,12 +64,16 @@ module _ {D H : Type 0} {file : ℕ} {old left : Parts D H} (out : LeavesOut fil
       through f one two =
           ap f back.others ∙ one ∙ ap (λ (p : Parts D H). f (record p { book = new.book; unmarked = new.unmarked })) out.others ∙ two
 
+      pub log_again : mid.log ≡ left.log → new.log ≡ old.log
+      log_again same = through (λ p. p.log) same refl
+
       pub rest_again : KeepsRest old new
       rest_again = record {
         others =
             back.others ∙ ap (λ (p : Parts D H). record p { book = new.book; unmarked = new.unmarked }) changes.others
-            ∙ ap (λ (p : Parts D H). record p { slots = mid.slots; trees = mid.trees; book = new.book; unmarked = new.unmarked }) out.others
-            ∙ sym (ap (λ (p : Parts D H). record old { slots = p.slots; trees = p.trees; book = new.book; unmarked = new.unmarked }) back.others);
+            ∙ ap (λ (p : Parts D H). record p { slots = mid.slots; trees = mid.trees; book = new.book; unmarked = new.unmarked; log = mid.log }) out.others
+            ∙ sym (ap (λ (p : Parts D H). record old { slots = p.slots; trees = p.trees; book = new.book; unmarked = new.unmarked; log = p.log }) back.others);
+        log = through (λ p. log_of p) changes.log refl;
         count = through (λ p. length p.slots.items) changes.count refl;
         trees = through (λ p. map root_and_length p.trees.items) changes.trees refl;
         blocks = λ tree. through (λ p. blocks_in (state_of p) tree) (changes.blocks tree) refl;

@@ -1,8 +1,16 @@
+pub mod Ranges
+pub mod Hints
+pub mod NewMarks
+pub mod News
+pub mod RunMarks
+pub mod GroupMarks
 pub mod Borders
 pub mod Takings
 pub mod Recounts
+pub mod Logs
 pub mod Slots
 pub mod LeftOut
 pub mod Settlements
 pub mod OtherFiles
+pub mod OtherMarks
 pub mod Adoptions

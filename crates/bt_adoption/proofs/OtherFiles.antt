@@ -17,7 +17,7 @@ use Rattle.bt_adoption.proofs.Settlements.{before, same_meant, settles_none, set
 
 module _ {D H : Type 0} where
   pub rest_none : (old : Parts D H) → KeepsRest old old
-  rest_none old = record { others = refl; count = refl; trees = refl; blocks = λ tree. refl; leaves = leaves_alike (state_of old) (state_of old) refl refl; peers = refl }
+  rest_none old = record { others = refl; log = refl; count = refl; trees = refl; blocks = λ tree. refl; leaves = leaves_alike (state_of old) (state_of old) refl refl; peers = refl }
 
   pub as_many_trees : {old new : Parts D H} → KeepsRest old new → length new.trees.items ≡ length old.trees.items
   as_many_trees {old} {new} rest =
@@ -25,7 +25,8 @@ module _ {D H : Type 0} where
 
   pub rest_then : {old mid new : Parts D H} → KeepsRest old mid → KeepsRest mid new → KeepsRest old new
   rest_then {old} {mid} {new} one two = record {
-    others = two.others ∙ ap (λ (p : Parts D H). record p { slots = new.slots; trees = new.trees; book = new.book; unmarked = new.unmarked }) one.others;
+    others = two.others ∙ ap (λ (p : Parts D H). record p { slots = new.slots; trees = new.trees; book = new.book; unmarked = new.unmarked; log = new.log }) one.others;
+    log = two.log ∙ one.log;
     count = two.count ∙ one.count;
     trees = two.trees ∙ one.trees;
     blocks = λ tree. two.blocks tree ∙ one.blocks tree;
@@ -69,6 +70,7 @@ module _ (file i : ℕ) where
 pub record AreSettled {D H : Type 0} (history : D → History) (honest : D → Type 0) (faults : D → ℕ) (dig : List ℕ → List ℕ) (file tree : ℕ) (old : Parts D H)
     (i : ℕ) (parts : Parts D H) : Type 0 where
   pub settles : SettlesFiles history honest faults dig (before file i) tree old parts
+  pub log : parts.log ≡ old.log
   pub rest : KeepsRest old parts
   pub in_line : AreInLine parts
 
@@ -82,13 +84,14 @@ module _ {D H : Type 0} {history : D → History} {honest : D → Type 0} {fault
       settles_none dig tree (blocks_in (state_of old) tree) (before file 0) (state_of old)
           (get_some old.trees.items tree (omega (arith, lt, old.trees.ok.0))).1 (λ f. none_from file 0 f (omega arith)),
     );
+    log = refl;
     rest = rest_none old;
     in_line = in_line;
   }
 
   pub settled_more : {i : ℕ} {parts new : Parts D H} → AreSettled history honest faults dig file tree old i parts → i ≢ file
-      → SettlesFiles history honest faults dig (λ other. other == i) tree parts new → KeepsRest parts new → AreInLine new → AreSettled history honest faults dig file tree old (i + 1) new
-  settled_more {i} {parts} {new} a apart (calls, notes, have, two) rest in_line =
+      → SettlesFiles history honest faults dig (λ other. other == i) tree parts new → new.log ≡ parts.log → KeepsRest parts new → AreInLine new → AreSettled history honest faults dig file tree old (i + 1) new
+  settled_more {i} {parts} {new} a apart (calls, notes, have, two) log rest in_line =
       let size : length (state_of parts).files ≡ length (state_of old).files =
       length-map parts.slots.items file_of ∙ a.rest.count ∙ sym (length-map old.slots.items file_of) in
       let both = settles_then dig tree (blocks_in (state_of old) tree) i a.settles.3
@@ -101,6 +104,7 @@ module _ {D H : Type 0} {history : D → History} {honest : D → Type 0} {fault
           have_then history honest faults (disks_of old) (disks_of parts) (disks_of new) a.settles.0 calls a.settles.2 have,
           both.1,
         );
+        log = log ∙ a.log;
         rest = rest_then a.rest rest;
         in_line = in_line;
       }
@@ -108,6 +112,7 @@ module _ {D H : Type 0} {history : D → History} {honest : D → Type 0} {fault
   pub settled_skipped : {i : ℕ} {parts : Parts D H} → AreSettled history honest faults dig file tree old i parts → i ≡ file → AreSettled history honest faults dig file tree old (i + 1) parts
   settled_skipped {i} a own = record {
     settles = (a.settles.0, a.settles.1, a.settles.2, same_meant dig tree (blocks_in (state_of old) tree) (λ f lt. skipped file i own f) a.settles.3);
+    log = a.log;
     rest = a.rest;
     in_line = a.in_line;
   }

@@ -1,5 +1,5 @@
 -- A file of which block after block gets another state.
-use Rattle.bt_machine.proofs.Base.{[], ◌≡◌, ℕ, zero, suc, ◌+◌, ◌<◌, List, length, replicate, Option, Some, None, refl, sym, ap, ◌∙◌, subst, arith, slice_get, slice_set, option_and_then, option_map_or, BlockState, Marked}
+use Rattle.bt_machine.proofs.Base.{[], ◌≡◌, ℕ, zero, suc, ◌+◌, ◌<◌, List, length, replicate, Option, Some, None, refl, sym, ap, ◌∙◌, subst, arith, slice_get, slice_set, option_map_or, BlockState, Marked}
 use Rattle.bt_machine.proofs.Lists.{set_same, set_id, some_below}
 use Rattle.bt_book.specs.Book.{peers_of}
 use Rattle.bt_machine.specs.State.{EngineState, FileState}
@@ -9,6 +9,7 @@ use Rattle.bt_state.specs.Parts.{state_of}
 use Rattle.bt_state.specs.declared.parts.Parts.{Parts}
 use Rattle.bt_state.proofs.SlotChanges.{block_changed, set_again, states_up_to, all_new, still_old, next_new}
 use Rattle.bt_adoption.specs.RecountSteps.{with_states, Follows}
+use Rattle.bt_adoption.proofs.News.{state_in}
 
 -- ---- marked blocks
 
@@ -49,11 +50,6 @@ module _ (s : EngineState) (file : ℕ) {f : FileState} (here : slice_get s.file
       ∙ ap (λ (fs : List FileState). slice_set fs file (record f { states = slice_set states block now })) (sym (files_with states)))
 
 -- ---- the loop over a file's blocks
-
-state_in : (o : Option FileState) (i : ℕ) → slice_get (option_map_or (λ f. f.states) o []) i ≡ option_and_then (λ f. slice_get f.states i) o
-state_in None zero = refl
-state_in None (suc i) = refl
-state_in (Some f) i = refl
 
 -- Block after block the file's states go from these to those, and the book and the counts with them: so far
 -- those of the blocks before one.

@@ -1,9 +1,8 @@
 -- Files of a tree that are settled, one after the other.
-use Rattle.bt_machine.proofs.Base.{[], ◌≡◌, ◌≢◌, ℕ, zero, suc, ◌+◌, ◌<◌, ◌≤◌, inl, inr, Bool, true, false, cond, ◌&&◌, if◌then◌else◌, List, ◌∷◌, ◌++◌, length, map, flat_map, Option, Some, None, refl, sym, ap, ◌∙◌, arith, ◌==◌, eqb-true, eq-eqb, lt-ltb, le-ltb, cases_lt, append-nil, slice_get, option_map, option_map_or, range_with_len, Facts, History, BlockRead, block_of, call_of, judged, waiting_blocks, is_waiting, BlockState, blocks_of, block_count}
+use Rattle.bt_machine.proofs.Base.{[], ◌≡◌, ◌≢◌, ℕ, ◌<◌, ◌≤◌, inl, inr, Bool, true, false, cond, ◌&&◌, if◌then◌else◌, List, ◌++◌, length, map, flat_map, Option, Some, None, refl, sym, ap, ◌∙◌, arith, ◌==◌, eqb-true, eq-eqb, lt-ltb, le-ltb, cases_lt, slice_get, option_map, option_map_or, range_with_len, Facts, History, BlockRead, block_of, call_of, judged, waiting_blocks, is_waiting, BlockState, blocks_of, block_count}
 use Rattle.std.specs.Prelude.{nat_lt, IsTrue, ◌↔◌}
 use Rattle.std.specs.List.{count_by}
 use Rattle.std.specs.Vec.{with_item}
-use Rattle.std.proofs.Common.{append_assoc}
 use Rattle.std.proofs.lemmas.Bool.{cases_eq, ne_eqb, ltb-true}
 use Rattle.bt_store.specs.FileStore.{StoreView}
 use Rattle.bt_store.specs.BlockReads.{IsJudged}
@@ -26,46 +25,9 @@ use Rattle.bt_adoption.specs.GroupsSteps.{file_with}
 use Rattle.bt_adoption.specs.PartsSteps.{blocks_in}
 use Rattle.bt_adoption.specs.SettlingSteps.{SettlesFiles, IsDue}
 use Rattle.bt_adoption.proofs.Slots.{calls_are, IsKept}
-use Rattle.bt_adoption.proofs.Takings.{length_judged}
-
--- ---- lists over numbers
-
-module _ {Y : Type 0} where
-  flat_map_none : (f : ℕ → List Y) (a n : ℕ) → ((j : ℕ) → a ≤ j → j < a + n → f j ≡ []) → flat_map f (range_with_len a n) ≡ []
-  flat_map_none f a zero none = refl
-  flat_map_none f a (suc n) none =
-      ap (λ ys. ys ++ flat_map f (range_with_len (a + 1) n)) (none a (omega arith) (omega arith))
-      ∙ flat_map_none f (a + 1) n (λ j low high. none j (omega arith) (omega arith))
-
-  flat_map_one : (f : ℕ → List Y) (i a n : ℕ) → a ≤ i → i < a + n → ((j : ℕ) → j ≢ i → f j ≡ []) → flat_map f (range_with_len a n) ≡ f i
-  flat_map_one f i a zero low high none = absurd (omega arith)
-  flat_map_one f i a (suc n) low high none = elim (cases_eq a i) [
-    | inl same ↦
-        ap (λ ys. f a ++ ys) (flat_map_none f (a + 1) n (λ j from to. none j (λ e. absurd (omega arith)))) ∙ append-nil (f a) ∙ ap f same
-    | inr apart ↦
-        ap (λ ys. ys ++ flat_map f (range_with_len (a + 1) n)) (none a apart) ∙ flat_map_one f i (a + 1) n (omega arith) (omega arith) none
-  ]
-
-  -- below a number as the one says, and from there on as the other
-  flat_map_then : (f g h : ℕ → List Y) (i a n : ℕ) → ((j : ℕ) → j < a + n → j < i → (g j ≡ []) × (h j ≡ f j))
-      → ((j : ℕ) → j < a + n → i ≤ j → (f j ≡ []) × (h j ≡ g j))
-      → flat_map h (range_with_len a n) ≡ flat_map f (range_with_len a n) ++ flat_map g (range_with_len a n)
-  flat_map_then f g h i a zero low high = refl
-  flat_map_then f g h i a (suc n) low high =
-      let rest = flat_map_then f g h i (a + 1) n (λ j lt. low j (omega arith)) (λ j lt. high j (omega arith)) in
-      let fs = flat_map f (range_with_len (a + 1) n) in
-      let gs = flat_map g (range_with_len (a + 1) n) in
-      elim (cases_lt a i) [
-        | inl lt ↦
-            let e = low a (omega arith) lt in
-            ap (λ ys. ys ++ flat_map h (range_with_len (a + 1) n)) e.1 ∙ ap (λ ys. f a ++ ys) rest ∙ sym (append_assoc (f a) fs gs)
-            ∙ ap (λ ys. (f a ++ fs) ++ (ys ++ gs)) (sym e.0)
-        | inr le ↦
-            let e = high a (omega arith) le in
-            let none : flat_map f (range_with_len (a + 1) n) ≡ [] = flat_map_none f (a + 1) n (λ j from to. (high j (omega arith) (omega arith)).0) in
-            ap (λ ys. ys ++ flat_map h (range_with_len (a + 1) n)) e.1 ∙ ap (λ ys. g a ++ ys) (rest ∙ ap (λ ys. ys ++ gs) none)
-            ∙ ap (λ ys. ys ++ (g a ++ gs)) (sym none ∙ ap (λ ys. ys ++ fs) (sym e.0))
-      ]
+use Rattle.bt_adoption.proofs.Ranges.{flat_map_none, flat_map_one, flat_map_then}
+use Rattle.bt_adoption.proofs.NewMarks.{length_judged}
+use Rattle.bt_adoption.proofs.News.{no_reads}
 
 -- ---- a store whose blocks were judged
 
@@ -78,10 +40,6 @@ kept_judged {D} {history} {honest} {faults} {dig} {k} {blocks} {store} {after} {
 }
 
 -- ---- reads of no block
-
-no_reads : (reads : List BlockRead) → map block_of reads ≡ [] → reads ≡ []
-no_reads [] e = refl
-no_reads (r ∷ reads) e = absurd (let size = ap (λ (xs : List ℕ). length xs) e in omega arith)
 
 judged_none : (dig : List ℕ → List ℕ) (k : Facts) (o : Option FileState) → option_map (judged_file dig k []) o ≡ o
 judged_none dig k None = refl

@@ -1,5 +1,5 @@
 -- A file's slot whose store has changed, and the tree of a file that has grown.
-use Rattle.bt_machine.proofs.Base.{[], ◌≡◌, ℕ, ◌<◌, inl, inr, List, ◌∷◌, ◌++◌, length, map, flat_map, replicate, get_or, Option, Result, Ok, Err, Some, None, refl, sym, ap, ◌∙◌, subst, arith, length-set, slice_get, slice_set, option_map_or, Facts, History, BlockRead, call_of, BlockState, Marked, Adopted, block_count, blocks_of}
+use Rattle.bt_machine.proofs.Base.{[], ◌≡◌, ℕ, ◌<◌, inl, inr, Bool, is_some, List, ◌∷◌, ◌++◌, length, map, flat_map, replicate, get_or, Option, Result, Ok, Err, Some, None, refl, sym, ap, ◌∙◌, subst, arith, length-set, slice_get, slice_set, option_map_or, Facts, History, BlockRead, call_of, BlockState, Marked, Adopted, block_count, blocks_of}
 use Rattle.std.specs.Prelude.{IfOk, IfErr}
 use Rattle.std.proofs.lemmas.Bool.{cases_eq}
 use Rattle.std.proofs.lemmas.List.{map-append}
@@ -8,21 +8,25 @@ use Rattle.bt_disk.specs.Calls.{HasCalls}
 use Rattle.bt_disk.specs.Law.{CallsCompose}
 use Rattle.bt_store.specs.FileStore.{StoreView}
 use Rattle.bt_machine.proofs.Lists.{set_cases, set_same, set_other, some_is, some_below}
-use Rattle.bt_machine.specs.State.{FileState}
+use Rattle.bt_machine.specs.State.{FileState, EngineState, Hint}
 use Rattle.bt_machine.specs.Devices.{calls_at, reads_at}
 use Rattle.bt_machine.specs.Blocks.{states_of}
 use Rattle.bt_machine.specs.Adopting.{AdoptsGroups}
-use Rattle.bt_state.specs.Parts.{state_of, file_of}
+use Rattle.bt_state.specs.Parts.{state_of, file_of, log_of, pending_of, hints_of}
 use Rattle.bt_state.specs.Ties.{FitsFile, StillKnows}
 use Rattle.bt_state.specs.declared.slot.Slot.{Slot}
+use Rattle.bt_state.specs.declared.open_log.OpenLog.{OpenLog}
 use Rattle.bt_state.specs.declared.parts.Parts.{Parts}
 use Rattle.bt_state.proofs.Leaves.{still, leaves_by, one_grown, same_names}
 use Rattle.bt_state.proofs.Lists.{get_mapped, get_read}
 use Rattle.bt_state.proofs.SlotChanges.{file_here, files_changed, have_changed, fits_changed, fits_trees, set_again}
+use Rattle.bt_adoption.specs.GroupSteps.{log_in}
 use Rattle.bt_adoption.specs.GroupsSteps.{all_reads, file_with, AreTaken, TakesGroups, StopsTaking}
 use Rattle.bt_adoption.specs.RecountSteps.{with_marked_file}
 use Rattle.bt_adoption.specs.PartsSteps.{AreFit, ChangesFile, blocks_in}
 use Rattle.bt_adoption.specs.AdoptionSteps.{AdoptsIn, StopsIn}
+use Rattle.bt_adoption.proofs.Logs.{logged_same, hints_same}
+use Rattle.bt_adoption.proofs.Takings.{taken_state}
 use Rattle.bt_adoption.proofs.Recounts.{files_with}
 
 -- ---- what is known of a slot with a store
@@ -86,6 +90,11 @@ either_way (Err e) p q f g = g q
 
 -- ---- a store that has changed, and its tree
 
+-- the parts then
+abbrev pub parts_with : {D H : Type 0} → Parts D H → ℕ → Slot D H → StoreView D → Facts → Option (OpenLog D) → Parts D H
+parts_with old file slot after grown log =
+    record old { slots = with_item old.slots file (record slot { store = Some after }); trees = with_item old.trees slot.tree grown; log = log }
+
 -- what stays of a file and its tree
 pub record IsKept {D : Type 0} (k : Facts) (store : StoreView D) (grown : Facts) (after : StoreView D) : Type 0 where
   pub file_length : after.file_length ≡ store.file_length
@@ -93,10 +102,11 @@ pub record IsKept {D : Type 0} (k : Facts) (store : StoreView D) (grown : Facts)
   pub still : StillKnows k grown
 
 module _ {D : Type 0} {history : D → History} {honest : D → Type 0} {faults : D → ℕ} {dig : List ℕ → List ℕ} {k : Facts} {store : StoreView D} {grown : Facts} {after : StoreView D} where
-  pub kept_taken : {groups : List (List BlockRead)} {total : Adopted} → TakesGroups history honest faults dig k store groups total grown after → IsKept k store grown after
+  pub kept_taken : {file : ℕ} {logged : Bool} {pending left : List Hint} {groups : List (List BlockRead)} {total : Adopted}
+      → TakesGroups history honest faults dig file logged k store pending groups total grown after left → IsKept k store grown after
   kept_taken t = record { file_length = t.same_file; size = t.same_size; still = t.still }
 
-  pub kept_stopped : StopsTaking history honest faults dig k store grown after → IsKept k store grown after
+  pub kept_stopped : {file : ℕ} {logged : Bool} {pending left : List Hint} → StopsTaking history honest faults dig file logged k store pending grown after left → IsKept k store grown after
   kept_stopped s = record {
     file_length = ap (λ (v : StoreView D). v.file_length) s.others ∙ s.takes.same_file;
     size = ap (λ (v : StoreView D). length v.states) s.others ∙ s.takes.same_size;
@@ -158,6 +168,7 @@ module _ {D H : Type 0} {old : Parts D H} {file : ℕ} {slot : Slot D H} {store 
     pub store_changed : ChangesFile file old (record old { slots = with_item old.slots file (record slot { store = Some after }) })
     store_changed = record {
       others = refl;
+      log = refl;
       count = length-set old.slots.items file (record slot { store = Some after });
       trees = refl;
       alike = alike (record old { slots = with_item old.slots file (record slot { store = Some after }) }) refl;
@@ -167,17 +178,17 @@ module _ {D H : Type 0} {old : Parts D H} {file : ℕ} {slot : Slot D H} {store 
       fits = slots_fit;
     }
 
-    -- and its tree grew
-    pub both_changed : ChangesFile file old (record old { slots = with_item old.slots file (record slot { store = Some after }); trees = with_item old.trees slot.tree grown })
+    -- and its tree grew, and other hints wait for the log
+    pub both_changed : (log : Option (OpenLog D)) → log_in log ≡ log_of old → ChangesFile file old (parts_with old file slot after grown log)
     unfolding trees
-    both_changed = record {
+    both_changed log same_log = record {
       others = refl;
+      log = same_log;
       count = length-set old.slots.items file (record slot { store = Some after });
       trees = same_names old.trees.items slot.tree grown at.there kept.still;
-      alike = alike (record old { slots = with_item old.slots file (record slot { store = Some after }); trees = with_item old.trees slot.tree grown }) refl;
+      alike = alike (parts_with old file slot after grown log) refl;
       blocks = blocks_kept;
-      leaves = leaves_by (state_of old)
-          (state_of (record old { slots = with_item old.slots file (record slot { store = Some after }); trees = with_item old.trees slot.tree grown }))
+      leaves = leaves_by (state_of old) (state_of (parts_with old file slot after grown log))
           same_trees (one_grown old.trees.items slot.tree at.there kept.still);
       fits = fits_trees changed_slots slot.tree grown at.there kept.still.long slots_fit;
     }
@@ -195,33 +206,41 @@ group_calls file n (reads ∷ groups) =
 
 -- ---- groups that are taken in
 
--- the parts then
-abbrev pub parts_with : {D H : Type 0} → Parts D H → ℕ → Slot D H → StoreView D → Facts → Parts D H
-parts_with old file slot after grown =
-    record old { slots = with_item old.slots file (record slot { store = Some after }); trees = with_item old.trees slot.tree grown }
-
 module _ {D H : Type 0} {old : Parts D H} {file : ℕ} {slot : Slot D H} {store : StoreView D} {k : Facts} (at : StandsAt old file slot store k) where
+  -- the machine's state then
+  state_is : (after : StoreView D) (grown : Facts) {states : List BlockState} → after.states ≡ states → (log : Option (OpenLog D)) → log_in log ≡ log_of old
+      → taken_state (state_of old) file slot.tree states grown (pending_of log) ≡ state_of (parts_with old file slot after grown log)
+  state_is after grown {states} is log same_log =
+      let new = state_of (parts_with old file slot after grown log) in
+      sym (ap (λ (fs : List FileState). record new { files = fs }) (files_changed old.slots.items file at.here at.has after)
+      ∙ ap (λ (xs : List BlockState). record new { files = slice_set (state_of old).files file (file_with slot.tree xs) }) is
+      ∙ ap (λ b. record (taken_state (state_of old) file slot.tree states grown (pending_of log)) { logged = b; hints = hints_of log }) (logged_same log old.log same_log)
+      ∙ ap (λ hs. record (taken_state (state_of old) file slot.tree states grown (pending_of log)) { hints = hs }) (hints_same log old.log same_log))
+
   taken_in : (dig : List ℕ → List ℕ) (after : StoreView D) (grown : Facts) (groups : List (List BlockRead)) (total : Adopted) {states : List BlockState}
-      → AreTaken dig k store.states groups total grown states → after.states ≡ states
-      → AdoptsGroups dig (state_of old) file 0 (map (reads_at file k.file_length) groups) total (state_of (parts_with old file slot after grown))
-  taken_in dig after grown groups total taken is =
-      rw (files_changed old.slots.items file at.here at.has after, is)
-      (taken (state_of old) file slot.tree refl
+      (log : Option (OpenLog D)) → log_in log ≡ log_of old
+      → AreTaken dig file (is_some old.log) k store.states (pending_of old.log) groups total grown states (pending_of log) → after.states ≡ states
+      → AdoptsGroups dig (state_of old) file 0 (map (reads_at file k.file_length) groups) total (state_of (parts_with old file slot after grown log))
+  taken_in dig after grown groups total log same_log taken is =
+      subst (λ (s : EngineState). AdoptsGroups dig (state_of old) file 0 (map (reads_at file k.file_length) groups) total s) (state_is after grown is log same_log)
+      (taken (state_of old) slot.tree refl refl
       (record { here = file_here old.slots.items file at.here at.has store; has_tree = at.there }))
 
-  module _ {history : D → History} {honest : D → Type 0} {faults : D → ℕ} {dig : List ℕ → List ℕ} {after : StoreView D} {grown : Facts} where
-    pub adopts_in : {groups : List (List BlockRead)} {total : Adopted} → TakesGroups history honest faults dig k store groups total grown after
-        → total.next ≡ length store.states → AdoptsIn history honest faults dig file old total (parts_with old file slot after grown)
+  module _ {history : D → History} {honest : D → Type 0} {faults : D → ℕ} {dig : List ℕ → List ℕ} {after : StoreView D} {grown : Facts} (log : Option (OpenLog D)) (same_log : log_in log ≡ log_of old) where
+    pub adopts_in : {groups : List (List BlockRead)} {total : Adopted}
+        → TakesGroups history honest faults dig file (is_some old.log) k store (pending_of old.log) groups total grown after (pending_of log)
+        → total.next ≡ length store.states → AdoptsIn history honest faults dig file old total (parts_with old file slot after grown log)
     adopts_in {groups} {total} takes all = record {
       groups = map (reads_at file k.file_length) groups;
       calls = rw (group_calls file k.file_length groups ∙ calls_are file (all_reads groups) at.same)
           (have_changed old.slots.items file at.here at.has after history honest faults (map (call_of store.file_length) (all_reads groups)) takes.calls);
-      adopts = taken_in dig after grown groups total takes.taken refl;
+      adopts = taken_in dig after grown groups total log same_log takes.taken refl;
       all = all ∙ sym (length_is old file at.here at.has);
     }
 
-    pub stops_in : CallsCompose history honest faults → 0 < length (states_of (state_of old) file) → StopsTaking history honest faults dig k store grown after
-        → StopsIn history honest faults dig file old (parts_with old file slot after grown)
+    pub stops_in : CallsCompose history honest faults → 0 < length (states_of (state_of old) file)
+        → StopsTaking history honest faults dig file (is_some old.log) k store (pending_of old.log) grown after (pending_of log)
+        → StopsIn history honest faults dig file old (parts_with old file slot after grown log)
     stops_in compose some s =
         let call = call_of store.file_length in
         let states = ap (λ (v : StoreView D). v.states) s.others in
@@ -242,7 +261,7 @@ module _ {D H : Type 0} {old : Parts D H} {file : ℕ} {slot : Slot D H} {store 
             done = s.done;
             reads = s.last;
             some = λ none. absurd (omega (arith, ap (λ (xs : List BlockState). length xs) none, ap (λ (xs : List BlockState). length xs) states, s.takes.same_size, some, length_is old file at.here at.has));
-            adopts = taken_in dig after grown s.groups s.done s.takes.taken states;
+            adopts = taken_in dig after grown s.groups s.done log same_log s.takes.taken states;
             is_file = record {
               here = ap (λ (fs : List FileState). slice_get fs file) (files_changed old.slots.items file at.here at.has after)
                   ∙ set_same (state_of old).files file (file_here old.slots.items file at.here at.has store);

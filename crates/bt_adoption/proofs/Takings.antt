@@ -1,5 +1,5 @@
 -- Groups of a file that are taken in one after the other.
-use Rattle.bt_machine.proofs.Base.{[], Result, Ok, Err, Bool, true, length, length-set, judged, given, failed, known, accepted, Marked, Missing, ◌≡◌, ℕ, zero, suc, ◌+◌, ◌<◌, ◌≤◌, false, List, ◌∷◌, ◌++◌, map, cond, refl, sym, ap, ◌∙◌, subst, arith, append-nil, slice_set, Contains, Facts, blocks_of, IsRooted, block_count, inl, inr, History, BlockRead, call_of, Adopts, Adopted, BlockState, HashKey}
+use Rattle.bt_machine.proofs.Base.{[], ◌≡◌, ℕ, ◌<◌, ◌≤◌, Bool, true, List, ◌∷◌, ◌++◌, length, map, Result, Ok, Err, refl, sym, ap, ◌∙◌, subst, arith, append-nil, if◌then◌else◌, slice_set, inl, inr, Facts, blocks_of, IsRooted, block_count, History, BlockRead, call_of, Adopts, known, accepted, Adopted, BlockState}
 use Rattle.std.specs.Prelude.{IfErr}
 use Rattle.std.specs.List.{AllZip}
 use Rattle.std.proofs.lemmas.List.{map-append}
@@ -8,51 +8,25 @@ use Rattle.std.proofs.Common.{set-set}
 use Rattle.bt_disk.specs.Calls.{HasCalls}
 use Rattle.bt_disk.specs.Law.{NoCallsLead, CallsCompose}
 use Rattle.bt_store.specs.FileStore.{StoreView}
-use Rattle.bt_store.specs.Adoption.{IsAdopted, StopsAdopting, marked_group}
-use Rattle.bt_machine.proofs.Lists.{here, later, set_same, set_id}
+use Rattle.bt_machine.proofs.Lists.{set_same, set_id}
 use Rattle.bt_machine.specs.Hints.{add_hints}
-use Rattle.bt_machine.specs.State.{EngineState, Hint, proof_of, mark_of}
+use Rattle.bt_machine.specs.State.{EngineState, Hint, mark_of}
 use Rattle.bt_machine.specs.Devices.{DeviceCalls, reads_at}
 use Rattle.bt_machine.specs.Blocks.{with_file, with_tree, new_marked_blocks}
-use Rattle.bt_machine.specs.Next.{with_pending}
 use Rattle.bt_machine.specs.Request.{IsFile}
-use Rattle.bt_machine.specs.ProofKeys.{HasAnswer, ProofKeysAreAnswered}
-use Rattle.bt_machine.specs.Adopting.{IsProof, AdoptsGroup, AdoptsGroups, nothing_adopted, adopted_together, unread, read}
+use Rattle.bt_machine.specs.Adopting.{IsProof, proof_keys, AdoptsGroup, AdoptsGroups, nothing_adopted, adopted_together, unread, read}
 use Rattle.bt_state.specs.Ties.{StillKnows}
 use Rattle.bt_state.proofs.Leaves.{still, still_then, still_joined}
-use Rattle.bt_adoption.proofs.Borders.{IsBorder, at_start, behind_group_of}
+use Rattle.bt_adoption.specs.GroupSteps.{TakesGroup, StopsGroup, not_read, not_taken}
 use Rattle.bt_adoption.specs.GroupsSteps.{all_reads, file_with, AreTaken, TakesGroups, StopsTaking}
-
--- ---- without a log nothing is pending
-
-pending_by : (s x : EngineState) (proofs : List Hint) → x.logged ≡ false → with_pending s x proofs ≡ x
-pending_by s x proofs off =
-    ap (λ b. record x { pending = add_hints x.pending (cond b (proofs ++ map (λ c. mark_of c) (new_marked_blocks s x)) []) }) off
-
--- proofs by keys that are answered
-listed : (dig : List ℕ → List ℕ) (k : Facts) (keys : List HashKey) → ((key : HashKey) → Contains keys key → HasAnswer dig k key)
-    → (hints : List Hint) × AllZip (IsProof dig k) keys hints
-listed dig k [] each = ([], tt)
-listed dig k (key ∷ keys) each =
-    let one = each key (here keys refl) in
-    let more = listed dig k keys (λ other c. each other (later key keys c)) in
-    (proof_of key one.digests ∷ more.0, ((one.digests, one.answer, refl), more.1))
+use Rattle.bt_adoption.specs.MarksSteps.{newly_marked, marks_in}
+use Rattle.bt_adoption.proofs.Borders.{IsBorder, at_start, behind_group_of}
+use Rattle.bt_adoption.proofs.NewMarks.{length_judged, length_marked}
+use Rattle.bt_adoption.proofs.News.{group_news}
 
 -- ---- a group leaves as many states as there were
 
-pub length_judged : (dig : List ℕ → List ℕ) (k : Facts) (forgiving : Bool) (reads : List BlockRead) (states : List BlockState)
-    → length (judged dig k forgiving reads states) ≡ length states
-length_judged dig k forgiving [] states = refl
-length_judged dig k forgiving (given i bytes ∷ reads) states = length_judged dig k _ reads _ ∙ length-set states i _
-length_judged dig k true (failed i ∷ reads) states = length_judged dig k true reads _
-length_judged dig k false (failed i ∷ reads) states = length_judged dig k false reads _ ∙ length-set states i Missing
-
-length_marked : (first count : ℕ) (states : List BlockState) → length (marked_group first count states) ≡ length states
-unfolding marked_group
-length_marked first zero states = refl
-length_marked first (suc count) states = length-set (marked_group first count states) (first + count) Marked ∙ length_marked first count states
-
-length_adopted : {dig : List ℕ → List ℕ} {k grown : Facts} {from : ℕ} {old new : List BlockState} {reads : List BlockRead} {adopted : Adopted}
+pub length_adopted : {dig : List ℕ → List ℕ} {k grown : Facts} {from : ℕ} {old new : List BlockState} {reads : List BlockRead} {adopted : Adopted}
     → Adopts dig k from old reads adopted grown new → length new ≡ length old
 length_adopted {dig} {k} {grown} {from} {old} (known count rs group order) = length_judged dig k true rs old
 length_adopted {dig} {k} {grown} {from} {old} (accepted anchor first count rs g group whole accepts) = length_marked first count old
@@ -71,6 +45,10 @@ summed next marked faults = record { next = next; anchor = 0; marked = marked; f
 
 same_sums : (next : ℕ) {m n e f : ℕ} → m ≡ n → e ≡ f → summed next m e ≡ summed next n f
 same_sums next {m} {n} {e} {f} marks faults = ap (λ x. summed next x e) marks ∙ ap (summed next n) faults
+
+-- the engine in which a file has these states and its tree is this, and these hints are pending
+abbrev pub taken_state : EngineState → (file tree : ℕ) → List BlockState → Facts → List Hint → EngineState
+taken_state s file tree states grown left = record (with_tree (with_file s file (file_with tree states)) tree grown) { pending = left }
 
 module _ {dig : List ℕ → List ℕ} where
   groups_more : (s : EngineState) {mid new : EngineState} (file from : ℕ) (groups : List DeviceCalls) {calls : DeviceCalls} (total : Adopted) {one : Adopted}
@@ -93,44 +71,57 @@ module _ {dig : List ℕ → List ℕ} where
     ap (λ t. adopted_together t one) g.5 ∙ same_sums one.next (omega arith) (omega arith),
   )
 
-  group_in : {k grown : Facts} {from : ℕ} {old new : List BlockState} {reads : List BlockRead} {adopted : Adopted} {s : EngineState} {file tree : ℕ}
-      → ProofKeysAreAnswered dig → s.logged ≡ false
+  group_in : {k grown : Facts} {from : ℕ} {old new : List BlockState} {reads : List BlockRead} {adopted : Adopted} {s : EngineState} {file tree : ℕ} {logged : Bool} {pending left : List Hint}
+      (proofs : List Hint) → AllZip (IsProof dig grown) (proof_keys grown from adopted) proofs
+      → left ≡ add_hints pending (if logged then proofs ++ marks_in file (newly_marked old new) else []) → s.logged ≡ logged → s.pending ≡ pending
       → IsFile s file (file_with tree old) k → from < blocks_of k → Adopts dig k from old reads adopted grown new
-      → AdoptsGroup dig s file from (reads_at file k.file_length reads) adopted (with_tree (with_file s file (file_with tree new)) tree grown)
-  group_in {k} {grown} {from} {old} {new} {reads} {adopted} {s} {file} {tree} answered no_log is left adopts =
-      let hints = listed dig grown _ (λ key c. answered k grown from old new reads adopted key adopts c) in
+      → AdoptsGroup dig s file from (reads_at file k.file_length reads) adopted (taken_state s file tree new grown left)
+  group_in {k} {grown} {from} {old} {new} {reads} {adopted} {s} {file} {tree} {logged} {pending} {left} proofs proves leaves has_log waits is inside adopts =
+      let then_state = with_tree (with_file s file (file_with tree new)) tree grown in
+      let marks = marks_in file (newly_marked old new) in
+      let hints : left ≡ add_hints s.pending (if s.logged then proofs ++ map (λ b. mark_of b) (new_marked_blocks s (with_tree (with_file s file (file_with tree new)) tree grown)) else []) =
+      leaves ∙ ap (λ p. add_hints p (if logged then proofs ++ marks else [])) (sym waits)
+      ∙ ap (λ b. add_hints s.pending (if b then proofs ++ marks else [])) (sym has_log)
+      ∙ ap (λ ms. add_hints s.pending (if s.logged then proofs ++ ms else [])) (sym (group_news s file tree new grown is.here)) in
       record {
         state = file_with tree old;
         tree = k;
         grown = grown;
         reads = reads;
         states = new;
-        proofs = hints.0;
+        proofs = proofs;
         is_file = is;
-        left = left;
+        left = inside;
         adopts = adopts;
         made = refl;
-        proves = hints.1;
-        after = sym (pending_by s (with_tree (with_file s file (file_with tree new)) tree grown) hints.0 no_log);
+        proves = proves;
+        after = ap (λ p. record then_state { pending = p }) hints;
       }
 
-  taken_more : (k : Facts) {mid grown : Facts} (old : List BlockState) {states new : List BlockState} (groups : List (List BlockRead)) {reads : List BlockRead} (total : Adopted) {one : Adopted}
-      → ProofKeysAreAnswered dig → AreTaken dig k old groups total mid states → mid.file_length ≡ k.file_length → total.next < blocks_of mid
-      → Adopts dig mid total.next states reads one grown new → AreTaken dig k old (groups ++ reads ∷ []) (adopted_together total one) grown new
-  taken_more k {mid} {grown} old {states} {new} groups {reads} total {one} answered taken same left adopts = λ s file tree no_log is.
-      let before = with_tree (with_file s file (file_with tree states)) tree mid in
-      let group = group_in answered no_log (record { here = set_same s.files file is.here; has_tree = set_same s.trees tree is.has_tree }) left adopts in
-      let after : with_tree (with_file before file (file_with tree new)) tree grown ≡ with_tree (with_file s file (file_with tree new)) tree grown =
-      ap (λ fs. record s { files = fs; trees = slice_set (slice_set s.trees tree mid) tree grown }) (set-set s.files file (file_with tree states) (file_with tree new))
-      ∙ ap (λ ts. record s { files = slice_set s.files file (file_with tree new); trees = ts }) (set-set s.trees tree mid grown) in
-      let list : map (reads_at file k.file_length) groups ++ reads_at file mid.file_length reads ∷ [] ≡ map (reads_at file k.file_length) (groups ++ reads ∷ []) =
-      ap (λ n. map (reads_at file k.file_length) groups ++ reads_at file n reads ∷ []) same ∙ sym (map-append (reads_at file k.file_length) groups (reads ∷ [])) in
-      rw (← list, ← after) (groups_more s file 0 (map (reads_at file k.file_length) groups) total (taken s file tree no_log is) group)
+  taken_more : {D : Type 0} {history : D → History} {honest : D → Type 0} {faults : D → ℕ} {file : ℕ} {logged : Bool} (k : Facts) {mid grown : Facts} (old : List BlockState)
+      {before new : StoreView D} {pending waits left : List Hint} (groups : List (List BlockRead)) (total : Adopted) {one : Adopted}
+      → AreTaken dig file logged k old pending groups total mid before.states waits → mid.file_length ≡ k.file_length → total.next < blocks_of mid
+      → (group : TakesGroup history honest faults dig file logged mid total.next before waits one grown new left)
+      → AreTaken dig file logged k old pending (groups ++ group.reads ∷ []) (adopted_together total one) grown new.states left
+  taken_more {file = file} {logged = logged} k {mid} {grown} old {before} {new} {pending} {waits} {left} groups total {one} taken same inside group = λ s tree has_log had is.
+      let first = taken_state s file tree before.states mid waits in
+      let more = group_in {s = first} group.proofs group.proves group.leaves has_log refl
+      (record { here = set_same s.files file is.here; has_tree = set_same s.trees tree is.has_tree }) inside group.adopts.adopts in
+      let after : taken_state first file tree new.states grown left ≡ taken_state s file tree new.states grown left =
+      ap (λ fs. record s { files = fs; trees = slice_set (slice_set s.trees tree mid) tree grown; pending = left }) (set-set s.files file (file_with tree before.states) (file_with tree new.states))
+      ∙ ap (λ ts. record s { files = slice_set s.files file (file_with tree new.states); trees = ts; pending = left }) (set-set s.trees tree mid grown) in
+      let list : map (reads_at file k.file_length) groups ++ reads_at file mid.file_length group.reads ∷ [] ≡ map (reads_at file k.file_length) (groups ++ group.reads ∷ []) =
+      ap (λ n. map (reads_at file k.file_length) groups ++ reads_at file n group.reads ∷ []) same ∙ sym (map-append (reads_at file k.file_length) groups (group.reads ∷ [])) in
+      subst (λ cs. AdoptsGroups dig s file 0 cs (adopted_together total one) (taken_state s file tree new.states grown left)) list
+      (subst (λ (t : EngineState). AdoptsGroups dig s file 0 (map (reads_at file k.file_length) groups ++ reads_at file mid.file_length group.reads ∷ []) (adopted_together total one) t) after
+      (groups_more s file 0 (map (reads_at file k.file_length) groups) total (taken s tree has_log had is) more))
 
-taken_none : (dig : List ℕ → List ℕ) (k : Facts) (states : List BlockState) → AreTaken dig k states [] (nothing_adopted 0) k states
-taken_none dig k states = λ s file tree no_log is. (
+taken_none : (dig : List ℕ → List ℕ) (file : ℕ) (logged : Bool) (k : Facts) (states : List BlockState) (pending : List Hint)
+    → AreTaken dig file logged k states pending [] (nothing_adopted 0) k states pending
+taken_none dig file logged k states pending = λ s tree has_log had is. (
   refl,
-  ap (λ fs. record s { files = fs; trees = slice_set s.trees tree k }) (set_id s.files file is.here) ∙ ap (λ ts. record s { trees = ts }) (set_id s.trees tree is.has_tree),
+  ap (λ fs. record s { files = fs; trees = slice_set s.trees tree k; pending = pending }) (set_id s.files file is.here)
+      ∙ ap (λ ts. record s { trees = ts; pending = pending }) (set_id s.trees tree is.has_tree) ∙ ap (λ p. record s { pending = p }) (sym had),
 )
 
 pub if_err_by : {X E : Type 0} {T : Type 0} (r : Result X E) → T → IfErr r (λ e. T)
@@ -139,56 +130,59 @@ if_err_by (Err e) t = t
 
 -- ---- the loop over the groups
 
-module _ {D : Type 0} {history : D → History} {honest : D → Type 0} {faults : D → ℕ} {dig : List ℕ → List ℕ} {k : Facts} {old : StoreView D} where
-  takes_more : {mid grown : Facts} {before new : StoreView D} {groups : List (List BlockRead)} {reads : List BlockRead} {total one : Adopted}
-      → CallsCompose history honest faults → ProofKeysAreAnswered dig → TakesGroups history honest faults dig k old groups total mid before → total.next < blocks_of mid
-      → IsAdopted history honest faults dig mid total.next before reads one grown new
-      → TakesGroups history honest faults dig k old (groups ++ reads ∷ []) (adopted_together total one) grown new
-  takes_more {mid} {grown} {before} {new} {groups} {reads} {total} {one} compose answered takes left adopted =
+module _ {D : Type 0} {history : D → History} {honest : D → Type 0} {faults : D → ℕ} {dig : List ℕ → List ℕ} {file : ℕ} {logged : Bool} {k : Facts} {old : StoreView D} {pending : List Hint} where
+  takes_more : {mid grown : Facts} {before new : StoreView D} {waits left : List Hint} {groups : List (List BlockRead)} {total one : Adopted}
+      → CallsCompose history honest faults → TakesGroups history honest faults dig file logged k old pending groups total mid before waits → total.next < blocks_of mid
+      → (group : TakesGroup history honest faults dig file logged mid total.next before waits one grown new left)
+      → TakesGroups history honest faults dig file logged k old pending (groups ++ group.reads ∷ []) (adopted_together total one) grown new left
+  takes_more {mid} {grown} {before} {new} {waits} {left} {groups} {total} {one} compose takes inside group =
+      let reads = group.reads in
+      let adopted = group.adopts in
       let call = call_of old.file_length in
-      let list : map (call_of old.file_length) (all_reads (groups ++ reads ∷ [])) ≡ map (call_of old.file_length) (all_reads groups) ++ map (call_of old.file_length) reads =
-      ap (map (call_of old.file_length)) (flat_map-append (λ rs. rs) groups (reads ∷ []) ∙ ap (λ rs. all_reads groups ++ rs) (append-nil reads))
-      ∙ map-append (call_of old.file_length) (all_reads groups) reads in
+      let list : map (call_of old.file_length) (all_reads (groups ++ group.reads ∷ [])) ≡ map (call_of old.file_length) (all_reads groups) ++ map (call_of old.file_length) group.reads =
+      ap (map (call_of old.file_length)) (flat_map-append (λ rs. rs) groups (group.reads ∷ []) ∙ ap (λ rs. all_reads groups ++ rs) (append-nil group.reads))
+      ∙ map-append (call_of old.file_length) (all_reads groups) group.reads in
       record {
         calls = rw list
             (compose old.disk before.disk new.disk (map call (all_reads groups)) (map call reads) takes.calls
             (subst (λ n. HasCalls history honest faults before.disk (map (call_of n) reads) new.disk) takes.same_file adopted.calls));
-        taken = taken_more k old.states groups total answered takes.taken takes.still.long left adopted.adopts;
+        taken = taken_more k old.states groups total takes.taken takes.still.long inside group;
         same_file = adopted.same_file ∙ takes.same_file;
         same_size = length_adopted adopted.adopts ∙ takes.same_size;
         still = still_then takes.still (still_adopted adopted.adopts);
       }
 
 -- so far groups were taken in, and their sums are within the blocks that they have
-pub record AreTaking {D : Type 0} (history : D → History) (honest : D → Type 0) (faults : D → ℕ) (dig : List ℕ → List ℕ) (k : Facts) (old : StoreView D)
-    (total : Adopted) (grown : Facts) (new : StoreView D) : Type 0 where
+pub record AreTaking {D : Type 0} (history : D → History) (honest : D → Type 0) (faults : D → ℕ) (dig : List ℕ → List ℕ) (file : ℕ) (logged : Bool) (k : Facts) (old : StoreView D)
+    (pending : List Hint) (total : Adopted) (grown : Facts) (new : StoreView D) (left : List Hint) : Type 0 where
   pub groups : List (List BlockRead)
-  pub takes : TakesGroups history honest faults dig k old groups total grown new
+  pub takes : TakesGroups history honest faults dig file logged k old pending groups total grown new left
   pub border : IsBorder grown total.next
   pub marked : total.marked ≤ total.next
   pub faulty : total.faults ≤ total.next
   pub inside : total.next ≤ blocks_of k
 
-module _ {D : Type 0} {history : D → History} {honest : D → Type 0} {faults : D → ℕ} {dig : List ℕ → List ℕ} {k : Facts} {old : StoreView D} where
-  pub taking_begun : NoCallsLead history honest faults → AreTaking history honest faults dig k old (nothing_adopted 0) k old
+module _ {D : Type 0} {history : D → History} {honest : D → Type 0} {faults : D → ℕ} {dig : List ℕ → List ℕ} {file : ℕ} {logged : Bool} {k : Facts} {old : StoreView D} {pending : List Hint} where
+  pub taking_begun : NoCallsLead history honest faults → AreTaking history honest faults dig file logged k old pending (nothing_adopted 0) k old pending
   taking_begun none = record {
     groups = [];
-    takes = record { calls = none old.disk; taken = taken_none dig k old.states; same_file = refl; same_size = refl; still = still k };
+    takes = record { calls = none old.disk; taken = taken_none dig file logged k old.states pending; same_file = refl; same_size = refl; still = still k };
     border = at_start refl;
     marked = omega arith;
     faulty = omega arith;
     inside = omega arith;
   }
 
-  pub taking_more : CallsCompose history honest faults → ProofKeysAreAnswered dig → {mid grown : Facts} {before new : StoreView D} {reads : List BlockRead} {total one : Adopted} → IsRooted dig mid
-      → AreTaking history honest faults dig k old total mid before → total.next < blocks_of k → IsAdopted history honest faults dig mid total.next before reads one grown new → one.next ≤ blocks_of k
-      → AreTaking history honest faults dig k old (adopted_together total one) grown new
-  taking_more compose answered {mid} {grown} {before} {new} {reads} {total} {one} rooted a left adopted within =
-      let here : total.next < blocks_of mid = subst (λ n. total.next < block_count n) (sym a.takes.still.long) left in
-      let more = behind_group_of rooted here a.border adopted.adopts in
+  pub taking_more : CallsCompose history honest faults → {mid grown : Facts} {before new : StoreView D} {waits left : List Hint} {total one : Adopted} → IsRooted dig mid
+      → AreTaking history honest faults dig file logged k old pending total mid before waits → total.next < blocks_of k
+      → TakesGroup history honest faults dig file logged mid total.next before waits one grown new left → one.next ≤ blocks_of k
+      → AreTaking history honest faults dig file logged k old pending (adopted_together total one) grown new left
+  taking_more compose {mid} {grown} {before} {new} {waits} {left} {total} {one} rooted a lt group within =
+      let here : total.next < blocks_of mid = subst (λ n. total.next < block_count n) (sym a.takes.still.long) lt in
+      let more = behind_group_of rooted here a.border group.adopts.adopts in
       record {
-        groups = a.groups ++ reads ∷ [];
-        takes = takes_more compose answered a.takes here adopted;
+        groups = a.groups ++ group.reads ∷ [];
+        takes = takes_more compose a.takes here group;
         border = more.border;
         marked = (let own = more.marked in let ones = a.marked in omega arith);
         faulty = (let own = more.faults in let ones = a.faulty in omega arith);
@@ -196,9 +190,10 @@ module _ {D : Type 0} {history : D → History} {honest : D → Type 0} {faults 
       }
 
   -- the next group was refused memory
-  pub taking_stopped : {mid : Facts} {before new : StoreView D} {total : Adopted} → AreTaking history honest faults dig k old total mid before
-      → (reads : List BlockRead) × StopsAdopting history honest faults dig mid total.next before reads new → StopsTaking history honest faults dig k old mid new
-  taking_stopped {mid} {before} {new} {total} a (reads, stop) = record {
+  pub taking_stopped : NoCallsLead history honest faults → {mid : Facts} {before new : StoreView D} {waits : List Hint} {total : Adopted}
+      → AreTaking history honest faults dig file logged k old pending total mid before waits
+      → StopsGroup history honest faults dig mid total.next before new → StopsTaking history honest faults dig file logged k old pending mid new waits
+  taking_stopped none {mid} {before} {new} {waits} {total} a (not_taken reads stop) = record {
     groups = a.groups;
     done = total;
     before = before;
@@ -206,8 +201,18 @@ module _ {D : Type 0} {history : D → History} {honest : D → Type 0} {faults 
     takes = a.takes;
     calls = stop.calls;
     stops = elim stop.in_order [
-      | inl none ↦ unread none
+      | inl no_read ↦ unread no_read
       | inr each ↦ read stop.anchor stop.first stop.count stop.group each
     ];
     others = stop.others;
+  }
+  taking_stopped none {mid} {before} {new} {waits} {total} a (not_read same) = record {
+    groups = a.groups;
+    done = total;
+    before = before;
+    last = [];
+    takes = a.takes;
+    calls = subst (λ (v : StoreView D). HasCalls history honest faults before.disk [] v.disk) (sym same) (none before.disk);
+    stops = unread refl;
+    others = same ∙ ap (λ (v : StoreView D). record before { disk = v.disk }) (sym same);
   }

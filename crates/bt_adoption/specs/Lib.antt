@@ -1,6 +1,10 @@
 -- what only private functions cite
+pub mod MarksSteps
+pub mod RunProofsSteps
+pub mod GroupSteps
 pub mod GroupsSteps
 pub mod RecountSteps
 pub mod PartsSteps
 pub mod SettlingSteps
+pub mod WaitingSteps
 pub mod AdoptionSteps

@@ -4,7 +4,7 @@ use Rattle.std.specs.Option.{option_map_or}
 use Rattle.bt_book.specs.Book.{peers_of}
 use Rattle.bt_sparse.specs.SparseTree.{blocks_of}
 use Rattle.bt_machine.specs.State.{EngineState}
-use Rattle.bt_state.specs.Parts.{state_of}
+use Rattle.bt_state.specs.Parts.{state_of, log_of}
 use Rattle.bt_state.specs.Ties.{FitsFile, LeavesStay, root_and_length}
 use Rattle.bt_state.specs.declared.slot.Slot.{Slot}
 use Rattle.bt_state.specs.declared.parts.Parts.{Parts}
@@ -24,26 +24,30 @@ pub record AreInLine {D H : Type 0} (parts : Parts D H) : Type 0 where
 abbrev pub blocks_in : EngineState → ℕ → ℕ
 blocks_in s tree = option_map_or blocks_of (slice_get s.trees tree) 0
 
--- Nothing changed but slots, trees, the book and the counts. There are as many slots as before, the trees are
--- of the same roots, lengths and blocks, each leaf that was known is, and the book has the same peers.
+-- Nothing changed but slots, trees, the book, the counts and what waits for the log. There are as many slots as
+-- before, the trees are of the same roots, lengths and blocks, each leaf that was known is, and the book has the
+-- same peers.
 pub record KeepsRest {D H : Type 0} (old new : Parts D H) : Type 0 where
   pub others : new ≡ record old {
     slots = new.slots;
     trees = new.trees;
     book = new.book;
     unmarked = new.unmarked;
+    log = new.log;
   }
+  pub log : log_of new ≡ log_of old
   pub count : length new.slots.items ≡ length old.slots.items
   pub trees : map root_and_length new.trees.items ≡ map root_and_length old.trees.items
   pub blocks : (tree : ℕ) → blocks_in (state_of new) tree ≡ blocks_in (state_of old) tree
   pub leaves : LeavesStay (state_of old) (state_of new)
   pub peers : peers_of new.book ≡ peers_of old.book
 
--- Nothing changed but slots and trees. There are as many slots as before, and the trees are of the same
--- roots, lengths and blocks. Each leaf that was known is. Of the files only this one has changed, and has as
--- many blocks as before.
+-- Nothing changed but slots, trees and what waits for the log. There are as many slots as before, and the trees
+-- are of the same roots, lengths and blocks. Each leaf that was known is. Of the files only this one has
+-- changed, and has as many blocks as before.
 pub record ChangesFile {D H : Type 0} (file : ℕ) (old new : Parts D H) : Type 0 where
-  pub others : new ≡ record old { slots = new.slots; trees = new.trees }
+  pub others : new ≡ record old { slots = new.slots; trees = new.trees; log = new.log }
+  pub log : log_of new ≡ log_of old
   pub count : length new.slots.items ≡ length old.slots.items
   pub trees : map root_and_length new.trees.items ≡ map root_and_length old.trees.items
   pub alike : (with_marked_file (state_of new) file).files ≡ (with_marked_file (state_of old) file).files

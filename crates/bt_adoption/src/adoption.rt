@@ -3,28 +3,32 @@ ghost use Rattle.bt_machine.specs.Devices.{DeviceCalls, HaveCalls};
 ghost use Rattle.bt_machine.specs.Blocks.{states_of};
 ghost use Rattle.bt_machine.specs.Shape.{IsShaped};
 ghost use Rattle.bt_machine.specs.Adopting.{StepAdopt};
-ghost use Rattle.bt_state.specs.Parts.{state_of, disks_of};
+ghost use Rattle.bt_state.specs.Parts.{state_of, disks_of, log_of};
 ghost use Rattle.bt_state.specs.Ties.{IsTied};
 ghost use Rattle.bt_adoption.specs.PartsSteps.{AreFit, AreInLine, KeepsRest, ChangesFile};
 ghost use Rattle.bt_adoption.specs.AdoptionSteps.{AdoptsIn, StopsIn};
 
 use crate::groups::adopt_groups;
 use crate::recount::{block_count, count_in, leave_out};
-use crate::settling::settle_others;
+use crate::settling::settle_recorded;
 use bt_disk::{Disk, calls_compose};
 use bt_machine::AdoptError;
 use bt_state::Parts;
 use bt_store::Adopted;
 use bt_tree::NodeHash;
-use std::alloc::AllocError;
+use std::alloc::{AllocError, Global};
 
 /// Takes in what the device of a file has already: every group of its blocks, and then the blocks that wait
 /// in the other files of its root, which are not counted in the answer. `next` is the file's count of
 /// blocks, `anchor` is 0, and `marked` and `faults` are the sums over the groups, in blocks.
 ///
+/// With a log each group leaves its proofs pending, and then the marks of its newly marked blocks; behind all
+/// groups come the marks of the blocks that have become marked in the other files.
+///
 /// Errors: no such file; a peer is connected; out of memory, after which the groups that were taken in stay
-/// so, and no other file has changed.
+/// so, with what they left for the log, and no other file has changed.
 pub fn adopt<D: Disk + Drop, H: NodeHash>(
+    alloc: Global,
     parts: &mut Parts<D, H>,
     file: u32,
 ) -> Result<Adopted, AdoptError>
@@ -35,6 +39,7 @@ pub fn adopt<D: Disk + Drop, H: NodeHash>(
         × StepAdopt H.digest (state_of parts.old) file calls result (state_of parts.new) }
     ensures torrent { parts.new.torrent ≡ parts.old.torrent }
     ensures peers { parts.new.peers ≡ parts.old.peers }
+    ensures log { log_of parts.new ≡ log_of parts.old }
     ensures tied { IsTied parts.new }
 {
     if file as usize >= parts.slots.len() {
@@ -52,10 +57,12 @@ pub fn adopt<D: Disk + Drop, H: NodeHash>(
         });
     }
     let tree = parts.slots[file as usize].tree as usize;
-    let Ok(total) = adopt_file(parts, file) else {
+    let Ok(total) = adopt_file(alloc, parts, file) else {
         return Err(AdoptError::OutOfMemory);
     };
-    settle_others(parts, tree, file);
+    let Ok(()) = settle_recorded(alloc, parts, tree, file) else {
+        return Err(AdoptError::OutOfMemory);
+    };
     Ok(total)
 }
 
@@ -68,6 +75,7 @@ fn has_peer<D: Disk + Drop, H: NodeHash>(parts: &Parts<D, H>) -> bool
 
 /// Takes in all groups of a file that has a block. No peer is connected.
 fn adopt_file<D: Disk + Drop, H: NodeHash>(
+    alloc: Global,
     parts: &mut Parts<D, H>,
     file: u32,
 ) -> Result<Adopted, AllocError>
@@ -83,13 +91,14 @@ fn adopt_file<D: Disk + Drop, H: NodeHash>(
     ensures in_line { AreInLine parts.new }
 {
     leave_out(parts, file);
-    let adopted = adopt_slot(parts, file);
+    let adopted = adopt_slot(alloc, parts, file);
     count_in(parts, file);
     adopted
 }
 
 /// Takes in all groups of a file that has a block. The book and the counts stay as they were.
 fn adopt_slot<D: Disk + Drop, H: NodeHash>(
+    alloc: Global,
     parts: &mut Parts<D, H>,
     file: u32,
 ) -> Result<Adopted, AllocError>
@@ -107,5 +116,6 @@ fn adopt_slot<D: Disk + Drop, H: NodeHash>(
     let Some(store) = &mut slot.store else {
         unreachable!();
     };
-    adopt_groups(store, &mut parts.trees[slot.tree as usize])
+    let tree = &mut parts.trees[slot.tree as usize];
+    adopt_groups(alloc, store, tree, file, &mut parts.log)
 }

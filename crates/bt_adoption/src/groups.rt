@@ -1,32 +1,39 @@
-ghost use Rattle.std.specs.Prelude.{◌≡◌, ◌+◌, ◌^◌, ◌<◌, List, IfOk, IfErr, length};
+ghost use Rattle.std.specs.Prelude.{◌≡◌, ◌+◌, ◌^◌, ◌<◌, List, is_some, IfOk, IfErr, length};
 ghost use Rattle.bt_store.specs.BlockReads.{BlockRead};
 ghost use Rattle.bt_machine.specs.Adopting.{adopted_together};
+ghost use Rattle.bt_state.specs.Parts.{pending_of};
+ghost use Rattle.bt_adoption.specs.GroupSteps.{log_in};
 ghost use Rattle.bt_adoption.specs.GroupsSteps.{TakesGroups, StopsTaking};
 
+use crate::group::adopt_group;
 use bt_disk::{Disk, calls_compose};
-use bt_machine::proof_keys_are_answered;
 use bt_sparse::SparseTree;
+use bt_state::OpenLog;
 use bt_store::{Adopted, FileStore};
 use bt_tree::NodeHash;
-use std::alloc::AllocError;
+use std::alloc::{AllocError, Global};
 
 /// Takes in all groups of a file, one after the other, and gives the sums. The one error is out of memory:
-/// the groups that were taken in before stay so.
+/// the groups that were taken in before stay so, and what they left for the log.
 pub(crate) fn adopt_groups<D: Disk + Drop, H: NodeHash>(
+    alloc: Global,
     store: &mut FileStore<D, H>,
     tree: &mut SparseTree<H>,
+    file: u32,
+    log: &mut Option<OpenLog<D>>,
 ) -> Result<Adopted, AllocError>
     requires { tree.old.file_length ≡ store.old.file_length }
     ensures ok { IfOk result (λ total. (groups : List (List BlockRead))
-        × TakesGroups D.history D.honest D.faults H.digest
-        tree.old store.old groups total tree.new store.new) }
+        × TakesGroups D.history D.honest D.faults H.digest file (is_some log.old)
+        tree.old store.old (pending_of log.old) groups total tree.new store.new (pending_of log.new)) }
     ensures all { IfOk result (λ total. total.next ≡ length store.old.states) }
-    ensures stop { IfErr result (λ _. StopsTaking D.history D.honest D.faults
-        H.digest tree.old store.old tree.new store.new) }
+    ensures stop { IfErr result (λ _. StopsTaking D.history D.honest D.faults H.digest
+        file (is_some log.old) tree.old store.old (pending_of log.old)
+        tree.new store.new (pending_of log.new)) }
+    ensures log { log_in log.new ≡ log_in log.old }
 {
     let blocks = store.geometry().blocks();
     calls_compose::<D>();
-    proof_keys_are_answered::<H>();
     let mut total = Adopted {
         next: 0,
         anchor: 0,
@@ -36,7 +43,7 @@ pub(crate) fn adopt_groups<D: Disk + Drop, H: NodeHash>(
     while total.next < blocks {
         // A clause of the root says that the tree is rooted.
         let _ = tree.root();
-        let group = store.adopt(tree, total.next)?;
+        let group = adopt_group(alloc, store, tree, file, total.next, log)?;
         total = together(total, group);
     }
     Ok(total)

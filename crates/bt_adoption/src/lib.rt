@@ -3,8 +3,12 @@
 #![tactic(auto)]
 
 mod adoption;
+mod group;
 mod groups;
+mod marks;
 mod recount;
+mod run_proofs;
 mod settling;
+mod waiting;
 
 pub use adoption::adopt;

@@ -1,26 +1,54 @@
 //! The other files of a tree, of which blocks waited for their leaf.
-ghost use Rattle.std.specs.Prelude.{[], ◌≡◌, ◌<◌, ◌==◌, ◌↔◌, IsTrue, length, vec_len, slice_get, Some};
+ghost use Rattle.std.specs.Prelude.{[], ◌≡◌, ◌<◌, ◌==◌, ◌↔◌, IsTrue, OnOk, OnErr, length, vec_len, slice_get, Some};
 ghost use Rattle.bt_machine.specs.Adopting.{is_other};
+ghost use Rattle.bt_state.specs.Parts.{pending_of};
 ghost use Rattle.bt_adoption.specs.PartsSteps.{AreFit, AreInLine, KeepsRest, ChangesFile};
-ghost use Rattle.bt_adoption.specs.SettlingSteps.{SettlesFiles, IsDue};
+ghost use Rattle.bt_adoption.specs.SettlingSteps.{SettlesFiles, SettlesOthers, IsDue};
+ghost use Rattle.bt_adoption.specs.WaitingSteps.{KeepsLog};
 
 use crate::recount::{count_in, leave_out};
+use crate::waiting::{leave_marks, plan_marks};
 use bt_disk::Disk;
 use bt_state::{Parts, Slot};
 use bt_tree::NodeHash;
+use std::alloc::{AllocError, Global};
 
-/// Settles all blocks of the other files of a tree, all but this one. No peer is connected.
-pub(crate) fn settle_others<D: Disk + Drop, H: NodeHash>(
+/// Settles all blocks of the other files of a tree, all but this one. With a log the marks of those that have
+/// become marked are pending behind what was. No peer is connected.
+///
+/// The one error is out of memory: then no block has changed, and nothing more is pending.
+pub(crate) fn settle_recorded<D: Disk + Drop, H: NodeHash>(
+    alloc: Global,
     parts: &mut Parts<D, H>,
     tree: usize,
     file: u32,
-)
+) -> Result<(), AllocError>
+    requires alone { parts.old.peers.items ≡ [] }
+    requires in_line { AreInLine parts.old }
+    requires count { length parts.old.slots.items ≡ length parts.old.torrent.files }
+    requires here { tree < vec_len parts.old.trees }
+    ensures settles { OnOk result (SettlesOthers D.history D.honest D.faults H.digest file tree
+        parts.old parts.new) }
+    ensures refused { OnErr result (KeepsLog parts.old parts.new) }
+    ensures pending { OnErr result (pending_of parts.new.log ≡ pending_of parts.old.log) }
+    ensures rest { KeepsRest parts.old parts.new }
+    ensures in_line { AreInLine parts.new }
+{
+    let waiting = plan_marks(alloc, parts, tree, file)?;
+    settle_others(parts, tree, file);
+    leave_marks(parts, &waiting);
+    Ok(())
+}
+
+/// Settles all blocks of the other files of a tree, all but this one. No peer is connected.
+fn settle_others<D: Disk + Drop, H: NodeHash>(parts: &mut Parts<D, H>, tree: usize, file: u32)
     requires alone { parts.old.peers.items ≡ [] }
     requires in_line { AreInLine parts.old }
     requires count { length parts.old.slots.items ≡ length parts.old.torrent.files }
     requires here { tree < vec_len parts.old.trees }
     ensures settles { SettlesFiles D.history D.honest D.faults H.digest (is_other file) tree
         parts.old parts.new }
+    ensures log { parts.new.log ≡ parts.old.log }
     ensures rest { KeepsRest parts.old parts.new }
     ensures in_line { AreInLine parts.new }
 {
@@ -40,6 +68,7 @@ fn settle_file<D: Disk + Drop, H: NodeHash>(parts: &mut Parts<D, H>, tree: usize
     requires here { tree < vec_len parts.old.trees }
     ensures settles { SettlesFiles D.history D.honest D.faults H.digest (λ other. other == file) tree
         parts.old parts.new }
+    ensures log { parts.new.log ≡ parts.old.log }
     ensures rest { KeepsRest parts.old parts.new }
     ensures in_line { AreInLine parts.new }
 {
@@ -52,7 +81,7 @@ fn settle_file<D: Disk + Drop, H: NodeHash>(parts: &mut Parts<D, H>, tree: usize
 }
 
 /// Whether a file is of the tree and has a block that waits.
-fn is_due<D: Disk + Drop, H: NodeHash>(slot: &Slot<D, H>, tree: usize) -> bool
+pub(crate) fn is_due<D: Disk + Drop, H: NodeHash>(slot: &Slot<D, H>, tree: usize) -> bool
     ensures { IsTrue result ↔ IsDue tree slot.now }
 {
     match &slot.store {
@@ -69,6 +98,7 @@ fn settle_slot<D: Disk + Drop, H: NodeHash>(parts: &mut Parts<D, H>, tree: usize
     requires due { (slot : Slot D H) → slice_get parts.old.slots.items file ≡ Some slot → IsDue tree slot }
     ensures settles { SettlesFiles D.history D.honest D.faults H.digest (λ other. other == file) tree
         parts.old parts.new }
+    ensures log { parts.new.log ≡ parts.old.log }
     ensures changes { ChangesFile file parts.old parts.new }
 {
     let slot = &mut parts.slots[file as usize];

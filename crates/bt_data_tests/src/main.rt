@@ -1,5 +1,5 @@
-//! Calls what reads, makes and digests the data of a torrent as the rows of `stdin` say, and prints what each
-//! call answers: `stdout` has what they are to answer. README.md tells the rows.
+//! Calls what reads, makes, digests and divides the data of a torrent as the rows of `stdin` say, and prints what
+//! each call answers: `stdout` has what they are to answer. README.md tells the rows.
 #![tactic(auto)]
 
 mod bencode;
@@ -9,6 +9,7 @@ mod digest;
 mod make;
 mod names;
 mod parts;
+mod shares;
 mod stage;
 mod torrent;
 mod tree;

@@ -6,6 +6,7 @@ use crate::digest::digest_row;
 use crate::make::make_row;
 use crate::names::Names;
 use crate::parts::push_word;
+use crate::shares::part_row;
 use crate::torrent::{laws_row, texts_row, torrent_row};
 use crate::tree::tree_row;
 use crate::words::Words;
@@ -102,6 +103,7 @@ fn named_row(
         "digest" => digest_row(alloc, words, out),
         "torrent" => torrent_row(alloc, &mut objects.torrent, words, out),
         "make" => make_row(alloc, objects, words, out),
+        "part" => part_row(alloc, words, out),
         "texts" => texts_row(out),
         "laws" => laws_row(out),
         _ => {

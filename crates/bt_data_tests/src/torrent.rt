@@ -7,6 +7,7 @@ use bt_meta::{
     FileEntry, FilePath, MakeError, MetaError, Torrent, block_ranges_are_places,
     blocks_and_ranges_agree, layers_are_of_trees, read_info, read_torrent,
 };
+use bt_parts::{lines_are_read_back, shares_are_whole, sums_are_whole};
 use bt_tree::LayerError;
 use std::alloc::{AllocError, Global};
 use std::fmt::Write;
@@ -177,5 +178,8 @@ pub fn laws_row(out: &mut String) -> Result<(), AllocError> {
     blocks_and_ranges_agree();
     layers_are_of_trees();
     block_ranges_are_places();
+    sums_are_whole();
+    shares_are_whole();
+    lines_are_read_back();
     out.push_str("nothing is done")
 }

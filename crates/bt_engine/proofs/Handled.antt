@@ -19,6 +19,11 @@ use Rattle.bt_state.proofs.Lists.{get_mapped}
 use Rattle.bt_state.proofs.PeerLists.{keys_apart}
 use Rattle.bt_engine.specs.EventSteps.{proof_in, effect_of, IsHandled}
 use Rattle.bt_engine.specs.declared.event.Handled.{Handled}
+use Rattle.bt_engine.specs.RoomSteps.{IsMessageBound, IsNoteBound}
+use Rattle.bt_state.specs.declared.open_log.OpenLog.{OpenLog}
+use Rattle.bt_wire.specs.declared.event.WireEvent.TheVariants.{Message}
+use Rattle.bt_wire.specs.declared.message.Message.{Message as PeerMessage}
+use Rattle.bt_wire.specs.declared.message.Message.TheVariants.{Hashes}
 
 pub if_ok : {A E : Type 0} (P Q : A → Type 0) (r : Result A E) → IfOk r P → ((x : A) → P x → Q x) → IfOk r Q
 if_ok P Q (Ok x) p f = f x p
@@ -56,3 +61,16 @@ lost_at parts i {p} tied at (goes j q is e after) = elim (cases_eq j i) [
 ]
 lost_at parts i {p} tied at (no_peer none e after) =
     absurd (none i (peer_of parts.book p) (record { here = get_mapped (peer_of parts.book) parts.peers.items i at; same_key = refl }))
+
+-- how many notes there may be is not a matter of the log
+module _ {D H : Type 0} (parts : Parts D H) (log : Option (OpenLog D)) where
+  message_logged : (message : PeerMessage) (bound : ℕ) → IsMessageBound parts message bound → IsMessageBound (record parts { log = log }) message bound
+  message_logged (Hashes key digests) bound is = record {
+    known = λ tree k has. is.known tree k (record { here = has.here; same_root = has.same_root });
+    unknown = λ none. is.unknown (λ tree k has. none tree k (record { here = has.here; same_root = has.same_root }));
+  }
+  message_logged _ bound is = is
+
+  pub bound_logged : (event : WireEvent) (bound : ℕ) → IsNoteBound parts event bound → IsNoteBound (record parts { log = log }) event bound
+  bound_logged (Message message) bound is = message_logged message bound is
+  bound_logged _ bound is = is

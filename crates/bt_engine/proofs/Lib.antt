@@ -1,7 +1,7 @@
 pub mod Keeping
 pub mod MarkNotes
 pub mod NewWholes
-pub mod Pending
+pub mod ToldMarks
 pub mod Announcements
 pub mod Events
 pub mod Handled

@@ -5,7 +5,7 @@ use Rattle.std.proofs.Math.Nat.{div-le_of_le-mul, div-mul-le_self, le-div_iff_mu
 use Rattle.std.proofs.lemmas.Bool.{cases_lt}
 use Rattle.std.proofs.lemmas.Nat.{div-add-mod'}
 use Rattle.bt_tree.specs.Limits.{full_block_length}
-use Rattle.bt_parts.specs.Division.{cut_at, edge_of}
+use Rattle.bt_parts.specs.Division.{IsFirstIn, cut_at, edge_of}
 use Rattle.bt_parts.specs.Law.{SharesAreWhole}
 use Rattle.bt_parts.specs.declared.cut.Cut.{Cut}
 
@@ -54,10 +54,17 @@ module _ (x y : ℕ) where
 ceil_forward : (x z y : ℕ) → 0 < y → x ≤ z → div_ceil x y ≤ div_ceil z y
 ceil_forward x z y pos le = ceil_least x y (div_ceil z y) pos (omega (arith, le, ceil_covers z y pos))
 
-edge_forward : (total count index : ℕ) → 0 < count → edge_of total count index ≤ edge_of total count (index + 1)
-edge_forward total count index pos =
-    let more : total * index ≤ total * (index + 1) = grind arith in
-    (le-div_iff_mul-le pos).1 (omega (arith, div-mul-le_self (total * index) count, more))
+edge_forward : (total count i j : ℕ) → 0 < count → i ≤ j → edge_of total count i ≤ edge_of total count j
+edge_forward total count i j pos le =
+    let times : i * total ≤ j * total = mul-le-mul_right total le in
+    let more : total * i ≤ total * j = omega (arith, times, mul_comm i total, mul_comm j total) in
+    (le-div_iff_mul-le pos).1 (omega (arith, div-mul-le_self (total * i) count, more))
+
+edge_first : (total count : ℕ) → 0 < count → edge_of total count 0 ≡ 0
+edge_first total count pos = grind (arith, div-mul-le_self (total * 0) count)
+
+edge_last : (total count : ℕ) → 0 < count → edge_of total count count ≡ total
+edge_last total count pos = mul-div_cancel total pos
 
 unit_bytes : (file : Cut) → 0 < file.unit * full_block_length
 unit_bytes file = omega (arith, file.some)
@@ -70,8 +77,7 @@ cut_forward file x z le =
 
 cut_begin : (file : Cut) (total count : ℕ) → 0 < count → cut_at file (edge_of total count 0) ≡ 0
 cut_begin file total count pos =
-    let zero_edge : edge_of total count 0 ≡ 0 = grind (arith, div-mul-le_self (total * 0) count) in
-    let behind : edge_of total count 0 - file.place ≡ 0 = omega (arith, zero_edge) in
+    let behind : edge_of total count 0 - file.place ≡ 0 = omega (arith, edge_first total count pos) in
     let none : div_ceil (edge_of total count 0 - file.place) (file.unit * full_block_length) ≤ 0 =
     ceil_least (edge_of total count 0 - file.place) (file.unit * full_block_length) 0 (unit_bytes file) (omega (arith, behind)) in
     let blocks = mul-le-mul_right file.unit none in
@@ -80,15 +86,40 @@ cut_begin file total count pos =
 cut_finish : (file : Cut) (total count : ℕ) → 0 < count → file.place + (file.blocks - 1) * full_block_length < total
     → cut_at file (edge_of total count count) ≡ file.blocks
 cut_finish file total count pos inside =
-    let edge : edge_of total count count ≡ total = mul-div_cancel total pos in
+    let edge = edge_last total count pos in
     let c = div_ceil (edge_of total count count - file.place) (file.unit * full_block_length) in
     let covers = ceil_covers (edge_of total count count - file.place) (file.unit * full_block_length) (unit_bytes file) in
     let times : c * (file.unit * full_block_length) ≡ c * file.unit * full_block_length = grind arith in
     omega (arith, edge, covers, times, inside)
 
+-- ---- the part in which a file begins
+
+module _ (total count : ℕ) (file : Cut) (pos : 0 < count) where
+  told_below : (n : ℕ) → file.place < edge_of total count n → (index : ℕ) × (index < n) × IsFirstIn total count index file
+  told_below zero past = absurd (omega (arith, past, edge_first total count pos))
+  told_below (suc n) past = elim (cases_lt file.place (edge_of total count n)) [
+    | inl lt ↦ (let earlier = told_below n lt in (earlier.0, omega (arith, earlier.1), earlier.2))
+    | inr ge ↦ (
+      n,
+      omega arith,
+      record { begun = ge; before = subst (λ m. file.place < edge_of total count m) (omega arith) past },
+    )
+  ]
+
+  alone : (i j : ℕ) → IsFirstIn total count i file → IsFirstIn total count j file → i ≡ j
+  alone i j here there = elim (cases_lt i j) [
+    | inl lt ↦ absurd (omega (arith, edge_forward total count (i + 1) j pos (omega (arith, lt)), here.before, there.begun))
+    | inr ge ↦ elim (cases_lt j i) [
+      | inl lt ↦ absurd (omega (arith, edge_forward total count (j + 1) i pos (omega (arith, lt)), there.before, here.begun))
+      | inr le ↦ omega (arith, ge, le)
+    ]
+  ]
+
 pub shares_whole : SharesAreWhole
 shares_whole file total count pos inside = record {
   begin = cut_begin file total count pos;
   finish = cut_finish file total count pos inside;
-  forward = λ index. cut_forward file _ _ (edge_forward total count index pos);
+  forward = λ index. cut_forward file _ _ (edge_forward total count index (index + 1) pos (omega arith));
+  told = told_below total count file pos count (omega (arith, inside, edge_last total count pos));
+  alone = alone total count file pos;
 }

@@ -1,3 +1,4 @@
+pub mod Limits
 pub mod Run
 pub mod Field
 pub mod Line

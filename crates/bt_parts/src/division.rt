@@ -1,16 +1,18 @@
 //! How the blocks of a torrent's files are divided among the parts of a check.
-ghost use Rattle.std.specs.Prelude.{◌≡◌, ◌+◌, ◌^◌, ◌<◌, ◌≤◌, ◌↔◌, IsTrue};
+ghost use Rattle.std.specs.Prelude.{◌≡◌, ◌+◌, ◌<◌, ◌≤◌, ◌↔◌, IsTrue};
 ghost use Rattle.bt_parts.specs.Division.{IsFirstIn, cut_at, edge_of};
+ghost use Rattle.bt_parts.specs.Limits.{max_parts, max_total};
 
 use crate::cut::{Cut, Part, Share};
 use bt_tree::BLOCK_LEN;
 
-/// The share that a part has of a file, on a line of so many bytes.
+/// The share that a part has of a file, where so many bytes are counted in all.
 pub fn share_of(part: Part, total: u64, file: Cut) -> Share
-    requires { total ≤ 2 ^ 57 }
+    requires limit { total ≤ max_total }
+    requires inside { file.place < total }
     ensures from { result.from ≡ cut_at file (edge_of total part.count part.index) }
     ensures to { result.to ≡ cut_at file (edge_of total part.count (part.index + 1)) }
-    ensures first { IsTrue result.is_first ↔ IsFirstIn total part file }
+    ensures first { IsTrue result.is_first ↔ IsFirstIn total part.count part.index file }
 {
     let begin = edge_of(total, part.count, part.index);
     let end = edge_of(total, part.count, part.index + 1);
@@ -21,18 +23,18 @@ pub fn share_of(part: Part, total: u64, file: Cut) -> Share
     }
 }
 
-/// The byte of the line at which a part begins, and the one before it ends.
+/// The number of the byte at which a part begins, and the one before it ends.
 fn edge_of(total: u64, count: u32, index: u32) -> u64
-    requires limit { total ≤ 2 ^ 57 }
-    requires few { index ≤ 64 }
+    requires limit { total ≤ max_total }
+    requires few { index ≤ max_parts }
     requires some { 0 < count }
     ensures { result ≡ edge_of total count index }
 {
     total * index as u64 / count as u64
 }
 
-/// The block of a file at which it is cut where the line is cut at a byte: the first of the units that begin there or
-/// behind it.
+/// The block at which a file is cut where all bytes are cut before one of them: the first of the units that begin there
+/// or behind it.
 fn cut_at(file: Cut, edge: u64) -> u32
     ensures { result ≡ cut_at file edge }
 {

@@ -12,7 +12,8 @@ pub fn lines_are_read_back()
     ensures { LinesAreReadBack }
 {}
 
-/// The shares that the parts have of a file are the whole file, and none of its blocks is in two.
+/// The shares that the parts have of a file are the whole file, none of its blocks is in two, and one part alone has
+/// the byte at which it begins.
 pub fn shares_are_whole()
     ensures { SharesAreWhole }
 {}

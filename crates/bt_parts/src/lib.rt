@@ -11,7 +11,7 @@ mod line;
 mod run;
 mod unit;
 
-pub use cut::{Cut, MAX_PARTS, Part, Share};
+pub use cut::{Cut, MAX_PARTS, MAX_TOTAL, Part, Share};
 pub use division::share_of;
 pub use join::join_runs;
 pub use law::{lines_are_read_back, shares_are_whole, sums_are_whole};

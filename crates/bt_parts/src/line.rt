@@ -37,7 +37,7 @@ fn met_in(word: &[u8]) -> Option<Met>
     }
 }
 
-/// Adds the line of a run.
+/// Adds the line of a run. Errors: out of memory, and the text may then have a part of the line.
 pub fn push_line(text: &mut String, run: Run) -> Result<(), AllocError>
     ensures { OnOk result (string_bytes text.new ≡ string_bytes text.old ++ run_line run) }
 {

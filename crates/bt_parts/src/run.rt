@@ -11,6 +11,7 @@ pub struct Run {
     pub from: u32,
     /// The block behind the last.
     pub to: u32,
+    /// How many of them are right.
     pub marked: u32,
     pub met: Met,
 }
@@ -30,7 +31,7 @@ pub enum Met {
 }
 
 impl Run {
-    /// Whether a file of so many blocks has it, and as many blocks as it says are right.
+    /// Whether a file of so many blocks has these, and no more of them are told to be right than there are.
     pub fn is_within(self, blocks: u32) -> bool
         ensures { IsTrue result ↔ IsWithin blocks self }
     {

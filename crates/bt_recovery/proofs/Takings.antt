@@ -1,19 +1,20 @@
 -- Proofs that are taken or passed, by one tree and by each of several.
 use Rattle.bt_machine.proofs.Base.{[], ◌≡◌, ◌≢◌, ℕ, zero, suc, ◌+◌, ◌*◌, ◌/◌, ◌<◌, ◌⊎◌, inl, inr, Bool, true, false, cond, List, ◌∷◌, ◌++◌, length, map, drop, Option, Some, None, Result, Ok, Err, refl, sym, ap, ◌∙◌, subst, arith, slice_get, slice_set, get_or, get_or_default, All, AllPairs, cases_lt, first_chunks, Facts, Accepts, Claim, HashKey}
-use Rattle.std.specs.Prelude.{IfSome, OnOk, ◌↔◌, flat_map}
+use Rattle.std.specs.Prelude.{IfSome, IfErr, OnOk, ◌↔◌, flat_map}
 use Rattle.std.specs.Ordering.{is_eq, nat_cmp}
 use Rattle.std.specs.Cmp.Lexicographic.{slice_cmp}
 use Rattle.std.specs.BTreeMap.{IsEmpty, is_at}
 use Rattle.std.specs.Map.{lookup}
 use Rattle.std.proofs.lemmas.Map.Text.{is_eq-slice_cmp}
 use Rattle.std.proofs.lemmas.Slice.Eq.{bytes_eq-Decides}
-use Rattle.std.proofs.lemmas.List.{take_at, drop_at, length-map}
+use Rattle.std.proofs.lemmas.List.{append-nil, append_assoc, take_at, drop_at, length-map}
 use Rattle.bt_sparse.specs.SparseTree.{blocks_of, value_at}
 use Rattle.bt_sparse.specs.Claim.{Claims}
 use Rattle.bt_sparse.specs.Acceptance.{IsRefused, IsAcceptable, DiffersBelow, shape, padding, no_anchor, top_differs, clash, no_memory}
 use Rattle.bt_sparse.specs.declared.claim.ProofError.{ProofError}
 use Rattle.bt_sparse.specs.declared.claim.ProofError.TheVariants.{OutOfMemory}
 use Rattle.bt_hashreq.specs.Claim.{IsClaimBy, IsNoClaim, digests_in, shape as no_shape, count as no_count, no_memory as no_room}
+use Rattle.bt_resume.specs.Law.{Begin}
 use Rattle.bt_resume.specs.declared.hint.Hint.{Hint}
 use Rattle.bt_resume.specs.declared.hint.Hint.TheVariants.{Proof, Marks}
 use Rattle.bt_machine.proofs.Lists.{some_is, same_some, some_below, get_map, set_same, set_other}
@@ -110,6 +111,14 @@ pub on_ok : {X E P Q : Type 0} (r : Result X E) → OnOk r P → (P → Q) → O
 on_ok (Ok x) p f = f p
 on_ok (Err e) p f = tt
 
+pub if_err : {X E P : Type 0} (r : Result X E) → P → IfErr r (λ _. P)
+if_err (Ok x) p = tt
+if_err (Err e) p = p
+
+pub on_err : {X E P Q : Type 0} (r : Result X E) → IfErr r (λ _. P) → (P → Q) → IfErr r (λ _. Q)
+on_err (Ok x) p f = tt
+on_err (Err e) p f = f p
+
 -- ---- each tree
 
 not_the_same : (i j : ℕ) → (i ≡ j) ⊎ (i ≢ j)
@@ -125,6 +134,13 @@ read_alike f [] zero at same = absurd cc
 read_alike f [] (suc i) at same = absurd cc
 read_alike f (y ∷ xs) zero at same = ap (λ z. z ∷ map f xs) (same ∙ ap f (same_some at refl))
 read_alike f (y ∷ xs) (suc i) at same = ap (λ zs. f y ∷ zs) (read_alike f xs i at same)
+
+-- an element that is replaced by itself
+pub set_alike : {X : Type 0} (xs : List X) (i : ℕ) {x new : X} → slice_get xs i ≡ Some x → new ≡ x → slice_set xs i new ≡ xs
+set_alike [] zero at same = absurd cc
+set_alike [] (suc i) at same = absurd cc
+set_alike (y ∷ xs) zero at same = ap (λ z. z ∷ xs) (same ∙ same_some at refl)
+set_alike (y ∷ xs) (suc i) at same = ap (λ zs. y ∷ zs) (set_alike xs i at same)
 
 root_at : (trees : List Facts) (t : ℕ) {k : Facts} → slice_get trees t ≡ Some k → slice_get (roots_of trees) t ≡ Some k.root
 root_at [] zero at = absurd cc
@@ -224,31 +240,57 @@ module _ (trees : List Facts) (n : ℕ) (old new : Places) {own : Facts} (apart 
 
 -- ---- hints, one after the other
 
--- what these hints make of the trees now is what all of them made of the trees before
-abbrev pub Leads : (List ℕ → List ℕ) → (all rest : List Hint) → (old now : List Facts) → Type 0
-Leads dig all rest old now = (t : ℕ) (k : Facts) → slice_get old t ≡ Some k
-    → (j : Facts) × (slice_get now t ≡ Some j) × ((new : Facts) → TakesHints dig j rest new → TakesHints dig k all new)
+-- a tree that takes some hints, and then others
+takes_more : (dig : List ℕ → List ℕ) (first more : List Hint) (k mid new : Facts) → TakesHints dig k first mid → TakesHints dig mid more new
+    → TakesHints dig k (first ++ more) new
+takes_more dig [] more k mid new takes rest = subst (λ (j : Facts). TakesHints dig j more new) takes rest
+takes_more dig (Proof key digests ∷ first) more k mid new takes rest = (takes.0, takes.1, takes_more dig first more takes.0 mid new takes.2 rest)
+takes_more dig (Marks f i n ∷ first) more k mid new takes rest = takes_more dig first more k mid new takes rest
+
+-- the hints before these are what the trees have taken
+abbrev pub HaveTaken : (List ℕ → List ℕ) → (all rest : List Hint) → (old now : List Facts) → Type 0
+HaveTaken dig all rest old now = (first : List Hint) × (all ≡ first ++ rest)
+    × ((t : ℕ) (k : Facts) → slice_get old t ≡ Some k → (j : Facts) × (slice_get now t ≡ Some j) × TakesHints dig k first j)
 
 module _ (dig : List ℕ → List ℕ) (all rest : List Hint) (old now : List Facts) where
-  pub leads_first : rest ≡ all → Leads dig all rest old old
-  leads_first is t k at = (k, at, λ new h. subst (λ (hs : List Hint). TakesHints dig k hs new) is h)
+  pub taken_none : rest ≡ all → HaveTaken dig all rest old old
+  taken_none is = ([], sym is, λ t k at. (k, at, refl))
 
-  pub leads_on : (next : List Facts) (hints : List Hint) (key : HashKey) (digests : List (List ℕ)) → hints ≡ Proof key digests ∷ rest
-      → Leads dig all hints old now → TakeProof dig key digests now next → Leads dig all rest old next
-  leads_on next hints key digests is leads takes t k at =
-      let j = leads t k at in
-      let i = takes t j.0 j.1 in
-      (i.0, i.1, λ new h. j.2 new (subst (λ (hs : List Hint). TakesHints dig j.0 hs new) (sym is) (i.0, i.2, h)))
+  -- the first of the hints before, and one more
+  one_more : (hints : List Hint) (hint : Hint) → hints ≡ hint ∷ rest → (first : List Hint) → all ≡ first ++ hints → all ≡ (first ++ (hint ∷ [])) ++ rest
+  one_more hints hint is first all_are = all_are ∙ ap (λ (hs : List Hint). first ++ hs) is ∙ sym (append_assoc first (hint ∷ []) rest)
 
-  pub leads_past : (hints : List Hint) (file first count : ℕ) → hints ≡ Marks file first count ∷ rest → Leads dig all hints old now
-      → Leads dig all rest old now
-  leads_past hints file first count is leads = subst (λ (hs : List Hint). Leads dig all hs old now) is leads
+  pub taken_proof : (next : List Facts) (hints : List Hint) (key : HashKey) (digests : List (List ℕ)) → hints ≡ Proof key digests ∷ rest
+      → HaveTaken dig all hints old now → TakeProof dig key digests now next → HaveTaken dig all rest old next
+  taken_proof next hints key digests is before takes = (
+    before.0 ++ (Proof key digests ∷ []),
+    one_more hints (Proof key digests) is before.0 before.1,
+    λ t k at. (
+        let j = before.2 t k at in
+        let i = takes t j.0 j.1 in
+        (i.0, i.1, takes_more dig before.0 (Proof key digests ∷ []) k j.0 i.0 j.2 (i.0, i.2, refl))
+        ),
+  )
 
-  pub leads_last : map (λ (k : Facts). k.root) now ≡ map (λ (k : Facts). k.root) old → rest ≡ [] → Leads dig all rest old now → TakeHints dig all old now
-  leads_last roots none leads = record {
-    count = sym (length-map now (λ (k : Facts). k.root)) ∙ ap (λ (rs : List (List ℕ)). length rs) roots ∙ length-map old (λ (k : Facts). k.root);
-    each = λ t k at. (
-        let j = leads t k at in
-        (j.0, j.1, j.2 j.0 (subst (λ (hs : List Hint). TakesHints dig j.0 hs j.0) (sym none) refl))
-        );
-  }
+  pub taken_marks : (hints : List Hint) (file first count : ℕ) → hints ≡ Marks file first count ∷ rest → HaveTaken dig all hints old now
+      → HaveTaken dig all rest old now
+  taken_marks hints file first count is before = (
+    before.0 ++ (Marks file first count ∷ []),
+    one_more hints (Marks file first count) is before.0 before.1,
+    λ t k at. (let j = before.2 t k at in (j.0, j.1, takes_more dig before.0 (Marks file first count ∷ []) k j.0 j.0 j.2 refl)),
+  )
+
+  module _ (roots : map (λ (k : Facts). k.root) now ≡ map (λ (k : Facts). k.root) old) where
+    taken_by : (before : HaveTaken dig all rest old now) → TakeHints dig before.0 old now
+    taken_by before = record {
+      count = sym (length-map now (λ (k : Facts). k.root)) ∙ ap (λ (rs : List (List ℕ)). length rs) roots ∙ length-map old (λ (k : Facts). k.root);
+      each = before.2;
+    }
+
+    pub taken_some : HaveTaken dig all rest old now → (first : List Hint) × Begin first all × TakeHints dig first old now
+    taken_some before = (before.0, (rest, before.1), taken_by before)
+
+    pub taken_all : rest ≡ [] → HaveTaken dig all rest old now → TakeHints dig all old now
+    taken_all none before =
+        let whole : before.0 ≡ all = sym (before.1 ∙ ap (λ (hs : List Hint). before.0 ++ hs) none ∙ append-nil before.0) in
+        subst (λ (hs : List Hint). TakeHints dig hs old now) whole (taken_by before)

@@ -1,6 +1,8 @@
-ghost use Rattle.std.specs.Prelude.{◌≡◌, ◌≢◌, OnOk, map};
+ghost use Rattle.std.specs.Prelude.{◌≡◌, ◌≢◌, List, OnOk, IfErr, map};
 ghost use Rattle.std.specs.List.{AllPairs};
+ghost use Rattle.bt_resume.specs.Law.{Begin};
 ghost use Rattle.bt_resume.specs.LogText.{hints_in};
+ghost use Rattle.bt_resume.specs.declared.hint.Hint.{Hint};
 ghost use Rattle.bt_machine.specs.Recovery.{TakesProof};
 ghost use Rattle.bt_recovery.specs.Taking.{TakeHints};
 ghost use Rattle.bt_recovery.specs.TakingSteps.{roots_of, ArePlaces, TakeProof};
@@ -17,7 +19,7 @@ use std::collections::BTreeMap;
 /// Marks are passed, and so are proofs of which no claim can be made, and those of other roots. It goes once
 /// over the trees and the hints, and looks each root up in a map.
 ///
-/// Errors: out of memory, and then the trees may have taken some of the proofs.
+/// Errors: out of memory, and then the trees have taken the proofs of some first hints, and none of those behind.
 pub fn take_proofs<H: NodeHash>(
     alloc: Global,
     trees: &mut [SparseTree<H>],
@@ -25,6 +27,8 @@ pub fn take_proofs<H: NodeHash>(
 ) -> Result<(), AllocError>
     requires apart { AllPairs (λ j k. j.root ≢ k.root) trees.old }
     ensures taken { OnOk result (TakeHints H.digest (hints_in hints.now) trees.old trees.new) }
+    ensures refused { IfErr result (λ _. (first : List Hint) × Begin first (hints_in hints.now)
+        × TakeHints H.digest first trees.old trees.new) }
     ensures roots { map (λ k. k.root) trees.new ≡ map (λ k. k.root) trees.old }
     ensures lengths { map (λ k. k.file_length) trees.new ≡ map (λ k. k.file_length) trees.old }
 {
@@ -37,7 +41,8 @@ pub fn take_proofs<H: NodeHash>(
     Ok(())
 }
 
-/// The tree of a proof's root takes it, where there is one and it can. Errors: out of memory.
+/// The tree of a proof's root takes it, where there is one and it can. Errors: out of memory, and then nothing
+/// has changed.
 fn take_proof<H: NodeHash>(
     alloc: Global,
     trees: &mut [SparseTree<H>],
@@ -47,17 +52,18 @@ fn take_proof<H: NodeHash>(
 ) -> Result<(), AllocError>
     requires places { ArePlaces (roots_of trees.old) places.now }
     ensures taken { OnOk result (TakeProof H.digest key.now digests.now trees.old trees.new) }
+    ensures refused { IfErr result (λ _. trees.new ≡ trees.old) }
     ensures roots { map (λ k. k.root) trees.new ≡ map (λ k. k.root) trees.old }
     ensures lengths { map (λ k. k.file_length) trees.new ≡ map (λ k. k.file_length) trees.old }
 {
     match place_of(trees, places, &key.root) {
-        Some(place) => offer(alloc, &mut trees[place], key, digests),
+        Some(place) => take_where_acceptable(alloc, &mut trees[place], key, digests),
         None => Ok(()),
     }
 }
 
-/// A tree takes a proof of its root, where it can. Errors: out of memory.
-fn offer<H: NodeHash>(
+/// A tree takes a proof of its root, where it can. Errors: out of memory, and then nothing has changed.
+fn take_where_acceptable<H: NodeHash>(
     alloc: Global,
     tree: &mut SparseTree<H>,
     key: &HashKey,
@@ -65,22 +71,24 @@ fn offer<H: NodeHash>(
 ) -> Result<(), AllocError>
     requires root { tree.old.root ≡ key.now.root }
     ensures taken { OnOk result (TakesProof H.digest tree.old key.now digests.now tree.new) }
+    ensures refused { IfErr result (λ _. tree.new ≡ tree.old) }
     ensures root { tree.new.root ≡ tree.old.root }
     ensures length { tree.new.file_length ≡ tree.old.file_length }
 {
     let claim = match to_claim(alloc, key, digests.as_flattened()) {
         Ok(claim) => claim,
-        Err(fault) => return pass(fault),
+        Err(fault) => return passed_unless_memory(fault),
     };
     match tree.accept(&claim) {
         Ok(_) => Ok(()),
-        Err(fault) => pass(fault),
+        Err(fault) => passed_unless_memory(fault),
     }
 }
 
 /// A proof that is refused is passed, unless memory was.
-fn pass(fault: ProofError) -> Result<(), AllocError>
-    ensures { OnOk result (fault ≢ ProofError.OutOfMemory) }
+fn passed_unless_memory(fault: ProofError) -> Result<(), AllocError>
+    ensures passed { OnOk result (fault ≢ ProofError.OutOfMemory) }
+    ensures memory { IfErr result (λ _. fault ≡ ProofError.OutOfMemory) }
 {
     match fault {
         ProofError::OutOfMemory => Err(AllocError),

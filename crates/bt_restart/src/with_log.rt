@@ -22,10 +22,10 @@ use bt_state::{OpenLog, Parts};
 use bt_tree::NodeHash;
 use std::alloc::{AllocError, Global};
 
-/// Begins all anew from the log of an engine, which is read again first. Each tree is what the torrent says of
-/// it, and takes the log's proofs. Each block that the log records and whose leaf is known then is read, and is
-/// marked where its bytes are right; all others are missing. No peer is connected, and nothing waits to be
-/// written to the log. Keys and turns go on.
+/// Begins all anew from the log of an engine, which is read again first. Each tree is what the torrent says
+/// of it, and takes the log's proofs. Each block that the log records and whose leaf is known then is read,
+/// and is marked where its bytes are right; all others are missing. No peer is connected, and nothing waits
+/// to be written to the log. Keys and turns go on.
 ///
 /// Errors: `Log` where the log could not be read, and then nothing has changed; out of memory, and then the
 /// log was read again, and nothing else has changed. No device of a file is called then.
@@ -66,8 +66,8 @@ fn read_again<D: Disk + Drop>(log: &mut Option<OpenLog<D>>) -> Result<(), LogErr
     }
 }
 
-/// All that takes memory: the trees that the torrent has, in the order of those that are there, which have taken
-/// the log's proofs; and books of which all blocks are missing. Errors: out of memory.
+/// All that takes memory: the trees that the torrent has, in the order of those that are there, which have
+/// taken the log's proofs; and books of which all blocks are missing. Errors: out of memory.
 fn made_from_log<D: Disk + Drop, H: NodeHash>(
     alloc: Global,
     hash: H,

@@ -14,12 +14,12 @@ use bt_state::{OpenLog, Parts, Slot};
 use bt_store::FileStore;
 use bt_tree::NodeHash;
 
-/// Syncs the device of each file that has a byte, in the order of files. Where there is a log, it then appends to
-/// it all hints that wait, in their order, and has it flushed: none waits any more. It ends at the first fault.
-/// Takes no memory.
+/// Syncs the device of each file that has a byte, in the order of files. Where there is a log, it then
+/// appends to it all hints that wait, in their order, and has it flushed: none waits any more. It ends at the
+/// first fault. Takes no memory.
 ///
-/// Errors: `LogFull` where the log would get longer than 2^40 bytes; `Device`. Then all of them wait as before,
-/// also those that were appended: the log has forgotten these.
+/// Errors: `LogFull` where the log would get longer than 2^40 bytes; `Device`. Then all of them wait as
+/// before, also those that were appended: the log has forgotten these.
 pub fn flush<D: Disk + Drop, H: NodeHash>(parts: &mut Parts<D, H>) -> Result<(), FlushError>
     requires { IsTied parts.old }
     ensures step { (calls : EventCalls)

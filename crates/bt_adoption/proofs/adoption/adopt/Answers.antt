@@ -2,7 +2,7 @@ use Rattle.std.proofs.Common.{length, sym, ap, ◌∙◌, arith}
 use Rattle.bt_state.specs.declared.parts.Parts.{Parts}
 use Rattle.bt_adoption.proofs.Slots.{here_at}
 use Rattle.bt_adoption.proofs.OtherFiles.{as_many_trees, rest_then}
-use Rattle.bt_adoption.proofs.Adoptions.{in_line_first, tied_last, alone_if, steps_no_file, steps_busy, steps_empty, steps_stopped, steps_adopted, tree_below}
+use Rattle.bt_adoption.proofs.Adoptions.{in_line_first, tied_last, alone_if, steps_no_file, steps_busy, steps_empty, steps_stopped, steps_unsettled, steps_adopted, tree_below}
 use Rattle.bt_adoption.proofs.adoption.adopt.Goals as goal
 
 pub returns-then-file-len-clause-step : goal.returns-then-file-len-clause-step
@@ -30,40 +30,68 @@ returns-in_default-clause-torrent g c = ap (λ (p : Parts g.row.D.Denot g.row.H.
 pub returns-in_default-clause-peers : goal.returns-in_default-clause-peers
 returns-in_default-clause-peers g c = ap (λ (p : Parts g.row.D.Denot g.row.H.Denot). p.peers) c.adopt_file.ensures.rest.others
 
+pub returns-in_default-clause-log : goal.returns-in_default-clause-log
+returns-in_default-clause-log g c = c.adopt_file.ensures.rest.log
+
 pub returns-in_default-clause-tied : goal.returns-in_default-clause-tied
 returns-in_default-clause-tied g c = tied_last c.args.parts.now c.requires.tied c.adopt_file.new.parts c.adopt_file.ensures.rest c.adopt_file.ensures.in_line
 
-pub settle_others-requires-clause-alone : goal.settle_others-requires-clause-alone
-settle_others-requires-clause-alone g c =
+pub settle_recorded-requires-clause-alone : goal.settle_recorded-requires-clause-alone
+settle_recorded-requires-clause-alone g c =
     ap (λ (p : Parts g.row.D.Denot g.row.H.Denot). p.peers.items) c.adopt_file.ensures.rest.others ∙ alone_if c.has_peer.ensures.1 c.if-has_peer.false
 
-pub settle_others-requires-clause-count : goal.settle_others-requires-clause-count
-settle_others-requires-clause-count g c =
+pub settle_recorded-requires-clause-count : goal.settle_recorded-requires-clause-count
+settle_recorded-requires-clause-count g c =
     c.adopt_file.ensures.rest.count ∙ c.requires.tied.count
     ∙ sym (ap (λ (p : Parts g.row.D.Denot g.row.H.Denot). length p.torrent.files) c.adopt_file.ensures.rest.others)
 
-pub settle_others-requires-clause-here : goal.settle_others-requires-clause-here
-settle_others-requires-clause-here g c =
+pub settle_recorded-requires-clause-here : goal.settle_recorded-requires-clause-here
+settle_recorded-requires-clause-here g c =
     let old = c.args.parts.now in
     let here = here_at old (omega (arith, c.if-file-len.false, c.len.ensures)) c.index.ensures in
     let below = tree_below old c.args.file here (omega (arith, c.if-block_count-eq0.false, c.block_count.ensures)) (in_line_first old c.requires.tied c.requires.shaped) in
     omega (arith, below, as_many_trees c.adopt_file.ensures.rest, c.adopt_file.new.parts.trees.ok.0, old.trees.ok.0)
 
+pub returns-in_default-settle_recorded-clause-step : goal.returns-in_default-settle_recorded-clause-step
+returns-in_default-settle_recorded-clause-step g c =
+    let old = c.args.parts.now in
+    let here = here_at old (omega (arith, c.if-file-len.false, c.len.ensures)) c.index.ensures in
+    steps_unsettled old c.args.file here (omega (arith, c.if-block_count-eq0.false, c.block_count.ensures)) c.settle_recorded.new.parts (alone_if c.has_peer.ensures.1 c.if-has_peer.false)
+    c.in-Ok.ensures.ok c.adopt_file.ensures.rest c.adopt_file.ensures.in_line c.in_default-settle_recorded.ensures.refused c.in_default-settle_recorded.ensures.pending
+
+pub returns-in_default-settle_recorded-clause-torrent : goal.returns-in_default-settle_recorded-clause-torrent
+returns-in_default-settle_recorded-clause-torrent g c =
+    ap (λ (p : Parts g.row.D.Denot g.row.H.Denot). p.torrent) (rest_then c.adopt_file.ensures.rest c.settle_recorded.ensures.rest).others
+
+pub returns-in_default-settle_recorded-clause-peers : goal.returns-in_default-settle_recorded-clause-peers
+returns-in_default-settle_recorded-clause-peers g c =
+    ap (λ (p : Parts g.row.D.Denot g.row.H.Denot). p.peers) (rest_then c.adopt_file.ensures.rest c.settle_recorded.ensures.rest).others
+
+pub returns-in_default-settle_recorded-clause-log : goal.returns-in_default-settle_recorded-clause-log
+returns-in_default-settle_recorded-clause-log g c = (rest_then c.adopt_file.ensures.rest c.settle_recorded.ensures.rest).log
+
+pub returns-in_default-settle_recorded-clause-tied : goal.returns-in_default-settle_recorded-clause-tied
+returns-in_default-settle_recorded-clause-tied g c =
+    tied_last c.args.parts.now c.requires.tied c.settle_recorded.new.parts (rest_then c.adopt_file.ensures.rest c.settle_recorded.ensures.rest) c.settle_recorded.ensures.in_line
+
 pub returns-clause-step : goal.returns-clause-step
 returns-clause-step g c =
     let old = c.args.parts.now in
     let here = here_at old (omega (arith, c.if-file-len.false, c.len.ensures)) c.index.ensures in
-    steps_adopted old c.args.file here (omega (arith, c.if-block_count-eq0.false, c.block_count.ensures)) c.settle_others.new.parts (alone_if c.has_peer.ensures.1 c.if-has_peer.false)
-    c.requires.tied c.requires.shaped c.in-Ok.ensures.ok c.adopt_file.ensures.rest c.settle_others.ensures.settles
+    steps_adopted old c.args.file here (omega (arith, c.if-block_count-eq0.false, c.block_count.ensures)) c.settle_recorded.new.parts (alone_if c.has_peer.ensures.1 c.if-has_peer.false)
+    c.requires.tied c.requires.shaped c.in-Ok.ensures.ok c.adopt_file.ensures.rest c.in-Ok-settle_recorded.ensures.settles
 
 pub returns-clause-torrent : goal.returns-clause-torrent
 returns-clause-torrent g c =
-    ap (λ (p : Parts g.row.D.Denot g.row.H.Denot). p.torrent) (rest_then c.adopt_file.ensures.rest c.settle_others.ensures.rest).others
+    ap (λ (p : Parts g.row.D.Denot g.row.H.Denot). p.torrent) (rest_then c.adopt_file.ensures.rest c.settle_recorded.ensures.rest).others
 
 pub returns-clause-peers : goal.returns-clause-peers
 returns-clause-peers g c =
-    ap (λ (p : Parts g.row.D.Denot g.row.H.Denot). p.peers) (rest_then c.adopt_file.ensures.rest c.settle_others.ensures.rest).others
+    ap (λ (p : Parts g.row.D.Denot g.row.H.Denot). p.peers) (rest_then c.adopt_file.ensures.rest c.settle_recorded.ensures.rest).others
+
+pub returns-clause-log : goal.returns-clause-log
+returns-clause-log g c = (rest_then c.adopt_file.ensures.rest c.settle_recorded.ensures.rest).log
 
 pub returns-clause-tied : goal.returns-clause-tied
 returns-clause-tied g c =
-    tied_last c.args.parts.now c.requires.tied c.settle_others.new.parts (rest_then c.adopt_file.ensures.rest c.settle_others.ensures.rest) c.settle_others.ensures.in_line
+    tied_last c.args.parts.now c.requires.tied c.settle_recorded.new.parts (rest_then c.adopt_file.ensures.rest c.settle_recorded.ensures.rest) c.settle_recorded.ensures.in_line

@@ -5,7 +5,7 @@ use Rattle.bt_state.specs.declared.slot.Slot.{Slot}
 use Rattle.bt_machine.proofs.Lists.{some_is, get_some}
 use Rattle.bt_adoption.proofs.Slots.{here_at}
 use Rattle.bt_adoption.specs.SettlingSteps.{IsDue}
-use Rattle.bt_adoption.proofs.LeftOut.{still_fit, follows_still, in_line_again, rest_again, settles_again}
+use Rattle.bt_adoption.proofs.LeftOut.{still_fit, follows_still, in_line_again, log_again, rest_again, settles_again}
 use Rattle.bt_adoption.proofs.Settlements.{settles_not}
 use Rattle.bt_adoption.proofs.settling.settle_file.Goals as goal
 
@@ -36,6 +36,9 @@ count_in-requires g c = follows_still c.leave_out.ensures c.requires.alone c.set
 
 pub returns-clause-settles : goal.returns-clause-settles
 returns-clause-settles g c = settles_again c.leave_out.ensures c.requires.alone c.settle_slot.ensures.changes c.count_in.ensures c.settle_slot.ensures.settles
+
+pub returns-clause-log : goal.returns-clause-log
+returns-clause-log g c = log_again c.leave_out.ensures c.requires.alone c.settle_slot.ensures.changes c.count_in.ensures c.settle_slot.ensures.log
 
 pub returns-clause-rest : goal.returns-clause-rest
 returns-clause-rest g c = rest_again c.leave_out.ensures c.requires.alone c.settle_slot.ensures.changes c.count_in.ensures

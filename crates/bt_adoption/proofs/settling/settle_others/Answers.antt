@@ -30,7 +30,7 @@ loop-other-preserved g c =
     elim c.if-other-file.branch [
       | then-other-file w ↦
           subst same (sym w.parts-is)
-          (settled_more c.loop-other.invariant w.if-other-file.true w.settle_file.ensures.settles w.settle_file.ensures.rest w.settle_file.ensures.in_line)
+          (settled_more c.loop-other.invariant w.if-other-file.true w.settle_file.ensures.settles w.settle_file.ensures.log w.settle_file.ensures.rest w.settle_file.ensures.in_line)
       | else-other-file w ↦ subst same (sym w.parts-is) (settled_skipped c.loop-other.invariant w.if-other-file.false)
     ]
 
@@ -39,6 +39,9 @@ returns-clause-settles g c =
     let files = c.files.result.now in
     let size = sym (length-map files file_of) ∙ ap (λ (xs : List File). length xs) c.files.ensures.said ∙ sym c.requires.count in
     settled_done c.loop-other.invariant (omega (arith, size, c.loop-other-test.false, c.loop-other.auto.other-end))
+
+pub returns-clause-log : goal.returns-clause-log
+returns-clause-log g c = c.loop-other.invariant.log
 
 pub returns-clause-rest : goal.returns-clause-rest
 returns-clause-rest g c = c.loop-other.invariant.rest

@@ -1,29 +1,71 @@
-use Rattle.bt_machine.specs.Blocks.{new_complete_files}
+use Rattle.bt_machine.specs.Blocks.{new_complete_files, new_marked_blocks}
 use Rattle.bt_machine.specs.declared.answer.Note.TheVariants.{Complete}
-use Rattle.std.proofs.Common.{◌≡◌, ◌++◌, List, map, sym, ap, ◌∙◌, subst}
+use Rattle.std.proofs.Common.{◌≡◌, ◌+◌, ◌≤◌, ◌++◌, List, map, length, sym, ap, ◌∙◌, subst, arith}
+use Rattle.std.specs.Option.{option_to_list}
 use Rattle.bt_machine.specs.declared.answer.Note.{Note}
+use Rattle.bt_machine.specs.FollowUp.{FollowsUp}
 use Rattle.bt_machine.specs.Output.{Sent, haves}
-use Rattle.bt_machine.specs.State.{PeerState}
+use Rattle.bt_machine.specs.Shape.{IsShaped}
+use Rattle.bt_machine.specs.State.{PeerState, EngineState, Hint, mark_of}
 use Rattle.bt_machine.proofs.Lists.{some_is}
 use Rattle.bt_state.specs.Parts.{state_of, peer_of}
+use Rattle.bt_state.specs.Ties.{IsTied}
 use Rattle.bt_state.proofs.Lists.{get_read, get_mapped}
+use Rattle.bt_state.proofs.Ties.{tied_logged}
+use Rattle.bt_state.specs.declared.parts.Parts.{Parts}
 use Rattle.bt_engine.specs.EventSteps.{sent_by, notes_in}
 use Rattle.bt_engine.specs.NewsSteps.{TellMarks}
-use Rattle.bt_engine.proofs.Events.{output_is}
+use Rattle.bt_engine.specs.PendingSteps.{marks_in, with_hints, AreInside}
+use Rattle.bt_engine.proofs.Events.{output_is, few_replies}
+use Rattle.bt_engine.proofs.ToldMarks.{told_marks, are_inside, same_marks_in, few_hints, inside_alike, shape_recorded}
 use Rattle.bt_engine.proofs.event.keep.Goals as goal
+
+pub record_hints-requires-clause-room : goal.record_hints-requires-clause-room
+record_hints-requires-clause-room g c = λ opened is.
+    let reply = c.args.reply in
+    let room = c.requires.room in
+    let told = c.requires.told in
+    let noted : c.put_reply.new.notes.items ≡ notes_in reply = c.put_reply.ensures.noted ∙ ap (λ (ns : List Note). ns ++ notes_in reply) room.2.nothing_noted in
+    let all = c.note_complete_files.ensures.noted told.0 (subst (λ (ns : List Note). TellMarks told.0 (state_of c.args.parts.now) ns) (sym noted) told.1)
+    ∙ ap (λ (ns : List Note). ns ++ map (λ file. Complete file) (new_complete_files told.0 (state_of c.args.parts.now))) noted in
+    let marks = ap marks_in (c.deref.ensures.value ∙ all) ∙ same_marks_in (notes_in reply) (new_complete_files told.0 (state_of c.args.parts.now)) in
+    let size = ap (λ (hints : List Hint). length (option_to_list c.args.proof ++ hints)) marks in
+    omega (arith, size, few_hints c.args.proof (notes_in reply), few_replies reply, room.1, room.3 opened is)
+
+pub record_hints-requires-clause-inside : goal.record_hints-requires-clause-inside
+record_hints-requires-clause-inside g c =
+    let reply = c.args.reply in
+    let told = c.requires.told in
+    let noted : c.put_reply.new.notes.items ≡ notes_in reply = c.put_reply.ensures.noted ∙ ap (λ (ns : List Note). ns ++ notes_in reply) c.requires.room.2.nothing_noted in
+    let all = c.note_complete_files.ensures.noted told.0 (subst (λ (ns : List Note). TellMarks told.0 (state_of c.args.parts.now) ns) (sym noted) told.1)
+    ∙ ap (λ (ns : List Note). ns ++ map (λ file. Complete file) (new_complete_files told.0 (state_of c.args.parts.now))) noted in
+    subst (λ (ns : List Note). AreInside ns) (sym (c.deref.ensures.value ∙ all))
+    (inside_alike (notes_in reply) (new_complete_files told.0 (state_of c.args.parts.now)) (are_inside told.1 c.requires.shaped c.keeps_laws.ensures.each))
+
+pub follow_up-requires-clause-tied : goal.follow_up-requires-clause-tied
+follow_up-requires-clause-tied g c =
+    subst (λ (p : Parts g.row.D.Denot g.row.H.Denot). IsTied p) (sym c.record_hints.ensures.others) (tied_logged c.args.parts.now c.record_hints.new.parts.log c.requires.tied)
+
+pub follow_up-requires-clause-shaped : goal.follow_up-requires-clause-shaped
+follow_up-requires-clause-shaped g c = shape_recorded _ c.record_hints.ensures.state c.requires.shaped
 
 pub returns-clause-follows : goal.returns-clause-follows
 returns-clause-follows g c =
     let parts = c.args.parts.now in
     let reply = c.args.reply in
-    let follows = c.follow_up.ensures.follows in (
+    let follows = c.follow_up.ensures.follows in
+    let room = c.requires.room.2 in
+    let noted : c.put_reply.new.notes.items ≡ notes_in reply = c.put_reply.ensures.noted ∙ ap (λ (ns : List Note). ns ++ notes_in reply) room.nothing_noted in (
       follows.sent,
-      follows.follows,
+      (λ old marks.
+          let again = subst (λ (ns : List Note). TellMarks old (state_of parts) ns) (sym noted) marks in
+          let all = c.note_complete_files.ensures.noted old again ∙ ap (λ (ns : List Note). ns ++ map (λ file. Complete file) (new_complete_files old (state_of parts))) noted in
+          let told = ap marks_in (c.deref.ensures.value ∙ all) ∙ same_marks_in (notes_in reply) (new_complete_files old (state_of parts)) ∙ told_marks marks in
+          let is = c.record_hints.ensures.state ∙ ap (λ (hints : List Hint). with_hints (state_of parts) (option_to_list c.args.proof ++ hints)) told in
+          subst (λ (s : EngineState). FollowsUp g.H.NodeHash.digest s c.args.index follows.sent (state_of c.follow_up.new.parts)) is follows.follows),
       λ old peer marks here.
           let read = get_mapped (peer_of parts.book) parts.peers.items c.args.index (get_read parts.peers.items c.args.index c.index.result.now c.requires.there c.index.ensures) in
           let key : peer.key ≡ c.index.result.now.key = ap (λ (p : PeerState). p.key) (some_is (sym here ∙ read)) in
-          let room = c.requires.room.2 in
-          let noted : c.put_reply.new.notes.items ≡ notes_in reply = c.put_reply.ensures.noted ∙ ap (λ (ns : List Note). ns ++ notes_in reply) room.nothing_noted in
           let sent : c.put_reply.new.send.items ≡ sent_by peer reply =
           c.put_reply.ensures.sent peer key ∙ ap (λ (ss : List Sent). ss ++ sent_by peer reply) room.nothing_sent in
           let told = subst (λ (ns : List Note). TellMarks old (state_of parts) ns) (sym (c.as_slice.ensures.value ∙ noted)) marks in

@@ -16,8 +16,8 @@ take_in_room-requires-clause-shaped g c = subst (λ (s : EngineState). IsShaped 
 pub take_in_room-requires-clause-orderly : goal.take_in_room-requires-clause-orderly
 take_in_room-requires-clause-orderly g c = subst (λ (s : EngineState). IsOrderly s) (sym c.reserve.ensures.state) c.requires.orderly
 
-pub returns-in_ok-clause-step : goal.returns-in_ok-clause-step
-returns-in_ok-clause-step g c =
+pub returns-clause-step : goal.returns-clause-step
+returns-clause-step g c =
     let dig = g.H.NodeHash.digest in
     let have = λ (ds : List (Option g.row.D.Denot)) (calls : DeviceCalls). HaveCalls g.D.Disk.history g.D.Disk.honest g.D.Disk.faults ds calls (disks_of c.take_in_room.new.parts) in
     let mid = disks_of c.reserve.new.parts in

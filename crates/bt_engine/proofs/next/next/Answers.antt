@@ -1,7 +1,7 @@
-use Rattle.std.proofs.Common.{[], List, Option, refl, sym, ap, ◌∙◌, subst}
+use Rattle.std.proofs.Common.{[], List, Option, option_map, refl, sym, ap, ◌∙◌, subst}
 use Rattle.bt_machine.specs.Devices.{HaveCalls}
 use Rattle.bt_machine.specs.Next.{no_peer, without_peer}
-use Rattle.bt_state.specs.declared.parts.Parts.{Parts}
+use Rattle.bt_state.specs.declared.open_log.OpenLog.{OpenLog}
 use Rattle.bt_machine.specs.Orderly.{IsOrderly}
 use Rattle.bt_machine.specs.State.{EngineState}
 use Rattle.bt_machine.proofs.Orderly.{stream_order}
@@ -48,12 +48,13 @@ returns-in-Ok-clause-step g c =
 pub returns-in-Ok-Some-clause-step : goal.returns-in-Ok-Some-clause-step
 returns-in-Ok-Some-clause-step g c =
     let found = rw c.in-Ok-Some.field-0-is at c.in-Ok-Some.ensures.found in
-    let kept = c.in-Err-take_event.ensures.kept in (
+    let same = c.in-Err-take_event.ensures.state in
+    let devices = c.in-Err-take_event.ensures.devices in (
       [],
       no_calls g.D.Disk.history g.D.Disk.honest g.D.Disk.faults g.H.NodeHash.digest c.args.parts.now c.drop_peer.new.parts
-          (c.drop_peer.ensures.devices ∙ ap (λ (x : Parts g.row.D.Denot g.row.H.Denot). disks_of x) kept ∙ c.next_event.ensures.devices),
+          (c.drop_peer.ensures.devices ∙ devices ∙ c.next_event.ensures.devices),
       drops_event (peer_at c.args.parts.now c.in-Some.ensures.some) g.H.NodeHash.digest (state_of c.drop_peer.new.parts) found
-          (c.drop_peer.ensures.gone ∙ ap (λ (x : Parts g.row.D.Denot g.row.H.Denot). without_peer c.in-Some.index (state_of x)) kept),
+          (c.drop_peer.ensures.gone ∙ ap (λ (s : EngineState). without_peer c.in-Some.index s) same),
     )
 
 pub returns-in-OutOfMemory-clause-step : goal.returns-in-OutOfMemory-clause-step
@@ -81,5 +82,6 @@ returns g c = record {
         c.requires.orderly c.in-Err.ensures.refused c.close.ensures.is c.close.ensures.gone,
   );
   torrent = c.close.ensures.torrent ∙ c.next_event.ensures.torrent;
+  log = ap (λ (log : Option (OpenLog g.row.D.Denot)). option_map (λ opened. opened.log) log) (c.close.ensures.log ∙ c.next_event.ensures.log);
   tied = c.close.ensures.tied;
 }

@@ -1,5 +1,5 @@
 -- The marks that notes tell are those that a log gets.
-use Rattle.bt_machine.proofs.Base.{[], ◌≡◌, ◌≢◌, ℕ, suc, ◌+◌, ◌<◌, ◌≤◌, inl, inr, is_some, not, ◌&&◌, Bool, true, false, if◌then◌else◌, List, ◌∷◌, ◌++◌, length, map, flat_map, filter, drop, get_or, Option, Some, None, option_map_or, option_and_then, refl, sym, ap, ◌∙◌, subst, arith, slice_get, append-nil, length-map, length-append, Contains, AllPairs-filter, BlockId, Missing, Waiting, Marked}
+use Rattle.bt_machine.proofs.Base.{[], ◌≡◌, ◌≢◌, ℕ, suc, ◌+◌, ◌/◌, ◌^◌, ◌<◌, ◌≤◌, inl, inr, is_some, not, ◌&&◌, Bool, true, false, if◌then◌else◌, List, ◌∷◌, ◌++◌, length, map, flat_map, filter, drop, get_or, Option, Some, None, option_map_or, option_and_then, refl, sym, ap, ◌∙◌, subst, arith, slice_get, append-nil, length-map, length-append, Contains, AllPairs-filter, Contains-append_cases, BlockId, Missing, Waiting, Marked}
 use Rattle.std.proofs.Common.{append_assoc, add-one}
 use Rattle.std.proofs.Math.Nat.{div-lt_iff_lt-mul}
 use Rattle.std.proofs.Math.Seq.{drop-cons}
@@ -20,10 +20,10 @@ use Rattle.bt_store.specs.declared.block_states.BlockState.{BlockState}
 use Rattle.bt_machine.specs.declared.answer.Note.{Note}
 use Rattle.bt_machine.specs.declared.answer.Note.TheVariants.{Marked as NowMarked, Complete}
 use Rattle.bt_machine.specs.Hints.{add_hint, add_hints}
-use Rattle.bt_machine.specs.State.{EngineState, Hint, mark_of}
+use Rattle.bt_machine.specs.State.{FileState, EngineState, Hint, mark_of}
 use Rattle.bt_machine.specs.Shape.{IsShaped}
 use Rattle.bt_machine.specs.Blocks.{states_of, state_at, all_blocks, is_marked_in, has_become, new_marked_blocks}
-use Rattle.bt_machine.proofs.Lists.{some_is, some_below, here, later, contains_none, contains_cases, contains_flat_map, flat_map_contains, contains_filter, filter_contains, and_true}
+use Rattle.bt_machine.proofs.Lists.{some_is, some_below, here, later, contains_none, contains_cases, contains_map, contains_flat_map, flat_map_contains, contains_filter, filter_contains, and_true}
 use Rattle.bt_machine.proofs.Pairs.{Pairs, to_pairs, from_pairs}
 use Rattle.bt_state.specs.Parts.{state_of, pending_of, hints_of}
 use Rattle.bt_state.specs.declared.open_log.OpenLog.{OpenLog}
@@ -161,7 +161,7 @@ both_true {a} {b} e f = ap (λ x. x && b) e ∙ f
 inside_there : (s : EngineState) (b : BlockId) {x : BlockState} → state_at s b ≡ Some x → b.block < length (states_of s b.file)
 inside_there s b {x} at = by (slice_get s.files b.file) at
   where
-    by : (o : Option _) → option_and_then (λ f. slice_get f.states b.block) o ≡ Some x → b.block < length (option_map_or (λ f. f.states) o [])
+    by : (o : Option FileState) → option_and_then (λ f. slice_get f.states b.block) o ≡ Some x → b.block < length (option_map_or (λ f. f.states) o [])
     by None e = absurd cc
     by (Some f) e = some_below f.states b.block e
 
@@ -219,3 +219,10 @@ module _ {old new : EngineState} {notes : List Note} (t : TellMarks old new note
       (lawful b.file h.entry (some_below new.torrent.files b.file h.found)) in
       let short = blocks_limit h.entry.length own.short in
       omega (arith, h.inside, short)
+
+-- nor do notes of complete files name others
+pub inside_alike : (notes : List Note) (files : List ℕ) → AreInside notes → AreInside (notes ++ map (λ file. Complete file) files)
+inside_alike notes files inside = λ b c. elim (Contains-append_cases notes (map (λ file. Complete file) files) (NowMarked b) c) [
+  | inl own ↦ inside b own
+  | inr other ↦ absurd (let m = contains_map (λ file. Complete file) files other in let e = m.2 in cc)
+]
