@@ -1,18 +1,20 @@
 -- An engine begins with a log.
-use Rattle.bt_machine.proofs.Base.{[], ◌≡◌, ℕ, is_some, true, List, length, map, Option, Some, None, refl, sym, ap, ◌∙◌, subst, slice_get, option_map, option_map_or, range_with_len, Facts, BlockState, History}
+use Rattle.bt_machine.proofs.Base.{[], ◌≡◌, ℕ, is_some, true, List, ◌∷◌, length, map, Option, Some, None, refl, sym, ap, ◌∙◌, subst, slice_get, option_map, option_map_or, range_with_len, Facts, BlockState, History}
 use Rattle.std.specs.Global.{Vec}
-use Rattle.bt_meta.specs.Torrent.{Metainfo}
+use Rattle.std.specs.Vec.{with_items}
+use Rattle.bt_meta.specs.Torrent.{Metainfo, IsLawful}
 use Rattle.bt_resume.specs.ResumeLog.{LogView}
 use Rattle.bt_resume.specs.declared.hint.Hint.{Hint}
 use Rattle.bt_store.specs.FileStore.{StoreView, new_states}
 use Rattle.bt_machine.specs.Devices.{HaveCalls}
-use Rattle.bt_machine.specs.Opening.{unopened, StartsWith, with_log, BeginsOn}
+use Rattle.bt_machine.specs.Opening.{unopened, StartsWith, Begins, with_log, with_log as on_log, BeginsOn}
 use Rattle.bt_machine.specs.Recovery.{RestoresFiles}
 use Rattle.bt_machine.specs.Shape.{IsShaped}
-use Rattle.bt_machine.specs.Start.{IsNew, Starts}
+use Rattle.bt_machine.specs.Start.{IsNew, Starts, AreDevicesOf}
 use Rattle.bt_machine.specs.State.{EngineState, EngineView, FileState}
+use Rattle.bt_recovery.specs.Taking.{TakeHints}
 use Rattle.bt_recall.specs.Recovering.{AreMissing, RecoversFiles}
-use Rattle.bt_state.specs.Parts.{state_of, disks_of, log_of, file_of}
+use Rattle.bt_state.specs.Parts.{state_of, disks_of, log_of, file_of, peer_of}
 use Rattle.bt_state.specs.Ties.{IsTied}
 use Rattle.bt_state.specs.declared.open_log.OpenLog.{OpenLog}
 use Rattle.bt_state.specs.declared.slot.Slot.{Slot}
@@ -20,6 +22,17 @@ use Rattle.bt_state.specs.declared.parts.Parts.{Parts}
 use Rattle.bt_state.proofs.Lists.{get_mapped}
 use Rattle.bt_start.specs.WithLogSteps.{HaveBegunWith}
 use Rattle.bt_start.proofs.ProvenTrees.{proven_tied, proven_shaped}
+
+-- trees that were lent, and have taken proofs
+pub trees_then : {dig : List ℕ → List ℕ} {hints more : List Hint} (trees : Vec Facts) {lent made : List Facts} → lent ≡ trees.items
+    → (with_items trees made).items ≡ made → hints ≡ more → TakeHints dig hints lent made → TakeHints dig more trees.items (with_items trees made).items
+trees_then {dig} {hints} {more} trees {lent} {made} lends are same takes =
+    subst (λ hs. TakeHints dig hs trees.items (with_items trees made).items) same
+    (subst (λ ks. TakeHints dig hints ks (with_items trees made).items) lends (subst (λ ks. TakeHints dig hints lent ks) (sym are) takes))
+
+none_mapped : {X Y : Type 0} (f : X → Y) (xs : List X) → map f xs ≡ [] → xs ≡ []
+none_mapped f [] e = refl
+none_mapped f (x ∷ xs) e = absurd cc
 
 -- the blocks of files that are new are missing
 missing_of : {D H : Type 0} {dig : List ℕ → List ℕ} {parts : Parts D H} → IsTied parts → IsNew dig parts.torrent parts.trees.items (state_of parts).files
@@ -54,10 +67,20 @@ module _ {D H : Type 0} {dig : List ℕ → List ℕ} {torrent : Metainfo} {give
       subst (λ (p : Parts D H). AreMissing p.slots.items) (sym logged_is)
       (missing_of b.begun.tied b.begun.starts.is_new)
 
-  module _ {history : D → History} {honest : D → Type 0} {faults : D → ℕ} {new : Parts D H} (recovers : RecoversFiles history honest faults dig logged new) where
-    files : List FileState
-    files = (state_of b.base).files
+  pub logged_alone : logged.peers.items ≡ []
+  logged_alone =
+      ap (λ (p : Parts D H). p.peers.items) logged_is
+      ∙ none_mapped (peer_of b.base.book) b.base.peers.items (ap (λ (s : EngineState). s.peers) b.begun.starts.is)
 
+  pub torrent_is : parts.torrent ≡ torrent
+  torrent_is = ap (λ (p : Parts D H). p.torrent) b.is ∙ b.same_torrent
+
+  pub placed : AreDevicesOf torrent.files given (disks_of parts)
+  placed =
+      subst (λ (p : Parts D H). AreDevicesOf torrent.files given (disks_of p)) (sym b.is)
+      (subst (λ (t : Metainfo). AreDevicesOf t.files given (disks_of b.base)) b.same_torrent b.begun.devices)
+
+  module _ {history : D → History} {honest : D → Type 0} {faults : D → ℕ} {new : Parts D H} (recovers : RecoversFiles history honest faults dig logged new) where
     state_proven : state_of proven ≡ record (unopened b.base.torrent) { trees = b.trees.items; files = (state_of b.base).files; peers = []; pending = []; hints = held.log.hints }
     state_proven =
         ap (λ (s : EngineState). record s { trees = b.trees.items; logged = true; pending = held.pending.hints; hints = held.log.hints }) b.begun.starts.is
@@ -87,4 +110,12 @@ module _ {D H : Type 0} {dig : List ℕ → List ℕ} {torrent : Metainfo} {give
     pub begins_with : held.log.infohash ≡ torrent.infohash → new.log ≡ Some held
         → BeginsOn history honest faults dig torrent (disks_of parts) (Some held.log) (record { state = state_of new; disks = disks_of new; log = log_of new })
     begins_with same kept =
-        with_log held.log recovers.calls refl same starts_with recovers.made (ap (option_map (λ (h : OpenLog D). h.log)) kept)
+        on_log held.log recovers.calls refl same starts_with recovers.made (ap (option_map (λ (h : OpenLog D). h.log)) kept)
+
+    pub begins_new : new.torrent ≡ parts.torrent → Begins dig new.torrent (state_of new)
+    begins_new same =
+        subst (λ (t : Metainfo). Begins dig t (state_of new)) (sym (same ∙ torrent_is)) (with_log held.log.hints recovers.calls starts_with)
+
+    pub lawful_new : new.torrent ≡ parts.torrent → IsLawful new.torrent.piece_length new.torrent.files
+    lawful_new same =
+        subst (λ (t : Metainfo). IsLawful t.piece_length t.files) (sym (same ∙ ap (λ (p : Parts D H). p.torrent) b.is)) b.lawful
