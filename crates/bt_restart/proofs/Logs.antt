@@ -29,6 +29,7 @@ use Rattle.bt_start.specs.declared.books.Books.{Books}
 use Rattle.bt_start.specs.Books.{AreNewBooks}
 use Rattle.bt_start.specs.Trees.{AreTreesOf}
 use Rattle.bt_start.proofs.Beginnings.{are_new}
+use Rattle.bt_start.proofs.ProvenTrees.{apart_alike, proven_tied, proven_shaped}
 use Rattle.bt_start.proofs.RootTrees.{names_of_trees, trees_apart, tree_named}
 use Rattle.bt_recovery.specs.Taking.{TakeHints}
 use Rattle.bt_recall.specs.Recovering.{AreMissing}
@@ -36,33 +37,7 @@ use Rattle.bt_restart.specs.AnewSteps.{cleared_store, cleared}
 use Rattle.bt_restart.specs.WithLogSteps.{AreTreesFrom, HasBegun}
 use Rattle.bt_restart.proofs.Restarts as anew
 
--- ---- trees that take proofs
-
-takes_still : (dig : List ℕ → List ℕ) {k j : Facts} (hints : List Hint) → TakesHints dig k hints j → StillKnows k j
-takes_still dig {k} [] takes = subst (λ (x : Facts). StillKnows k x) (sym takes) (still k)
-takes_still dig {k} (Proof key digests ∷ hints) takes = still_then (one takes.1) (takes_still dig hints takes.2)
-  where
-    one : {new : Facts} → TakesProof dig k key digests new → StillKnows k new
-    one (accepted is accepts) = still_joined accepts.joins
-    one (passed none same) = subst (λ (x : Facts). StillKnows k x) (sym same) (still k)
-takes_still dig (Marks file first count ∷ hints) takes = takes_still dig hints takes
-
-same_names : (ks js : List Facts) → map (λ k. k.root) ks ≡ map (λ k. k.root) js → map (λ k. k.file_length) ks ≡ map (λ k. k.file_length) js
-    → map root_and_length ks ≡ map root_and_length js
-same_names [] [] roots lengths = refl
-same_names [] (j ∷ js) roots lengths = absurd cc
-same_names (k ∷ ks) [] roots lengths = absurd cc
-same_names (k ∷ ks) (j ∷ js) roots lengths =
-    ap (λ root. (root, k.file_length) ∷ map root_and_length ks) (heads roots) ∙ ap (λ n. (j.root, n) ∷ map root_and_length ks) (heads lengths)
-    ∙ ap (λ ps. (j.root, j.file_length) ∷ ps) (same_names ks js (tails roots) (tails lengths))
-
--- trees of the roots of trees that are apart
-pub apart_alike : (ks js : List Facts) → map (λ k. k.root) ks ≡ map (λ k. k.root) js → AllPairs (λ j k. j.root ≢ k.root) js
-    → AllPairs (λ j k. j.root ≢ k.root) ks
-apart_alike ks js same apart =
-    trees_apart ks (map (λ k. k.root) js) same
-    (from_pairs (λ r s. r ≢ s) (map (λ (k : Facts). k.root) js)
-    (pairs_map (λ j k. j.root ≢ k.root) (λ r s. r ≢ s) (λ (k : Facts). k.root) js (λ j k e. e) (to_pairs (λ j k. j.root ≢ k.root) js apart)))
+-- ---- trees that were made anew
 
 -- no two of the trees that were made anew have one root
 pub made_apart : {D H : Type 0} {dig : List ℕ → List ℕ} {parts : Parts D H} {trees : List Facts} → IsTied parts → IsShaped parts.torrent (state_of parts)
@@ -159,68 +134,28 @@ module _ {D H : Type 0} {dig : List ℕ → List ℕ} (old : Parts D H) (slots :
   lengths : map (λ k. k.file_length) trees.items ≡ map (λ k. k.file_length) first.items
   lengths = from.lengths ∙ ap (λ (ks : List Facts). map (λ k. k.file_length) ks) (sym first_is)
 
-  names : map root_and_length trees.items ≡ map root_and_length first.items
-  names = same_names trees.items first.items roots lengths
-
-  tree_still : (t : ℕ) (j : Facts) → slice_get trees.items t ≡ Some j → (k : Facts) × (slice_get first.items t ≡ Some k) × StillKnows k j
-  tree_still t j at =
-      let k = get_some from.bases t (omega (arith, some_below trees.items t at, from.takes.count)) in
-      let taken = from.takes.each t k.0 k.1 in (
-        k.0,
-        ap (λ (ks : List Facts). slice_get ks t) first_is ∙ k.1,
-        subst (λ (x : Facts). StillKnows k.0 x) (some_is (sym taken.1 ∙ at)) (takes_still dig (hints_of old.log) taken.2),
-      )
-
-  named_tree : (t : ℕ) {k : Facts} → slice_get first.items t ≡ Some k
-      → (j : Facts) × (slice_get trees.items t ≡ Some j) × (j.root ≡ k.root) × (j.file_length ≡ k.file_length)
-  named_tree t at = tree_named trees.items t (ap (λ ps. slice_get ps t) names ∙ get_mapped root_and_length first.items t at)
-
-  fits_then : (i : ℕ) (slot : Slot D H) → FitsFile old.torrent.files first.items i slot → FitsFile old.torrent.files trees.items i slot
-  fits_then i slot fits = record {
-    file = fits.file;
-    listed = fits.listed;
-    empty = fits.empty;
-    some = λ store has. (
-        let of = fits.some store has in
-        let j = named_tree slot.tree of.stands in
-        record { facts = j.0; stands = j.1; same = j.3 ∙ of.same; long = of.long }
-        );
-  }
+  takes : TakeHints dig (hints_of old.log) first.items trees.items
+  takes = subst (λ (ks : List Facts). TakeHints dig (hints_of old.log) ks trees.items) (sym first_is) from.takes
 
   pub tied_next : LiesInItsPiece → IsTied next
-  tied_next lies =
-      let t = base_tied lies in
-      let leaves : LeavesStay (state_of base_next) (state_of next) = leaves_by (state_of base_next) (state_of next) (λ file g at. (g, at, refl)) tree_still in
-      record {
-        joined = t.joined;
-        in_order = t.in_order;
-        room = t.room;
-        wanted = t.wanted;
-        ranged = t.ranged;
-        count = t.count;
-        each = λ i slot at. fits_then i slot (t.each i slot at);
-        firsts = record { each = t.firsts.each; same = names ∙ t.firsts.same };
-        unmarked = record { size = t.unmarked.size; each = t.unmarked.each };
-        known = knows_still refl leaves t.known;
-      }
+  tied_next lies = proven_tied base_next trees log takes roots lengths (base_tied lies)
 
-  pub shaped_next : IsShaped old.torrent (state_of next)
-  shaped_next = record {
+  base_shaped : IsShaped old.torrent (state_of base_next)
+  base_shaped = record {
     same = refl;
-    roots = apart_alike trees.items first.items roots base_is_new.roots;
+    roots = base_is_new.roots;
     count = base_is_new.count;
     each = λ i file f listed at. (
         let new = base_is_new.each_file i file f listed at in
         record {
           blocks = ap (λ (xs : List BlockState). length xs) new.missing ∙ length-replicate (block_count file.length) Missing;
-          has_tree = λ some. (
-              let k = new.has_tree some in
-              let j = named_tree f.tree k.1 in
-              (j.0, j.1, j.2 ∙ k.2, j.3 ∙ k.3)
-              );
+          has_tree = new.has_tree;
         }
         );
   }
+
+  pub shaped_next : IsShaped old.torrent (state_of next)
+  shaped_next = proven_shaped base_next trees log takes roots lengths base_shaped
 
   pub missing_next : AreMissing slots.items
   missing_next file slot store at has =
