@@ -1,4 +1,5 @@
--- The parts of an engine that begins with a log, before its files are restored. No public contract cites them.
+-- The parts of an engine that begins with a log, before its files are restored. No public contract cites
+-- them.
 use Rattle.std.specs.Prelude.{◌≡◌, ℕ, List, map}
 use Rattle.std.specs.Global.{Vec}
 use Rattle.bt_meta.specs.Torrent.{Metainfo, IsLawful}

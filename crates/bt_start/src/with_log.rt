@@ -27,13 +27,14 @@ use bt_state::{OpenLog, Parts};
 use bt_tree::{Hash32, NodeHash};
 use std::alloc::{AllocError, Global};
 
-/// The parts with which an engine of a torrent begins, with a log of hints that were read from it before. Each
-/// tree is what the torrent says of it, and takes the log's proofs. Each file that has a byte takes one of the
-/// devices, in the torrent's order. Each block that the log records and whose leaf is known is read, and is
-/// marked where its bytes are right; all others are missing. No peer is connected. The log is not called.
+/// The parts with which an engine of a torrent begins, with a log of hints that were read from it before.
+/// Each tree is what the torrent says of it, and takes the log's proofs. Each file that has a byte takes one
+/// of the devices, in the torrent's order. Each block that the log records and whose leaf is known is read,
+/// and is marked where its bytes are right; all others are missing. No peer is connected. The log is not
+/// called.
 ///
-/// Errors, in this order: there is not one device for each file that has a byte; the log is another torrent's;
-/// out of memory. The devices and the log are given back, and no call of them was made.
+/// Errors, in this order: there is not one device for each file that has a byte; the log is another
+/// torrent's; out of memory. The devices and the log are given back, and no call of them was made.
 pub fn start_with_log<D: Disk + Drop, H: NodeHash>(
     alloc: Global,
     torrent: Torrent,
@@ -84,6 +85,7 @@ pub fn start_with_log<D: Disk + Drop, H: NodeHash>(
     }
 }
 
+/// Whether two infohashes are one.
 fn is_same(infohash: &Hash32, other: &Hash32) -> bool
     ensures { IsTrue result ↔ (infohash.now ≡ other.now) }
 {
