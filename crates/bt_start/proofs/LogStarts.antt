@@ -1,23 +1,20 @@
 -- An engine begins with a log.
-use Rattle.bt_machine.proofs.Base.{[], ◌≡◌, ℕ, is_some, true, List, ◌∷◌, length, map, Option, Some, None, refl, sym, ap, ◌∙◌, subst, slice_get, option_map, option_map_or, range_with_len, Facts, BlockState, History}
+use Rattle.bt_machine.proofs.Base.{[], ◌≡◌, ℕ, true, List, ◌∷◌, length, map, Option, Some, refl, sym, ap, ◌∙◌, subst, option_map, option_map_or, range_with_len, Facts, History}
 use Rattle.std.specs.Global.{Vec}
 use Rattle.std.specs.Vec.{with_items}
 use Rattle.bt_meta.specs.Torrent.{Metainfo, IsLawful}
-use Rattle.bt_resume.specs.ResumeLog.{LogView}
 use Rattle.bt_resume.specs.declared.hint.Hint.{Hint}
 use Rattle.bt_store.specs.FileStore.{StoreView, new_states}
-use Rattle.bt_machine.specs.Devices.{HaveCalls}
 use Rattle.bt_machine.specs.Opening.{unopened, StartsWith, Begins, with_log, with_log as on_log, BeginsOn}
 use Rattle.bt_machine.specs.Recovery.{RestoresFiles}
 use Rattle.bt_machine.specs.Shape.{IsShaped}
-use Rattle.bt_machine.specs.Start.{IsNew, Starts, AreDevicesOf}
-use Rattle.bt_machine.specs.State.{EngineState, EngineView, FileState}
+use Rattle.bt_machine.specs.Start.{IsNew, AreDevicesOf}
+use Rattle.bt_machine.specs.State.{EngineState}
 use Rattle.bt_recovery.specs.Taking.{TakeHints}
 use Rattle.bt_recall.specs.Recovering.{AreMissing, RecoversFiles}
 use Rattle.bt_state.specs.Parts.{state_of, disks_of, log_of, file_of, peer_of}
 use Rattle.bt_state.specs.Ties.{IsTied}
 use Rattle.bt_state.specs.declared.open_log.OpenLog.{OpenLog}
-use Rattle.bt_state.specs.declared.slot.Slot.{Slot}
 use Rattle.bt_state.specs.declared.parts.Parts.{Parts}
 use Rattle.bt_state.proofs.Lists.{get_mapped}
 use Rattle.bt_start.specs.WithLogSteps.{HaveBegunWith}

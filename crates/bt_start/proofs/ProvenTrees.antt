@@ -1,5 +1,5 @@
 -- Parts whose trees have taken proofs.
-use Rattle.bt_machine.proofs.Base.{[], ◌≡◌, ◌≢◌, ℕ, ◌+◌, ◌<◌, ◌≤◌, List, ◌∷◌, length, map, Option, Some, refl, sym, ap, ◌∙◌, subst, arith, slice_get, AllPairs, File, Facts}
+use Rattle.bt_machine.proofs.Base.{[], ◌≡◌, ◌≢◌, ℕ, List, ◌∷◌, map, Option, Some, refl, sym, ap, ◌∙◌, subst, arith, slice_get, AllPairs, Facts}
 use Rattle.std.specs.Global.{Vec}
 use Rattle.bt_resume.specs.declared.hint.Hint.{Hint}
 use Rattle.bt_resume.specs.declared.hint.Hint.TheVariants.{Proof, Marks}
