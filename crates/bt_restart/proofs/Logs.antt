@@ -1,5 +1,5 @@
 -- Parts that begin anew with a log.
-use Rattle.bt_machine.proofs.Base.{[], ◌≡◌, ◌≢◌, ℕ, is_some, List, ◌∷◌, length, map, Option, Some, None, refl, sym, ap, ◌∙◌, subst, arith, slice_get, option_map, option_map_or, length-replicate, block_count, AllPairs, Facts, BlockState, Missing}
+use Rattle.bt_machine.proofs.Base.{[], ◌≡◌, ◌≢◌, ℕ, is_some, List, length, map, Option, Some, None, refl, sym, ap, ◌∙◌, subst, slice_get, option_map, option_map_or, length-replicate, block_count, AllPairs, Facts, BlockState, Missing}
 use Rattle.std.specs.Global.{Vec}
 use Rattle.std.specs.Vec.{with_items}
 use Rattle.std.proofs.lemmas.List.{with_items_is}
@@ -7,30 +7,25 @@ use Rattle.std.proofs.lemmas.Simd.{map-map}
 use Rattle.bt_meta.specs.Torrent.{IsLawful}
 use Rattle.bt_meta.specs.Law.{LiesInItsPiece}
 use Rattle.bt_resume.specs.declared.hint.Hint.{Hint}
-use Rattle.bt_resume.specs.declared.hint.Hint.TheVariants.{Proof, Marks}
 use Rattle.bt_resume.specs.ResumeLog.{LogView}
 use Rattle.bt_store.specs.FileStore.{StoreView, new_states}
 use Rattle.bt_machine.specs.State.{PeerState}
-use Rattle.bt_machine.specs.Recovery.{TakesProof, accepted, passed, TakesHints}
 use Rattle.bt_machine.specs.Restart.{KeepsPlaces}
 use Rattle.bt_machine.specs.Shape.{IsShaped}
 use Rattle.bt_machine.specs.Start.{IsNew}
-use Rattle.bt_machine.proofs.Lists.{heads, tails, some_is, some_below, get_some, get_map, map_some}
-use Rattle.bt_machine.proofs.Pairs.{to_pairs, pairs_map, from_pairs}
+use Rattle.bt_machine.proofs.Lists.{get_map, map_some}
 use Rattle.bt_state.specs.Parts.{state_of, disks_of, file_of, peer_of, pending_of, hints_of}
-use Rattle.bt_state.specs.Ties.{IsTied, FitsFile, StillKnows, LeavesStay, root_and_length}
+use Rattle.bt_state.specs.Ties.{IsTied, root_and_length}
 use Rattle.bt_state.specs.declared.open_log.OpenLog.{OpenLog}
 use Rattle.bt_state.specs.declared.peer.Peer.{Peer}
 use Rattle.bt_state.specs.declared.slot.Slot.{Slot}
 use Rattle.bt_state.specs.declared.parts.Parts.{Parts}
-use Rattle.bt_state.proofs.Leaves.{still, still_then, still_joined, leaves_by, knows_still}
-use Rattle.bt_state.proofs.Lists.{get_mapped}
 use Rattle.bt_start.specs.declared.books.Books.{Books}
 use Rattle.bt_start.specs.Books.{AreNewBooks}
 use Rattle.bt_start.specs.Trees.{AreTreesOf}
 use Rattle.bt_start.proofs.Beginnings.{are_new}
 use Rattle.bt_start.proofs.ProvenTrees.{apart_alike, proven_tied, proven_shaped}
-use Rattle.bt_start.proofs.RootTrees.{names_of_trees, trees_apart, tree_named}
+use Rattle.bt_start.proofs.RootTrees.{names_of_trees}
 use Rattle.bt_recovery.specs.Taking.{TakeHints}
 use Rattle.bt_recall.specs.Recovering.{AreMissing}
 use Rattle.bt_restart.specs.AnewSteps.{cleared_store, cleared}
