@@ -1,1 +1,3 @@
+pub mod LogSteps
+pub mod Logs
 pub mod Restarts

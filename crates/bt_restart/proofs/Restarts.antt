@@ -128,7 +128,7 @@ module _ {D H : Type 0} {dig : List ℕ → List ℕ} (old : Parts D H) (slots :
     (tied : IsTied old) (shaped : IsShaped old.torrent (state_of old)) (lawful : IsLawful old.torrent.piece_length old.torrent.files)
     (are : slots.items ≡ map cleared old.slots.items) (made : AreTreesOf dig old.torrent old.first_files.items trees.items)
     (fresh : AreNewBooks old.torrent books) (none : old.log ≡ None) where
-  abbrev next : Parts D H
+  abbrev pub next : Parts D H
   next = record old { slots = slots; trees = trees; unmarked = books.unmarked; known = books.known; peers = books.peers; book = books.book }
 
   names : map root_and_length trees.items ≡ map root_and_length old.trees.items
@@ -137,7 +137,7 @@ module _ {D H : Type 0} {dig : List ℕ → List ℕ} (old : Parts D H) (slots :
   same_by : {X : Type 0} (f : List ℕ × ℕ → X) → map (λ k. f (root_and_length k)) trees.items ≡ map (λ k. f (root_and_length k)) old.trees.items
   same_by f = sym (map-map f root_and_length trees.items) ∙ ap (map f) names ∙ map-map f root_and_length old.trees.items
 
-  new_parts : AreNewParts dig next
+  pub new_parts : AreNewParts dig next
   new_parts = record {
     lawful = lawful;
     trees = torrent_trees made tied.firsts.each (trees_apart trees.items (map (λ k. k.root) old.trees.items) (same_by (λ p. p.0))
@@ -148,18 +148,18 @@ module _ {D H : Type 0} {dig : List ℕ → List ℕ} (old : Parts D H) (slots :
     books = fresh;
   }
 
-  count : length slots.items ≡ length old.torrent.files
+  pub count : length slots.items ≡ length old.torrent.files
   count = ap (λ (ss : List (Slot D H)). length ss) are ∙ length-map old.slots.items cleared ∙ tied.count
 
   slot_before : (i : ℕ) {slot : Slot D H} → slice_get slots.items i ≡ Some slot → (was : Slot D H) × (slice_get old.slots.items i ≡ Some was) × (cleared was ≡ slot)
   slot_before i at = get_map cleared old.slots.items i (ap (λ (ss : List (Slot D H)). slice_get ss i) (sym are) ∙ at)
 
-  all_new : (i : ℕ) (file : File) (slot : Slot D H) → slice_get old.torrent.files i ≡ Some file → slice_get slots.items i ≡ Some slot → (file_of slot).states ≡ new_states file.length
+  pub all_new : (i : ℕ) (file : File) (slot : Slot D H) → slice_get old.torrent.files i ≡ Some file → slice_get slots.items i ≡ Some slot → (file_of slot).states ≡ new_states file.length
   all_new i file slot listed at =
       let was = slot_before i at in
       ap (λ (s : Slot D H). (file_of s).states) (sym was.2) ∙ cleared_states (tied.each i was.0 was.1) listed
 
-  have_trees : (i : ℕ) (file : File) (slot : Slot D H) → slice_get old.torrent.files i ≡ Some file → slice_get slots.items i ≡ Some slot
+  pub have_trees : (i : ℕ) (file : File) (slot : Slot D H) → slice_get old.torrent.files i ≡ Some file → slice_get slots.items i ≡ Some slot
       → HasTreeAt file (map root_and_length trees.items) slot.tree
   have_trees i file slot listed at some =
       let was = slot_before i at in

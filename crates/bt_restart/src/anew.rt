@@ -94,7 +94,7 @@ fn begin_again<D: Disk + Drop, H: NodeHash>(
 }
 
 /// Makes all blocks missing. No device is called.
-fn clear_slots<D: Disk + Drop, H: NodeHash>(slots: &mut [Slot<D, H>])
+pub(crate) fn clear_slots<D: Disk + Drop, H: NodeHash>(slots: &mut [Slot<D, H>])
     ensures { slots.new ≡ map cleared slots.old }
 {
     for slot in slots.iter_mut() {

@@ -5,3 +5,5 @@ pub mod RootTrees
 pub mod DeviceOrder
 pub mod Sizes
 pub mod Beginnings
+pub mod LogStarts
+pub mod ProvenTrees

@@ -5,3 +5,4 @@ pub mod Books
 pub mod TreeSteps
 pub mod DeviceSteps
 pub mod BeginningSteps
+pub mod WithLogSteps

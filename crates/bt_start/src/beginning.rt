@@ -77,7 +77,7 @@ pub fn start<D: Disk + Drop, H: NodeHash>(
 }
 
 /// The parts of an engine that begins, but for the devices. Errors: out of memory.
-fn bare_parts<D: Disk + Drop, H: NodeHash>(
+pub(crate) fn bare_parts<D: Disk + Drop, H: NodeHash>(
     alloc: Global,
     torrent: Torrent,
     hash: H,

@@ -11,7 +11,9 @@ mod new_tree;
 mod piece_sizes;
 mod roots;
 mod trees;
+mod with_log;
 
 pub use beginning::start;
 pub use books::{Books, new_books};
 pub use trees::new_trees;
+pub use with_log::start_with_log;

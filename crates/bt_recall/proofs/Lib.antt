@@ -1,0 +1,4 @@
+pub mod Follows
+pub mod Readings
+pub mod Recallings
+pub mod Recovers
