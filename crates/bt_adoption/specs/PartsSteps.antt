@@ -24,9 +24,9 @@ pub record AreInLine {D H : Type 0} (parts : Parts D H) : Type 0 where
 abbrev pub blocks_in : EngineState → ℕ → ℕ
 blocks_in s tree = option_map_or blocks_of (slice_get s.trees tree) 0
 
--- Nothing changed but slots, trees, the book, the counts and what waits for the log. There are as many slots as
--- before, the trees are of the same roots, lengths and blocks, each leaf that was known is, and the book has the
--- same peers.
+-- Nothing changed but slots, trees, the book, the counts and what waits for the log. There are as many slots
+-- as before, the trees are of the same roots, lengths and blocks, each leaf that was known is, and the book
+-- has the same peers.
 pub record KeepsRest {D H : Type 0} (old new : Parts D H) : Type 0 where
   pub others : new ≡ record old {
     slots = new.slots;
@@ -42,9 +42,9 @@ pub record KeepsRest {D H : Type 0} (old new : Parts D H) : Type 0 where
   pub leaves : LeavesStay (state_of old) (state_of new)
   pub peers : peers_of new.book ≡ peers_of old.book
 
--- Nothing changed but slots, trees and what waits for the log. There are as many slots as before, and the trees
--- are of the same roots, lengths and blocks. Each leaf that was known is. Of the files only this one has
--- changed, and has as many blocks as before.
+-- Nothing changed but slots, trees and what waits for the log. There are as many slots as before, and the
+-- trees are of the same roots, lengths and blocks. Each leaf that was known is. Of the files only this one
+-- has changed, and has as many blocks as before.
 pub record ChangesFile {D H : Type 0} (file : ℕ) (old new : Parts D H) : Type 0 where
   pub others : new ≡ record old { slots = new.slots; trees = new.trees; log = new.log }
   pub log : log_of new ≡ log_of old

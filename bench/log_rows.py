@@ -1,0 +1,109 @@
+#!/usr/bin/env python3
+"""Runs rows of `bt_log_tests` that the gate does not run, and compares what they print with what they have to print.
+
+    python3 bench/log_rows.py [LIST..]
+
+A list is a pair of files of `bench/log_rows`, LIST.stdin and LIST.stdout, and is told with its processor time and its peak memory. The list
+`memory` is the crate's own rows of adoptions, once for each allocation that one of them asks for: that one is refused, by a library that
+stands in front of the C library and is compiled with `cc`. Without words it is all of these. The program is proved and built first, where
+it is not yet. The status is 0 where all answers are as they have to be.
+"""
+
+import difflib
+import os
+import pathlib
+import subprocess
+import sys
+import tempfile
+
+from measure import TOP
+
+CRATE = TOP / "crates" / "bt_log_tests"
+LISTS = pathlib.Path(__file__).resolve().with_suffix("")
+
+# Refuses the allocation that FAILING names, and tells at the end in the file COUNTED how many were asked for.
+REFUSING = r"""
+#define _GNU_SOURCE
+#include <dlfcn.h>
+#include <stdio.h>
+#include <stdlib.h>
+static long asked;
+static int refused(void) { const char *n = getenv("FAILING"); return n && ++asked == atol(n); }
+void *malloc(size_t size) { return refused() ? 0 : ((void *(*)(size_t))dlsym(RTLD_NEXT, "malloc"))(size); }
+void *realloc(void *old, size_t size) {
+    return refused() ? 0 : ((void *(*)(void *, size_t))dlsym(RTLD_NEXT, "realloc"))(old, size);
+}
+__attribute__((destructor)) static void tell(void) {
+    long counted = asked;
+    FILE *file = fopen(getenv("COUNTED"), "w");
+    if (file) { fprintf(file, "%ld", counted); fclose(file); }
+}
+"""
+
+
+def built():
+    """The proved program."""
+    run = subprocess.run(["rt", "run"], cwd=CRATE, stdin=subprocess.DEVNULL, capture_output=True, text=True)
+    if run.returncode != 0:
+        sys.exit(run.stdout + run.stderr)
+    return CRATE / "out" / CRATE.name
+
+
+def answered(program, name):
+    """Whether the rows of a list are answered as they have to be."""
+    with open(LISTS / f"{name}.stdin", encoding="ascii") as rows:
+        process = subprocess.Popen([program], stdin=rows, stdout=subprocess.PIPE, text=True)
+        printed = process.stdout.read()
+        _, status, usage = os.wait4(process.pid, 0)
+    wanted = (LISTS / f"{name}.stdout").read_text(encoding="ascii")
+    print(f"{name}: {usage.ru_utime + usage.ru_stime:.1f} s, {usage.ru_maxrss / 1024:.0f} MiB, status {status}")
+    sys.stdout.writelines(difflib.unified_diff(wanted.splitlines(True), printed.splitlines(True), "wanted", "printed"))
+    return status == 0 and printed == wanted
+
+
+def part(text):
+    """The rows of adoptions, or their answers."""
+    lines = text.read_text(encoding="ascii").splitlines()
+    first = next(i for i, line in enumerate(lines) if line.startswith("# adoption_memory"))
+    return lines[first : lines.index("# adoption_memory ends") + 1]
+
+
+def refuses(program, folder):
+    """A function that runs rows with an allocation refused, and gives the status, what was printed, and how many were asked for."""
+    source, library, counted = folder / "refusing.c", folder / "refusing.so", folder / "counted"
+    source.write_text(REFUSING)
+    subprocess.run(["cc", "-shared", "-fPIC", "-o", library, source, "-ldl"], check=True)
+
+    def run(rows, failing):
+        words = {"LD_PRELOAD": str(library), "COUNTED": str(counted), "FAILING": str(failing)}
+        done = subprocess.run([program], input="\n".join(rows) + "\n", env=words, capture_output=True, text=True)
+        return done.returncode, done.stdout.splitlines(), int(counted.read_text())
+
+    return run
+
+
+def stays(program):
+    """Whether the rows of adoptions are answered alike where an adoption is refused memory; where a row is, the run ends."""
+    rows, wanted = part(CRATE / "stdin"), part(CRATE / "stdout")
+    alike = ended = other = 0
+    with tempfile.TemporaryDirectory() as folder:
+        run = refuses(program, pathlib.Path(folder))
+        for place in (i for i, row in enumerate(rows) if row.startswith("adopt ")):
+            for failing in range(run(rows[:place], 0)[2] + 1, run(rows[: place + 1], 0)[2] + 1):
+                status, printed, _ = run(rows, failing)
+                alike += status == 0 and printed == wanted
+                ended += status != 0
+                other += status == 0 and printed != wanted
+    print(f"memory: {alike} refusals that change no answer, {ended} that end the run, {other} others")
+    return alike > 0 and other == 0
+
+
+def main(names):
+    program = built()
+    names = names or ["memory", *sorted(path.stem for path in LISTS.glob("*.stdin"))]
+    answers = [stays(program) if name == "memory" else answered(program, name) for name in names]
+    sys.exit(0 if all(answers) else 1)
+
+
+if __name__ == "__main__":
+    main(sys.argv[1:])

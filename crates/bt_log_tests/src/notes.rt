@@ -1,0 +1,49 @@
+//! What came of a message, in words.
+
+use crate::changes::Heard;
+use crate::words::{RowError, tell};
+use bt_book::BlockId;
+use bt_machine::{Note, Why};
+use std::fmt::Write;
+
+/// What was noted, or why the peer is to be closed.
+pub fn tell_heard(out: &mut String, heard: &Heard) -> Result<(), RowError> {
+    match heard {
+        Heard::Nothing => Err(RowError::Unread),
+        Heard::Closed(why) => tell_why(out, why),
+        Heard::Noted(note) => tell_notes(out, &[*note]),
+        Heard::Settled(notes) => tell_notes(out, notes),
+    }
+}
+
+fn tell_why(out: &mut String, why: &Why) -> Result<(), RowError> {
+    match why {
+        Why::WrongBlock => tell(out, "close C6"),
+        Why::UnknownRoot => tell(out, "close C7"),
+        Why::Proof(fault) => Ok(write!(out, "close C8 {fault}")?),
+        _ => Err(RowError::Unread),
+    }
+}
+
+fn tell_notes(out: &mut String, notes: &[Note]) -> Result<(), RowError> {
+    tell(out, "taken")?;
+    for note in notes {
+        tell_note(out, note)?;
+    }
+    Ok(())
+}
+
+fn tell_note(out: &mut String, note: &Note) -> Result<(), RowError> {
+    match note {
+        Note::Marked(block) => tell_block(out, "marked", block),
+        Note::Waiting(block) => tell_block(out, "waiting", block),
+        Note::Freed(block) => tell_block(out, "freed", block),
+        Note::Device(file) => Ok(write!(out, ", device {file}")?),
+        Note::Stale => tell(out, ", stale"),
+        _ => Err(RowError::Unread),
+    }
+}
+
+fn tell_block(out: &mut String, word: &str, block: &BlockId) -> Result<(), RowError> {
+    Ok(write!(out, ", {word} {} {}", block.file, block.block)?)
+}

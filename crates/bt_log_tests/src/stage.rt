@@ -1,0 +1,283 @@
+//! What the rows so far have made, and the first word of a row.
+
+use crate::bytes::tell_bytes;
+use crate::device::TestDisk;
+use crate::events::{
+    adopt_row, flush_row, follow_row, hashes_row, lost_row, pending_row, piece_row, report_row,
+};
+use crate::fill::fill;
+use crate::logged::Logged;
+use crate::words::{RowError, Words, tell};
+use bt_lanes::Lanes;
+use bt_machine::StartError;
+use bt_meta::{MetaError, Torrent, read_info, read_torrent};
+use bt_resume::{LogError, Refused, ResumeLog};
+use bt_tree::Hash32;
+use std::alloc::{AllocError, Global};
+use std::fmt::Write;
+use std::mem;
+
+pub type TestEngine = Logged<TestDisk, Lanes>;
+
+/// A torrent, the devices that are to be its files, the device of a log, and what was started over them.
+#[derive(Drop)]
+pub struct Stage {
+    alloc: Global,
+    torrent: Option<Torrent>,
+    infohash: Hash32,
+    disks: Vec<TestDisk>,
+    log: Option<TestDisk>,
+    /// How many bytes of those that a log may have are left, where it is filled before the start; else 0.
+    left: u64,
+    engine: Option<TestEngine>,
+}
+
+/// Puts a value in the place of another. Only here is one dropped that was there, so that no other proof has to
+/// do with it.
+fn put<T: Drop>(place: &mut T, value: T) {
+    *place = value;
+}
+
+impl Stage {
+    pub fn new(alloc: Global) -> Self {
+        Stage {
+            alloc,
+            torrent: None,
+            infohash: [0; 32],
+            disks: Vec::new(alloc),
+            log: None,
+            left: 0,
+            engine: None,
+        }
+    }
+
+    /// What a row answers. One that begins with `#` is told as it is.
+    pub fn answer(&mut self, alloc: Global, row: &str) -> Result<String, AllocError> {
+        if row.is_empty() || row.starts_with('#') {
+            return String::from_str(alloc, row);
+        }
+        let mut out = String::new(alloc);
+        let mut words = Words::new(row);
+        match self.row(&mut words, &mut out) {
+            Ok(()) if words.is_at_end() => Ok(out),
+            Ok(()) | Err(RowError::Unread) => format!(in alloc; "not understood: {row}"),
+            Err(RowError::Memory(error)) => Err(error),
+        }
+    }
+
+    fn row(&mut self, words: &mut Words, out: &mut String) -> Result<(), RowError> {
+        match words.word() {
+            "torrent" => self.torrent_row(true, words, out),
+            "info" => self.torrent_row(false, words, out),
+            "device" => self.device_row(words, out),
+            "log" => self.log_row(words, out),
+            "start" => self.start_row(words, out),
+            name => self.engine_row(name, words, out),
+        }
+    }
+
+    /// Reads a torrent, or the info dictionary of one. All that was there before is gone.
+    fn torrent_row(
+        &mut self,
+        is_whole: bool,
+        words: &mut Words,
+        out: &mut String,
+    ) -> Result<(), RowError> {
+        let text = words.bytes(self.alloc)?;
+        match read(self.alloc, is_whole, &text) {
+            Ok(torrent) => self.put_torrent(torrent, out),
+            Err(MetaError::OutOfMemory) => Err(RowError::Memory(AllocError)),
+            Err(error) => Ok(write!(out, "refused {error}")?),
+        }
+    }
+
+    fn put_torrent(&mut self, torrent: Torrent, out: &mut String) -> Result<(), RowError> {
+        let count = torrent.files().len();
+        self.infohash = torrent.infohash();
+        self.left = 0;
+        put(&mut self.torrent, Some(torrent));
+        put(&mut self.disks, Vec::new(self.alloc));
+        put(&mut self.log, None);
+        put(&mut self.engine, None);
+        Ok(write!(out, "files {count}")?)
+    }
+
+    /// The device of the next file that has a byte.
+    fn device_row(&mut self, words: &mut Words, out: &mut String) -> Result<(), RowError> {
+        let kind = words.word();
+        let disk = device_of(self.alloc, kind, words)?;
+        push(&mut self.disks, disk)?;
+        tell(out, "a device")
+    }
+
+    /// The device of the log, or what it has.
+    fn log_row(&mut self, words: &mut Words, out: &mut String) -> Result<(), RowError> {
+        match words.word() {
+            "bytes" => self.log_bytes(out),
+            "calls" => self.log_calls(out),
+            "left" => self.left_row(words, out),
+            kind => {
+                let disk = device_of(self.alloc, kind, words)?;
+                put(&mut self.log, Some(disk));
+                tell(out, "a device")
+            }
+        }
+    }
+
+    fn left_row(&mut self, words: &mut Words, out: &mut String) -> Result<(), RowError> {
+        self.left = words.long()?;
+        tell(out, "to be filled")
+    }
+
+    fn log_bytes(&self, out: &mut String) -> Result<(), RowError> {
+        match self.log_disk()?.kept_len() {
+            Some(len) => Ok(write!(out, "{len} bytes that are not kept")?),
+            None => tell_bytes(self.alloc, out, self.log_disk()?.bytes()),
+        }
+    }
+
+    fn log_calls(&self, out: &mut String) -> Result<(), RowError> {
+        tell_calls(out, self.log_disk()?)
+    }
+
+    /// The device of the log, also where it was refused.
+    fn log_disk(&self) -> Result<&TestDisk, RowError> {
+        match &self.engine {
+            Some(engine) => engine.log_disk().ok_or(RowError::Unread),
+            None => self.log.as_ref().ok_or(RowError::Unread),
+        }
+    }
+
+    /// Opens the log, and starts over the devices, without a peer or with one.
+    fn start_row(&mut self, words: &mut Words, out: &mut String) -> Result<(), RowError> {
+        let has_peer = match words.word() {
+            "alone" => false,
+            "peer" => true,
+            _ => return Err(RowError::Unread),
+        };
+        let Some(disk) = self.log.take() else {
+            return Err(RowError::Unread);
+        };
+        match ResumeLog::attach(self.alloc, disk, self.infohash) {
+            Ok(log) => self.start(has_peer, log, out),
+            Err(refused) => self.put_back(refused, out),
+        }
+    }
+
+    /// The log is refused, and its device is back.
+    fn put_back(
+        &mut self,
+        refused: Refused<TestDisk, LogError>,
+        out: &mut String,
+    ) -> Result<(), RowError> {
+        let Refused { disk, cause } = refused;
+        put(&mut self.log, Some(disk));
+        if cause == LogError::OutOfMemory {
+            return Err(RowError::Memory(AllocError));
+        }
+        Ok(write!(out, "refused {cause}")?)
+    }
+
+    fn start(
+        &mut self,
+        has_peer: bool,
+        log: ResumeLog<TestDisk>,
+        out: &mut String,
+    ) -> Result<(), RowError> {
+        let mut log = log;
+        if self.left > 0 && !fill(self.alloc, &mut log, self.left)? {
+            return tell(out, "not filled");
+        }
+        let Some(torrent) = self.torrent.take() else {
+            return Err(RowError::Unread);
+        };
+        let disks = mem::replace(&mut self.disks, Vec::new(self.alloc));
+        let started = started(self.alloc, has_peer, torrent, disks, log)?;
+        put(&mut self.engine, Some(started));
+        tell(out, "started")
+    }
+
+    /// An event, or what is told of the engine.
+    fn engine_row(
+        &mut self,
+        name: &str,
+        words: &mut Words,
+        out: &mut String,
+    ) -> Result<(), RowError> {
+        let Some(engine) = &mut self.engine else {
+            return Err(RowError::Unread);
+        };
+        match name {
+            "follow" => follow_row(engine, out),
+            "hashes" => hashes_row(self.alloc, engine, words, out),
+            "piece" => piece_row(self.alloc, engine, words, out),
+            "lost" => lost_row(engine, out),
+            "adopt" => adopt_row(self.alloc, engine, self.infohash, words, out),
+            "flush" => flush_row(engine, out),
+            "pending" => pending_row(self.alloc, engine, self.infohash, out),
+            "count" => Ok(write!(out, "{} wait", engine.waiting())?),
+            "report" => report_row(engine, words, out),
+            "calls" => calls_row(engine, words, out),
+            _ => Err(RowError::Unread),
+        }
+    }
+}
+
+fn read(alloc: Global, is_whole: bool, text: &[u8]) -> Result<Torrent, MetaError> {
+    if is_whole {
+        read_torrent(alloc, text)
+    } else {
+        read_info(alloc, text)
+    }
+}
+
+fn push(disks: &mut Vec<TestDisk>, disk: TestDisk) -> Result<(), AllocError> {
+    Ok(disks.push(disk)?)
+}
+
+/// A device: `memory` and `zeros`, then which call of it fails, 0 for none, and its bytes, or how many zeros.
+fn device_of(alloc: Global, kind: &str, words: &mut Words) -> Result<TestDisk, RowError> {
+    let failing = words.long()?;
+    match kind {
+        "memory" => Ok(TestDisk::in_memory(alloc, words.bytes(alloc)?, failing)),
+        "zeros" => Ok(TestDisk::of_zeros(words.long()?, failing)),
+        _ => Err(RowError::Unread),
+    }
+}
+
+fn started(
+    alloc: Global,
+    has_peer: bool,
+    torrent: Torrent,
+    disks: Vec<TestDisk>,
+    log: ResumeLog<TestDisk>,
+) -> Result<TestEngine, RowError> {
+    let started = if has_peer {
+        Logged::start_with_peer(alloc, torrent, Lanes, disks, log)
+    } else {
+        Logged::start(alloc, torrent, Lanes, disks, log)
+    };
+    match started {
+        Ok(engine) => Ok(engine),
+        Err(StartError::OutOfMemory) => Err(RowError::Memory(AllocError)),
+        Err(_) => Err(RowError::Unread),
+    }
+}
+
+/// The calls of the device of a file.
+fn calls_row(engine: &TestEngine, words: &mut Words, out: &mut String) -> Result<(), RowError> {
+    let file = words.number()?;
+    match engine.disk(file) {
+        Some(disk) => tell_calls(out, disk),
+        None => Err(RowError::Unread),
+    }
+}
+
+fn tell_calls(out: &mut String, disk: &TestDisk) -> Result<(), RowError> {
+    let calls = disk.calls();
+    Ok(write!(
+        out,
+        "{} reads, {} writes, {} syncs",
+        calls.reads, calls.writes, calls.syncs
+    )?)
+}
