@@ -1,18 +1,16 @@
 -- The marks that notes tell are those that a log gets.
-use Rattle.bt_machine.proofs.Base.{[], ◌≡◌, ◌≢◌, ℕ, suc, ◌+◌, ◌/◌, ◌^◌, ◌<◌, ◌≤◌, inl, inr, is_some, not, ◌&&◌, Bool, true, false, if◌then◌else◌, List, ◌∷◌, ◌++◌, length, map, flat_map, filter, drop, get_or, Option, Some, None, option_map_or, option_and_then, refl, sym, ap, ◌∙◌, subst, arith, slice_get, append-nil, length-map, length-append, Contains, AllPairs-filter, Contains-append_cases, BlockId, Missing, Waiting, Marked}
-use Rattle.std.proofs.Common.{append_assoc, add-one}
+use Rattle.bt_machine.proofs.Base.{[], ◌≡◌, ◌≢◌, ℕ, suc, ◌+◌, ◌/◌, ◌^◌, ◌<◌, ◌≤◌, inl, inr, is_some, not, ◌&&◌, Bool, true, false, if◌then◌else◌, List, ◌∷◌, ◌++◌, length, map, flat_map, drop, get_or, Option, Some, None, option_map_or, option_and_then, refl, sym, ap, ◌∙◌, subst, arith, slice_get, append-nil, length-map, length-append, Contains, AllPairs-filter, Contains-append_cases, BlockId, Missing, Waiting, Marked}
+use Rattle.std.proofs.Common.{add-one}
 use Rattle.std.proofs.Math.Nat.{div-lt_iff_lt-mul}
 use Rattle.std.proofs.Math.Seq.{drop-cons}
-use Rattle.std.proofs.lemmas.List.{map-append, drop_all}
+use Rattle.std.proofs.lemmas.List.{map-append}
 use Rattle.std.proofs.lemmas.Grind.{flat_map-append}
 use Rattle.std.proofs.lemmas.Option.{get_or_from_slice_get}
 use Rattle.std.specs.Prelude.{All}
 use Rattle.std.specs.Option.{option_to_list}
-use Rattle.bt_tree.specs.Limits.{max_block_count}
 use Rattle.bt_tree.specs.Blocks.{block_count}
 use Rattle.bt_meta.specs.Files.{File}
 use Rattle.bt_meta.specs.Torrent.{IsLawfulFile}
-use Rattle.bt_meta.specs.PieceBlocks.{HasBlock}
 use Rattle.bt_book.specs.Blocks.{IsBefore}
 use Rattle.bt_pending.specs.Pending.{PendingView}
 use Rattle.bt_store.specs.BlockStates.{is_marked}

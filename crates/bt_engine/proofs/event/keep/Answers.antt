@@ -1,12 +1,11 @@
-use Rattle.bt_machine.specs.Blocks.{new_complete_files, new_marked_blocks}
+use Rattle.bt_machine.specs.Blocks.{new_complete_files}
 use Rattle.bt_machine.specs.declared.answer.Note.TheVariants.{Complete}
-use Rattle.std.proofs.Common.{◌≡◌, ◌+◌, ◌≤◌, ◌++◌, List, map, length, sym, ap, ◌∙◌, subst, arith}
+use Rattle.std.proofs.Common.{◌≡◌, ◌++◌, List, map, length, sym, ap, ◌∙◌, subst, arith}
 use Rattle.std.specs.Option.{option_to_list}
 use Rattle.bt_machine.specs.declared.answer.Note.{Note}
 use Rattle.bt_machine.specs.FollowUp.{FollowsUp}
 use Rattle.bt_machine.specs.Output.{Sent, haves}
-use Rattle.bt_machine.specs.Shape.{IsShaped}
-use Rattle.bt_machine.specs.State.{PeerState, EngineState, Hint, mark_of}
+use Rattle.bt_machine.specs.State.{PeerState, EngineState, Hint}
 use Rattle.bt_machine.proofs.Lists.{some_is}
 use Rattle.bt_state.specs.Parts.{state_of, peer_of}
 use Rattle.bt_state.specs.Ties.{IsTied}

@@ -1,4 +1,4 @@
-use Rattle.std.proofs.Common.{List, Option, sym, ap, subst, ◌<◌}
+use Rattle.std.proofs.Common.{List, Option, sym, ap, subst}
 use Rattle.std.specs.Prelude.{IfOk}
 use Rattle.bt_machine.specs.Devices.{DeviceCalls, HaveCalls}
 use Rattle.bt_machine.specs.Orderly.{IsOrderly}

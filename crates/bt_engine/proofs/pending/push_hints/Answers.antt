@@ -1,4 +1,4 @@
-use Rattle.std.proofs.Common.{◌++◌, List, length, sym, ap, ◌∙◌, arith}
+use Rattle.std.proofs.Common.{List, sym, ap, ◌∙◌, arith}
 use Rattle.std.specs.Option.{option_to_list}
 use Rattle.bt_machine.proofs.Base.{length-append}
 use Rattle.bt_machine.specs.Hints.{add_hints}

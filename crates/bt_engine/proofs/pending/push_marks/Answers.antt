@@ -1,5 +1,5 @@
 use Rattle.std.specs.Prelude.{Contains}
-use Rattle.std.proofs.Common.{[], ◌≡◌, ◌+◌, ◌++◌, inl, inr, List, drop, length, get_or, refl, sym, ap, ◌∙◌, subst, arith}
+use Rattle.std.proofs.Common.{[], ◌+◌, inl, inr, List, drop, length, get_or, refl, sym, ap, ◌∙◌, subst, arith}
 use Rattle.std.proofs.lemmas.List.{drop_all}
 use Rattle.bt_machine.proofs.Base.{length-append}
 use Rattle.bt_machine.proofs.Lists.{contains_none, contains_cases}
