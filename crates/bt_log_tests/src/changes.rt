@@ -2,6 +2,7 @@
 //! says it: a proof that taught something, and then a mark of each block that has become marked.
 ghost use Rattle.std.specs.Prelude.{◌≡◌, ◌<◌, length, vec_len};
 ghost use Rattle.std.specs.Bool.{OnTrue};
+ghost use Rattle.sha2.specs.Sha256.{sha256};
 ghost use Rattle.bt_machine.specs.Orderly.{IsOrderly};
 ghost use Rattle.bt_state.specs.Parts.{state_of};
 ghost use Rattle.bt_log_tests.specs.Steady.{AreSteady};
@@ -11,10 +12,10 @@ use bt_block_events::{Effect, take_piece};
 use bt_disk::Disk;
 use bt_follow_up::{MAX_FRAMES, follow_up};
 use bt_hashreq::HashKey;
-use bt_machine::{AdoptError, FlushError, Note, Why, steps_keep_laws};
-use bt_pending::Pending;
+use bt_machine::{AdoptError, FlushError, Note, RestartError, Why, steps_keep_laws};
+use bt_restart::begin_anew;
 use bt_resume::{Hint, ResumeLog};
-use bt_state::{OpenLog, Parts, Peer, PieceSet};
+use bt_state::{Parts, Peer, PieceSet};
 use bt_store::Adopted;
 use bt_tree::NodeHash;
 use bt_wire_events::{Learnt, take_hashes};
@@ -28,21 +29,6 @@ pub enum Heard {
     Closed(Why),
     Noted(Note),
     Settled(Vec<Note>),
-}
-
-/// Gives parts a log, for which nothing waits.
-pub fn with_log<D: Disk + Drop, H: NodeHash>(
-    alloc: Global,
-    parts: Parts<D, H>,
-    log: ResumeLog<D>,
-) -> Parts<D, H>
-    requires { AreSteady parts }
-    ensures { AreSteady result }
-{
-    let mut parts = parts;
-    let pending = Pending::new(alloc);
-    parts.log = Some(OpenLog { log, pending });
-    parts
 }
 
 /// Connects a peer that has all pieces and does not choke us.
@@ -222,6 +208,20 @@ pub fn flush<D: Disk + Drop, H: NodeHash>(
 {
     steps_keep_laws::<D, H>(hash);
     bt_upkeep::flush(parts)
+}
+
+/// Begins all anew, from the log.
+pub fn restart<D: Disk + Drop, H: NodeHash>(
+    alloc: Global,
+    hash: H,
+    parts: &mut Parts<D, H>,
+) -> Result<(), RestartError>
+    requires digest { H.digest ≡ sha256 }
+    requires steady { AreSteady parts.old }
+    ensures { AreSteady parts.new }
+{
+    steps_keep_laws::<D, H>(hash);
+    begin_anew(alloc, hash, parts)
 }
 
 /// Writes what waits to another log.

@@ -58,6 +58,13 @@ pub fn flush_row(engine: &mut TestEngine, out: &mut String) -> Result<(), RowErr
     }
 }
 
+pub fn restart_row(engine: &mut TestEngine, out: &mut String) -> Result<(), RowError> {
+    match engine.restart() {
+        Ok(()) => tell(out, "done"),
+        Err(cause) => Ok(write!(out, "refused {cause}")?),
+    }
+}
+
 /// A file is taken in. Where memory is refused, the hints that wait are looked at, and it is taken in once more.
 pub fn adopt_row(
     alloc: Global,

@@ -3,13 +3,14 @@ ghost use Rattle.std.specs.Prelude.{◌≡◌};
 ghost use Rattle.sha2.specs.Sha256.{sha256};
 
 use crate::changes::{
-    Heard, adopt, connect, flush, follow, lose, take_in_hashes, take_in_piece, with_log, write_to,
+    Heard, adopt, connect, flush, follow, lose, restart, take_in_hashes, take_in_piece, write_to,
 };
 use bt_disk::Disk;
 use bt_hashreq::HashKey;
-use bt_machine::{AdoptError, FileReport, FlushError, StartError};
+use bt_machine::{AdoptError, FileReport, FlushError, RestartError, StartError, StartRefused};
 use bt_meta::Torrent;
 use bt_resume::ResumeLog;
+use bt_start::start_with_log;
 use bt_state::{Parts, Slot};
 use bt_store::{Adopted, BlockState};
 use bt_tree::NodeHash;
@@ -39,45 +40,40 @@ impl<D: Disk + Drop, H: NodeHash> Model for Logged<D, H> {
 }
 
 impl<D: Disk + Drop, H: NodeHash> Logged<D, H> {
-    /// Starts over the devices of a torrent's files, and gives the parts a log.
+    /// Starts over the devices of a torrent's files, and a log.
     pub fn start(
         alloc: Global,
         torrent: Torrent,
         hash: H,
         disks: Vec<D>,
         log: ResumeLog<D>,
-    ) -> Result<Self, StartError>
+    ) -> Result<Self, StartRefused<D, ResumeLog<D>>>
         requires { H.digest ≡ sha256 }
     {
-        match bt_start::start(alloc, torrent, hash, disks) {
-            Ok(parts) => {
-                let parts = with_log(alloc, parts, log);
-                Ok(Logged { alloc, parts, hash })
-            }
-            Err(refused) => Err(refused.cause),
-        }
+        let parts = start_with_log(alloc, torrent, hash, disks, log)?;
+        Ok(Logged { alloc, parts, hash })
     }
 
-    /// The same, and connects a peer that has all pieces and does not choke us.
+    /// The same, and connects a peer that has all pieces and does not choke us. Where memory is refused for the
+    /// peer, nothing is given back.
     pub fn start_with_peer(
         alloc: Global,
         torrent: Torrent,
         hash: H,
         disks: Vec<D>,
         log: ResumeLog<D>,
-    ) -> Result<Self, StartError>
+    ) -> Result<Self, StartRefused<D, ResumeLog<D>>>
         requires { H.digest ≡ sha256 }
     {
-        match bt_start::start(alloc, torrent, hash, disks) {
-            Ok(mut parts) => {
-                if connect(alloc, hash, &mut parts).is_err() {
-                    return Err(StartError::OutOfMemory);
-                }
-                let parts = with_log(alloc, parts, log);
-                Ok(Logged { alloc, parts, hash })
-            }
-            Err(refused) => Err(refused.cause),
+        let mut parts = start_with_log(alloc, torrent, hash, disks, log)?;
+        if connect(alloc, hash, &mut parts).is_err() {
+            return Err(StartRefused {
+                disks: Vec::new(alloc),
+                log: None,
+                cause: StartError::OutOfMemory,
+            });
         }
+        Ok(Logged { alloc, parts, hash })
     }
 
     pub fn follow(&mut self) -> Result<(), AllocError> {
@@ -103,6 +99,13 @@ impl<D: Disk + Drop, H: NodeHash> Logged<D, H> {
 
     pub fn flush(&mut self) -> Result<(), FlushError> {
         flush(self.hash, &mut self.parts)
+    }
+
+    /// Begins all anew, from the log.
+    pub fn restart(&mut self) -> Result<(), RestartError>
+        requires { H.digest ≡ sha256 }
+    {
+        restart(self.alloc, self.hash, &mut self.parts)
     }
 
     /// Writes what waits to another log.

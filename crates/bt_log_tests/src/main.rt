@@ -1,5 +1,6 @@
-//! Takes in hashes, pieces and whole files with the parts of an engine that has a log, flushes them, and prints what waits for the
-//! log and what its device has, as the rows of `stdin` say. `stdout` has what they are to answer. README.md tells the rows.
+//! Takes in hashes, pieces and whole files with the parts of an engine that has a log, flushes them, begins them anew, and prints
+//! what waits for the log and what its device has, as the rows of `stdin` say. `stdout` has what they are to answer. README.md
+//! tells the rows.
 #![tactic(auto)]
 
 mod bytes;

@@ -4,12 +4,13 @@ use crate::bytes::tell_bytes;
 use crate::device::TestDisk;
 use crate::events::{
     adopt_row, flush_row, follow_row, hashes_row, lost_row, pending_row, piece_row, report_row,
+    restart_row,
 };
 use crate::fill::fill;
 use crate::logged::Logged;
 use crate::words::{RowError, Words, tell};
 use bt_lanes::Lanes;
-use bt_machine::StartError;
+use bt_machine::{StartError, StartRefused};
 use bt_meta::{MetaError, Torrent, read_info, read_torrent};
 use bt_resume::{LogError, Refused, ResumeLog};
 use bt_tree::Hash32;
@@ -18,6 +19,11 @@ use std::fmt::Write;
 use std::mem;
 
 pub type TestEngine = Logged<TestDisk, Lanes>;
+
+type TestRefusal = StartRefused<TestDisk, ResumeLog<TestDisk>>;
+
+/// No torrent of rows has it.
+const OTHER_INFOHASH: Hash32 = [0; 32];
 
 /// A torrent, the devices that are to be its files, the device of a log, and what was started over them.
 #[derive(Drop)]
@@ -72,6 +78,7 @@ impl Stage {
             "device" => self.device_row(words, out),
             "log" => self.log_row(words, out),
             "start" => self.start_row(words, out),
+            "calls" => self.calls_row(words, out),
             name => self.engine_row(name, words, out),
         }
     }
@@ -148,17 +155,28 @@ impl Stage {
         }
     }
 
-    /// Opens the log, and starts over the devices, without a peer or with one.
+    /// The calls of the device of a file, or, where nothing is started, of one of the devices.
+    fn calls_row(&self, words: &mut Words, out: &mut String) -> Result<(), RowError> {
+        let number = words.number()?;
+        let disk = match &self.engine {
+            Some(engine) => engine.disk(number),
+            None => self.disks.as_slice().get(number as usize),
+        };
+        tell_calls(out, disk.ok_or(RowError::Unread)?)
+    }
+
+    /// Opens the log, and starts over the devices, without a peer or with one; or with the log of another torrent.
     fn start_row(&mut self, words: &mut Words, out: &mut String) -> Result<(), RowError> {
-        let has_peer = match words.word() {
-            "alone" => false,
-            "peer" => true,
+        let (has_peer, infohash) = match words.word() {
+            "alone" => (false, self.infohash),
+            "peer" => (true, self.infohash),
+            "other" => (false, OTHER_INFOHASH),
             _ => return Err(RowError::Unread),
         };
         let Some(disk) = self.log.take() else {
             return Err(RowError::Unread);
         };
-        match ResumeLog::attach(self.alloc, disk, self.infohash) {
+        match ResumeLog::attach(self.alloc, disk, infohash) {
             Ok(log) => self.start(has_peer, log, out),
             Err(refused) => self.put_back(refused, out),
         }
@@ -192,9 +210,24 @@ impl Stage {
             return Err(RowError::Unread);
         };
         let disks = mem::replace(&mut self.disks, Vec::new(self.alloc));
-        let started = started(self.alloc, has_peer, torrent, disks, log)?;
-        put(&mut self.engine, Some(started));
-        tell(out, "started")
+        match started(self.alloc, has_peer, torrent, disks, log) {
+            Ok(engine) => {
+                put(&mut self.engine, Some(engine));
+                tell(out, "started")
+            }
+            Err(refused) => self.put_all_back(refused, out),
+        }
+    }
+
+    /// Nothing is started, and the devices are back.
+    fn put_all_back(&mut self, refused: TestRefusal, out: &mut String) -> Result<(), RowError> {
+        let StartRefused { disks, log, cause } = refused;
+        put(&mut self.disks, disks);
+        put(&mut self.log, log.map(|log| log.into_disk()));
+        if cause == StartError::OutOfMemory {
+            return Err(RowError::Memory(AllocError));
+        }
+        Ok(write!(out, "refused {cause}")?)
     }
 
     /// An event, or what is told of the engine.
@@ -214,10 +247,10 @@ impl Stage {
             "lost" => lost_row(engine, out),
             "adopt" => adopt_row(self.alloc, engine, self.infohash, words, out),
             "flush" => flush_row(engine, out),
+            "restart" => restart_row(engine, out),
             "pending" => pending_row(self.alloc, engine, self.infohash, out),
             "count" => Ok(write!(out, "{} wait", engine.waiting())?),
             "report" => report_row(engine, words, out),
-            "calls" => calls_row(engine, words, out),
             _ => Err(RowError::Unread),
         }
     }
@@ -251,25 +284,11 @@ fn started(
     torrent: Torrent,
     disks: Vec<TestDisk>,
     log: ResumeLog<TestDisk>,
-) -> Result<TestEngine, RowError> {
-    let started = if has_peer {
+) -> Result<TestEngine, TestRefusal> {
+    if has_peer {
         Logged::start_with_peer(alloc, torrent, Lanes, disks, log)
     } else {
         Logged::start(alloc, torrent, Lanes, disks, log)
-    };
-    match started {
-        Ok(engine) => Ok(engine),
-        Err(StartError::OutOfMemory) => Err(RowError::Memory(AllocError)),
-        Err(_) => Err(RowError::Unread),
-    }
-}
-
-/// The calls of the device of a file.
-fn calls_row(engine: &TestEngine, words: &mut Words, out: &mut String) -> Result<(), RowError> {
-    let file = words.number()?;
-    match engine.disk(file) {
-        Some(disk) => tell_calls(out, disk),
-        None => Err(RowError::Unread),
     }
 }
 
