@@ -124,7 +124,7 @@ steps_bare {D} {H} {history} {honest} {faults} {dig} {old} {new} none same disks
 }
 
 -- what has not changed has changed in its log at most
-pub only_log : {D H E : Type 0} {old new : Parts D H} (result : Result (Unit {0}) E) → IfErr result (λ _. new ≡ old)
+pub only_log : {D H E : Type 0} (old new : Parts D H) (result : Result (Unit {0}) E) → IfErr result (λ _. new ≡ old)
     → IfErr result (λ _. new ≡ record old { log = new.log })
-only_log (Ok done) same = tt
-only_log {old = old} (Err error) same = same ∙ ap (λ (parts : Parts _ _). record old { log = parts.log }) (sym same)
+only_log old new (Ok done) same = tt
+only_log {D} {H} old new (Err error) same = same ∙ ap (λ (parts : Parts D H). record old { log = parts.log }) (sym same)
