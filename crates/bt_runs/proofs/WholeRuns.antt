@@ -206,5 +206,5 @@ module _ {D : Type 0} (history : D → History) (honest : D → Type 0) (faults 
           answers = some.answers;
           no_restart = some.no_restart;
           runs = some.runs;
-          whole = whole_runs torrent given placed log first last some.events some.answers begins some.runs lawful devices;
+          promised = whole_runs torrent given placed log first last some.events some.answers begins some.runs lawful devices;
         }

@@ -108,7 +108,7 @@ pub record HasWholeRun {D : Type 0} {history : D → History} {honest : D → Ty
   pub answers : List Answer
   pub no_restart : HasNoRestart events
   pub runs : RunsTo history honest faults dig first events answers last
-  pub whole : IsWholeRun begins runs
+  pub promised : IsWholeRun begins runs
 
 -- so it is of whatever leads on from the start
 abbrev pub WhatLeadsOnIsWhole : {D : Type 0} → (D → History) → (D → Type 0) → (D → ℕ) → (List ℕ → List ℕ)

@@ -83,7 +83,7 @@ module _ {D : Type 0} (history : D → History) (honest : D → Type 0) (faults 
       → EndsFetch begun.begins old peers before after status
   ends_fetch peers fetched =
       let found = whole_run in
-      let whole = found.whole in record {
+      let whole = found.promised in record {
         last = last;
         fetched = fetched;
         whole = found;
