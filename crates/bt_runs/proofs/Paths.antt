@@ -83,12 +83,12 @@ at_first {s = s} mid {e = e} {es = es} {c = c} {calls = calls} step rest is_so =
 
 -- ---- marks that stay
 
-none_said : {X : Type 0} (before : List X) {x : X} {after : List X} → [] ≡ before ++ x ∷ after → ⊥
-none_said [] is = absurd cc
-none_said (y ∷ before) is = absurd cc
+none_said : {X : Type 0} (before : List X) (x : X) (after : List X) → [] ≡ before ++ x ∷ after → ⊥
+none_said [] x after is = absurd cc
+none_said (y ∷ before) x after is = absurd cc
 
 stays_none : {dig : Digest} {s new : EngineState} {b : BlockId} → StaysMarked dig s [] [] [] [] new b
-stays_none more answer rest is = absurd (none_said more is)
+stays_none more answer rest is = absurd (none_said more answer rest is)
 
 -- one event before
 stays_more : {dig : Digest} {s : EngineState} (mid : EngineState) {new : EngineState} {e : Event} {es : List Event} {c : EventCalls} {calls : List EventCalls}
