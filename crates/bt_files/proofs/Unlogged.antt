@@ -1,5 +1,5 @@
--- Lemmas on an engine that has no log.
-use Rattle.std.proofs.Common.{[], ◌≡◌, ℕ, List, ◌∷◌, ◌++◌, Option, Some, None, Result, Ok, Err, ap, sym, ◌∙◌}
+-- Lemmas on an engine that has no log. It gets none.
+use Rattle.std.proofs.Common.{[], ◌≡◌, ℕ, List, ◌∷◌, ◌++◌, Option, Some, None, Result, Ok, Err, refl, ap, sym, ◌∙◌}
 use Rattle.bt_disk.specs.History.{History}
 use Rattle.bt_machine.specs.declared.error.FlushError.TheVariants.{LogFull}
 use Rattle.bt_machine.specs.declared.event.Event.TheVariants.{Flush}
@@ -8,6 +8,7 @@ use Rattle.bt_machine.specs.Flush.{StepFlush, appended, syncs, writes, fails, un
 use Rattle.bt_machine.specs.LogCalls.{EventCalls, LogCall, HaveLogCalls}
 use Rattle.bt_machine.specs.State.{EngineState, EngineView}
 use Rattle.bt_machine.specs.View.{StepsTo}
+use Rattle.bt_runs.specs.Leads.{LeadsTo, none as no_event, one as one_event, both as one_and_other}
 
 some_last : {X : Type 0} (xs : List X) (x : X) → xs ++ x ∷ [] ≡ [] → ⊥
 some_last [] x none = absurd cc
@@ -36,6 +37,17 @@ module _ {D : Type 0} (history : D → History) (honest : D → Type 0) (faults 
   none_called None None calls none made = made
   none_called None (Some new) calls none made = absurd made
   none_called (Some old) new calls none made = absurd cc
+
+  none_after : (old new : Option _) (calls : List LogCall) → old ≡ None → HaveLogCalls history honest faults old calls new → new ≡ None
+  none_after None None calls none made = refl
+  none_after None (Some new) calls none made = absurd made
+  none_after (Some old) new calls none made = absurd cc
+
+  -- no event gives it one
+  pub stays_unlogged : {old new : EngineView D} → LeadsTo history honest faults dig old new → old.log ≡ None → new.log ≡ None
+  stays_unlogged (no_event engine) unlogged = unlogged
+  stays_unlogged (one_event old new event answer other step) unlogged = none_after old.log new.log step.calls.log unlogged step.logged
+  stays_unlogged (one_and_other old mid new first then) unlogged = stays_unlogged then (stays_unlogged first unlogged)
 
   -- its flush changes nothing of its state
   pub unlogged_same : (old new : EngineView D) (answer : _) → old.log ≡ None → StepsTo history honest faults dig old Flush (Flushed answer) new

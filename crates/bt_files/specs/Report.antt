@@ -8,8 +8,10 @@ use Rattle.bt_meta.specs.Torrent.{Metainfo}
 use Rattle.bt_machine.specs.declared.event.Event.{Event}
 use Rattle.bt_machine.specs.declared.event.Answer.{Answer}
 use Rattle.bt_machine.specs.State.{FileState, EngineState, EngineView}
-use Rattle.bt_machine.specs.LogCalls.{EventCalls}
+use Rattle.bt_machine.specs.Opening.{BeginsOn}
 use Rattle.bt_machine.specs.Report.{all_complete}
+use Rattle.bt_machine.specs.View.{RunsTo}
+use Rattle.bt_resume.specs.ResumeLog.{LogView}
 use Rattle.bt_runs.specs.WholeRuns.{IsFileMarkedOnPath, IsPublishedOn}
 use Rattle.bt_check.specs.Finding.{is_complete_finding}
 use Rattle.bt_check.specs.Display.{display_text}
@@ -47,13 +49,15 @@ pub record IsCalledComplete (torrent : Metainfo) (s : EngineState) (number : ℕ
   pub here : slice_get s.files number ≡ Some state
   pub called : is_complete_finding (finding_of state) ≡ true
 
--- Each block of such a file became marked in a run, by bytes whose digest lies at its leaf, on a checked path
--- to the file's root.
-abbrev pub ReportsMarked : (List ℕ → List ℕ) → Metainfo → EngineState → List Event → List EventCalls
-    → List Answer → EngineState → Type 0
-ReportsMarked dig torrent first events calls answers last = (number : ℕ) (file : File)
-    → IsCalledComplete torrent last number file
-    → IsFileMarkedOnPath dig first events calls answers last number file
+-- Each block of such a file is marked since a run or its start, by bytes whose digest lies at its leaf, on a checked
+-- path to the file's root.
+abbrev pub ReportsMarked : {D : Type 0} {history : D → History} {honest : D → Type 0} {faults : D → ℕ}
+    {dig : List ℕ → List ℕ} {torrent : Metainfo} {placed : List (Option D)} {log : Option (LogView D)}
+    {first : EngineView D} {events : List Event} {answers : List Answer} {last : EngineView D}
+    → BeginsOn history honest faults dig torrent placed log first
+    → RunsTo history honest faults dig first events answers last → Type 0
+ReportsMarked {torrent = torrent} {last = last} begins runs = (number : ℕ) (file : File)
+    → IsCalledComplete torrent last.state number file → IsFileMarkedOnPath begins runs number file
 
 -- Such a file is the published one on its device, where that is honest. An empty file has no device and no byte.
 abbrev pub ReportsPublished : {D : Type 0} → (D → History) → (D → Type 0) → (List ℕ → List ℕ) → Metainfo

@@ -1,11 +1,12 @@
 -- The engine that a store is opened with.
-use Rattle.std.specs.Prelude.{[], ◌≡◌, ℕ, Bool, List, length, None}
+use Rattle.std.specs.Prelude.{[], ◌≡◌, ℕ, Bool, List, length, Option, None}
 use Rattle.sha2.specs.Sha256.{sha256}
 use Rattle.bt_ahead.specs.Disk.{AheadView}
 use Rattle.bt_disk.specs.History.{History, new_history}
 use Rattle.bt_disk.specs.Pool.{PooledView}
 use Rattle.bt_meta.specs.Torrent.{Metainfo}
-use Rattle.bt_machine.specs.Start.{AreDevicesOf, Starts}
+use Rattle.bt_machine.specs.Opening.{BeginsOn}
+use Rattle.bt_machine.specs.Start.{AreDevicesOf}
 use Rattle.bt_machine.specs.State.{EngineView}
 use Rattle.bt_files.specs.Adoption.{TakesIn}
 use Rattle.bt_runs.specs.Leads.{LeadsTo}
@@ -13,19 +14,21 @@ use Rattle.bt_folder.specs.SealedDisk.{fault_count}
 use Rattle.bt_files.specs.DataFiles.{AreNewDevices, DeviceView}
 use Rattle.bt_files.specs.declared.file_use.FileUse.{FileUse}
 
--- An engine of the torrent, which began with these devices and without a log, and has taken in what those files
--- have of which bytes are there, by events of the machine: no read of them failed. No peer is connected.
+-- An engine of the torrent, which began with these devices, each with its file, and without a log, and has taken in
+-- what those files have of which bytes are there, by events of the machine: no read of them failed. No peer is
+-- connected, and it has no log.
 pub record HasBegun {D : Type 0} (history : D → History) (honest : D → Type 0) (faults : D → ℕ)
     (dig : List ℕ → List ℕ) (torrent : Metainfo) (given : List D) (filled : List Bool)
     (engine : EngineView D) : Type 0 where
   pub first : EngineView D
-  pub starts : Starts dig torrent first.state
-  pub unlogged : first.log ≡ None
-  pub devices : AreDevicesOf torrent.files given first.disks
+  pub placed : List (Option D)
+  pub devices : AreDevicesOf torrent.files given placed
+  pub begins : BeginsOn history honest faults dig torrent placed None first
   pub taken_in : TakesIn history honest faults dig first filled engine
   pub run : LeadsTo history honest faults dig first engine
   pub same : engine.state.torrent ≡ torrent
   pub no_peer : engine.state.peers ≡ []
+  pub unlogged : engine.log ≡ None
 
 -- ---- the devices of data files, as `Disk` has them
 

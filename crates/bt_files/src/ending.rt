@@ -1,5 +1,5 @@
 //! The end of a fetch.
-ghost use Rattle.std.specs.Prelude.{◌≡◌, ◌⊎◌, IfErr, IfOk};
+ghost use Rattle.std.specs.Prelude.{◌≡◌, ◌⊎◌, None, IfErr, IfOk};
 ghost use Rattle.bt_check.specs.Fault.{device, out_of_memory};
 ghost use Rattle.bt_runs.specs.Leads.{LeadsTo};
 ghost use Rattle.bt_files.specs.Ending.{IsConcluded};
@@ -13,14 +13,15 @@ use bt_tree::NodeHash;
 use std::alloc::Global;
 use std::io::Write;
 
-/// Has all that was written put on the devices, and then reports how far the files are. The answer is the
-/// status of the program: 0 where all files are complete, else 1. Where a device fails at the first, nothing is
-/// reported.
+/// Has all that was written put on the devices of an engine without a log, and then reports how far the files
+/// are. The answer is the status of the program: 0 where all files are complete, else 1. Where a device fails at
+/// the first, nothing is reported.
 pub fn conclude<D: Disk + Drop, H: NodeHash, W: Write>(
     alloc: Global,
     engine: &mut Engine<D, H>,
     writer: &mut W,
 ) -> Result<u8, Fault>
+    requires unlogged { engine.old.log ≡ None }
     ensures concluded { IfOk result (λ status. IsConcluded D.history D.honest D.faults H.digest engine.old
         (W.contents writer.old) (W.contents writer.new) status engine.new) }
     ensures run { LeadsTo D.history D.honest D.faults H.digest engine.old engine.new }

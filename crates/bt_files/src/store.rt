@@ -1,5 +1,5 @@
 //! The store of a torrent's files: an engine over them, from its opening to its flush.
-ghost use Rattle.std.specs.Prelude.{◌≡◌, Ok, Err, length, IfOk, IfErr, OnOk};
+ghost use Rattle.std.specs.Prelude.{◌≡◌, Ok, Err, None, length, IfOk, IfErr, OnOk};
 ghost use Rattle.sha2.specs.Sha256.{sha256};
 ghost use Rattle.bt_machine.specs.declared.error.FlushError.TheVariants.{Device};
 ghost use Rattle.bt_machine.specs.declared.event.Event.TheVariants.{Flush};
@@ -48,7 +48,8 @@ pub(crate) fn open_store<'a, R: Files + AllocGlobal + Clone + Drop, P: Watch>(
     )
 }
 
-/// Starts an engine of a torrent over the devices of its files that have a byte, and takes in what is there of them.
+/// Starts an engine of a torrent over the devices of its files that have a byte, without a log, and takes in what is
+/// there of them.
 pub(crate) fn begin<'a, D: Disk + Drop>(
     alloc: Global,
     torrent: Torrent,
@@ -74,8 +75,10 @@ pub(crate) fn begin<'a, D: Disk + Drop>(
     }
 }
 
-/// Has all that was written put on the devices; nothing else of the engine changes. Errors: a device failed.
+/// Has all that was written put on the devices of an engine without a log; nothing else of it changes. Errors: a
+/// device failed.
 pub fn finish<D: Disk + Drop, H: NodeHash>(engine: &mut Engine<D, H>) -> Result<(), Fault>
+    requires unlogged { engine.old.log ≡ None }
     ensures flushed { OnOk result
         (StepsTo D.history D.honest D.faults H.digest engine.old Flush (Flushed (Ok tt)) engine.new) }
     ensures failed { IfErr result (λ _.
@@ -84,11 +87,10 @@ pub fn finish<D: Disk + Drop, H: NodeHash>(engine: &mut Engine<D, H>) -> Result<
     ensures run { LeadsTo D.history D.honest D.faults H.digest engine.old engine.new }
     ensures fault { IfErr result (λ fault. fault ≡ device) }
 {
-    engine.keeps_laws();
     match engine.flush() {
         Ok(()) => Ok(()),
         Err(FlushError::Device) => Err(Fault::Device),
-        // The engine has no log.
+        // Without a log none is full.
         Err(FlushError::LogFull) => unreachable!(),
     }
 }

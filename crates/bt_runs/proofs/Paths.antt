@@ -1,7 +1,7 @@
 -- A block that becomes marked, and one that is served, lie on checked paths.
 use Rattle.std.specs.Prelude.{Contains, ◌/◌}
 use Rattle.std.specs.List.{range_with_len}
-use Rattle.bt_machine.proofs.Base.{[], ◌≡◌, ◌≢◌, Option, None, Missing, Waiting, BlockState, ℕ, zero, suc, ◌+◌, ◌-◌, ◌<◌, ◌≤◌, ◌⊎◌, inl, inr, List, ◌∷◌, Some, refl, sym, ap, ◌∙◌, subst, arith, get_or, slice_get, block_count, File, Metainfo, IsLawful, Facts, IsRight, Marked, BlockId, PeerKey}
+use Rattle.bt_machine.proofs.Base.{[], ◌≡◌, ◌≢◌, Option, None, Missing, Waiting, BlockState, ℕ, zero, suc, ◌+◌, ◌-◌, ◌<◌, ◌≤◌, ◌⊎◌, inl, inr, List, ◌∷◌, ◌++◌, Some, refl, sym, ap, ◌∙◌, subst, arith, get_or, slice_get, block_count, File, Metainfo, IsLawful, Facts, IsRight, Marked, BlockId, PeerKey}
 use Rattle.bt_meta.specs.Place.{IsPlace}
 use Rattle.bt_machine.specs.Law.{AreRooted, StepKeepsRooted, RightIsChecked, StepMarksByBytes, IsSoAt, IsServed, found, recovered}
 use Rattle.bt_machine.specs.Shape.{IsShaped, StepKeepsShape}
@@ -12,7 +12,7 @@ use Rattle.bt_machine.specs.declared.event.Event.{Event}
 use Rattle.bt_machine.specs.declared.event.Answer.{Answer}
 use Rattle.bt_machine.proofs.Machine.{Digest, EngineState, DeviceCalls, state_at, tree_of, Step, Run, IsMarkedBy, brought, read_back}
 use Rattle.bt_machine.proofs.Lists.{and_then_some, some_below, some_is, get_some, same_some, range_limits}
-use Rattle.bt_runs.specs.Promises.{marking_bytes, IsOnCheckedPath, IsMarkedOnPath, IsServedOnPath, MarksByBytes}
+use Rattle.bt_runs.specs.Promises.{marking_bytes, IsOnCheckedPath, IsMarkedOnPath, IsServedOnPath, MarksByBytes, StaysMarked}
 
 -- a file with a block has a byte
 some_bytes : (n i : ℕ) → i < block_count n → 0 < n
@@ -80,6 +80,28 @@ at_first {s = s} mid {e = e} {es = es} {c = c} {calls = calls} step rest is_so =
   goes_on = rest;
   is_so = is_so;
 }
+
+-- ---- marks that stay
+
+none_said : {X : Type 0} (before : List X) (x : X) (after : List X) → [] ≡ before ++ x ∷ after → ⊥
+none_said [] x after is = absurd cc
+none_said (y ∷ before) x after is = absurd cc
+
+stays_none : {dig : Digest} {s new : EngineState} {b : BlockId} → StaysMarked dig s [] [] [] [] new b
+stays_none more answer rest is = absurd (none_said more answer rest is)
+
+-- one event before
+stays_more : {dig : Digest} {s : EngineState} (mid : EngineState) {new : EngineState} {e : Event} {es : List Event} {c : EventCalls} {calls : List EventCalls}
+    {a : Answer} {answers : List Answer} {b : BlockId} → Step dig s e c a mid → Run dig mid es calls answers new → state_at mid b ≡ Some Marked
+    → StaysMarked dig mid es calls [] answers new b → StaysMarked dig s (e ∷ es) (c ∷ calls) [] (a ∷ answers) new b
+stays_more {dig} {s} mid {new} {e} {es} {c} {calls} {a} {answers} step run marked stays [] answer rest is =
+    let one : a ≡ answer = cc in
+    let others : answers ≡ rest = cc in
+    at_first mid (subst (λ x. Step dig s e c x mid) one step) (subst (λ l. Run dig mid es calls l new) others run) marked
+stays_more {dig} {s} mid {e = e} {c = c} {a = a} {answers = answers} step run marked stays (first ∷ more) answer rest is =
+    let one : a ≡ first = cc in
+    let others : answers ≡ more ++ answer ∷ rest = cc in
+    after_step (subst (λ x. Step dig s e c x mid) one step) (stays more answer rest others)
 
 module _ (dig : Digest) (torrent : Metainfo) (right_is_checked : RightIsChecked dig) where
   -- right bytes of a block that the file has
@@ -149,7 +171,7 @@ module _ (dig : Digest) (torrent : Metainfo) (right_is_checked : RightIsChecked 
 
 module _ (dig : Digest) (torrent : Metainfo) (right_is_checked : RightIsChecked dig) (b : BlockId) where
   -- right bytes of a block that has a state
-  path_of : (s : EngineState) (tree : Facts) (bytes : List ℕ) → IsShaped torrent s → AreRooted dig s → state_at s b ≡ Some Marked
+  pub path_of : (s : EngineState) (tree : Facts) (bytes : List ℕ) → IsShaped torrent s → AreRooted dig s → state_at s b ≡ Some Marked
       → tree_of s b.file ≡ Some tree → IsRight dig tree b.block bytes → IsOnCheckedPath dig s b bytes
   path_of s tree bytes shaped rooted marked has right =
       let f = and_then_some (λ f. slice_get f.states b.block) (slice_get s.files b.file) marked in
@@ -165,24 +187,25 @@ module _ (dig : Digest) (torrent : Metainfo) (right_is_checked : RightIsChecked 
   on_path s shaped rooted marked (found by) = path_of s by.tree by.bytes shaped rooted marked by.has_tree by.right
   on_path s shaped rooted marked (recovered is by) = path_of s by.tree by.bytes shaped rooted marked by.has_tree by.right
 
-  -- a block that is marked after a run was so before it, or became so within it
+  -- a block that is marked after a run was so from before it on, or became so within it, and stayed so
   run_cases : IsLawful torrent.piece_length torrent.files → StepKeepsShape dig → StepKeepsRooted dig → StepMarksByBytes dig → {new : EngineState} (s : EngineState) (es : List Event) (calls : List EventCalls)
       (answers : List Answer) → IsShaped torrent s → AreRooted dig s → Run dig s es calls answers new → state_at new b ≡ Some Marked
-      → (state_at s b ≡ Some Marked) ⊎ IsMarkedOnPath dig s es calls answers new b
-  run_cases lawful keeps_shape keeps_rooted marks s [] [] [] shaped rooted run m = inl (rw (← run) m)
+      → ((state_at s b ≡ Some Marked) × StaysMarked dig s es calls [] answers new b) ⊎ IsMarkedOnPath dig s es calls answers new b
+  run_cases lawful keeps_shape keeps_rooted marks s [] [] [] shaped rooted run m = inl (rw (← run) m, stays_none)
   run_cases lawful keeps_shape keeps_rooted marks s (e ∷ es) (c ∷ calls) (a ∷ answers) shaped rooted run m =
       let shape = keeps_shape torrent s run.0 e c a shaped run.1 in
       let trees = keeps_rooted s run.0 e c a (own_lawful dig torrent right_is_checked lawful s shaped) run.1 rooted in
       elim (run_cases lawful keeps_shape keeps_rooted marks run.0 es calls answers shape trees run.2 m) [
         | inl mid ↦ elim (is_or_not (state_at s b)) [
-          | inl old ↦ inl old
+          | inl old ↦ inl (old, stays_more run.0 run.1 run.2 mid.0 mid.1)
           | inr unmarked ↦ inr (record {
             before = [];
             answer = a;
             after = answers;
             answers_are = refl;
             marked = at_first run.0 run.1 run.2
-                (let now = marks s run.0 e c a run.1 b mid unmarked in (now, on_path run.0 shape trees mid now));
+                (let now = marks s run.0 e c a run.1 b mid.0 unmarked in (now, on_path run.0 shape trees mid.0 now));
+            stays = λ more answer rest is. after_step run.1 (mid.1 more answer rest is);
           })
         ]
         | inr i ↦ inr (record {
@@ -191,12 +214,18 @@ module _ (dig : Digest) (torrent : Metainfo) (right_is_checked : RightIsChecked 
           after = i.after;
           answers_are = ap (λ l. a ∷ l) i.answers_are;
           marked = after_step run.1 i.marked;
+          stays = λ more answer rest is. after_step run.1 (i.stays more answer rest is);
         })
       ]
   run_cases lawful keeps_shape keeps_rooted marks s _ _ _ shaped rooted run m = absurd run
 
-pub run_marks : (dig : Digest) (torrent : Metainfo) → RightIsChecked dig → IsLawful torrent.piece_length torrent.files → StepKeepsShape dig → StepKeepsRooted dig → StepMarksByBytes dig
-    → (s new : EngineState) (es : List Event) (calls : List EventCalls) (answers : List Answer) → IsShaped torrent s
-    → AreRooted dig s → Run dig s es calls answers new → MarksByBytes dig s es calls answers new
-run_marks dig torrent right_is_checked lawful keeps_shape keeps_rooted marks s new es calls answers shaped rooted run b m before =
-    elim (run_cases dig torrent right_is_checked b lawful keeps_shape keeps_rooted marks s es calls answers shaped rooted run m) [ inl old ↦ absurd (before old) | inr now ↦ now ]
+-- what is said of the blocks that are marked after a run
+module _ (dig : Digest) (torrent : Metainfo) (right_is_checked : RightIsChecked dig) (lawful : IsLawful torrent.piece_length torrent.files)
+    (keeps_shape : StepKeepsShape dig) (keeps_rooted : StepKeepsRooted dig) (marks : StepMarksByBytes dig) (s new : EngineState) (es : List Event)
+    (calls : List EventCalls) (answers : List Answer) (shaped : IsShaped torrent s) (rooted : AreRooted dig s) (run : Run dig s es calls answers new) where
+  pub marked_cases : (b : BlockId) → state_at new b ≡ Some Marked
+      → ((state_at s b ≡ Some Marked) × StaysMarked dig s es calls [] answers new b) ⊎ IsMarkedOnPath dig s es calls answers new b
+  marked_cases b m = run_cases dig torrent right_is_checked b lawful keeps_shape keeps_rooted marks s es calls answers shaped rooted run m
+
+  pub run_marks : MarksByBytes dig s es calls answers new
+  run_marks b m before = elim (marked_cases b m) [ inl old ↦ absurd (before old.0) | inr now ↦ now ]

@@ -1,19 +1,21 @@
 -- What is promised of a whole run follows from what is promised of its events.
 use Rattle.std.specs.List.{list_all}
+use Rattle.std.specs.Prelude.{◌↔◌}
 use Rattle.std.proofs.lemmas.List.Elements.{All-append, All-nil, All-push}
 use Rattle.bt_store.specs.BlockStates.{is_marked}
-use Rattle.bt_machine.proofs.Base.{[], ◌≡◌, ◌≢◌, ℕ, zero, suc, ◌<◌, true, List, ◌∷◌, ◌++◌, length, replicate, Option, Some, None, refl, sym, ap, ◌∙◌, arith, slice_get, History, File, Metainfo, IsLawful, BlockState, Missing, Waiting, Marked, BlockId, block_count}
+use Rattle.bt_machine.proofs.Base.{[], ◌≡◌, ◌≢◌, ℕ, zero, suc, ◌<◌, inl, inr, true, List, ◌∷◌, ◌++◌, length, replicate, Option, Some, None, refl, sym, ap, ◌∙◌, subst, arith, slice_get, History, File, Metainfo, IsLawful, BlockState, Missing, Waiting, Marked, BlockId, block_count}
 use Rattle.bt_machine.specs.Blocks.{block_id, is_complete}
 use Rattle.bt_machine.specs.Headline.{CompleteFilesArePublished}
-use Rattle.bt_machine.specs.Law.{StartsRooted, StepKeepsRooted, RightIsChecked, StepMarksByBytes, RunSendsReadBytes}
+use Rattle.bt_machine.specs.Law.{AreRooted, StartsRooted, StepKeepsRooted, RightIsChecked, StartMarksByBytes, StepMarksByBytes, RunSendsReadBytes}
 use Rattle.bt_machine.specs.Shape.{IsShaped, StartsInShape, StepKeepsShape, RunsKeepShape}
 use Rattle.bt_machine.specs.Sound.{StartsSound, StepKeepsSound, HonestDevicesWereSo}
 use Rattle.bt_machine.specs.Survival.{FlushKeepsBlocks, RunKeepsImages}
 use Rattle.bt_machine.specs.Unmarks.{HasNoRestart, RunKeepsMarks}
 use Rattle.bt_machine.specs.LogCalls.{EventCalls}
-use Rattle.bt_machine.specs.Opening.Begins.{bare}
-use Rattle.bt_machine.specs.Opening.BeginsOn.{bare as bare_on}
-use Rattle.bt_machine.specs.Opening.{BeginsOn}
+use Rattle.bt_resume.specs.ResumeLog.{LogView}
+use Rattle.bt_machine.specs.Opening.Begins.{bare, with_log}
+use Rattle.bt_machine.specs.Opening.BeginsOn.{bare as bare_on, with_log as with_log_on}
+use Rattle.bt_machine.specs.Opening.{Begins, BeginsOn}
 use Rattle.bt_machine.specs.Start.{AreDevicesOf}
 use Rattle.bt_machine.specs.State.{EngineView}
 use Rattle.bt_machine.specs.View.{RunsTo, NoEventsRun, OneMoreEventRuns, RunsCompose, RunsAreRuns}
@@ -23,10 +25,9 @@ use Rattle.bt_machine.specs.declared.event.Answer.{Answer}
 use Rattle.bt_machine.proofs.Machine.{Digest, EngineState, RunOn, Starts, state_at}
 use Rattle.bt_machine.proofs.Lists.{and_then_some, get_some, some_below}
 use Rattle.bt_runs.specs.Leads.{LeadsTo, none, one, both}
-use Rattle.bt_runs.specs.Promises.{IsMarkedOnPath}
-use Rattle.bt_runs.specs.WholeRuns.{IsPublishedOn, WholeRunsKeepPromises}
+use Rattle.bt_runs.specs.WholeRuns.{starting_calls, IsMarkedAtStart, IsPublishedOn, IsMarkedInRun, at_event, at_start, WholeRunsKeepPromises, WhatLeadsOnIsWhole}
 use Rattle.bt_runs.proofs.Flushes.{flushes}
-use Rattle.bt_runs.proofs.Paths.{run_marks, sends_on_path}
+use Rattle.bt_runs.proofs.Paths.{marked_cases, path_of, sends_on_path}
 
 -- ---- blocks
 
@@ -34,7 +35,7 @@ none_marked : (n i : ℕ) → slice_get (replicate n Missing) i ≡ Some Marked 
 none_marked (suc n) (suc i) e = none_marked n i e
 none_marked _ _ e = absurd cc
 
--- no block is marked at the start
+-- without a log no block is marked at the start
 unmarked_first : (dig : Digest) (torrent : Metainfo) (s : EngineState) (b : BlockId) → Starts dig torrent s → state_at s b ≡ Some Marked → ⊥
 unmarked_first dig torrent s b starts marked =
     let f = and_then_some (λ q. slice_get q.states b.block) (slice_get s.files b.file) marked in
@@ -94,9 +95,29 @@ module _ {D : Type 0} (history : D → History) (honest : D → Type 0) (faults 
         no_restart = All-append IsNoRestart a.events b.events a.no_restart b.no_restart;
       }
 
-  -- an engine without a log began on its devices
-  began_on : {torrent : Metainfo} (first : EngineView D) → Starts dig torrent first.state → BeginsOn history honest faults dig torrent first.disks None (record first { log = None })
-  began_on first starts = bare_on refl starts refl refl
+  -- ---- the start
+
+  begins_of : {torrent : Metainfo} {placed : List (Option D)} {log : Option (LogView D)} {first : EngineView D} → BeginsOn history honest faults dig torrent placed log first
+      → Begins dig torrent first.state
+  begins_of (bare_on no_log begun same unlogged) = bare begun
+  begins_of (with_log_on l calls is of_torrent begun made same) = with_log l.hints calls begun
+
+  -- a file has a device exactly where one was placed
+  placed_none : {torrent : Metainfo} {placed : List (Option D)} {log : Option (LogView D)} {first : EngineView D} → BeginsOn history honest faults dig torrent placed log first
+      → (i : ℕ) → (slice_get placed i ≡ Some None) ↔ (slice_get first.disks i ≡ Some None)
+  placed_none (bare_on no_log begun same unlogged) i =
+      (subst (λ l. slice_get l i ≡ Some None) (sym same), subst (λ l. slice_get l i ≡ Some None) same)
+  placed_none (with_log_on l calls is of_torrent begun made same) i = made.none i
+
+  -- what is marked at the start was read then
+  marked_first : StartMarksByBytes dig → RightIsChecked dig → {torrent : Metainfo} {placed : List (Option D)} {log : Option (LogView D)} {first : EngineView D}
+      → (begins : BeginsOn history honest faults dig torrent placed log first) → IsShaped torrent first.state → AreRooted dig first.state
+      → (b : BlockId) → state_at first.state b ≡ Some Marked → IsMarkedAtStart dig (starting_calls begins) first.state b
+  marked_first start_marks right {torrent} {first = first} (bare_on no_log begun same unlogged) shaped rooted b marked =
+      absurd (unmarked_first dig torrent first.state b begun marked)
+  marked_first start_marks right {torrent} {first = first} (with_log_on l calls is of_torrent begun made same) shaped rooted b marked =
+      let by = start_marks torrent l.hints calls first.state begun b marked in
+      record { recovered = by; on_path = path_of dig torrent right b first.state by.tree by.bytes shaped rooted marked by.has_tree by.right }
 
   -- ---- devices
 
@@ -115,68 +136,75 @@ module _ {D : Type 0} (history : D → History) (honest : D → Type 0) (faults 
       none_after run.0 new es calls answers run.1 after i run.4 ((run.3.none i).0 at)
   none_after old new _ _ _ disks after i run at = absurd run
 
-  -- a complete file is the published one
-  published_on : CompleteFilesArePublished history honest faults dig → (torrent : Metainfo) (given : List D) (first last : EngineView D) (events : List Event) (calls : List EventCalls) (answers : List Answer)
-      → IsLawful torrent.piece_length torrent.files → Starts dig torrent first.state → AreDevicesOf torrent.files given first.disks
-      → RunOn history honest faults dig first.state first.disks events calls answers last.state last.disks → IsShaped torrent last.state
-      → (number : ℕ) (file : File) (disk : Option D) → slice_get torrent.files number ≡ Some file → is_complete last.state number ≡ true
-      → slice_get last.disks number ≡ Some disk → IsPublishedOn history honest dig file disk
-  published_on publish torrent given first last events calls answers lawful starts devices run shaped number file None listed done there =
-      (devices.empty number file listed).0 (none_before first.state last.state events calls answers first.disks last.disks number run there)
-  published_on publish torrent given first last events calls answers lawful starts devices run shaped number file (Some d) listed done there = λ honest_now.
-      let some : 0 < file.length = positive file.length (λ empty. (let gone = none_after first.state last.state events calls answers first.disks last.disks number run
-      ((devices.empty number file listed).1 empty) in absurd cc)) in
-      let lt : number < length last.state.files = rw shaped.count (some_below torrent.files number listed) in
-      let f = get_some last.state.files number lt in
-      let shape = shaped.each number file f.0 listed f.1 in
-      let tree = shape.has_tree some in
-      let all : list_all is_marked f.0.states ≡ true = rw f.1 at done in
-      publish torrent first.disks None (record first { log = None }) last.state events calls answers last.disks number file d lawful (began_on first starts) run
-      (record {
-        listed = listed;
-        some = some;
-        state = f.0;
-        tree = tree.0;
-        here = f.1;
-        has_tree = tree.1;
-        marked = λ i inside. marked_there f.0.states i all (rw shape.blocks inside);
-      }) there honest_now
-
   -- ---- the whole
 
+  module _ {torrent : Metainfo} {given : List D} {placed : List (Option D)} {log : Option (LogView D)} {first last : EngineView D} {events : List Event} {answers : List Answer}
+      (begins : BeginsOn history honest faults dig torrent placed log first) (runs : RunsTo history honest faults dig first events answers last)
+      (lawful : IsLawful torrent.piece_length torrent.files) (devices : AreDevicesOf torrent.files given placed) where
+    -- a complete file is the published one
+    published_on : CompleteFilesArePublished history honest faults dig → IsShaped torrent last.state → (number : ℕ) (file : File) (disk : Option D)
+        → slice_get torrent.files number ≡ Some file → is_complete last.state number ≡ true → slice_get last.disks number ≡ Some disk
+        → IsPublishedOn history honest dig file disk
+    published_on publish shaped number file None listed done there =
+        (devices.empty number file listed).0 ((placed_none begins number).1
+        (none_before first.state last.state events runs.calls answers first.disks last.disks number runs.run there))
+    published_on publish shaped number file (Some d) listed done there = λ honest_now.
+        let some : 0 < file.length = positive file.length (λ empty. (let gone = none_after first.state last.state events runs.calls answers first.disks last.disks number runs.run
+        ((placed_none begins number).0 ((devices.empty number file listed).1 empty)) in absurd cc)) in
+        let lt : number < length last.state.files = rw shaped.count (some_below torrent.files number listed) in
+        let f = get_some last.state.files number lt in
+        let shape = shaped.each number file f.0 listed f.1 in
+        let tree = shape.has_tree some in
+        let all : list_all is_marked f.0.states ≡ true = rw f.1 at done in
+        publish torrent placed log first last.state events runs.calls answers last.disks number file d lawful begins runs.run
+        (record {
+          listed = listed;
+          some = some;
+          state = f.0;
+          tree = tree.0;
+          here = f.1;
+          has_tree = tree.1;
+          marked = λ i inside. marked_there f.0.states i all (rw shape.blocks inside);
+        }) there honest_now
+
   module _ (right : RightIsChecked dig) (starts_in_shape : StartsInShape dig) (starts_rooted : StartsRooted dig) (starts_sound : StartsSound history honest faults dig)
-      (keeps_shape : StepKeepsShape dig) (keeps_rooted : StepKeepsRooted dig) (keeps_sound : StepKeepsSound history honest faults dig)
+      (start_marks : StartMarksByBytes dig) (keeps_shape : StepKeepsShape dig) (keeps_rooted : StepKeepsRooted dig) (keeps_sound : StepKeepsSound history honest faults dig)
       (step_marks : StepMarksByBytes dig) (run_sends : RunSendsReadBytes dig) (run_shape : RunsKeepShape dig)
-      (none_run : NoEventsRun history honest faults dig) (one_more : OneMoreEventRuns history honest faults dig) (compose : RunsCompose history honest faults dig)
       (are_runs : RunsAreRuns history honest faults dig) (publish : CompleteFilesArePublished history honest faults dig)
       (keeps_marks : RunKeepsMarks history honest faults dig) (keeps_images : RunKeepsImages history honest faults dig)
       (flush_keeps : FlushKeepsBlocks history honest faults dig) (were_so : HonestDevicesWereSo history honest faults dig) where
     pub whole_runs : WholeRunsKeepPromises history honest faults dig
-    whole_runs torrent given first last lawful starts devices leads =
-        let some = leads_run none_run one_more compose leads in
-        let events = some.events in
-        let answers = some.answers in
-        let calls = some.runs.calls in
-        let run = some.runs.run in
-        let plain = are_runs first.state last.state first.disks last.disks events calls answers run in
-        let began : IsShaped torrent first.state = starts_in_shape torrent first.state (bare starts) in
-        let shaped : IsShaped torrent last.state = (run_shape torrent first.state last.state events calls answers (bare starts) plain).0 in
-        let rooted = starts_rooted torrent first.state lawful (bare starts) in
-        let marks : (b : BlockId) → state_at last.state b ≡ Some Marked → IsMarkedOnPath dig first.state events calls answers last.state b = λ b marked.
-        run_marks dig torrent right lawful keeps_shape keeps_rooted step_marks first.state last.state events calls answers began rooted plain b marked (unmarked_first dig torrent first.state b starts) in
+    whole_runs torrent given placed log first last events answers begins runs lawful devices =
+        let run = runs.run in
+        let plain = are_runs first.state last.state first.disks last.disks events runs.calls answers run in
+        let shape_at_first : IsShaped torrent first.state = starts_in_shape torrent first.state (begins_of begins) in
+        let shaped : IsShaped torrent last.state = (run_shape torrent first.state last.state events runs.calls answers (begins_of begins) plain).0 in
+        let rooted = starts_rooted torrent first.state lawful (begins_of begins) in
+        let marks : (b : BlockId) → state_at last.state b ≡ Some Marked → IsMarkedInRun begins runs b = λ b marked.
+        elim (marked_cases dig torrent right lawful keeps_shape keeps_rooted step_marks first.state last.state events runs.calls answers shape_at_first rooted plain b marked) [
+          | inl first_on ↦ at_start (marked_first start_marks right begins shape_at_first rooted b first_on.0) first_on.1
+          | inr now ↦ at_event now
+        ] in
         record {
-          events = events;
-          calls = calls;
-          answers = answers;
-          no_restart = some.no_restart;
-          run = run;
-          logged = some.runs.logged;
           marks = marks;
           sends = λ before answer after is key piece begin bytes sent.
-              sends_on_path dig torrent right lawful keeps_shape keeps_rooted events calls before answer after key piece begin bytes began rooted
-              (run_sends first.state last.state events calls before answer after (rw (← is) plain) key piece begin bytes sent);
+              sends_on_path dig torrent right lawful keeps_shape keeps_rooted events runs.calls before answer after key piece begin bytes shape_at_first rooted
+              (run_sends first.state last.state events runs.calls before answer after (rw (← is) plain) key piece begin bytes sent);
           complete = λ number file listed done i inside. marks (block_id number i) (complete_marked torrent last.state number file i shaped listed done inside);
-          published = published_on publish torrent given first last events calls answers lawful starts devices run shaped;
-          flushes = flushes history honest faults dig were_so keeps_images keeps_marks flush_keeps keeps_sound first last events calls answers
-              (starts_sound torrent first.disks None (record first { log = None }) (began_on first starts)) run some.runs.logged;
+          published = published_on begins runs lawful devices publish shaped;
+          flushes = flushes history honest faults dig were_so keeps_images keeps_marks flush_keeps keeps_sound first last events runs.calls answers
+              (starts_sound torrent placed log first begins) run runs.logged;
+        }
+
+    -- what leads on is such a run
+    pub what_leads_on : NoEventsRun history honest faults dig → OneMoreEventRuns history honest faults dig → RunsCompose history honest faults dig
+        → WhatLeadsOnIsWhole history honest faults dig
+    what_leads_on none_run one_more compose torrent given placed log first last begins lawful devices leads =
+        let some = leads_run none_run one_more compose leads in
+        record {
+          events = some.events;
+          answers = some.answers;
+          no_restart = some.no_restart;
+          runs = some.runs;
+          promised = whole_runs torrent given placed log first last some.events some.answers begins some.runs lawful devices;
         }

@@ -1,5 +1,5 @@
 -- What is promised of every list of events, whatever peers send and devices answer.
-use Rattle.std.specs.Prelude.{◌≡◌, ◌≢◌, ℕ, List, ◌∷◌, ◌++◌, flat_map, length, Some, slice_get, Contains}
+use Rattle.std.specs.Prelude.{[], ◌≡◌, ◌≢◌, ℕ, List, ◌∷◌, ◌++◌, flat_map, length, Some, slice_get, Contains}
 use Rattle.bt_tree.specs.Blocks.{block_length}
 use Rattle.bt_disk.specs.History.{History}
 use Rattle.bt_meta.specs.Files.{File}
@@ -40,8 +40,16 @@ pub record IsOnCheckedPath (dig : List ℕ → List ℕ) (s : EngineState) (b : 
     pub has_tree : tree_of s b.file ≡ Some tree
     pub path : IsChecked dig tree 0 b.block (dig bytes)
 
+-- Behind these first answers of a run, the block is marked after each event that comes.
+abbrev pub StaysMarked : (List ℕ → List ℕ) → EngineState → List Event → List EventCalls
+    → (said after : List Answer) → EngineState → BlockId → Type 0
+StaysMarked dig first events calls said after last b =
+    (more : List Answer) (answer : Answer) (rest : List Answer) → after ≡ more ++ answer ∷ rest
+    → IsSoAt dig first events calls (said ++ more) answer rest last
+    (λ old event calls_then new. state_at new b ≡ Some Marked)
+
 -- The block became marked at one of the events of a run, by bytes of that event, whose digest lies on a
--- checked path in the tree that the engine has after the event.
+-- checked path in the tree that the engine has after the event. From then on it stayed so.
 pub record IsMarkedOnPath (dig : List ℕ → List ℕ) (first : EngineState) (events : List Event)
     (calls : List EventCalls) (answers : List Answer) (last : EngineState) (b : BlockId) : Type 0 where
   pub before : List Answer
@@ -51,6 +59,7 @@ pub record IsMarkedOnPath (dig : List ℕ → List ℕ) (first : EngineState) (e
   pub marked : IsSoAt dig first events calls before answer after last
       (λ old event calls_then new. (by : IsMarkedBy dig old event calls_then new b)
       × IsOnCheckedPath dig new b (marking_bytes by))
+  pub stays : StaysMarked dig first events calls (before ++ answer ∷ []) after last b
 
 -- so each block did that is marked after the events and was not before
 abbrev pub MarksByBytes : (List ℕ → List ℕ) → EngineState → List Event → List EventCalls → List Answer

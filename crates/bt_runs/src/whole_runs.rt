@@ -1,23 +1,26 @@
 //! What is promised of runs from the start of a torrent.
-ghost use Rattle.bt_runs.specs.WholeRuns.{WholeRunsKeepPromises};
+ghost use Rattle.bt_runs.specs.WholeRuns.{WhatLeadsOnIsWhole, WholeRunsKeepPromises};
 
 use bt_disk::Disk;
 use bt_engine::Engine;
 use bt_machine::{
     complete_files_are_published, flush_keeps_blocks, honest_devices_were_so, right_is_checked,
     run_keeps_images, run_keeps_marks, run_sends_read_bytes, runs_compose, runs_keep_shape,
-    starts_keep_laws, step_marks_by_bytes, steps_keep_laws,
+    start_marks_by_bytes, starts_keep_laws, step_marks_by_bytes, steps_keep_laws,
 };
 use bt_tree::NodeHash;
 
-/// Of whatever events lead on from the start of a torrent, by an engine of these devices and digests: what is
-/// marked, sent and complete then is what the torrent names. It does nothing when it runs.
+/// Of whatever events run from the start of a torrent, with a log or without, by an engine of these devices and
+/// digests: what is marked, sent and complete then is what the torrent names. Restarts may be among them; what
+/// leads on without one is such a run too. It does nothing when it runs.
 pub fn whole_runs_keep_promises<D: Disk + Drop, H: NodeHash>(engine: &Engine<D, H>)
-    ensures { WholeRunsKeepPromises D.history D.honest D.faults H.digest }
+    ensures runs { WholeRunsKeepPromises D.history D.honest D.faults H.digest }
+    ensures leads { WhatLeadsOnIsWhole D.history D.honest D.faults H.digest }
 {
     let hash = engine.hash();
     right_is_checked(hash);
     starts_keep_laws::<D, H>(hash);
+    start_marks_by_bytes::<H>();
     steps_keep_laws::<D, H>(hash);
     step_marks_by_bytes(hash);
     run_sends_read_bytes::<H>();

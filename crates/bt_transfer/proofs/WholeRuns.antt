@@ -15,7 +15,7 @@ use Rattle.bt_machine.specs.Blocks.{is_complete}
 use Rattle.bt_machine.specs.Report.{all_complete}
 use Rattle.bt_machine.proofs.Lists.{and_true, contains_cases, contains_none, range_contains, some_below}
 use Rattle.bt_runs.specs.Leads.{LeadsTo, both}
-use Rattle.bt_runs.specs.WholeRuns.{IsWholeRun, WholeRunsKeepPromises}
+use Rattle.bt_runs.specs.WholeRuns.{HasWholeRun, WhatLeadsOnIsWhole}
 use Rattle.bt_transfer.specs.Fetch.{EndsFetch, HasFetchedOverTcp}
 use Rattle.bt_files.specs.Report.{IsCalledComplete}
 use Rattle.bt_transfer.specs.Seed.{EndsSeed, HasListened}
@@ -71,21 +71,22 @@ zero_is_complete true status told zero = refl
 zero_is_complete false status told zero = absurd (omega (arith, told, zero))
 
 module _ {D : Type 0} (history : D → History) (honest : D → Type 0) (faults : D → ℕ) (dig : List ℕ → List ℕ)
-    (promises : WholeRunsKeepPromises history honest faults dig) (old last : EngineView D)
+    (promises : WhatLeadsOnIsWhole history honest faults dig) (old last : EngineView D)
     (lawful : IsLawful old.state.torrent.piece_length old.state.torrent.files) (leads : LeadsTo history honest faults dig old last)
     (before after : Option (List ℕ)) (status : ℕ) (torrent : Metainfo) (given : List D) (filled : List Bool)
     (begun : HasBegun history honest faults dig torrent given filled old) where
-  whole_run : IsWholeRun history honest faults dig torrent begun.first last
-  whole_run = promises torrent given begun.first last (subst (λ (t : Metainfo). IsLawful t.piece_length t.files) begun.same lawful)
-      begun.starts begun.devices (both begun.first old last begun.run leads)
+  whole_run : HasWholeRun begun.begins last
+  whole_run = promises torrent given begun.placed None begun.first last begun.begins (subst (λ (t : Metainfo). IsLawful t.piece_length t.files) begun.same lawful)
+      begun.devices (both begun.first old last begun.run leads)
 
   pub ends_fetch : (peers : List Peer) → HasFetchedOverTcp history honest faults dig peers old before after status last
-      → EndsFetch history honest faults dig torrent begun.first old peers before after status
+      → EndsFetch begun.begins old peers before after status
   ends_fetch peers fetched =
-      let whole = whole_run in record {
+      let found = whole_run in
+      let whole = found.promised in record {
         last = last;
         fetched = fetched;
-        whole = whole;
+        whole = found;
         reported = λ number file called. whole.complete number file called.listed (called_complete torrent last.state number file called);
         published = λ number file disk called there.
             whole.published number file disk called.listed (called_complete torrent last.state number file called) there;
@@ -94,5 +95,5 @@ module _ {D : Type 0} (history : D → History) (honest : D → Type 0) (faults 
       }
 
   pub ends_seed : (serving : Serving) → HasListened history honest faults dig serving old before after last → status ≡ 0
-      → EndsSeed history honest faults dig torrent begun.first old serving before after status
+      → EndsSeed begun.begins old serving before after status
   ends_seed serving listened done = record { last = last; listened = listened; whole = whole_run; done = done }

@@ -1,7 +1,6 @@
 -- What a fetch comes to.
-use Rattle.std.specs.Prelude.{◌≡◌, ℕ, Bool, List, Ok, Option, Result, Some, map, slice_get}
+use Rattle.std.specs.Prelude.{◌≡◌, ℕ, Bool, List, Ok, Option, Result, Some, None, map, slice_get}
 use Rattle.std.specs.Io.KnownBytes.{Appends}
-use Rattle.sha2.specs.Sha256.{sha256}
 use Rattle.bt_disk.specs.History.{History}
 use Rattle.bt_files.specs.Waiting.{TakesInAllWaiting}
 use Rattle.bt_meta.specs.Files.{File}
@@ -9,13 +8,14 @@ use Rattle.bt_meta.specs.Torrent.{Metainfo}
 use Rattle.bt_machine.specs.declared.error.FlushError.{FlushError}
 use Rattle.bt_machine.specs.declared.event.Event.TheVariants.{Flush}
 use Rattle.bt_machine.specs.declared.event.Answer.TheVariants.{Flushed}
+use Rattle.bt_machine.specs.Opening.{BeginsOn}
 use Rattle.bt_machine.specs.State.{EngineView}
 use Rattle.bt_machine.specs.View.{StepsTo}
 use Rattle.bt_padding.specs.ShortBlocks.{short_blocks_of}
 use Rattle.bt_peers.specs.Peers.{InTurn, Trial}
 use Rattle.bt_peers.specs.declared.end.PeerEnd.{PeerEnd}
 use Rattle.bt_wire.specs.declared.message.Ask.{Ask}
-use Rattle.bt_runs.specs.WholeRuns.{IsFileMarkedOnPath, IsWholeRun}
+use Rattle.bt_runs.specs.WholeRuns.{IsFileMarkedOnPath, HasWholeRun}
 use Rattle.bt_sockets.specs.Link.{Dials, undialled}
 use Rattle.bt_files.specs.DataFiles.{DeviceView}
 use Rattle.bt_files.specs.declared.file_use.FileUse.TheVariants.{Fetch}
@@ -24,7 +24,6 @@ use Rattle.bt_files.specs.Loading.{IsLoaded}
 use Rattle.bt_transfer.specs.OverTcp.{TriesOverTcp}
 use Rattle.bt_transfer.specs.PeerLines.{peer_lines}
 use Rattle.bt_files.specs.Report.{ReportsMarked, ReportsPublished}
-use Rattle.bt_files.specs.Store.{device_faults, device_history, device_honest}
 use Rattle.bt_words.specs.declared.peer.Peer.{Peer}
 
 -- The peers were tried in turn, and the next thing was a flush, which was answered so.
@@ -62,27 +61,26 @@ pub record HasFetchedOverTcp {D : Type 0} (history : D → History) (honest : D 
   pub fetched : HasFetched (TriesOverTcp history honest faults dig) history honest faults dig peers
       old (links_of (short_blocks_of old.state.torrent) peers) before after status rest new
 
--- An engine that began with a torrent as `first`, and has come to `old`, fetched the rest from the peers. The
--- whole, from `first` on, is a run as promised. Where the report calls a file complete, each of its blocks became
--- marked in this run by bytes whose digest lies at its leaf, on a checked path to the file's root (`reported`);
--- and what its device has is the published file, where that is honest (`published`). With status 0 each file of
--- the torrent is so (`complete`).
-pub record EndsFetch {D : Type 0} (history : D → History) (honest : D → Type 0) (faults : D → ℕ)
-    (dig : List ℕ → List ℕ) (torrent : Metainfo) (first old : EngineView D) (peers : List Peer)
-    (before after : Option (List ℕ)) (status : ℕ) : Type 0 where
+-- An engine that began so, with a torrent and without a log, and has come to `old`, fetched the rest from the
+-- peers. The whole, from its start on, is a run as promised. Where the report calls a file complete, each of its
+-- blocks is marked in this run by bytes whose digest lies at its leaf, on a checked path to the file's root
+-- (`reported`); and what its device has is the published file, where that is honest (`published`). With status 0
+-- each file of the torrent is so (`complete`).
+pub record EndsFetch {D : Type 0} {history : D → History} {honest : D → Type 0} {faults : D → ℕ}
+    {dig : List ℕ → List ℕ} {torrent : Metainfo} {placed : List (Option D)} {first : EngineView D}
+    (begins : BeginsOn history honest faults dig torrent placed None first) (old : EngineView D)
+    (peers : List Peer) (before after : Option (List ℕ)) (status : ℕ) : Type 0 where
   pub last : EngineView D
   pub fetched : HasFetchedOverTcp history honest faults dig peers old before after status last
-  pub whole : IsWholeRun history honest faults dig torrent first last
-  pub reported : ReportsMarked dig torrent first.state whole.events whole.calls whole.answers last.state
+  pub whole : HasWholeRun begins last
+  pub reported : ReportsMarked begins whole.runs
   pub published : ReportsPublished history honest dig torrent last
   pub complete : status ≡ 0 → (number : ℕ) (file : File) → slice_get torrent.files number ≡ Some file
-      → IsFileMarkedOnPath dig first.state whole.events whole.calls whole.answers last.state number file
+      → IsFileMarkedOnPath begins whole.runs number file
 
 -- The store of a torrent of some text was opened in a folder, and the rest was fetched from the peers.
 pub record IsFetch (is_info : Bool) (dir : List ℕ) (peers : List Peer) (before after : Option (List ℕ))
     (status : ℕ) : Type 0 where
   pub store : EngineView DeviceView
   pub loaded : IsLoaded is_info Fetch dir store
-  pub ended : EndsFetch device_history device_honest device_faults sha256 loaded.torrent
-      loaded.opened.begun.first
-      store peers before after status
+  pub ended : EndsFetch loaded.opened.begun.begins store peers before after status

@@ -1,16 +1,16 @@
 -- What a seed comes to.
-use Rattle.std.specs.Prelude.{◌≡◌, ℕ, ◌-◌, ◌^◌, ◌++◌, ◌⊎◌, Bool, true, false, List, Ok, Option, codes}
+use Rattle.std.specs.Prelude.{◌≡◌, ℕ, ◌-◌, ◌^◌, ◌++◌, ◌⊎◌, Bool, true, false, List, Ok, Option, None, codes}
 use Rattle.std.specs.Fmt.{decimal}
 use Rattle.std.specs.Io.KnownBytes.{Appends}
-use Rattle.sha2.specs.Sha256.{sha256}
 use Rattle.bt_check.specs.Display.{line_text}
 use Rattle.bt_disk.specs.History.{History}
 use Rattle.bt_machine.specs.declared.event.Event.TheVariants.{Flush}
 use Rattle.bt_machine.specs.declared.event.Answer.TheVariants.{Flushed}
+use Rattle.bt_machine.specs.Opening.{BeginsOn}
 use Rattle.bt_machine.specs.State.{EngineView}
 use Rattle.bt_machine.specs.View.{StepsTo}
 use Rattle.bt_meta.specs.Torrent.{Metainfo}
-use Rattle.bt_runs.specs.WholeRuns.{IsWholeRun}
+use Rattle.bt_runs.specs.WholeRuns.{HasWholeRun}
 use Rattle.bt_files.specs.DataFiles.{DeviceView}
 use Rattle.bt_files.specs.Report.{engine_report}
 use Rattle.bt_files.specs.declared.file_use.FileUse.{FileUse}
@@ -19,7 +19,6 @@ use Rattle.bt_machine.specs.Report.{all_complete}
 use Rattle.bt_transfer.specs.Connections.{HasServed, MeetsAndSyncs}
 use Rattle.bt_files.specs.Loading.{IsLoaded}
 use Rattle.bt_transfer.specs.OverTcp.{MeetsOverTcp}
-use Rattle.bt_files.specs.Store.{device_faults, device_history, device_honest}
 use Rattle.bt_words.specs.declared.peer.Service.{Service}
 use Rattle.bt_words.specs.declared.peer.Serving.{Serving}
 use Rattle.bt_words.specs.declared.peer.Serving.TheVariants.{Count, Forever}
@@ -53,15 +52,16 @@ pub record HasListened {D : Type 0} (history : D → History) (honest : D → Ty
   pub listening : Appends before told (listening_line port)
   pub served : HasServedAll history honest faults dig serving old told after new
 
--- An engine that began with a torrent as `first`, and has come to `old`, served connections, and the status is 0.
--- The whole, from `first` on, is a run as promised: what it sent was cut from blocks whose digests lie at their
--- leaves, on checked paths to their files' roots, and each block that is marked became so by such bytes.
-pub record EndsSeed {D : Type 0} (history : D → History) (honest : D → Type 0) (faults : D → ℕ)
-    (dig : List ℕ → List ℕ) (torrent : Metainfo) (first old : EngineView D) (serving : Serving)
-    (before after : Option (List ℕ)) (status : ℕ) : Type 0 where
+-- An engine that began so, with a torrent and without a log, and has come to `old`, served connections, and the
+-- status is 0. The whole, from its start on, is a run as promised: what it sent was cut from blocks whose digests
+-- lie at their leaves, on checked paths to their files' roots, and each block that is marked is so by such bytes.
+pub record EndsSeed {D : Type 0} {history : D → History} {honest : D → Type 0} {faults : D → ℕ}
+    {dig : List ℕ → List ℕ} {torrent : Metainfo} {placed : List (Option D)} {first : EngineView D}
+    (begins : BeginsOn history honest faults dig torrent placed None first) (old : EngineView D)
+    (serving : Serving) (before after : Option (List ℕ)) (status : ℕ) : Type 0 where
   pub last : EngineView D
   pub listened : HasListened history honest faults dig serving old before after last
-  pub whole : IsWholeRun history honest faults dig torrent first last
+  pub whole : HasWholeRun begins last
   pub done : status ≡ 0
 
 -- what a seed opens its files for
@@ -76,8 +76,7 @@ pub record HasSeeded (is_info : Bool) (dir : List ℕ) (service : Service) (befo
   pub store : EngineView DeviceView
   pub loaded : IsLoaded is_info (seed_use service.is_read_only) dir store
   pub complete : service.is_read_only ≡ true → all_complete store.state ≡ true
-  pub ended : EndsSeed device_history device_honest device_faults sha256 loaded.torrent
-      loaded.opened.begun.first store service.serving before after status
+  pub ended : EndsSeed loaded.opened.begun.begins store service.serving before after status
 
 -- The store was opened to be read, not all files are complete, and nothing but this was told; the status is 1.
 pub record HasNotSeeded (is_info : Bool) (dir : List ℕ) (service : Service) (before after : Option (List ℕ))

@@ -1,5 +1,5 @@
 //! Connections that are served one after the other, each with its line.
-ghost use Rattle.std.specs.Prelude.{[], ◌≡◌, ◌⊎◌, ◌++◌, ◌-◌, ◌^◌, IfErr, IfOk, OnErr, OnOk, string_bytes};
+ghost use Rattle.std.specs.Prelude.{[], ◌≡◌, ◌⊎◌, ◌++◌, ◌-◌, ◌^◌, None, IfErr, IfOk, OnErr, OnOk, string_bytes};
 ghost use Rattle.std.specs.Io.KnownBytes.{Appends};
 ghost use Rattle.bt_check.specs.Fault.{device, out_of_memory};
 ghost use Rattle.bt_runs.specs.Leads.{LeadsTo};
@@ -49,6 +49,7 @@ pub(crate) fn serve_forever<D: Disk + Drop, H: NodeHash, N: Net + Clock, W: Writ
     writer: &mut W,
 ) -> Result<(), Fault>
     requires no_peer { engine.old.state.peers ≡ [] }
+    requires unlogged { engine.old.log ≡ None }
     ensures served { OnOk result (HasServed (MeetsAndSyncs D.history D.honest D.faults H.digest) (2 ^ 64 - 1)
         engine.old (W.contents writer.old) (W.contents writer.new) engine.new) }
     ensures kept { OnErr result (IsFlushed D.history D.honest D.faults H.digest engine.new) }
@@ -72,6 +73,7 @@ fn serve_and_sync<D: Disk + Drop, H: NodeHash, N: Net + Clock, W: Write>(
     writer: &mut W,
 ) -> Result<PeerEnd, Fault>
     requires no_peer { engine.old.state.peers ≡ [] }
+    requires unlogged { engine.old.log ≡ None }
     ensures served { IfOk result
         (λ end. MeetsAndSyncs D.history D.honest D.faults H.digest engine.old end engine.new) }
     ensures told { IfOk result

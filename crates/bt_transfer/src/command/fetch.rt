@@ -1,5 +1,5 @@
 //! The command `fetch`: peers are tried in turn, and what came of it is told.
-ghost use Rattle.std.specs.Prelude.{[], ◌≡◌, ◌≢◌, ◌⊎◌, All, Bool, List, Ok, Err, false, true, length, IfErr, IfOk, OnErr, OnOk};
+ghost use Rattle.std.specs.Prelude.{[], ◌≡◌, ◌≢◌, ◌⊎◌, All, Bool, List, Ok, Err, None, false, true, length, IfErr, IfOk, OnErr, OnOk};
 ghost use Rattle.std.specs.Io.KnownBytes.{Keeps};
 ghost use Rattle.bt_check.specs.Fault.{device, out_of_memory, status_of};
 ghost use Rattle.bt_files.specs.Loading.{IsStoreFault};
@@ -68,8 +68,8 @@ pub fn fetch<R: Files + AllocGlobal + Clone + Drop, N: Net + Clock, P: Watch, W:
     fetch_store(rt.alloc(), net, watch, engine, &shared, peers, writer)
 }
 
-/// Takes peers in turn, over TCP, for an engine that began with a torrent, which it takes, and tells of it as
-/// `fetch_over` does. What stands before the sockets goes by that torrent.
+/// Takes peers in turn, over TCP, for an engine that began with a torrent, without a log, which it takes, and tells of
+/// it as `fetch_over` does. What stands before the sockets goes by that torrent.
 fn fetch_store<D: Disk + Drop, H: NodeHash, N: Net + Clock, P: Watch, W: Write>(
     alloc: Global,
     net: &N,
@@ -80,10 +80,11 @@ fn fetch_store<D: Disk + Drop, H: NodeHash, N: Net + Clock, P: Watch, W: Write>(
     writer: &mut W,
 ) -> Result<u8, Fault>
     requires no_peer { engine.state.peers ≡ [] }
+    requires unlogged { engine.log ≡ None }
     ensures fetched { (torrent : Metainfo) (given : List D) (filled : List Bool)
         (begun : HasBegun D.history D.honest D.faults H.digest torrent given filled engine)
-        → IfOk result (λ status. EndsFetch D.history D.honest D.faults H.digest torrent begun.first engine
-        peers.now (W.contents writer.old) (W.contents writer.new) status) }
+        → IfOk result (λ status. EndsFetch begun.begins engine peers.now
+        (W.contents writer.old) (W.contents writer.new) status) }
     ensures fault { IfErr result (λ fault. (fault ≡ device) ⊎ (fault ≡ out_of_memory)) }
 {
     // These calls say what holds of the engine, and of whatever led to it and leads on from it.
@@ -124,6 +125,7 @@ fn fetch_from<D: Disk + Drop, H: NodeHash, N: Net + Clock, W: Write>(
     writer: &mut W,
 ) -> Result<u8, Fault>
     requires no_peer { engine.old.state.peers ≡ [] }
+    requires unlogged { engine.old.log ≡ None }
     requires own_short_blocks { passage.short_blocks.now ≡ short_blocks_of engine.old.state.torrent }
     ensures fetched { IfOk result (λ status. HasFetchedOverTcp D.history D.honest D.faults H.digest peers.now
         engine.old (W.contents writer.old) (W.contents writer.new) status engine.new) }
@@ -169,6 +171,7 @@ fn fetch_over<D: Disk + Drop, H: NodeHash, L: Link, W: Write>(
     requires same_length { length links.old ≡ length peers.now }
     requires undialled { All (λ link. L.dials link ≡ 0) links.old }
     requires no_peer { engine.old.state.peers ≡ [] }
+    requires unlogged { engine.old.log ≡ None }
     ensures fetched { IfOk result (λ status. HasFetched (IsTried D.history D.honest D.faults H.digest L.dials
         L.failures L.gives L.R.remaining L.W.contents turns) D.history D.honest D.faults H.digest peers.now
         engine.old links.old (W.contents writer.old) (W.contents writer.new) status links.new engine.new) }
@@ -198,6 +201,7 @@ fn try_and_sync<D: Disk + Drop, H: NodeHash, L: Link>(
     requires same_length { length links.old ≡ length ends.old }
     requires undialled { All (λ link. L.dials link ≡ 0) links.old }
     requires no_peer { engine.old.state.peers ≡ [] }
+    requires unlogged { engine.old.log ≡ None }
     ensures kept { OnOk result (TriesAndSyncs (IsTried D.history D.honest D.faults H.digest L.dials L.failures
         L.gives L.R.remaining L.W.contents turns) D.history D.honest D.faults H.digest engine.old links.old
         ends.new links.new (Ok tt) engine.new) }

@@ -1,5 +1,5 @@
 //! The command `seed`: connections are waited for and served, and what came of each is told.
-ghost use Rattle.std.specs.Prelude.{[], ℕ, Bool, List, ◌≡◌, ◌⊎◌, ◌++◌, ◌&&◌, not, IfErr, IfOk, OnErr, OnOk, string_bytes};
+ghost use Rattle.std.specs.Prelude.{[], ℕ, Bool, List, None, ◌≡◌, ◌⊎◌, ◌++◌, ◌&&◌, not, IfErr, IfOk, OnErr, OnOk, string_bytes};
 ghost use Rattle.std.specs.Io.KnownBytes.{Appends, Keeps};
 ghost use Rattle.bt_check.specs.Fault.{device, out_of_memory, status_of};
 ghost use Rattle.bt_files.specs.Loading.{IsStoreFault};
@@ -117,7 +117,8 @@ fn report_lack<D: Disk + Drop, H: NodeHash, P: Watch, W: Write>(
     Ok(1)
 }
 
-/// Tells what is lacking, listens, and serves connections to an engine that began with a torrent, which it takes.
+/// Tells what is lacking, listens, and serves connections to an engine that began with a torrent, without a log, which
+/// it takes.
 /// What stands before the sockets goes by that torrent. The answer is 0.
 fn seed_store<D: Disk + Drop, H: NodeHash, N: Net + Clock, P: Watch, W: Write>(
     alloc: Global,
@@ -129,10 +130,11 @@ fn seed_store<D: Disk + Drop, H: NodeHash, N: Net + Clock, P: Watch, W: Write>(
     writer: &mut W,
 ) -> Result<u8, Fault>
     requires no_peer { engine.state.peers ≡ [] }
+    requires unlogged { engine.log ≡ None }
     ensures listened { (torrent : Metainfo) (given : List D) (filled : List Bool)
         (begun : HasBegun D.history D.honest D.faults H.digest torrent given filled engine)
-        → IfOk result (λ status. EndsSeed D.history D.honest D.faults H.digest torrent begun.first engine
-        service.entry.serving (W.contents writer.old) (W.contents writer.new) status) }
+        → IfOk result (λ status. EndsSeed begun.begins engine service.entry.serving
+        (W.contents writer.old) (W.contents writer.new) status) }
     ensures fault { IfErr result (λ fault. (fault ≡ device) ⊎ (fault ≡ out_of_memory)) }
 {
     // These calls say what holds of the engine, and of whatever led to it and leads on from it.
@@ -170,6 +172,7 @@ fn listen_and_serve<D: Disk + Drop, H: NodeHash, N: Net + Clock, W: Write>(
     writer: &mut W,
 ) -> Result<(), Fault>
     requires no_peer { engine.old.state.peers ≡ [] }
+    requires unlogged { engine.old.log ≡ None }
     requires own_short_blocks { passage.short_blocks.now ≡ short_blocks_of engine.old.state.torrent }
     ensures run { LeadsTo D.history D.honest D.faults H.digest engine.old engine.new }
     ensures served { OnOk result (HasListened D.history D.honest D.faults H.digest service.entry.serving
@@ -228,6 +231,7 @@ fn serve_all<D: Disk + Drop, H: NodeHash, N: Net + Clock, W: Write>(
     writer: &mut W,
 ) -> Result<(), Fault>
     requires no_peer { engine.old.state.peers ≡ [] }
+    requires unlogged { engine.old.log ≡ None }
     ensures served { OnOk result (HasServedAll D.history D.honest D.faults H.digest serving
         engine.old (W.contents writer.old) (W.contents writer.new) engine.new) }
     ensures kept { OnErr result (IsFlushed D.history D.honest D.faults H.digest engine.new) }

@@ -1,9 +1,9 @@
-use Rattle.std.proofs.Common.{ap, refl, ◌∙◌}
+use Rattle.std.proofs.Common.{refl, ◌∙◌}
 use Rattle.std.proofs.lemmas.Result.{err_from_is_err_and}
 use Rattle.sha2.specs.Sha256.{sha256}
-use Rattle.bt_machine.specs.State.{EngineState}
 use Rattle.bt_files.proofs.Adoptions.{adoption_fault}
 use Rattle.bt_files.proofs.Starting.{started}
+use Rattle.bt_files.proofs.Unlogged.{stays_unlogged}
 use Rattle.bt_files.proofs.store.begin.Goals as goal
 
 pub returns-in_err-adopt_files-in-Ok-clause-fault : goal.returns-in_err-adopt_files-in-Ok-clause-fault
@@ -17,11 +17,12 @@ returns-in-Ok-clause-begun g c =
     let began = started g.D.Disk.history g.D.Disk.honest g.D.Disk.faults sha256 c.args.torrent c.args.files.disks.items c.in-Ok.engine c.in-Ok.ensures refl in
     record {
       first = c.in-Ok.engine;
-      starts = began.starts;
-      unlogged = began.unlogged;
+      placed = began.placed;
       devices = began.devices;
+      begins = began.begins;
       taken_in = rw c.deref.ensures.value at c.in_ok-adopt_files-in-Ok.ensures.taken_in;
       run = c.adopt_files.ensures.run;
-      same = c.adopt_files.ensures.torrent ∙ ap (λ (s : EngineState). s.torrent) began.starts.is;
+      same = c.adopt_files.ensures.torrent ∙ began.same_torrent;
       no_peer = c.adopt_files.ensures.no_peer;
+      unlogged = stays_unlogged g.D.Disk.history g.D.Disk.honest g.D.Disk.faults sha256 c.adopt_files.ensures.run began.unlogged;
     }

@@ -1,5 +1,10 @@
 use Rattle.bt_runs.specs.Leads.{both}
+use Rattle.bt_files.proofs.Unlogged.{stays_unlogged}
 use Rattle.bt_transfer.proofs.connections.serve_and_sync.Goals as goal
+
+pub finish-kept-requires-clause-unlogged : goal.finish-kept-requires-clause-unlogged
+finish-kept-requires-clause-unlogged g c =
+    stays_unlogged g.D.Disk.history g.D.Disk.honest g.D.Disk.faults g.H.NodeHash.digest c.serve_next-served.ensures.run c.requires.unlogged
 
 pub returns-in_err-end-clause-run : goal.returns-in_err-end-clause-run
 returns-in_err-end-clause-run g c =

@@ -2,7 +2,12 @@ use Rattle.std.proofs.Common.{refl}
 use Rattle.bt_runs.specs.Leads.{none, both}
 use Rattle.bt_transfer.specs.Connections.{MeetsAndSyncs}
 use Rattle.bt_transfer.proofs.ConnectionLines.{served_more, served_none}
+use Rattle.bt_files.proofs.Unlogged.{stays_unlogged}
 use Rattle.bt_transfer.proofs.connections.serve_forever.Goals as goal
+
+pub serve_and_sync-requires-clause-unlogged : goal.serve_and_sync-requires-clause-unlogged
+serve_and_sync-requires-clause-unlogged g c =
+    stays_unlogged g.D.Disk.history g.D.Disk.honest g.D.Disk.faults g.H.NodeHash.digest c.loop-number.invariant.2 c.requires.unlogged
 
 pub loop-number-init : goal.loop-number-init
 loop-number-init g c = (served_none _ c.args.engine.now (g.W.Write.contents c.args.writer.now), c.requires.no_peer, none c.args.engine.now)
