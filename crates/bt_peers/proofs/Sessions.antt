@@ -1,19 +1,21 @@
--- The events of a session lead from the engine before it to the one after it.
-use Rattle.std.proofs.Common.{◌≢◌, ℕ, Bool, true, false, List, Option, Some, None}
-use Rattle.std.specs.Prelude.{Result, Ok, Err}
+-- The events of a session, and of a flush behind it, lead from the engine before it to the one after it.
+use Rattle.std.proofs.Common.{[], ◌≡◌, ◌≢◌, ℕ, Bool, true, false, List, Option, Some, None, ap, ◌∙◌, sym, subst, ne_eqb, refl}
+use Rattle.std.specs.Prelude.{Result, Ok, Err, ◌==◌, not}
 use Rattle.bt_disk.specs.History.{History}
 use Rattle.bt_machine.specs.declared.error.FlushError.{FlushError}
 use Rattle.bt_machine.specs.declared.event.Event.{Event}
 use Rattle.bt_machine.specs.declared.event.Event.TheVariants.{Connect, Flush, Lost, Restart}
 use Rattle.bt_machine.specs.declared.event.Answer.{Answer}
 use Rattle.bt_machine.specs.declared.event.Answer.TheVariants.{Connected, Fed, Stepped, Rechoked, Flushed, Lost as LostAnswer}
-use Rattle.bt_machine.specs.State.{EngineView}
+use Rattle.bt_machine.specs.Flush.{StepFlush, syncs, writes, fails, unwritten, unflushed}
+use Rattle.bt_machine.specs.State.{EngineState, EngineView}
 use Rattle.bt_machine.specs.View.{StepsTo}
 use Rattle.bt_session.specs.declared.end.SessionEnd.{SessionEnd}
 use Rattle.bt_session.specs.Ends.{IsSessionWithFlushes}
 use Rattle.bt_session.specs.Progress.{place}
 use Rattle.bt_session.specs.Session.{Session, Follows, FollowsTurn, is_flush_due, begins, goes_on}
-use Rattle.bt_runs.specs.Leads.{LeadsTo, one, both}
+use Rattle.bt_runs.specs.Leads.{LeadsTo, none, one, both}
+use Rattle.bt_peers.specs.Peer.{IsFlushedWhere}
 
 -- a session makes no restart
 turn_no_restart : (due : Bool) (key event : _) → FollowsTurn due key event → event ≢ Restart
@@ -28,6 +30,14 @@ no_restart key until every taken s (Stepped (Ok None)) event follows e = absurd 
 no_restart key until every taken s (Rechoked (Ok out)) event follows e = turn_no_restart (is_flush_due every taken) key event follows e
 no_restart key until every taken s (Flushed (Ok done)) event follows e = let fed = follows.3 in absurd cc
 no_restart key until every taken s _ event follows e = absurd follows
+
+-- a flush connects no peer
+no_peer_flushed : {s new : EngineState} {calls answer : _} → StepFlush s calls answer new → s.peers ≡ [] → new.peers ≡ []
+no_peer_flushed (syncs x y e w) gone = ap (λ (m : EngineState). m.peers) w ∙ gone
+no_peer_flushed (writes x y e w) gone = ap (λ (m : EngineState). m.peers) w ∙ gone
+no_peer_flushed (fails before file after x y e w) gone = ap (λ (m : EngineState). m.peers) w ∙ gone
+no_peer_flushed (unwritten before hint after cause x y z e w) gone = ap (λ (m : EngineState). m.peers) w ∙ gone
+no_peer_flushed (unflushed x y e w) gone = ap (λ (m : EngineState). m.peers) w ∙ gone
 
 module _ {D : Type 0} (history : D → History) (honest : D → Type 0) (faults : D → ℕ) (dig : List ℕ → List ℕ) where
   events_lead : {key until every first events answers last now : _} → Session history honest faults dig key until every first events answers last now
@@ -48,3 +58,15 @@ module _ {D : Type 0} (history : D → History) (honest : D → Type 0) (faults 
   pub flush_leads : (old new : EngineView D) (answer : Result (Unit {0}) FlushError) → StepsTo history honest faults dig old Flush (Flushed answer) new
       → LeadsTo history honest faults dig old new
   flush_leads old new answer step = one old new Flush (Flushed answer) (λ e. absurd cc) step
+
+  pub none_connected : (old new : EngineView D) (answer : Result (Unit {0}) FlushError) → StepsTo history honest faults dig old Flush (Flushed answer) new
+      → old.state.peers ≡ [] → new.state.peers ≡ []
+  none_connected old new answer step gone = no_peer_flushed step.step.2 gone
+
+  pub is_flushed : (every : ℕ) (old new : EngineView D) (answer : Result (Unit {0}) FlushError) → every ≢ 0
+      → StepsTo history honest faults dig old Flush (Flushed answer) new → IsFlushedWhere history honest faults dig (not (every == 0)) old answer new
+  is_flushed every old new answer some step =
+      subst (λ b. IsFlushedWhere history honest faults dig (not b) old answer new) (sym (ne_eqb every 0 some)) step
+
+  pub is_unflushed : (every : ℕ) (old : EngineView D) → every ≡ 0 → IsFlushedWhere history honest faults dig (not (every == 0)) old (Ok tt) old
+  is_unflushed every old zero = rw zero (refl, refl)

@@ -1,7 +1,8 @@
 use Rattle.std.proofs.Common.{◌≡◌, sym, ◌∙◌, arith, rules}
 use Rattle.std.proofs.lemmas.List.{set-get_or}
+use Rattle.std.proofs.lemmas.Result.{err_from_is_err_and}
 use Rattle.bt_runs.specs.Leads.{none, both}
-use Rattle.bt_peers.proofs.Turns.{All-first, All-later, untried_later, went_on, all_tried, completed}
+use Rattle.bt_peers.proofs.Turns.{All-first, All-later, untried_later, went_on, all_tried, completed, refused}
 use Rattle.bt_peers.proofs.peers.run_peers_with_flushes.Goals as goal
 
 pub try_peer-requires-clause-undialled : goal.try_peer-requires-clause-undialled
@@ -13,7 +14,7 @@ loop-i-init g c = record {
   no_peer = c.requires.no_peer;
   undialled = c.requires.undialled;
   untried = search rules;
-  leads = λ later rest new turns. turns;
+  leads = λ later rest answer new turns. turns;
   run = none c.args.engine.now;
 }
 
