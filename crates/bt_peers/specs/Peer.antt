@@ -13,8 +13,8 @@ use Rattle.bt_session.specs.Ends.{IsSessionWithFlushes}
 use Rattle.bt_peers.specs.declared.end.PeerEnd.{PeerEnd}
 use Rattle.bt_peers.specs.declared.end.PeerEnd.TheVariants.{Unreachable, Refused, Session}
 
--- An engine has a session with the peer of a reader that has these bytes left, and is flushed in it behind each
--- `every`-th turn. What is left of them then is not looked at, nor what was written.
+-- An engine has a session with the peer of a reader that has these bytes left, and is flushed in it behind
+-- each `every`-th turn. What the reader has left then is not looked at, nor what was written.
 pub record HasSessionWithFlushes {D : Type 0} (history : D → History) (honest : D → Type 0) (faults : D → ℕ)
     (dig : List ℕ → List ℕ) (until_complete : Bool) (every turns : ℕ) (remaining contents : Option (List ℕ))
     (old : EngineView D) (end : Result SessionEnd FlushError) (new : EngineView D) : Type 0 where
@@ -70,8 +70,8 @@ pub data IsFlushedSession {D : Type 0} (history : D → History) (honest : D →
       → IsFlushedSession history honest faults dig until_complete every turns remaining contents old end
       answer new
 
--- How it ends with a peer where the engine is flushed in its session and behind it, and what the last of these
--- flushes answered: Ok where there was none.
+-- How it ends with a peer where the engine is flushed in its session and behind it, and what the last of
+-- these flushes answered: Ok where there was none.
 abbrev pub EndsAsWithFlushes : {D R W : Type 0} → (D → History) → (D → Type 0) → (D → ℕ)
     → (List ℕ → List ℕ) → (remaining : R → Option (List ℕ)) → (contents : W → Option (List ℕ))
     → (until_complete : Bool) → (every turns : ℕ) → (reached : Option (R × W)) → EngineView D → PeerEnd

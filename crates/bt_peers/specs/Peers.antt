@@ -56,7 +56,8 @@ pub record IsTriedWithFlushes {D L R W : Type 0} (history : D → History) (hone
   pub ended : EndsAsWithFlushes history honest faults dig remaining contents true every turns reached old end
       answer new
 
--- what is said of one peer: of the engine and its link, its end and what the flush answered, and both afterwards
+-- what is said of one peer: of the engine and its link, its end and what the last flush answered, and both
+-- afterwards
 abbrev pub TrialWithFlushes : (D L : Type 0) → Type 1
 TrialWithFlushes D L = EngineView D → L → PeerEnd → Result (Unit {0}) FlushError → L → EngineView D → Type 0
 

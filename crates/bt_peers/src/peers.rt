@@ -34,8 +34,8 @@ pub fn run_peers<D: Disk + Drop, H: NodeHash, L: Link>(
     let _ = run_peers_with_flushes(alloc, engine, links, ends, turns, 0);
 }
 
-/// The same as `run_peers`, but that the engine is flushed in each session, behind each turn whose number is a
-/// multiple of `flush_every`, and behind each session; and never where that is 0.
+/// The same as `run_peers`, but that the engine is flushed in each session, behind each turn whose number is
+/// a multiple of `flush_every`, and behind each session; and never where that is 0.
 ///
 /// Errors: a flush was refused. No further peer is dialled then; and a session that it ended is told as one
 /// whose reader failed.
@@ -79,7 +79,8 @@ fn try_peer<D: Disk + Drop, H: NodeHash, L: Link>(
     requires undialled { L.dials link.old ≡ 0 }
     requires no_peer { engine.old.state.peers ≡ [] }
     ensures tried { IsTriedWithFlushes D.history D.honest D.faults H.digest L.dials L.failures L.gives
-        L.R.remaining L.W.contents flush_every turns engine.old link.old result.0 result.1 link.new engine.new }
+        L.R.remaining L.W.contents flush_every turns engine.old link.old result.0 result.1 link.new
+        engine.new }
     ensures gone { engine.new.state.peers ≡ [] }
     ensures run { LeadsTo D.history D.honest D.faults H.digest engine.old engine.new }
 {

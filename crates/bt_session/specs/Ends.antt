@@ -59,8 +59,8 @@ written_at (Ok WriteFault) = IsUnknown
 written_at (Ok Memory) = SomeWritten
 written_at _ = AllWritten
 
--- A session that is given so many turns comes to this end after so many turns, with this last answer. In place
--- of an end of its own it may come to a flush that is due and refused, which is its last event.
+-- A session that is given so many turns comes to this end after so many turns, with this last answer. In
+-- place of an end of its own it may come to a flush that is due and refused, which is its last event.
 abbrev pub Comes : Result SessionEnd FlushError → (until_complete : Bool) → (every given taken : ℕ)
     → (last : Answer) → EngineState → (remaining : Option (List ℕ)) → Type 0
 Comes (Ok Complete) until every given taken last s remaining = MayBeDone last × IsDone until s
@@ -86,8 +86,8 @@ pub record HasEnded {D : Type 0} (history : D → History) (honest : D → Type 
   pub ran : HasRun history honest faults dig key until_complete every (written_at end) first taken last now
   pub comes : Comes end until_complete every given taken last now.engine.state now.remaining
 
--- A whole session, in which the engine is flushed behind each `every`-th turn, or never where that is 0: it has
--- come to its end, and its peer is removed.
+-- A whole session, in which the engine is flushed behind each `every`-th turn, or never where that is 0: it
+-- has come to its end, and its peer is removed.
 pub record IsSessionWithFlushes {D : Type 0} (history : D → History) (honest : D → Type 0) (faults : D → ℕ)
     (dig : List ℕ → List ℕ) (until_complete : Bool) (every given : ℕ) (first : Place D)
     (end : Result SessionEnd FlushError) (last : Place D) : Type 0 where

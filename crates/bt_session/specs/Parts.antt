@@ -37,8 +37,8 @@ pub record GoesOn {D : Type 0} (history : D → History) (honest : D → Type 0)
   pub ran : HasRun history honest faults dig key until_complete every AllWritten first taken last now
   pub next : outlook every taken now.engine.state last
 
--- A part of a session, however often that is flushed: it takes it from one place to another, where it goes on,
--- or to its end.
+-- A part of a session, however often that is flushed: it takes it from one place to another, where it goes
+-- on, or to its end.
 abbrev pub IsPart : {D A : Type 0} → (D → History) → (D → Type 0) → (D → ℕ) → (List ℕ → List ℕ)
     → PeerKey → (until_complete : Bool) → Outlook → (took : ℕ → ℕ) → Place D → Result A SessionEnd
     → (A → Outlook) → Place D → Type 0

@@ -11,8 +11,8 @@ use bt_engine::Engine;
 use bt_machine::FlushError;
 use bt_tree::NodeHash;
 
-/// Flushes the engine where that is due behind the turn of this number, and else does nothing. Errors: the flush
-/// was refused.
+/// Flushes the engine where that is due behind the turn of this number, and else does nothing. Errors: the
+/// flush was refused.
 pub(crate) fn flush_if_due<D: Disk + Drop, H: NodeHash>(
     engine: &mut Engine<D, H>,
     partner: Partner,

@@ -57,8 +57,8 @@ pub fn run_session<D: Disk + Drop, H: NodeHash, R: Read, W: Write>(
 }
 
 /// The same as `run_session`, but that the engine is flushed behind each turn whose number is a multiple of
-/// `flush_every`, and never where that is 0. A flush that is refused ends the session, and is told in place of
-/// its end.
+/// `flush_every`, and never where that is 0. A flush that is refused ends the session, and is told in place
+/// of its end.
 ///
 /// Errors: no peer is connected, for want of memory or of a key. Then nothing was read or written.
 pub fn run_session_with_flushes<D: Disk + Drop, H: NodeHash, R: Read, W: Write>(
@@ -95,7 +95,8 @@ pub fn run_session_with_flushes<D: Disk + Drop, H: NodeHash, R: Read, W: Write>(
     Ok(end)
 }
 
-/// Greets the peer, and takes turns with it to the session's end. Errors: a flush was refused, which was the end.
+/// Greets the peer, and takes turns with it to the session's end. Errors: a flush was refused, which was the
+/// end.
 fn converse<D: Disk + Drop, H: NodeHash, R: Read, W: Write>(
     engine: &mut Engine<D, H>,
     partner: Partner,
@@ -110,7 +111,8 @@ fn converse<D: Disk + Drop, H: NodeHash, R: Read, W: Write>(
     ensures ends { (first : EngineView D)
         → StepsTo D.history D.honest D.faults H.digest first Connect
         (Connected (Ok (partner.key, greeting.now))) engine.old
-        → HasEnded D.history D.honest D.faults H.digest partner.key partner.until_complete partner.flush_every turns
+        → HasEnded D.history D.honest D.faults H.digest partner.key partner.until_complete
+        partner.flush_every turns
         (place first (R.remaining reader.old) (W.contents writer.old)) result
         (place engine.new (R.remaining reader.new) (W.contents writer.new)) }
     ensures no_other { HasNoOther partner.key engine.new.state }
@@ -131,8 +133,8 @@ fn converse<D: Disk + Drop, H: NodeHash, R: Read, W: Write>(
     }
 }
 
-/// Takes turns with the peer, so many at most, to the session's end, and flushes the engine between them, where
-/// that is due. Errors: a flush was refused, which was the end.
+/// Takes turns with the peer, so many at most, to the session's end, and flushes the engine between them,
+/// where that is due. Errors: a flush was refused, which was the end.
 fn take_turns<D: Disk + Drop, H: NodeHash, R: Read, W: Write>(
     engine: &mut Engine<D, H>,
     partner: Partner,
@@ -146,8 +148,8 @@ fn take_turns<D: Disk + Drop, H: NodeHash, R: Read, W: Write>(
         → GoesOn D.history D.honest D.faults H.digest partner.key partner.until_complete partner.flush_every
         (IsBetweenTurns partner.until_complete) first 0
         (place engine.old (R.remaining reader.old) (W.contents writer.old))
-        → HasEnded D.history D.honest D.faults H.digest partner.key partner.until_complete partner.flush_every turns
-        first result
+        → HasEnded D.history D.honest D.faults H.digest partner.key partner.until_complete
+        partner.flush_every turns first result
         (place engine.new (R.remaining reader.new) (W.contents writer.new)) }
     ensures no_other { HasNoOther partner.key engine.new.state }
 {
