@@ -61,29 +61,32 @@ pub fn run_peers_with_flushes<D: Disk + Drop, H: NodeHash, L: Link>(
         if engine.is_complete() {
             break;
         }
-        let (end, flushed) = try_peer(alloc, engine, link, turns, flush_every);
-        ends[i] = end;
-        flushed?;
+        try_peer(alloc, engine, link, &mut ends[i], turns, flush_every)?;
     }
     Ok(())
 }
 
-/// Dials a peer, and has a session with it until the engine is complete, where it is reached; with flushes.
+/// Dials a peer, and has a session with it until the engine is complete, where it is reached; with flushes, and
+/// with its end in place of the one that stood there. Errors: a flush was refused.
 fn try_peer<D: Disk + Drop, H: NodeHash, L: Link>(
     alloc: Global,
     engine: &mut Engine<D, H>,
     link: &mut L,
+    end: &mut PeerEnd,
     turns: u64,
     flush_every: u64,
-) -> (PeerEnd, Result<(), FlushError>)
+) -> Result<(), FlushError>
     requires undialled { L.dials link.old ≡ 0 }
     requires no_peer { engine.old.state.peers ≡ [] }
     ensures tried { IsTriedWithFlushes D.history D.honest D.faults H.digest L.dials L.failures L.gives
-        L.R.remaining L.W.contents flush_every turns engine.old link.old result.0 result.1 link.new
+        L.R.remaining L.W.contents flush_every turns engine.old link.old end.new result link.new
         engine.new }
     ensures gone { engine.new.state.peers ≡ [] }
     ensures run { LeadsTo D.history D.honest D.faults H.digest engine.old engine.new }
 {
     let reached = link.dial();
-    meet_peer_with_flushes(alloc, engine, reached, true, turns, flush_every)
+    let (met, flushed) =
+        meet_peer_with_flushes(alloc, engine, reached, true, turns, flush_every);
+    *end = met;
+    flushed
 }
