@@ -85,8 +85,7 @@ fn try_peer<D: Disk + Drop, H: NodeHash, L: Link>(
     ensures run { LeadsTo D.history D.honest D.faults H.digest engine.old engine.new }
 {
     let reached = link.dial();
-    let (met, flushed) =
-        meet_peer_with_flushes(alloc, engine, reached, true, turns, flush_every);
+    let (met, flushed) = meet_peer_with_flushes(alloc, engine, reached, true, turns, flush_every);
     *end = met;
     flushed
 }
