@@ -1,0 +1,50 @@
+-- How a start is refused where the log is the torrent's, and for what no log is refused.
+use Rattle.std.proofs.Common.{◌≡◌, ◌≢◌, ◌↔◌, ℕ, List, Option, Some, Err, length, sym, ap, ◌∙◌, subst}
+use Rattle.bt_disk.specs.History.{History}
+use Rattle.bt_meta.specs.Torrent.{Metainfo}
+use Rattle.bt_resume.specs.ResumeLog.{LogView, Opens}
+use Rattle.bt_resume.specs.declared.error.LogError.{LogError}
+use Rattle.bt_machine.specs.declared.error.StartError.{StartError}
+use Rattle.bt_machine.specs.declared.error.StartError.TheVariants.{DiskCount, OtherLog, OutOfMemory}
+use Rattle.bt_machine.specs.declared.error.StartRefused.{StartRefused}
+use Rattle.bt_machine.specs.Opening.{AnswersStart, HandsBack, starts, other_count, other_log, no_memory}
+use Rattle.bt_machine.specs.Reopening.{FlushedLogsAreKept}
+use Rattle.bt_machine.specs.Start.{device_count}
+use Rattle.bt_runs.specs.Reopening.{RefusesNoneFlushed}
+
+module _ {D : Type 0} (history : D → History) (honest : D → Type 0) (faults : D → ℕ) (dig : List ℕ → List ℕ) where
+  -- a refused start of an engine with its torrent's log
+  pub record IsRefused (torrent : Metainfo) (given : List D) (log : LogView D) (refused : StartRefused D (LogView D)) : Type 0 where
+    pub same_torrent : refused.cause ≢ OtherLog
+    pub count : (refused.cause ≡ DiskCount) ↔ (length given ≢ device_count torrent.files)
+    pub same_disks : refused.disks.items ≡ given
+    pub same_log : refused.log ≡ Some log
+
+  pub start_refused : {torrent : Metainfo} {given : List D} {log : LogView D} {answer : _} {refused : StartRefused D (LogView D)} → log.infohash ≡ torrent.infohash
+      → AnswersStart history honest faults dig torrent given (Some log) answer → answer ≡ Err refused → IsRefused torrent given log refused
+  start_refused own (starts first placed are begun is) err = absurd cc
+  start_refused {torrent} {given} {log} {answer} {refused} own (other_count other back) err =
+      let one : back.refused ≡ refused = (let is = back.is in cc) in
+      let cause : refused.cause ≡ DiskCount = subst (λ (r : StartRefused D (LogView D)). r.cause ≡ DiskCount) one back.same_cause in
+      record {
+        same_torrent = λ e. absurd cc;
+        count = (λ e. other, λ e. cause);
+        same_disks = subst (λ (r : StartRefused D (LogView D)). r.disks.items ≡ given) one back.same_disks;
+        same_log = subst (λ (r : StartRefused D (LogView D)). r.log ≡ Some log) one back.same_log;
+      }
+  start_refused {torrent} {given} {log} own (other_log l so_many some other back) err =
+      let one : log ≡ l = cc in absurd (other (ap (λ (x : LogView D). x.infohash) (sym one) ∙ own))
+  start_refused {torrent} {given} {log} {answer} {refused} own (no_memory so_many same back) err =
+      let one : back.refused ≡ refused = (let is = back.is in cc) in
+      let cause : refused.cause ≡ OutOfMemory = subst (λ (r : StartRefused D (LogView D)). r.cause ≡ OutOfMemory) one back.same_cause in
+      record {
+        same_torrent = λ e. absurd cc;
+        count = (λ e. absurd cc, λ other. absurd (other so_many));
+        same_disks = subst (λ (r : StartRefused D (LogView D)). r.disks.items ≡ given) one back.same_disks;
+        same_log = subst (λ (r : StartRefused D (LogView D)). r.log ≡ Some log) one back.same_log;
+      }
+
+  pub refuses_none : FlushedLogsAreKept history honest faults dig → (torrent : Metainfo) (log new : D) (cause : LogError)
+      → Opens history honest faults torrent.infohash log (Err cause) new → RefusesNoneFlushed history honest faults dig torrent log cause
+  refuses_none kept torrent log new cause opens flushed last synced stopped r left =
+      (kept torrent flushed last synced stopped r left.was_honest).opens log new (Err cause) left opens
