@@ -1,8 +1,9 @@
 -- How a start is refused where the log is the torrent's, and for what no log is refused.
-use Rattle.std.proofs.Common.{◌≡◌, ◌≢◌, ◌↔◌, ℕ, List, Option, Some, Err, length, sym, ap, ◌∙◌, subst}
+use Rattle.std.specs.Prelude.{◌↔◌, IfOk, IfErr}
+use Rattle.std.proofs.Common.{◌≡◌, ◌≢◌, ℕ, List, Option, Some, Result, Ok, Err, length, sym, ap, ◌∙◌, subst}
 use Rattle.bt_disk.specs.History.{History}
 use Rattle.bt_meta.specs.Torrent.{Metainfo}
-use Rattle.bt_resume.specs.ResumeLog.{LogView, Opens}
+use Rattle.bt_resume.specs.ResumeLog.{LogView, Opens, IsAttached}
 use Rattle.bt_resume.specs.declared.error.LogError.{LogError}
 use Rattle.bt_machine.specs.declared.error.StartError.{StartError}
 use Rattle.bt_machine.specs.declared.error.StartError.TheVariants.{DiskCount, OtherLog, OutOfMemory}
@@ -10,7 +11,10 @@ use Rattle.bt_machine.specs.declared.error.StartRefused.{StartRefused}
 use Rattle.bt_machine.specs.Opening.{AnswersStart, HandsBack, starts, other_count, other_log, no_memory}
 use Rattle.bt_machine.specs.Reopening.{FlushedLogsAreKept}
 use Rattle.bt_machine.specs.Start.{device_count}
-use Rattle.bt_runs.specs.Reopening.{RefusesNoneFlushed}
+use Rattle.bt_machine.specs.State.{EngineView}
+use Rattle.bt_engine.specs.Reopened.{IsReopened}
+use Rattle.bt_runs.specs.Reopening.{HasReopened, IsNotReopened, IsNotStarted, RefusesNoneFlushed, unstarted}
+use Rattle.bt_runs.specs.declared.reopening.ReopenRefused.{ReopenRefused}
 
 module _ {D : Type 0} (history : D → History) (honest : D → Type 0) (faults : D → ℕ) (dig : List ℕ → List ℕ) where
   -- a refused start of an engine with its torrent's log
@@ -48,3 +52,17 @@ module _ {D : Type 0} (history : D → History) (honest : D → Type 0) (faults 
       → Opens history honest faults torrent.infohash log (Err cause) new → RefusesNoneFlushed history honest faults dig torrent log cause
   refuses_none kept torrent log new cause opens flushed last synced stopped r left =
       (kept torrent flushed last synced stopped r left.was_honest).opens log new (Err cause) left opens
+
+  -- ---- what a start with an opened log comes to
+
+  pub ok_reopened : {torrent : Metainfo} {given : List D} {log : D} {opened : LogView D} → IsAttached history honest faults torrent.infohash log opened
+      → (result : Result (EngineView D) (ReopenRefused D)) → IfOk result (IsReopened history honest faults dig torrent given (Some opened))
+      → IfOk result (HasReopened history honest faults dig torrent given log)
+  ok_reopened {opened = opened} attached (Ok engine) begun = record { opened = opened; attached = attached; begun = begun }
+  ok_reopened attached (Err refused) begun = tt
+
+  pub err_unstarted : {torrent : Metainfo} {given : List D} {log : D} {opened : LogView D} → IsAttached history honest faults torrent.infohash log opened
+      → (result : Result (EngineView D) (ReopenRefused D)) → IfErr result (IsNotStarted torrent given opened)
+      → IfErr result (IsNotReopened history honest faults dig torrent given log)
+  err_unstarted attached (Ok engine) is = tt
+  err_unstarted {opened = opened} attached (Err refused) is = unstarted opened attached is
