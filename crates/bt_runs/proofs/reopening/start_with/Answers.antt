@@ -1,0 +1,18 @@
+use Rattle.std.proofs.Common.{refl}
+use Rattle.bt_runs.proofs.Reopenings.{start_refused}
+use Rattle.bt_runs.proofs.reopening.start_with.Goals as goal
+
+pub returns-in-Ok-clause-begun : goal.returns-in-Ok-clause-begun
+returns-in-Ok-clause-begun g c = c.in-Ok.ensures.again
+
+pub returns-in-Err-Some-clause-refused : goal.returns-in-Err-Some-clause-refused
+returns-in-Err-Some-clause-refused g c =
+    let r = start_refused g.D.Disk.history g.D.Disk.honest g.D.Disk.faults g.H.NodeHash.digest c.requires.same_torrent c.start.ensures.answer c.in-Err.is in
+    record {
+      cause = c.in-Err.refused.cause;
+      same_cause = refl;
+      same_torrent = r.same_torrent;
+      count = r.count;
+      same_disks = r.same_disks;
+      same_log = cc;
+    }
