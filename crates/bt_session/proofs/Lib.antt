@@ -6,6 +6,6 @@ pub mod Parts
 pub mod Consumed
 pub mod Receives
 pub mod Takes
-pub mod Flushes
+pub mod Pauses
 pub mod Whole
 pub mod OwnSteps

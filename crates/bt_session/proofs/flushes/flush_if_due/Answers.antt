@@ -1,5 +1,5 @@
 use Rattle.std.proofs.Common.{sym, ◌∙◌}
-use Rattle.bt_session.proofs.Flushes.{flushed, not_flushed}
+use Rattle.bt_session.proofs.Pauses.{flushed, not_flushed}
 use Rattle.bt_session.proofs.flushes.flush_if_due.Goals as goal
 
 pub returns-then-is_flush_due-clause-pause : goal.returns-then-is_flush_due-clause-pause

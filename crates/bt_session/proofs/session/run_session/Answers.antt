@@ -1,4 +1,4 @@
-use Rattle.bt_session.proofs.Flushes.{never_refused}
+use Rattle.bt_session.proofs.Pauses.{never_refused}
 use Rattle.bt_session.proofs.session.run_session.Goals as goal
 
 pub unreachable-requires : goal.unreachable-requires
