@@ -1,4 +1,4 @@
-pub mod WithLog
+pub mod Restart
 -- what only private functions cite
 pub mod AnewSteps
 pub mod WithLogSteps

@@ -6,7 +6,7 @@ ghost use Rattle.bt_state.specs.Parts.{state_of, disks_of, log_of, pending_of};
 ghost use Rattle.bt_state.specs.Ties.{IsTied};
 ghost use Rattle.bt_start.specs.Books.{AreNewBooks};
 ghost use Rattle.bt_recall.specs.Recovering.{AreMissing};
-ghost use Rattle.bt_restart.specs.WithLog.{RestartsWith};
+ghost use Rattle.bt_restart.specs.Restart.{RestartsWith};
 ghost use Rattle.bt_restart.specs.WithLogSteps.{IsReadAgain, AreTreesFrom, HasBegun};
 
 use crate::anew::clear_slots;
@@ -29,7 +29,7 @@ use std::alloc::{AllocError, Global};
 ///
 /// Errors: `Log` where the log could not be read, and then nothing has changed; out of memory, and then the
 /// log was read again, and nothing else has changed. No device of a file is called then.
-pub fn restart_with_log<D: Disk + Drop, H: NodeHash>(
+pub(crate) fn restart_with_log<D: Disk + Drop, H: NodeHash>(
     alloc: Global,
     hash: H,
     parts: &mut Parts<D, H>,

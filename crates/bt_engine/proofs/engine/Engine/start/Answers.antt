@@ -5,7 +5,6 @@ invariant_of-result g c = record {
   digest = c.requires;
   lawful = c.in-Ok.ensures.lawful;
   tied = c.in-Ok.ensures.tied;
-  unlogged = c.in-Ok.ensures.unlogged;
   shaped = c.in-Ok.ensures.shaped;
   orderly = c.in-Ok.ensures.orderly;
   sparse = c.in-Ok.ensures.sparse;

@@ -4,9 +4,9 @@ ghost use Rattle.sha2.specs.Sha256.{sha256};
 ghost use Rattle.bt_machine.specs.Shape.{IsShaped};
 ghost use Rattle.bt_state.specs.Parts.{state_of};
 ghost use Rattle.bt_state.specs.Ties.{IsTied};
-ghost use Rattle.bt_restart.specs.WithLog.{RestartsWith};
+ghost use Rattle.bt_restart.specs.Restart.{RestartsWith};
 
-use crate::anew::restart;
+use crate::anew::restart_bare;
 use crate::with_log::restart_with_log;
 use bt_disk::Disk;
 use bt_machine::RestartError;
@@ -14,8 +14,14 @@ use bt_state::Parts;
 use bt_tree::NodeHash;
 use std::alloc::Global;
 
-/// Begins all anew, from the log that the engine has, or without one: `restart_with_log` or `restart`.
-pub fn begin_anew<D: Disk + Drop, H: NodeHash>(
+/// Begins all anew. A log that the engine has is read again first. Each tree is what the torrent says of it,
+/// and takes the log's proofs. Each block that the log records and whose leaf is known then is read, once,
+/// and is marked where its bytes are right; all others are missing. No peer is connected, and nothing waits
+/// to be written to the log. Keys and turns go on.
+///
+/// Errors: `Log` where the log could not be read, and then nothing has changed; out of memory, and then a log
+/// was read again, and nothing else has changed. No device of a file is called then.
+pub fn restart<D: Disk + Drop, H: NodeHash>(
     alloc: Global,
     hash: H,
     parts: &mut Parts<D, H>,
@@ -30,5 +36,5 @@ pub fn begin_anew<D: Disk + Drop, H: NodeHash>(
     if parts.log.is_some() {
         return restart_with_log(alloc, hash, parts);
     }
-    restart(alloc, hash, parts)
+    restart_bare(alloc, hash, parts)
 }
