@@ -86,6 +86,7 @@ class Torrent:
         spelled = b"".join(b"32:%s%d:%s" % (root, len(layer), layer) for root, layer in sorted(layers.items()))
         self.text = b"d4:info%s12:piece layersd%see" % (info, spelled)
         self.infohash = digest(info)
+        self.piece_of = {block: self.range_of(*block)[0] for block in self.all_blocks()}
 
     def handshake(self, peer_id):
         return b"\x13BitTorrent protocol" + bytes(8) + self.infohash[:20] + peer_id
@@ -237,11 +238,9 @@ class Engine:
     def leaf(self, block):
         return self.tree_of(block[0]).value(0, block[1])
 
-    def blocks_of(self, piece):
-        return [block for block in self.states if self.torrent.range_of(*block)[0] == piece]
-
     def whole_pieces(self):
-        return [piece for piece in range(self.torrent.pieces) if all(self.states[block] == MARKED for block in self.blocks_of(piece))]
+        broken = {self.torrent.piece_of[block] for block, state in self.states.items() if state != MARKED}
+        return [piece for piece in range(self.torrent.pieces) if piece not in broken]
 
     def marked(self):
         return {block for block, state in self.states.items() if state == MARKED}
@@ -264,7 +263,7 @@ class Engine:
     # -- what follows
 
     def has_block(self, peer, block):
-        return peer.has[self.torrent.range_of(*block)[0]]
+        return peer.has[self.torrent.piece_of[block]]
 
     def askers(self, block):
         return [peer for peer in self.peers.values() if block in peer.asked]
@@ -645,8 +644,10 @@ class Script:
             self.say(key, message(5, self.field()))
         if self.chance.randrange(4):
             self.say(key, message(1))
-        if self.chance.randrange(3) == 0:
+        if self.chance.randrange(2):
             self.say(key, message(2))
+            if self.chance.randrange(2):
+                self.event("rechoke")
 
     def field(self):
         size = -(-self.torrent.pieces // 8)
@@ -679,14 +680,19 @@ class Script:
         return Key(root, self.chance.choice((0, 0, 0, 1, 2, 27)), length * self.chance.choice((0, 0, 1, 2)), length, self.chance.choice((0, 1, 2, 3, 5)))
 
     def some_ask(self):
-        block = self.chance.choice(self.torrent.all_blocks())
+        marked = sorted(self.engine.marked())
+        block = self.chance.choice(marked if marked and self.chance.randrange(6) else self.torrent.all_blocks())
         piece, begin, length = self.torrent.range_of(*block)
-        return self.chance.choice(((piece, begin, length), (piece, begin, 1), (piece, begin + length - 1, 2), (piece, begin, length + 1), (piece, max(0, begin - 7), 14)))
+        if self.chance.randrange(8):
+            return self.chance.choice(((piece, begin, length), (piece, begin, 1), (piece, max(0, begin - 7), 14)))
+        return self.chance.choice(((piece, begin + length - 1, 2), (piece, begin, length + 1), (piece, begin, 0), (self.torrent.pieces, 0, 1)))
 
     def act(self, key):
         """A peer does something."""
         peer, how = self.engine.peers[key], self.chance.randrange(40)
-        if peer.asked and how < 22:
+        if not peer.am_choking and how % 4 == 0:
+            self.say(key, message(6, b"".join(map(number, self.some_ask()))))
+        elif peer.asked and how < 22:
             wrong = self.chance.randrange(12) == 0
             self.say(key, self.block_message(self.chance.choice(peer.asked) if how < 4 else peer.asked[0], wrong))
         elif isinstance(peer.hash, Key) and how < 32:
@@ -716,7 +722,7 @@ class Script:
         if how < 85:
             return self.event("rechoke")
         if how < 88:
-            return self.event("adopt", self.chance.randrange(len(self.torrent.files) + (how == 87)))
+            return self.rest()
         if how < 93:
             return self.event("flush")
         if how < 97:
@@ -726,6 +732,13 @@ class Script:
             return self.event("report")
         key = self.chance.choice((0, 1, self.engine.next_key, 2**64 - 1))
         return self.event(*self.chance.choice((("next", key), ("hello", key), ("lost", key), ("feed", key, b"\0"))))
+
+    def rest(self):
+        """All peers go, mostly, and files are taken in."""
+        for key in list(self.engine.peers) if self.chance.randrange(5) else []:
+            self.event("lost", key)
+        for _ in range(self.chance.choice((1, 1, 2, 3))):
+            self.event("adopt", self.chance.randrange(len(self.torrent.files) + (self.chance.randrange(20) == 0)))
 
     def made(self):
         """The script, what it has to write, and its status."""
