@@ -13,7 +13,6 @@ use bt_disk::Disk;
 use bt_follow_up::{MAX_FRAMES, follow_up};
 use bt_hashreq::HashKey;
 use bt_machine::{AdoptError, FlushError, Note, RestartError, Why, steps_keep_laws};
-
 use bt_resume::{Hint, ResumeLog};
 use bt_state::{Parts, Peer, PieceSet};
 use bt_store::Adopted;
