@@ -14,5 +14,5 @@ returns-in-Ok-clause-begun c = record {
   set = subst (λ devices. SetsFront devices (lines_in c.args.lines) c.in_ok-rest.count (lines_in c.in_ok-rest.rest) c.set_devices.new.devices.items)
       (c.in_ok-devices.ensures ∙ ap (map first_device) c.files.ensures.said) c.in_ok-rest.ensures;
   starts = subst (λ given. AnswersStart device_history device_honest device_faults sha256 c.args.torrent given (Some c.in_ok-log.log) (Ok c.in-Ok.engine))
-      c.in_ok-disks.ensures c.in-Ok.ensures;
+      c.in_ok-disks.ensures c.in-Ok.ensures.answer;
 }
