@@ -1,8 +1,9 @@
 //! The devices of rows: in memory, or so long that nothing of them is kept.
-ghost use Rattle.std.specs.Prelude.{◌≡◌, ◌≤◌, [], length, IfOk};
+ghost use Rattle.std.specs.Prelude.{◌≡◌, ◌<◌, ◌≤◌, ◌-◌, ◌^◌, [], length, IfOk};
+ghost use Rattle.std.specs.Bool.{OnTrue};
 ghost use Rattle.bt_disk.specs.Limits.{one_more};
 
-use bt_disk::{DeviceFault, Disk, MemoryDisk};
+use bt_disk::{DeviceFault, Disk, FaultDisk, MemoryDisk};
 use std::alloc::Global;
 
 /// How many calls of a kind were made of a device, failed ones too.
@@ -16,19 +17,15 @@ pub struct Calls {
 /// What a device keeps.
 #[derive(Drop)]
 enum Medium {
-    Memory(MemoryDisk),
+    Memory(FaultDisk<MemoryDisk>),
     /// Nothing but its length: it reads as zeros.
     Zeros(u64),
 }
 
-/// A device that counts its calls from its making on, and of which one may fail, by its number; a call that
-/// fails does nothing else. Nothing is promised of it but the count of its faults.
+/// A device that counts its calls from its making on. Nothing is promised of it but the count of its faults.
 #[derive(Drop)]
 pub struct TestDisk {
     medium: Medium,
-    made: u64,
-    /// The call that fails; 0 for none.
-    failing: u64,
     calls: Calls,
     faults: u64,
 }
@@ -89,21 +86,27 @@ fn read_zeros(len: u64, at: u64, out: &mut [u8]) -> usize
 }
 
 impl TestDisk {
-    /// A device in memory, with these bytes.
+    /// A device in memory, with these bytes. The call of this number fails; none, where it is 0.
     pub fn in_memory(alloc: Global, bytes: Vec<u8>, failing: u64) -> Self {
-        TestDisk::new(Medium::Memory(MemoryDisk::new(alloc, bytes)), failing)
+        let disk = FaultDisk::new(MemoryDisk::new(alloc, bytes));
+        TestDisk::new(Medium::Memory(with_fault(disk, failing)))
+    }
+
+    /// A device in memory, with these bytes. From the call of this number on it reads the byte at a place with its low bit
+    /// changed.
+    pub fn flipping(alloc: Global, bytes: Vec<u8>, call: u64, at: u64) -> Self {
+        let disk = FaultDisk::new(MemoryDisk::new(alloc, bytes));
+        TestDisk::new(Medium::Memory(with_flip(disk, call, at)))
     }
 
     /// A device of so many zeros, that keeps nothing of what is written to it but how long it makes it.
-    pub fn of_zeros(len: u64, failing: u64) -> Self {
-        TestDisk::new(Medium::Zeros(len), failing)
+    pub fn of_zeros(len: u64) -> Self {
+        TestDisk::new(Medium::Zeros(len))
     }
 
-    fn new(medium: Medium, failing: u64) -> Self {
+    fn new(medium: Medium) -> Self {
         TestDisk {
             medium,
-            made: 0,
-            failing,
             calls: Calls {
                 reads: 0,
                 writes: 0,
@@ -116,7 +119,7 @@ impl TestDisk {
     /// The bytes that it keeps.
     pub fn bytes(&self) -> &[u8] {
         match &self.medium {
-            Medium::Memory(disk) => disk.bytes(),
+            Medium::Memory(disk) => disk.inner().bytes(),
             Medium::Zeros(_) => &[],
         }
     }
@@ -133,20 +136,36 @@ impl TestDisk {
         self.calls
     }
 
-    /// Counts a call, and says whether it fails.
-    fn fails(&mut self) -> bool
-        ensures { self.new.faults ≡ self.old.faults }
-    {
-        self.made = self.made.saturating_add(1);
-        self.made == self.failing
-    }
-
     fn fault(&mut self) -> DeviceFault
         ensures { self.new.faults ≡ one_more self.old.faults }
     {
         self.faults = self.faults.saturating_add(1);
         DeviceFault
     }
+}
+
+fn with_fault(disk: FaultDisk<MemoryDisk>, call: u64) -> FaultDisk<MemoryDisk> {
+    if is_call(call) {
+        disk.failing_once(call)
+    } else {
+        disk
+    }
+}
+
+fn with_flip(disk: FaultDisk<MemoryDisk>, call: u64, at: u64) -> FaultDisk<MemoryDisk> {
+    if is_call(call) {
+        disk.flipping(call, at)
+    } else {
+        disk
+    }
+}
+
+/// Whether a call may have this number: from 1 to 2^64 - 2.
+fn is_call(call: u64) -> bool
+    ensures some { OnTrue result (0 < call) }
+    ensures within { OnTrue result (call < 2 ^ 64 - 1) }
+{
+    0 < call && call < u64::MAX
 }
 
 impl Disk for TestDisk {
@@ -161,9 +180,6 @@ impl Disk for TestDisk {
     ghost reads_image = { λ d h. absurd h };
 
     fn len(&mut self) -> Result<u64, DeviceFault> {
-        if self.fails() {
-            return Err(self.fault());
-        }
         match self.medium.len() {
             Ok(len) => Ok(len),
             Err(_) => Err(self.fault()),
@@ -172,9 +188,6 @@ impl Disk for TestDisk {
 
     fn read_at(&mut self, at: u64, out: &mut [u8]) -> Result<usize, DeviceFault> {
         self.calls.reads = self.calls.reads.saturating_add(1);
-        if self.fails() {
-            return Err(self.fault());
-        }
         match self.medium.read_at(at, out) {
             Ok(count) => Ok(count),
             Err(_) => Err(self.fault()),
@@ -183,9 +196,6 @@ impl Disk for TestDisk {
 
     fn write_at(&mut self, at: u64, bytes: &[u8]) -> Result<(), DeviceFault> {
         self.calls.writes = self.calls.writes.saturating_add(1);
-        if self.fails() {
-            return Err(self.fault());
-        }
         match self.medium.write_at(at, bytes) {
             Ok(()) => Ok(()),
             Err(_) => Err(self.fault()),
@@ -193,9 +203,6 @@ impl Disk for TestDisk {
     }
 
     fn set_len(&mut self, len: u64) -> Result<(), DeviceFault> {
-        if self.fails() {
-            return Err(self.fault());
-        }
         match self.medium.set_len(len) {
             Ok(()) => Ok(()),
             Err(_) => Err(self.fault()),
@@ -204,9 +211,6 @@ impl Disk for TestDisk {
 
     fn sync(&mut self) -> Result<(), DeviceFault> {
         self.calls.syncs = self.calls.syncs.saturating_add(1);
-        if self.fails() {
-            return Err(self.fault());
-        }
         match self.medium.sync() {
             Ok(()) => Ok(()),
             Err(_) => Err(self.fault()),

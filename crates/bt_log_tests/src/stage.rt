@@ -2,13 +2,12 @@
 
 use crate::bytes::tell_bytes;
 use crate::device::TestDisk;
-use crate::events::{
-    adopt_row, flush_row, follow_row, hashes_row, lost_row, pending_row, piece_row, report_row,
-    restart_row,
-};
+use crate::events::{adopt_row, flush_row, peers_row, report_row, restart_row};
 use crate::fill::fill;
-use crate::logged::Logged;
+use crate::hints::{tell_log, tell_refusal};
+use crate::peers::{connect_row, hashes_row, lost_row, piece_row};
 use crate::words::{RowError, Words, tell};
+use bt_engine::Engine;
 use bt_lanes::Lanes;
 use bt_machine::{StartError, StartRefused};
 use bt_meta::{MetaError, Torrent, read_info, read_torrent};
@@ -18,7 +17,7 @@ use std::alloc::{AllocError, Global};
 use std::fmt::Write;
 use std::mem;
 
-pub type TestEngine = Logged<TestDisk, Lanes>;
+pub type TestEngine = Engine<TestDisk, Lanes>;
 
 type TestRefusal = StartRefused<TestDisk, ResumeLog<TestDisk>>;
 
@@ -122,6 +121,7 @@ impl Stage {
         match words.word() {
             "bytes" => self.log_bytes(out),
             "calls" => self.log_calls(out),
+            "hints" => tell_log(self.alloc, self.log_disk()?, self.infohash, out),
             "left" => self.left_row(words, out),
             kind => {
                 let disk = device_of(self.alloc, kind, words)?;
@@ -165,19 +165,18 @@ impl Stage {
         tell_calls(out, disk.ok_or(RowError::Unread)?)
     }
 
-    /// Opens the log, and starts over the devices, without a peer or with one; or with the log of another torrent.
+    /// Opens the log of the torrent, or of another one, and starts over the devices.
     fn start_row(&mut self, words: &mut Words, out: &mut String) -> Result<(), RowError> {
-        let (has_peer, infohash) = match words.word() {
-            "alone" => (false, self.infohash),
-            "peer" => (true, self.infohash),
-            "other" => (false, OTHER_INFOHASH),
+        let infohash = match words.word() {
+            "" => self.infohash,
+            "other" => OTHER_INFOHASH,
             _ => return Err(RowError::Unread),
         };
         let Some(disk) = self.log.take() else {
             return Err(RowError::Unread);
         };
         match ResumeLog::attach(self.alloc, disk, infohash) {
-            Ok(log) => self.start(has_peer, log, out),
+            Ok(log) => self.start(log, out),
             Err(refused) => self.put_back(refused, out),
         }
     }
@@ -190,18 +189,10 @@ impl Stage {
     ) -> Result<(), RowError> {
         let Refused { disk, cause } = refused;
         put(&mut self.log, Some(disk));
-        if cause == LogError::OutOfMemory {
-            return Err(RowError::Memory(AllocError));
-        }
-        Ok(write!(out, "refused {cause}")?)
+        tell_refusal(out, cause)
     }
 
-    fn start(
-        &mut self,
-        has_peer: bool,
-        log: ResumeLog<TestDisk>,
-        out: &mut String,
-    ) -> Result<(), RowError> {
+    fn start(&mut self, log: ResumeLog<TestDisk>, out: &mut String) -> Result<(), RowError> {
         let mut log = log;
         if self.left > 0 && !fill(self.alloc, &mut log, self.left)? {
             return tell(out, "not filled");
@@ -210,7 +201,7 @@ impl Stage {
             return Err(RowError::Unread);
         };
         let disks = mem::replace(&mut self.disks, Vec::new(self.alloc));
-        match started(self.alloc, has_peer, torrent, disks, log) {
+        match Engine::start(self.alloc, torrent, Lanes, disks, Some(log)) {
             Ok(engine) => {
                 put(&mut self.engine, Some(engine));
                 tell(out, "started")
@@ -241,15 +232,14 @@ impl Stage {
             return Err(RowError::Unread);
         };
         match name {
-            "follow" => follow_row(engine, out),
+            "connect" => connect_row(self.alloc, engine, out),
             "hashes" => hashes_row(self.alloc, engine, words, out),
             "piece" => piece_row(self.alloc, engine, words, out),
-            "lost" => lost_row(engine, out),
-            "adopt" => adopt_row(self.alloc, engine, self.infohash, words, out),
+            "lost" => lost_row(engine, words, out),
+            "peers" => peers_row(engine, out),
+            "adopt" => adopt_row(engine, words, out),
             "flush" => flush_row(engine, out),
             "restart" => restart_row(engine, out),
-            "pending" => pending_row(self.alloc, engine, self.infohash, out),
-            "count" => Ok(write!(out, "{} wait", engine.waiting())?),
             "report" => report_row(engine, words, out),
             _ => Err(RowError::Unread),
         }
@@ -268,28 +258,21 @@ fn push(disks: &mut Vec<TestDisk>, disk: TestDisk) -> Result<(), AllocError> {
     Ok(disks.push(disk)?)
 }
 
-/// A device: `memory` and `zeros`, then which call of it fails, 0 for none, and its bytes, or how many zeros.
+/// A device: `memory`, which of its calls fails, 0 for none, and its bytes; `flipping`, from which call on, which byte, and
+/// its bytes; or `zeros`, and how many.
 fn device_of(alloc: Global, kind: &str, words: &mut Words) -> Result<TestDisk, RowError> {
-    let failing = words.long()?;
+    let number = words.long()?;
     match kind {
-        "memory" => Ok(TestDisk::in_memory(alloc, words.bytes(alloc)?, failing)),
-        "zeros" => Ok(TestDisk::of_zeros(words.long()?, failing)),
+        "memory" => Ok(TestDisk::in_memory(alloc, words.bytes(alloc)?, number)),
+        "flipping" => flipping_of(alloc, number, words),
+        "zeros" => Ok(TestDisk::of_zeros(number)),
         _ => Err(RowError::Unread),
     }
 }
 
-fn started(
-    alloc: Global,
-    has_peer: bool,
-    torrent: Torrent,
-    disks: Vec<TestDisk>,
-    log: ResumeLog<TestDisk>,
-) -> Result<TestEngine, TestRefusal> {
-    if has_peer {
-        Logged::start_with_peer(alloc, torrent, Lanes, disks, log)
-    } else {
-        Logged::start(alloc, torrent, Lanes, disks, log)
-    }
+fn flipping_of(alloc: Global, call: u64, words: &mut Words) -> Result<TestDisk, RowError> {
+    let at = words.long()?;
+    Ok(TestDisk::flipping(alloc, words.bytes(alloc)?, call, at))
 }
 
 fn tell_calls(out: &mut String, disk: &TestDisk) -> Result<(), RowError> {
