@@ -1,4 +1,4 @@
-ghost use Rattle.std.specs.Prelude.{◌≡◌, option_map, slice_get};
+ghost use Rattle.std.specs.Prelude.{◌≡◌, IfOk, OnOk, option_map, slice_get};
 ghost use Rattle.std.specs.Option.{option_and_then, option_copied};
 ghost use Rattle.sha2.specs.Sha256.{sha256};
 ghost use Rattle.bt_meta.specs.Torrent.{IsLawful};
@@ -10,14 +10,18 @@ ghost use Rattle.bt_machine.specs.Shape.{IsShaped};
 ghost use Rattle.bt_machine.specs.Sound.{IsSound};
 ghost use Rattle.bt_machine.specs.Opening.{AnswersStart};
 ghost use Rattle.bt_machine.specs.View.{StepsTo};
+ghost use Rattle.bt_engine.specs.Standing.{Stands, KeepsBlocks, KeepsHints};
+ghost use Rattle.bt_engine.specs.Reopened.{IsReopened};
 
 use crate::greeting::connect;
 use crate::next::next;
+use crate::standing::events_stand;
 use bt_book::PeerKey;
 use bt_disk::Disk;
 use bt_machine::{
     AdoptError, Answer, ConnectError, EngineError, Event, FileReport, FlushError, Output,
-    RestartError, StartRefused, steps_keep_laws,
+    RestartError, StartRefused, flush_keeps_blocks, flushed_blocks_are_marked_again, logs_stand,
+    steps_keep_laws,
 };
 use bt_meta::Torrent;
 use bt_resume::ResumeLog;
@@ -69,8 +73,11 @@ impl<D: Disk + Drop, H: NodeHash> Engine<D, H> {
         log: Option<ResumeLog<D>>,
     ) -> Result<Self, StartRefused<D, ResumeLog<D>>>
         requires { H.digest ≡ sha256 }
-        ensures { AnswersStart D.history D.honest D.faults H.digest torrent disks.items log result }
+        ensures answer { AnswersStart D.history D.honest D.faults H.digest torrent disks.items log result }
+        ensures again { IfOk result (IsReopened D.history D.honest D.faults H.digest
+            torrent disks.items log) }
     {
+        flushed_blocks_are_marked_again::<D, H>(hash);
         match bt_start::start(alloc, torrent, hash, disks, log) {
             Ok(parts) => Ok(Engine { alloc, parts, hash }),
             Err(refused) => Err(refused),
@@ -82,9 +89,11 @@ impl<D: Disk + Drop, H: NodeHash> Engine<D, H> {
     pub fn connect(&mut self) -> Result<(PeerKey, Output), ConnectError>
         ensures step { StepsTo D.history D.honest D.faults H.digest
             self.old Event.Connect (Answer.Connected result) self.new }
+        ensures stands { Stands D.history D.honest D.faults self.old self.new }
         ensures devices { self.new.disks ≡ self.old.disks }
     {
         steps_keep_laws::<D, H>(self.hash);
+        events_stand::<D, H>(self.hash);
         connect(self.alloc, &mut self.parts)
     }
 
@@ -92,9 +101,11 @@ impl<D: Disk + Drop, H: NodeHash> Engine<D, H> {
     pub fn feed(&mut self, peer: PeerKey, bytes: &[u8]) -> Result<(), EngineError>
         ensures step { StepsTo D.history D.honest D.faults H.digest
             self.old (Event.Feed peer bytes.now) (Answer.Fed result) self.new }
+        ensures stands { Stands D.history D.honest D.faults self.old self.new }
         ensures devices { self.new.disks ≡ self.old.disks }
     {
         steps_keep_laws::<D, H>(self.hash);
+        events_stand::<D, H>(self.hash);
         bt_state::feed(&mut self.parts, peer, bytes)
     }
 
@@ -104,10 +115,12 @@ impl<D: Disk + Drop, H: NodeHash> Engine<D, H> {
     /// Errors: no peer has the key; out of memory, by which the event is lost and the peer with it, and
     /// nothing else changes.
     pub fn next(&mut self, peer: PeerKey) -> Result<Option<Output>, EngineError>
-        ensures { StepsTo D.history D.honest D.faults H.digest
+        ensures step { StepsTo D.history D.honest D.faults H.digest
             self.old (Event.Next peer) (Answer.Stepped result) self.new }
+        ensures stands { Stands D.history D.honest D.faults self.old self.new }
     {
         steps_keep_laws::<D, H>(self.hash);
+        events_stand::<D, H>(self.hash);
         next(self.alloc, &mut self.parts, peer)
     }
 
@@ -115,9 +128,11 @@ impl<D: Disk + Drop, H: NodeHash> Engine<D, H> {
     pub fn lost(&mut self, peer: PeerKey) -> Result<(), EngineError>
         ensures step { StepsTo D.history D.honest D.faults H.digest
             self.old (Event.Lost peer) (Answer.Lost result) self.new }
+        ensures stands { Stands D.history D.honest D.faults self.old self.new }
         ensures devices { self.new.disks ≡ self.old.disks }
     {
         steps_keep_laws::<D, H>(self.hash);
+        events_stand::<D, H>(self.hash);
         bt_state::lost(&mut self.parts, peer)
     }
 
@@ -126,9 +141,11 @@ impl<D: Disk + Drop, H: NodeHash> Engine<D, H> {
     pub fn rechoke(&mut self) -> Result<Output, AllocError>
         ensures step { StepsTo D.history D.honest D.faults H.digest
             self.old Event.Rechoke (Answer.Rechoked result) self.new }
+        ensures stands { Stands D.history D.honest D.faults self.old self.new }
         ensures devices { self.new.disks ≡ self.old.disks }
     {
         steps_keep_laws::<D, H>(self.hash);
+        events_stand::<D, H>(self.hash);
         bt_upkeep::rechoke(self.alloc, &mut self.parts)
     }
 
@@ -137,10 +154,12 @@ impl<D: Disk + Drop, H: NodeHash> Engine<D, H> {
     ///
     /// Errors: no such file; a peer is connected; out of memory, after which what was taken in stays so.
     pub fn adopt(&mut self, file: u32) -> Result<Adopted, AdoptError>
-        ensures { StepsTo D.history D.honest D.faults H.digest
+        ensures step { StepsTo D.history D.honest D.faults H.digest
             self.old (Event.Adopt file) (Answer.Adopted result) self.new }
+        ensures stands { Stands D.history D.honest D.faults self.old self.new }
     {
         steps_keep_laws::<D, H>(self.hash);
+        events_stand::<D, H>(self.hash);
         bt_adoption::adopt(self.alloc, &mut self.parts, file)
     }
 
@@ -149,10 +168,16 @@ impl<D: Disk + Drop, H: NodeHash> Engine<D, H> {
     ///
     /// Errors: a device of a file failed, or the log's; the log would have more than 2^40 bytes.
     pub fn flush(&mut self) -> Result<(), FlushError>
-        ensures { StepsTo D.history D.honest D.faults H.digest
+        ensures step { StepsTo D.history D.honest D.faults H.digest
             self.old Event.Flush (Answer.Flushed result) self.new }
+        ensures stands { Stands D.history D.honest D.faults self.old self.new }
+        ensures blocks { OnOk result (KeepsBlocks D.history D.honest D.faults self.new) }
+        ensures hints { OnOk result (KeepsHints D.history D.honest D.faults H.digest self.old self.new) }
     {
         steps_keep_laws::<D, H>(self.hash);
+        events_stand::<D, H>(self.hash);
+        flush_keeps_blocks::<D, H>();
+        logs_stand::<D, H>();
         bt_upkeep::flush(&mut self.parts)
     }
 

@@ -62,7 +62,7 @@ pub(crate) fn begin<'a, D: Disk + Drop>(
     ensures fault { IfErr result IsCallFault }
 {
     let OpenFiles { disks, filled } = files;
-    match Engine::start(alloc, torrent, hash, disks) {
+    match Engine::start(alloc, torrent, hash, disks, None) {
         Ok(mut engine) => {
             adopt_files(&mut engine, &filled)?;
             Ok(engine)

@@ -16,7 +16,7 @@ use Rattle.bt_state.specs.declared.parts.Parts.{Parts}
 use Rattle.bt_state.proofs.DeviceCalls.{have_none}
 use Rattle.bt_recovery.specs.Taking.{TakeHints}
 use Rattle.bt_recall.specs.Recovering.{RecoversFiles}
-use Rattle.bt_restart.specs.Restart.{RestartsWith}
+use Rattle.bt_restart.specs.Restarting.{RestartsWith}
 use Rattle.bt_restart.specs.WithLogSteps.{IsReadAgain, HasBegun}
 
 -- the engine's state with another log

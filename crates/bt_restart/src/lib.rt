@@ -2,7 +2,7 @@
 #![tactic(auto)]
 
 mod anew;
-mod restart;
+mod restarting;
 mod with_log;
 
-pub use restart::restart;
+pub use restarting::restart;

@@ -6,7 +6,7 @@ ghost use Rattle.bt_state.specs.Parts.{state_of, disks_of, log_of, pending_of};
 ghost use Rattle.bt_state.specs.Ties.{IsTied};
 ghost use Rattle.bt_start.specs.Books.{AreNewBooks};
 ghost use Rattle.bt_recall.specs.Recovering.{AreMissing};
-ghost use Rattle.bt_restart.specs.Restart.{RestartsWith};
+ghost use Rattle.bt_restart.specs.Restarting.{RestartsWith};
 ghost use Rattle.bt_restart.specs.WithLogSteps.{IsReadAgain, AreTreesFrom, HasBegun};
 
 use crate::anew::clear_slots;

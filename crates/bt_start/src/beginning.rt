@@ -10,7 +10,7 @@ ghost use Rattle.bt_machine.specs.Opening.{AnswersStart};
 ghost use Rattle.bt_machine.specs.Start.{device_count as count_of_devices};
 ghost use Rattle.bt_state.specs.Parts.{state_of, disks_of};
 ghost use Rattle.bt_state.specs.Ties.{IsTied};
-ghost use Rattle.bt_start.specs.Start.{answer_of};
+ghost use Rattle.bt_start.specs.Starting.{answer_of};
 ghost use Rattle.bt_start.specs.BeginningSteps.{AreBareParts, HaveBegun};
 
 use crate::books::new_books;

@@ -10,10 +10,10 @@ mod new_book;
 mod new_tree;
 mod piece_sizes;
 mod roots;
-mod start;
+mod starting;
 mod trees;
 mod with_log;
 
 pub use books::{Books, new_books};
-pub use start::start;
+pub use starting::start;
 pub use trees::new_trees;

@@ -4,7 +4,7 @@ ghost use Rattle.sha2.specs.Sha256.{sha256};
 ghost use Rattle.bt_machine.specs.Shape.{IsShaped};
 ghost use Rattle.bt_state.specs.Parts.{state_of};
 ghost use Rattle.bt_state.specs.Ties.{IsTied};
-ghost use Rattle.bt_restart.specs.Restart.{RestartsWith};
+ghost use Rattle.bt_restart.specs.Restarting.{RestartsWith};
 
 use crate::anew::restart_bare;
 use crate::with_log::restart_with_log;

@@ -1,5 +1,5 @@
 use Rattle.bt_restart.proofs.LogSteps.{no_log, steps_bare}
-use Rattle.bt_restart.proofs.restart.restart.Goals as goal
+use Rattle.bt_restart.proofs.restarting.restart.Goals as goal
 
 pub returns-clause-step : goal.returns-clause-step
 returns-clause-step g c =
