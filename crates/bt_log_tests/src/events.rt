@@ -56,20 +56,15 @@ pub fn report_row(
     words: &mut Words,
     out: &mut String,
 ) -> Result<(), RowError> {
-    let file = words.number()?;
-    match engine.report(file) {
-        Some(report) => tell_report(out, &report),
-        None => Err(RowError::Unread),
-    }
-}
-
-fn tell_report(out: &mut String, report: &FileReport) -> Result<(), RowError> {
+    let Some(report) = engine.report(words.number()?) else {
+        return Err(RowError::Unread);
+    };
     let FileReport {
         blocks,
         marked,
         waiting,
         complete: _,
-    } = *report;
+    } = report;
     Ok(write!(out, "{marked} of {blocks}, {waiting} waiting")?)
 }
 

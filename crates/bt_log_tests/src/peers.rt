@@ -18,13 +18,22 @@ pub fn connect_row(
 ) -> Result<(), RowError> {
     let greeting = greeting_of(alloc, engine.torrent())?;
     match engine.connect() {
-        Ok((peer, _)) if is_welcome(engine, peer, &greeting) => Ok(write!(out, "peer {}", peer.0)?),
-        Ok(_) => tell(out, "not welcome"),
+        Ok((peer, _)) => greet(engine, peer, &greeting, out),
         Err(cause) => Ok(write!(out, "refused {cause}")?),
     }
 }
 
 fn greeting_of(alloc: Global, torrent: &Torrent) -> Result<Vec<u8>, RowError> {
+    let bits = vec![in alloc; 255; torrent.pieces().div_ceil(8) as usize]?;
+    let bitfield = message_bytes(alloc, &Message::Bitfield(Bytes::new(bits)))?;
+    let unchoke = message_bytes(alloc, &Message::Unchoke)?;
+    let mut bytes = Vec::from_slice(alloc, &write_handshake(&hello_of(torrent)))?;
+    bytes.extend_from_slice(&bitfield)?;
+    bytes.extend_from_slice(&unchoke)?;
+    Ok(bytes)
+}
+
+fn hello_of(torrent: &Torrent) -> Handshake {
     let mut handshake = Handshake {
         infohash: [0; 20],
         peer_id: [b'p'; 20],
@@ -32,32 +41,26 @@ fn greeting_of(alloc: Global, torrent: &Torrent) -> Result<Vec<u8>, RowError> {
     handshake
         .infohash
         .copy_from_slice(&torrent.infohash()[..20]);
-    let mut bytes = Vec::from_slice(alloc, &write_handshake(&handshake))?;
-    let bits = vec![in alloc; 255; torrent.pieces().div_ceil(8) as usize]?;
-    let bitfield = message_bytes(alloc, &Message::Bitfield(Bytes::new(bits)))?;
-    bytes.extend_from_slice(&bitfield)?;
-    bytes.extend_from_slice(&message_bytes(alloc, &Message::Unchoke)?)?;
-    Ok(bytes)
+    handshake
 }
 
-/// Whether the peer stays, once its hello, its bitfield and its unchoke are taken.
-fn is_welcome(engine: &mut TestEngine, peer: PeerKey, greeting: &[u8]) -> bool {
+/// Takes a peer's hello, its bitfield and its unchoke.
+fn greet(
+    engine: &mut TestEngine,
+    peer: PeerKey,
+    greeting: &[u8],
+    out: &mut String,
+) -> Result<(), RowError> {
     if engine.feed(peer, greeting).is_err() {
-        return false;
+        return tell(out, "not fed");
     }
     for _ in 0..3 {
-        if !is_taken(engine, peer) {
-            return false;
+        match engine.next(peer) {
+            Ok(Some(output)) if output.close.is_none() => {}
+            _ => return tell(out, "not welcome"),
         }
     }
-    true
-}
-
-fn is_taken(engine: &mut TestEngine, peer: PeerKey) -> bool {
-    match engine.next(peer) {
-        Ok(Some(output)) => output.close.is_none(),
-        _ => false,
-    }
+    Ok(write!(out, "peer {}", peer.0)?)
 }
 
 /// Hashes come from a peer: its key, that of the hashes, and the digests' bytes.

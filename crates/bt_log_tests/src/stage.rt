@@ -120,7 +120,7 @@ impl Stage {
     fn log_row(&mut self, words: &mut Words, out: &mut String) -> Result<(), RowError> {
         match words.word() {
             "bytes" => self.log_bytes(out),
-            "calls" => self.log_calls(out),
+            "calls" => tell_calls(out, self.log_disk()?),
             "hints" => tell_log(self.alloc, self.log_disk()?, self.infohash, out),
             "left" => self.left_row(words, out),
             kind => {
@@ -141,10 +141,6 @@ impl Stage {
             Some(len) => Ok(write!(out, "{len} bytes that are not kept")?),
             None => tell_bytes(self.alloc, out, self.log_disk()?.bytes()),
         }
-    }
-
-    fn log_calls(&self, out: &mut String) -> Result<(), RowError> {
-        tell_calls(out, self.log_disk()?)
     }
 
     /// The device of the log, also where it was refused.
@@ -201,7 +197,7 @@ impl Stage {
             return Err(RowError::Unread);
         };
         let disks = mem::replace(&mut self.disks, Vec::new(self.alloc));
-        match Engine::start(self.alloc, torrent, Lanes, disks, Some(log)) {
+        match started(self.alloc, torrent, disks, log) {
             Ok(engine) => {
                 put(&mut self.engine, Some(engine));
                 tell(out, "started")
@@ -273,6 +269,15 @@ fn device_of(alloc: Global, kind: &str, words: &mut Words) -> Result<TestDisk, R
 fn flipping_of(alloc: Global, call: u64, words: &mut Words) -> Result<TestDisk, RowError> {
     let at = words.long()?;
     Ok(TestDisk::flipping(alloc, words.bytes(alloc)?, call, at))
+}
+
+fn started(
+    alloc: Global,
+    torrent: Torrent,
+    disks: Vec<TestDisk>,
+    log: ResumeLog<TestDisk>,
+) -> Result<TestEngine, TestRefusal> {
+    Engine::start(alloc, torrent, Lanes, disks, Some(log))
 }
 
 fn tell_calls(out: &mut String, disk: &TestDisk) -> Result<(), RowError> {
