@@ -1,10 +1,9 @@
 //! The devices of rows: in memory, or so long that nothing of them is kept.
-ghost use Rattle.std.specs.Prelude.{◌≡◌, ◌<◌, ◌≤◌, ◌-◌, ◌^◌, [], length, IfOk};
-ghost use Rattle.std.specs.Bool.{OnTrue};
+ghost use Rattle.std.specs.Prelude.{◌≡◌, ◌≤◌, [], length, IfOk};
 ghost use Rattle.bt_disk.specs.Limits.{one_more};
 
-use bt_disk::{DeviceFault, Disk, FaultDisk, MemoryDisk};
-use std::alloc::Global;
+use bt_disk::{DeviceFault, Disk, FaultDisk, Loss, MemoryDisk};
+use std::alloc::{AllocError, Global};
 
 /// How many calls of a kind were made of a device, failed ones too.
 #[derive(Clone, Copy)]
@@ -12,6 +11,17 @@ pub struct Calls {
     pub reads: u64,
     pub writes: u64,
     pub syncs: u64,
+}
+
+/// What a device does wrong, from a call on or by it.
+#[derive(Clone, Copy)]
+pub enum Defect {
+    /// The call fails.
+    Once,
+    /// It and all behind it fail.
+    Stop,
+    /// From it on the byte at a place is read with its low bit changed.
+    Flip(u64),
 }
 
 /// What a device keeps.
@@ -86,17 +96,10 @@ fn read_zeros(len: u64, at: u64, out: &mut [u8]) -> usize
 }
 
 impl TestDisk {
-    /// A device in memory, with these bytes. The call of this number fails; none, where it is 0.
-    pub fn in_memory(alloc: Global, bytes: Vec<u8>, failing: u64) -> Self {
+    /// A device in memory, with these bytes, and a defect at the call of this number; with none, where it is 0.
+    pub fn in_memory(alloc: Global, bytes: Vec<u8>, defect: Defect, call: u64) -> Self {
         let disk = FaultDisk::new(MemoryDisk::new(alloc, bytes));
-        TestDisk::new(Medium::Memory(with_fault(disk, failing)))
-    }
-
-    /// A device in memory, with these bytes. From the call of this number on it reads the byte at a place with its low bit
-    /// changed.
-    pub fn flipping(alloc: Global, bytes: Vec<u8>, call: u64, at: u64) -> Self {
-        let disk = FaultDisk::new(MemoryDisk::new(alloc, bytes));
-        TestDisk::new(Medium::Memory(with_flip(disk, call, at)))
+        TestDisk::new(Medium::Memory(with_defect(disk, defect, call)))
     }
 
     /// A device of so many zeros, that keeps nothing of what is written to it but how long it makes it.
@@ -136,6 +139,17 @@ impl TestDisk {
         self.calls
     }
 
+    /// What a crash now leaves, as a device without a defect.
+    pub fn image(&self, alloc: Global, loss: Loss) -> Result<TestDisk, AllocError> {
+        match &self.medium {
+            Medium::Memory(disk) => {
+                let bytes = disk.inner().image(loss)?;
+                Ok(TestDisk::in_memory(alloc, bytes, Defect::Once, 0))
+            }
+            Medium::Zeros(len) => Ok(TestDisk::of_zeros(*len)),
+        }
+    }
+
     fn fault(&mut self) -> DeviceFault
         ensures { self.new.faults ≡ one_more self.old.faults }
     {
@@ -144,28 +158,15 @@ impl TestDisk {
     }
 }
 
-fn with_fault(disk: FaultDisk<MemoryDisk>, call: u64) -> FaultDisk<MemoryDisk> {
-    if is_call(call) {
-        disk.failing_once(call)
-    } else {
-        disk
+fn with_defect(disk: FaultDisk<MemoryDisk>, defect: Defect, call: u64) -> FaultDisk<MemoryDisk> {
+    if call == 0 || call == u64::MAX {
+        return disk;
     }
-}
-
-fn with_flip(disk: FaultDisk<MemoryDisk>, call: u64, at: u64) -> FaultDisk<MemoryDisk> {
-    if is_call(call) {
-        disk.flipping(call, at)
-    } else {
-        disk
+    match defect {
+        Defect::Once => disk.failing_once(call),
+        Defect::Stop => disk.failing_from(call),
+        Defect::Flip(at) => disk.flipping(call, at),
     }
-}
-
-/// Whether a call may have this number: from 1 to 2^64 - 2.
-fn is_call(call: u64) -> bool
-    ensures some { OnTrue result (0 < call) }
-    ensures within { OnTrue result (call < 2 ^ 64 - 1) }
-{
-    0 < call && call < u64::MAX
 }
 
 impl Disk for TestDisk {

@@ -10,6 +10,7 @@ mod hints;
 mod notes;
 mod peers;
 mod stage;
+mod stops;
 mod words;
 
 use stage::Stage;

@@ -1,11 +1,12 @@
 //! What the rows so far have made, and the first word of a row.
 
 use crate::bytes::tell_bytes;
-use crate::device::TestDisk;
+use crate::device::{Defect, TestDisk};
 use crate::events::{adopt_row, flush_row, peers_row, report_row, restart_row};
 use crate::fill::fill;
 use crate::hints::{tell_log, tell_refusal};
 use crate::peers::{connect_row, hashes_row, lost_row, piece_row};
+use crate::stops::stop_row;
 use crate::words::{RowError, Words, tell};
 use bt_engine::Engine;
 use bt_lanes::Lanes;
@@ -19,15 +20,33 @@ use std::mem;
 
 pub type TestEngine = Engine<TestDisk, Lanes>;
 
-type TestRefusal = StartRefused<TestDisk, ResumeLog<TestDisk>>;
+pub type TestRefusal = StartRefused<TestDisk, ResumeLog<TestDisk>>;
 
 /// No torrent of rows has it.
 const OTHER_INFOHASH: Hash32 = [0; 32];
+
+/// The text of a torrent, or of its info dictionary alone.
+#[derive(Drop)]
+pub struct Source {
+    is_whole: bool,
+    text: Vec<u8>,
+}
+
+impl Source {
+    pub fn read(&self, alloc: Global) -> Result<Torrent, MetaError> {
+        if self.is_whole {
+            read_torrent(alloc, &self.text)
+        } else {
+            read_info(alloc, &self.text)
+        }
+    }
+}
 
 /// A torrent, the devices that are to be its files, the device of a log, and what was started over them.
 #[derive(Drop)]
 pub struct Stage {
     alloc: Global,
+    source: Source,
     torrent: Option<Torrent>,
     infohash: Hash32,
     disks: Vec<TestDisk>,
@@ -47,6 +66,10 @@ impl Stage {
     pub fn new(alloc: Global) -> Self {
         Stage {
             alloc,
+            source: Source {
+                is_whole: true,
+                text: Vec::new(alloc),
+            },
             torrent: None,
             infohash: [0; 32],
             disks: Vec::new(alloc),
@@ -90,17 +113,24 @@ impl Stage {
         out: &mut String,
     ) -> Result<(), RowError> {
         let text = words.bytes(self.alloc)?;
-        match read(self.alloc, is_whole, &text) {
-            Ok(torrent) => self.put_torrent(torrent, out),
+        let source = Source { is_whole, text };
+        match source.read(self.alloc) {
+            Ok(torrent) => self.put_torrent(source, torrent, out),
             Err(MetaError::OutOfMemory) => Err(RowError::Memory(AllocError)),
             Err(error) => Ok(write!(out, "refused {error}")?),
         }
     }
 
-    fn put_torrent(&mut self, torrent: Torrent, out: &mut String) -> Result<(), RowError> {
+    fn put_torrent(
+        &mut self,
+        source: Source,
+        torrent: Torrent,
+        out: &mut String,
+    ) -> Result<(), RowError> {
         let count = torrent.files().len();
         self.infohash = torrent.infohash();
         self.left = 0;
+        put(&mut self.source, source);
         put(&mut self.torrent, Some(torrent));
         put(&mut self.disks, Vec::new(self.alloc));
         put(&mut self.log, None);
@@ -112,7 +142,7 @@ impl Stage {
     fn device_row(&mut self, words: &mut Words, out: &mut String) -> Result<(), RowError> {
         let kind = words.word();
         let disk = device_of(self.alloc, kind, words)?;
-        push(&mut self.disks, disk)?;
+        self.disks.push(disk)?;
         tell(out, "a device")
     }
 
@@ -122,18 +152,16 @@ impl Stage {
             "bytes" => self.log_bytes(out),
             "calls" => tell_calls(out, self.log_disk()?),
             "hints" => tell_log(self.alloc, self.log_disk()?, self.infohash, out),
-            "left" => self.left_row(words, out),
+            "left" => {
+                self.left = words.long()?;
+                tell(out, "to be filled")
+            }
             kind => {
                 let disk = device_of(self.alloc, kind, words)?;
                 put(&mut self.log, Some(disk));
                 tell(out, "a device")
             }
         }
-    }
-
-    fn left_row(&mut self, words: &mut Words, out: &mut String) -> Result<(), RowError> {
-        self.left = words.long()?;
-        tell(out, "to be filled")
     }
 
     fn log_bytes(&self, out: &mut String) -> Result<(), RowError> {
@@ -237,41 +265,27 @@ impl Stage {
             "flush" => flush_row(engine, out),
             "restart" => restart_row(engine, out),
             "report" => report_row(engine, words, out),
+            "stop" => stop_row(self.alloc, &self.source, engine, out),
             _ => Err(RowError::Unread),
         }
     }
 }
 
-fn read(alloc: Global, is_whole: bool, text: &[u8]) -> Result<Torrent, MetaError> {
-    if is_whole {
-        read_torrent(alloc, text)
-    } else {
-        read_info(alloc, text)
-    }
-}
-
-fn push(disks: &mut Vec<TestDisk>, disk: TestDisk) -> Result<(), AllocError> {
-    Ok(disks.push(disk)?)
-}
-
-/// A device: `memory`, which of its calls fails, 0 for none, and its bytes; `flipping`, from which call on, which byte, and
-/// its bytes; or `zeros`, and how many.
+/// A device: `zeros`, and how many; or its defect, the call of it, and its bytes.
 fn device_of(alloc: Global, kind: &str, words: &mut Words) -> Result<TestDisk, RowError> {
     let number = words.long()?;
-    match kind {
-        "memory" => Ok(TestDisk::in_memory(alloc, words.bytes(alloc)?, number)),
-        "flipping" => flipping_of(alloc, number, words),
-        "zeros" => Ok(TestDisk::of_zeros(number)),
-        _ => Err(RowError::Unread),
-    }
+    let defect = match kind {
+        "zeros" => return Ok(TestDisk::of_zeros(number)),
+        "memory" => Defect::Once,
+        "stopping" => Defect::Stop,
+        "flipping" => Defect::Flip(words.long()?),
+        _ => return Err(RowError::Unread),
+    };
+    let bytes = words.bytes(alloc)?;
+    Ok(TestDisk::in_memory(alloc, bytes, defect, number))
 }
 
-fn flipping_of(alloc: Global, call: u64, words: &mut Words) -> Result<TestDisk, RowError> {
-    let at = words.long()?;
-    Ok(TestDisk::flipping(alloc, words.bytes(alloc)?, call, at))
-}
-
-fn started(
+pub fn started(
     alloc: Global,
     torrent: Torrent,
     disks: Vec<TestDisk>,
