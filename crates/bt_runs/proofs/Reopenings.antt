@@ -55,14 +55,14 @@ module _ {D : Type 0} (history : D → History) (honest : D → Type 0) (faults 
 
   -- ---- what a start with an opened log comes to
 
-  pub ok_reopened : {torrent : Metainfo} {given : List D} {log : D} {opened : LogView D} → IsAttached history honest faults torrent.infohash log opened
+  pub ok_reopened : (torrent : Metainfo) (given : List D) (log : D) (opened : LogView D) → IsAttached history honest faults torrent.infohash log opened
       → (result : Result (EngineView D) (ReopenRefused D)) → IfOk result (IsReopened history honest faults dig torrent given (Some opened))
       → IfOk result (HasReopened history honest faults dig torrent given log)
-  ok_reopened {opened = opened} attached (Ok engine) begun = record { opened = opened; attached = attached; begun = begun }
-  ok_reopened attached (Err refused) begun = tt
+  ok_reopened torrent given log opened attached (Ok engine) begun = record { opened = opened; attached = attached; begun = begun }
+  ok_reopened torrent given log opened attached (Err refused) begun = tt
 
-  pub err_unstarted : {torrent : Metainfo} {given : List D} {log : D} {opened : LogView D} → IsAttached history honest faults torrent.infohash log opened
+  pub err_unstarted : (torrent : Metainfo) (given : List D) (log : D) (opened : LogView D) → IsAttached history honest faults torrent.infohash log opened
       → (result : Result (EngineView D) (ReopenRefused D)) → IfErr result (IsNotStarted torrent given opened)
       → IfErr result (IsNotReopened history honest faults dig torrent given log)
-  err_unstarted attached (Ok engine) is = tt
-  err_unstarted {opened = opened} attached (Err refused) is = unstarted opened attached is
+  err_unstarted torrent given log opened attached (Ok engine) is = tt
+  err_unstarted torrent given log opened attached (Err refused) is = unstarted opened attached is

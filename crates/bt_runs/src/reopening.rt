@@ -5,7 +5,7 @@ ghost use Rattle.bt_engine.specs.Reopened.{IsReopened};
 ghost use Rattle.bt_runs.specs.Reopening.{HasReopened, IsNotReopened, IsNotStarted};
 
 use bt_disk::Disk;
-use bt_engine::{Engine, ResumeLog, StartError};
+use bt_engine::{Engine, ResumeLog, StartError, StartRefused};
 use bt_machine::logs_back_engines;
 use bt_meta::Torrent;
 use bt_resume::LogError;
@@ -79,13 +79,16 @@ fn start_with<D: Disk + Drop, H: NodeHash>(
 {
     match Engine::start(alloc, torrent, hash, disks, Some(opened)) {
         Ok(engine) => Ok(engine),
-        Err(refused) => match refused.log {
-            Some(log) => Err(ReopenRefused {
-                disks: refused.disks,
-                log: log.into_disk(),
-                cause: ReopenError::Start(refused.cause),
-            }),
-            None => unreachable!(),
-        },
+        Err(refused) => {
+            let StartRefused { disks, log, cause } = refused;
+            match log {
+                Some(log) => Err(ReopenRefused {
+                    disks,
+                    log: log.into_disk(),
+                    cause: ReopenError::Start(cause),
+                }),
+                None => unreachable!(),
+            }
+        }
     }
 }
