@@ -1,6 +1,6 @@
 -- How a start is refused where the log is the torrent's, and for what no log is refused.
 use Rattle.std.specs.Prelude.{◌↔◌, IfOk, IfErr}
-use Rattle.std.proofs.Common.{◌≡◌, ◌≢◌, ℕ, List, Option, Some, Result, Ok, Err, length, sym, ap, ◌∙◌, subst}
+use Rattle.std.proofs.Common.{◌≡◌, ◌≢◌, ℕ, List, Option, Some, None, Result, Ok, Err, length, sym, ap, ◌∙◌, subst}
 use Rattle.bt_disk.specs.History.{History}
 use Rattle.bt_meta.specs.Torrent.{Metainfo}
 use Rattle.bt_resume.specs.ResumeLog.{LogView, Opens, IsAttached}
@@ -13,6 +13,7 @@ use Rattle.bt_machine.specs.Reopening.{FlushedLogsAreKept}
 use Rattle.bt_machine.specs.Start.{device_count}
 use Rattle.bt_machine.specs.State.{EngineView}
 use Rattle.bt_engine.specs.Reopened.{IsReopened}
+use Rattle.bt_machine.proofs.Lists.{some_is}
 use Rattle.bt_runs.specs.Reopening.{HasReopened, IsNotReopened, IsNotStarted, RefusesNoneFlushed, unstarted}
 use Rattle.bt_runs.specs.declared.reopening.ReopenRefused.{ReopenRefused}
 
@@ -66,3 +67,15 @@ module _ {D : Type 0} (history : D → History) (honest : D → Type 0) (faults 
       → IfErr result (IsNotReopened history honest faults dig torrent given log)
   err_unstarted torrent given log opened attached (Ok engine) is = tt
   err_unstarted torrent given log opened attached (Err refused) is = unstarted opened attached is
+
+  -- the log comes back with a refused start
+  pub none_back : {torrent : Metainfo} {given : List D} {log : LogView D} {answer : _} {refused : StartRefused D (LogView D)} → log.infohash ≡ torrent.infohash
+      → AnswersStart history honest faults dig torrent given (Some log) answer → answer ≡ Err refused → refused.log ≡ None → ⊥
+  none_back own answers err none = let r = start_refused own answers err in let same = r.same_log in absurd (some_none (sym same ∙ none))
+    where
+      some_none : {l : LogView D} → Some l ≡ None → ⊥
+      some_none e = absurd cc
+
+-- its device is that of the log
+pub same_disk : {D : Type 0} {log held : LogView D} {given : Option (LogView D)} {disk : D} → given ≡ Some log → given ≡ Some held → disk ≡ held.disk → disk ≡ log.disk
+same_disk {D} {log} {held} is had same = same ∙ ap (λ (l : LogView D). l.disk) (some_is (sym had ∙ is))
