@@ -7,7 +7,7 @@ returns-then-is_flush_due-clause-pause g c =
     flushed g.D.Disk.history g.D.Disk.honest g.D.Disk.faults g.H.NodeHash.digest _ _ c.args.partner.flush_every c.args.taken _ _ _
     (sym c.is_flush_due.ensures ∙ c.if-is_flush_due.true) c.flush.ensures.step
 
-pub returns-clause-pause : goal.returns-clause-pause
-returns-clause-pause g c =
+pub returns-else-is_flush_due-clause-pause : goal.returns-else-is_flush_due-clause-pause
+returns-else-is_flush_due-clause-pause g c =
     not_flushed g.D.Disk.history g.D.Disk.honest g.D.Disk.faults g.H.NodeHash.digest _ _ c.args.partner.flush_every c.args.taken _
     (sym c.is_flush_due.ensures ∙ c.if-is_flush_due.false)
