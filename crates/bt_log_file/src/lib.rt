@@ -1,0 +1,12 @@
+//! The file that the log of a torrent lies in: it is opened as a device of the torrent's engine, and is none of the
+//! torrent's files.
+#![tactic(auto)]
+
+mod attaching;
+mod device;
+mod folder;
+mod names;
+mod opening;
+
+pub use device::{LogContext, LogDisk};
+pub use opening::open_log;
