@@ -1,6 +1,5 @@
 -- Names that are one but for case, by their capitals (Unicode, default case conversion).
 use Rattle.std.specs.Prelude.{◌≡◌, ◌≢◌, ℕ, ◌-◌, ◌&&◌, false, List, length, Some, slice_get}
-use Rattle.std.specs.List.{Contains}
 use Rattle.std.specs.Path.{path_file_name}
 use Rattle.std.specs.StrCase.Upper.{str_to_uppercase}
 use Rattle.bt_folder.specs.FolderNames.{has_name}
@@ -21,6 +20,7 @@ pub record IsNameOf (file : List (List ℕ)) (path : List ℕ) : Type 0 where
 
 -- so it is with the name of one of these files
 pub record HasNameOfFile (files : List File) (path : List ℕ) : Type 0 where
+  pub number : ℕ
   pub file : File
-  pub among : Contains files file
+  pub here : slice_get files number ≡ Some file
   pub is_name : IsNameOf file.path path

@@ -1,5 +1,6 @@
 //! The log of a torrent, opened in its file.
 ghost use Rattle.std.specs.Prelude.{◌≡◌, IfErr, IfOk, IfSome, OnOk, MatchBool, IsSomeAnd, map};
+ghost use Rattle.std.specs.Bool.{OnFalse};
 ghost use Rattle.bt_folder.specs.KnownFiles.{IsKnown};
 ghost use Rattle.bt_meta.specs.Files.{file_of};
 ghost use Rattle.bt_resume.specs.ResumeLog.{IsAttached};
@@ -90,7 +91,10 @@ fn refuse_other_name<R: Files + AllocGlobal + Clone + Drop, P: Watch>(
 ) -> Result<(), Fault>
     ensures fault { IfErr result (IsNameFault (map file_of files.now) path.now) }
 {
-    if opening.was_made || has_own_name(rt, watch, dir, files, path)? {
+    if opening.was_made {
+        return Ok(());
+    }
+    if has_own_name(rt, watch, dir, files, path)? {
         return Ok(());
     }
     Err(Fault::LogAmongFiles)
@@ -105,7 +109,7 @@ fn has_own_name<R: Files + AllocGlobal + Clone + Drop, P: Watch>(
     files: &[FileEntry],
     path: &str,
 ) -> Result<bool, Fault>
-    ensures is_own { IfOk result (λ is_own. MatchBool is_own ⊤ (HasNameOfFile (map file_of files.now) path.now)) }
+    ensures is_own { IfOk result (λ is_own. OnFalse is_own (HasNameOfFile (map file_of files.now) path.now)) }
     ensures fault { IfErr result IsCallFault }
 {
     let is_own = match is_own_name(rt, dir, files, path) {
