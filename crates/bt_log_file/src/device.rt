@@ -1,5 +1,5 @@
 //! The device of a log's file.
-ghost use Rattle.std.specs.Prelude.{◌≡◌, IfErr, IfOk, string_bytes};
+ghost use Rattle.std.specs.Prelude.{◌≡◌, IfErr, IfOk};
 ghost use Rattle.bt_ahead.specs.Disk.{new_ahead};
 ghost use Rattle.bt_folder.specs.SealedDisk.{new_sealed};
 ghost use Rattle.bt_log_file.specs.Device.{new_log_device, new_log_file};
@@ -10,7 +10,6 @@ use bt_check::{Fault, fault_name, told};
 use bt_disk::{HandlePool, Opening, PooledDisk};
 use bt_folder::{Seal, SealedDisk};
 use bt_progress::{FileCall, Watch, Watched};
-use std::alloc::AllocError;
 use std::cell::RefCell;
 use std::rt::Files;
 
