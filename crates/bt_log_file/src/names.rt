@@ -1,10 +1,10 @@
 //! Names of a torrent's files that are one with the name of a log's file but for case.
-ghost use Rattle.std.specs.Prelude.{◌≡◌, ◌-◌, ◌↔◌, ◌&&◌, false, length, map, option_copied, slice_get, IfOk, IsTrue};
+ghost use Rattle.std.specs.Prelude.{◌≡◌, ◌-◌, ◌↔◌, ◌&&◌, false, length, map, option_copied, slice_get, IfOk, IfSome, IsTrue};
 ghost use Rattle.std.specs.Bool.{OnFalse, OnTrue};
 ghost use Rattle.std.specs.StrCase.Upper.{str_to_uppercase};
 ghost use Rattle.bt_folder.specs.FolderNames.{has_name};
 ghost use Rattle.bt_meta.specs.Files.{file_of};
-ghost use Rattle.bt_log_file.specs.Names.{HasNameOfFile, IsNameOf};
+ghost use Rattle.bt_log_file.specs.Names.{AreAlike, HasNameOfFile, IsNameOf};
 
 use crate::folder::folder_of;
 use bt_check::data_path;
@@ -47,17 +47,37 @@ fn is_name_of<R: Files + AllocGlobal + Clone + Drop>(
 ) -> Result<bool, ListingError>
     ensures { IfOk result (λ is_name. OnTrue is_name (IsNameOf file.now path.now)) }
 {
-    let (Some(name), Some(other)) = (Path::new(path).file_name(), last_name(file)) else {
+    let Some((name, other)) = alike_names(rt.alloc(), file, path)? else {
         return Ok(false);
     };
-    if name == other || !are_alike(rt.alloc(), name, other)? {
-        return Ok(false);
-    }
     let folder = folder_of(path);
     if !is_folder_of(rt, folder, dir, file)? {
         return Ok(false);
     }
     lacks_one(rt, folder, name, other)
+}
+
+/// The last names of a path and of a torrent's file, where they differ in case alone.
+fn alike_names<'a>(
+    alloc: Global,
+    file: &'a FilePath,
+    path: &'a str,
+) -> Result<Option<(&'a str, &'a str)>, AllocError>
+    ensures { IfOk result (λ names. IfSome names (λ p. AreAlike file.now path.now p.0.now p.1.now)) }
+{
+    let Some(name) = Path::new(path).file_name() else {
+        return Ok(None);
+    };
+    let Some(other) = last_name(file) else {
+        return Ok(None);
+    };
+    if name == other {
+        return Ok(None);
+    }
+    if !are_alike(alloc, name, other)? {
+        return Ok(None);
+    }
+    Ok(Some((name, other)))
 }
 
 /// The name that a file of a torrent has in its folder.
