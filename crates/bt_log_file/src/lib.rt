@@ -5,8 +5,10 @@
 mod attaching;
 mod device;
 mod folder;
+mod looking;
 mod names;
 mod opening;
 
 pub use device::{LogContext, LogDisk};
+pub use looking::refuse_data_file;
 pub use opening::open_log;
