@@ -11,12 +11,12 @@ returns-then-flush_every-eq0-clause-run g c = none c.args.engine.now
 
 pub returns-clause-flushed : goal.returns-clause-flushed
 returns-clause-flushed g c =
-    is_flushed g.D.Disk.history g.D.Disk.honest g.D.Disk.faults g.H.NodeHash.digest c.args.flush_every _ _ _ c.if-flush_every-eq0.false c.flush.ensures
+    is_flushed g.D.Disk.history g.D.Disk.honest g.D.Disk.faults g.H.NodeHash.digest c.args.flush_every _ _ _ c.if-flush_every-eq0.false c.flush.ensures.step
 
 pub returns-clause-gone : goal.returns-clause-gone
 returns-clause-gone g c =
-    none_connected g.D.Disk.history g.D.Disk.honest g.D.Disk.faults g.H.NodeHash.digest c.args.engine.now _ _ c.flush.ensures c.requires.no_peer
+    none_connected g.D.Disk.history g.D.Disk.honest g.D.Disk.faults g.H.NodeHash.digest c.args.engine.now _ _ c.flush.ensures.step c.requires.no_peer
 
 pub returns-clause-run : goal.returns-clause-run
 returns-clause-run g c =
-    flush_leads g.D.Disk.history g.D.Disk.honest g.D.Disk.faults g.H.NodeHash.digest c.args.engine.now _ _ c.flush.ensures
+    flush_leads g.D.Disk.history g.D.Disk.honest g.D.Disk.faults g.H.NodeHash.digest c.args.engine.now _ _ c.flush.ensures.step
