@@ -6,7 +6,7 @@ use Rattle.bt_files.proofs.store.finish.Goals as goal
 pub unreachable-requires : goal.unreachable-requires
 unreachable-requires g c =
     unlogged_not_full g.D.Disk.history g.D.Disk.honest g.D.Disk.faults g.H.NodeHash.digest c.args.engine.now c.flush.new.self c.requires.unlogged
-    (rw c.in-Err-LogFull.field-0-is at c.in-Err-LogFull.ensures)
+    (rw c.in-Err-LogFull.field-0-is at c.in-Err-LogFull.ensures.step)
 
 pub returns-in-Ok-clause-same : goal.returns-in-Ok-clause-same
 returns-in-Ok-clause-same g c =
