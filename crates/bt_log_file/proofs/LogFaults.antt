@@ -1,6 +1,6 @@
 -- Why a log is not opened in a file, by why one of its steps failed.
 use Rattle.std.proofs.Common.{◌≡◌, ◌⊎◌, inl, inr, ℕ, List, Option, Some, None, Result, Ok, Err, IfErr, sym, subst}
-use Rattle.std.specs.Prelude.{IsErrAnd}
+use Rattle.std.specs.Prelude.{IsErrAnd, OnOk}
 use Rattle.bt_disk.specs.declared.opening.FileIdentity.{FileIdentity}
 use Rattle.bt_folder.specs.declared.known_files.KnownFiles.{KnownFiles}
 use Rattle.bt_meta.specs.Files.{File}
@@ -35,3 +35,13 @@ pub of_device : (known : KnownFiles) (torrent : Metainfo) (path infohash : List 
 of_device known torrent path infohash disk fault at whose is =
     inr (inr (subst (λ (d : LogDiskView). IsAttachFault device_history device_honest device_faults torrent.infohash d fault) at
     (subst (λ (h : List ℕ). IsAttachFault device_history device_honest device_faults h disk fault) whose is)))
+
+-- ---- what holds where a result is a value, or a fault
+
+pub where_ok : {T E : Type 0} (r : Result T E) (P : Type 0) → P → OnOk r P
+where_ok (Ok x) P holds = holds
+where_ok (Err it) P holds = tt
+
+pub where_err : {T : Type 0} (r : Result T Fault) (P Q : Fault → Type 0) → ((fault : Fault) → P fault → Q fault) → IfErr r P → IfErr r Q
+where_err (Ok x) P Q gives holds = tt
+where_err (Err it) P Q gives holds = gives it holds
