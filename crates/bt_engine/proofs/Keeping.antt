@@ -1,5 +1,5 @@
 -- What holds of the parts of an engine holds after an event.
-use Rattle.std.proofs.Common.{[], ◌≡◌, List, ℕ, Option, Some, None, option_map, refl, subst, sym}
+use Rattle.std.proofs.Common.{[], ◌≡◌, List, ℕ, Option, Some, None, refl, subst, sym}
 use Rattle.bt_disk.specs.History.{History}
 use Rattle.bt_meta.specs.Torrent.{Metainfo, IsLawful}
 use Rattle.bt_machine.specs.declared.event.Event.{Event}
@@ -16,7 +16,6 @@ use Rattle.bt_machine.specs.Step.{Step}
 use Rattle.bt_machine.specs.View.{StepsTo}
 use Rattle.bt_state.specs.Parts.{state_of, disks_of, log_of}
 use Rattle.bt_state.specs.Ties.{IsTied}
-use Rattle.bt_state.specs.declared.open_log.OpenLog.{OpenLog}
 use Rattle.bt_state.specs.declared.parts.Parts.{Parts}
 use Rattle.bt_state.proofs.DeviceCalls.{have_none}
 use Rattle.bt_engine.specs.Kept.{view_of, IsKept}
@@ -33,13 +32,6 @@ module _ {D H : Type 0} (history : D → History) (honest : D → Type 0) (fault
 
   log_same : log_of new ≡ log_of old → logs_by (log_of old) [] (log_of new)
   log_same same = subst (λ (log : Option (LogView D)). logs_by (log_of old) [] log) (sym same) (not_called (log_of old))
-
-  -- an engine gets no log
-  none_still : (before after : Option (OpenLog D)) (calls : List LogCall) → before ≡ None
-      → logs_by (option_map (λ opened. opened.log) before) calls (option_map (λ opened. opened.log) after) → after ≡ None
-  none_still before None calls none have = refl
-  none_still before (Some opened) calls none have =
-      absurd (subst (λ (log : Option (OpenLog D)). logs_by (option_map (λ opened. opened.log) log) calls (Some opened.log)) none have)
 
   -- an event that calls no device
   pub steps_without : Step dig (state_of old) event no_calls answer (state_of new) → disks_of new ≡ disks_of old → log_of new ≡ log_of old
@@ -64,7 +56,6 @@ module _ {D H : Type 0} (history : D → History) (honest : D → Type 0) (fault
     digest = kept.digest;
     lawful = subst (λ (t : Metainfo). IsLawful t.piece_length t.files) (sym same) kept.lawful;
     tied = tied;
-    unlogged = none_still old.log new.log s.calls.log kept.unlogged s.logged;
     shaped = subst (λ (t : Metainfo). IsShaped t (state_of new)) (sym same) (shape old.torrent (state_of old) (state_of new) event s.calls answer kept.shaped s.step);
     orderly = order (state_of old) (state_of new) event s.calls answer s.step kept.orderly;
     sparse = sparse (state_of old) (state_of new) event s.calls answer kept.lawful s.step kept.sparse;

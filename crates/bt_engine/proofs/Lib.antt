@@ -6,3 +6,5 @@ pub mod Announcements
 pub mod Events
 pub mod Handled
 pub mod EventRuns
+pub mod StandingRuns
+pub mod Reopenings

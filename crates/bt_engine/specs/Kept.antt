@@ -1,5 +1,5 @@
 -- What holds of the parts of every engine.
-use Rattle.std.specs.Prelude.{◌≡◌, ℕ, List, None}
+use Rattle.std.specs.Prelude.{◌≡◌, ℕ, List}
 use Rattle.sha2.specs.Sha256.{sha256}
 use Rattle.bt_disk.specs.History.{History}
 use Rattle.bt_meta.specs.Torrent.{IsLawful}
@@ -16,15 +16,14 @@ use Rattle.bt_machine.specs.State.{EngineView}
 abbrev pub view_of : {D H : Type 0} → Parts D H → EngineView D
 view_of parts = record { state = state_of parts; disks = disks_of parts; log = log_of parts }
 
--- Digests are those by which the torrent was read, and the torrent is lawful. There is no log. The parts are
--- tied together, they have the torrent's shape, the peers are in order, the trees are sparse trees that hang
--- from their roots, and on honest devices the marked blocks are right.
+-- Digests are those by which the torrent was read, and the torrent is lawful. The parts are tied together, they
+-- have the torrent's shape, the peers are in order, the trees are sparse trees that hang from their roots, and
+-- on honest devices the marked blocks are right.
 pub record IsKept {D H : Type 0} (history : D → History) (honest : D → Type 0) (dig : List ℕ → List ℕ)
     (parts : Parts D H) : Type 0 where
   pub digest : dig ≡ sha256
   pub lawful : IsLawful parts.torrent.piece_length parts.torrent.files
   pub tied : IsTied parts
-  pub unlogged : parts.log ≡ None
   pub shaped : IsShaped parts.torrent (state_of parts)
   pub orderly : IsOrderly (state_of parts)
   pub sparse : AreSparseTrees dig (state_of parts)

@@ -6,3 +6,5 @@ pub mod EventSteps
 pub mod NextSteps
 pub mod GreetingSteps
 pub mod Run
+pub mod Standing
+pub mod Reopened

@@ -1,4 +1,4 @@
-ghost use Rattle.std.specs.Prelude.{◌≡◌, None, slice_get};
+ghost use Rattle.std.specs.Prelude.{◌≡◌, IfOk, OnOk, option_map, slice_get};
 ghost use Rattle.std.specs.Option.{option_and_then, option_copied};
 ghost use Rattle.sha2.specs.Sha256.{sha256};
 ghost use Rattle.bt_meta.specs.Torrent.{IsLawful};
@@ -10,14 +10,18 @@ ghost use Rattle.bt_machine.specs.Shape.{IsShaped};
 ghost use Rattle.bt_machine.specs.Sound.{IsSound};
 ghost use Rattle.bt_machine.specs.Opening.{AnswersStart};
 ghost use Rattle.bt_machine.specs.View.{StepsTo};
+ghost use Rattle.bt_engine.specs.Standing.{Stands, KeepsBlocks, KeepsHints};
+ghost use Rattle.bt_engine.specs.Reopened.{IsReopened};
 
 use crate::greeting::connect;
 use crate::next::next;
+use crate::standing::events_stand;
 use bt_book::PeerKey;
 use bt_disk::Disk;
 use bt_machine::{
     AdoptError, Answer, ConnectError, EngineError, Event, FileReport, FlushError, Output,
-    RestartError, StartRefused, steps_keep_laws,
+    RestartError, StartRefused, flush_keeps_blocks, flushed_blocks_are_marked_again, logs_stand,
+    steps_keep_laws,
 };
 use bt_meta::Torrent;
 use bt_resume::ResumeLog;
@@ -27,7 +31,7 @@ use bt_tree::NodeHash;
 use std::alloc::{AllocError, Global};
 use std::marker::Model;
 
-/// An engine over the devices of a torrent's files.
+/// An engine over the devices of a torrent's files, with a log of the torrent or without.
 #[derive(Drop)]
 pub struct Engine<D: Disk + Drop, H: NodeHash> {
     alloc: Global,
@@ -53,21 +57,28 @@ impl<D: Disk + Drop, H: NodeHash> Model for Engine<D, H> {
 }
 
 impl<D: Disk + Drop, H: NodeHash> Engine<D, H> {
-    /// Starts an engine of a torrent over the devices of its files that have a byte, in the torrent's order.
-    /// All blocks are missing, no peer is connected, and no device is called. It has no log.
+    /// Starts an engine of a torrent over the devices of its files that have a byte, in the torrent's order,
+    /// with a log of the torrent or without. Each tree is what the torrent says of it, and takes the proofs
+    /// that were last read from the log. Each block that the log records and whose leaf is known is read, once,
+    /// and is marked where its bytes are right; all others are missing, and without a log all are. No peer is
+    /// connected. No call of the log is made.
     ///
-    /// Errors: there is not one device for each file that has a byte, or out of memory. The devices are given
-    /// back.
+    /// Errors, in this order: there is not one device for each file that has a byte; the log is another
+    /// torrent's; out of memory. The devices and the log are given back, and no call of them was made.
     pub fn start(
         alloc: Global,
         torrent: Torrent,
         hash: H,
         disks: Vec<D>,
+        log: Option<ResumeLog<D>>,
     ) -> Result<Self, StartRefused<D, ResumeLog<D>>>
         requires { H.digest ≡ sha256 }
-        ensures { AnswersStart D.history D.honest D.faults H.digest torrent disks.items None result }
+        ensures answer { AnswersStart D.history D.honest D.faults H.digest torrent disks.items log result }
+        ensures again { IfOk result (IsReopened D.history D.honest D.faults H.digest
+            torrent disks.items log) }
     {
-        match bt_start::start(alloc, torrent, hash, disks) {
+        flushed_blocks_are_marked_again::<D, H>(hash);
+        match bt_start::start(alloc, torrent, hash, disks, log) {
             Ok(parts) => Ok(Engine { alloc, parts, hash }),
             Err(refused) => Err(refused),
         }
@@ -78,9 +89,11 @@ impl<D: Disk + Drop, H: NodeHash> Engine<D, H> {
     pub fn connect(&mut self) -> Result<(PeerKey, Output), ConnectError>
         ensures step { StepsTo D.history D.honest D.faults H.digest
             self.old Event.Connect (Answer.Connected result) self.new }
+        ensures stands { Stands D.history D.honest D.faults self.old self.new }
         ensures devices { self.new.disks ≡ self.old.disks }
     {
         steps_keep_laws::<D, H>(self.hash);
+        events_stand::<D, H>(self.hash);
         connect(self.alloc, &mut self.parts)
     }
 
@@ -88,9 +101,11 @@ impl<D: Disk + Drop, H: NodeHash> Engine<D, H> {
     pub fn feed(&mut self, peer: PeerKey, bytes: &[u8]) -> Result<(), EngineError>
         ensures step { StepsTo D.history D.honest D.faults H.digest
             self.old (Event.Feed peer bytes.now) (Answer.Fed result) self.new }
+        ensures stands { Stands D.history D.honest D.faults self.old self.new }
         ensures devices { self.new.disks ≡ self.old.disks }
     {
         steps_keep_laws::<D, H>(self.hash);
+        events_stand::<D, H>(self.hash);
         bt_state::feed(&mut self.parts, peer, bytes)
     }
 
@@ -100,10 +115,12 @@ impl<D: Disk + Drop, H: NodeHash> Engine<D, H> {
     /// Errors: no peer has the key; out of memory, by which the event is lost and the peer with it, and
     /// nothing else changes.
     pub fn next(&mut self, peer: PeerKey) -> Result<Option<Output>, EngineError>
-        ensures { StepsTo D.history D.honest D.faults H.digest
+        ensures step { StepsTo D.history D.honest D.faults H.digest
             self.old (Event.Next peer) (Answer.Stepped result) self.new }
+        ensures stands { Stands D.history D.honest D.faults self.old self.new }
     {
         steps_keep_laws::<D, H>(self.hash);
+        events_stand::<D, H>(self.hash);
         next(self.alloc, &mut self.parts, peer)
     }
 
@@ -111,9 +128,11 @@ impl<D: Disk + Drop, H: NodeHash> Engine<D, H> {
     pub fn lost(&mut self, peer: PeerKey) -> Result<(), EngineError>
         ensures step { StepsTo D.history D.honest D.faults H.digest
             self.old (Event.Lost peer) (Answer.Lost result) self.new }
+        ensures stands { Stands D.history D.honest D.faults self.old self.new }
         ensures devices { self.new.disks ≡ self.old.disks }
     {
         steps_keep_laws::<D, H>(self.hash);
+        events_stand::<D, H>(self.hash);
         bt_state::lost(&mut self.parts, peer)
     }
 
@@ -122,9 +141,11 @@ impl<D: Disk + Drop, H: NodeHash> Engine<D, H> {
     pub fn rechoke(&mut self) -> Result<Output, AllocError>
         ensures step { StepsTo D.history D.honest D.faults H.digest
             self.old Event.Rechoke (Answer.Rechoked result) self.new }
+        ensures stands { Stands D.history D.honest D.faults self.old self.new }
         ensures devices { self.new.disks ≡ self.old.disks }
     {
         steps_keep_laws::<D, H>(self.hash);
+        events_stand::<D, H>(self.hash);
         bt_upkeep::rechoke(self.alloc, &mut self.parts)
     }
 
@@ -133,28 +154,41 @@ impl<D: Disk + Drop, H: NodeHash> Engine<D, H> {
     ///
     /// Errors: no such file; a peer is connected; out of memory, after which what was taken in stays so.
     pub fn adopt(&mut self, file: u32) -> Result<Adopted, AdoptError>
-        ensures { StepsTo D.history D.honest D.faults H.digest
+        ensures step { StepsTo D.history D.honest D.faults H.digest
             self.old (Event.Adopt file) (Answer.Adopted result) self.new }
+        ensures stands { Stands D.history D.honest D.faults self.old self.new }
     {
         steps_keep_laws::<D, H>(self.hash);
+        events_stand::<D, H>(self.hash);
         bt_adoption::adopt(self.alloc, &mut self.parts, file)
     }
 
-    /// Syncs all devices, in the order of files, up to the first that fails.
+    /// Syncs all devices, in the order of files; with a log then appends what waits for it, in the order of
+    /// events, and syncs it; up to the first fault, after which all that waited waits still.
+    ///
+    /// Errors: a device of a file failed, or the log's; the log would have more than 2^40 bytes.
     pub fn flush(&mut self) -> Result<(), FlushError>
-        ensures { StepsTo D.history D.honest D.faults H.digest
+        ensures step { StepsTo D.history D.honest D.faults H.digest
             self.old Event.Flush (Answer.Flushed result) self.new }
+        ensures stands { Stands D.history D.honest D.faults self.old self.new }
+        ensures blocks { OnOk result (KeepsBlocks D.history D.honest D.faults self.new) }
+        ensures hints { OnOk result (KeepsHints D.history D.honest D.faults H.digest self.old self.new) }
     {
         steps_keep_laws::<D, H>(self.hash);
+        events_stand::<D, H>(self.hash);
+        flush_keeps_blocks::<D, H>();
+        logs_stand::<D, H>();
         bt_upkeep::flush(&mut self.parts)
     }
 
-    /// Begins all anew: each tree is what the torrent says of it, all blocks are missing, and no peer is
-    /// connected. No device is called, and keys go on. Errors: out of memory; nothing changed then.
+    /// Begins all anew, as a start does, with what a log has now, which is read again first. No peer is
+    /// connected, and nothing waits for the log. Keys and turns go on.
+    ///
+    /// Errors: `Log` where the log could not be read, and then nothing has changed; out of memory, and then a
+    /// log was read again, and nothing else has changed. No device of a file is called then.
     pub fn restart(&mut self) -> Result<(), RestartError>
-        ensures step { StepsTo D.history D.honest D.faults H.digest
+        ensures { StepsTo D.history D.honest D.faults H.digest
             self.old Event.Restart (Answer.Restarted result) self.new }
-        ensures devices { self.new.disks ≡ self.old.disks }
     {
         steps_keep_laws::<D, H>(self.hash);
         bt_restart::restart(self.alloc, self.hash, &mut self.parts)
@@ -200,6 +234,16 @@ impl<D: Disk + Drop, H: NodeHash> Engine<D, H> {
         bt_state::disk(&self.parts, file)
     }
 
+    /// The device of the log; None without a log.
+    pub fn log_disk(&self) -> Option<&D>
+        ensures { option_copied result ≡ option_map (λ log. log.disk) self.now.log }
+    {
+        match &self.parts.log {
+            Some(open) => Some(open.log.disk()),
+            None => None,
+        }
+    }
+
     /// The laws of an engine: it has the torrent's files and the trees of their roots, its peers are in
     /// order, its trees are rooted and their digests have 32 bytes, and on honest devices the marked blocks
     /// are right. It does nothing when it runs.
@@ -210,7 +254,6 @@ impl<D: Disk + Drop, H: NodeHash> Engine<D, H> {
         ensures rooted { AreRooted H.digest self.now.state }
         ensures sparse { AreSparseTrees H.digest self.now.state }
         ensures sound { IsSound D.history D.honest H.digest self.now.state self.now.disks }
-        ensures unlogged { self.now.log ≡ None }
     {
         // A proof knows what holds of an engine only from a step that looks at its parts.
         let _ = &self.parts;

@@ -10,6 +10,7 @@ mod next;
 mod pending;
 mod room;
 mod run;
+mod standing;
 
 pub use bt_book::PeerKey;
 pub use bt_machine::{

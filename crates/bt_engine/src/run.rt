@@ -1,9 +1,12 @@
 //! Lists of events.
 ghost use Rattle.std.specs.Prelude.{◌≡◌, OnOk, OnErr};
+ghost use Rattle.bt_machine.specs.Unmarks.{HasNoRestart};
 ghost use Rattle.bt_machine.specs.View.{StepsTo};
 ghost use Rattle.bt_engine.specs.Run.{RunsEvents};
+ghost use Rattle.bt_engine.specs.Standing.{Stands};
 
 use crate::engine::Engine;
+use crate::standing::events_stand;
 use bt_disk::Disk;
 use bt_machine::{Answer, Event, runs_compose};
 use bt_tree::NodeHash;
@@ -20,8 +23,12 @@ pub fn run_events<D: Disk + Drop, H: NodeHash>(
         answers.old.items answers.new.items engine.new) }
     ensures kept { OnErr result (engine.new ≡ engine.old) }
     ensures unanswered { OnErr result (answers.new.items ≡ answers.old.items) }
+    ensures stands { HasNoRestart events.now
+        → Stands D.history D.honest D.faults engine.old engine.new }
 {
     runs_compose::<D, H>();
+    events_stand::<D, H>(engine.hash());
+    engine.keeps_laws();
     answers.reserve(events.len())?;
     for event in events {
         answers.push(run_event(engine, event)).unwrap();

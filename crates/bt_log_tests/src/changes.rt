@@ -13,7 +13,6 @@ use bt_disk::Disk;
 use bt_follow_up::{MAX_FRAMES, follow_up};
 use bt_hashreq::HashKey;
 use bt_machine::{AdoptError, FlushError, Note, RestartError, Why, steps_keep_laws};
-use bt_restart::begin_anew;
 use bt_resume::{Hint, ResumeLog};
 use bt_state::{Parts, Peer, PieceSet};
 use bt_store::Adopted;
@@ -221,7 +220,7 @@ pub fn restart<D: Disk + Drop, H: NodeHash>(
     ensures { AreSteady parts.new }
 {
     steps_keep_laws::<D, H>(hash);
-    begin_anew(alloc, hash, parts)
+    bt_restart::restart(alloc, hash, parts)
 }
 
 /// Writes what waits to another log.

@@ -10,7 +10,7 @@ use bt_hashreq::HashKey;
 use bt_machine::{AdoptError, FileReport, FlushError, RestartError, StartError, StartRefused};
 use bt_meta::Torrent;
 use bt_resume::ResumeLog;
-use bt_start::start_with_log;
+use bt_start::start;
 use bt_state::{Parts, Slot};
 use bt_store::{Adopted, BlockState};
 use bt_tree::NodeHash;
@@ -50,7 +50,7 @@ impl<D: Disk + Drop, H: NodeHash> Logged<D, H> {
     ) -> Result<Self, StartRefused<D, ResumeLog<D>>>
         requires { H.digest ≡ sha256 }
     {
-        let parts = start_with_log(alloc, torrent, hash, disks, log)?;
+        let parts = start(alloc, torrent, hash, disks, Some(log))?;
         Ok(Logged { alloc, parts, hash })
     }
 
@@ -65,7 +65,7 @@ impl<D: Disk + Drop, H: NodeHash> Logged<D, H> {
     ) -> Result<Self, StartRefused<D, ResumeLog<D>>>
         requires { H.digest ≡ sha256 }
     {
-        let mut parts = start_with_log(alloc, torrent, hash, disks, log)?;
+        let mut parts = start(alloc, torrent, hash, disks, Some(log))?;
         if connect(alloc, hash, &mut parts).is_err() {
             return Err(StartRefused {
                 disks: Vec::new(alloc),

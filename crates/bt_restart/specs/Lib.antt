@@ -1,4 +1,4 @@
-pub mod WithLog
+pub mod Restarting
 -- what only private functions cite
 pub mod AnewSteps
 pub mod WithLogSteps

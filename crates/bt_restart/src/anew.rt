@@ -23,7 +23,7 @@ use std::alloc::{AllocError, Global};
 /// peer is connected. No device is called. Keys and turns go on.
 ///
 /// Errors: out of memory, and then nothing has changed.
-pub fn restart<D: Disk + Drop, H: NodeHash>(
+pub(crate) fn restart_bare<D: Disk + Drop, H: NodeHash>(
     alloc: Global,
     hash: H,
     parts: &mut Parts<D, H>,

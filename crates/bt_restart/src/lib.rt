@@ -2,9 +2,7 @@
 #![tactic(auto)]
 
 mod anew;
-mod either;
+mod restarting;
 mod with_log;
 
-pub use anew::restart;
-pub use either::begin_anew;
-pub use with_log::restart_with_log;
+pub use restarting::restart;

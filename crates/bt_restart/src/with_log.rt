@@ -1,12 +1,12 @@
 //! All is begun anew from a log.
-ghost use Rattle.std.specs.Prelude.{[], ◌≡◌, IfOk, IsSome, map, option_map};
+ghost use Rattle.std.specs.Prelude.{[], ◌≡◌, IfOk, IfErr, IsSome, map, option_map};
 ghost use Rattle.sha2.specs.Sha256.{sha256};
 ghost use Rattle.bt_machine.specs.Shape.{IsShaped};
 ghost use Rattle.bt_state.specs.Parts.{state_of, disks_of, log_of, pending_of};
 ghost use Rattle.bt_state.specs.Ties.{IsTied};
 ghost use Rattle.bt_start.specs.Books.{AreNewBooks};
 ghost use Rattle.bt_recall.specs.Recovering.{AreMissing};
-ghost use Rattle.bt_restart.specs.WithLog.{RestartsWith};
+ghost use Rattle.bt_restart.specs.Restarting.{RestartsWith};
 ghost use Rattle.bt_restart.specs.WithLogSteps.{IsReadAgain, AreTreesFrom, HasBegun};
 
 use crate::anew::clear_slots;
@@ -29,7 +29,7 @@ use std::alloc::{AllocError, Global};
 ///
 /// Errors: `Log` where the log could not be read, and then nothing has changed; out of memory, and then the
 /// log was read again, and nothing else has changed. No device of a file is called then.
-pub fn restart_with_log<D: Disk + Drop, H: NodeHash>(
+pub(crate) fn restart_with_log<D: Disk + Drop, H: NodeHash>(
     alloc: Global,
     hash: H,
     parts: &mut Parts<D, H>,
@@ -39,6 +39,7 @@ pub fn restart_with_log<D: Disk + Drop, H: NodeHash>(
     requires shaped { IsShaped parts.old.torrent (state_of parts.old) }
     requires logged { IsSome parts.old.log }
     ensures step { RestartsWith D.history D.honest D.faults H.digest parts.old result parts.new }
+    ensures refused { IfErr result (λ _. parts.new ≡ record parts.old { log = parts.new.log }) }
     ensures torrent { parts.new.torrent ≡ parts.old.torrent }
     ensures tied { IsTied parts.new }
 {
@@ -55,7 +56,7 @@ pub fn restart_with_log<D: Disk + Drop, H: NodeHash>(
     }
 }
 
-/// Reads the log again. A refusal leaves its hints as they were.
+/// Reads the log again. A refusal leaves all but its device as it was.
 fn read_again<D: Disk + Drop>(log: &mut Option<OpenLog<D>>) -> Result<(), LogError>
     requires { IsSome log.old }
     ensures { IsReadAgain D.history D.honest D.faults log.old result log.new }

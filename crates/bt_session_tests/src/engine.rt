@@ -51,7 +51,7 @@ pub fn start(
     torrent: Torrent,
     disks: Vec<TestDisk>,
 ) -> Result<TestEngine, StartError> {
-    match Engine::start(alloc, torrent, Lanes, disks) {
+    match Engine::start(alloc, torrent, Lanes, disks, None) {
         Ok(engine) => Ok(engine),
         Err(refused) => Err(refused.cause),
     }

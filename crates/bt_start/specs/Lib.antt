@@ -1,4 +1,4 @@
-pub mod Beginning
+pub mod Starting
 pub mod Trees
 pub mod Books
 -- what only private functions cite

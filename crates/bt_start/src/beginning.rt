@@ -10,7 +10,7 @@ ghost use Rattle.bt_machine.specs.Opening.{AnswersStart};
 ghost use Rattle.bt_machine.specs.Start.{device_count as count_of_devices};
 ghost use Rattle.bt_state.specs.Parts.{state_of, disks_of};
 ghost use Rattle.bt_state.specs.Ties.{IsTied};
-ghost use Rattle.bt_start.specs.Beginning.{answer_of};
+ghost use Rattle.bt_start.specs.Starting.{answer_of};
 ghost use Rattle.bt_start.specs.BeginningSteps.{AreBareParts, HaveBegun};
 
 use crate::books::new_books;
@@ -31,7 +31,7 @@ use std::alloc::{AllocError, Global};
 ///
 /// Errors: there is not one device for each file that has a byte, or out of memory. The devices are given
 /// back.
-pub fn start<D: Disk + Drop, H: NodeHash>(
+pub(crate) fn start_bare<D: Disk + Drop, H: NodeHash>(
     alloc: Global,
     torrent: Torrent,
     hash: H,

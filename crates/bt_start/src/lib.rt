@@ -10,10 +10,10 @@ mod new_book;
 mod new_tree;
 mod piece_sizes;
 mod roots;
+mod starting;
 mod trees;
 mod with_log;
 
-pub use beginning::start;
 pub use books::{Books, new_books};
+pub use starting::start;
 pub use trees::new_trees;
-pub use with_log::start_with_log;

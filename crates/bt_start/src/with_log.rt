@@ -11,7 +11,7 @@ ghost use Rattle.bt_machine.specs.Opening.{AnswersStart};
 ghost use Rattle.bt_machine.specs.Start.{device_count as count_of_devices};
 ghost use Rattle.bt_state.specs.Parts.{state_of, disks_of};
 ghost use Rattle.bt_state.specs.Ties.{IsTied};
-ghost use Rattle.bt_start.specs.Beginning.{answer_of};
+ghost use Rattle.bt_start.specs.Starting.{answer_of};
 ghost use Rattle.bt_start.specs.WithLogSteps.{HaveBegunWith};
 
 use crate::beginning::bare_parts;
@@ -35,7 +35,7 @@ use std::alloc::{AllocError, Global};
 ///
 /// Errors, in this order: there is not one device for each file that has a byte; the log is another
 /// torrent's; out of memory. The devices and the log are given back, and no call of them was made.
-pub fn start_with_log<D: Disk + Drop, H: NodeHash>(
+pub(crate) fn start_with_log<D: Disk + Drop, H: NodeHash>(
     alloc: Global,
     torrent: Torrent,
     hash: H,

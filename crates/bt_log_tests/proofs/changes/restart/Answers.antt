@@ -6,6 +6,6 @@ use Rattle.bt_log_tests.proofs.changes.restart.Goals as goal
 
 pub returns : goal.returns
 returns g c =
-    let step = c.begin_anew.ensures.step in
-    steady_stepped g.H.NodeHash.digest c.args.parts.now c.begin_anew.new.parts c.requires.steady c.begin_anew.ensures.torrent c.begin_anew.ensures.tied Restart step.calls
-    (Restarted c.begin_anew.result) c.steps_keep_laws.ensures.shaped (c.begin_anew.result, refl, step.step)
+    let step = c.restart.ensures.step in
+    steady_stepped g.H.NodeHash.digest c.args.parts.now c.restart.new.parts c.requires.steady c.restart.ensures.torrent c.restart.ensures.tied Restart step.calls
+    (Restarted c.restart.result) c.steps_keep_laws.ensures.shaped (c.restart.result, refl, step.step)

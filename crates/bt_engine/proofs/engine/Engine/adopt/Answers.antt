@@ -1,6 +1,7 @@
 use Rattle.std.proofs.Common.{refl}
 use Rattle.bt_machine.specs.declared.event.Event.TheVariants.{Adopt}
 use Rattle.bt_machine.specs.declared.event.Answer.TheVariants.{Adopted}
+use Rattle.bt_engine.specs.Kept.{view_of}
 use Rattle.bt_engine.proofs.Keeping.{steps_with, kept_after}
 use Rattle.bt_engine.proofs.engine.Engine.adopt.Goals as goal
 
@@ -13,6 +14,12 @@ invariant_of-self g c =
     step.0 (c.adopt.result, refl, refl, step.2) step.1 c.adopt.ensures.log)
     c.adopt.ensures.torrent c.adopt.ensures.tied
 
-pub returns : goal.returns
-returns g c = (let step = c.adopt.ensures.step in rw (← c.self.view_is) (steps_with g.D.Disk.history g.D.Disk.honest g.D.Disk.faults g.H.NodeHash.digest c.self.inside.parts c.adopt.new.parts (Adopt c.args.file) (Adopted c.adopt.result)
+pub returns-clause-step : goal.returns-clause-step
+returns-clause-step g c = (let step = c.adopt.ensures.step in rw (← c.self.view_is) (steps_with g.D.Disk.history g.D.Disk.honest g.D.Disk.faults g.H.NodeHash.digest c.self.inside.parts c.adopt.new.parts (Adopt c.args.file) (Adopted c.adopt.result)
     step.0 (c.adopt.result, refl, refl, step.2) step.1 c.adopt.ensures.log))
+
+pub returns-clause-stands : goal.returns-clause-stands
+returns-clause-stands g c = rw (← c.self.view_is) (
+    c.events_stand.ensures.steps (view_of c.self.inside.parts) (view_of c.adopt.new.parts) (Adopt c.args.file) (Adopted c.adopt.result) (λ e. absurd cc) c.self.invariant.sound
+    (steps_with g.D.Disk.history g.D.Disk.honest g.D.Disk.faults g.H.NodeHash.digest c.self.inside.parts c.adopt.new.parts (Adopt c.args.file) (Adopted c.adopt.result)
+    c.adopt.ensures.step.0 (c.adopt.result, refl, refl, c.adopt.ensures.step.2) c.adopt.ensures.step.1 c.adopt.ensures.log))

@@ -1,5 +1,3 @@
-use Rattle.std.proofs.Common.{Option, option_map, ap}
-use Rattle.bt_state.specs.declared.open_log.OpenLog.{OpenLog}
 use Rattle.bt_engine.proofs.engine.Engine.keeps_laws.Goals as goal
 
 pub returns-clause-lawful : goal.returns-clause-lawful
@@ -19,7 +17,3 @@ returns-clause-sparse g c = rw (← c.self.view_is) c.self.invariant.sparse
 
 pub returns-clause-sound : goal.returns-clause-sound
 returns-clause-sound g c = rw (← c.self.view_is) c.self.invariant.sound
-
-pub returns-clause-unlogged : goal.returns-clause-unlogged
-returns-clause-unlogged g c =
-    rw (← c.self.view_is) (ap (λ (log : Option (OpenLog g.row.D.Denot)). option_map (λ opened. opened.log) log) c.self.invariant.unlogged)

@@ -2,6 +2,7 @@ use Rattle.std.proofs.Common.{Option, option_map, refl, ap}
 use Rattle.bt_machine.specs.declared.event.Event.TheVariants.{Lost}
 use Rattle.bt_machine.specs.declared.event.Answer.TheVariants.{Lost as LostAnswer}
 use Rattle.bt_state.specs.declared.open_log.OpenLog.{OpenLog}
+use Rattle.bt_engine.specs.Kept.{view_of}
 use Rattle.bt_engine.proofs.Keeping.{steps_without, kept_after}
 use Rattle.bt_engine.proofs.engine.Engine.lost.Goals as goal
 
@@ -20,3 +21,10 @@ returns-clause-step g c = rw (← c.self.view_is) (
     steps_without g.D.Disk.history g.D.Disk.honest g.D.Disk.faults g.H.NodeHash.digest c.self.inside.parts c.lost.new.parts (Lost c.args.peer) (LostAnswer c.lost.result)
     (c.lost.result, refl, refl, c.lost.ensures.step) c.lost.ensures.devices
     (ap (λ (log : Option (OpenLog g.row.D.Denot)). option_map (λ opened. opened.log) log) c.lost.ensures.log))
+
+pub returns-clause-stands : goal.returns-clause-stands
+returns-clause-stands g c = rw (← c.self.view_is) (
+    c.events_stand.ensures.steps (view_of c.self.inside.parts) (view_of c.lost.new.parts) (Lost c.args.peer) (LostAnswer c.lost.result) (λ e. absurd cc) c.self.invariant.sound
+    (steps_without g.D.Disk.history g.D.Disk.honest g.D.Disk.faults g.H.NodeHash.digest c.self.inside.parts c.lost.new.parts (Lost c.args.peer) (LostAnswer c.lost.result)
+    (c.lost.result, refl, refl, c.lost.ensures.step) c.lost.ensures.devices
+    (ap (λ (log : Option (OpenLog g.row.D.Denot)). option_map (λ opened. opened.log) log) c.lost.ensures.log)))

@@ -1,3 +1,7 @@
+use Rattle.std.proofs.Common.{ap}
+use Rattle.bt_start.specs.Starting.{answer_of}
+use Rattle.bt_engine.specs.Kept.{view_of}
+use Rattle.bt_engine.proofs.Reopenings.{reopened}
 use Rattle.bt_engine.proofs.engine.Engine.start.Goals as goal
 
 pub invariant_of-result : goal.invariant_of-result
@@ -5,10 +9,13 @@ invariant_of-result g c = record {
   digest = c.requires;
   lawful = c.in-Ok.ensures.lawful;
   tied = c.in-Ok.ensures.tied;
-  unlogged = c.in-Ok.ensures.unlogged;
   shaped = c.in-Ok.ensures.shaped;
   orderly = c.in-Ok.ensures.orderly;
   sparse = c.in-Ok.ensures.sparse;
   rooted = c.in-Ok.ensures.rooted;
   sound = c.in-Ok.ensures.sound;
 }
+
+pub returns-in-Ok-clause-again : goal.returns-in-Ok-clause-again
+returns-in-Ok-clause-again g c =
+    reopened g.D.Disk.history g.D.Disk.honest g.D.Disk.faults g.H.NodeHash.digest c.flushed_blocks_are_marked_again.ensures (view_of c.in-Ok.parts) c.start.ensures.answer (ap answer_of c.in-Ok.is)

@@ -4,7 +4,7 @@ use Rattle.bt_machine.specs.Opening.{bare as begins, bare as begins_on, starts, 
 use Rattle.bt_machine.specs.Start.{Starts, AreDevicesOf, device_count}
 use Rattle.bt_state.specs.Parts.{state_of, disks_of, log_of}
 use Rattle.bt_state.specs.declared.open_log.OpenLog.{OpenLog}
-use Rattle.bt_start.proofs.beginning.start.Goals as goal
+use Rattle.bt_start.proofs.beginning.start_bare.Goals as goal
 
 pub returns-then-len-device_count-clause-answer : goal.returns-then-len-device_count-clause-answer
 returns-then-len-device_count-clause-answer g c =

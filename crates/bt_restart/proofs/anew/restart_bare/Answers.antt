@@ -2,7 +2,7 @@ use Rattle.std.proofs.Common.{[], Option, is_some, refl, ap}
 use Rattle.bt_machine.specs.Restart.{none, restarts, no_memory}
 use Rattle.bt_state.specs.Parts.{state_of, hints_of}
 use Rattle.bt_state.specs.declared.open_log.OpenLog.{OpenLog}
-use Rattle.bt_restart.proofs.anew.restart.Goals as goal
+use Rattle.bt_restart.proofs.anew.restart_bare.Goals as goal
 
 pub returns-in-Ok-clause-step : goal.returns-in-Ok-clause-step
 returns-in-Ok-clause-step g c =
