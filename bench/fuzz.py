@@ -153,7 +153,7 @@ def changed_script(chance, sample):
     lines = ["fault 0 3", "flip 0 2 0", "connect", "hello 1", "next 1", "connect", "hello 2", "next 2"]
     for part in sample.messages():
         lines += [f"feed 1 {part.hex()}", "next 1"]
-    lines += ["rechoke", "lost 1", "flush", "adopt 0", "report"]
+    lines += ["rechoke", "flush", "lost 1", "restart", "flush", "adopt 0", "report"]
     lines = changed_items(chance, changed_items(chance, lines))
     for _ in range(chance.randrange(3)):
         at = chance.randrange(len(lines))

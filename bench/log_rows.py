@@ -3,10 +3,11 @@
 
     python3 bench/log_rows.py [LIST..]
 
-A list is a pair of files of `bench/log_rows`, LIST.stdin and LIST.stdout, and is told with its processor time and its peak memory. The list
-`memory` is the crate's own rows of adoptions, once for each allocation that one of them asks for: that one is refused, by a library that
-stands in front of the C library and is compiled with `cc`. Without words it is all of these. The program is proved and built first, where
-it is not yet. The status is 0 where all answers are as they have to be.
+A list is a pair of files of `bench/log_rows`, LIST.stdin and LIST.stdout. The lists `full` and `long` are told with their processor time and
+their peak memory. The list `restart` is run once for each allocation that its first restart asks for, and `adopt`, the crate's own rows of
+adoptions, once for each that an adoption asks for: that one is refused, by a library that stands in front of the C library and is compiled
+with `cc`. Without words it is all of these. The program is proved and built first, where it is not yet. The status is 0 where all answers
+are as they have to be.
 """
 
 import difflib
@@ -61,11 +62,16 @@ def answered(program, name):
     return status == 0 and printed == wanted
 
 
-def part(text):
-    """The rows of adoptions, or their answers."""
-    lines = text.read_text(encoding="ascii").splitlines()
-    first = next(i for i, line in enumerate(lines) if line.startswith("# adoption_memory"))
-    return lines[first : lines.index("# adoption_memory ends") + 1]
+def lines(name):
+    """The rows of a list, and their answers."""
+    return [(LISTS / f"{name}.{kind}").read_text(encoding="ascii").splitlines() for kind in ("stdin", "stdout")]
+
+
+def adoptions(name):
+    """The crate's rows of adoptions, or their answers."""
+    rows = (CRATE / name).read_text(encoding="ascii").splitlines()
+    first = next(i for i, row in enumerate(rows) if row.startswith("# adoption_memory"))
+    return rows[first : rows.index("# adoption_memory ends") + 1]
 
 
 def refuses(program, folder):
@@ -82,26 +88,42 @@ def refuses(program, folder):
     return run
 
 
-def stays(program):
-    """Whether the rows of adoptions are answered alike where an adoption is refused memory; where a row is, the run ends."""
-    rows, wanted = part(CRATE / "stdin"), part(CRATE / "stdout")
+def stays(program, name, rows, wanted, places):
+    """Whether rows are answered as they have to be, whichever allocation is refused at one of these places. The run ends where the row
+    asked for it, for its words or its answer, and not the engine."""
     alike = ended = other = 0
     with tempfile.TemporaryDirectory() as folder:
         run = refuses(program, pathlib.Path(folder))
-        for place in (i for i, row in enumerate(rows) if row.startswith("adopt ")):
+        for place in places:
             for failing in range(run(rows[:place], 0)[2] + 1, run(rows[: place + 1], 0)[2] + 1):
                 status, printed, _ = run(rows, failing)
+                # Of a log that could not be read again for want of memory the answer says so.
+                printed = ["refused OutOfMemory" if line == "refused out of memory" else line for line in printed]
                 alike += status == 0 and printed == wanted
                 ended += status != 0
                 other += status == 0 and printed != wanted
-    print(f"memory: {alike} refusals that change no answer, {ended} that end the run, {other} others")
+    print(f"{name}: {alike} refusals with the answers that are wanted, {ended} that end the run, {other} others")
     return alike > 0 and other == 0
+
+
+def stays_in_adoptions(program):
+    rows = adoptions("stdin")
+    places = [i for i, row in enumerate(rows) if row.startswith("adopt ")]
+    return stays(program, "adopt", rows, adoptions("stdout"), places)
+
+
+def stays_in_restarts(program):
+    rows, wanted = lines("restart")
+    return stays(program, "restart", rows, wanted, [rows.index("restart")])
+
+
+REFUSED = {"adopt": stays_in_adoptions, "restart": stays_in_restarts}
 
 
 def main(names):
     program = built()
-    names = names or ["memory", *sorted(path.stem for path in LISTS.glob("*.stdin"))]
-    answers = [stays(program) if name == "memory" else answered(program, name) for name in names]
+    names = names or [*REFUSED, "full", "long"]
+    answers = [REFUSED[name](program) if name in REFUSED else answered(program, name) for name in names]
     sys.exit(0 if all(answers) else 1)
 
 

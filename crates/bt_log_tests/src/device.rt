@@ -2,8 +2,8 @@
 ghost use Rattle.std.specs.Prelude.{◌≡◌, ◌≤◌, [], length, IfOk};
 ghost use Rattle.bt_disk.specs.Limits.{one_more};
 
-use bt_disk::{DeviceFault, Disk, MemoryDisk};
-use std::alloc::Global;
+use bt_disk::{DeviceFault, Disk, FaultDisk, Loss, MemoryDisk};
+use std::alloc::{AllocError, Global};
 
 /// How many calls of a kind were made of a device, failed ones too.
 #[derive(Clone, Copy)]
@@ -13,22 +13,29 @@ pub struct Calls {
     pub syncs: u64,
 }
 
+/// What a device does wrong, from a call on or by it.
+#[derive(Clone, Copy)]
+pub enum Defect {
+    /// The call fails.
+    Once,
+    /// It and all behind it fail.
+    Stop,
+    /// From it on the byte at a place is read with its low bit changed.
+    Flip(u64),
+}
+
 /// What a device keeps.
 #[derive(Drop)]
 enum Medium {
-    Memory(MemoryDisk),
+    Memory(FaultDisk<MemoryDisk>),
     /// Nothing but its length: it reads as zeros.
     Zeros(u64),
 }
 
-/// A device that counts its calls from its making on, and of which one may fail, by its number; a call that
-/// fails does nothing else. Nothing is promised of it but the count of its faults.
+/// A device that counts its calls from its making on. Nothing is promised of it but the count of its faults.
 #[derive(Drop)]
 pub struct TestDisk {
     medium: Medium,
-    made: u64,
-    /// The call that fails; 0 for none.
-    failing: u64,
     calls: Calls,
     faults: u64,
 }
@@ -89,21 +96,20 @@ fn read_zeros(len: u64, at: u64, out: &mut [u8]) -> usize
 }
 
 impl TestDisk {
-    /// A device in memory, with these bytes.
-    pub fn in_memory(alloc: Global, bytes: Vec<u8>, failing: u64) -> Self {
-        TestDisk::new(Medium::Memory(MemoryDisk::new(alloc, bytes)), failing)
+    /// A device in memory, with these bytes, and a defect at the call of this number; with none, where it is 0.
+    pub fn in_memory(alloc: Global, bytes: Vec<u8>, defect: Defect, call: u64) -> Self {
+        let disk = FaultDisk::new(MemoryDisk::new(alloc, bytes));
+        TestDisk::new(Medium::Memory(with_defect(disk, defect, call)))
     }
 
     /// A device of so many zeros, that keeps nothing of what is written to it but how long it makes it.
-    pub fn of_zeros(len: u64, failing: u64) -> Self {
-        TestDisk::new(Medium::Zeros(len), failing)
+    pub fn of_zeros(len: u64) -> Self {
+        TestDisk::new(Medium::Zeros(len))
     }
 
-    fn new(medium: Medium, failing: u64) -> Self {
+    fn new(medium: Medium) -> Self {
         TestDisk {
             medium,
-            made: 0,
-            failing,
             calls: Calls {
                 reads: 0,
                 writes: 0,
@@ -116,7 +122,7 @@ impl TestDisk {
     /// The bytes that it keeps.
     pub fn bytes(&self) -> &[u8] {
         match &self.medium {
-            Medium::Memory(disk) => disk.bytes(),
+            Medium::Memory(disk) => disk.inner().bytes(),
             Medium::Zeros(_) => &[],
         }
     }
@@ -133,12 +139,15 @@ impl TestDisk {
         self.calls
     }
 
-    /// Counts a call, and says whether it fails.
-    fn fails(&mut self) -> bool
-        ensures { self.new.faults ≡ self.old.faults }
-    {
-        self.made = self.made.saturating_add(1);
-        self.made == self.failing
+    /// What a crash now leaves, as a device without a defect.
+    pub fn image(&self, alloc: Global, loss: Loss) -> Result<TestDisk, AllocError> {
+        match &self.medium {
+            Medium::Memory(disk) => {
+                let bytes = disk.inner().image(loss)?;
+                Ok(TestDisk::in_memory(alloc, bytes, Defect::Once, 0))
+            }
+            Medium::Zeros(len) => Ok(TestDisk::of_zeros(*len)),
+        }
     }
 
     fn fault(&mut self) -> DeviceFault
@@ -146,6 +155,17 @@ impl TestDisk {
     {
         self.faults = self.faults.saturating_add(1);
         DeviceFault
+    }
+}
+
+fn with_defect(disk: FaultDisk<MemoryDisk>, defect: Defect, call: u64) -> FaultDisk<MemoryDisk> {
+    if call == 0 || call == u64::MAX {
+        return disk;
+    }
+    match defect {
+        Defect::Once => disk.failing_once(call),
+        Defect::Stop => disk.failing_from(call),
+        Defect::Flip(at) => disk.flipping(call, at),
     }
 }
 
@@ -161,9 +181,6 @@ impl Disk for TestDisk {
     ghost reads_image = { λ d h. absurd h };
 
     fn len(&mut self) -> Result<u64, DeviceFault> {
-        if self.fails() {
-            return Err(self.fault());
-        }
         match self.medium.len() {
             Ok(len) => Ok(len),
             Err(_) => Err(self.fault()),
@@ -172,9 +189,6 @@ impl Disk for TestDisk {
 
     fn read_at(&mut self, at: u64, out: &mut [u8]) -> Result<usize, DeviceFault> {
         self.calls.reads = self.calls.reads.saturating_add(1);
-        if self.fails() {
-            return Err(self.fault());
-        }
         match self.medium.read_at(at, out) {
             Ok(count) => Ok(count),
             Err(_) => Err(self.fault()),
@@ -183,9 +197,6 @@ impl Disk for TestDisk {
 
     fn write_at(&mut self, at: u64, bytes: &[u8]) -> Result<(), DeviceFault> {
         self.calls.writes = self.calls.writes.saturating_add(1);
-        if self.fails() {
-            return Err(self.fault());
-        }
         match self.medium.write_at(at, bytes) {
             Ok(()) => Ok(()),
             Err(_) => Err(self.fault()),
@@ -193,9 +204,6 @@ impl Disk for TestDisk {
     }
 
     fn set_len(&mut self, len: u64) -> Result<(), DeviceFault> {
-        if self.fails() {
-            return Err(self.fault());
-        }
         match self.medium.set_len(len) {
             Ok(()) => Ok(()),
             Err(_) => Err(self.fault()),
@@ -204,9 +212,6 @@ impl Disk for TestDisk {
 
     fn sync(&mut self) -> Result<(), DeviceFault> {
         self.calls.syncs = self.calls.syncs.saturating_add(1);
-        if self.fails() {
-            return Err(self.fault());
-        }
         match self.medium.sync() {
             Ok(()) => Ok(()),
             Err(_) => Err(self.fault()),

@@ -39,7 +39,7 @@ pub fn fill<D: Disk + Drop>(
     if !append_times(log, &run, room % PROOF_LEN / RUN_LEN) {
         return Ok(false);
     }
-    Ok(flushed(log))
+    Ok(log.flush().is_ok())
 }
 
 fn long_proof(alloc: Global) -> Result<Hint, AllocError> {
@@ -56,17 +56,9 @@ fn long_proof(alloc: Global) -> Result<Hint, AllocError> {
 
 fn append_times<D: Disk + Drop>(log: &mut ResumeLog<D>, hint: &Hint, count: u64) -> bool {
     for _ in 0..count {
-        if !is_appended(log, hint) {
+        if !hint.can_be_read() || log.append(hint).is_err() {
             return false;
         }
     }
     true
-}
-
-fn is_appended<D: Disk + Drop>(log: &mut ResumeLog<D>, hint: &Hint) -> bool {
-    hint.can_be_read() && log.append(hint).is_ok()
-}
-
-fn flushed<D: Disk + Drop>(log: &mut ResumeLog<D>) -> bool {
-    log.flush().is_ok()
 }

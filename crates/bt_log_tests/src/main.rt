@@ -1,17 +1,16 @@
-//! Takes in hashes, pieces and whole files with the parts of an engine that has a log, flushes them, begins them anew, and prints
-//! what waits for the log and what its device has, as the rows of `stdin` say. `stdout` has what they are to answer. README.md
-//! tells the rows.
+//! Feeds an engine that has a log with hashes and pieces, has it take in whole files, flush and begin anew, and prints what its
+//! log's device has, as the rows of `stdin` say. `stdout` has what they are to answer. README.md tells the rows.
 #![tactic(auto)]
 
 mod bytes;
-mod changes;
 mod device;
 mod events;
 mod fill;
 mod hints;
-mod logged;
 mod notes;
+mod peers;
 mod stage;
+mod stops;
 mod words;
 
 use stage::Stage;

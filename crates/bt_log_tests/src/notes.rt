@@ -1,18 +1,15 @@
-//! What came of a message, in words.
+//! What came of a peer's event, in words.
 
-use crate::changes::Heard;
 use crate::words::{RowError, tell};
 use bt_book::BlockId;
-use bt_machine::{Note, Why};
+use bt_machine::{Note, Output, Why};
 use std::fmt::Write;
 
-/// What was noted, or why the peer is to be closed.
-pub fn tell_heard(out: &mut String, heard: &Heard) -> Result<(), RowError> {
-    match heard {
-        Heard::Nothing => Err(RowError::Unread),
-        Heard::Closed(why) => tell_why(out, why),
-        Heard::Noted(note) => tell_notes(out, &[*note]),
-        Heard::Settled(notes) => tell_notes(out, notes),
+/// What was noted, or why the peer is closed. What is sent is not told.
+pub fn tell_output(out: &mut String, output: &Output) -> Result<(), RowError> {
+    match &output.close {
+        Some(why) => tell_why(out, why),
+        None => tell_notes(out, &output.notes),
     }
 }
 
@@ -38,9 +35,10 @@ fn tell_note(out: &mut String, note: &Note) -> Result<(), RowError> {
         Note::Marked(block) => tell_block(out, "marked", block),
         Note::Waiting(block) => tell_block(out, "waiting", block),
         Note::Freed(block) => tell_block(out, "freed", block),
+        Note::Damaged(block) => tell_block(out, "damaged", block),
         Note::Device(file) => Ok(write!(out, ", device {file}")?),
         Note::Stale => tell(out, ", stale"),
-        _ => Err(RowError::Unread),
+        Note::Complete(file) => Ok(write!(out, ", complete {file}")?),
     }
 }
 

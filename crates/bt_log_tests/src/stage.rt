@@ -1,14 +1,14 @@
 //! What the rows so far have made, and the first word of a row.
 
 use crate::bytes::tell_bytes;
-use crate::device::TestDisk;
-use crate::events::{
-    adopt_row, flush_row, follow_row, hashes_row, lost_row, pending_row, piece_row, report_row,
-    restart_row,
-};
+use crate::device::{Defect, TestDisk};
+use crate::events::{adopt_row, flush_row, peers_row, report_row, restart_row};
 use crate::fill::fill;
-use crate::logged::Logged;
+use crate::hints::{tell_log, tell_refusal};
+use crate::peers::{connect_row, hashes_row, lost_row, piece_row};
+use crate::stops::stop_row;
 use crate::words::{RowError, Words, tell};
+use bt_engine::Engine;
 use bt_lanes::Lanes;
 use bt_machine::{StartError, StartRefused};
 use bt_meta::{MetaError, Torrent, read_info, read_torrent};
@@ -18,17 +18,35 @@ use std::alloc::{AllocError, Global};
 use std::fmt::Write;
 use std::mem;
 
-pub type TestEngine = Logged<TestDisk, Lanes>;
+pub type TestEngine = Engine<TestDisk, Lanes>;
 
-type TestRefusal = StartRefused<TestDisk, ResumeLog<TestDisk>>;
+pub type TestRefusal = StartRefused<TestDisk, ResumeLog<TestDisk>>;
 
 /// No torrent of rows has it.
 const OTHER_INFOHASH: Hash32 = [0; 32];
+
+/// The text of a torrent, or of its info dictionary alone.
+#[derive(Drop)]
+pub struct Source {
+    is_whole: bool,
+    text: Vec<u8>,
+}
+
+impl Source {
+    pub fn read(&self, alloc: Global) -> Result<Torrent, MetaError> {
+        if self.is_whole {
+            read_torrent(alloc, &self.text)
+        } else {
+            read_info(alloc, &self.text)
+        }
+    }
+}
 
 /// A torrent, the devices that are to be its files, the device of a log, and what was started over them.
 #[derive(Drop)]
 pub struct Stage {
     alloc: Global,
+    source: Source,
     torrent: Option<Torrent>,
     infohash: Hash32,
     disks: Vec<TestDisk>,
@@ -48,6 +66,10 @@ impl Stage {
     pub fn new(alloc: Global) -> Self {
         Stage {
             alloc,
+            source: Source {
+                is_whole: true,
+                text: Vec::new(alloc),
+            },
             torrent: None,
             infohash: [0; 32],
             disks: Vec::new(alloc),
@@ -91,17 +113,24 @@ impl Stage {
         out: &mut String,
     ) -> Result<(), RowError> {
         let text = words.bytes(self.alloc)?;
-        match read(self.alloc, is_whole, &text) {
-            Ok(torrent) => self.put_torrent(torrent, out),
+        let source = Source { is_whole, text };
+        match source.read(self.alloc) {
+            Ok(torrent) => self.put_torrent(source, torrent, out),
             Err(MetaError::OutOfMemory) => Err(RowError::Memory(AllocError)),
             Err(error) => Ok(write!(out, "refused {error}")?),
         }
     }
 
-    fn put_torrent(&mut self, torrent: Torrent, out: &mut String) -> Result<(), RowError> {
+    fn put_torrent(
+        &mut self,
+        source: Source,
+        torrent: Torrent,
+        out: &mut String,
+    ) -> Result<(), RowError> {
         let count = torrent.files().len();
         self.infohash = torrent.infohash();
         self.left = 0;
+        put(&mut self.source, source);
         put(&mut self.torrent, Some(torrent));
         put(&mut self.disks, Vec::new(self.alloc));
         put(&mut self.log, None);
@@ -113,7 +142,7 @@ impl Stage {
     fn device_row(&mut self, words: &mut Words, out: &mut String) -> Result<(), RowError> {
         let kind = words.word();
         let disk = device_of(self.alloc, kind, words)?;
-        push(&mut self.disks, disk)?;
+        self.disks.push(disk)?;
         tell(out, "a device")
     }
 
@@ -121,8 +150,12 @@ impl Stage {
     fn log_row(&mut self, words: &mut Words, out: &mut String) -> Result<(), RowError> {
         match words.word() {
             "bytes" => self.log_bytes(out),
-            "calls" => self.log_calls(out),
-            "left" => self.left_row(words, out),
+            "calls" => tell_calls(out, self.log_disk()?),
+            "hints" => tell_log(self.alloc, self.log_disk()?, self.infohash, out),
+            "left" => {
+                self.left = words.long()?;
+                tell(out, "to be filled")
+            }
             kind => {
                 let disk = device_of(self.alloc, kind, words)?;
                 put(&mut self.log, Some(disk));
@@ -131,20 +164,11 @@ impl Stage {
         }
     }
 
-    fn left_row(&mut self, words: &mut Words, out: &mut String) -> Result<(), RowError> {
-        self.left = words.long()?;
-        tell(out, "to be filled")
-    }
-
     fn log_bytes(&self, out: &mut String) -> Result<(), RowError> {
         match self.log_disk()?.kept_len() {
             Some(len) => Ok(write!(out, "{len} bytes that are not kept")?),
             None => tell_bytes(self.alloc, out, self.log_disk()?.bytes()),
         }
-    }
-
-    fn log_calls(&self, out: &mut String) -> Result<(), RowError> {
-        tell_calls(out, self.log_disk()?)
     }
 
     /// The device of the log, also where it was refused.
@@ -165,19 +189,18 @@ impl Stage {
         tell_calls(out, disk.ok_or(RowError::Unread)?)
     }
 
-    /// Opens the log, and starts over the devices, without a peer or with one; or with the log of another torrent.
+    /// Opens the log of the torrent, or of another one, and starts over the devices.
     fn start_row(&mut self, words: &mut Words, out: &mut String) -> Result<(), RowError> {
-        let (has_peer, infohash) = match words.word() {
-            "alone" => (false, self.infohash),
-            "peer" => (true, self.infohash),
-            "other" => (false, OTHER_INFOHASH),
+        let infohash = match words.word() {
+            "" => self.infohash,
+            "other" => OTHER_INFOHASH,
             _ => return Err(RowError::Unread),
         };
         let Some(disk) = self.log.take() else {
             return Err(RowError::Unread);
         };
         match ResumeLog::attach(self.alloc, disk, infohash) {
-            Ok(log) => self.start(has_peer, log, out),
+            Ok(log) => self.start(log, out),
             Err(refused) => self.put_back(refused, out),
         }
     }
@@ -190,18 +213,10 @@ impl Stage {
     ) -> Result<(), RowError> {
         let Refused { disk, cause } = refused;
         put(&mut self.log, Some(disk));
-        if cause == LogError::OutOfMemory {
-            return Err(RowError::Memory(AllocError));
-        }
-        Ok(write!(out, "refused {cause}")?)
+        tell_refusal(out, cause)
     }
 
-    fn start(
-        &mut self,
-        has_peer: bool,
-        log: ResumeLog<TestDisk>,
-        out: &mut String,
-    ) -> Result<(), RowError> {
+    fn start(&mut self, log: ResumeLog<TestDisk>, out: &mut String) -> Result<(), RowError> {
         let mut log = log;
         if self.left > 0 && !fill(self.alloc, &mut log, self.left)? {
             return tell(out, "not filled");
@@ -210,7 +225,7 @@ impl Stage {
             return Err(RowError::Unread);
         };
         let disks = mem::replace(&mut self.disks, Vec::new(self.alloc));
-        match started(self.alloc, has_peer, torrent, disks, log) {
+        match started(self.alloc, torrent, disks, log) {
             Ok(engine) => {
                 put(&mut self.engine, Some(engine));
                 tell(out, "started")
@@ -241,55 +256,42 @@ impl Stage {
             return Err(RowError::Unread);
         };
         match name {
-            "follow" => follow_row(engine, out),
+            "connect" => connect_row(self.alloc, engine, out),
             "hashes" => hashes_row(self.alloc, engine, words, out),
             "piece" => piece_row(self.alloc, engine, words, out),
-            "lost" => lost_row(engine, out),
-            "adopt" => adopt_row(self.alloc, engine, self.infohash, words, out),
+            "lost" => lost_row(engine, words, out),
+            "peers" => peers_row(engine, out),
+            "adopt" => adopt_row(engine, words, out),
             "flush" => flush_row(engine, out),
             "restart" => restart_row(engine, out),
-            "pending" => pending_row(self.alloc, engine, self.infohash, out),
-            "count" => Ok(write!(out, "{} wait", engine.waiting())?),
             "report" => report_row(engine, words, out),
+            "stop" => stop_row(self.alloc, &self.source, engine, out),
             _ => Err(RowError::Unread),
         }
     }
 }
 
-fn read(alloc: Global, is_whole: bool, text: &[u8]) -> Result<Torrent, MetaError> {
-    if is_whole {
-        read_torrent(alloc, text)
-    } else {
-        read_info(alloc, text)
-    }
-}
-
-fn push(disks: &mut Vec<TestDisk>, disk: TestDisk) -> Result<(), AllocError> {
-    Ok(disks.push(disk)?)
-}
-
-/// A device: `memory` and `zeros`, then which call of it fails, 0 for none, and its bytes, or how many zeros.
+/// A device: `zeros`, and how many; or its defect, the call of it, and its bytes.
 fn device_of(alloc: Global, kind: &str, words: &mut Words) -> Result<TestDisk, RowError> {
-    let failing = words.long()?;
-    match kind {
-        "memory" => Ok(TestDisk::in_memory(alloc, words.bytes(alloc)?, failing)),
-        "zeros" => Ok(TestDisk::of_zeros(words.long()?, failing)),
-        _ => Err(RowError::Unread),
-    }
+    let number = words.long()?;
+    let defect = match kind {
+        "zeros" => return Ok(TestDisk::of_zeros(number)),
+        "memory" => Defect::Once,
+        "stopping" => Defect::Stop,
+        "flipping" => Defect::Flip(words.long()?),
+        _ => return Err(RowError::Unread),
+    };
+    let bytes = words.bytes(alloc)?;
+    Ok(TestDisk::in_memory(alloc, bytes, defect, number))
 }
 
-fn started(
+pub fn started(
     alloc: Global,
-    has_peer: bool,
     torrent: Torrent,
     disks: Vec<TestDisk>,
     log: ResumeLog<TestDisk>,
 ) -> Result<TestEngine, TestRefusal> {
-    if has_peer {
-        Logged::start_with_peer(alloc, torrent, Lanes, disks, log)
-    } else {
-        Logged::start(alloc, torrent, Lanes, disks, log)
-    }
+    Engine::start(alloc, torrent, Lanes, disks, Some(log))
 }
 
 fn tell_calls(out: &mut String, disk: &TestDisk) -> Result<(), RowError> {

@@ -1,6 +1,7 @@
 //! The words of a row.
 
 use crate::bytes::bytes_of;
+use bt_book::PeerKey;
 use bt_hashreq::HashKey;
 use bt_tree::Hash32;
 use std::alloc::{AllocError, Global};
@@ -47,6 +48,11 @@ impl<'a> Words<'a> {
 
     pub fn long(&mut self) -> Result<u64, RowError> {
         self.word().parse::<u64>().or(Err(RowError::Unread))
+    }
+
+    /// The key of a peer.
+    pub fn peer(&mut self) -> Result<PeerKey, RowError> {
+        Ok(PeerKey(self.long()?))
     }
 
     /// The bytes that the next word spells.

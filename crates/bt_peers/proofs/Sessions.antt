@@ -1,36 +1,72 @@
--- The events of a session lead from the engine before it to the one after it.
-use Rattle.std.proofs.Common.{◌≢◌, ℕ, List, Option, Some, None, Ok}
+-- The events of a session, and of a flush behind it, lead from the engine before it to the one after it.
+use Rattle.std.proofs.Common.{[], ◌≡◌, ◌≢◌, ℕ, Bool, true, false, List, Option, Some, None, ap, ◌∙◌, sym, subst, ne_eqb, refl}
+use Rattle.std.specs.Prelude.{Result, Ok, Err, ◌==◌, not}
 use Rattle.bt_disk.specs.History.{History}
+use Rattle.bt_machine.specs.declared.error.FlushError.{FlushError}
 use Rattle.bt_machine.specs.declared.event.Event.{Event}
-use Rattle.bt_machine.specs.declared.event.Event.TheVariants.{Connect, Lost, Restart}
+use Rattle.bt_machine.specs.declared.event.Event.TheVariants.{Connect, Flush, Lost, Restart}
 use Rattle.bt_machine.specs.declared.event.Answer.{Answer}
-use Rattle.bt_machine.specs.declared.event.Answer.TheVariants.{Connected, Fed, Stepped, Rechoked, Lost as LostAnswer}
-use Rattle.bt_machine.specs.State.{EngineView}
+use Rattle.bt_machine.specs.declared.event.Answer.TheVariants.{Connected, Fed, Stepped, Rechoked, Flushed, Lost as LostAnswer}
+use Rattle.bt_machine.specs.Flush.{StepFlush, syncs, writes, fails, unwritten, unflushed}
+use Rattle.bt_machine.specs.State.{EngineState, EngineView}
+use Rattle.bt_machine.specs.View.{StepsTo}
 use Rattle.bt_session.specs.declared.end.SessionEnd.{SessionEnd}
-use Rattle.bt_session.specs.Ends.{IsSession}
+use Rattle.bt_session.specs.Ends.{IsSessionWithFlushes}
 use Rattle.bt_session.specs.Progress.{place}
-use Rattle.bt_session.specs.Session.{Session, Follows, begins, goes_on}
-use Rattle.bt_runs.specs.Leads.{LeadsTo, one, both}
+use Rattle.bt_session.specs.Session.{Session, Follows, FollowsTurn, is_flush_due, begins, goes_on}
+use Rattle.bt_runs.specs.Leads.{LeadsTo, none, one, both}
+use Rattle.bt_peers.specs.Peer.{IsFlushedWhere}
 
 -- a session makes no restart
-no_restart : (key until s : _) (last : Answer) (event : Event) → Follows key until s last event → event ≢ Restart
-no_restart key until s (Connected (Ok joined)) event follows e = let fed = follows.1.3 in absurd cc
-no_restart key until s (Fed (Ok done)) event follows e = absurd cc
-no_restart key until s (Stepped (Ok (Some out))) event follows e = let is = follows.2 in absurd cc
-no_restart key until s (Stepped (Ok None)) event follows e = absurd cc
-no_restart key until s (Rechoked (Ok out)) event follows e = let fed = follows.3 in absurd cc
-no_restart key until s _ event follows e = absurd follows
+turn_no_restart : (due : Bool) (key event : _) → FollowsTurn due key event → event ≢ Restart
+turn_no_restart true key event follows e = absurd cc
+turn_no_restart false key event follows e = let fed = follows.3 in absurd cc
+
+no_restart : (key until every taken s : _) (last : Answer) (event : Event) → Follows key until every taken s last event → event ≢ Restart
+no_restart key until every taken s (Connected (Ok joined)) event follows e = let fed = follows.1.3 in absurd cc
+no_restart key until every taken s (Fed (Ok done)) event follows e = absurd cc
+no_restart key until every taken s (Stepped (Ok (Some out))) event follows e = let is = follows.2 in absurd cc
+no_restart key until every taken s (Stepped (Ok None)) event follows e = absurd cc
+no_restart key until every taken s (Rechoked (Ok out)) event follows e = turn_no_restart (is_flush_due every taken) key event follows e
+no_restart key until every taken s (Flushed (Ok done)) event follows e = let fed = follows.3 in absurd cc
+no_restart key until every taken s _ event follows e = absurd follows
+
+-- a flush connects no peer
+no_peer_flushed : {s new : EngineState} {calls answer : _} → StepFlush s calls answer new → s.peers ≡ [] → new.peers ≡ []
+no_peer_flushed (syncs x y e w) gone = ap (λ (m : EngineState). m.peers) w ∙ gone
+no_peer_flushed (writes x y e w) gone = ap (λ (m : EngineState). m.peers) w ∙ gone
+no_peer_flushed (fails before file after x y e w) gone = ap (λ (m : EngineState). m.peers) w ∙ gone
+no_peer_flushed (unwritten before hint after cause x y z e w) gone = ap (λ (m : EngineState). m.peers) w ∙ gone
+no_peer_flushed (unflushed x y e w) gone = ap (λ (m : EngineState). m.peers) w ∙ gone
 
 module _ {D : Type 0} (history : D → History) (honest : D → Type 0) (faults : D → ℕ) (dig : List ℕ → List ℕ) where
-  events_lead : {key until first events answers last now : _} → Session history honest faults dig key until first events answers last now
+  events_lead : {key until every first events answers last now : _} → Session history honest faults dig key until every first events answers last now
       → LeadsTo history honest faults dig first now
   events_lead {first} (begins out answer now is step) = one first now Connect answer (λ e. absurd cc) step
-  events_lead {key} {until} {first} (goes_on events answers last answer event mid now session follows step) =
-      both first mid now (events_lead session) (one mid now event answer (no_restart key until mid.state last event follows) step)
+  events_lead {key} {until} {every} {first} (goes_on events answers last answer event mid now session follows step) =
+      both first mid now (events_lead session) (one mid now event answer (no_restart key until every _ mid.state last event follows) step)
 
   -- a whole session, with the removal of its peer
-  pub session_leads : (until : _) (turns : ℕ) (old new : EngineView D) (end : SessionEnd) (remaining left contents written : Option (List ℕ))
-      → IsSession history honest faults dig until turns (place old remaining contents) end (place new left written) → LeadsTo history honest faults dig old new
-  session_leads until turns old new end remaining left contents written session =
+  pub session_leads : (until : _) (every turns : ℕ) (old new : EngineView D) (end : Result SessionEnd FlushError) (remaining left contents written : Option (List ℕ))
+      → IsSessionWithFlushes history honest faults dig until every turns (place old remaining contents) end (place new left written)
+      → LeadsTo history honest faults dig old new
+  session_leads until every turns old new end remaining left contents written session =
       both old session.engine new (events_lead session.ended.ran.session)
       (one session.engine new (Lost session.key) (LostAnswer session.removed) (λ e. absurd cc) session.removal)
+
+  -- a flush
+  pub flush_leads : (old new : EngineView D) (answer : Result (Unit {0}) FlushError) → StepsTo history honest faults dig old Flush (Flushed answer) new
+      → LeadsTo history honest faults dig old new
+  flush_leads old new answer step = one old new Flush (Flushed answer) (λ e. absurd cc) step
+
+  pub none_connected : (old new : EngineView D) (answer : Result (Unit {0}) FlushError) → StepsTo history honest faults dig old Flush (Flushed answer) new
+      → old.state.peers ≡ [] → new.state.peers ≡ []
+  none_connected old new answer step gone = no_peer_flushed step.step.2 gone
+
+  pub is_flushed : (every : ℕ) (old new : EngineView D) (answer : Result (Unit {0}) FlushError) → every ≢ 0
+      → StepsTo history honest faults dig old Flush (Flushed answer) new → IsFlushedWhere history honest faults dig (not (every == 0)) old answer new
+  is_flushed every old new answer some step =
+      subst (λ b. IsFlushedWhere history honest faults dig (not b) old answer new) (sym (ne_eqb every 0 some)) step
+
+  pub is_unflushed : (every : ℕ) (old : EngineView D) → every ≡ 0 → IsFlushedWhere history honest faults dig (not (every == 0)) old (Ok tt) old
+  is_unflushed every old zero = rw zero (refl, refl)

@@ -1,14 +1,15 @@
 -- Peers that are tried one after the other: what was done so far leads from any rest of the list to the whole.
 use Rattle.std.proofs.Common.{[], ◌≡◌, ℕ, ◌+◌, ◌-◌, ◌≤◌, ◌<◌, true, false, List, ◌∷◌, ◌++◌, length, take, drop, set, get_or, replicate, sym, ◌∙◌, ap, subst, arith, add-zero}
-use Rattle.std.specs.Prelude.{All}
+use Rattle.std.specs.Prelude.{All, Result, Ok, Err}
 use Rattle.std.proofs.lemmas.List.{append-nil, append_assoc, take-append-drop, drop_all, drop_more, drop-drop, drop-replicate, drop-set-lt, get_or-drop, length-drop, length-set, take_more_set, take_all}
 use Rattle.std.proofs.lemmas.List.Elements.{All-drop}
 use Rattle.bt_machine.specs.Report.{all_complete}
 use Rattle.bt_machine.specs.State.{EngineView}
 use Rattle.bt_peers.specs.declared.end.PeerEnd.{PeerEnd}
 use Rattle.bt_peers.specs.declared.end.PeerEnd.TheVariants.{Untried}
-use Rattle.bt_peers.specs.Peers.{InTurn, Trial}
-use Rattle.bt_peers.specs.Peers.InTurn.{none_left, complete, tried}
+use Rattle.bt_machine.specs.declared.error.FlushError.{FlushError}
+use Rattle.bt_peers.specs.Peers.{InTurnWithFlushes, TrialWithFlushes}
+use Rattle.bt_peers.specs.Peers.InTurnWithFlushes.{none_left, complete, tried, stopped}
 
 -- a part of a list and an element more
 pub take-set-append : {X : Type 0} (xs rest : List X) (i : ℕ) (x : X) → i < length xs → take i xs ++ x ∷ rest ≡ take (i + 1) (set xs i x) ++ rest
@@ -35,37 +36,63 @@ untried_later ends links i end link untried =
     count : length (drop i links) - 1 ≡ length (drop (i + 1) (set links i link))
     count = omega (arith, length-drop i links, length-drop (i + 1) (set links i link), length-set links i link)
 
-module _ {D L : Type 0} (Try : Trial D L) (first : EngineView D) (whole : List L) where
+module _ {D L : Type 0} (Try : TrialWithFlushes D L) (first : EngineView D) (whole : List L) where
   -- behind these ends and links, whatever comes in turn makes the whole
   abbrev pub LeadsOn : (engine : EngineView D) (left : List L) (ends : List PeerEnd) (links : List L) → Type 0
-  LeadsOn engine left ends links = (later : List PeerEnd) (rest : List L) (new : EngineView D)
-      → InTurn Try engine left later rest new → InTurn Try first whole (ends ++ later) (links ++ rest) new
+  LeadsOn engine left ends links = (later : List PeerEnd) (rest : List L) (answer : Result (Unit {0}) FlushError) (new : EngineView D)
+      → InTurnWithFlushes Try engine left later rest answer new → InTurnWithFlushes Try first whole (ends ++ later) (links ++ rest) answer new
 
   -- one more is tried
   pub went_on : (i : ℕ) (engine mid : EngineView D) (links : List L) (ends : List PeerEnd) (d after : L) (end : PeerEnd)
-      → i < length links → i < length ends → all_complete engine.state ≡ false → Try engine (get_or links i d) end after mid
+      → i < length links → i < length ends → all_complete engine.state ≡ false → Try engine (get_or links i d) end (Ok tt) after mid
       → LeadsOn engine (drop i links) (take i ends) (take i links)
       → LeadsOn mid (drop (i + 1) (set links i after)) (take (i + 1) (set ends i end)) (take (i + 1) (set links i after))
-  went_on i engine mid links ends d after end in_links in_ends not_done went leads later rest new turns =
-      subst (λ whole_ends. InTurn Try first whole whole_ends (take (i + 1) (set links i after) ++ rest) new) (take-set-append ends later i end in_ends)
-      (subst (λ whole_links. InTurn Try first whole (take i ends ++ end ∷ later) whole_links new) (take-set-append links rest i after in_links)
-      (leads (end ∷ later) (after ∷ rest) new (subst (λ left. InTurn Try engine left (end ∷ later) (after ∷ rest) new) (sym (drop_more links i d in_links))
-      (tried engine mid new (get_or links i d) after end (drop (i + 1) links) rest later not_done went
-      (subst (λ left. InTurn Try mid left later rest new) (drop-set-lt (i + 1) links i after (omega arith)) turns)))))
+  went_on i engine mid links ends d after end in_links in_ends not_done went leads later rest answer new turns =
+      subst (λ whole_ends. InTurnWithFlushes Try first whole whole_ends (take (i + 1) (set links i after) ++ rest) answer new) (take-set-append ends later i end in_ends)
+      (subst (λ whole_links. InTurnWithFlushes Try first whole (take i ends ++ end ∷ later) whole_links answer new) (take-set-append links rest i after in_links)
+      (leads (end ∷ later) (after ∷ rest) answer new
+      (subst (λ left. InTurnWithFlushes Try engine left (end ∷ later) (after ∷ rest) answer new) (sym (drop_more links i d in_links))
+      (tried engine mid new (get_or links i d) after end (drop (i + 1) links) rest later answer not_done went
+      (subst (λ left. InTurnWithFlushes Try mid left later rest answer new) (drop-set-lt (i + 1) links i after (omega arith)) turns)))))
 
   -- none is left
   pub all_tried : (i : ℕ) (engine : EngineView D) (links : List L) (ends : List PeerEnd) → length links ≤ i → length ends ≤ i
-      → LeadsOn engine (drop i links) (take i ends) (take i links) → InTurn Try first whole ends links engine
+      → LeadsOn engine (drop i links) (take i ends) (take i links) → InTurnWithFlushes Try first whole ends links (Ok tt) engine
   all_tried i engine links ends no_link no_end leads =
-      subst (λ whole_ends. InTurn Try first whole whole_ends links engine) (append-nil (take i ends) ∙ take_all i ends no_end)
-      (subst (λ whole_links. InTurn Try first whole (take i ends ++ []) whole_links engine) (append-nil (take i links) ∙ take_all i links no_link)
-      (leads [] [] engine (subst (λ left. InTurn Try engine left [] [] engine) (sym (drop_all i links no_link)) (none_left engine))))
+      subst (λ whole_ends. InTurnWithFlushes Try first whole whole_ends links (Ok tt) engine) (append-nil (take i ends) ∙ take_all i ends no_end)
+      (subst (λ whole_links. InTurnWithFlushes Try first whole (take i ends ++ []) whole_links (Ok tt) engine) (append-nil (take i links) ∙ take_all i links no_link)
+      (leads [] [] (Ok tt) engine (subst (λ left. InTurnWithFlushes Try engine left [] [] (Ok tt) engine) (sym (drop_all i links no_link)) (none_left engine))))
 
   -- the engine is complete
   pub completed : (i : ℕ) (engine : EngineView D) (links : List L) (ends : List PeerEnd) → all_complete engine.state ≡ true
       → drop i ends ≡ replicate (length (drop i links)) Untried
-      → LeadsOn engine (drop i links) (take i ends) (take i links) → InTurn Try first whole ends links engine
+      → LeadsOn engine (drop i links) (take i ends) (take i links) → InTurnWithFlushes Try first whole ends links (Ok tt) engine
   completed i engine links ends is_done untried leads =
-      subst (λ whole_ends. InTurn Try first whole whole_ends links engine) (ap (λ back. take i ends ++ back) (sym untried) ∙ take-append-drop i ends)
-      (subst (λ whole_links. InTurn Try first whole (take i ends ++ replicate (length (drop i links)) Untried) whole_links engine)
-      (take-append-drop i links) (leads (replicate (length (drop i links)) Untried) (drop i links) engine (complete engine (drop i links) is_done)))
+      subst (λ whole_ends. InTurnWithFlushes Try first whole whole_ends links (Ok tt) engine) (ap (λ back. take i ends ++ back) (sym untried) ∙ take-append-drop i ends)
+      (subst (λ whole_links. InTurnWithFlushes Try first whole (take i ends ++ replicate (length (drop i links)) Untried) whole_links (Ok tt) engine)
+      (take-append-drop i links)
+      (leads (replicate (length (drop i links)) Untried) (drop i links) (Ok tt) engine (complete engine (drop i links) is_done)))
+
+  -- a flush was refused behind one more that is tried: those behind it are not
+  pub refused : (i : ℕ) (engine new : EngineView D) (links : List L) (ends : List PeerEnd) (d after : L) (end : PeerEnd) (error : FlushError)
+      → i < length links → i < length ends → all_complete engine.state ≡ false → Try engine (get_or links i d) end (Err error) after new
+      → drop i ends ≡ replicate (length (drop i links)) Untried
+      → LeadsOn engine (drop i links) (take i ends) (take i links)
+      → InTurnWithFlushes Try first whole (set ends i end) (set links i after) (Err error) new
+  refused i engine new links ends d after end error in_links in_ends not_done went untried leads =
+      subst (λ whole_ends. InTurnWithFlushes Try first whole whole_ends (set links i after) (Err error) new)
+      (take-set-append ends (replicate (length (drop (i + 1) links)) Untried) i end in_ends
+      ∙ ap (λ back. take (i + 1) (set ends i end) ++ back) (sym later_ends) ∙ take-append-drop (i + 1) (set ends i end))
+      (subst (λ whole_links. InTurnWithFlushes Try first whole (take i ends ++ end ∷ replicate (length (drop (i + 1) links)) Untried) whole_links (Err error) new)
+      (take-set-append links (drop (i + 1) links) i after in_links
+      ∙ ap (λ back. take (i + 1) (set links i after) ++ back) (sym later_links) ∙ take-append-drop (i + 1) (set links i after))
+      (leads (end ∷ replicate (length (drop (i + 1) links)) Untried) (after ∷ drop (i + 1) links) (Err error) new
+      (subst (λ left. InTurnWithFlushes Try engine left (end ∷ replicate (length (drop (i + 1) links)) Untried) (after ∷ drop (i + 1) links) (Err error) new)
+      (sym (drop_more links i d in_links))
+      (stopped engine new (get_or links i d) after end (drop (i + 1) links) error not_done went))))
+    where
+      later_links : drop (i + 1) (set links i after) ≡ drop (i + 1) links
+      later_links = drop-set-lt (i + 1) links i after (omega arith)
+
+      later_ends : drop (i + 1) (set ends i end) ≡ replicate (length (drop (i + 1) links)) Untried
+      later_ends = untried_later ends links i end after untried ∙ ap (λ l. replicate (length l) Untried) later_links

@@ -1,12 +1,13 @@
 -- Peers that are tried one after the other, until the engine is complete.
-use Rattle.std.specs.Prelude.{[], ℕ, ◌≡◌, ◌+◌, true, false, List, ◌∷◌, length, replicate, Option, IfSome}
+use Rattle.std.specs.Prelude.{[], ℕ, ◌≡◌, ◌+◌, true, false, List, ◌∷◌, length, replicate, Option, IfSome, Result, Ok, Err}
 use Rattle.bt_disk.specs.History.{History}
+use Rattle.bt_machine.specs.declared.error.FlushError.{FlushError}
 use Rattle.bt_machine.specs.Report.{all_complete}
 use Rattle.bt_machine.specs.State.{EngineView}
 use Rattle.bt_peers.specs.declared.end.PeerEnd.{PeerEnd}
 use Rattle.bt_peers.specs.declared.end.PeerEnd.TheVariants.{Untried}
 use Rattle.bt_peers.specs.Link.{failure_count}
-use Rattle.bt_peers.specs.Peer.{EndsAs}
+use Rattle.bt_peers.specs.Peer.{EndsAs, EndsAsWithFlushes}
 
 -- A link was dialled once, and reached its peer by a reader and a writer, or did not.
 pub record IsDialled {L R W : Type 0} (dials failures : L → ℕ) (gives : L → R → W → Type 0) (old : L)
@@ -40,3 +41,38 @@ pub data InTurn {D L : Type 0} (Try : Trial D L)
       (ends : List PeerEnd) → all_complete old.state ≡ false → Try old link end after mid
       → InTurn Try mid links ends rest new
       → InTurn Try old (link ∷ links) (end ∷ ends) (after ∷ rest) new
+
+-- ---- with flushes
+
+-- The same of a peer in whose session the engine is flushed behind each `every`-th turn, and then behind the
+-- session, or never where that is 0; and what the last of these flushes answered.
+pub record IsTriedWithFlushes {D L R W : Type 0} (history : D → History) (honest : D → Type 0)
+    (faults : D → ℕ) (dig : List ℕ → List ℕ) (dials failures : L → ℕ) (gives : L → R → W → Type 0)
+    (remaining : R → Option (List ℕ)) (contents : W → Option (List ℕ)) (every turns : ℕ) (old : EngineView D)
+    (link : L) (end : PeerEnd) (answer : Result (Unit {0}) FlushError) (after : L) (new : EngineView D)
+    : Type 0 where
+  pub reached : Option (R × W)
+  pub dialled : IsDialled dials failures gives link reached after
+  pub ended : EndsAsWithFlushes history honest faults dig remaining contents true every turns reached old end
+      answer new
+
+-- what is said of one peer: of the engine and its link, its end and what the last flush answered, and both
+-- afterwards
+abbrev pub TrialWithFlushes : (D L : Type 0) → Type 1
+TrialWithFlushes D L = EngineView D → L → PeerEnd → Result (Unit {0}) FlushError → L → EngineView D → Type 0
+
+-- One after the other is tried, as long as one is left, the engine is not complete, and no flush was refused.
+pub data InTurnWithFlushes {D L : Type 0} (Try : TrialWithFlushes D L)
+    : EngineView D → List L → List PeerEnd → List L → Result (Unit {0}) FlushError → EngineView D
+    → Type 0 where
+  none_left : (engine : EngineView D) → InTurnWithFlushes Try engine [] [] [] (Ok tt) engine
+  complete : (engine : EngineView D) (links : List L) → all_complete engine.state ≡ true
+      → InTurnWithFlushes Try engine links (replicate (length links) Untried) links (Ok tt) engine
+  tried : (old mid new : EngineView D) (link after : L) (end : PeerEnd) (links rest : List L)
+      (ends : List PeerEnd) (answer : Result (Unit {0}) FlushError) → all_complete old.state ≡ false
+      → Try old link end (Ok tt) after mid → InTurnWithFlushes Try mid links ends rest answer new
+      → InTurnWithFlushes Try old (link ∷ links) (end ∷ ends) (after ∷ rest) answer new
+  stopped : (old new : EngineView D) (link after : L) (end : PeerEnd) (links : List L) (error : FlushError)
+      → all_complete old.state ≡ false → Try old link end (Err error) after new
+      → InTurnWithFlushes Try old (link ∷ links) (end ∷ replicate (length links) Untried) (after ∷ links)
+      (Err error) new

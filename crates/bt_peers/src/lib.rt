@@ -10,5 +10,5 @@ mod peers;
 pub use bt_session::Engine;
 pub use end::{PeerEnd, end_text};
 pub use link::Link;
-pub use peer::meet_peer;
-pub use peers::run_peers;
+pub use peer::{meet_peer, meet_peer_with_flushes};
+pub use peers::{run_peers, run_peers_with_flushes};

@@ -9,7 +9,7 @@ use Rattle.bt_replay.specs.Run.{lines_in}
 use Rattle.bt_replay.specs.Line.{Makes, Spells}
 use Rattle.bt_replay.specs.declared.line.Line.{Line}
 use Rattle.bt_replay.specs.declared.word.Word.{Word}
-use Rattle.bt_replay.specs.declared.word.Word.TheVariants.{Torrent, Fault, Flip, Connect, Hello, Feed, Next, Lost, Rechoke, Adopt, Flush, Report}
+use Rattle.bt_replay.specs.declared.word.Word.TheVariants.{Torrent, Fault, Flip, Connect, Hello, Feed, Next, Lost, Rechoke, Adopt, Flush, Restart, Report}
 
 false_is_true : false ≡ true → ⊥
 false_is_true e = cc
@@ -26,6 +26,7 @@ made_lawful Lost fields line m = subst HasLawfulCall (sym m.2) tt
 made_lawful Rechoke fields line m = subst HasLawfulCall (sym m.1) tt
 made_lawful Adopt fields line m = subst HasLawfulCall (sym m.2) tt
 made_lawful Flush fields line m = subst HasLawfulCall (sym m.1) tt
+made_lawful Restart fields line m = subst HasLawfulCall (sym m.1) tt
 made_lawful Report fields line m = subst HasLawfulCall (sym m.1) tt
 
 pub spelled_lawful : (text : List ℕ) (line : Line) → Spells text line → HasLawfulCall line

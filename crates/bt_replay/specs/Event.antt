@@ -4,14 +4,14 @@ use Rattle.bt_disk.specs.History.{History}
 use Rattle.bt_meta.specs.Torrent.{Metainfo}
 use Rattle.bt_wire.specs.Handshake.{handshake_spelling}
 use Rattle.bt_machine.specs.declared.event.Event.{Event}
-use Rattle.bt_machine.specs.declared.event.Event.TheVariants.{Connect as connect, Feed as feed, Next as next, Lost as lost, Rechoke as rechoke, Adopt as adopt, Flush as flush}
+use Rattle.bt_machine.specs.declared.event.Event.TheVariants.{Connect as connect, Feed as feed, Next as next, Lost as lost, Rechoke as rechoke, Adopt as adopt, Flush as flush, Restart as restart}
 use Rattle.bt_machine.specs.declared.event.Answer.{Answer}
 use Rattle.bt_machine.specs.State.{EngineView}
 use Rattle.bt_machine.specs.View.{StepsTo}
 use Rattle.bt_replay.specs.Answer.{answer_text, report_text}
 use Rattle.bt_replay.specs.Line.{Spells, SpellsNone}
 use Rattle.bt_replay.specs.declared.line.Line.{Line}
-use Rattle.bt_replay.specs.declared.line.Line.TheVariants.{Connect, Hello, Feed, Next, Lost, Rechoke, Adopt, Flush, Report}
+use Rattle.bt_replay.specs.declared.line.Line.TheVariants.{Connect, Hello, Feed, Next, Lost, Rechoke, Adopt, Flush, Restart, Report}
 
 -- the handshake that a peer of a script sends: the torrent's, with the peer's id of twenty `p`
 abbrev pub peer_handshake : Metainfo → List ℕ
@@ -28,6 +28,7 @@ event_of handshake (Lost key) = Some (lost key)
 event_of handshake Rechoke = Some rechoke
 event_of handshake (Adopt file) = Some (adopt file)
 event_of handshake Flush = Some flush
+event_of handshake Restart = Some restart
 event_of handshake _ = None
 
 -- a line asks for an event or a report: from the old engine it led to the new one, and this text tells of it

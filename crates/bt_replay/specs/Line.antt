@@ -3,9 +3,9 @@ use Rattle.std.specs.Prelude.{[], ◌≡◌, ℕ, ◌-◌, ◌^◌, ◌<◌, Lis
 use Rattle.bt_book.specs.declared.names.PeerKey.{PeerKey}
 use Rattle.bt_replay.specs.Field.{IsHex, IsNumber, parts_of}
 use Rattle.bt_replay.specs.declared.line.Line.{Line}
-use Rattle.bt_replay.specs.declared.line.Line.TheVariants.{Torrent, Fault, Flip, Connect, Hello, Feed, Next, Lost, Rechoke, Adopt, Flush, Report}
+use Rattle.bt_replay.specs.declared.line.Line.TheVariants.{Torrent, Fault, Flip, Connect, Hello, Feed, Next, Lost, Rechoke, Adopt, Flush, Restart, Report}
 use Rattle.bt_replay.specs.declared.word.Word.{Word}
-use Rattle.bt_replay.specs.declared.word.Word.TheVariants.{Torrent as torrent, Fault as fault, Flip as flip, Connect as connect, Hello as hello, Feed as feed, Next as next, Lost as lost, Rechoke as rechoke, Adopt as adopt, Flush as flush, Report as report}
+use Rattle.bt_replay.specs.declared.word.Word.TheVariants.{Torrent as torrent, Fault as fault, Flip as flip, Connect as connect, Hello as hello, Feed as feed, Next as next, Lost as lost, Rechoke as rechoke, Adopt as adopt, Flush as flush, Restart as restart, Report as report}
 
 -- ---- the fields behind a line's word
 
@@ -73,6 +73,7 @@ word_text lost = codes "lost"
 word_text rechoke = codes "rechoke"
 word_text adopt = codes "adopt"
 word_text flush = codes "flush"
+word_text restart = codes "restart"
 word_text report = codes "report"
 
 -- the line that a word and these fields make
@@ -90,6 +91,7 @@ Makes lost fields line = (key : PeerKey) × IsPeer fields key × (line ≡ Lost 
 Makes rechoke fields line = (fields ≡ []) × (line ≡ Rechoke)
 Makes adopt fields line = (file : ℕ) × IsFile fields file × (line ≡ Adopt file)
 Makes flush fields line = (fields ≡ []) × (line ≡ Flush)
+Makes restart fields line = (fields ≡ []) × (line ≡ Restart)
 Makes report fields line = (fields ≡ []) × (line ≡ Report)
 
 -- A text spells a line: fields that are parted by one space, of which the first is the word.

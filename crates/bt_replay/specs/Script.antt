@@ -9,9 +9,10 @@ use Rattle.bt_meta.specs.Faults.{first_fault}
 use Rattle.bt_meta.specs.Reader.{IsRefused}
 use Rattle.bt_meta.specs.Torrent.{Metainfo, IsTorrent}
 use Rattle.bt_meta.specs.declared.error.MetaError.{MetaError}
+use Rattle.bt_resume.specs.ResumeLog.{LogView, IsAttached}
 use Rattle.bt_machine.specs.Opening.{AnswersStart}
 use Rattle.bt_machine.specs.State.{EngineView}
-use Rattle.bt_replay.specs.Devices.{Device, SetsFront, first_device}
+use Rattle.bt_replay.specs.Devices.{Device, SetsFront, first_device, zero_device}
 use Rattle.bt_replay.specs.Event.{peer_handshake}
 use Rattle.bt_replay.specs.Field.{parts_of}
 use Rattle.bt_replay.specs.Line.{Spells, SpellsNone}
@@ -68,14 +69,20 @@ device_honest device = IsHonest (λ _. ⊤) device
 abbrev pub device_faults : Device → ℕ
 device_faults device = fault_count (λ disk. disk.failed) device
 
--- an engine is started for the torrent without a log, on the devices that the settings at the front of these
--- lines make
+-- a log of the torrent with this infohash, which was made on an empty device in memory
+abbrev pub IsNewLog : (infohash : List ℕ) → LogView Device → Type 0
+IsNewLog infohash log = IsAttached device_history device_honest device_faults infohash (zero_device 0) log
+
+-- An engine is started for the torrent with such a log, on the devices that the settings at the front of these
+-- lines make; no line sets the log's device.
 pub record BeginsOn (torrent : Metainfo) (lines : List (List ℕ)) (engine : EngineView Device)
     (rest : List (List ℕ)) (count : ℕ) : Type 0 where
   pub devices : List (Option Device)
   pub set : SetsFront (map first_device torrent.files) lines count rest devices
+  pub log : LogView Device
+  pub log_is_new : IsNewLog torrent.infohash log
   pub starts : AnswersStart device_history device_honest device_faults sha256 torrent
-      (filter_map (λ device. device) devices) None (Ok engine)
+      (filter_map (λ device. device) devices) (Some log) (Ok engine)
 
 -- ---- the whole
 

@@ -2,7 +2,7 @@
 ghost use Rattle.std.specs.Prelude.{◌≡◌, ◌-◌, ◌^◌, ◌<◌, List, map, IfOk, Option};
 ghost use Rattle.std.specs.Bool.{OnTrue, OnFalse};
 ghost use Rattle.bt_meta.specs.Files.{file_of};
-ghost use Rattle.bt_replay.specs.Devices.{Device as Told, Sets, first_device, set_file, with_setting};
+ghost use Rattle.bt_replay.specs.Devices.{Device as Told, Sets, first_device, set_file, with_setting, zero_device};
 ghost use Rattle.bt_replay.specs.DevicesSteps.{HasLawfulCall};
 
 use crate::line::Line;
@@ -34,8 +34,15 @@ fn first_device(alloc: Global, file: &FileEntry) -> Result<Option<Device>, Alloc
     if length == 0 {
         return Ok(None);
     }
+    Ok(Some(zero_device(alloc, length)?))
+}
+
+/// A device of so many zeros.
+pub(crate) fn zero_device(alloc: Global, length: u64) -> Result<Device, AllocError>
+    ensures { IfOk result (λ device. device ≡ zero_device length) }
+{
     let zeros = vec![in alloc; 0; length as usize]?;
-    Ok(Some(FaultDisk::new(MemoryDisk::new(alloc, zeros))))
+    Ok(FaultDisk::new(MemoryDisk::new(alloc, zeros)))
 }
 
 /// Makes the setting that a line asks for. False where it asks for none, or its file has no device; nothing

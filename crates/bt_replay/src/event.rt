@@ -110,6 +110,7 @@ fn answer_of<D: Disk + Drop, H: NodeHash>(
         Line::Rechoke => Some(Answer::Rechoked(engine.rechoke())),
         Line::Adopt(file) => Some(Answer::Adopted(engine.adopt(*file))),
         Line::Flush => Some(Answer::Flushed(engine.flush())),
+        Line::Restart => Some(Answer::Restarted(engine.restart())),
         Line::Torrent(_) | Line::Fault { .. } | Line::Flip { .. } | Line::Report => None,
     }
 }

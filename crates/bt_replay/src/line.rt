@@ -37,8 +37,10 @@ pub enum Line {
     Rechoke,
     /// What the device of a file has already is taken in.
     Adopt(u32),
-    /// All devices are synced.
+    /// All devices are synced, and what is known is written to the log.
     Flush,
+    /// All is begun anew from the log.
+    Restart,
     /// It is told how far each file is.
     Report,
 }
@@ -105,6 +107,7 @@ fn short_line(word: Word, rest: Option<&[u8]>) -> Option<Line>
         Word::Connect => lone_line(Line::Connect, rest),
         Word::Rechoke => lone_line(Line::Rechoke, rest),
         Word::Flush => lone_line(Line::Flush, rest),
+        Word::Restart => lone_line(Line::Restart, rest),
         Word::Report => lone_line(Line::Report, rest),
         Word::Hello => Some(Line::Hello(peer_in(rest)?)),
         Word::Next => Some(Line::Next(peer_in(rest)?)),

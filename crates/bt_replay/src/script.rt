@@ -1,10 +1,10 @@
 //! A script, from its torrent to its last line.
 ghost use Rattle.std.specs.Prelude.{◌≡◌, ◌^◌, ◌<◌, ◌≤◌, IfOk, IfErr, filter_map, length};
 ghost use Rattle.bt_replay.specs.Event.{peer_handshake};
-ghost use Rattle.bt_replay.specs.Script.{BeginsOn, NamesNone, NamesTorrent, Replays, torrent_bytes, without_last_feed};
+ghost use Rattle.bt_replay.specs.Script.{BeginsOn, IsNewLog, NamesNone, NamesTorrent, Replays, torrent_bytes, without_last_feed};
 ghost use Rattle.bt_replay.specs.Run.{lines_in};
 
-use crate::devices::{Device, first_devices};
+use crate::devices::{Device, first_devices, zero_device};
 use crate::fault::ReplayFault;
 use crate::field::cut;
 use crate::line::{Line, line_in};
@@ -13,6 +13,8 @@ use crate::settings::set_devices;
 use bt_engine::Engine;
 use bt_lanes::Lanes;
 use bt_meta::{MetaError, Torrent, read_torrent};
+use bt_resume::ResumeLog;
+use bt_tree::Hash32;
 use bt_wire::{Bytes, HANDSHAKE_LEN, Handshake, write_handshake};
 use std::alloc::{AllocError, Global};
 use std::io::Write;
@@ -89,8 +91,8 @@ fn peer_handshake(torrent: &Torrent) -> [u8; HANDSHAKE_LEN]
     })
 }
 
-/// Starts the engine on the devices that the lines set, and gives the lines behind these settings, and how
-/// many settings there are.
+/// Starts the engine with a log on the devices that the lines set, and gives the lines behind these settings,
+/// and how many settings there are.
 fn begin<'a>(
     alloc: Global,
     torrent: Torrent,
@@ -103,7 +105,8 @@ fn begin<'a>(
     let mut devices = first_devices(alloc, torrent.files())?;
     let (rest, count) = set_devices(alloc, &mut devices, lines)?;
     let disks = disks_of(alloc, devices)?;
-    match Engine::start(alloc, torrent, Lanes, disks) {
+    let log = new_log(alloc, torrent.infohash())?;
+    match Engine::start(alloc, torrent, Lanes, disks, Some(log)) {
         Ok(engine) => Ok((engine, rest, count)),
         Err(_) => Err(ReplayFault::OutOfMemory),
     }
@@ -117,4 +120,16 @@ fn disks_of(alloc: Global, devices: Vec<Option<Device>>) -> Result<Vec<Device>, 
         .into_iter()
         .filter_map(|device| device)
         .collect(alloc)
+}
+
+/// A log of the torrent with this infohash, on an empty device, which gets its header.
+fn new_log(alloc: Global, infohash: Hash32) -> Result<ResumeLog<Device>, AllocError>
+    ensures { IfOk result (IsNewLog infohash) }
+{
+    let device = zero_device(alloc, 0)?;
+    match ResumeLog::attach(alloc, device, infohash) {
+        Ok(log) => Ok(log),
+        // A device in memory fails only where memory is refused.
+        Err(_) => Err(AllocError),
+    }
 }

@@ -17,6 +17,7 @@ pub(crate) enum Word {
     Rechoke,
     Adopt,
     Flush,
+    Restart,
     Report,
 }
 
@@ -37,6 +38,7 @@ pub(crate) fn word_in(field: &[u8]) -> Option<Word>
         b"rechoke" => Some(Word::Rechoke),
         b"adopt" => Some(Word::Adopt),
         b"flush" => Some(Word::Flush),
+        b"restart" => Some(Word::Restart),
         b"report" => Some(Word::Report),
         _ => None,
     }

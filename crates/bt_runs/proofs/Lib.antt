@@ -3,3 +3,4 @@ pub mod Paths
 pub mod Flushes
 pub mod Kept
 pub mod WholeRuns
+pub mod Reopenings

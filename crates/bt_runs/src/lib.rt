@@ -2,7 +2,9 @@
 #![tactic(auto)]
 
 mod promises;
+mod reopening;
 mod whole_runs;
 
 pub use promises::{flushed_blocks_stay, run_as_promised};
+pub use reopening::{ReopenError, ReopenRefused, reopen};
 pub use whole_runs::whole_runs_keep_promises;

@@ -6,5 +6,6 @@ pub mod Parts
 pub mod Consumed
 pub mod Receives
 pub mod Takes
+pub mod Pauses
 pub mod Whole
 pub mod OwnSteps

@@ -4,17 +4,19 @@ use Rattle.std.proofs.Common.{ap, refl, sym, subst}
 use Rattle.std.specs.declared.alloc.AllocError.{AllocError}
 use Rattle.bt_disk.specs.History.{History}
 use Rattle.bt_book.specs.declared.names.PeerKey.{PeerKey}
-use Rattle.bt_machine.specs.declared.event.Event.TheVariants.{Connect, Feed, Next, Lost as LostEvent, Rechoke}
+use Rattle.bt_machine.specs.declared.event.Event.TheVariants.{Connect, Feed, Next, Lost as LostEvent, Rechoke, Flush}
 use Rattle.bt_machine.specs.declared.event.Answer.{Answer}
-use Rattle.bt_machine.specs.declared.event.Answer.TheVariants.{Connected, Fed, Stepped, Lost as LostAnswer, Rechoked}
+use Rattle.bt_machine.specs.declared.event.Answer.TheVariants.{Connected, Fed, Stepped, Lost as LostAnswer, Rechoked, Flushed}
 use Rattle.bt_machine.specs.declared.error.ConnectError.{ConnectError}
 use Rattle.bt_machine.specs.declared.error.EngineError.{EngineError}
+use Rattle.bt_machine.specs.declared.error.FlushError.{FlushError}
 use Rattle.bt_machine.specs.State.{EngineState}
 use Rattle.bt_machine.specs.LogCalls.{EventCalls, LogCall, HaveLogCalls}
 use Rattle.bt_machine.specs.Output.{Output}
 use Rattle.bt_machine.specs.Next.{StepNext}
 use Rattle.bt_machine.specs.Peers.{StepConnect, StepFeed, StepLost}
 use Rattle.bt_machine.specs.Rechoke.{StepRechoke}
+use Rattle.bt_machine.specs.Flush.{StepFlush}
 use Rattle.bt_machine.specs.Step.{Step}
 
 abbrev connected_in : Result (PeerKey × Output) ConnectError → Answer → Result (PeerKey × Output) ConnectError
@@ -37,6 +39,10 @@ abbrev rechoked_in : Result Output AllocError → Answer → Result Output Alloc
 rechoked_in other (Rechoked r) = r
 rechoked_in other _ = other
 
+abbrev flushed_in : Result (Unit {0}) FlushError → Answer → Result (Unit {0}) FlushError
+flushed_in other (Flushed r) = r
+flushed_in other _ = other
+
 module _ (dig : List ℕ → List ℕ) {old new : EngineState} {calls : EventCalls} where
   pub own_connect : (r : Result (PeerKey × Output) ConnectError) → Step dig old Connect calls (Connected r) new → StepConnect old r new
   own_connect r step = subst (λ (q : Result (PeerKey × Output) ConnectError). StepConnect old q new) (sym (ap (connected_in r) step.1)) step.3
@@ -55,6 +61,9 @@ module _ (dig : List ℕ → List ℕ) {old new : EngineState} {calls : EventCal
 
   pub own_rechoke : (r : Result Output AllocError) → Step dig old Rechoke calls (Rechoked r) new → StepRechoke dig old r new
   own_rechoke r step = subst (λ (q : Result Output AllocError). StepRechoke dig old q new) (sym (ap (rechoked_in r) step.1)) step.3
+
+  pub own_flush : (r : Result (Unit {0}) FlushError) → Step dig old Flush calls (Flushed r) new → StepFlush old calls r new
+  own_flush r step = subst (λ (q : Result (Unit {0}) FlushError). StepFlush old calls q new) (sym (ap (flushed_in r) step.1)) step.2
 
 -- a log of which no call is made stays
 pub log_stays : {D : Type 0} (history : D → History) (honest : D → Type 0) (faults : D → ℕ) (old new : Option _) (calls : List LogCall)

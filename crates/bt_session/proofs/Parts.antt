@@ -15,8 +15,8 @@ use Rattle.bt_machine.specs.View.{StepsTo}
 use Rattle.bt_session.specs.declared.end.SessionEnd.{SessionEnd}
 use Rattle.bt_session.specs.declared.end.SessionEnd.TheVariants.{Complete, Closed, WriteFault, Memory}
 use Rattle.bt_session.specs.Frames.{frames_to, AreWritten}
-use Rattle.bt_session.specs.Session.{Follows, IsDone}
-use Rattle.bt_session.specs.Progress.{HasRun, Place, place, fed_by, is_turn, AllWritten, SomeWritten, IsUnknown}
+use Rattle.bt_session.specs.Session.{Follows, IsDone, is_turn}
+use Rattle.bt_session.specs.Progress.{HasRun, Place, place, fed_by, AllWritten, SomeWritten, IsUnknown}
 use Rattle.bt_session.specs.Ends.{HasOutput, IsRefused, ClosesPeer, MayBeDone, HasEnded}
 use Rattle.bt_session.specs.Parts.{EndsAfter}
 use Rattle.bt_session.proofs.Progress.{went_on, written_all, written_some}
@@ -31,14 +31,14 @@ pub not_ended : (until : Bool) (s : EngineState) (close : Option Why) → EndsAf
 not_ended until s None not_done = (refl, not_done)
 not_ended until s (Some why) e = absurd cc
 
-module _ {D : Type 0} (history : D → History) (honest : D → Type 0) (faults : D → ℕ) (dig : List ℕ → List ℕ) (key : PeerKey) (until : Bool) where
+module _ {D : Type 0} (history : D → History) (honest : D → Type 0) (faults : D → ℕ) (dig : List ℕ → List ℕ) (key : PeerKey) (until : Bool) (every : ℕ) where
   -- an answer is written, or it is not
   pub sent : (given taken : ℕ) (first : Place D) (old new : EngineView D) (remaining before after : Option (List ℕ)) (last : Answer) (event : Event) (answer : Answer)
-      (result : Result (Unit {0}) SessionEnd) → taken ≤ given → HasRun history honest faults dig key until AllWritten first taken last (place old remaining before)
-      → Follows key until old.state last event → StepsTo history honest faults dig old event answer new → IsQuiet event → HasOutput answer
+      (result : Result (Unit {0}) SessionEnd) → taken ≤ given → HasRun history honest faults dig key until every AllWritten first taken last (place old remaining before)
+      → Follows key until every taken old.state last event → StepsTo history honest faults dig old event answer new → IsQuiet event → HasOutput answer
       → AreWritten before after (frames_to key (sent_by answer)) result
-      → MatchResult result (λ done. HasRun history honest faults dig key until AllWritten first taken answer (place new remaining after))
-      (λ end. HasEnded history honest faults dig key until given first end (place new remaining after))
+      → MatchResult result (λ done. HasRun history honest faults dig key until every AllWritten first taken answer (place new remaining after))
+      (λ end. HasEnded history honest faults dig key until every given first (Ok end) (place new remaining after))
   sent given taken first old new remaining before after last event answer result few h follows step quiet output written = by result written
     where
       counted : taken + count_by is_turn (event ∷ []) ≡ taken
@@ -48,18 +48,18 @@ module _ {D : Type 0} (history : D → History) (honest : D → Type 0) (faults 
       read = subst (Consumes remaining remaining) (sym quiet.no_bytes) (Consumes-nil remaining)
 
       by : (result : Result (Unit {0}) SessionEnd) → AreWritten before after (frames_to key (sent_by answer)) result
-          → MatchResult result (λ done. HasRun history honest faults dig key until AllWritten first taken answer (place new remaining after))
-          (λ end. HasEnded history honest faults dig key until given first end (place new remaining after))
+          → MatchResult result (λ done. HasRun history honest faults dig key until every AllWritten first taken answer (place new remaining after))
+          (λ end. HasEnded history honest faults dig key until every given first (Ok end) (place new remaining after))
       by (Ok done) w =
-          went_on history honest faults dig key until first AllWritten taken taken last answer event (place old remaining before) (place new remaining after) h follows
-          step counted read (written_all history honest faults dig key until first taken last answer (place old remaining before) after h w)
+          went_on history honest faults dig key until every first AllWritten taken taken last answer event (place old remaining before) (place new remaining after) h follows
+          step counted read (written_all history honest faults dig key until every first taken last answer (place old remaining before) after h w)
       by (Err Memory) w = record {
         taken = taken;
         few = few;
         last = answer;
         ran =
-            went_on history honest faults dig key until first SomeWritten taken taken last answer event (place old remaining before) (place new remaining after) h
-            follows step counted read (written_some history honest faults dig key until first taken last answer (place old remaining before) after h w);
+            went_on history honest faults dig key until every first SomeWritten taken taken last answer event (place old remaining before) (place new remaining after) h
+            follows step counted read (written_some history honest faults dig key until every first taken last answer (place old remaining before) after h w);
         comes = inl output;
       }
       by (Err WriteFault) w = record {
@@ -67,7 +67,7 @@ module _ {D : Type 0} (history : D → History) (honest : D → Type 0) (faults 
         few = few;
         last = answer;
         ran =
-            went_on history honest faults dig key until first IsUnknown taken taken last answer event (place old remaining before) (place new remaining after) h
+            went_on history honest faults dig key until every first IsUnknown taken taken last answer event (place old remaining before) (place new remaining after) h
             follows step counted read tt;
         comes = output;
       }
@@ -75,29 +75,29 @@ module _ {D : Type 0} (history : D → History) (honest : D → Type 0) (faults 
 
   -- memory was refused in an event
   pub refused : (given taken more : ℕ) (first : Place D) (old new : EngineView D) (remaining left contents : Option (List ℕ)) (last : Answer) (event : Event)
-      (answer : Answer) → more ≤ given → HasRun history honest faults dig key until AllWritten first taken last (place old remaining contents)
-      → Follows key until old.state last event → StepsTo history honest faults dig old event answer new → taken + count_by is_turn (event ∷ []) ≡ more
-      → Consumes remaining left (fed_by event) → IsRefused answer → HasEnded history honest faults dig key until given first Memory (place new left contents)
+      (answer : Answer) → more ≤ given → HasRun history honest faults dig key until every AllWritten first taken last (place old remaining contents)
+      → Follows key until every taken old.state last event → StepsTo history honest faults dig old event answer new → taken + count_by is_turn (event ∷ []) ≡ more
+      → Consumes remaining left (fed_by event) → IsRefused answer → HasEnded history honest faults dig key until every given first (Ok Memory) (place new left contents)
   refused given taken more first old new remaining left contents last event answer few h follows step counted read is = record {
     taken = more;
     few = few;
     last = answer;
     ran =
-        went_on history honest faults dig key until first SomeWritten taken more last answer event (place old remaining contents) (place new left contents) h follows
+        went_on history honest faults dig key until every first SomeWritten taken more last answer event (place old remaining contents) (place new left contents) h follows
         step counted read
-        (written_some history honest faults dig key until first taken last answer (place old remaining contents) contents h (Keeps-refl contents));
+        (written_some history honest faults dig key until every first taken last answer (place old remaining contents) contents h (Keeps-refl contents));
     comes = inr is;
   }
 
   -- behind an output the session ended
   pub ended_after : (given taken : ℕ) (first now : Place D) (last : Answer) (close : Option Why) (end : SessionEnd) → taken ≤ given
-      → HasRun history honest faults dig key until AllWritten first taken last now → ((why : Why) → close ≡ Some why → ClosesPeer why last)
+      → HasRun history honest faults dig key until every AllWritten first taken last now → ((why : Why) → close ≡ Some why → ClosesPeer why last)
       → (close ≡ None → MayBeDone last) → EndsAfter until now.engine.state close (Some end)
-      → HasEnded history honest faults dig key until given first end now
+      → HasEnded history honest faults dig key until every given first (Ok end) now
   ended_after given taken first now last (Some why) end few h closes may e =
       let is : Closed why ≡ end = cc in
-      subst (λ (x : SessionEnd). HasEnded history honest faults dig key until given first x now) is
+      subst (λ (x : SessionEnd). HasEnded history honest faults dig key until every given first (Ok x) now) is
       (record { taken = taken; few = few; last = last; ran = h; comes = closes why refl })
   ended_after given taken first now last None end few h closes may (is, done) =
-      subst (λ (x : SessionEnd). HasEnded history honest faults dig key until given first x now) (sym is)
+      subst (λ (x : SessionEnd). HasEnded history honest faults dig key until every given first (Ok x) now) (sym is)
       (record { taken = taken; few = few; last = last; ran = h; comes = (may refl, done) })

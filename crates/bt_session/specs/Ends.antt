@@ -1,20 +1,21 @@
 -- How a session ends.
-use Rattle.std.specs.Prelude.{ℕ, ◌≡◌, ◌<◌, ◌≤◌, ◌⊎◌, Bool, List, Option, Some, None, Result, Ok, Err}
+use Rattle.std.specs.Prelude.{ℕ, ◌≡◌, ◌<◌, ◌≤◌, ◌⊎◌, Bool, true, false, List, Option, Some, None, Result, Ok, Err}
 use Rattle.std.specs.Io.KnownBytes.{IsAtEnd}
 use Rattle.bt_disk.specs.History.{History}
 use Rattle.bt_book.specs.declared.names.PeerKey.{PeerKey}
 use Rattle.bt_machine.specs.declared.answer.Why.{Why}
 use Rattle.bt_machine.specs.declared.error.EngineError.{EngineError}
 use Rattle.bt_machine.specs.declared.error.EngineError.TheVariants.{OutOfMemory}
+use Rattle.bt_machine.specs.declared.error.FlushError.{FlushError}
 use Rattle.bt_machine.specs.declared.event.Event.TheVariants.{Lost}
 use Rattle.bt_machine.specs.declared.event.Answer.{Answer}
-use Rattle.bt_machine.specs.declared.event.Answer.TheVariants.{Connected, Fed, Stepped, Lost as LostAnswer, Rechoked}
+use Rattle.bt_machine.specs.declared.event.Answer.TheVariants.{Connected, Fed, Stepped, Lost as LostAnswer, Rechoked, Flushed}
 use Rattle.bt_machine.specs.Output.{Output}
 use Rattle.bt_machine.specs.State.{EngineState, EngineView}
 use Rattle.bt_machine.specs.View.{StepsTo}
 use Rattle.bt_session.specs.declared.end.SessionEnd.{SessionEnd}
 use Rattle.bt_session.specs.declared.end.SessionEnd.TheVariants.{Complete, Ended, Closed, TurnsSpent, ReadFault, WriteFault, Memory}
-use Rattle.bt_session.specs.Session.{IsDone}
+use Rattle.bt_session.specs.Session.{IsDone, is_flush_due}
 use Rattle.bt_session.specs.Progress.{Place, HowMuch, AllWritten, SomeWritten, IsUnknown, HasRun}
 
 -- ---- the last answer
@@ -25,11 +26,12 @@ MayBeDone (Connected (Ok _)) = Unit {0}
 MayBeDone (Stepped (Ok (Some out))) = out.close ≡ None
 MayBeDone _ = ⊥
 
--- the next thing is a read
-abbrev pub IsBetweenTurns : (until_complete : Bool) → EngineState → Answer → Type 0
-IsBetweenTurns until s (Connected (Ok _)) = ¬ IsDone until s
-IsBetweenTurns until s (Rechoked (Ok _)) = Unit {0}
-IsBetweenTurns until s _ = ⊥
+-- after so many turns the next thing is a read
+abbrev pub IsBetweenTurns : (until_complete : Bool) → (every taken : ℕ) → EngineState → Answer → Type 0
+IsBetweenTurns until every taken s (Connected (Ok _)) = ¬ IsDone until s
+IsBetweenTurns until every taken s (Rechoked (Ok _)) = is_flush_due every taken ≡ false
+IsBetweenTurns until every taken s (Flushed (Ok _)) = Unit {0}
+IsBetweenTurns until every taken s _ = ⊥
 
 abbrev pub ClosesPeer : Why → Answer → Type 0
 ClosesPeer why (Stepped (Ok (Some out))) = out.close ≡ Some why
@@ -52,40 +54,52 @@ IsRefused _ = ⊥
 -- ---- the ends
 
 -- how much is written at this end
-abbrev pub written_at : SessionEnd → HowMuch
-written_at WriteFault = IsUnknown
-written_at Memory = SomeWritten
+abbrev pub written_at : Result SessionEnd FlushError → HowMuch
+written_at (Ok WriteFault) = IsUnknown
+written_at (Ok Memory) = SomeWritten
 written_at _ = AllWritten
 
--- A session that is given so many turns comes to this end after so many turns, with this last answer.
-abbrev pub Comes : SessionEnd → (until_complete : Bool) → (given taken : ℕ) → (last : Answer) → EngineState
-    → (remaining : Option (List ℕ)) → Type 0
-Comes Complete until given taken last s remaining = MayBeDone last × IsDone until s
-Comes Ended until given taken last s remaining =
-    IsBetweenTurns until s last × (taken < given) × IsAtEnd remaining
-Comes (Closed why) until given taken last s remaining = ClosesPeer why last
-Comes TurnsSpent until given taken last s remaining = IsBetweenTurns until s last × (taken ≡ given)
-Comes ReadFault until given taken last s remaining = IsBetweenTurns until s last × (taken < given)
-Comes WriteFault until given taken last s remaining = HasOutput last
-Comes Memory until given taken last s remaining = HasOutput last ⊎ IsRefused last
+-- A session that is given so many turns comes to this end after so many turns, with this last answer. In
+-- place of an end of its own it may come to a flush that is due and refused, which is its last event.
+abbrev pub Comes : Result SessionEnd FlushError → (until_complete : Bool) → (every given taken : ℕ)
+    → (last : Answer) → EngineState → (remaining : Option (List ℕ)) → Type 0
+Comes (Ok Complete) until every given taken last s remaining = MayBeDone last × IsDone until s
+Comes (Ok Ended) until every given taken last s remaining =
+    IsBetweenTurns until every taken s last × (taken < given) × IsAtEnd remaining
+Comes (Ok (Closed why)) until every given taken last s remaining = ClosesPeer why last
+Comes (Ok TurnsSpent) until every given taken last s remaining =
+    IsBetweenTurns until every taken s last × (taken ≡ given)
+Comes (Ok ReadFault) until every given taken last s remaining =
+    IsBetweenTurns until every taken s last × (taken < given)
+Comes (Ok WriteFault) until every given taken last s remaining = HasOutput last
+Comes (Ok Memory) until every given taken last s remaining = HasOutput last ⊎ IsRefused last
+Comes (Err error) until every given taken last s remaining =
+    (is_flush_due every taken ≡ true) × (last ≡ Flushed (Err error))
 
 -- From the first place a session has come to this end, where it is now. The peer may be there still.
 pub record HasEnded {D : Type 0} (history : D → History) (honest : D → Type 0) (faults : D → ℕ)
-    (dig : List ℕ → List ℕ) (key : PeerKey) (until_complete : Bool) (given : ℕ) (first : Place D)
-    (end : SessionEnd) (now : Place D) : Type 0 where
+    (dig : List ℕ → List ℕ) (key : PeerKey) (until_complete : Bool) (every given : ℕ) (first : Place D)
+    (end : Result SessionEnd FlushError) (now : Place D) : Type 0 where
   pub taken : ℕ
   pub few : taken ≤ given
   pub last : Answer
-  pub ran : HasRun history honest faults dig key until_complete (written_at end) first taken last now
-  pub comes : Comes end until_complete given taken last now.engine.state now.remaining
+  pub ran : HasRun history honest faults dig key until_complete every (written_at end) first taken last now
+  pub comes : Comes end until_complete every given taken last now.engine.state now.remaining
 
--- A whole session: it has come to its end, and its peer is removed.
-pub record IsSession {D : Type 0} (history : D → History) (honest : D → Type 0) (faults : D → ℕ)
-    (dig : List ℕ → List ℕ) (until_complete : Bool) (given : ℕ) (first : Place D) (end : SessionEnd)
-    (last : Place D) : Type 0 where
+-- A whole session, in which the engine is flushed behind each `every`-th turn, or never where that is 0: it
+-- has come to its end, and its peer is removed.
+pub record IsSessionWithFlushes {D : Type 0} (history : D → History) (honest : D → Type 0) (faults : D → ℕ)
+    (dig : List ℕ → List ℕ) (until_complete : Bool) (every given : ℕ) (first : Place D)
+    (end : Result SessionEnd FlushError) (last : Place D) : Type 0 where
   pub key : PeerKey
   pub engine : EngineView D
-  pub ended : HasEnded history honest faults dig key until_complete given first end
+  pub ended : HasEnded history honest faults dig key until_complete every given first end
       (record last { engine = engine })
   pub removed : Result (Unit {0}) EngineError
   pub removal : StepsTo history honest faults dig engine (Lost key) (LostAnswer removed) last.engine
+
+-- a whole session without a flush
+abbrev pub IsSession : {D : Type 0} → (D → History) → (D → Type 0) → (D → ℕ) → (List ℕ → List ℕ)
+    → (until_complete : Bool) → (given : ℕ) → (first : Place D) → SessionEnd → (last : Place D) → Type 0
+IsSession history honest faults dig until given first end last =
+    IsSessionWithFlushes history honest faults dig until 0 given first (Ok end) last

@@ -1,5 +1,5 @@
 -- What a session has read and written.
-use Rattle.std.specs.Prelude.{ℕ, ◌≡◌, Bool, true, false, List, [], take, flat_map, Option}
+use Rattle.std.specs.Prelude.{ℕ, ◌≡◌, Bool, List, [], take, flat_map, Option}
 use Rattle.std.specs.Io.KnownBytes.{Appends, Consumes}
 use Rattle.std.specs.List.{count_by}
 use Rattle.bt_disk.specs.History.{History}
@@ -11,16 +11,11 @@ use Rattle.bt_machine.specs.declared.event.Answer.{Answer}
 use Rattle.bt_machine.specs.Law.{sent_by}
 use Rattle.bt_machine.specs.State.{EngineView}
 use Rattle.bt_session.specs.Frames.{spellings, frames_to}
-use Rattle.bt_session.specs.Session.{Session}
+use Rattle.bt_session.specs.Session.{Session, is_turn}
 
 abbrev pub fed_by : Event → List ℕ
 fed_by (Feed key bytes) = bytes
 fed_by _ = []
-
--- a turn is a read that is fed
-abbrev pub is_turn : Event → Bool
-is_turn (Feed key bytes) = true
-is_turn _ = false
 
 -- the frames of all answers that are sent to the peer
 abbrev pub frames_in : PeerKey → List Answer → List Frame
@@ -54,11 +49,11 @@ IsUnknown old new frames = Unit {0}
 -- was fed, in their order, just the bytes that the reader gave; and of what it sent to its peer so much is
 -- written.
 pub record HasRun {D : Type 0} (history : D → History) (honest : D → Type 0) (faults : D → ℕ)
-    (dig : List ℕ → List ℕ) (key : PeerKey) (until_complete : Bool) (how_much : HowMuch) (first : Place D)
-    (turns : ℕ) (last : Answer) (now : Place D) : Type 0 where
+    (dig : List ℕ → List ℕ) (key : PeerKey) (until_complete : Bool) (every : ℕ) (how_much : HowMuch)
+    (first : Place D) (turns : ℕ) (last : Answer) (now : Place D) : Type 0 where
   pub events : List Event
   pub answers : List Answer
-  pub session : Session history honest faults dig key until_complete first.engine events answers last
+  pub session : Session history honest faults dig key until_complete every first.engine events answers last
       now.engine
   pub count : count_by is_turn events ≡ turns
   pub read : Consumes first.remaining now.remaining (flat_map fed_by events)

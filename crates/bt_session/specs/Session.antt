@@ -1,11 +1,12 @@
 -- What happens in a session with a peer: which event follows on which.
-use Rattle.std.specs.Prelude.{[], ◌≡◌, ℕ, ◌<◌, ◌≤◌, Bool, true, List, ◌∷◌, ◌++◌, length, Some, None, Ok}
+use Rattle.std.specs.Prelude.{[], ◌≡◌, ℕ, ◌<◌, ◌≤◌, ◌%◌, ◌==◌, ◌&&◌, not, Bool, true, false, List, ◌∷◌, ◌++◌, length, Some, None, Ok}
+use Rattle.std.specs.List.{count_by}
 use Rattle.bt_disk.specs.History.{History}
 use Rattle.bt_book.specs.declared.names.PeerKey.{PeerKey}
 use Rattle.bt_machine.specs.declared.event.Event.{Event}
-use Rattle.bt_machine.specs.declared.event.Event.TheVariants.{Connect, Feed, Next, Rechoke}
+use Rattle.bt_machine.specs.declared.event.Event.TheVariants.{Connect, Feed, Next, Rechoke, Flush}
 use Rattle.bt_machine.specs.declared.event.Answer.{Answer}
-use Rattle.bt_machine.specs.declared.event.Answer.TheVariants.{Connected, Fed, Stepped, Rechoked}
+use Rattle.bt_machine.specs.declared.event.Answer.TheVariants.{Connected, Fed, Stepped, Rechoked, Flushed}
 use Rattle.bt_machine.specs.Output.{Output}
 use Rattle.bt_machine.specs.Report.{all_complete}
 use Rattle.bt_machine.specs.State.{EngineState, EngineView}
@@ -26,37 +27,54 @@ abbrev pub FeedsRead : PeerKey → Event → Type 0
 FeedsRead key event = (bytes : List ℕ)
     × (0 < length bytes) × (length bytes ≤ read_length) × (event ≡ Feed key bytes)
 
--- The event that a session makes behind an answer that left the engine so. Behind a greeting and behind the
--- choice of peers to serve bytes are fed; then wire events are taken until none is there; then the peers to
--- serve are chosen.
-abbrev pub Follows : PeerKey → (until_complete : Bool) → EngineState → Answer → Event → Type 0
-Follows key until s (Connected (Ok _)) event = ¬ IsDone until s × FeedsRead key event
-Follows key until s (Fed (Ok _)) event = event ≡ Next key
-Follows key until s (Stepped (Ok (Some out))) event =
+-- a turn is a read that is fed
+abbrev pub is_turn : Event → Bool
+is_turn (Feed key bytes) = true
+is_turn _ = false
+
+-- a flush is due behind each `every`-th turn, and where that is 0 never
+abbrev pub is_flush_due : (every taken : ℕ) → Bool
+is_flush_due every taken = not (every == 0) && (taken % every == 0)
+
+-- behind a turn the engine is flushed where that is due; where it isn't, bytes are fed
+abbrev pub FollowsTurn : (due : Bool) → PeerKey → Event → Type 0
+FollowsTurn true key event = event ≡ Flush
+FollowsTurn false key event = FeedsRead key event
+
+-- The event that a session makes after so many turns, behind an answer that left the engine so. Behind a
+-- greeting bytes are fed; then wire events are taken until none is there; then the peers to serve are chosen,
+-- and the turn is over. Behind a flush the next one begins.
+abbrev pub Follows : PeerKey → (until_complete : Bool) → (every taken : ℕ) → EngineState → Answer → Event
+    → Type 0
+Follows key until every taken s (Connected (Ok _)) event = ¬ IsDone until s × FeedsRead key event
+Follows key until every taken s (Fed (Ok _)) event = event ≡ Next key
+Follows key until every taken s (Stepped (Ok (Some out))) event =
     (out.close ≡ None) × ¬ IsDone until s × (event ≡ Next key)
-Follows key until s (Stepped (Ok None)) event = event ≡ Rechoke
-Follows key until s (Rechoked (Ok _)) event = FeedsRead key event
-Follows key until s _ event = ⊥
+Follows key until every taken s (Stepped (Ok None)) event = event ≡ Rechoke
+Follows key until every taken s (Rechoked (Ok _)) event = FollowsTurn (is_flush_due every taken) key event
+Follows key until every taken s (Flushed (Ok _)) event = FeedsRead key event
+Follows key until every taken s _ event = ⊥
 
 -- A session begins as its peer is connected, and goes on event by event. `last` is the last answer.
 pub data Session {D : Type 0} (history : D → History) (honest : D → Type 0) (faults : D → ℕ)
-    (dig : List ℕ → List ℕ) (key : PeerKey) (until_complete : Bool) (first : EngineView D)
+    (dig : List ℕ → List ℕ) (key : PeerKey) (until_complete : Bool) (every : ℕ) (first : EngineView D)
     : List Event → List Answer → (last : Answer) → EngineView D → Type 0 where
   begins : (out : Output) (answer : Answer) (now : EngineView D) → answer ≡ Connected (Ok (key, out))
       → StepsTo history honest faults dig first Connect answer now
-      → Session history honest faults dig key until_complete first (Connect ∷ []) (answer ∷ []) answer now
+      → Session history honest faults dig key until_complete every first (Connect ∷ []) (answer ∷ []) answer
+      now
   goes_on : (events : List Event) (answers : List Answer) (last answer : Answer) (event : Event)
       (mid now : EngineView D)
-      → Session history honest faults dig key until_complete first events answers last mid
-      → Follows key until_complete mid.state last event
+      → Session history honest faults dig key until_complete every first events answers last mid
+      → Follows key until_complete every (count_by is_turn events) mid.state last event
       → StepsTo history honest faults dig mid event answer now
-      → Session history honest faults dig key until_complete first (events ++ event ∷ [])
+      → Session history honest faults dig key until_complete every first (events ++ event ∷ [])
       (answers ++ answer ∷ []) answer now
 
 -- Its events are a run of the engine.
 abbrev pub SessionsAreRuns : {D : Type 0} → (D → History) → (D → Type 0) → (D → ℕ) → (List ℕ → List ℕ)
     → Type 0
-SessionsAreRuns {D} history honest faults dig = (key : PeerKey) (until_complete : Bool) (first : EngineView D)
-    (events : List Event) (answers : List Answer) (last : Answer) (now : EngineView D)
-    → Session history honest faults dig key until_complete first events answers last now
+SessionsAreRuns {D} history honest faults dig = (key : PeerKey) (until_complete : Bool) (every : ℕ)
+    (first : EngineView D) (events : List Event) (answers : List Answer) (last : Answer) (now : EngineView D)
+    → Session history honest faults dig key until_complete every first events answers last now
     → RunsTo history honest faults dig first events answers now

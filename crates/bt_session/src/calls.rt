@@ -1,8 +1,8 @@
 //! The calls of an engine with one peer: each is an event of the machine, and leaves the peer or takes it.
 ghost use Rattle.std.specs.Prelude.{[], ◌≡◌, IfOk, IfErr, OnErr};
 ghost use Rattle.bt_machine.specs.declared.error.EngineError.TheVariants.{OutOfMemory};
-ghost use Rattle.bt_machine.specs.declared.event.Event.TheVariants.{Connect, Feed, Next, Lost, Rechoke};
-ghost use Rattle.bt_machine.specs.declared.event.Answer.TheVariants.{Connected, Fed, Stepped, Lost as LostAnswer, Rechoked};
+ghost use Rattle.bt_machine.specs.declared.event.Event.TheVariants.{Connect, Feed, Next, Lost, Rechoke, Flush};
+ghost use Rattle.bt_machine.specs.declared.event.Answer.TheVariants.{Connected, Fed, Stepped, Lost as LostAnswer, Rechoked, Flushed};
 ghost use Rattle.bt_machine.specs.Law.{sent_by};
 ghost use Rattle.bt_machine.specs.View.{StepsTo};
 ghost use Rattle.bt_session.specs.Frames.{AllFit};
@@ -11,7 +11,7 @@ ghost use Rattle.bt_session.specs.PeerSteps.{IsAlone, HasNoOther, LeavesPeer};
 use bt_book::PeerKey;
 use bt_disk::Disk;
 use bt_engine::Engine;
-use bt_machine::{ConnectError, EngineError, Output, events_send_what_fits};
+use bt_machine::{ConnectError, EngineError, FlushError, Output, events_send_what_fits};
 use bt_tree::NodeHash;
 use std::alloc::AllocError;
 
@@ -76,6 +76,18 @@ pub(crate) fn rechoke<D: Disk + Drop, H: NodeHash>(
     engine.keeps_laws();
     events_send_what_fits(engine.hash());
     engine.rechoke()
+}
+
+/// Flushes the engine. Errors: a device failed, or the log would be too long.
+pub(crate) fn flush<D: Disk + Drop, H: NodeHash>(
+    engine: &mut Engine<D, H>,
+    key: PeerKey,
+) -> Result<(), FlushError>
+    requires alone { IsAlone key engine.old.state }
+    ensures step { StepsTo D.history D.honest D.faults H.digest engine.old Flush (Flushed result) engine.new }
+    ensures alone { IsAlone key engine.new.state }
+{
+    engine.flush()
 }
 
 /// Removes the peer, where it is not gone already.

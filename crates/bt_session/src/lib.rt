@@ -4,6 +4,7 @@
 
 mod calls;
 mod end;
+mod flushes;
 mod frames;
 mod law;
 mod room;
@@ -13,4 +14,4 @@ mod turn;
 pub use bt_engine::Engine;
 pub use end::SessionEnd;
 pub use law::sessions_are_runs;
-pub use session::run_session;
+pub use session::{run_session, run_session_with_flushes};

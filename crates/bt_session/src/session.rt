@@ -6,18 +6,19 @@ ghost use Rattle.bt_machine.specs.State.{EngineView};
 ghost use Rattle.bt_machine.specs.View.{StepsTo};
 ghost use Rattle.bt_session.specs.Frames.{AllFit};
 ghost use Rattle.bt_session.specs.Progress.{Place, place};
-ghost use Rattle.bt_session.specs.Ends.{IsBetweenTurns, HasEnded, IsSession};
+ghost use Rattle.bt_session.specs.Ends.{IsBetweenTurns, HasEnded, IsSession, IsSessionWithFlushes};
 ghost use Rattle.bt_session.specs.Parts.{GoesOn};
 ghost use Rattle.bt_session.specs.PeerSteps.{IsAlone, HasNoOther};
 
 use crate::calls::{connect, remove};
 use crate::end::SessionEnd;
+use crate::flushes::flush_if_due;
 use crate::frames::write_frames;
 use crate::room::Room;
 use crate::turn::{Partner, end_after, turn};
 use bt_disk::Disk;
 use bt_engine::Engine;
-use bt_machine::{ConnectError, Output};
+use bt_machine::{ConnectError, FlushError, Output};
 use bt_tree::NodeHash;
 use std::alloc::Global;
 use std::io::{Read, Write};
@@ -47,10 +48,45 @@ pub fn run_session<D: Disk + Drop, H: NodeHash, R: Read, W: Write>(
     ensures unread { OnErr result (reader.new ≡ reader.old) }
     ensures unwritten { OnErr result (writer.new ≡ writer.old) }
 {
+    match run_session_with_flushes(alloc, engine, reader, writer, until_complete, turns, 0) {
+        Ok(Ok(end)) => Ok(end),
+        // It is never flushed.
+        Ok(Err(_)) => unreachable!(),
+        Err(error) => Err(error),
+    }
+}
+
+/// The same as `run_session`, but that the engine is flushed behind each turn whose number is a multiple of
+/// `flush_every`, and never where that is 0. A flush that is refused ends the session, and is told in place
+/// of its end.
+///
+/// Errors: no peer is connected, for want of memory or of a key. Then nothing was read or written.
+pub fn run_session_with_flushes<D: Disk + Drop, H: NodeHash, R: Read, W: Write>(
+    alloc: Global,
+    engine: &mut Engine<D, H>,
+    reader: &mut R,
+    writer: &mut W,
+    until_complete: bool,
+    turns: u64,
+    flush_every: u64,
+) -> Result<Result<SessionEnd, FlushError>, ConnectError>
+    requires no_peer { engine.old.state.peers ≡ [] }
+    ensures session { IfOk result (λ end. IsSessionWithFlushes D.history D.honest D.faults H.digest
+        until_complete flush_every turns
+        (place engine.old (R.remaining reader.old) (W.contents writer.old)) end
+        (place engine.new (R.remaining reader.new) (W.contents writer.new))) }
+    ensures gone { engine.new.state.peers ≡ [] }
+    ensures refused { IfErr result (λ error.
+        StepsTo D.history D.honest D.faults H.digest engine.old Connect (Connected (Err error)) engine.new) }
+    ensures kept { OnErr result (engine.new ≡ engine.old) }
+    ensures unread { OnErr result (reader.new ≡ reader.old) }
+    ensures unwritten { OnErr result (writer.new ≡ writer.old) }
+{
     let (key, greeting) = connect(engine)?;
     let partner = Partner {
         key,
         until_complete,
+        flush_every,
     };
     let mut room = Room::new(alloc);
     let end = converse(engine, partner, &greeting, reader, writer, &mut room, turns);
@@ -59,7 +95,8 @@ pub fn run_session<D: Disk + Drop, H: NodeHash, R: Read, W: Write>(
     Ok(end)
 }
 
-/// Greets the peer, and takes turns with it to the session's end.
+/// Greets the peer, and takes turns with it to the session's end. Errors: a flush was refused, which was the
+/// end.
 fn converse<D: Disk + Drop, H: NodeHash, R: Read, W: Write>(
     engine: &mut Engine<D, H>,
     partner: Partner,
@@ -68,13 +105,14 @@ fn converse<D: Disk + Drop, H: NodeHash, R: Read, W: Write>(
     writer: &mut W,
     room: &mut Room,
     turns: u64,
-) -> SessionEnd
+) -> Result<SessionEnd, FlushError>
     requires alone { IsAlone partner.key engine.old.state }
     requires fit { AllFit greeting.now.send }
     ensures ends { (first : EngineView D)
         → StepsTo D.history D.honest D.faults H.digest first Connect
         (Connected (Ok (partner.key, greeting.now))) engine.old
-        → HasEnded D.history D.honest D.faults H.digest partner.key partner.until_complete turns
+        → HasEnded D.history D.honest D.faults H.digest partner.key partner.until_complete
+        partner.flush_every turns
         (place first (R.remaining reader.old) (W.contents writer.old)) result
         (place engine.new (R.remaining reader.new) (W.contents writer.new)) }
     ensures no_other { HasNoOther partner.key engine.new.state }
@@ -88,14 +126,15 @@ fn converse<D: Disk + Drop, H: NodeHash, R: Read, W: Write>(
         &mut room.outgoing,
     ) {
         Ok(()) => match end_after(engine, partner.until_complete, None) {
-            Some(end) => end,
+            Some(end) => Ok(end),
             None => take_turns(engine, partner, reader, writer, room, turns),
         },
-        Err(end) => end,
+        Err(end) => Ok(end),
     }
 }
 
-/// Takes turns with the peer, so many at most, to the session's end.
+/// Takes turns with the peer, so many at most, to the session's end, and flushes the engine between them,
+/// where that is due. Errors: a flush was refused, which was the end.
 fn take_turns<D: Disk + Drop, H: NodeHash, R: Read, W: Write>(
     engine: &mut Engine<D, H>,
     partner: Partner,
@@ -103,21 +142,22 @@ fn take_turns<D: Disk + Drop, H: NodeHash, R: Read, W: Write>(
     writer: &mut W,
     room: &mut Room,
     turns: u64,
-) -> SessionEnd
+) -> Result<SessionEnd, FlushError>
     requires alone { IsAlone partner.key engine.old.state }
     ensures ends { (first : Place D)
-        → GoesOn D.history D.honest D.faults H.digest partner.key partner.until_complete
+        → GoesOn D.history D.honest D.faults H.digest partner.key partner.until_complete partner.flush_every
         (IsBetweenTurns partner.until_complete) first 0
         (place engine.old (R.remaining reader.old) (W.contents writer.old))
-        → HasEnded D.history D.honest D.faults H.digest partner.key partner.until_complete turns first result
+        → HasEnded D.history D.honest D.faults H.digest partner.key partner.until_complete
+        partner.flush_every turns first result
         (place engine.new (R.remaining reader.new) (W.contents writer.new)) }
     ensures no_other { HasNoOther partner.key engine.new.state }
 {
-    for _ in 0..turns {
+    for taken in 0..turns {
         match turn(engine, partner, reader, writer, room) {
-            Ok(()) => {}
-            Err(end) => return end,
+            Ok(()) => flush_if_due(engine, partner, taken + 1)?,
+            Err(end) => return Ok(end),
         }
     }
-    SessionEnd::TurnsSpent
+    Ok(SessionEnd::TurnsSpent)
 }

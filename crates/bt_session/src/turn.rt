@@ -6,7 +6,7 @@ ghost use Rattle.bt_machine.specs.declared.event.Event.TheVariants.{Next, Rechok
 ghost use Rattle.bt_session.specs.declared.end.SessionEnd.TheVariants.{ReadFault};
 ghost use Rattle.bt_session.specs.Progress.{place};
 ghost use Rattle.bt_session.specs.Ends.{IsBetweenTurns};
-ghost use Rattle.bt_session.specs.Parts.{Awaits, IsPart, IsGiven, event_after, EndsAfter};
+ghost use Rattle.bt_session.specs.Parts.{Awaits, IsTurnOver, IsPart, IsGiven, event_after, EndsAfter};
 ghost use Rattle.bt_session.specs.PeerSteps.{IsAlone, HasNoOther, StaysAlone};
 
 use crate::calls::{feed, next, rechoke};
@@ -20,11 +20,13 @@ use bt_machine::Why;
 use bt_tree::NodeHash;
 use std::io::{ErrorKind, Read, Write};
 
-/// The peer of a session, and whether it goes on until all files are complete only.
+/// The peer of a session, whether it goes on until all files are complete only, and behind how many turns the
+/// engine is flushed; 0 for never.
 #[derive(Clone, Copy)]
 pub(crate) struct Partner {
     pub(crate) key: PeerKey,
     pub(crate) until_complete: bool,
+    pub(crate) flush_every: u64,
 }
 
 /// One turn. Errors: the session ended in it.
@@ -39,7 +41,7 @@ pub(crate) fn turn<D: Disk + Drop, H: NodeHash, R: Read, W: Write>(
     ensures part { IsPart D.history D.honest D.faults H.digest partner.key partner.until_complete
         (IsBetweenTurns partner.until_complete) (λ turns. turns + 1)
         (place engine.old (R.remaining reader.old) (W.contents writer.old)) result
-        (λ _. IsBetweenTurns partner.until_complete)
+        (λ _. IsTurnOver)
         (place engine.new (R.remaining reader.new) (W.contents writer.new)) }
     ensures alone { OnOk result (IsAlone partner.key engine.new.state) }
     ensures no_other { HasNoOther partner.key engine.new.state }
@@ -177,7 +179,7 @@ fn choose<D: Disk + Drop, H: NodeHash, W: Write>(
         → IsPart D.history D.honest D.faults H.digest partner.key partner.until_complete
         (Awaits partner.key partner.until_complete Rechoke) (λ turns. turns)
         (place engine.old remaining (W.contents writer.old)) result
-        (λ _. IsBetweenTurns partner.until_complete)
+        (λ _. IsTurnOver)
         (place engine.new remaining (W.contents writer.new)) }
     ensures alone { IsAlone partner.key engine.new.state }
 {

@@ -68,7 +68,8 @@ fn flipped(disk: TestDisk, flip: Option<(u64, u64)>) -> TestDisk {
     }
 }
 
-fn with_fault(disk: TestDisk, call: u64) -> TestDisk {
+/// The disk, with its call of this number failing; where that is none, no call fails.
+pub fn with_fault(disk: TestDisk, call: u64) -> TestDisk {
     if is_call(call) {
         disk.failing_once(call)
     } else {

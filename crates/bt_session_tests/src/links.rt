@@ -3,9 +3,11 @@ ghost use Rattle.std.specs.Prelude.{◌≡◌, ◌≤◌, IfSome};
 
 use crate::bytes::bytes_of;
 use crate::engine::TestEngine;
-use bt_peers::{Link, PeerEnd, end_text, run_peers};
+use bt_machine::FlushError;
+use bt_peers::{Link, PeerEnd, end_text, run_peers, run_peers_with_flushes};
 use bt_session::SessionEnd;
 use std::alloc::{AllocError, Global};
+use std::fmt::Write;
 use std::io::{self, Sink};
 
 /// The most turns of a session with one of them.
@@ -69,6 +71,25 @@ pub fn peers_row(
     }
 }
 
+/// Tries three peers, with a flush behind each `every`-th turn and behind each session: what came of each, and what the last
+/// flush answered.
+pub fn peers_with_flushes(
+    alloc: Global,
+    engine: &mut TestEngine,
+    every: u64,
+    words: &str,
+    out: &mut String,
+) -> Result<(), AllocError> {
+    let sent = sent_by(alloc, words)?;
+    match flush_three(alloc, engine, every, &sent) {
+        Some((ends, flushed)) => {
+            tell_ends(out, &ends)?;
+            tell_flushed(out, flushed)
+        }
+        None => out.push_str("a peer is there\n"),
+    }
+}
+
 /// What each peer sends; none where it is not reached.
 fn sent_by(alloc: Global, words: &str) -> Result<Vec<Option<Vec<u8>>>, AllocError> {
     let mut sent = Vec::new(alloc);
@@ -92,6 +113,21 @@ fn try_three(
     Some(ends)
 }
 
+fn flush_three(
+    alloc: Global,
+    engine: &mut TestEngine,
+    every: u64,
+    sent: &[Option<Vec<u8>>],
+) -> Option<([PeerEnd; 3], Result<(), FlushError>)> {
+    if engine.peers() != 0 {
+        return None;
+    }
+    let mut links = [link_at(sent, 0), link_at(sent, 1), link_at(sent, 2)];
+    let mut ends = [PeerEnd::Session(SessionEnd::Memory); 3];
+    let flushed = run_peers_with_flushes(alloc, engine, &mut links, &mut ends, TURNS, every);
+    Some((ends, flushed))
+}
+
 fn link_at(sent: &[Option<Vec<u8>>], index: usize) -> MemoryLink<'_>
     ensures { result.dials ≡ 0 }
 {
@@ -107,4 +143,11 @@ fn tell_ends(out: &mut String, ends: &[PeerEnd]) -> Result<(), AllocError> {
         out.push_str(";")?;
     }
     out.push_str("\n")
+}
+
+fn tell_flushed(out: &mut String, flushed: Result<(), FlushError>) -> Result<(), AllocError> {
+    match flushed {
+        Ok(()) => Ok(()),
+        Err(error) => writeln!(out, "flush refused {error}"),
+    }
 }

@@ -11,6 +11,7 @@ mod device;
 mod ends;
 mod engine;
 mod event;
+mod flushes;
 mod hints;
 mod links;
 mod lists;

@@ -1,7 +1,9 @@
 //! Sessions, and the engine that they run on.
 
 use crate::bytes::{bytes_of, tell_digest, tell_hex};
+use crate::device::with_fault;
 use crate::engine::{TestDisk, TestEngine, memory_disk, start, tell_reports, torrent_of};
+use crate::flushes::{flushing_peers_row, flushing_row};
 use crate::links::peers_row;
 use crate::partner::{TestReader, TestWriter};
 use crate::row::{Row, row_of};
@@ -87,7 +89,8 @@ impl Sessions {
     }
 }
 
-/// The devices of files, of which each word has the bytes. None where a word has none.
+/// The devices of files, of which each word has the bytes, and behind `!` the call that fails, where one does. None where a
+/// word has no bytes.
 fn disks_of(alloc: Global, words: &str) -> Result<Option<Vec<TestDisk>>, AllocError> {
     let mut disks = Vec::new(alloc);
     if push_disks(alloc, &mut disks, words)? {
@@ -106,9 +109,11 @@ fn push_disks(alloc: Global, disks: &mut Vec<TestDisk>, words: &str) -> Result<b
 }
 
 fn push_disk(alloc: Global, disks: &mut Vec<TestDisk>, word: &str) -> Result<bool, AllocError> {
+    let (word, call) = word.split_once('!').unwrap_or((word, "0"));
     match bytes_of(alloc, word)? {
         Some(bytes) => {
-            disks.push(memory_disk(alloc, bytes))?;
+            let call = call.parse().unwrap_or(0);
+            disks.push(with_fault(memory_disk(alloc, bytes), call))?;
             Ok(true)
         }
         None => Ok(false),
@@ -127,6 +132,8 @@ fn engine_row(
         "fetch" => session_row(alloc, engine, true, rest, out),
         "serve" => session_row(alloc, engine, false, rest, out),
         "peers" => peers_row(alloc, engine, rest, out),
+        "flushing" => flushing_row(alloc, engine, rest, out),
+        "flushing_peers" => flushing_peers_row(alloc, engine, rest, out),
         _ => writeln!(out, "no line {name}"),
     }
 }
@@ -204,6 +211,17 @@ fn tell_session(
     out: &mut String,
 ) -> Result<(), AllocError> {
     tell_end(out, end)?;
+    tell_rest(alloc, engine, left, written, out)
+}
+
+/// Adds what is left of the reader, who is connected, what was written, and how far each file is.
+pub fn tell_rest(
+    alloc: Global,
+    engine: &TestEngine,
+    left: usize,
+    written: &[u8],
+    out: &mut String,
+) -> Result<(), AllocError> {
     writeln!(out, ", {left} left, {} peers", engine.peers())?;
     tell_written(alloc, out, written)?;
     tell_reports(out, engine)

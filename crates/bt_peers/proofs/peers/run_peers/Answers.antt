@@ -1,36 +1,7 @@
-use Rattle.std.proofs.Common.{◌≡◌, sym, ◌∙◌, arith, rules}
-use Rattle.std.proofs.lemmas.List.{set-get_or}
-use Rattle.bt_runs.specs.Leads.{none, both}
-use Rattle.bt_peers.proofs.Turns.{All-first, All-later, untried_later, went_on, all_tried, completed}
+use Rattle.bt_peers.proofs.Unflushed.{unflushed_turns}
 use Rattle.bt_peers.proofs.peers.run_peers.Goals as goal
 
-pub try_peer-requires-clause-undialled : goal.try_peer-requires-clause-undialled
-try_peer-requires-clause-undialled g c =
-    All-first (λ link. g.L.Link.dials link ≡ 0) c.loop-i.links c.loop-i.i c.index-links-i.result (omega arith) c.loop-i.invariant.undialled
-
-pub loop-i-init : goal.loop-i-init
-loop-i-init g c = record {
-  no_peer = c.requires.no_peer;
-  undialled = c.requires.undialled;
-  untried = search rules;
-  leads = λ later rest new turns. turns;
-  run = none c.args.engine.now;
-}
-
-pub loop-i-preserved : goal.loop-i-preserved
-loop-i-preserved g c = record {
-  no_peer = c.try_peer.ensures.gone;
-  undialled = All-later (λ link. g.L.Link.dials link ≡ 0) c.loop-i.links c.loop-i.i c.try_peer.new.link c.loop-i.invariant.undialled;
-  untried = untried_later c.loop-i.ends c.loop-i.links c.loop-i.i c.try_peer.result c.try_peer.new.link c.loop-i.invariant.untried;
-  leads = went_on _ _ _ c.loop-i.i _ _ c.loop-i.links c.loop-i.ends c.index-links-i.result _ _ (omega arith) (omega arith)
-      (sym c.is_complete.ensures ∙ c.if-is_complete.false) c.try_peer.ensures.tried c.loop-i.invariant.leads;
-  run = both _ c.loop-i.engine _ c.loop-i.invariant.run c.try_peer.ensures.run;
-}
-
-pub returns-after-loop-i-clause-peers : goal.returns-after-loop-i-clause-peers
-returns-after-loop-i-clause-peers g c = all_tried _ _ _ c.loop-i.i _ _ _ (omega arith) (omega arith) c.loop-i.invariant.leads
-
-pub returns-then-is_complete-clause-peers : goal.returns-then-is_complete-clause-peers
-returns-then-is_complete-clause-peers g c =
-    rw set-get_or (completed _ _ _ c.loop-i.i _ c.loop-i.links c.loop-i.ends (sym c.is_complete.ensures ∙ c.if-is_complete.true) c.loop-i.invariant.untried
-    c.loop-i.invariant.leads)
+pub returns-clause-peers : goal.returns-clause-peers
+returns-clause-peers g c =
+    unflushed_turns g.D.Disk.history g.D.Disk.honest g.D.Disk.faults g.H.NodeHash.digest g.L.Link.dials g.L.Link.failures g.L.Link.gives g.L.R.Read.remaining
+    g.L.W.Write.contents c.args.turns c.run_peers_with_flushes.ensures.peers

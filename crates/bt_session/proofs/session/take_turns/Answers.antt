@@ -1,18 +1,27 @@
 use Rattle.std.proofs.Common.{arith}
+use Rattle.std.proofs.lemmas.Result.{err_from_is_err_and}
 use Rattle.bt_session.proofs.Whole.{spent}
 use Rattle.bt_session.proofs.session.take_turns.Goals as goal
 
 pub returns-in-Err-clause-ends : goal.returns-in-Err-clause-ends
 returns-in-Err-clause-ends g c first begun =
-    c.in-Err.ensures.part c.args.turns c.loop.counter first (c.loop.invariant.goes first begun) (omega (arith, c.loop-test.true))
+    c.in-Err.ensures.part c.args.partner.flush_every c.args.turns c.loop-taken.taken first (c.loop-taken.invariant.goes first begun) (omega (arith, c.loop-taken-test.true))
 
-pub loop-preserved : goal.loop-preserved
-loop-preserved g c = record {
-  alone = c.in-Ok.ensures.alone;
-  goes = λ first begun. c.in-Ok.ensures.part c.args.turns c.loop.counter first (c.loop.invariant.goes first begun) (omega (arith, c.loop-test.true));
+pub returns-in_err-flush_if_due-in-Ok-clause-ends : goal.returns-in_err-flush_if_due-in-Ok-clause-ends
+returns-in_err-flush_if_due-in-Ok-clause-ends g c first begun =
+    let took = c.in-Ok.ensures.part c.args.partner.flush_every c.args.turns c.loop-taken.taken first (c.loop-taken.invariant.goes first begun) (omega (arith, c.loop-taken-test.true)) in
+    let p = err_from_is_err_and c.from_residual.result c.from_residual.ensures.1 in
+    rw (p.1, p.2) (c.in_err-flush_if_due-in-Ok.ensures.pause c.args.turns first _ _ took (omega (arith, c.loop-taken-test.true)))
+
+pub loop-taken-preserved : goal.loop-taken-preserved
+loop-taken-preserved g c = record {
+  alone = c.in_ok-flush_if_due-in-Ok.ensures.alone;
+  goes = λ first begun.
+      let took = c.in-Ok.ensures.part c.args.partner.flush_every c.args.turns c.loop-taken.taken first (c.loop-taken.invariant.goes first begun) (omega (arith, c.loop-taken-test.true)) in
+      c.in_ok-flush_if_due-in-Ok.ensures.pause c.args.turns first _ _ took (omega (arith, c.loop-taken-test.true));
 }
 
 pub returns-clause-ends : goal.returns-clause-ends
 returns-clause-ends g c first begun =
-    spent g.D.Disk.history g.D.Disk.honest g.D.Disk.faults g.H.NodeHash.digest _ _ c.args.turns c.loop.counter first _
-    (omega (arith, c.loop.auto.counter-end, c.loop-test.false)) (c.loop.invariant.goes first begun)
+    spent g.D.Disk.history g.D.Disk.honest g.D.Disk.faults g.H.NodeHash.digest _ _ _ c.args.turns c.loop-taken.taken first _
+    (omega (arith, c.loop-taken.auto.taken-end, c.loop-taken-test.false)) (c.loop-taken.invariant.goes first begun)

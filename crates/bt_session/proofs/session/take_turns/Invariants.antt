@@ -6,13 +6,13 @@ use Rattle.bt_session.specs.Parts.{GoesOn}
 use Rattle.bt_session.specs.PeerSteps.{IsAlone}
 use Rattle.bt_session.proofs.session.take_turns.Given as goal
 
-abbrev pub invariant-loop : goal.invariant-loop
-invariant-loop g l = record {
+abbrev pub invariant-loop-taken : goal.invariant-loop-taken
+invariant-loop-taken g l = record {
   alone : IsAlone l.partner.key l.engine.state;
   goes : (first : Place g.row.D.Denot)
-      → GoesOn g.D.Disk.history g.D.Disk.honest g.D.Disk.faults g.H.NodeHash.digest l.partner.key l.partner.until_complete
+      → GoesOn g.D.Disk.history g.D.Disk.honest g.D.Disk.faults g.H.NodeHash.digest l.partner.key l.partner.until_complete l.partner.flush_every
       (IsBetweenTurns l.partner.until_complete) first 0
       (place l.initial.engine (g.R.Read.remaining l.initial.reader) (g.W.Write.contents l.initial.writer))
-      → GoesOn g.D.Disk.history g.D.Disk.honest g.D.Disk.faults g.H.NodeHash.digest l.partner.key l.partner.until_complete
-      (IsBetweenTurns l.partner.until_complete) first l.counter (place l.engine (g.R.Read.remaining l.reader) (g.W.Write.contents l.writer));
+      → GoesOn g.D.Disk.history g.D.Disk.honest g.D.Disk.faults g.H.NodeHash.digest l.partner.key l.partner.until_complete l.partner.flush_every
+      (IsBetweenTurns l.partner.until_complete) first l.taken (place l.engine (g.R.Read.remaining l.reader) (g.W.Write.contents l.writer));
 }

@@ -3,19 +3,19 @@ use Rattle.std.proofs.lemmas.Result.{err_from_is_err_and}
 use Rattle.bt_session.proofs.turn.turn.Goals as goal
 
 pub returns-in_err-receive-clause-part : goal.returns-in_err-receive-clause-part
-returns-in_err-receive-clause-part g c given taken first h few =
+returns-in_err-receive-clause-part g c every given taken first h few =
     let p = err_from_is_err_and c.from_residual.result c.from_residual.ensures.1 in
-    rw (p.1, p.2) (c.in_err-receive.ensures.part (g.W.Write.contents c.args.writer.now) given taken first h few)
+    rw (p.1, p.2) (c.in_err-receive.ensures.part (g.W.Write.contents c.args.writer.now) every given taken first h few)
 
 pub returns-in_err-take_events-clause-part : goal.returns-in_err-take_events-clause-part
-returns-in_err-take_events-clause-part g c given taken first h few =
-    let received = c.in_ok-receive.ensures.part (g.W.Write.contents c.args.writer.now) given taken first h few in
+returns-in_err-take_events-clause-part g c every given taken first h few =
+    let received = c.in_ok-receive.ensures.part (g.W.Write.contents c.args.writer.now) every given taken first h few in
     let p = err_from_is_err_and c.from_residual-in_err-take_events.result c.from_residual-in_err-take_events.ensures.1 in
-    rw (p.1, p.2) (c.in_err-take_events.ensures.part (g.R.Read.remaining c.receive.new.reader) given (taken + 1) first received few)
+    rw (p.1, p.2) (c.in_err-take_events.ensures.part (g.R.Read.remaining c.receive.new.reader) every given (taken + 1) first received few)
 
 pub returns-clause-part : goal.returns-clause-part
-returns-clause-part g c given taken first h few =
+returns-clause-part g c every given taken first h few =
     let remaining = g.R.Read.remaining c.receive.new.reader in
-    let received = c.in_ok-receive.ensures.part (g.W.Write.contents c.args.writer.now) given taken first h few in
-    let took = c.in_ok-take_events.ensures.part remaining given (taken + 1) first received few in
-    c.choose.ensures.part remaining given (taken + 1) first took few
+    let received = c.in_ok-receive.ensures.part (g.W.Write.contents c.args.writer.now) every given taken first h few in
+    let took = c.in_ok-take_events.ensures.part remaining every given (taken + 1) first received few in
+    c.choose.ensures.part remaining every given (taken + 1) first took few

@@ -1,0 +1,36 @@
+use Rattle.std.proofs.Common.{rules, refl}
+use Rattle.bt_machine.specs.declared.event.Event.TheVariants.{Connect}
+use Rattle.bt_runs.specs.Leads.{none, one, both}
+use Rattle.bt_peers.specs.Peer.{behind, within}
+use Rattle.bt_peers.proofs.Sessions.{session_leads}
+use Rattle.bt_peers.proofs.peer.meet_peer_with_flushes.Goals as goal
+
+pub returns-in_default-clause-ended : goal.returns-in_default-clause-ended
+returns-in_default-clause-ended g c = search rules
+
+pub returns-in_default-clause-run : goal.returns-in_default-clause-run
+returns-in_default-clause-run g c = none c.args.engine.now
+
+pub returns-in-Ok-Ok-clause-ended : goal.returns-in-Ok-Ok-clause-ended
+returns-in-Ok-Ok-clause-ended g c =
+    behind c.run_session_with_flushes.new.engine (record { left = _; written = _; session = rw c.in-Ok-Ok.field-0-is at c.in-Ok-Ok.ensures.session })
+    c.flush_behind.ensures.flushed
+
+pub returns-in-Ok-Ok-clause-run : goal.returns-in-Ok-Ok-clause-run
+returns-in-Ok-Ok-clause-run g c =
+    both c.args.engine.now c.run_session_with_flushes.new.engine c.flush_behind.new.engine
+    (session_leads g.D.Disk.history g.D.Disk.honest g.D.Disk.faults g.H.NodeHash.digest _ _ _ c.args.engine.now c.run_session_with_flushes.new.engine _ _ _ _ _
+    c.in-Ok-Ok.ensures.session)
+    c.flush_behind.ensures.run
+
+pub returns-in-Ok-Err-clause-ended : goal.returns-in-Ok-Err-clause-ended
+returns-in-Ok-Err-clause-ended g c =
+    within c.in-Ok-Err.error (record { left = _; written = _; session = rw c.in-Ok-Err.field-0-is at c.in-Ok-Err.ensures.session }) refl refl
+
+pub returns-in-Ok-Err-clause-run : goal.returns-in-Ok-Err-clause-run
+returns-in-Ok-Err-clause-run g c =
+    session_leads g.D.Disk.history g.D.Disk.honest g.D.Disk.faults g.H.NodeHash.digest _ _ _ c.args.engine.now c.run_session_with_flushes.new.engine _ _ _ _ _
+    c.in-Ok-Err.ensures.session
+
+pub returns-clause-run : goal.returns-clause-run
+returns-clause-run g c = one c.args.engine.now c.run_session_with_flushes.new.engine Connect _ (λ e. absurd cc) c.in-Err.ensures.refused

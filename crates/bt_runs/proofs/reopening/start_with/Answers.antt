@@ -1,0 +1,22 @@
+use Rattle.std.proofs.Common.{refl}
+use Rattle.bt_runs.proofs.Reopenings.{none_back, same_disk, start_refused}
+use Rattle.bt_runs.proofs.reopening.start_with.Goals as goal
+
+pub unreachable-requires : goal.unreachable-requires
+unreachable-requires g c =
+    none_back g.D.Disk.history g.D.Disk.honest g.D.Disk.faults g.H.NodeHash.digest c.requires.same_torrent c.start.ensures.answer c.in-Err.is c.in-None.is
+
+pub returns-in-Ok-clause-begun : goal.returns-in-Ok-clause-begun
+returns-in-Ok-clause-begun g c = c.in-Ok.ensures.again
+
+pub returns-in-Some-clause-refused : goal.returns-in-Some-clause-refused
+returns-in-Some-clause-refused g c =
+    let r = start_refused g.D.Disk.history g.D.Disk.honest g.D.Disk.faults g.H.NodeHash.digest c.requires.same_torrent c.start.ensures.answer c.in-Err.is in
+    record {
+      cause = c.in-Err.refused.cause;
+      same_cause = refl;
+      same_torrent = r.same_torrent;
+      count = r.count;
+      same_disks = r.same_disks;
+      same_log = same_disk r.same_log c.in-Some.is c.into_disk.ensures;
+    }

@@ -1,0 +1,92 @@
+//! Sessions and peers in turn between whose turns the engine is flushed.
+
+use crate::engine::TestEngine;
+use crate::links::peers_with_flushes;
+use crate::partner::{TestReader, TestWriter};
+use crate::row::{Row, row_of};
+use crate::sessions::{tell_end, tell_rest};
+use bt_machine::{ConnectError, FlushError};
+use bt_session::{SessionEnd, run_session_with_flushes};
+use std::alloc::{AllocError, Global};
+use std::fmt::Write;
+
+/// Runs a session until all files are complete, with a flush behind each turn whose number is a multiple of the first word, and
+/// tells of it.
+pub fn flushing_row(
+    alloc: Global,
+    engine: &mut TestEngine,
+    words: &str,
+    out: &mut String,
+) -> Result<(), AllocError> {
+    let (every, words) = every_of(words);
+    match row_of(alloc, words)? {
+        Some(row) => session(alloc, engine, every, row, out),
+        None => out.push_str("no session\n"),
+    }
+}
+
+/// Tries three peers with these flushes.
+pub fn flushing_peers_row(
+    alloc: Global,
+    engine: &mut TestEngine,
+    words: &str,
+    out: &mut String,
+) -> Result<(), AllocError> {
+    let (every, words) = every_of(words);
+    peers_with_flushes(alloc, engine, every, words, out)
+}
+
+/// The number of the first word, 0 where it is none, and the other words.
+fn every_of(words: &str) -> (u64, &str) {
+    let (every, words) = words.split_once(' ').unwrap_or((words, ""));
+    (every.parse().unwrap_or(0), words)
+}
+
+fn session(
+    alloc: Global,
+    engine: &mut TestEngine,
+    every: u64,
+    row: Row,
+    out: &mut String,
+) -> Result<(), AllocError> {
+    let Row {
+        turns,
+        fault,
+        readings,
+    } = row;
+    let mut reader = TestReader::new(readings);
+    let mut writer = TestWriter::new(alloc, fault);
+    match end_of(alloc, engine, &mut reader, &mut writer, turns, every) {
+        Some(end) => {
+            tell_flushed_end(out, &end)?;
+            tell_rest(alloc, engine, reader.left(), &writer.bytes, out)
+        }
+        None => out.push_str("a peer is there\n"),
+    }
+}
+
+/// How a session ends; none, where a peer is there before.
+fn end_of(
+    alloc: Global,
+    engine: &mut TestEngine,
+    reader: &mut TestReader,
+    writer: &mut TestWriter,
+    turns: u64,
+    every: u64,
+) -> Option<Result<Result<SessionEnd, FlushError>, ConnectError>> {
+    if engine.peers() != 0 {
+        return None;
+    }
+    Some(run_session_with_flushes(alloc, engine, reader, writer, true, turns, every))
+}
+
+fn tell_flushed_end(
+    out: &mut String,
+    end: &Result<Result<SessionEnd, FlushError>, ConnectError>,
+) -> Result<(), AllocError> {
+    match end {
+        Ok(Ok(end)) => tell_end(out, &Ok(*end)),
+        Ok(Err(error)) => write!(out, "flush refused {error}"),
+        Err(error) => write!(out, "refused {error}"),
+    }
+}
