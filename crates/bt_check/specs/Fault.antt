@@ -7,7 +7,7 @@ use Rattle.bt_meta.specs.declared.error.MetaError.TheVariants.{OutOfMemory as no
 use Rattle.bt_meta.specs.declared.writer.MakeError.{MakeError}
 use Rattle.bt_meta.specs.declared.writer.MakeError.TheVariants.{OutOfMemory as no_memory_to_make}
 use Rattle.bt_check.specs.declared.fault.Fault.{Fault}
-use Rattle.bt_check.specs.declared.fault.Fault.TheVariants.{Words, OutAmongFiles, Torrent, Make, SameFile, Device, OutOfMemory}
+use Rattle.bt_check.specs.declared.fault.Fault.TheVariants.{Words, OutAmongFiles, Torrent, Make, SameFile, LogAmongFiles, OtherTorrent, LogTooLong, LogFull, Device, OutOfMemory}
 
 -- 2 where the input is refused, 3 for a device, 4 for out of memory
 abbrev pub status_of : Fault → ℕ
@@ -16,6 +16,10 @@ status_of OutAmongFiles = 2
 status_of (Torrent refusal) = 2
 status_of (Make refusal) = 2
 status_of SameFile = 2
+status_of LogAmongFiles = 2
+status_of OtherTorrent = 2
+status_of LogTooLong = 2
+status_of LogFull = 2
 status_of Device = 3
 status_of OutOfMemory = 4
 
@@ -30,6 +34,20 @@ out_among_files = OutAmongFiles
 -- two paths of the torrent are one file
 abbrev pub same_file : Fault
 same_file = SameFile
+
+-- the file of the log is one of the torrent's
+abbrev pub log_among_files : Fault
+log_among_files = LogAmongFiles
+
+-- the log is of another torrent, or of none; it is too long; it would become too long
+abbrev pub other_torrent : Fault
+other_torrent = OtherTorrent
+
+abbrev pub log_too_long : Fault
+log_too_long = LogTooLong
+
+abbrev pub log_full : Fault
+log_full = LogFull
 
 abbrev pub device : Fault
 device = Device

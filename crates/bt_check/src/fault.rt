@@ -26,6 +26,18 @@ pub enum Fault {
     /// Two paths of the torrent are one file here.
     #[error("F1 SameFile")]
     SameFile,
+    /// The file of the log is one of the torrent's.
+    #[error("the file of --log is one of the torrent's files")]
+    LogAmongFiles,
+    /// The file of the log has bytes, and is no log of this torrent.
+    #[error("G1 OtherTorrent")]
+    OtherTorrent,
+    /// The log is longer than any is written.
+    #[error("G2 TooLong")]
+    LogTooLong,
+    /// The log would become longer than any may.
+    #[error("G3 LogFull")]
+    LogFull,
     /// A file, or a stream, could not be opened, read or written.
     #[error("device fault")]
     Device,
@@ -43,7 +55,11 @@ impl Fault {
             | Fault::OutAmongFiles
             | Fault::Torrent(_)
             | Fault::Make(_)
-            | Fault::SameFile => 2,
+            | Fault::SameFile
+            | Fault::LogAmongFiles
+            | Fault::OtherTorrent
+            | Fault::LogTooLong
+            | Fault::LogFull => 2,
             Fault::Device => 3,
             Fault::OutOfMemory => 4,
         }

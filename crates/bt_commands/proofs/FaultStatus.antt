@@ -2,7 +2,7 @@
 use Rattle.std.proofs.Common.{◌≤◌, ℕ, arith}
 use Rattle.bt_check.specs.Fault.{status_of}
 use Rattle.bt_check.specs.declared.fault.Fault.{Fault}
-use Rattle.bt_check.specs.declared.fault.Fault.TheVariants.{Words, OutAmongFiles, Torrent, Make, SameFile, Device, OutOfMemory}
+use Rattle.bt_check.specs.declared.fault.Fault.TheVariants.{Words, OutAmongFiles, Torrent, Make, SameFile, LogAmongFiles, OtherTorrent, LogTooLong, LogFull, Device, OutOfMemory}
 
 -- it is above those of a result
 pub above_one : (fault : Fault) → 2 ≤ status_of fault
@@ -11,5 +11,9 @@ above_one OutAmongFiles = omega arith
 above_one (Torrent refusal) = omega arith
 above_one (Make refusal) = omega arith
 above_one SameFile = omega arith
+above_one LogAmongFiles = omega arith
+above_one OtherTorrent = omega arith
+above_one LogTooLong = omega arith
+above_one LogFull = omega arith
 above_one Device = omega arith
 above_one OutOfMemory = omega arith

@@ -4,7 +4,7 @@ use crate::bytes::bytes_of;
 use bt_book::PeerKey;
 use bt_hashreq::HashKey;
 use bt_tree::Hash32;
-use std::alloc::{AllocError, Global};
+use std::alloc::{AllocError, AllocFailed, Global};
 
 /// Why a row has no answer.
 #[derive(Drop)]
@@ -17,6 +17,12 @@ pub enum RowError {
 impl From<AllocError> for RowError {
     fn from(error: AllocError) -> Self {
         RowError::Memory(error)
+    }
+}
+
+impl<T: Drop> From<AllocFailed<T>> for RowError {
+    fn from(_error: AllocFailed<T>) -> Self {
+        RowError::Memory(AllocError)
     }
 }
 

@@ -36,7 +36,7 @@ module _ {D : Type 0} (history : D → History) (honest : D → Type 0) (faults 
   unflushed_end remaining contents until turns None old new (Session end) answer e = absurd e
   unflushed_end remaining contents until turns (Some ways) old new Untried answer e = absurd e
   unflushed_end remaining contents until turns (Some ways) old new Unreachable answer e = absurd e
-  unflushed_end remaining contents until turns (Some ways) old new (Refused error) answer e = (e.0, e.1, e.2)
+  unflushed_end remaining contents until turns (Some ways) old new (Refused error) answer e = (e.0, (e.1, e.2))
   unflushed_end remaining contents until turns (Some ways) old new (Session end) answer e = unflushed_session end answer e
 
   module _ {L R W : Type 0} (dials failures : L → ℕ) (gives : L → R → W → Type 0) (remaining : R → Option (List ℕ)) (contents : W → Option (List ℕ)) (turns : ℕ) where
@@ -58,3 +58,11 @@ module _ {D : Type 0} (history : D → History) (honest : D → Type 0) (faults 
         tried old mid new link after end links rest ends not_done (unflushed_try old mid link after end (Ok tt) t).1 (unflushed_turns turns_after)
     unflushed_turns (stopped old new link after end links error not_done t) =
         let is : Err error ≡ Ok tt = (unflushed_try old new link after end (Err error) t).0 in absurd cc
+
+  -- how it ends with a peer that was reached, where its session was flushed
+  pub flushed_end : {R W : Type 0} (remaining : R → Option (List ℕ)) (contents : W → Option (List ℕ)) (until : Bool) (every turns : ℕ) (reached : Option (R × W)) (ways : R × W)
+      (old new : EngineView D) (end : SessionEnd) (answer : Result (Unit {0}) FlushError) → reached ≡ Some ways
+      → IsFlushedSession history honest faults dig until every turns (remaining ways.0) (contents ways.1) old end answer new
+      → EndsAsWithFlushes history honest faults dig remaining contents until every turns reached old (Session end) answer new
+  flushed_end {R} {W} remaining contents until every turns reached ways old new end answer is session =
+      subst (λ (r : Option (R × W)). EndsAsWithFlushes history honest faults dig remaining contents until every turns r old (Session end) answer new) (sym is) session

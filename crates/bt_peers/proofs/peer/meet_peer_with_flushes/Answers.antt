@@ -1,7 +1,9 @@
-use Rattle.std.proofs.Common.{rules, refl}
+use Rattle.std.proofs.Common.{Err, rules, refl}
 use Rattle.bt_machine.specs.declared.event.Event.TheVariants.{Connect}
 use Rattle.bt_runs.specs.Leads.{none, one, both}
+use Rattle.bt_session.specs.declared.end.SessionEnd.TheVariants.{ReadFault}
 use Rattle.bt_peers.specs.Peer.{behind, within}
+use Rattle.bt_peers.proofs.Unflushed.{flushed_end}
 use Rattle.bt_peers.proofs.Sessions.{session_leads}
 use Rattle.bt_peers.proofs.peer.meet_peer_with_flushes.Goals as goal
 
@@ -13,8 +15,9 @@ returns-in_default-clause-run g c = none c.args.engine.now
 
 pub returns-in-Ok-Ok-clause-ended : goal.returns-in-Ok-Ok-clause-ended
 returns-in-Ok-Ok-clause-ended g c =
-    behind c.run_session_with_flushes.new.engine (record { left = _; written = _; session = rw c.in-Ok-Ok.field-0-is at c.in-Ok-Ok.ensures.session })
-    c.flush_behind.ensures.flushed
+    flushed_end g.D.Disk.history g.D.Disk.honest g.D.Disk.faults g.H.NodeHash.digest g.R.Read.remaining g.W.Write.contents c.args.until_complete c.args.flush_every c.args.turns c.args.reached _ c.args.engine.now c.flush_behind.new.engine c.in-Ok-Ok.end c.flush_behind.result c.in-Some.is
+    (behind c.run_session_with_flushes.new.engine (record { left = _; written = _; session = rw c.in-Ok-Ok.field-0-is at c.in-Ok-Ok.ensures.session })
+    c.flush_behind.ensures.flushed)
 
 pub returns-in-Ok-Ok-clause-run : goal.returns-in-Ok-Ok-clause-run
 returns-in-Ok-Ok-clause-run g c =
@@ -25,7 +28,8 @@ returns-in-Ok-Ok-clause-run g c =
 
 pub returns-in-Ok-Err-clause-ended : goal.returns-in-Ok-Err-clause-ended
 returns-in-Ok-Err-clause-ended g c =
-    within c.in-Ok-Err.error (record { left = _; written = _; session = rw c.in-Ok-Err.field-0-is at c.in-Ok-Err.ensures.session }) refl refl
+    flushed_end g.D.Disk.history g.D.Disk.honest g.D.Disk.faults g.H.NodeHash.digest g.R.Read.remaining g.W.Write.contents c.args.until_complete c.args.flush_every c.args.turns c.args.reached _ c.args.engine.now c.run_session_with_flushes.new.engine ReadFault (Err c.in-Ok-Err.error) c.in-Some.is
+    (within c.in-Ok-Err.error (record { left = _; written = _; session = rw c.in-Ok-Err.field-0-is at c.in-Ok-Err.ensures.session }) refl refl)
 
 pub returns-in-Ok-Err-clause-run : goal.returns-in-Ok-Err-clause-run
 returns-in-Ok-Err-clause-run g c =

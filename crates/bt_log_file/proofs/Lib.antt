@@ -1,0 +1,4 @@
+-- Why a file is none for a log.
+pub mod Refusals
+-- The file of a log, by what is known of each of its parts.
+pub mod LogFiles

@@ -1,0 +1,4 @@
+pub mod Attaching
+pub mod Device
+pub mod Names
+pub mod Opening

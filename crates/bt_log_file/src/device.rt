@@ -1,0 +1,91 @@
+//! The device of a log's file.
+ghost use Rattle.std.specs.Prelude.{◌≡◌, IfErr, IfOk};
+ghost use Rattle.bt_ahead.specs.Disk.{new_ahead};
+ghost use Rattle.bt_folder.specs.SealedDisk.{new_sealed};
+ghost use Rattle.bt_log_file.specs.Device.{new_log_device, new_log_file};
+ghost use Rattle.bt_log_file.specs.Opening.{IsCallFault};
+
+use bt_ahead::{Alarm, AlarmDisk, DigestCache, ReadAheadDisk};
+use bt_check::{Fault, fault_name, told};
+use bt_disk::{HandlePool, Opening, PooledDisk};
+use bt_folder::{Seal, SealedDisk};
+use bt_progress::{FileCall, Watch, Watched};
+use std::cell::RefCell;
+use std::rt::Files;
+
+/// The device of a log's file. An engine has devices of one type, so this is the type of data files too: a device
+/// that tells of its calls, rings where a write fails, may be closed to writes, and is read ahead. Only blocks are
+/// read ahead, and a log is read by greater parts, so of a log nothing is.
+pub type LogDisk<'a, R, P> = Watched<
+    'a,
+    AlarmDisk<'a, SealedDisk<'a, ReadAheadDisk<'a, PooledDisk<R>>>>,
+    P,
+>;
+
+/// What a log's device shares with what is outside of it.
+#[derive(Clone, Copy)]
+pub struct LogContext<'a> {
+    /// Where digests are put that are made ahead: none is of a log.
+    pub digests: &'a RefCell<DigestCache>,
+    /// Rung where a write fails.
+    pub alarm: &'a Alarm,
+    /// A seal of the log alone, or one that is never closed: where data files are closed to writes, the log is not.
+    pub seal: &'a Seal,
+}
+
+/// The file of a log that was opened: its device, and what the system told of it.
+#[derive(Drop)]
+pub(crate) struct OpenedLog<D> {
+    pub disk: D,
+    pub opening: Opening,
+}
+
+/// Opens the file of a log to be read and written: one that is absent is made, with no bytes, and one that is there
+/// keeps them. What is there and is no regular file is a device fault, told without waiting on it. Symbolic links
+/// are followed. A fault is told of, and so is the first call on the device that fails.
+pub(crate) fn open_device<'a, R: Files + AllocGlobal + Clone + Drop, P: Watch>(
+    rt: &R,
+    watch: &'a P,
+    context: LogContext<'a>,
+    path: &str,
+) -> Result<OpenedLog<LogDisk<'a, R, P>>, Fault>
+    ensures device { IfOk result (λ log. log.disk ≡ new_log_device path.now) }
+    ensures fault { IfErr result IsCallFault }
+{
+    let name = fault_name(rt.alloc(), watch, path)?;
+    let file = told(rt.alloc(), watch, FileCall::Open, path, open_file(rt, path))?;
+    let opening = file.opening();
+    let disk = Watched::new(
+        AlarmDisk::new(device_of(context, file), context.alarm),
+        watch,
+        name,
+    );
+    Ok(OpenedLog { disk, opening })
+}
+
+/// Opens a file to be read and written, in a pool of its own: so its handle stays open, and what takes the file's
+/// place later is never written.
+fn open_file<R: Files + AllocGlobal + Clone + Drop>(
+    rt: &R,
+    path: &str,
+) -> Result<PooledDisk<R>, Fault>
+    ensures file { IfOk result (λ file. file ≡ new_log_file path.now) }
+    ensures fault { IfErr result IsCallFault }
+{
+    let path = String::from_str(rt.alloc(), path)?;
+    let mut pool = HandlePool::new(rt.alloc(), rt.clone()?, 1)?;
+    match pool.writing(path) {
+        Ok(file) => Ok(file),
+        Err(_) => Err(Fault::Device),
+    }
+}
+
+/// A file as a device that is written until the log's seal is closed.
+fn device_of<'a, R: Files + Drop>(
+    context: LogContext<'a>,
+    file: PooledDisk<R>,
+) -> SealedDisk<'a, ReadAheadDisk<'a, PooledDisk<R>>>
+    ensures { result ≡ new_sealed (new_ahead file) }
+{
+    SealedDisk::new(ReadAheadDisk::new(file, context.digests), context.seal)
+}

@@ -1,0 +1,44 @@
+//! The folder that a log's file lies in.
+ghost use Rattle.std.specs.Prelude.{◌≡◌, IfErr};
+ghost use Rattle.bt_check.specs.Fault.{out_of_memory};
+ghost use Rattle.bt_log_file.specs.Opening.{IsCallFault};
+
+use bt_check::{Fault, told};
+use bt_folder::sync_folder;
+use bt_progress::{FileCall, Watch};
+use std::io::ErrorKind;
+use std::path::{Path, PathBuf};
+use std::rt::Files;
+
+/// The folder that the last name of a path lies in. The dot is the one that the program runs in.
+pub(crate) fn folder_of(path: &str) -> &str {
+    match Path::new(path).parent() {
+        Some(folder) if !folder.as_str().is_empty() => folder.as_str(),
+        _ => ".",
+    }
+}
+
+/// Has the name of a file kept, by a sync of the folder that it lies in, behind all links. A fault is told of.
+pub(crate) fn keep_name<R: Files + AllocGlobal, P: Watch>(
+    rt: &R,
+    watch: &P,
+    path: &str,
+) -> Result<(), Fault>
+    ensures { IfErr result IsCallFault }
+{
+    let file = real_path(rt, path)?;
+    let folder = folder_of(file.as_path().as_str());
+    let synced = sync_folder(rt, folder).map_err(|_| Fault::Device);
+    told(rt.alloc(), watch, FileCall::Sync, folder, synced)
+}
+
+/// The path of a file behind all links. Where the system tells none, or one that is no text, it is the one given.
+fn real_path<R: Files + AllocGlobal>(rt: &R, path: &str) -> Result<PathBuf, Fault>
+    ensures { IfErr result (λ fault. fault ≡ out_of_memory) }
+{
+    match rt.canonicalize(rt.alloc(), path) {
+        Ok(real) => Ok(real),
+        Err(error) if error.kind() == ErrorKind::OutOfMemory => Err(Fault::OutOfMemory),
+        Err(_) => Ok(PathBuf::from_str(rt.alloc(), path)?),
+    }
+}

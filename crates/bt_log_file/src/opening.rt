@@ -1,0 +1,121 @@
+//! The log of a torrent, opened in its file.
+ghost use Rattle.std.specs.Prelude.{◌≡◌, IfErr, IfOk, IfSome, OnOk, MatchBool, IsSomeAnd, map};
+ghost use Rattle.std.specs.Bool.{OnFalse};
+ghost use Rattle.bt_folder.specs.KnownFiles.{IsKnown};
+ghost use Rattle.bt_meta.specs.Files.{file_of};
+ghost use Rattle.bt_resume.specs.ResumeLog.{IsAttached};
+ghost use Rattle.bt_log_file.specs.Device.{device_faults, device_history, device_honest, new_log_device};
+ghost use Rattle.bt_log_file.specs.Names.{HasNameOfFile};
+ghost use Rattle.bt_log_file.specs.Opening.{AddsFurther, IsAdded, IsCallFault, IsFileFault, IsLogFault, IsNameFault};
+
+use crate::attaching::attach_log;
+use crate::device::{LogContext, LogDisk, OpenedLog, open_device};
+use crate::folder::{folder_of, keep_name};
+use crate::names::is_own_name;
+use bt_check::{Fault, told};
+use bt_disk::{FileIdentity, Opening};
+use bt_folder::{KnownFiles, ListingError};
+use bt_meta::{FileEntry, Torrent};
+use bt_progress::{FileCall, Watch};
+use bt_resume::ResumeLog;
+use std::alloc::AllocError;
+use std::rt::Files;
+
+/// Opens the log of a torrent in the file at a path, which is made where it is absent. All files of the torrent were
+/// opened before, or made, below the folder `dir`: `known` has them, and the log's file is added to it.
+///
+/// A file without bytes becomes a log: its name is kept, by a sync of its folder, and then it gets a header, which is
+/// written and synced. To any other nothing is written.
+///
+/// Errors, in this order: the file can't be opened, or is no regular one; it is one of the torrent's, by this name,
+/// another or a link, before anything is written; it is not kept; and those of [`ResumeLog::attach`]. Or memory is
+/// refused. Which call on a file failed is told.
+pub fn open_log<'a, R: Files + AllocGlobal + Clone + Drop, P: Watch>(
+    rt: &R,
+    watch: &'a P,
+    context: LogContext<'a>,
+    known: &mut KnownFiles,
+    dir: &str,
+    torrent: &Torrent,
+    path: &str,
+) -> Result<ResumeLog<LogDisk<'a, R, P>>, Fault>
+    ensures log { IfOk result
+        (IsAttached device_history device_honest device_faults torrent.now.infohash (new_log_device path.now)) }
+    ensures further { OnOk result (AddsFurther known.old known.new) }
+    ensures fault { IfErr result (IsLogFault known.old torrent.now path.now) }
+{
+    let OpenedLog { disk, opening } = open_device(rt, watch, context, path)?;
+    refuse_known(known, opening.identity)?;
+    refuse_other_name(rt, watch, dir, torrent.files(), path, opening)?;
+    if opening.len == 0 {
+        keep_name(rt, watch, path)?;
+    }
+    attach_log(rt.alloc(), disk, torrent.infohash())
+}
+
+/// Adds the file of a log to those that are known. Errors: it is one of them, by what the system tells of it, or
+/// memory is refused.
+fn refuse_known(known: &mut KnownFiles, identity: Option<FileIdentity>) -> Result<(), Fault>
+    ensures further { OnOk result (IfSome identity (λ file. ¬ IsKnown known.old file)) }
+    ensures added { OnOk result (IsAdded known.old identity known.new) }
+    ensures fault { IfErr result (IsFileFault known.old identity) }
+{
+    if is_further(known, identity)? {
+        return Ok(());
+    }
+    Err(Fault::LogAmongFiles)
+}
+
+/// Whether a file is none of those that are known, to which it is added. Where the system tells nothing of it, it
+/// counts as none.
+fn is_further(known: &mut KnownFiles, identity: Option<FileIdentity>) -> Result<bool, AllocError>
+    ensures is_further { IfOk result (λ is_further. MatchBool is_further
+        (IfSome identity (λ file. ¬ IsKnown known.old file)) (IsSomeAnd identity (IsKnown known.old))) }
+    ensures added { OnOk result (IsAdded known.old identity known.new) }
+{
+    match identity {
+        Some(file) => known.insert(file),
+        None => Ok(true),
+    }
+}
+
+/// Looks for a file of a torrent that is the log's by a name which differs in case alone. One that was made just now
+/// is none of them, since these were there. Errors: there is one; a folder can't be listed, or memory is refused.
+fn refuse_other_name<R: Files + AllocGlobal + Clone + Drop, P: Watch>(
+    rt: &R,
+    watch: &P,
+    dir: &str,
+    files: &[FileEntry],
+    path: &str,
+    opening: Opening,
+) -> Result<(), Fault>
+    ensures fault { IfErr result (IsNameFault (map file_of files.now) path.now) }
+{
+    if opening.was_made {
+        return Ok(());
+    }
+    if has_own_name(rt, watch, dir, files, path)? {
+        return Ok(());
+    }
+    Err(Fault::LogAmongFiles)
+}
+
+/// Whether no file of a torrent is the log's by such a name. Errors: a folder can't be listed, which is told of, or
+/// memory is refused.
+fn has_own_name<R: Files + AllocGlobal + Clone + Drop, P: Watch>(
+    rt: &R,
+    watch: &P,
+    dir: &str,
+    files: &[FileEntry],
+    path: &str,
+) -> Result<bool, Fault>
+    ensures is_own { IfOk result (λ is_own. OnFalse is_own (HasNameOfFile (map file_of files.now) path.now)) }
+    ensures fault { IfErr result IsCallFault }
+{
+    let is_own = match is_own_name(rt, dir, files, path) {
+        Ok(is_own) => Ok(is_own),
+        Err(ListingError::Device) => Err(Fault::Device),
+        Err(ListingError::OutOfMemory) => Err(Fault::OutOfMemory),
+    };
+    told(rt.alloc(), watch, FileCall::List, folder_of(path), is_own)
+}
