@@ -24,18 +24,18 @@ pub returns-clause-log : goal.returns-clause-log
 returns-clause-log g c =
     let r = c.attach_log.result in
     subst (λ (d : LogDiskView). IfOk r (IsAttached device_history device_honest device_faults c.args.torrent.now.infohash d)) c.in_ok-disk.ensures.device
-    (subst (λ (h : List ℕ). IfOk r (IsAttached device_history device_honest device_faults h c.in_ok-disk.disk)) c.infohash.ensures c.attach_log.ensures.log)
+    (subst (λ (h : List ℕ). IfOk r (IsAttached device_history device_honest device_faults h c.in_ok-disk.field-0.disk)) c.infohash.ensures c.attach_log.ensures.log)
 
 pub returns-clause-further : goal.returns-clause-further
 returns-clause-further g c = where_ok c.attach_log.result (AddsFurther c.args.known.now c.refuse_known.new.known) (record {
-  identity = c.in_ok-disk.opening.identity;
+  identity = c.in_ok-disk.field-0.opening.identity;
   further = c.in_ok-refuse_known.ensures.further;
   added = c.in_ok-refuse_known.ensures.added;
 })
 
 pub returns-clause-fault : goal.returns-clause-fault
 returns-clause-fault g c =
-    where_err c.attach_log.result (λ fault. IsAttachFault device_history device_honest device_faults c.infohash.result c.in_ok-disk.disk fault)
+    where_err c.attach_log.result (λ fault. IsAttachFault device_history device_honest device_faults c.infohash.result c.in_ok-disk.field-0.disk fault)
     (IsLogFault c.args.known.now c.args.torrent.now c.args.path.now)
-    (λ fault is. of_device c.args.known.now c.args.torrent.now c.args.path.now c.infohash.result c.in_ok-disk.disk fault c.in_ok-disk.ensures.device c.infohash.ensures is)
+    (λ fault is. of_device c.args.known.now c.args.torrent.now c.args.path.now c.infohash.result c.in_ok-disk.field-0.disk fault c.in_ok-disk.ensures.device c.infohash.ensures is)
     c.attach_log.ensures.fault
