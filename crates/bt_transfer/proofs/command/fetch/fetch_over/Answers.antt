@@ -3,8 +3,8 @@ use Rattle.bt_transfer.proofs.Flushes.{broke_off, on_err}
 use Rattle.bt_files.proofs.Unlogged.{stays_unlogged}
 use Rattle.bt_transfer.proofs.command.fetch.fetch_over.Goals as goal
 
-pub conclude-requires-clause-unlogged : goal.conclude-requires-clause-unlogged
-conclude-requires-clause-unlogged g c =
+pub conclude-requires : goal.conclude-requires
+conclude-requires g c =
     stays_unlogged g.D.Disk.history g.D.Disk.honest g.D.Disk.faults g.H.NodeHash.digest c.adopt_waiting.ensures.run
     (stays_unlogged g.D.Disk.history g.D.Disk.honest g.D.Disk.faults g.H.NodeHash.digest c.try_and_sync-kept.ensures.run c.requires.unlogged)
 

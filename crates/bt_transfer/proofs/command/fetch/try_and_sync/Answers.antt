@@ -2,8 +2,8 @@ use Rattle.bt_runs.specs.Leads.{both}
 use Rattle.bt_files.proofs.Unlogged.{stays_unlogged}
 use Rattle.bt_transfer.proofs.command.fetch.try_and_sync.Goals as goal
 
-pub finish-requires-clause-unlogged : goal.finish-requires-clause-unlogged
-finish-requires-clause-unlogged g c =
+pub finish-requires : goal.finish-requires
+finish-requires g c =
     stays_unlogged g.D.Disk.history g.D.Disk.honest g.D.Disk.faults g.H.NodeHash.digest c.run_peers.ensures.run c.requires.unlogged
 
 pub returns-clause-run : goal.returns-clause-run
