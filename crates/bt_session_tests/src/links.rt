@@ -81,13 +81,14 @@ pub fn peers_with_flushes(
     out: &mut String,
 ) -> Result<(), AllocError> {
     let sent = sent_by(alloc, words)?;
-    match flush_three(alloc, engine, every, &sent) {
-        Some((ends, flushed)) => {
-            tell_ends(out, &ends)?;
-            tell_flushed(out, flushed)
-        }
-        None => out.push_str("a peer is there\n"),
+    if engine.peers() != 0 {
+        return out.push_str("a peer is there\n");
     }
+    let mut links = [link_at(&sent, 0), link_at(&sent, 1), link_at(&sent, 2)];
+    let mut ends = [PeerEnd::Session(SessionEnd::Memory); 3];
+    let flushed = run_peers_with_flushes(alloc, engine, &mut links, &mut ends, TURNS, every);
+    tell_ends(out, &ends)?;
+    tell_flushed(out, flushed)
 }
 
 /// What each peer sends; none where it is not reached.
@@ -111,21 +112,6 @@ fn try_three(
     let mut ends = [PeerEnd::Session(SessionEnd::Memory); 3];
     run_peers(alloc, engine, &mut links, &mut ends, TURNS);
     Some(ends)
-}
-
-fn flush_three(
-    alloc: Global,
-    engine: &mut TestEngine,
-    every: u64,
-    sent: &[Option<Vec<u8>>],
-) -> Option<([PeerEnd; 3], Result<(), FlushError>)> {
-    if engine.peers() != 0 {
-        return None;
-    }
-    let mut links = [link_at(sent, 0), link_at(sent, 1), link_at(sent, 2)];
-    let mut ends = [PeerEnd::Session(SessionEnd::Memory); 3];
-    let flushed = run_peers_with_flushes(alloc, engine, &mut links, &mut ends, TURNS, every);
-    Some((ends, flushed))
 }
 
 fn link_at(sent: &[Option<Vec<u8>>], index: usize) -> MemoryLink<'_>
