@@ -3,8 +3,10 @@ use Rattle.bt_files.proofs.Unlogged.{stays_unlogged}
 use Rattle.bt_transfer.proofs.connections.serve_and_sync.Goals as goal
 
 pub finish-kept-requires : goal.finish-kept-requires
-finish-kept-requires g c =
-    stays_unlogged g.D.Disk.history g.D.Disk.honest g.D.Disk.faults g.H.NodeHash.digest c.serve_next-served.ensures.run c.requires.unlogged
+finish-kept-requires g c = record {
+  unlogged =
+      stays_unlogged g.D.Disk.history g.D.Disk.honest g.D.Disk.faults g.H.NodeHash.digest c.serve_next-served.ensures.run c.requires.unlogged;
+}
 
 pub returns-in_err-end-clause-run : goal.returns-in_err-end-clause-run
 returns-in_err-end-clause-run g c =

@@ -4,9 +4,11 @@ use Rattle.bt_files.proofs.Unlogged.{stays_unlogged}
 use Rattle.bt_transfer.proofs.command.fetch.fetch_over.Goals as goal
 
 pub conclude-requires : goal.conclude-requires
-conclude-requires g c =
-    stays_unlogged g.D.Disk.history g.D.Disk.honest g.D.Disk.faults g.H.NodeHash.digest c.adopt_waiting.ensures.run
-    (stays_unlogged g.D.Disk.history g.D.Disk.honest g.D.Disk.faults g.H.NodeHash.digest c.try_and_sync-kept.ensures.run c.requires.unlogged)
+conclude-requires g c = record {
+  unlogged =
+      stays_unlogged g.D.Disk.history g.D.Disk.honest g.D.Disk.faults g.H.NodeHash.digest c.adopt_waiting.ensures.run
+      (stays_unlogged g.D.Disk.history g.D.Disk.honest g.D.Disk.faults g.H.NodeHash.digest c.try_and_sync-kept.ensures.run c.requires.unlogged);
+}
 
 pub returns-in_err-ends-clause-run : goal.returns-in_err-ends-clause-run
 returns-in_err-ends-clause-run g c = none c.args.engine.now

@@ -4,8 +4,10 @@ use Rattle.bt_files.proofs.Unlogged.{stays_unlogged}
 use Rattle.bt_transfer.proofs.command.seed.serve_all.Goals as goal
 
 pub finish-kept-requires : goal.finish-kept-requires
-finish-kept-requires g c =
-    stays_unlogged g.D.Disk.history g.D.Disk.honest g.D.Disk.faults g.H.NodeHash.digest c.serve_count-served.ensures.run c.requires.unlogged
+finish-kept-requires g c = record {
+  unlogged =
+      stays_unlogged g.D.Disk.history g.D.Disk.honest g.D.Disk.faults g.H.NodeHash.digest c.serve_count-served.ensures.run c.requires.unlogged;
+}
 
 pub returns-in_ok-served-in-Count-clause-served : goal.returns-in_ok-served-in-Count-clause-served
 returns-in_ok-served-in-Count-clause-served g c = search rules
