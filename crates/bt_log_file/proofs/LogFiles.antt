@@ -10,5 +10,5 @@ pub first_file : (before after : PoolView) (file : PooledView) (at : List ℕ) �
 first_file before after file at new one_more number path access synced written failed = rw (← path) (
     let made : file.number ≡ 1 = rw (number, one_more, new) refl in
     let same : record { number = file.number; path = file.path; access = file.access; is_synced = file.is_synced; is_written = file.is_written; failed = file.failed }
-        ≡ new_log_file file.path = rw (made, access, synced, written, failed) refl in
+    ≡ new_log_file file.path = rw (made, access, synced, written, failed) refl in
     same)
