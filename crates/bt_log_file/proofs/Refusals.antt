@@ -1,19 +1,16 @@
 -- Why a file is none for a log, since it is one of others.
-use Rattle.std.proofs.Common.{◌≡◌, ◌↔◌, ◌⊎◌, ◌&&◌, inl, inr, ℕ, ◌<◌, Bool, true, false, List, length, map, get_or, Option, Some, None, Result, Ok, Err, IfOk, refl, sym, ap, subst, ◌∙◌}
+use Rattle.std.proofs.Common.{◌≡◌, ◌↔◌, ◌⊎◌, inl, inr, ℕ, ◌<◌, Bool, true, false, List, length, map, get_or, Option, Some, None, Result, Ok, Err, IfOk, refl, sym, ap, subst, ◌∙◌}
 use Rattle.std.specs.Prelude.{IsTrue, MatchBool, OnOk, slice_get}
 use Rattle.std.specs.Bool.{OnFalse, OnTrue}
 use Rattle.std.specs.declared.alloc.AllocError.{AllocError}
 use Rattle.std.proofs.lemmas.Option.{none-some, same_Some, slice_get-get_or, slice_get-map}
 use Rattle.std.specs.Option.{option_map}
 use Rattle.bt_disk.specs.declared.opening.FileIdentity.{FileIdentity}
-use Rattle.bt_folder.specs.FolderNames.{has_name}
-use Rattle.bt_folder.specs.declared.folder_names.FolderNames.{FolderNames}
-use Rattle.bt_folder.specs.declared.folder_names.ListingError.{ListingError}
 use Rattle.bt_folder.specs.KnownFiles.{IsKnown}
 use Rattle.bt_folder.specs.declared.known_files.KnownFiles.{KnownFiles}
 use Rattle.bt_meta.specs.Files.{file_of}
 use Rattle.bt_meta.specs.declared.torrent.FileEntry.{FileEntry}
-use Rattle.bt_log_file.specs.Names.{AreAlike, HasNameOfFile, IsNameOf}
+use Rattle.bt_log_file.specs.Names.{HasNameOfFile, IsNameOf}
 use Rattle.bt_log_file.specs.Opening.{IsAdded}
 
 -- ---- files by what the system tells of them
@@ -48,19 +45,5 @@ file_at entries i entry below at =
 -- a walk comes to a file that has the name of a path but for case
 pub among : (entries : List FileEntry) (i : ℕ) (entry : FileEntry) (path : List ℕ) (answer : Bool) → i < length entries → entry ≡ get_or entries i entry
     → answer ≡ true → OnTrue answer (IsNameOf entry.path path) → HasNameOfFile (map file_of entries) path
-among entries i entry path true below at yes is = record { number = i; file = file_of entry; here = file_at entries i entry below at; is_name = is }
-among entries i entry path false below at yes is = let bad : false ≡ true = yes in cc
-
--- a listing lacks one of two names that differ in case alone
-pub is_name : (r : Result Bool ListingError) (file : List (List ℕ)) (path name other : List ℕ) → AreAlike file path name other
-    → IfOk r (λ lacks. OnTrue lacks ((listing : FolderNames) × ((has_name listing name && has_name listing other) ≡ false)))
-    → IfOk r (λ is. OnTrue is (IsNameOf file path))
-is_name (Ok true) file path name other alike lacks = record { name = name; other = other; names = alike; listing = lacks.0; lacks = lacks.1 }
-is_name (Ok false) file path name other alike lacks = tt
-is_name (Err e) file path name other alike lacks = tt
-
--- a listing that was read
-pub lacks : (listing : FolderNames) (name other : List ℕ) (one two : Bool) → one ≡ has_name listing name → (one ≡ true → two ≡ has_name listing other)
-    → (one && two) ≡ false → (has_name listing name && has_name listing other) ≡ false
-lacks listing name other true two one_is two_is no = rw (← one_is, ← two_is refl) no
-lacks listing name other false two one_is two_is no = rw (← one_is) refl
+among entries i entry path true below at said is = record { number = i; file = file_of entry; here = file_at entries i entry below at; is_name = is }
+among entries i entry path false below at said is = let bad : false ≡ true = said in cc

@@ -1,5 +1,5 @@
 -- The device of a log's file.
-use Rattle.std.specs.Prelude.{ℕ, ⊥, List, [], false}
+use Rattle.std.specs.Prelude.{ℕ, List, [], false}
 use Rattle.bt_ahead.specs.Disk.{AheadView, new_ahead}
 use Rattle.bt_disk.specs.FileDisk.{writing}
 use Rattle.bt_disk.specs.History.{History, new_history}

@@ -89,7 +89,7 @@ fn refuse_other_name<R: Files + AllocGlobal + Clone + Drop, P: Watch>(
     path: &str,
     opening: Opening,
 ) -> Result<(), Fault>
-    ensures fault { IfErr result (IsNameFault (map file_of files.now) path.now) }
+    ensures { IfErr result (IsNameFault (map file_of files.now) path.now) }
 {
     if opening.was_made {
         return Ok(());
