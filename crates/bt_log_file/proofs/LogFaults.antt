@@ -1,6 +1,6 @@
 -- Why a log is not opened in a file, by why one of its steps failed.
 use Rattle.std.proofs.Common.{◌≡◌, ◌⊎◌, inl, inr, ℕ, List, Option, Some, None, Result, Ok, Err, IfErr, sym, subst}
-use Rattle.std.specs.Prelude.{IsErrAnd}
+use Rattle.std.specs.Prelude.{IsErrAnd, OnOk}
 use Rattle.bt_disk.specs.declared.opening.FileIdentity.{FileIdentity}
 use Rattle.bt_folder.specs.declared.known_files.KnownFiles.{KnownFiles}
 use Rattle.bt_meta.specs.Files.{File}
@@ -10,6 +10,11 @@ use Rattle.bt_log_file.specs.Attaching.{IsAttachFault}
 use Rattle.bt_log_file.specs.Device.{LogDiskView, device_faults, device_history, device_honest, new_log_device}
 use Rattle.bt_log_file.specs.Names.{HasNameOfFile}
 use Rattle.bt_log_file.specs.Opening.{IsFileFault, IsLogFault, IsNameFault}
+
+-- what holds at all holds where a result is there
+pub always : {T E P : Type 0} (r : Result T E) → P → OnOk r P
+always (Ok x) holds = holds
+always (Err e) holds = tt
 
 -- what holds of a fault holds where it is passed on
 pub passed_on : {T : Type 0} (r : Result T Fault) (fault : Fault) (P : Fault → Type 0) → IsErrAnd r (λ told. told ≡ fault) → P fault → IfErr r P
