@@ -11,11 +11,6 @@ use Rattle.bt_log_file.specs.Device.{LogDiskView, device_faults, device_history,
 use Rattle.bt_log_file.specs.Names.{HasNameOfFile}
 use Rattle.bt_log_file.specs.Opening.{IsFileFault, IsLogFault, IsNameFault}
 
--- what holds at all holds where a result is there
-pub always : {T E P : Type 0} (r : Result T E) → P → OnOk r P
-always (Ok x) holds = holds
-always (Err e) holds = tt
-
 -- what holds of a fault holds where it is passed on
 pub passed_on : {T : Type 0} (r : Result T Fault) (fault : Fault) (P : Fault → Type 0) → IsErrAnd r (λ told. told ≡ fault) → P fault → IfErr r P
 passed_on (Ok x) fault P told holds = tt
@@ -40,3 +35,13 @@ pub of_device : (known : KnownFiles) (torrent : Metainfo) (path infohash : List 
 of_device known torrent path infohash disk fault at whose is =
     inr (inr (subst (λ (d : LogDiskView). IsAttachFault device_history device_honest device_faults torrent.infohash d fault) at
     (subst (λ (h : List ℕ). IsAttachFault device_history device_honest device_faults h disk fault) whose is)))
+
+-- ---- what holds where a result is a value, or a fault
+
+pub where_ok : {T E : Type 0} (r : Result T E) (P : Type 0) → P → OnOk r P
+where_ok (Ok x) P holds = holds
+where_ok (Err it) P holds = tt
+
+pub where_err : {T : Type 0} (r : Result T Fault) (P Q : Fault → Type 0) → ((fault : Fault) → P fault → Q fault) → IfErr r P → IfErr r Q
+where_err (Ok x) P Q gives holds = tt
+where_err (Err it) P Q gives holds = gives it holds
