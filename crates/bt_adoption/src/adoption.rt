@@ -1,4 +1,4 @@
-ghost use Rattle.std.specs.Prelude.{[], ◌≡◌, ◌<◌, ◌↔◌, List, IsTrue, IfOk, IfErr, flat_map, length, vec_len};
+ghost use Rattle.std.specs.Prelude.{[], ◌≡◌, ◌<◌, ◌↔◌, IsTrue, IfOk, IfErr, length, vec_len};
 ghost use Rattle.bt_machine.specs.Devices.{DeviceCalls, HaveCalls};
 ghost use Rattle.bt_machine.specs.Blocks.{states_of};
 ghost use Rattle.bt_machine.specs.Shape.{IsShaped};

@@ -117,8 +117,9 @@ pub(crate) fn push_marked<D: Disk + Drop, H: NodeHash>(
 pub(crate) fn push_runs(file: u32, runs: &[Run], pending: &mut Pending)
     requires room { length runs.now ≤ pending.old.room }
     requires runs { AreRuns runs.now }
-    ensures { pending.new.hints ≡ add_hints pending.old.hints
+    ensures hints { pending.new.hints ≡ add_hints pending.old.hints
         (marks_in file (flat_map run_blocks runs.now)) }
+    ensures room { pending.old.room ≤ pending.new.room + length runs.now }
 {
     for run in runs {
         pending.push(Hint::Marks {

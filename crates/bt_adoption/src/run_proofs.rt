@@ -1,6 +1,6 @@
 //! The proofs that are left for a log of blocks that were claimed together: one for each run that begins
 //! among them and is as long as a run of a key may be.
-ghost use Rattle.std.specs.Prelude.{◌≡◌, ℕ, ◌+◌, ◌%◌, ◌^◌, ◌<◌, ◌≤◌, ◌==◌, List, All, Contains, IfOk, min, map, length};
+ghost use Rattle.std.specs.Prelude.{◌≡◌, ◌+◌, ◌%◌, ◌^◌, ◌<◌, ◌≤◌, ◌==◌, List, All, Contains, IfOk, min, length};
 ghost use Rattle.std.specs.List.{AllZip, range_with_len};
 ghost use Rattle.bt_tree.specs.Limits.{max_block_count, max_height};
 ghost use Rattle.bt_sparse.specs.Answer.{HasRoom};

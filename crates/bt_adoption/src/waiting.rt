@@ -1,6 +1,6 @@
 //! The blocks that wait in the other files of a tree. Where their marks are to be left for a log, they are
 //! listed before they are settled, and room is made for a mark of each.
-ghost use Rattle.std.specs.Prelude.{[], ◌≡◌, ◌<◌, ◌≤◌, ◌++◌, All, IfOk, OnOk, List, filter, map, length, is_some, true, if◌then◌else◌};
+ghost use Rattle.std.specs.Prelude.{[], ◌≡◌, ◌<◌, ◌≤◌, ◌++◌, All, IfOk, OnOk, filter, map, length, is_some, true, if◌then◌else◌};
 ghost use Rattle.bt_tree.specs.Limits.{max_block_count};
 ghost use Rattle.bt_machine.specs.Hints.{mark_of, add_hints};
 ghost use Rattle.bt_machine.specs.Blocks.{block_id};
