@@ -23,7 +23,7 @@ use Rattle.bt_state.proofs.SlotChanges.{file_here, files_changed, have_changed, 
 use Rattle.bt_adoption.specs.GroupSteps.{log_in}
 use Rattle.bt_adoption.specs.GroupsSteps.{all_reads, file_with, AreTaken, TakesGroups, StopsTaking}
 use Rattle.bt_adoption.specs.RecountSteps.{with_marked_file}
-use Rattle.bt_adoption.specs.PartsSteps.{AreFit, ChangesFile, blocks_in}
+use Rattle.bt_adoption.specs.PartsSteps.{AreFit, ChangesFile, block_count_of_tree}
 use Rattle.bt_adoption.specs.AdoptionSteps.{AdoptsIn, StopsIn}
 use Rattle.bt_adoption.proofs.Logs.{logged_same, hints_same}
 use Rattle.bt_adoption.proofs.Takings.{taken_state}
@@ -151,12 +151,12 @@ module _ {D H : Type 0} {old : Parts D H} {file : ℕ} {slot : Slot D H} {store 
         | inr was ↦ (g, was, refl)
       ]
 
-  blocks_kept : (tree : ℕ) → option_map_or blocks_of (slice_get trees tree) 0 ≡ blocks_in (state_of old) tree
+  blocks_kept : (tree : ℕ) → option_map_or blocks_of (slice_get trees tree) 0 ≡ block_count_of_tree (state_of old) tree
   unfolding trees
   blocks_kept tree = elim (cases_eq tree slot.tree) [
     | inl own ↦ ap (λ n. option_map_or blocks_of (slice_get (slice_set old.trees.items slot.tree grown) n) 0) own
         ∙ ap (λ o. option_map_or blocks_of o 0) (set_same old.trees.items slot.tree {x = grown} at.there) ∙ ap block_count kept.still.long
-        ∙ ap (λ o. option_map_or blocks_of o 0) (sym at.there) ∙ ap (blocks_in (state_of old)) (sym own)
+        ∙ ap (λ o. option_map_or blocks_of o 0) (sym at.there) ∙ ap (block_count_of_tree (state_of old)) (sym own)
     | inr apart ↦ ap (λ o. option_map_or blocks_of o 0) (set_other old.trees.items slot.tree tree grown apart)
   ]
 

@@ -43,7 +43,7 @@ fn run_key<H: NodeHash>(tree: &SparseTree<H>, block: u32, anchor: u32) -> HashKe
     }
 }
 
-/// Memory for the digests of each proof of a group.
+/// Memory for the digests of each proof of a group. Errors: out of memory.
 pub(crate) fn proof_rooms(
     alloc: Global,
     group: Run,
@@ -65,7 +65,7 @@ pub(crate) fn proof_rooms(
     Ok(rooms)
 }
 
-/// Memory for the digests of a proof.
+/// Memory for the digests of a proof. Errors: out of memory.
 fn proof_room(alloc: Global, anchor: u32) -> Result<Vec<Hash32>, AllocError>
     requires above { 0 < anchor }
     requires high { anchor ≤ max_height }
