@@ -7,7 +7,7 @@ ghost use Rattle.bt_sparse.specs.Anchor.{IsAnchor};
 ghost use Rattle.bt_store.specs.Adoption.{IsUnknownGroup};
 ghost use Rattle.bt_machine.specs.ProofKeys.{ProofKeysAreAnswered};
 ghost use Rattle.bt_state.specs.Parts.{pending_of};
-ghost use Rattle.bt_adoption.specs.GroupSteps.{log_in, TakesGroup, StopsGroup};
+ghost use Rattle.bt_adoption.specs.GroupSteps.{log_in, file_view, TakesGroup, StopsGroup};
 
 use crate::marks::{KNOWN_LEN, Kind, Run, push_marked, push_runs, runs_of, unmarked_blocks};
 use crate::run_proofs::{proof_rooms, push_proofs};
@@ -33,9 +33,9 @@ pub(crate) fn adopt_group<D: Disk + Drop, H: NodeHash>(
     requires geometry { tree.old.file_length ≡ store.old.file_length }
     requires states { length store.old.states ≡ block_count store.old.file_length }
     requires inside { from < block_count store.old.file_length }
-    ensures ok { IfOk result (λ adopted. TakesGroup D.history D.honest D.faults H.digest file
-        (is_some log.old) tree.old from store.old (pending_of log.old)
-        adopted tree.new store.new (pending_of log.new)) }
+    ensures ok { IfOk result (λ adopted. TakesGroup D.history D.honest D.faults H.digest file (is_some log.old)
+        from (file_view tree.old store.old (pending_of log.old)) adopted
+        (file_view tree.new store.new (pending_of log.new))) }
     ensures onward { IfOk result (λ adopted. from < adopted.next) }
     ensures within { IfOk result (λ adopted. adopted.next ≤ block_count store.old.file_length) }
     ensures stop { IfErr result (λ _. StopsGroup D.history D.honest D.faults H.digest
@@ -64,8 +64,9 @@ fn adopt_recorded<D: Disk + Drop, H: NodeHash>(
     requires states { length store.old.states ≡ block_count store.old.file_length }
     requires inside { from < block_count store.old.file_length }
     requires answered { ProofKeysAreAnswered H.digest }
-    ensures ok { IfOk result (λ adopted. TakesGroup D.history D.honest D.faults H.digest file
-        true tree.old from store.old pending.old.hints adopted tree.new store.new pending.new.hints) }
+    ensures ok { IfOk result (λ adopted. TakesGroup D.history D.honest D.faults H.digest file true
+        from (file_view tree.old store.old pending.old.hints) adopted
+        (file_view tree.new store.new pending.new.hints)) }
     ensures onward { IfOk result (λ adopted. from < adopted.next) }
     ensures within { IfOk result (λ adopted. adopted.next ≤ block_count store.old.file_length) }
     ensures stop { IfErr result (λ _. StopsGroup D.history D.honest D.faults H.digest
@@ -93,8 +94,9 @@ fn adopt_known<D: Disk + Drop, H: NodeHash>(
     requires states { length store.old.states ≡ block_count store.old.file_length }
     requires inside { from < block_count store.old.file_length }
     requires known { IsAnchor tree.old from 0 }
-    ensures ok { IfOk result (λ adopted. TakesGroup D.history D.honest D.faults H.digest file
-        true tree.old from store.old pending.old.hints adopted tree.new store.new pending.new.hints) }
+    ensures ok { IfOk result (λ adopted. TakesGroup D.history D.honest D.faults H.digest file true
+        from (file_view tree.old store.old pending.old.hints) adopted
+        (file_view tree.new store.new pending.new.hints)) }
     ensures onward { IfOk result (λ adopted. from < adopted.next) }
     ensures within { IfOk result (λ adopted. adopted.next ≤ block_count store.old.file_length) }
     ensures stop { IfErr result (λ _. StopsGroup D.history D.honest D.faults H.digest
@@ -128,8 +130,9 @@ fn adopt_claimed<D: Disk + Drop, H: NodeHash>(
     requires nearest { IsAnchor tree.old from anchor }
     requires above { 0 < anchor }
     requires high { anchor ≤ max_height }
-    ensures ok { IfOk result (λ adopted. TakesGroup D.history D.honest D.faults H.digest file
-        true tree.old from store.old pending.old.hints adopted tree.new store.new pending.new.hints) }
+    ensures ok { IfOk result (λ adopted. TakesGroup D.history D.honest D.faults H.digest file true
+        from (file_view tree.old store.old pending.old.hints) adopted
+        (file_view tree.new store.new pending.new.hints)) }
     ensures onward { IfOk result (λ adopted. from < adopted.next) }
     ensures within { IfOk result (λ adopted. adopted.next ≤ block_count store.old.file_length) }
     ensures stop { IfErr result (λ _. StopsGroup D.history D.honest D.faults H.digest
