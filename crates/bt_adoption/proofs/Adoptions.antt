@@ -70,7 +70,7 @@ module _ (dig : List ℕ → List ℕ) (file : ℕ) where
       ∙ length_adopted g.adopts ∙ sym (ap (λ o. length (option_map_or (λ (f : FileState). f.states) o [])) g.is_file.here)
 
   -- groups leave it as many blocks as it had
-  groups_size : (s new : EngineState) (from : ℕ) (groups : List DeviceCalls) (total : Adopted) → AdoptsGroups dig s file from groups total new
+  pub groups_size : (s new : EngineState) (from : ℕ) (groups : List DeviceCalls) (total : Adopted) → AdoptsGroups dig s file from groups total new
       → length (states_of new file) ≡ length (states_of s file)
   groups_size s new from [] total g = ap (λ (x : EngineState). length (states_of x file)) g.1
   groups_size s new from (calls ∷ more) total g = groups_size g.1 new g.0.next more g.2 g.4 ∙ group_size g.3

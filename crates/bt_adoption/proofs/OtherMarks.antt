@@ -25,16 +25,12 @@ use Rattle.bt_adoption.specs.SettlingSteps.{SettlesFiles, SettlesOthers, IsDue}
 use Rattle.bt_adoption.specs.MarksSteps.{marks_in}
 use Rattle.bt_adoption.specs.WaitingSteps.{OnlyPendingChanges, is_marked_among, waiting_blocks_in, waiting_in, waiting_in_others, listed_in, listed_blocks}
 use Rattle.bt_adoption.specs.declared.waiting.FileRuns.{FileRuns}
-use Rattle.bt_adoption.proofs.Ranges.{range_more, flat_map_more, flat_map_take, filter_off}
+use Rattle.bt_adoption.proofs.Ranges.{range_more, flat_map_more, flat_map_take, filter_off, keeps_none}
 use Rattle.bt_adoption.proofs.Hints.{add_more}
 use Rattle.bt_adoption.proofs.News.{all_listed, marked_of, map_both}
 use Rattle.bt_adoption.proofs.Logs.{logged_same, state_with, state_same, same_disks}
 
 -- ---- listing
-
-keeps_none : {X : Type 0} (xs : List X) → filter (λ x. false) xs ≡ []
-keeps_none [] = refl
-keeps_none (x ∷ xs) = keeps_none xs
 
 abbrev step_ids : (file tree : ℕ) → List FileState → ℕ → List BlockId
 step_ids file tree files other = if is_other file other then waiting_in tree files other else []

@@ -18,6 +18,10 @@ filter_alike p q a (suc n) same =
     ap (λ b. cond b (a ∷ filter p (range_with_len (a + 1) n)) (filter p (range_with_len (a + 1) n))) (same a (omega arith) (omega arith))
     ∙ ap (λ xs. cond (q a) (a ∷ xs) xs) (filter_alike p q (a + 1) n (λ i low high. same i (omega arith) (omega arith)))
 
+pub keeps_none : {X : Type 0} (xs : List X) → filter (λ x. false) xs ≡ []
+keeps_none [] = refl
+keeps_none (x ∷ xs) = keeps_none xs
+
 filter_nothing : (a n : ℕ) → filter (λ i. false) (range_with_len a n) ≡ []
 filter_nothing a zero = refl
 filter_nothing a (suc n) = filter_nothing (a + 1) n

@@ -41,7 +41,7 @@ kept_judged {D} {history} {honest} {faults} {dig} {k} {blocks} {store} {after} {
 
 -- ---- reads of no block
 
-judged_none : (dig : List ℕ → List ℕ) (k : Facts) (o : Option FileState) → option_map (judged_file dig k []) o ≡ o
+pub judged_none : (dig : List ℕ → List ℕ) (k : Facts) (o : Option FileState) → option_map (judged_file dig k []) o ≡ o
 judged_none dig k None = refl
 judged_none dig k (Some f) = refl
 
@@ -125,7 +125,7 @@ module _ {D H : Type 0} (dig : List ℕ → List ℕ) (old : Parts D H) (file tr
       )
 
   -- nothing of it is due
-  none_due : (is_due : IsDue tree slot → ⊥) → due_blocks dig k tree 0 count (file_of slot) ≡ []
+  pub none_due : (is_due : IsDue tree slot → ⊥) → due_blocks dig k tree 0 count (file_of slot) ≡ []
   none_due is_due = by (slot.tree == tree) refl
     where
       waits : (store : Option (StoreView D)) → slot.store ≡ store → slot.tree ≡ tree

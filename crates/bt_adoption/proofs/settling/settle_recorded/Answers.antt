@@ -10,22 +10,25 @@ use Rattle.bt_state.specs.declared.parts.Parts.{Parts}
 use Rattle.bt_adoption.proofs.OtherFiles.{rest_then}
 use Rattle.bt_adoption.proofs.Logs.{rest_of_log, in_line_of_log}
 use Rattle.bt_adoption.proofs.OtherMarks.{settles_all}
+use Rattle.bt_adoption.proofs.Adoptions.{in_line_first}
+use Rattle.bt_adoption.proofs.Slots.{there_at}
+use Rattle.bt_adoption.proofs.OwnTrees.{none_else, settles_nothing}
 use Rattle.bt_adoption.proofs.settling.settle_recorded.Goals as goal
 
 pub list_waiting-requires : goal.list_waiting-requires
-list_waiting-requires g c = c.requires.count
+list_waiting-requires g c = c.requires.tied.count
 
 pub settle_others-requires-clause-alone : goal.settle_others-requires-clause-alone
 settle_others-requires-clause-alone g c =
     ap (λ (p : Parts g.row.D.Denot g.row.H.Denot). p.peers.items) c.list_waiting.ensures.keeps.others ∙ c.requires.alone
 
 pub settle_others-requires-clause-in_line : goal.settle_others-requires-clause-in_line
-settle_others-requires-clause-in_line g c = in_line_of_log c.list_waiting.ensures.keeps c.requires.in_line
+settle_others-requires-clause-in_line g c = in_line_of_log c.list_waiting.ensures.keeps (in_line_first c.args.parts.now c.requires.tied c.requires.shaped)
 
 pub settle_others-requires-clause-count : goal.settle_others-requires-clause-count
 settle_others-requires-clause-count g c =
     let keeps = c.list_waiting.ensures.keeps in
-    ap (λ (p : Parts g.row.D.Denot g.row.H.Denot). length p.slots.items) keeps.others ∙ c.requires.count
+    ap (λ (p : Parts g.row.D.Denot g.row.H.Denot). length p.slots.items) keeps.others ∙ c.requires.tied.count
     ∙ sym (ap (λ (p : Parts g.row.D.Denot g.row.H.Denot). length p.torrent.files) keeps.others)
 
 pub settle_others-requires-clause-here : goal.settle_others-requires-clause-here
