@@ -1,4 +1,6 @@
 //! The parts of a check as processes: how they are started, passed the torrent, and waited for.
+ghost use Rattle.std.specs.Prelude.{◌≡◌, ◌⊎◌, length, IfErr};
+ghost use Rattle.bt_check.specs.Fault.{device, out_of_memory};
 
 use crate::jobs::Job;
 use bt_check::Fault;
@@ -20,7 +22,9 @@ pub(crate) fn start_part<S: Processes>(
     index: u32,
     text: &[u8],
     pipe: &PipeWriter,
-) -> Result<Child<S::Started>, Fault> {
+) -> Result<Child<S::Started>, Fault>
+    ensures fault { IfErr result (λ fault. (fault ≡ device) ⊎ (fault ≡ out_of_memory)) }
+{
     let mut command = part_command(alloc, job, index)?;
     let output = pipe.try_clone().map_err(|_| Fault::Device)?;
     command.stdin(Stdio::piped());
@@ -54,7 +58,9 @@ fn part_command(alloc: Global, job: Job<'_>, index: u32) -> Result<Command, Allo
 }
 
 /// Writes a torrent's text to the input of a part, and closes it.
-fn pass<C: OpenProcess>(child: &mut Child<C>, text: &[u8]) -> Result<(), Fault> {
+fn pass<C: OpenProcess>(child: &mut Child<C>, text: &[u8]) -> Result<(), Fault>
+    ensures { IfErr result (λ fault. fault ≡ device) }
+{
     let Some(mut input) = child.stdin.take() else {
         return Err(Fault::Device);
     };
@@ -75,7 +81,9 @@ pub(crate) fn end_all<C: OpenProcess>(children: &mut [Child<C>]) {
 }
 
 /// Looks whether a part has ended that did not do what it was to. Waits for none.
-pub(crate) fn look_at_all<C: OpenProcess>(children: &mut [Child<C>]) -> Result<(), Fault> {
+pub(crate) fn look_at_all<C: OpenProcess>(children: &mut [Child<C>]) -> Result<(), Fault>
+    ensures fault { IfErr result (λ fault. (fault ≡ device) ⊎ (fault ≡ out_of_memory)) }
+{
     for child in children.iter_mut() {
         if let Ok(Some(status)) = child.try_wait() {
             part_outcome(status.code())?;
@@ -85,7 +93,9 @@ pub(crate) fn look_at_all<C: OpenProcess>(children: &mut [Child<C>]) -> Result<(
 }
 
 /// Waits for all parts, and tells whether each did what it was to.
-pub(crate) fn wait_for_all<C: OpenProcess>(children: &mut [Child<C>]) -> Result<(), Fault> {
+pub(crate) fn wait_for_all<C: OpenProcess>(children: &mut [Child<C>]) -> Result<(), Fault>
+    ensures fault { IfErr result (λ fault. (fault ≡ device) ⊎ (fault ≡ out_of_memory)) }
+{
     for child in children.iter_mut() {
         match child.wait() {
             Ok(status) => part_outcome(status.code())?,
@@ -97,7 +107,9 @@ pub(crate) fn wait_for_all<C: OpenProcess>(children: &mut [Child<C>]) -> Result<
 
 /// What the end of a part comes to, of which the status is none where a signal ended it: a part that did not do what it
 /// was to is a device that failed, unless it told that memory was short.
-fn part_outcome(status: Option<i32>) -> Result<(), Fault> {
+fn part_outcome(status: Option<i32>) -> Result<(), Fault>
+    ensures fault { IfErr result (λ fault. (fault ≡ device) ⊎ (fault ≡ out_of_memory)) }
+{
     match status {
         Some(0) => Ok(()),
         Some(4) => Err(Fault::OutOfMemory),

@@ -1,4 +1,12 @@
 //! The command `check` with several jobs: the parts are started, and what they tell is joined.
+ghost use Rattle.std.specs.Prelude.{◌≡◌, ◌⊎◌, ◌≤◌, List, length, IfOk, IfErr};
+ghost use Rattle.std.specs.Io.KnownBytes.{Appends, Keeps};
+ghost use Rattle.bt_meta.specs.Torrent.{Metainfo};
+ghost use Rattle.bt_check.specs.Fault.{device, out_of_memory, status_of};
+ghost use Rattle.bt_check.specs.Report.{report_text};
+ghost use Rattle.bt_check.specs.TorrentFile.{HasText, IsLoadFault};
+ghost use Rattle.bt_check.specs.declared.report.FileFinding.{FileFinding};
+ghost use Rattle.bt_jobs.specs.Report.{IsReportByParts};
 
 use crate::children::{end_all, look_at_all, start_part, wait_for_all};
 use crate::part::open_data_file;
@@ -50,7 +58,14 @@ pub fn check_by_parts<
     watch: &P,
     job: Job<'_>,
     writer: &mut W,
-) -> Result<Summary, Fault> {
+) -> Result<Summary, Fault>
+    ensures report { IfOk result (λ summary. (torrent : Metainfo) × (found : List FileFinding)
+        × HasText job.source.is_info torrent × IsReportByParts torrent found summary
+        × Appends (W.contents writer.old) (W.contents writer.new) (report_text found)) }
+    ensures fault { IfErr result (IsLoadFault job.source.is_info) }
+    ensures refused { IfErr result (λ fault. status_of fault ≡ 2
+        → Keeps (W.contents writer.old) (W.contents writer.new)) }
+{
     let loaded = load_text(rt, watch, job.source)?;
     let torrent = &loaded.torrent;
     watch.begin(FileCall::Read);
@@ -70,7 +85,9 @@ fn has_files<R: Files + AllocGlobal + Clone + Drop, P: Watch>(
     watch: &P,
     dir: &str,
     entries: &[FileEntry],
-) -> Result<bool, Fault> {
+) -> Result<bool, Fault>
+    ensures fault { IfErr result (λ fault. (fault ≡ device) ⊎ (fault ≡ out_of_memory)) }
+{
     let mut pool = HandlePool::new(rt.alloc(), rt.clone()?, OPEN_FILES)?;
     let mut any = false;
     for file in entries {
@@ -86,7 +103,9 @@ fn has_file<R: Files + AllocGlobal + Drop, P: Watch>(
     pool: &mut HandlePool<R>,
     dir: &str,
     file: &FileEntry,
-) -> Result<bool, Fault> {
+) -> Result<bool, Fault>
+    ensures fault { IfErr result (λ fault. (fault ≡ device) ⊎ (fault ≡ out_of_memory)) }
+{
     let path = data_path(rt.alloc(), dir, &file.path)?;
     let name = fault_name(rt.alloc(), watch, path.as_path().as_str())?;
     match open_data_file(rt, pool, path) {
@@ -111,7 +130,9 @@ fn runs_of_parts<R: Files + AllocGlobal, S: Processes, P: Watch>(
     watch: &P,
     job: Job<'_>,
     loaded: &Loaded,
-) -> Result<Vec<Run>, Fault> {
+) -> Result<Vec<Run>, Fault>
+    ensures fault { IfErr result (λ fault. (fault ≡ device) ⊎ (fault ≡ out_of_memory)) }
+{
     let alloc = rt.alloc();
     let mut children = Vec::with_capacity(alloc, job.count as usize)?;
     let mut told = Told::new(alloc);
@@ -132,7 +153,9 @@ fn hear_parts<R: Files + AllocGlobal, S: Processes, P: Watch>(
     loaded: &Loaded,
     children: &mut Vec<Child<S::Started>>,
     told: &mut Told,
-) -> Result<(), Fault> {
+) -> Result<(), Fault>
+    ensures fault { IfErr result (λ fault. (fault ≡ device) ⊎ (fault ≡ out_of_memory)) }
+{
     let (mut output, input) = io::pipe(rt).map_err(|_| Fault::Device)?;
     let started = start_all(rt.alloc(), system, job, &loaded.text, &input, children);
     // Once the parts have ended, nobody is left who may write.
@@ -154,7 +177,9 @@ fn start_all<S: Processes>(
     text: &[u8],
     pipe: &PipeWriter,
     children: &mut Vec<Child<S::Started>>,
-) -> Result<(), Fault> {
+) -> Result<(), Fault>
+    ensures fault { IfErr result (λ fault. (fault ≡ device) ⊎ (fault ≡ out_of_memory)) }
+{
     for index in 0..job.count {
         let child = start_part(alloc, system, job, index, text, pipe)?;
         children.push(child)?;
@@ -163,7 +188,9 @@ fn start_all<S: Processes>(
 }
 
 /// The outcome of what parts did or told, which is told of where it is a fault of theirs.
-fn of_parts<T, P: Watch>(watch: &P, outcome: Result<T, Fault>) -> Result<T, Fault> {
+fn of_parts<T, P: Watch>(watch: &P, outcome: Result<T, Fault>) -> Result<T, Fault>
+    ensures { result ≡ outcome }
+{
     if is_device_fault(&outcome) {
         watch.tell(FAILED);
     }
@@ -171,7 +198,9 @@ fn of_parts<T, P: Watch>(watch: &P, outcome: Result<T, Fault>) -> Result<T, Faul
 }
 
 /// The runs that were told, in the order of their files, and in each of its blocks.
-fn in_order(told: Told) -> Result<Vec<Run>, Fault> {
+fn in_order(told: Told) -> Result<Vec<Run>, Fault>
+    ensures fault { IfErr result (λ fault. (fault ≡ device) ⊎ (fault ≡ out_of_memory)) }
+{
     let Some(mut runs) = told.into_runs() else {
         return Err(Fault::Device);
     };
@@ -186,7 +215,9 @@ fn hear<P: Watch, I: Read, C: OpenProcess>(
     output: &mut I,
     children: &mut [Child<C>],
     told: &mut Told,
-) -> Result<(), Fault> {
+) -> Result<(), Fault>
+    ensures fault { IfErr result (λ fault. (fault ≡ device) ⊎ (fault ≡ out_of_memory)) }
+{
     let mut buffer = [0; PIPE_LEN];
     for _ in 0..u64::MAX {
         let count = read_some(output, &mut buffer)?;
@@ -202,7 +233,10 @@ fn hear<P: Watch, I: Read, C: OpenProcess>(
 }
 
 /// The bytes that come next, one at least; none where nobody is left who may write.
-fn read_some<I: Read>(reader: &mut I, buffer: &mut [u8]) -> Result<usize, Fault> {
+fn read_some<I: Read>(reader: &mut I, buffer: &mut [u8]) -> Result<usize, Fault>
+    ensures within { IfOk result (λ count. count ≤ length buffer.old) }
+    ensures fault { IfErr result (λ fault. fault ≡ device) }
+{
     for _ in 0..u64::MAX {
         match reader.read(buffer) {
             Ok(count) => return Ok(count),

@@ -1,11 +1,22 @@
 //! A part of a check, as a run of the program does it.
+ghost use Rattle.std.specs.Prelude.{◌≡◌, ◌⊎◌, ◌<◌, ◌^◌, ℕ, List, [], map, length, IfOk, IfErr, OnOk};
+ghost use Rattle.std.specs.List.{All, range_with_len};
+ghost use Rattle.std.specs.Io.KnownBytes.{Appends};
+ghost use Rattle.bt_meta.specs.Files.{file_of};
+ghost use Rattle.bt_check.specs.Check.{CheckedFile};
+ghost use Rattle.bt_check.specs.Fault.{device, out_of_memory};
+ghost use Rattle.bt_parts.specs.declared.run.Run.{Run as BlockRun};
+ghost use Rattle.bt_jobs.specs.Part.{IsPartReport};
+ghost use Rattle.bt_jobs.specs.Share.{runs_text};
+ghost use Rattle.bt_jobs.specs.Trees.{ArePartFindings, GoByRoots, IsReadyPart, file_in_part, part_at};
+ghost use Rattle.bt_jobs.specs.TreesSteps.{KeepsParts};
 
-use crate::plan::{Portion, portions_of};
+use crate::plan::shares_of;
 use crate::trees::{FilePart, PartFile, PartTrees};
 use bt_check::{Fault, OPEN_FILES, PieceSize, data_path};
 use bt_disk::{Disk, HandlePool, PooledDisk, is_absence};
 use bt_meta::{FileEntry, Torrent, layers_are_of_trees};
-use bt_parts::Part;
+use bt_parts::{Part, Share};
 use std::alloc::Global;
 use std::fs;
 use std::io::Write;
@@ -22,14 +33,19 @@ pub fn check_part<R: Files + AllocGlobal + Clone + Drop, W: Write>(
     dir: &str,
     part: Part,
     writer: &mut W,
-) -> Result<(), Fault> {
+) -> Result<(), Fault>
+    requires { (layer_at : ℕ → List ℕ → List ℕ) × GoByRoots layer_at torrent.now.files }
+    ensures report { OnOk result ((runs : List BlockRun) × IsPartReport torrent.now part runs
+        × Appends (W.contents writer.old) (W.contents writer.new) (runs_text runs)) }
+    ensures fault { IfErr result (λ fault. (fault ≡ device) ⊎ (fault ≡ out_of_memory)) }
+{
     // A torrent that was read has a lawful piece length, and its layers are those of its files.
     let Some(size) = PieceSize::new(torrent.piece_length()) else {
         unreachable!();
     };
     layers_are_of_trees();
-    let portions = portions_of(rt.alloc(), torrent.files(), size, part)?;
-    let files = open_part(rt, dir, torrent.files(), &portions)?;
+    let shares = shares_of(rt.alloc(), torrent.files(), size, part)?;
+    let files = open_part(rt, dir, torrent.files(), &shares)?;
     let mut trees = PartTrees::new(rt.alloc(), &files)?;
     check_each(rt.alloc(), files, size, &mut trees, writer)
 }
@@ -39,34 +55,49 @@ fn open_part<'a, R: Files + AllocGlobal + Clone + Drop>(
     rt: &R,
     dir: &str,
     entries: &'a [FileEntry],
-    portions: &[Portion],
-) -> Result<Vec<PartFile<'a, PooledDisk<R>>>, Fault> {
+    shares: &[Share],
+) -> Result<Vec<PartFile<'a, PooledDisk<R>>>, Fault>
+    requires each { length shares.now ≡ length entries.now }
+    requires few { length entries.now < 2 ^ 32 }
+    ensures files { IfOk result (λ files. map file_in_part (map part_at files.items) ≡ map file_of entries.now) }
+    ensures numbers { IfOk result
+        (λ files. map (λ d. d.part.number) files.items ≡ range_with_len 0 (length entries.now)) }
+    ensures shares { IfOk result (λ files. map (λ d. d.part.share) files.items ≡ shares.now) }
+    ensures fault { IfErr result (λ fault. (fault ≡ device) ⊎ (fault ≡ out_of_memory)) }
+{
     let mut pool = HandlePool::new(rt.alloc(), rt.clone()?, OPEN_FILES)?;
     let mut files = Vec::new(rt.alloc());
     for number in 0..entries.len() {
         let part = FilePart {
             number: number as u32,
             file: &entries[number],
-            portion: portions[number],
+            share: shares[number],
         };
-        let disk = open_portion(rt, &mut pool, dir, part)?;
+        let disk = open_share(rt, &mut pool, dir, part)?;
         files.push(PartFile { part, disk })?;
     }
     Ok(files)
 }
 
 /// Opens a data file, if the part has something of it.
-fn open_portion<R: Files + AllocGlobal + Drop>(
+fn open_share<R: Files + AllocGlobal + Drop>(
     rt: &R,
     pool: &mut HandlePool<R>,
     dir: &str,
     part: FilePart<'_>,
-) -> Result<Option<PooledDisk<R>>, Fault> {
-    if !part.portion.is_told() {
+) -> Result<Option<PooledDisk<R>>, Fault>
+    ensures fault { IfErr result (λ fault. (fault ≡ device) ⊎ (fault ≡ out_of_memory)) }
+{
+    if is_nothing(part.share) {
         return Ok(None);
     }
     let path = data_path(rt.alloc(), dir, &part.file.path)?;
     open_data_file(rt, pool, path)
+}
+
+/// Whether a part tells nothing of a file.
+fn is_nothing(share: Share) -> bool {
+    !share.is_first && share.from >= share.to
 }
 
 /// Opens a data file to read it; none where no file can be at the path.
@@ -74,7 +105,9 @@ pub(crate) fn open_data_file<R: Files + Drop>(
     rt: &R,
     pool: &mut HandlePool<R>,
     path: PathBuf,
-) -> Result<Option<PooledDisk<R>>, Fault> {
+) -> Result<Option<PooledDisk<R>>, Fault>
+    ensures { IfErr result (λ fault. fault ≡ device) }
+{
     if let Err(error) = fs::metadata(rt, path.as_path()) {
         if is_absence(error.kind()) {
             return Ok(None);
@@ -90,7 +123,16 @@ fn check_each<D: Disk + Drop, W: Write>(
     size: PieceSize,
     trees: &mut PartTrees,
     writer: &mut W,
-) -> Result<(), Fault> {
+) -> Result<(), Fault>
+    requires ready { All (IsReadyPart size.layer) (map part_at files.items) }
+    requires trees { (layer_at : ℕ → List ℕ → List ℕ)
+        × GoByRoots layer_at (map file_in_part (map part_at files.items))
+        × KeepsParts size.layer layer_at [] (map file_in_part (map part_at files.items)) trees.old }
+    ensures told { OnOk result ((runs : List BlockRun) × (checked : List CheckedFile)
+        × ArePartFindings size.layer [] (map part_at files.entry.items) runs checked
+        × Appends (W.contents writer.old) (W.contents writer.new) (runs_text runs)) }
+    ensures fault { IfErr result (λ fault. (fault ≡ device) ⊎ (fault ≡ out_of_memory)) }
+{
     for data in files {
         trees.check(alloc, data, size, writer)?;
     }

@@ -1,4 +1,13 @@
 //! What a part has of each file of a torrent.
+ghost use Rattle.std.specs.Prelude.{◌≡◌, ◌+◌, ◌<◌, ◌≤◌, ◌^◌, map, length, max, IfOk};
+ghost use Rattle.std.specs.List.{All};
+ghost use Rattle.bt_tree.specs.Limits.{max_file_length};
+ghost use Rattle.bt_meta.specs.Limits.{max_file_count};
+ghost use Rattle.bt_meta.specs.Files.{file_of};
+ghost use Rattle.bt_check.specs.EntryCheck.{IsCheckable};
+ghost use Rattle.bt_check.specs.TreeSteps.{tree_key};
+ghost use Rattle.bt_jobs.specs.Plan.{AreShares, ArePlaced};
+ghost use Rattle.bt_jobs.specs.PlanSteps.{AreInside, IsPlaced};
 
 use bt_check::PieceSize;
 use bt_meta::FileEntry;
@@ -7,38 +16,23 @@ use bt_tree::Hash32;
 use std::alloc::{AllocError, Global};
 use std::collections::BTreeMap;
 
-/// What a part has of a file, and how many of the file's blocks are not parted.
-#[derive(Clone, Copy, Debug)]
-pub struct Portion {
-    pub share: Share,
-    pub unit: u32,
-    ghost some: { 0 < unit },
-}
-
-impl Portion {
-    /// Whether the part tells anything of the file.
-    pub fn is_told(self) -> bool {
-        self.share.is_first || self.share.from < self.share.to
-    }
-}
-
 /// What a part has of each of these files.
-pub fn portions_of(
+pub fn shares_of(
     alloc: Global,
     files: &[FileEntry],
     size: PieceSize,
     part: Part,
-) -> Result<Vec<Portion>, AllocError> {
+) -> Result<Vec<Share>, AllocError>
+    requires few { length files.now ≤ max_file_count }
+    requires checkable { All (IsCheckable size.layer) (map file_of files.now) }
+    ensures { IfOk result (λ shares. AreShares size.layer part (map file_of files.now) shares.items) }
+{
     let plan = Plan::new(alloc, files, size)?;
-    let mut portions = Vec::new(alloc);
+    let mut shares = Vec::new(alloc);
     for cut in &plan.cuts {
-        let share = share_of(part, plan.total, *cut);
-        portions.push(Portion {
-            share,
-            unit: cut.unit,
-        })?;
+        shares.push(share_of(part, plan.total, *cut))?;
     }
-    Ok(portions)
+    Ok(shares)
 }
 
 /// Where each file lies among the bytes that are counted through, and how many these are. Files of one root and length
@@ -51,7 +45,12 @@ struct Plan {
 }
 
 impl Plan {
-    fn new(alloc: Global, files: &[FileEntry], size: PieceSize) -> Result<Plan, AllocError> {
+    fn new(alloc: Global, files: &[FileEntry], size: PieceSize) -> Result<Plan, AllocError>
+        requires few { length files.now ≤ max_file_count }
+        requires checkable { All (IsCheckable size.layer) (map file_of files.now) }
+        ensures { IfOk result
+            (λ plan. ArePlaced size.layer plan.total (map file_of files.now) plan.cuts.items) }
+    {
         let mut places = Places {
             known: BTreeMap::new(alloc),
             total: 0,
@@ -81,14 +80,25 @@ struct Places {
 
 impl Places {
     /// Where a file lies: behind all others, if none of them has its root and length.
-    fn place_of(&mut self, file: &FileEntry) -> Result<u64, AllocError> {
-        let key = (file.root, file.length);
-        if let Some(place) = self.known.get(&key) {
+    fn place_of(&mut self, file: &FileEntry) -> Result<u64, AllocError>
+        requires inside { AreInside self.old }
+        requires fits { self.old.total + max 1 file.now.length < 2 ^ 64 }
+        ensures placed { IfOk result (λ place. IsPlaced self.old (file_of file.now) place self.new) }
+        ensures inside { IfOk result (λ _. AreInside self.new) }
+    {
+        if let Some(place) = self.known.get(&key_of(file)) {
             return Ok(*place);
         }
         let place = self.total;
-        self.known.insert(key, place)?;
+        self.known.insert(key_of(file), place)?;
         self.total += file.length.max(1);
         Ok(place)
     }
+}
+
+/// The root and the length of a file.
+pub(crate) fn key_of(file: &FileEntry) -> (Hash32, u64)
+    ensures { result ≡ tree_key (file_of file.now) }
+{
+    (file.root, file.length)
 }

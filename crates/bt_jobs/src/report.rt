@@ -1,4 +1,13 @@
 //! What the parts of a check told, as the report of the whole.
+ghost use Rattle.std.specs.Prelude.{◌≡◌, ◌⊎◌, ◌<◌, ◌≤◌, ◌^◌, List, map, length, IfOk, IfErr};
+ghost use Rattle.std.specs.List.{All};
+ghost use Rattle.std.specs.Io.KnownBytes.{Appends};
+ghost use Rattle.bt_tree.specs.Limits.{max_file_length};
+ghost use Rattle.bt_meta.specs.Files.{file_of};
+ghost use Rattle.bt_check.specs.Fault.{device, out_of_memory};
+ghost use Rattle.bt_check.specs.Report.{file_in, is_complete_report, is_faulty_report, report_text};
+ghost use Rattle.bt_check.specs.declared.report.FileFinding.{FileFinding as Found};
+ghost use Rattle.bt_jobs.specs.Report.{AreJoined};
 
 use bt_check::{
     Fault, FileFinding, Finding, Summary, data_path, fault_name, last_words, print, write_line,
@@ -15,7 +24,12 @@ pub(crate) fn findings_of(
     alloc: Global,
     files: &[FileEntry],
     runs: &[Run],
-) -> Result<Vec<Finding>, Fault> {
+) -> Result<Vec<Finding>, Fault>
+    requires few { length files.now < 2 ^ 32 }
+    requires short { All (λ file. file.length ≤ max_file_length) (map file_of files.now) }
+    ensures joined { IfOk result (λ findings. AreJoined 0 (map file_of files.now) runs.now findings.items) }
+    ensures fault { IfErr result (λ fault. (fault ≡ device) ⊎ (fault ≡ out_of_memory)) }
+{
     let mut findings = Vec::new(alloc);
     let mut rest = runs;
     for number in 0..files.len() {
@@ -38,7 +52,14 @@ pub(crate) fn write_report<W: Write>(
     files: &[FileEntry],
     findings: &[Finding],
     writer: &mut W,
-) -> Result<Summary, Fault> {
+) -> Result<Summary, Fault>
+    requires { length findings.now ≡ length files.now }
+    ensures report { IfOk result (λ summary. (found : List Found) × (map file_in found ≡ map file_of files.now)
+        × (map (λ f. f.finding) found ≡ findings.now)
+        × (summary.complete ≡ is_complete_report found) × (summary.faulty ≡ is_faulty_report found)
+        × Appends (W.contents writer.old) (W.contents writer.new) (report_text found)) }
+    ensures fault { IfErr result (λ fault. (fault ≡ device) ⊎ (fault ≡ out_of_memory)) }
+{
     let mut summary = Summary {
         complete: true,
         faulty: false,
@@ -62,7 +83,9 @@ pub(crate) fn tell_faults<P: Watch>(
     dir: &str,
     files: &[FileEntry],
     runs: &[Run],
-) -> Result<(), Fault> {
+) -> Result<(), Fault>
+    ensures { IfErr result (λ fault. fault ≡ out_of_memory) }
+{
     if !watch.is_verbose() {
         return Ok(());
     }
@@ -83,7 +106,9 @@ fn tell_fault<P: Watch>(
     dir: &str,
     files: &[FileEntry],
     run: Run,
-) -> Result<(), Fault> {
+) -> Result<(), Fault>
+    ensures { IfErr result (λ fault. fault ≡ out_of_memory) }
+{
     let Some(file) = files.get(run.file as usize) else {
         return Ok(());
     };

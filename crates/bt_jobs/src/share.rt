@@ -1,28 +1,30 @@
 //! The check of a share of a file's blocks, run by run.
+ghost use Rattle.std.specs.Prelude.{◌≡◌, ◌⊎◌, ◌+◌, ◌^◌, ◌<◌, ◌≤◌, List, IfOk, IfErr, OnOk};
+ghost use Rattle.std.specs.Io.KnownBytes.{Appends};
+ghost use Rattle.sha2.specs.Sha256.{sha256};
+ghost use Rattle.bt_tree.specs.Blocks.{block_count};
+ghost use Rattle.bt_store.specs.BlockReads.{BlockRead};
+ghost use Rattle.bt_store.specs.SmallGroups.{AreAdopted};
+ghost use Rattle.bt_check.specs.Fault.{device, out_of_memory};
+ghost use Rattle.bt_parts.specs.Line.{run_line};
+ghost use Rattle.bt_jobs.specs.Share.{ChecksShare, IsReadyAt, IsWithGroups, TellsOrKeeps, run_at};
 
-use crate::plan::Portion;
 use bt_check::{Fault, FileHash, print};
 use bt_disk::Disk;
-use bt_parts::{Met, Run, push_line};
+use bt_parts::{Met, Run, Share, push_line};
 use bt_sparse::SparseTree;
 use bt_store::{AdoptedGroups, FileStore};
 use std::alloc::{AllocError, Global};
 use std::io::Write;
 
-/// How many blocks a run has at most, where fewer are not parted: so a part tells of itself each 16 MiB.
+/// After how many blocks a run is told, which so is done each 16 MiB.
 const RUN_BLOCKS: u32 = 1024;
 
-/// What reading blocks that lie next to each other came to: the block behind them, how many of them are right, and
-/// whether a read failed.
-#[derive(Clone, Copy)]
-pub(crate) struct Tally {
-    pub next: u32,
-    pub marked: u32,
-    pub faulty: bool,
-}
-
 /// Writes the line of a run, at once.
-pub(crate) fn tell<W: Write>(alloc: Global, run: Run, writer: &mut W) -> Result<(), Fault> {
+pub(crate) fn tell<W: Write>(alloc: Global, run: Run, writer: &mut W) -> Result<(), Fault>
+    ensures line { OnOk result (Appends (W.contents writer.old) (W.contents writer.new) (run_line run)) }
+    ensures fault { IfErr result (λ fault. (fault ≡ device) ⊎ (fault ≡ out_of_memory)) }
+{
     let mut line = String::new(alloc);
     push_line(&mut line, run)?;
     print(writer, line.as_str())
@@ -34,69 +36,80 @@ pub(crate) fn check_share<D: Disk + Drop, W: Write>(
     disk: D,
     tree: &mut SparseTree<FileHash>,
     file: u32,
-    portion: Portion,
+    share: Share,
     writer: &mut W,
-) -> Result<D, Fault> {
+) -> Result<D, Fault>
+    requires ready { IsReadyAt share.from tree.old }
+    requires forward { share.from ≤ share.to }
+    requires inside { share.to ≤ block_count tree.old.file_length }
+    ensures checked { IfOk result (λ after. ChecksShare D.history D.honest D.faults tree.old file share disk
+        after tree.new (W.contents writer.old) (W.contents writer.new)) }
+    ensures fault { IfErr result (λ fault. (fault ≡ device) ⊎ (fault ≡ out_of_memory)) }
+{
     let Ok(mut store) = FileStore::create(alloc, disk, FileHash, tree.geometry()) else {
         return Err(Fault::OutOfMemory);
     };
-    let mut from = portion.share.from;
-    while from < portion.share.to {
-        let end = run_end(from, portion);
-        let tally = check_blocks(&mut store, tree, from, end)?;
-        tell(alloc, run_of(file, from, tally), writer)?;
-        from = tally.next;
+    let mut run = run_at(file, share.from);
+    while run.to < share.to {
+        let adopted = adopt_ahead(&mut store, tree, run.to)?;
+        run = told_if_long(alloc, with_groups(run, adopted), share.to, writer)?;
     }
     // a group that reaches into the next part
-    if from > portion.share.to {
+    if run.to > share.to {
         return Err(Fault::Device);
     }
     Ok(store.into_disk())
 }
 
-/// The block behind the run that begins at one.
-fn run_end(from: u32, portion: Portion) -> u32 {
-    let units = (RUN_BLOCKS / portion.unit).max(1);
-    let rest = portion.share.to - from;
-    from + rest.min(portion.unit * units)
-}
-
-/// The run of some blocks.
-fn run_of(file: u32, from: u32, tally: Tally) -> Run {
+/// A run of no blocks.
+fn run_at(file: u32, from: u32) -> Run
+    ensures { result ≡ run_at file from }
+{
     Run {
         file,
         from,
-        to: tally.next,
-        marked: tally.marked,
-        met: if tally.faulty {
+        to: from,
+        marked: 0,
+        met: Met::Nothing,
+    }
+}
+
+/// A run with the groups that come next.
+fn with_groups(run: Run, groups: AdoptedGroups) -> Run
+    requires { run.marked + groups.marked < 2 ^ 32 }
+    ensures { IsWithGroups run groups result }
+{
+    Run {
+        file: run.file,
+        from: run.from,
+        to: groups.next,
+        marked: run.marked + groups.marked,
+        met: if groups.faults > 0 {
             Met::Unread
         } else {
-            Met::Nothing
+            run.met
         },
     }
 }
 
-/// Reads blocks group by group, from one on until another is reached.
-fn check_blocks<D: Disk + Drop>(
-    store: &mut FileStore<D, FileHash>,
-    tree: &mut SparseTree<FileHash>,
-    from: u32,
+/// Tells a run that is long, or the last before a block, and gives the one that begins behind it; any other run it
+/// gives back.
+fn told_if_long<W: Write>(
+    alloc: Global,
+    run: Run,
     end: u32,
-) -> Result<Tally, AllocError> {
-    let mut tally = Tally {
-        next: from,
-        marked: 0,
-        faulty: false,
-    };
-    while tally.next < end {
-        let adopted = adopt_ahead(store, tree, tally.next)?;
-        tally = Tally {
-            next: adopted.next,
-            marked: tally.marked + adopted.marked,
-            faulty: tally.faulty || adopted.faults > 0,
-        };
+    writer: &mut W,
+) -> Result<Run, Fault>
+    requires { run.from ≤ run.to }
+    ensures next { IfOk result
+        (TellsOrKeeps run end (W.contents writer.old) (W.contents writer.new)) }
+    ensures fault { IfErr result (λ fault. (fault ≡ device) ⊎ (fault ≡ out_of_memory)) }
+{
+    if run.to < end && run.to - run.from < RUN_BLOCKS {
+        return Ok(run);
     }
-    Ok(tally)
+    tell(alloc, run, writer)?;
+    Ok(run_at(run.file, run.to))
 }
 
 /// Reads the groups of blocks that come next. Small groups are taken together only where eight blocks begin, so that
@@ -105,7 +118,14 @@ fn adopt_ahead<D: Disk + Drop>(
     store: &mut FileStore<D, FileHash>,
     tree: &mut SparseTree<FileHash>,
     from: u32,
-) -> Result<AdoptedGroups, AllocError> {
+) -> Result<AdoptedGroups, AllocError>
+    requires geometry { tree.old.file_length ≡ store.old.file_length }
+    requires inside { from < block_count store.old.file_length }
+    ensures ok { IfOk result (λ adopted. (reads : List BlockRead) × AreAdopted D.history D.honest D.faults
+        sha256 tree.old from store.old reads adopted tree.new store.new) }
+    ensures onward { IfOk result (λ adopted. from < adopted.next) }
+    ensures within { IfOk result (λ adopted. adopted.next ≤ block_count store.old.file_length) }
+{
     if from % 8 == 0 {
         return store.adopt_groups(tree, from);
     }

@@ -1,4 +1,6 @@
 //! A torrent with the text that spells it, which the parts of a check are passed.
+ghost use Rattle.std.specs.Prelude.{◌≡◌, ◌⊎◌, IfOk, IfErr};
+ghost use Rattle.bt_check.specs.TorrentFile.{HasText, IsLoadFault, IsTorrentOfText};
 
 use bt_check::{BUFFER_LEN, Fault, Source, fault_name, read_text, told};
 use bt_meta::{Torrent, read_info, read_torrent};
@@ -19,7 +21,10 @@ pub(crate) fn load_text<R: Files + AllocGlobal, P: Watch>(
     rt: &R,
     watch: &P,
     source: Source<'_>,
-) -> Result<Loaded, Fault> {
+) -> Result<Loaded, Fault>
+    ensures torrent { IfOk result (λ loaded. HasText source.is_info loaded.torrent) }
+    ensures fault { IfErr result (IsLoadFault source.is_info) }
+{
     let alloc = rt.alloc();
     let opened = fs::open(rt, source.path).map_err(|_| Fault::Device);
     let file = told(alloc, watch, FileCall::Open, source.path, opened)?;
@@ -31,7 +36,10 @@ pub(crate) fn load_text<R: Files + AllocGlobal, P: Watch>(
 }
 
 /// The torrent that a text spells, as an info dictionary alone or as a whole.
-fn spelled(alloc: Global, text: Vec<u8>, is_info: bool) -> Result<Loaded, Fault> {
+fn spelled(alloc: Global, text: Vec<u8>, is_info: bool) -> Result<Loaded, Fault>
+    ensures torrent { IfOk result (λ loaded. HasText is_info loaded.torrent) }
+    ensures fault { IfErr result (IsLoadFault is_info) }
+{
     let torrent = if is_info {
         read_info(alloc, &text)?
     } else {

@@ -1,11 +1,26 @@
 //! Hash trees that files of one root and length share in a part.
+ghost use Rattle.std.specs.Prelude.{◌≡◌, ◌⊎◌, ◌≤◌, ◌↔◌, [], ◌∷◌, ℕ, List, Option, map, IfOk, IfErr, IsTrue, OnOk};
+ghost use Rattle.std.specs.Io.KnownBytes.{Appends};
+ghost use Rattle.bt_tree.specs.Blocks.{IsFileLength, block_count};
+ghost use Rattle.bt_meta.specs.Files.{File, file_of};
+ghost use Rattle.bt_check.specs.Check.{CheckedFile};
+ghost use Rattle.bt_check.specs.CheckSteps.{HoldsLeaves};
+ghost use Rattle.bt_check.specs.EntryCheck.{IsCheckable};
+ghost use Rattle.bt_check.specs.Fault.{device, out_of_memory};
+ghost use Rattle.bt_check.specs.Finding.{known_layer, no_leaves};
+ghost use Rattle.bt_check.specs.TreeSteps.{HasTree, TakesTree, LeavesKept, LetsGo, IsLast};
+ghost use Rattle.bt_parts.specs.Line.{run_line};
+ghost use Rattle.bt_parts.specs.declared.run.Run.{Run as BlockRun};
+ghost use Rattle.bt_jobs.specs.Share.{runs_text};
+ghost use Rattle.bt_jobs.specs.Trees.{AreRunsOf, GoByRoots, IsPartFinding, IsReadyPart, file_in_part, part_at};
+ghost use Rattle.bt_jobs.specs.TreesSteps.{ChecksBlocks, ChecksPart, IsMeasured, KeepsParts, KnowsOwn, TellsAbsent, no_blocks, shared_of};
 
-use crate::plan::Portion;
+use crate::plan::key_of;
 use crate::share::{check_share, tell};
 use bt_check::{Fault, FileHash, PieceSize};
 use bt_disk::Disk;
 use bt_meta::FileEntry;
-use bt_parts::{Met, Run};
+use bt_parts::{Met, Run, Share};
 use bt_sparse::SparseTree;
 use bt_tree::{Geometry, Hash32, LayerError};
 use std::alloc::{AllocError, Global};
@@ -17,7 +32,7 @@ use std::io::Write;
 pub(crate) struct FilePart<'a> {
     pub number: u32,
     pub file: &'a FileEntry,
-    pub portion: Portion,
+    pub share: Share,
 }
 
 /// The same with the device that has the file's bytes: none where no file can be at its path, or the part has nothing
@@ -43,7 +58,10 @@ impl PartTrees {
     pub(crate) fn new<D>(
         alloc: Global,
         files: &[PartFile<'_, D>],
-    ) -> Result<PartTrees, AllocError> {
+    ) -> Result<PartTrees, AllocError>
+        ensures { IfOk result (λ trees. (layer : ℕ) (layer_at : ℕ → List ℕ → List ℕ)
+            → KeepsParts layer layer_at [] (map file_in_part (map part_at files.now)) trees) }
+    {
         let mut last = BTreeMap::new(alloc);
         let mut left = files.len();
         for data in files {
@@ -64,7 +82,21 @@ impl PartTrees {
         data: PartFile<'_, D>,
         size: PieceSize,
         writer: &mut W,
-    ) -> Result<(), Fault> {
+    ) -> Result<(), Fault>
+        requires ready { IsReadyPart size.layer data.part }
+        requires trees { (layer_at : ℕ → List ℕ → List ℕ) × (before : List CheckedFile) × (rest : List File)
+            × KeepsParts size.layer layer_at before (file_in_part data.part ∷ rest) self.old
+            × GoByRoots layer_at (file_in_part data.part ∷ []) }
+        ensures told { OnOk result ((layer_at : ℕ → List ℕ → List ℕ) (before : List CheckedFile) (rest : List File)
+            → KeepsParts size.layer layer_at before (file_in_part data.part ∷ rest) self.old
+            → GoByRoots layer_at (file_in_part data.part ∷ [])
+            → (runs : List BlockRun) × (after : List CheckedFile)
+            × AreRunsOf data.part.number (block_count (file_in_part data.part).length) data.part.share runs
+            × IsPartFinding size.layer before (file_in_part data.part) data.part.share runs after
+            × KeepsParts size.layer layer_at after rest self.new
+            × Appends (W.contents writer.old) (W.contents writer.new) (runs_text runs)) }
+        ensures fault { IfErr result (λ fault. (fault ≡ device) ⊎ (fault ≡ out_of_memory)) }
+    {
         let PartFile { part, disk } = data;
         self.left -= 1;
         check_file(alloc, part, disk, size, &mut self.kept, writer)?;
@@ -73,7 +105,9 @@ impl PartTrees {
     }
 
     /// Lets go of the tree of a file where no file behind it has its root and length.
-    fn let_go(&mut self, entry: &FileEntry) {
+    fn let_go(&mut self, entry: &FileEntry)
+        ensures { LetsGo (file_of entry.now) (shared_of self.old) (shared_of self.new) }
+    {
         if !self.is_last(entry) {
             return;
         }
@@ -81,17 +115,14 @@ impl PartTrees {
     }
 
     /// Whether no file behind this one has its root and length.
-    fn is_last(&self, entry: &FileEntry) -> bool {
+    fn is_last(&self, entry: &FileEntry) -> bool
+        ensures { IsTrue result ↔ IsLast (shared_of self.now) (file_of entry.now) }
+    {
         match self.last.get(&key_of(entry)) {
             Some(behind) => *behind >= self.left,
             None => true,
         }
     }
-}
-
-/// The root and the length of a file.
-fn key_of(entry: &FileEntry) -> (Hash32, u64) {
-    (entry.root, entry.length)
 }
 
 /// Checks what a part has of a file, and tells of it.
@@ -102,7 +133,14 @@ fn check_file<D: Disk + Drop, W: Write>(
     size: PieceSize,
     kept: &mut BTreeMap<(Hash32, u64), SparseTree<FileHash>>,
     writer: &mut W,
-) -> Result<(), Fault> {
+) -> Result<(), Fault>
+    requires ready { IsReadyPart size.layer part }
+    requires tree { (before : List CheckedFile) × HasTree size.layer before (file_in_part part) kept.old
+        × KnowsOwn size.layer before (file_in_part part) }
+    ensures told { OnOk result (ChecksPart size.layer part kept.old kept.new
+        (W.contents writer.old) (W.contents writer.new)) }
+    ensures fault { IfErr result (λ fault. (fault ≡ device) ⊎ (fault ≡ out_of_memory)) }
+{
     match disk {
         Some(disk) => check_present(alloc, part, disk, size, kept, writer),
         None => tell_absent(alloc, part, writer),
@@ -117,9 +155,16 @@ fn check_present<D: Disk + Drop, W: Write>(
     size: PieceSize,
     kept: &mut BTreeMap<(Hash32, u64), SparseTree<FileHash>>,
     writer: &mut W,
-) -> Result<(), Fault> {
+) -> Result<(), Fault>
+    requires ready { IsReadyPart size.layer part }
+    requires tree { (before : List CheckedFile) × HasTree size.layer before (file_in_part part) kept.old
+        × KnowsOwn size.layer before (file_in_part part) }
+    ensures told { OnOk result (ChecksPart size.layer part kept.old kept.new
+        (W.contents writer.old) (W.contents writer.new)) }
+    ensures fault { IfErr result (λ fault. (fault ≡ device) ⊎ (fault ≡ out_of_memory)) }
+{
     let mut disk = disk;
-    if part.portion.share.is_first {
+    if part.share.is_first {
         let met = measured(&mut disk, part.file.length);
         tell_none(alloc, part, met, writer)?;
     }
@@ -138,19 +183,33 @@ fn check_known<D: Disk + Drop, W: Write>(
     size: PieceSize,
     kept: &mut BTreeMap<(Hash32, u64), SparseTree<FileHash>>,
     writer: &mut W,
-) -> Result<(), Fault> {
-    if part.portion.share.from >= part.portion.share.to {
+) -> Result<(), Fault>
+    requires ready { IsReadyPart size.layer part }
+    requires length { geometry ≡ part.file.now.length }
+    requires lawful { IsFileLength geometry }
+    requires tree { (before : List CheckedFile) × HasTree size.layer before (file_in_part part) kept.old
+        × KnowsOwn size.layer before (file_in_part part) }
+    ensures told { OnOk result (ChecksBlocks size.layer part kept.old kept.new
+        (W.contents writer.old) (W.contents writer.new)) }
+    ensures fault { IfErr result (λ fault. (fault ≡ device) ⊎ (fault ≡ out_of_memory)) }
+{
+    if part.share.from >= part.share.to {
         return Ok(());
     }
     let mut tree = take_tree(alloc, geometry, part.file, size, kept)?;
-    check_share(alloc, disk, &mut tree, part.number, part.portion, writer)?;
+    check_share(alloc, disk, &mut tree, part.number, part.share, writer)?;
     kept.insert(key_of(part.file), tree)?;
     Ok(())
 }
 
 /// Tells of a file that is not there: none of its blocks is right.
-fn tell_absent<W: Write>(alloc: Global, part: FilePart<'_>, writer: &mut W) -> Result<(), Fault> {
-    let share = part.portion.share;
+fn tell_absent<W: Write>(alloc: Global, part: FilePart<'_>, writer: &mut W) -> Result<(), Fault>
+    requires forward { part.share.from ≤ part.share.to }
+    requires inside { part.share.to ≤ block_count part.file.now.length }
+    ensures told { OnOk result (TellsAbsent part (W.contents writer.old) (W.contents writer.new)) }
+    ensures fault { IfErr result (λ fault. (fault ≡ device) ⊎ (fault ≡ out_of_memory)) }
+{
+    let share = part.share;
     if share.is_first {
         tell_none(alloc, part, Met::Absent, writer)?;
     }
@@ -173,8 +232,12 @@ fn tell_none<W: Write>(
     part: FilePart<'_>,
     met: Met,
     writer: &mut W,
-) -> Result<(), Fault> {
-    let from = part.portion.share.from;
+) -> Result<(), Fault>
+    ensures told { OnOk result (Appends (W.contents writer.old) (W.contents writer.new)
+        (run_line (no_blocks part met))) }
+    ensures fault { IfErr result (λ fault. (fault ≡ device) ⊎ (fault ≡ out_of_memory)) }
+{
+    let from = part.share.from;
     let run = Run {
         file: part.number,
         from,
@@ -186,7 +249,9 @@ fn tell_none<W: Write>(
 }
 
 /// What is met where a device is asked for its length.
-fn measured<D: Disk>(disk: &mut D, file_length: u64) -> Met {
+fn measured<D: Disk>(disk: &mut D, file_length: u64) -> Met
+    ensures { (len : Option ℕ) × IsMeasured file_length len result }
+{
     match disk.len() {
         Ok(length) if length > file_length => Met::Longer,
         Ok(_) => Met::Nothing,
@@ -201,7 +266,13 @@ fn take_tree(
     entry: &FileEntry,
     size: PieceSize,
     kept: &mut BTreeMap<(Hash32, u64), SparseTree<FileHash>>,
-) -> Result<SparseTree<FileHash>, AllocError> {
+) -> Result<SparseTree<FileHash>, AllocError>
+    requires checkable { IsCheckable size.layer (file_of entry.now) }
+    requires length { geometry ≡ entry.now.length }
+    requires lawful { IsFileLength geometry }
+    ensures tree { IfOk result (TakesTree size.layer (file_of entry.now) kept.old) }
+    ensures kept { IfOk result (λ _. LeavesKept (file_of entry.now) kept.old kept.new) }
+{
     match kept.remove(&key_of(entry)) {
         Some(tree) => Ok(tree),
         None => known_tree(alloc, geometry, entry, size),
@@ -214,7 +285,12 @@ fn known_tree(
     geometry: Geometry,
     entry: &FileEntry,
     size: PieceSize,
-) -> Result<SparseTree<FileHash>, AllocError> {
+) -> Result<SparseTree<FileHash>, AllocError>
+    requires checkable { IsCheckable size.layer (file_of entry.now) }
+    requires length { geometry ≡ entry.now.length }
+    requires lawful { IsFileLength geometry }
+    ensures { IfOk result (HoldsLeaves geometry (known_layer size.layer (file_of entry.now)) no_leaves) }
+{
     if entry.layer.is_empty() {
         return SparseTree::new(alloc, FileHash, geometry, entry.root);
     }

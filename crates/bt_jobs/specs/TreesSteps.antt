@@ -1,0 +1,91 @@
+-- Trees that are kept for later files of the same root and length in a part: for private steps.
+use Rattle.std.specs.Prelude.{◌≡◌, ◌↔◌, ◌⊎◌, ◌++◌, ◌<◌, ◌≤◌, ℕ, IsTrue, IsSomeAnd, List, [], ◌∷◌, Option, None}
+use Rattle.std.specs.List.{All}
+use Rattle.std.specs.Io.KnownBytes.{Appends}
+use Rattle.bt_tree.specs.Blocks.{block_count}
+use Rattle.bt_meta.specs.Files.{File}
+use Rattle.bt_store.specs.BlockReads.{BlockRead}
+use Rattle.bt_check.specs.Check.{CheckedFile, layer_before, leaves_before}
+use Rattle.bt_check.specs.EntryCheck.{Answers}
+use Rattle.bt_check.specs.Finding.{known_layer}
+use Rattle.bt_check.specs.TreeSteps.{HasTree, Kept, KeepsTrees}
+use Rattle.bt_check.specs.declared.trees.SharedTrees.{SharedTrees}
+use Rattle.bt_parts.specs.Run.{is_fault, is_longer}
+use Rattle.bt_parts.specs.declared.cut.Share.{Share}
+use Rattle.bt_parts.specs.declared.run.Met.{Met}
+use Rattle.bt_parts.specs.declared.run.Met.TheVariants.{Absent}
+use Rattle.bt_parts.specs.declared.run.Run.{Run}
+use Rattle.bt_jobs.specs.Share.{IsShareCheck, reads_behind, runs_text}
+use Rattle.bt_jobs.specs.Trees.{AreRunsOf, IsPartFinding, file_in_part}
+use Rattle.bt_jobs.specs.declared.trees.FilePart.{FilePart}
+use Rattle.bt_jobs.specs.declared.trees.PartTrees.{PartTrees}
+
+-- the same trees, as a check of the whole keeps them
+abbrev pub shared_of : PartTrees → SharedTrees
+shared_of trees = record { kept = trees.kept; last = trees.last; left = trees.left }
+
+-- Trees after some files were checked, before the others; and the layer of each file that was checked goes by its
+-- length and root.
+pub record KeepsParts (layer : ℕ) (layer_at : ℕ → List ℕ → List ℕ) (before : List CheckedFile) (left : List File)
+    (trees : PartTrees) : Type 0 where
+  pub kept : KeepsTrees layer before left (shared_of trees)
+  pub by_root : All (λ c. c.file.layer ≡ layer_at c.file.length c.file.root) before
+
+-- the files before tell no other layer of a file's tree than the file itself
+abbrev pub KnowsOwn : ℕ → List CheckedFile → File → Type 0
+KnowsOwn layer before file = layer_before layer before file ≡ known_layer layer file
+
+-- the run that tells what was met where a file's length was asked for
+abbrev pub no_blocks : FilePart → Met → Run
+no_blocks part met = record {
+  file = part.number;
+  from = part.share.from;
+  to = part.share.from;
+  marked = 0;
+  met = met;
+}
+
+-- what a device answered of a share: the length, and the reads
+abbrev pub answers_of : Share → Option ℕ → List BlockRead → Answers
+answers_of share len reads = record { len = len; reads = reads_behind share.from reads }
+
+-- what is kept of any file is so after a file of which the share has no block, or after it was read
+abbrev pub KeepsOthers : ℕ → List CheckedFile → File → Share → Answers → Kept → Kept → Type 0
+KeepsOthers layer before file share answers kept grown =
+    ((share.to ≤ share.from) × (grown ≡ kept))
+    ⊎ ((other : File) → HasTree layer before other kept
+    → HasTree layer (before ++ record { file = file; answers = answers } ∷ []) other grown)
+
+-- what is met where a device tells this length of a file of n bytes, or none
+pub record IsMeasured (n : ℕ) (len : Option ℕ) (met : Met) : Type 0 where
+  pub longer : IsTrue (is_longer met) ↔ IsSomeAnd len (λ l. n < l)
+  pub faulty : IsTrue (is_fault met) ↔ (len ≡ None)
+
+-- A file that is not there was told.
+abbrev pub TellsAbsent : FilePart → (old new : Option (List ℕ)) → Type 0
+TellsAbsent part old new = (runs : List Run)
+    × AreRunsOf part.number (block_count (file_in_part part).length) part.share runs
+    × All (λ run. (run.marked ≡ 0) × (run.met ≡ Absent)) runs × Appends old new (runs_text runs)
+
+-- The blocks of a part were checked and told, if it has some, and what is kept of any file is so after it too, where the
+-- answers have any length.
+abbrev pub ChecksBlocks : ℕ → FilePart → Kept → Kept → (old new : Option (List ℕ)) → Type 0
+ChecksBlocks layer part kept grown old new =
+    let file = file_in_part part in
+    (before : List CheckedFile) → HasTree layer before file kept → KnowsOwn layer before file
+    → (reads : List BlockRead) × (runs : List Run)
+    × IsShareCheck file.length (layer_before layer before file) (leaves_before layer before file) part.number
+    part.share.from part.share.to reads runs
+    × ((len : Option ℕ) → KeepsOthers layer before file part.share (answers_of part.share len reads) kept grown)
+    × Appends old new (runs_text runs)
+
+-- A part of a file was checked and told, and what is kept of any file is so after it too.
+abbrev pub ChecksPart : ℕ → FilePart → Kept → Kept → (old new : Option (List ℕ)) → Type 0
+ChecksPart layer part kept grown old new =
+    let file = file_in_part part in
+    (before : List CheckedFile) → HasTree layer before file kept → KnowsOwn layer before file
+    → (runs : List Run) × (after : List CheckedFile)
+    × AreRunsOf part.number (block_count file.length) part.share runs
+    × IsPartFinding layer before file part.share runs after
+    × ((other : File) → HasTree layer before other kept → HasTree layer after other grown)
+    × Appends old new (runs_text runs)
