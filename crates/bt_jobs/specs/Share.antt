@@ -19,9 +19,13 @@ use Rattle.bt_parts.specs.declared.run.Met.{Met}
 use Rattle.bt_parts.specs.declared.run.Met.TheVariants.{Nothing, Unread}
 use Rattle.bt_parts.specs.declared.run.Run.{Run}
 
--- the reads of a file's blocks from one on, where those before it were not read: they tell as much as reads that failed
-abbrev pub reads_behind : ℕ → List BlockRead → List BlockRead
-reads_behind from reads = map (λ block. failed block) (range_with_len 0 from) ++ reads
+-- so many blocks from one on, none of which was read: it is as if their reads had failed
+abbrev pub unread : ℕ → ℕ → List BlockRead
+unread from count = map (λ block. failed block) (range_with_len from count)
+
+-- the reads of all blocks of a file of so many, where those of a share were made, and no others
+abbrev pub share_reads : (blocks from to : ℕ) → List BlockRead → List BlockRead
+share_reads blocks from to reads = unread 0 from ++ (reads ++ unread to (blocks - to))
 
 -- a piece begins at this block, or the file ends before it
 abbrev pub IsPieceEdge : KnownLayer → ℕ → ℕ → Type 0
@@ -35,7 +39,8 @@ pub record IsShareCheck (n : ℕ) (known : KnownLayer) (leaves : ℕ → Option 
   pub each : map block_of reads ≡ range_with_len from (to - from)
   pub own : All (λ run. run.file ≡ file) runs
   pub chain : IsChain (block_count n) from runs to
-  pub counts : All (IsCountOf (is_right_block (is_node_read (reads_behind from reads) n) known leaves)) runs
+  pub counts : All (IsCountOf (is_right_block (is_node_read (share_reads (block_count n) from to reads) n)
+      known leaves)) runs
   pub faults : IsTrue (list_any (λ run. is_fault run.met) runs) ↔ (0 < fault_count reads)
   pub no_length : list_any (λ run. is_longer run.met) runs ≡ false
 
@@ -59,7 +64,8 @@ ChecksShare history honest faults tree file share disk after grown old new =
     → (reads : List BlockRead) × (runs : List Run)
     × IsShareCheck n known leaves file share.from share.to reads runs
     × HasCalls history honest faults disk (map (call_of n) reads) after
-    × HoldsLeaves n known (leaves_after leaves (reads_behind share.from reads) n known) grown
+    × HoldsLeaves n known (leaves_after leaves
+    (share_reads (block_count n) share.from share.to reads) n known) grown
     × Appends old new (runs_text runs)
 
 -- ---- one run

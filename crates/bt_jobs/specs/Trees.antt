@@ -12,7 +12,7 @@ use Rattle.bt_parts.specs.Run.{is_fault, is_longer}
 use Rattle.bt_parts.specs.declared.cut.Share.{Share}
 use Rattle.bt_parts.specs.declared.run.Met.TheVariants.{Absent}
 use Rattle.bt_parts.specs.declared.run.Run.{Run}
-use Rattle.bt_jobs.specs.Share.{IsPieceEdge, reads_behind}
+use Rattle.bt_jobs.specs.Share.{IsPieceEdge, share_reads}
 use Rattle.bt_jobs.specs.declared.trees.FilePart.{FilePart}
 use Rattle.bt_jobs.specs.declared.trees.PartFile.{PartFile}
 
@@ -28,7 +28,7 @@ pub record AreRunsOf (number blocks : ℕ) (share : Share) (runs : List Run) : T
 pub record IsShareFinding (layer : ℕ) (before : List CheckedFile) (file : File) (share : Share) (answers : Answers)
     (runs : List Run) : Type 0 where
   pub reads : List BlockRead
-  pub placed : answers.reads ≡ reads_behind share.from reads
+  pub placed : answers.reads ≡ share_reads (block_count file.length) share.from share.to reads
   pub each : map block_of reads ≡ range_with_len share.from (share.to - share.from)
   pub counts : All (IsCountOf (is_right_block (is_node_read answers.reads file.length)
       (layer_before layer before file) (leaves_before layer before file))) runs

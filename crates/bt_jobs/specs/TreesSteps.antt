@@ -15,7 +15,7 @@ use Rattle.bt_parts.specs.declared.cut.Share.{Share}
 use Rattle.bt_parts.specs.declared.run.Met.{Met}
 use Rattle.bt_parts.specs.declared.run.Met.TheVariants.{Absent}
 use Rattle.bt_parts.specs.declared.run.Run.{Run}
-use Rattle.bt_jobs.specs.Share.{IsShareCheck, reads_behind, runs_text}
+use Rattle.bt_jobs.specs.Share.{IsShareCheck, runs_text, share_reads}
 use Rattle.bt_jobs.specs.Trees.{AreRunsOf, IsPartFinding, file_in_part}
 use Rattle.bt_jobs.specs.declared.trees.FilePart.{FilePart}
 use Rattle.bt_jobs.specs.declared.trees.PartTrees.{PartTrees}
@@ -45,9 +45,12 @@ no_blocks part met = record {
   met = met;
 }
 
--- what a device answered of a share: the length, and the reads
-abbrev pub answers_of : Share → Option ℕ → List BlockRead → Answers
-answers_of share len reads = record { len = len; reads = reads_behind share.from reads }
+-- what a device answered of a share of a file of n bytes: the length, and the reads
+abbrev pub answers_of : ℕ → Share → Option ℕ → List BlockRead → Answers
+answers_of n share len reads = record {
+  len = len;
+  reads = share_reads (block_count n) share.from share.to reads;
+}
 
 -- what is kept of any file is so after a file of which the share has no block, or after it was read
 abbrev pub KeepsOthers : ℕ → List CheckedFile → File → Share → Answers → Kept → Kept → Type 0
@@ -60,6 +63,17 @@ KeepsOthers layer before file share answers kept grown =
 pub record IsMeasured (n : ℕ) (len : Option ℕ) (met : Met) : Type 0 where
   pub longer : IsTrue (is_longer met) ↔ IsSomeAnd len (λ l. n < l)
   pub faulty : IsTrue (is_fault met) ↔ (len ≡ None)
+
+-- What was met where the length was asked for is told by a run of no blocks; where it was not, there is no run.
+pub data AreLengthRuns (part : FilePart) (len : Option ℕ) : List Run → Type 0 where
+  asked : (met : Met) → IsTrue part.share.is_first → IsMeasured (file_in_part part).length len met
+      → AreLengthRuns part len (no_blocks part met ∷ [])
+  unasked : ¬ IsTrue part.share.is_first → AreLengthRuns part len []
+
+-- The length of a data file was told, where the part has the byte at which it begins.
+abbrev pub TellsLength : FilePart → (old new : Option (List ℕ)) → Type 0
+TellsLength part old new = (len : Option ℕ) × (runs : List Run) × AreLengthRuns part len runs
+    × Appends old new (runs_text runs)
 
 -- A file that is not there was told.
 abbrev pub TellsAbsent : FilePart → (old new : Option (List ℕ)) → Type 0
@@ -76,7 +90,8 @@ ChecksBlocks layer part kept grown old new =
     → (reads : List BlockRead) × (runs : List Run)
     × IsShareCheck file.length (layer_before layer before file) (leaves_before layer before file) part.number
     part.share.from part.share.to reads runs
-    × ((len : Option ℕ) → KeepsOthers layer before file part.share (answers_of part.share len reads) kept grown)
+    × ((len : Option ℕ) → KeepsOthers layer before file part.share (answers_of file.length part.share len reads)
+    kept grown)
     × Appends old new (runs_text runs)
 
 -- A part of a file was checked and told, and what is kept of any file is so after it too.

@@ -13,7 +13,7 @@ ghost use Rattle.bt_parts.specs.Line.{run_line};
 ghost use Rattle.bt_parts.specs.declared.run.Run.{Run as BlockRun};
 ghost use Rattle.bt_jobs.specs.Share.{runs_text};
 ghost use Rattle.bt_jobs.specs.Trees.{AreRunsOf, GoByRoots, IsPartFinding, IsReadyPart, file_in_part, part_at};
-ghost use Rattle.bt_jobs.specs.TreesSteps.{ChecksBlocks, ChecksPart, IsMeasured, KeepsParts, KnowsOwn, TellsAbsent, no_blocks, shared_of};
+ghost use Rattle.bt_jobs.specs.TreesSteps.{ChecksBlocks, ChecksPart, IsMeasured, KeepsParts, KnowsOwn, TellsAbsent, TellsLength, no_blocks, shared_of};
 
 use crate::plan::key_of;
 use crate::share::{check_share, tell};
@@ -79,25 +79,25 @@ impl PartTrees {
     pub(crate) fn check<D: Disk + Drop, W: Write>(
         &mut self,
         alloc: Global,
-        data: PartFile<'_, D>,
+        opened: PartFile<'_, D>,
         size: PieceSize,
         writer: &mut W,
     ) -> Result<(), Fault>
-        requires ready { IsReadyPart size.layer data.part }
+        requires ready { IsReadyPart size.layer opened.part }
         requires trees { (layer_at : ℕ → List ℕ → List ℕ) × (before : List CheckedFile) × (rest : List File)
-            × KeepsParts size.layer layer_at before (file_in_part data.part ∷ rest) self.old
-            × GoByRoots layer_at (file_in_part data.part ∷ []) }
+            × KeepsParts size.layer layer_at before (file_in_part opened.part ∷ rest) self.old
+            × GoByRoots layer_at (file_in_part opened.part ∷ []) }
         ensures told { OnOk result ((layer_at : ℕ → List ℕ → List ℕ) (before : List CheckedFile) (rest : List File)
-            → KeepsParts size.layer layer_at before (file_in_part data.part ∷ rest) self.old
-            → GoByRoots layer_at (file_in_part data.part ∷ [])
+            → KeepsParts size.layer layer_at before (file_in_part opened.part ∷ rest) self.old
+            → GoByRoots layer_at (file_in_part opened.part ∷ [])
             → (runs : List BlockRun) × (after : List CheckedFile)
-            × AreRunsOf data.part.number (block_count (file_in_part data.part).length) data.part.share runs
-            × IsPartFinding size.layer before (file_in_part data.part) data.part.share runs after
+            × AreRunsOf opened.part.number (block_count (file_in_part opened.part).length) opened.part.share runs
+            × IsPartFinding size.layer before (file_in_part opened.part) opened.part.share runs after
             × KeepsParts size.layer layer_at after rest self.new
             × Appends (W.contents writer.old) (W.contents writer.new) (runs_text runs)) }
         ensures fault { IfErr result (λ fault. (fault ≡ device) ⊎ (fault ≡ out_of_memory)) }
     {
-        let PartFile { part, disk } = data;
+        let PartFile { part, disk } = opened;
         self.left -= 1;
         check_file(alloc, part, disk, size, &mut self.kept, writer)?;
         self.let_go(part.file);
@@ -164,10 +164,43 @@ fn check_present<D: Disk + Drop, W: Write>(
     ensures fault { IfErr result (λ fault. (fault ≡ device) ⊎ (fault ≡ out_of_memory)) }
 {
     let mut disk = disk;
-    if part.share.is_first {
-        let met = measured(&mut disk, part.file.length);
-        tell_none(alloc, part, met, writer)?;
+    tell_length(alloc, part, &mut disk, writer)?;
+    check_blocks(alloc, part, disk, size, kept, writer)
+}
+
+/// Asks for a data file's length where the part has the byte at which it begins, and tells what was met.
+fn tell_length<D: Disk, W: Write>(
+    alloc: Global,
+    part: FilePart<'_>,
+    disk: &mut D,
+    writer: &mut W,
+) -> Result<(), Fault>
+    ensures told { OnOk result (TellsLength part (W.contents writer.old) (W.contents writer.new)) }
+    ensures fault { IfErr result (λ fault. (fault ≡ device) ⊎ (fault ≡ out_of_memory)) }
+{
+    if !part.share.is_first {
+        return Ok(());
     }
+    let met = measured(disk, part.file.length);
+    tell_none(alloc, part, met, writer)
+}
+
+/// Checks a part's blocks of a data file; an empty file has none.
+fn check_blocks<D: Disk + Drop, W: Write>(
+    alloc: Global,
+    part: FilePart<'_>,
+    disk: D,
+    size: PieceSize,
+    kept: &mut BTreeMap<(Hash32, u64), SparseTree<FileHash>>,
+    writer: &mut W,
+) -> Result<(), Fault>
+    requires ready { IsReadyPart size.layer part }
+    requires tree { (before : List CheckedFile) × HasTree size.layer before (file_in_part part) kept.old
+        × KnowsOwn size.layer before (file_in_part part) }
+    ensures told { OnOk result (ChecksBlocks size.layer part kept.old kept.new
+        (W.contents writer.old) (W.contents writer.new)) }
+    ensures fault { IfErr result (λ fault. (fault ≡ device) ⊎ (fault ≡ out_of_memory)) }
+{
     match Geometry::new(part.file.length) {
         Some(geometry) => check_known(alloc, part, disk, geometry, size, kept, writer),
         None => Ok(()),
