@@ -45,13 +45,13 @@ first_true : (a b : Bool) → (a && b) ≡ true → a ≡ true
 first_true true b e = refl
 first_true false b e = absurd (true≢false (sym e))
 
-one_root : (file other : File) → are_twins file other ≡ true → file.root ≡ other.root
+pub one_root : (file other : File) → are_twins file other ≡ true → file.root ≡ other.root
 one_root file other e = (bytes_eq-Decides file.root other.root).0 (first_true _ _ e)
 
-one_length : (file other : File) → are_twins file other ≡ true → file.length ≡ other.length
+pub one_length : (file other : File) → are_twins file other ≡ true → file.length ≡ other.length
 one_length file other e = eqb-true file.length other.length (both_true _ _ e)
 
-own_twin : (file : File) → are_twins file file ≡ true
+pub own_twin : (file : File) → are_twins file file ≡ true
 own_twin file = ap (λ b. b && file.length == file.length) ((bytes_eq-Decides file.root file.root).1 refl) ∙ same file.length
   where
     same : (m : ℕ) → (m == m) ≡ true

@@ -3,7 +3,7 @@ ghost use Rattle.std.specs.Prelude.{◌≡◌, ℕ, Some, List, map, codes, stri
 ghost use Rattle.std.specs.Bool.{Decides};
 ghost use Rattle.std.specs.List.{AllZip};
 ghost use Rattle.clap.specs.Words.{all_of, app_of, first_of, found_of, kind_of, rows_of, subcommand_rows_of};
-ghost use Rattle.bt_words.specs.CommandLine.{AsksFor, IsTaskOf, IsNoTaskOf, IsTaskIn, IsMakeTaskIn, IsSeedTaskIn, IsServiceIn, IsServingIn, IsFetchTaskIn, IsSourceIn, IsFlagIn, IsGiven, IsWorkIn};
+ghost use Rattle.bt_words.specs.CommandLine.{AsksFor, IsTaskOf, IsNoTaskOf, IsTaskIn, IsMakeTaskIn, IsSeedTaskIn, IsServiceIn, IsServingIn, IsFetchTaskIn, IsSourceIn, IsFlagIn, IsGiven, IsWorkIn, HasJobs};
 ghost use Rattle.bt_words.specs.CommandLineSteps.{AreWordsOf, IsRefusalFor, TellsOf};
 ghost use Rattle.bt_words.specs.Subcommands.{program_app};
 ghost use Rattle.bt_words.specs.Values.{IsPeerWord};
@@ -255,15 +255,39 @@ fn work_of(matches: &ArgMatches<'_>) -> Result<Work, Refusal>
         ((work : Work) → ¬ IsWorkIn (rows_of (found_of matches.now)) work)) }
 {
     let digits = word_of(matches, "jobs")?;
-    let Some(count) = jobs_in(digits) else {
-        return Err(Refusal::Value(JOBS_WANTED));
-    };
+    match jobs_in(digits) {
+        Some(count) => work_by(matches, count),
+        None => Err(Refusal::Value(JOBS_WANTED)),
+    }
+}
+
+/// The same, where so many processes are asked for.
+fn work_by(matches: &ArgMatches<'_>, count: u32) -> Result<Work, Refusal>
+    requires { HasJobs (rows_of (found_of matches.now)) count }
+    ensures work { IfOk result (IsWorkIn (rows_of (found_of matches.now))) }
+    ensures refused { IfErr result (IsRefusalFor
+        ((work : Work) → ¬ IsWorkIn (rows_of (found_of matches.now)) work)) }
+{
     match matches.get_str("part") {
-        Some(word) => match part_in(word) {
-            Some(part) if count == 1 => Ok(Work::Part(part)),
-            _ => Err(Refusal::Value(PART_WANTED)),
-        },
+        Some(word) => part_by(matches, word, count),
         None => Ok(Work::Jobs(count)),
+    }
+}
+
+/// The part that a word names, where so many processes are asked for.
+fn part_by(matches: &ArgMatches<'_>, word: &str, count: u32) -> Result<Work, Refusal>
+    requires jobs { HasJobs (rows_of (found_of matches.now)) count }
+    requires given { first_of (codes "part") (rows_of (found_of matches.now)) ≡ Some word.now }
+    ensures work { IfOk result (IsWorkIn (rows_of (found_of matches.now))) }
+    ensures refused { IfErr result (IsRefusalFor
+        ((work : Work) → ¬ IsWorkIn (rows_of (found_of matches.now)) work)) }
+{
+    if count != 1 {
+        return Err(Refusal::Value(PART_WANTED));
+    }
+    match part_in(word) {
+        Some(part) => Ok(Work::Part(part)),
+        None => Err(Refusal::Value(PART_WANTED)),
     }
 }
 
