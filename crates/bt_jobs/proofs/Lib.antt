@@ -6,3 +6,4 @@ pub mod Lines
 pub mod Reports
 pub mod Openings
 pub mod PartReports
+pub mod Roots

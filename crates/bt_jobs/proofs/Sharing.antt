@@ -380,3 +380,12 @@ module _ {D : Type 0} (history : D → History) (honest : D → Type 0) (faults 
           learned_after n known leaves from to k s.reads learned size inside,
           s.lines,
         )
+
+-- a run that ends a share was told, and the next one is empty
+pub ends_empty : (run next : Run) (end : ℕ) (old new : Option (List ℕ)) → TellsOrKeeps run end old new next → end ≤ next.to
+    → (next.from ≡ next.to) × (next.met ≡ Nothing)
+ends_empty run next end old new (inl told) past =
+    (ap (λ (r : Run). r.from) told.1 ∙ sym (ap (λ (r : Run). r.to) told.1), ap (λ (r : Run). r.met) told.1)
+ends_empty run next end old new (inr goes_on) past =
+    let same : next.to ≡ run.to = ap (λ (r : Run). r.to) goes_on.2.1 in
+    absurd (omega (arith, goes_on.0, past, same))

@@ -16,7 +16,7 @@ use Rattle.bt_parts.specs.declared.run.Met.{Met}
 use Rattle.bt_parts.specs.declared.run.Met.TheVariants.{Absent}
 use Rattle.bt_parts.specs.declared.run.Run.{Run}
 use Rattle.bt_jobs.specs.Share.{IsShareCheck, runs_text, share_reads}
-use Rattle.bt_jobs.specs.Trees.{AreRunsOf, IsPartFinding, file_in_part}
+use Rattle.bt_jobs.specs.Trees.{AreRunsOf, GoByRoots, IsPartFinding, file_in_part}
 use Rattle.bt_jobs.specs.declared.trees.FilePart.{FilePart}
 use Rattle.bt_jobs.specs.declared.trees.PartTrees.{PartTrees}
 
@@ -92,6 +92,23 @@ ChecksBlocks layer part kept grown old new =
     part.share.from part.share.to reads runs
     × ((len : Option ℕ) → KeepsOthers layer before file part.share (answers_of file.length part.share len reads)
     kept grown)
+    × Appends old new (runs_text runs)
+
+-- The part is of the next file.
+abbrev pub IsNextPart : ℕ → FilePart → PartTrees → Type 0
+IsNextPart layer part trees = (layer_at : ℕ → List ℕ → List ℕ) × (before : List CheckedFile) × (rest : List File)
+    × KeepsParts layer layer_at before (file_in_part part ∷ rest) trees × GoByRoots layer_at (file_in_part part ∷ [])
+
+-- It was checked and told, and the trees are kept for the files behind it.
+abbrev pub ChecksNext : ℕ → FilePart → PartTrees → PartTrees → (old new : Option (List ℕ)) → Type 0
+ChecksNext layer part trees grown old new =
+    let file = file_in_part part in
+    (layer_at : ℕ → List ℕ → List ℕ) (before : List CheckedFile) (rest : List File)
+    → KeepsParts layer layer_at before (file ∷ rest) trees → GoByRoots layer_at (file ∷ [])
+    → (runs : List Run) × (after : List CheckedFile)
+    × AreRunsOf part.number (block_count file.length) part.share runs
+    × IsPartFinding layer before file part.share runs after
+    × KeepsParts layer layer_at after rest grown
     × Appends old new (runs_text runs)
 
 -- A part of a file was checked and told, and what is kept of any file is so after it too.

@@ -60,9 +60,9 @@ pub fn check_by_parts<
     writer: &mut W,
 ) -> Result<Summary, Fault>
     ensures report { IfOk result (λ summary. (torrent : Metainfo) × (found : List FileFinding)
-        × HasText job.source.is_info torrent × IsReportByParts torrent found summary
+        × HasText job.entry.source.is_info torrent × IsReportByParts torrent found summary
         × Appends (W.contents writer.old) (W.contents writer.new) (report_text found)) }
-    ensures fault { IfErr result (IsLoadFault job.source.is_info) }
+    ensures fault { IfErr result (IsLoadFault job.entry.source.is_info) }
     ensures refused { IfErr result (λ fault. status_of fault ≡ 2
         → Keeps (W.contents writer.old) (W.contents writer.new)) }
 {

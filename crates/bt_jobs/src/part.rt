@@ -1,10 +1,11 @@
 //! A part of a check, as a run of the program does it.
-ghost use Rattle.std.specs.Prelude.{◌≡◌, ◌⊎◌, ◌<◌, ◌^◌, ℕ, List, [], map, length, IfOk, IfErr, OnOk};
+ghost use Rattle.std.specs.Prelude.{◌≡◌, ◌⊎◌, ◌<◌, ◌^◌, ℕ, Bool, List, [], map, length, IfOk, IfErr, OnOk};
 ghost use Rattle.std.specs.List.{All, range_with_len};
 ghost use Rattle.std.specs.Io.KnownBytes.{Appends};
 ghost use Rattle.bt_meta.specs.Files.{file_of};
 ghost use Rattle.bt_check.specs.Check.{CheckedFile};
 ghost use Rattle.bt_check.specs.Fault.{device, out_of_memory};
+ghost use Rattle.bt_check.specs.TorrentFile.{HasText};
 ghost use Rattle.bt_parts.specs.declared.run.Run.{Run as BlockRun};
 ghost use Rattle.bt_jobs.specs.Part.{IsPartReport};
 ghost use Rattle.bt_jobs.specs.Share.{runs_text};
@@ -25,7 +26,7 @@ use std::rt::Files;
 
 /// Checks a part of the files of a folder against a torrent, and writes a line for each run of blocks as it is done.
 ///
-/// All files of which the part has something are opened first. A file that can't be opened ends it; a read that fails
+/// The torrent is one that was read. All files of which the part has something are opened first. A file that can't be opened ends it; a read that fails
 /// later does not: the lines tell it.
 pub fn check_part<R: Files + AllocGlobal + Clone + Drop, W: Write>(
     rt: &R,
@@ -34,7 +35,7 @@ pub fn check_part<R: Files + AllocGlobal + Clone + Drop, W: Write>(
     part: Part,
     writer: &mut W,
 ) -> Result<(), Fault>
-    requires { (layer_at : ℕ → List ℕ → List ℕ) × GoByRoots layer_at torrent.now.files }
+    requires { (is_info : Bool) × HasText is_info torrent.now }
     ensures report { OnOk result ((runs : List BlockRun) × IsPartReport torrent.now part runs
         × Appends (W.contents writer.old) (W.contents writer.new) (runs_text runs)) }
     ensures fault { IfErr result (λ fault. (fault ≡ device) ⊎ (fault ≡ out_of_memory)) }

@@ -64,13 +64,13 @@ pub(crate) fn write_report<W: Write>(
         complete: true,
         faulty: false,
     };
-    for (file, finding) in files.iter().zip(findings) {
+    for number in 0..files.len() {
         let found = FileFinding {
-            file,
-            finding: *finding,
+            file: &files[number],
+            finding: findings[number],
         };
         write_line(alloc, &found, writer)?;
-        summary = summary.with(*finding);
+        summary = summary.with(found.finding);
     }
     print(writer, last_words(summary.complete))?;
     Ok(summary)

@@ -22,8 +22,8 @@ pub(crate) fn load_text<R: Files + AllocGlobal, P: Watch>(
     watch: &P,
     source: Source<'_>,
 ) -> Result<Loaded, Fault>
-    ensures torrent { IfOk result (λ loaded. HasText source.is_info loaded.torrent) }
-    ensures fault { IfErr result (IsLoadFault source.is_info) }
+    ensures torrent { IfOk result (λ loaded. HasText source.entry.is_info loaded.torrent) }
+    ensures fault { IfErr result (IsLoadFault source.entry.is_info) }
 {
     let alloc = rt.alloc();
     let opened = fs::open(rt, source.path).map_err(|_| Fault::Device);

@@ -1,8 +1,8 @@
 //! Hash trees that files of one root and length share in a part.
-ghost use Rattle.std.specs.Prelude.{◌≡◌, ◌⊎◌, ◌≤◌, ◌↔◌, [], ◌∷◌, ℕ, List, Option, map, IfOk, IfErr, IsTrue, OnOk};
+ghost use Rattle.std.specs.Prelude.{◌≡◌, ◌⊎◌, ◌≤◌, ◌↔◌, [], ℕ, List, Option, map, IfOk, IfErr, IsTrue, OnOk};
 ghost use Rattle.std.specs.Io.KnownBytes.{Appends};
 ghost use Rattle.bt_tree.specs.Blocks.{IsFileLength, block_count};
-ghost use Rattle.bt_meta.specs.Files.{File, file_of};
+ghost use Rattle.bt_meta.specs.Files.{file_of};
 ghost use Rattle.bt_check.specs.Check.{CheckedFile};
 ghost use Rattle.bt_check.specs.CheckSteps.{HoldsLeaves};
 ghost use Rattle.bt_check.specs.EntryCheck.{IsCheckable};
@@ -10,10 +10,8 @@ ghost use Rattle.bt_check.specs.Fault.{device, out_of_memory};
 ghost use Rattle.bt_check.specs.Finding.{known_layer, no_leaves};
 ghost use Rattle.bt_check.specs.TreeSteps.{HasTree, TakesTree, LeavesKept, LetsGo, IsLast};
 ghost use Rattle.bt_parts.specs.Line.{run_line};
-ghost use Rattle.bt_parts.specs.declared.run.Run.{Run as BlockRun};
-ghost use Rattle.bt_jobs.specs.Share.{runs_text};
-ghost use Rattle.bt_jobs.specs.Trees.{AreRunsOf, GoByRoots, IsPartFinding, IsReadyPart, file_in_part, part_at};
-ghost use Rattle.bt_jobs.specs.TreesSteps.{ChecksBlocks, ChecksPart, IsMeasured, KeepsParts, KnowsOwn, TellsAbsent, TellsLength, no_blocks, shared_of};
+ghost use Rattle.bt_jobs.specs.Trees.{IsReadyPart, file_in_part, part_at};
+ghost use Rattle.bt_jobs.specs.TreesSteps.{ChecksBlocks, ChecksNext, ChecksPart, IsMeasured, IsNextPart, KeepsParts, KnowsOwn, TellsAbsent, TellsLength, no_blocks, shared_of};
 
 use crate::plan::key_of;
 use crate::share::{check_share, tell};
@@ -84,17 +82,9 @@ impl PartTrees {
         writer: &mut W,
     ) -> Result<(), Fault>
         requires ready { IsReadyPart size.layer opened.part }
-        requires trees { (layer_at : ℕ → List ℕ → List ℕ) × (before : List CheckedFile) × (rest : List File)
-            × KeepsParts size.layer layer_at before (file_in_part opened.part ∷ rest) self.old
-            × GoByRoots layer_at (file_in_part opened.part ∷ []) }
-        ensures told { OnOk result ((layer_at : ℕ → List ℕ → List ℕ) (before : List CheckedFile) (rest : List File)
-            → KeepsParts size.layer layer_at before (file_in_part opened.part ∷ rest) self.old
-            → GoByRoots layer_at (file_in_part opened.part ∷ [])
-            → (runs : List BlockRun) × (after : List CheckedFile)
-            × AreRunsOf opened.part.number (block_count (file_in_part opened.part).length) opened.part.share runs
-            × IsPartFinding size.layer before (file_in_part opened.part) opened.part.share runs after
-            × KeepsParts size.layer layer_at after rest self.new
-            × Appends (W.contents writer.old) (W.contents writer.new) (runs_text runs)) }
+        requires trees { IsNextPart size.layer opened.part self.old }
+        ensures told { OnOk result (ChecksNext size.layer opened.entry.part self.old self.new
+            (W.contents writer.old) (W.contents writer.new)) }
         ensures fault { IfErr result (λ fault. (fault ≡ device) ⊎ (fault ≡ out_of_memory)) }
     {
         let PartFile { part, disk } = opened;
@@ -137,7 +127,7 @@ fn check_file<D: Disk + Drop, W: Write>(
     requires ready { IsReadyPart size.layer part }
     requires tree { (before : List CheckedFile) × HasTree size.layer before (file_in_part part) kept.old
         × KnowsOwn size.layer before (file_in_part part) }
-    ensures told { OnOk result (ChecksPart size.layer part kept.old kept.new
+    ensures told { OnOk result (ChecksPart size.layer part.entry kept.old kept.new
         (W.contents writer.old) (W.contents writer.new)) }
     ensures fault { IfErr result (λ fault. (fault ≡ device) ⊎ (fault ≡ out_of_memory)) }
 {
@@ -159,7 +149,7 @@ fn check_present<D: Disk + Drop, W: Write>(
     requires ready { IsReadyPart size.layer part }
     requires tree { (before : List CheckedFile) × HasTree size.layer before (file_in_part part) kept.old
         × KnowsOwn size.layer before (file_in_part part) }
-    ensures told { OnOk result (ChecksPart size.layer part kept.old kept.new
+    ensures told { OnOk result (ChecksPart size.layer part.entry kept.old kept.new
         (W.contents writer.old) (W.contents writer.new)) }
     ensures fault { IfErr result (λ fault. (fault ≡ device) ⊎ (fault ≡ out_of_memory)) }
 {
@@ -175,7 +165,7 @@ fn tell_length<D: Disk, W: Write>(
     disk: &mut D,
     writer: &mut W,
 ) -> Result<(), Fault>
-    ensures told { OnOk result (TellsLength part (W.contents writer.old) (W.contents writer.new)) }
+    ensures told { OnOk result (TellsLength part.entry (W.contents writer.old) (W.contents writer.new)) }
     ensures fault { IfErr result (λ fault. (fault ≡ device) ⊎ (fault ≡ out_of_memory)) }
 {
     if !part.share.is_first {
@@ -197,7 +187,7 @@ fn check_blocks<D: Disk + Drop, W: Write>(
     requires ready { IsReadyPart size.layer part }
     requires tree { (before : List CheckedFile) × HasTree size.layer before (file_in_part part) kept.old
         × KnowsOwn size.layer before (file_in_part part) }
-    ensures told { OnOk result (ChecksBlocks size.layer part kept.old kept.new
+    ensures told { OnOk result (ChecksBlocks size.layer part.entry kept.old kept.new
         (W.contents writer.old) (W.contents writer.new)) }
     ensures fault { IfErr result (λ fault. (fault ≡ device) ⊎ (fault ≡ out_of_memory)) }
 {
@@ -222,7 +212,7 @@ fn check_known<D: Disk + Drop, W: Write>(
     requires lawful { IsFileLength geometry }
     requires tree { (before : List CheckedFile) × HasTree size.layer before (file_in_part part) kept.old
         × KnowsOwn size.layer before (file_in_part part) }
-    ensures told { OnOk result (ChecksBlocks size.layer part kept.old kept.new
+    ensures told { OnOk result (ChecksBlocks size.layer part.entry kept.old kept.new
         (W.contents writer.old) (W.contents writer.new)) }
     ensures fault { IfErr result (λ fault. (fault ≡ device) ⊎ (fault ≡ out_of_memory)) }
 {
@@ -239,7 +229,7 @@ fn check_known<D: Disk + Drop, W: Write>(
 fn tell_absent<W: Write>(alloc: Global, part: FilePart<'_>, writer: &mut W) -> Result<(), Fault>
     requires forward { part.share.from ≤ part.share.to }
     requires inside { part.share.to ≤ block_count part.file.now.length }
-    ensures told { OnOk result (TellsAbsent part (W.contents writer.old) (W.contents writer.new)) }
+    ensures told { OnOk result (TellsAbsent part.entry (W.contents writer.old) (W.contents writer.new)) }
     ensures fault { IfErr result (λ fault. (fault ≡ device) ⊎ (fault ≡ out_of_memory)) }
 {
     let share = part.share;
@@ -267,7 +257,7 @@ fn tell_none<W: Write>(
     writer: &mut W,
 ) -> Result<(), Fault>
     ensures told { OnOk result (Appends (W.contents writer.old) (W.contents writer.new)
-        (run_line (no_blocks part met))) }
+        (run_line (no_blocks part.entry met))) }
     ensures fault { IfErr result (λ fault. (fault ≡ device) ⊎ (fault ≡ out_of_memory)) }
 {
     let from = part.share.from;

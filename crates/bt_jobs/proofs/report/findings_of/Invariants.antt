@@ -6,4 +6,4 @@ use Rattle.bt_jobs.proofs.report.findings_of.Given as goal
 
 abbrev pub invariant-loop-number : goal.invariant-loop-number
 invariant-loop-number l =
-    JoinsRest l.number-index (map file_of l.files) (drop l.number-index (map file_of l.files)) l.runs l.rest l.findings.items
+    JoinsRest l.number (map file_of l.files) (drop l.number (map file_of l.files)) l.runs l.rest l.findings.items
