@@ -126,16 +126,17 @@ others_after layer before file answers old new own others other had = elim (case
   | inr apart ↦ other_kept layer before file other answers old new apart (others other apart) had
 ]
 
+-- what a length, a root and a layer tell of a tree
+abbrev known_by : ℕ → ℕ → List ℕ → List ℕ → KnownLayer
+known_by layer n root own =
+    if length own == 0 then record { layer = height_of (block_count n); digests = root ∷ [] } else record { layer = layer; digests = digests_in own }
+
 -- twins of one layer know the same of their tree
 known_same : (layer : ℕ) (file other : File) → file.length ≡ other.length → file.root ≡ other.root → file.layer ≡ other.layer
     → known_layer layer file ≡ known_layer layer other
 known_same layer file other long root own =
-    ap (λ l. if length l == 0 then record { layer = height_of (block_count file.length); digests = file.root ∷ [] }
-    else record { layer = layer; digests = digests_in l }) own
-    ∙ ap (λ m. if length other.layer == 0 then record { layer = height_of (block_count m); digests = file.root ∷ [] }
-    else record { layer = layer; digests = digests_in other.layer }) long
-    ∙ ap (λ r. if length other.layer == 0 then record { layer = height_of (block_count other.length); digests = r ∷ [] }
-    else record { layer = layer; digests = digests_in other.layer }) root
+    ap (λ l. known_by layer file.length file.root l) own ∙ ap (λ m. known_by layer m file.root other.layer) long
+    ∙ ap (λ r. known_by layer other.length r other.layer) root
 
 pub knows_own : (layer : ℕ) (layer_at : ℕ → List ℕ → List ℕ) (file : File) (before : List CheckedFile)
     → All (λ c. c.file.layer ≡ layer_at c.file.length c.file.root) before → file.layer ≡ layer_at file.length file.root → KnowsOwn layer before file
@@ -203,19 +204,19 @@ either false b P Q p q = (λ t. inr (q.0 t), λ h. elim h [ inl x ↦ absurd (tr
 -- the length was told, and then the blocks
 module _ (layer : ℕ) (part : FilePart) (before : List CheckedFile) (len : Option ℕ) (reads : List BlockRead)
     (fits : part.share.from ≤ block_count (file_in_part part).length) where
-  share : Share
+  abbrev share : Share
   share = part.share
 
-  file : File
+  abbrev file : File
   file = file_in_part part
 
-  answers : Answers
+  abbrev answers : Answers
   answers = answers_of file.length share len reads
 
-  is_right : ℕ → Bool
+  abbrev is_right : ℕ → Bool
   is_right = is_right_block (is_node_read answers.reads file.length) (layer_before layer before file) (leaves_before layer before file)
 
-  IsChecked : List Run → Type 0
+  abbrev IsChecked : List Run → Type 0
   IsChecked runs =
       IsShareCheck file.length (layer_before layer before file) (leaves_before layer before file) part.number share.from share.to reads runs
 

@@ -166,6 +166,9 @@ module _ (layer total : ℕ) (file : File) (cut : Cut) (is : IsCutOf layer total
     | inr le ↦ inr (omega (arith, le))
   ]
 
+  abbrev units_before : ℕ
+  units_before = div_ceil (edge - cut.place) (cut.unit * full_block_length)
+
   -- so it is where a piece begins, or the file's end
   pub cut_edge : IsPieceEdge (known_layer layer file) file.length (cut_at cut edge)
   cut_edge = elim cut_whole [
@@ -179,9 +182,6 @@ module _ (layer total : ℕ) (file : File) (cut : Cut) (is : IsCutOf layer total
     ]
   ]
     where
-      units_before : ℕ
-      units_before = div_ceil (edge - cut.place) (cut.unit * full_block_length)
-
       no_unit : cut_at cut edge ≡ 0 → cut_at cut edge ≡ cut_at cut edge / 2 ^ (known_layer layer file).layer * 2 ^ (known_layer layer file).layer
       no_unit e = subst (λ m. m ≡ m / 2 ^ (known_layer layer file).layer * 2 ^ (known_layer layer file).layer) (sym e) (zero_is (known_layer layer file).layer)
 
@@ -199,8 +199,8 @@ module _ (layer total : ℕ) (file : File) (cut : Cut) (is : IsCutOf layer total
       unit_edge layered units =
           let unit : cut.unit ≡ 2 ^ max 3 layer =
           is.unit ∙ ap (λ b. if b then max 1 (block_count file.length) else 2 ^ max 3 layer) layered in
-          let own : (known_layer layer file).layer ≡ layer = ap (λ (k : KnownLayer). k.layer)
-          (ap (λ b. if b then record { layer = height_of (block_count file.length); digests = file.root ∷ [] } else record { layer = layer; digests = digests_in file.layer }) layered) in
+          let known : known_layer layer file ≡ record { layer = layer; digests = digests_in file.layer } = rw layered refl in
+          let own : (known_layer layer file).layer ≡ layer = ap (λ (k : KnownLayer). k.layer) known in
           let parts : max 3 layer ≡ (max 3 layer - layer) + layer = omega arith in
           let powers : 2 ^ max 3 layer ≡ 2 ^ (max 3 layer - layer) * 2 ^ layer = ap (λ m. 2 ^ m) parts ∙ pow-add 2 (max 3 layer - layer) layer in
           let regroup : units_before * (2 ^ (max 3 layer - layer) * 2 ^ layer) ≡ units_before * 2 ^ (max 3 layer - layer) * 2 ^ layer = grind arith in

@@ -75,7 +75,8 @@ module _ (n : ℕ) (known : KnownLayer) (leaves : ℕ → Option (List ℕ)) (at
         ap (λ m. count_by p (range_with_len at m)) (sym size)
         ∙ sym (ap (count_by p) (ranges_joined at (sofar.next - at) (one.next - sofar.next) sofar.next (omega (arith, g.onward))))
         ∙ sum_by-append (λ i. cond (p i) 1 0) (range_with_len at (sofar.next - at)) (range_with_len sofar.next (one.next - sofar.next)) in
-        let all : sofar.marked + one.marked ≡ count_by p (range_with_len at (one.next - at)) = omega (arith, both, first, done.marks) in
+        let all : sofar.marked + one.marked ≡ count_by p (range_with_len at (one.next - at)) =
+        ap (λ m. m + one.marked) (sym first) ∙ ap (λ m. count_by p (range_with_len at (sofar.next - at)) + m) done.marks ∙ sym both in
         record {
           onward = omega (arith, g.onward, done.later);
           within = done.inside;
@@ -201,7 +202,7 @@ module _ {D : Type 0} (history : D → History) (honest : D → Type 0) (faults 
     -- the groups that come next
     module _ (reads : List BlockRead) (groups : AdoptedGroups) (grown : Facts) (after : StoreView D)
         (step : AreAdopted history honest faults sha256 k run.to store reads groups grown after) where
-      before : List BlockRead
+      abbrev before : List BlockRead
       before = reads_behind from s.reads
 
       size : length before ≡ run.to
@@ -212,7 +213,7 @@ module _ {D : Type 0} (history : D → History) (honest : D → Type 0) (faults 
       add : IsGrown n known leaves run.to before reads groups grown
       add = grown_turn n known leaves run.to before size s.within k s.learned store.states reads groups grown after.states step.adopts
 
-      right : ℕ → Bool
+      abbrev right : ℕ → Bool
       right = is_right_block (is_node_read (before ++ reads) n) known leaves
 
       own_count : run.marked + groups.marked ≡ count_by right (range_with_len run.from (groups.next - run.from))
@@ -224,7 +225,7 @@ module _ {D : Type 0} (history : D → History) (honest : D → Type 0) (faults 
           let both = ap (λ m. count_by right (range_with_len run.from m)) (sym whole)
           ∙ sym (ap (count_by right) (ranges_joined run.from (run.to - run.from) (groups.next - run.to) run.to (omega (arith, s.forward))))
           ∙ sum_by-append (λ i. cond (right i) 1 0) (range_with_len run.from (run.to - run.from)) (range_with_len run.to (groups.next - run.to)) in
-          omega (arith, both, first, add.marks)
+          ap (λ m. m + groups.marked) (sym first) ∙ ap (λ m. count_by right (range_with_len run.from (run.to - run.from)) + m) add.marks ∙ sym both
 
       pub sum_is_few : run.marked + groups.marked ≤ block_count n
       sum_is_few = omega (arith, own_count, count_few right run.from (groups.next - run.from), add.within)

@@ -99,10 +99,10 @@ begun_learned n known leaves from k holds edge inside = record {
 
 module _ (n : ℕ) (known : KnownLayer) (leaves : ℕ → Option (List ℕ)) (from to : ℕ) (k : Facts) (reads : List BlockRead)
     (learned : IsLearned n known leaves (reads_behind from reads) to k) (begins : length (reads_behind from reads) ≡ to) (inside : to ≤ block_count n) where
-  before : List BlockRead
+  abbrev before : List BlockRead
   before = reads_behind from reads
 
-  rest : List BlockRead
+  abbrev rest : List BlockRead
   rest = unread to (block_count n - to)
 
   -- at the file's end nothing is left
