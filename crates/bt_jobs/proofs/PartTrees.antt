@@ -185,7 +185,7 @@ nothing_checked layer part kept old forward none_left before has own =
         own = All-nil (λ (r : Run). r.file ≡ part.number);
         chain = subst (IsChain (block_count file.length) share.from []) same (none share.from);
         counts = All-nil (IsCountOf (is_right_block (is_node_read (share_reads (block_count file.length) share.from share.to []) file.length)
-        (layer_before layer before file) (leaves_before layer before file)));
+            (layer_before layer before file) (leaves_before layer before file)));
         faults = (λ t. absurd (true≢false (sym t)), λ some. absurd (omega (arith, some)));
         no_length = refl;
       },

@@ -221,8 +221,12 @@ last_begins n = omega arith
 one_ready : (layer total : ℕ) (part : Part) (file : File) (cut : Cut) (share : Share) → IsCutOf layer total file cut → IsShareOf total part cut share
     → IsReadyShare layer file share
 one_ready layer total part file cut share is of = record {
-  forward = omega (arith, of.from, of.to,
-      (shares_whole cut total part.count (omega (arith, part.inside)) (omega (arith, is.inside, is.blocks, last_begins file.length))).forward part.index);
+  forward = omega (
+    arith,
+    of.from,
+    of.to,
+    (shares_whole cut total part.count (omega (arith, part.inside)) (omega (arith, is.inside, is.blocks, last_begins file.length))).forward part.index,
+  );
   inside = omega (arith, of.to, cut_is_few layer total file cut is (edge_of total part.count (part.index + 1)));
   edge = subst (IsPieceEdge (known_layer layer file) file.length) (sym of.from) (cut_edge layer total file cut is (edge_of total part.count part.index));
 }

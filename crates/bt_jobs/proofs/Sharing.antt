@@ -174,27 +174,27 @@ module _ {D : Type 0} (history : D → History) (honest : D → Type 0) (faults 
       → IsSharing history honest faults n known leaves disk file from run k store old old
   sharing_begun run k store old holds edge inside same on is =
       subst (λ r. IsSharing history honest faults n known leaves disk file from r k store old old) (sym is) (
-        let none_left : from - from ≡ 0 = omega arith in
-        record {
-          reads = [];
-          runs = [];
-          calls = subst (HasCalls history honest faults disk []) (sym on) (has_none history honest faults disk);
-          each = ap (range_with_len from) (sym none_left);
-          own = All-nil (λ (r : Run). r.file ≡ file);
-          mine = refl;
-          chain = none from;
-          counts = All-nil (IsCountOf (is_right_block (is_node_read (reads_behind from []) n) known leaves));
-          count = ap (λ m. count_by (is_right_block (is_node_read (reads_behind from []) n) known leaves) (range_with_len from m)) (sym none_left);
-          begun = omega arith;
-          forward = omega arith;
-          within = inside;
-          fault = (λ t. absurd (true≢false (sym t)), λ some. absurd (omega (arith, some)));
-          no_length = refl;
-          not_longer = refl;
-          same_file = same;
-          learned = begun_learned n known leaves from k holds edge inside;
-          lines = Appends-nil old;
-        }
+      let none_left : from - from ≡ 0 = omega arith in
+      record {
+        reads = [];
+        runs = [];
+        calls = subst (HasCalls history honest faults disk []) (sym on) (has_none history honest faults disk);
+        each = ap (range_with_len from) (sym none_left);
+        own = All-nil (λ (r : Run). r.file ≡ file);
+        mine = refl;
+        chain = none from;
+        counts = All-nil (IsCountOf (is_right_block (is_node_read (reads_behind from []) n) known leaves));
+        count = ap (λ m. count_by (is_right_block (is_node_read (reads_behind from []) n) known leaves) (range_with_len from m)) (sym none_left);
+        begun = omega arith;
+        forward = omega arith;
+        within = inside;
+        fault = (λ t. absurd (true≢false (sym t)), λ some. absurd (omega (arith, some)));
+        no_length = refl;
+        not_longer = refl;
+        same_file = same;
+        learned = begun_learned n known leaves from k holds edge inside;
+        lines = Appends-nil old;
+      }
       )
 
   module _ (run : Run) (k : Facts) (store : StoreView D) (old new : Option (List ℕ))
@@ -325,33 +325,33 @@ module _ {D : Type 0} (history : D → History) (honest : D → Type 0) (faults 
         })
     sharing_told end later next (inl told) =
         subst (λ r. IsSharing history honest faults n known leaves disk file from r k store old later) (sym told.1) (
-          let few : run.marked ≤ run.to - run.from =
-          omega (arith, s.count, count_few (is_right_block (is_node_read (reads_behind from s.reads) n) known leaves) run.from (run.to - run.from)) in
-          let fits : IsWithin (block_count n) run = record { forward = s.forward; inside = s.within; few = few } in
-          let none_left : run.to - run.to ≡ 0 = omega arith in
-          let one : flat_map run_line (run ∷ []) ≡ run_line run = append-nil (run_line run) in
-          record {
-            reads = s.reads;
-            runs = s.runs ++ run ∷ [];
-            calls = s.calls;
-            each = s.each;
-            own = All-push (λ (r : Run). r.file ≡ file) s.runs run s.own s.mine;
-            mine = s.mine;
-            chain = chain_more (block_count n) from run.from s.runs run s.chain refl fits;
-            counts = All-push (IsCountOf (is_right_block (is_node_read (reads_behind from s.reads) n) known leaves)) s.runs run s.counts s.count;
-            count = ap (λ m. count_by (is_right_block (is_node_read (reads_behind from s.reads) n) known leaves) (range_with_len run.to m)) (sym none_left);
-            begun = omega (arith, s.begun, s.forward);
-            forward = omega arith;
-            within = s.within;
-            fault = subst (λ b. IsTrue b ↔ (0 < fault_count s.reads))
-                (sym (any_more (λ r. is_fault r.met) s.runs run) ∙ sym (or_false (list_any (λ r. is_fault r.met) (s.runs ++ run ∷ [])))) s.fault;
-            no_length = any_more (λ r. is_longer r.met) s.runs run ∙ ap (λ b. b || is_longer run.met) s.no_length ∙ s.not_longer;
-            not_longer = refl;
-            same_file = s.same_file;
-            learned = s.learned;
-            lines = subst (Appends old later) (ap (λ l. runs_text s.runs ++ l) (sym one) ∙ sym (flat_map-append run_line s.runs (run ∷ [])))
-                (Appends-trans old new later (runs_text s.runs) (run_line run) s.lines told.0);
-          }
+        let few : run.marked ≤ run.to - run.from =
+        omega (arith, s.count, count_few (is_right_block (is_node_read (reads_behind from s.reads) n) known leaves) run.from (run.to - run.from)) in
+        let fits : IsWithin (block_count n) run = record { forward = s.forward; inside = s.within; few = few } in
+        let none_left : run.to - run.to ≡ 0 = omega arith in
+        let one : flat_map run_line (run ∷ []) ≡ run_line run = append-nil (run_line run) in
+        record {
+          reads = s.reads;
+          runs = s.runs ++ run ∷ [];
+          calls = s.calls;
+          each = s.each;
+          own = All-push (λ (r : Run). r.file ≡ file) s.runs run s.own s.mine;
+          mine = s.mine;
+          chain = chain_more (block_count n) from run.from s.runs run s.chain refl fits;
+          counts = All-push (IsCountOf (is_right_block (is_node_read (reads_behind from s.reads) n) known leaves)) s.runs run s.counts s.count;
+          count = ap (λ m. count_by (is_right_block (is_node_read (reads_behind from s.reads) n) known leaves) (range_with_len run.to m)) (sym none_left);
+          begun = omega (arith, s.begun, s.forward);
+          forward = omega arith;
+          within = s.within;
+          fault = subst (λ b. IsTrue b ↔ (0 < fault_count s.reads))
+              (sym (any_more (λ r. is_fault r.met) s.runs run) ∙ sym (or_false (list_any (λ r. is_fault r.met) (s.runs ++ run ∷ [])))) s.fault;
+          no_length = any_more (λ r. is_longer r.met) s.runs run ∙ ap (λ b. b || is_longer run.met) s.no_length ∙ s.not_longer;
+          not_longer = refl;
+          same_file = s.same_file;
+          learned = s.learned;
+          lines = subst (Appends old later) (ap (λ l. runs_text s.runs ++ l) (sym one) ∙ sym (flat_map-append run_line s.runs (run ∷ [])))
+              (Appends-trans old new later (runs_text s.runs) (run_line run) s.lines told.0);
+        }
         )
 
     -- the share was read and told

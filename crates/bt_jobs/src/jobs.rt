@@ -13,7 +13,9 @@ use crate::part::open_data_file;
 use crate::report::{findings_of, tell_faults, write_report};
 use crate::source::{Loaded, load_text};
 use crate::told::Told;
-use bt_check::{Fault, OPEN_FILES, Source, Summary, check_torrent, data_path, fault_name, is_device_fault};
+use bt_check::{
+    Fault, OPEN_FILES, Source, Summary, check_torrent, data_path, fault_name, is_device_fault,
+};
 use bt_disk::HandlePool;
 use bt_meta::FileEntry;
 use bt_parts::{Met, Run};
@@ -47,12 +49,7 @@ pub struct Job<'a> {
 /// All files are looked at first, and one that can't be opened ends it before anything is started. A part that can't
 /// be started, that ends without having done what it was to, or tells what is no part of a check, is a device that
 /// failed, and nothing is written then.
-pub fn check_by_parts<
-    R: Files + AllocGlobal + Clone + Drop,
-    S: Processes,
-    P: Watch,
-    W: Write,
->(
+pub fn check_by_parts<R: Files + AllocGlobal + Clone + Drop, S: Processes, P: Watch, W: Write>(
     rt: &R,
     system: &S,
     watch: &P,

@@ -60,11 +60,12 @@ fn open_part<'a, R: Files + AllocGlobal + Clone + Drop>(
 ) -> Result<Vec<PartFile<'a, PooledDisk<R>>>, Fault>
     requires each { length shares.now ≡ length entries.now }
     requires few { length entries.now < 2 ^ 32 }
-    ensures files { IfOk result (λ files. map file_in_part (map part_at files.items) ≡ map file_of entries.now) }
+    ensures files { IfOk result
+        (λ files. map file_in_part (map part_at files.items) ≡ map file_of entries.now) }
     ensures numbers { IfOk result
-        (λ files. map (λ part. part.number) (map part_at files.items) ≡ range_with_len 0 (length entries.now)) }
+        (λ files. map (λ p. p.number) (map part_at files.items) ≡ range_with_len 0 (length entries.now)) }
     ensures shares { IfOk result
-        (λ files. map (λ part. part.share) (map part_at files.items) ≡ shares.now) }
+        (λ files. map (λ p. p.share) (map part_at files.items) ≡ shares.now) }
     ensures fault { IfErr result (λ fault. (fault ≡ device) ⊎ (fault ≡ out_of_memory)) }
 {
     let mut pool = HandlePool::new(rt.alloc(), rt.clone()?, OPEN_FILES)?;

@@ -54,7 +54,8 @@ pub(crate) fn write_report<W: Write>(
     writer: &mut W,
 ) -> Result<Summary, Fault>
     requires { length findings.now ≡ length files.now }
-    ensures report { IfOk result (λ summary. (found : List Found) × (map file_in found ≡ map file_of files.now)
+    ensures report { IfOk result (λ summary. (found : List Found)
+        × (map file_in found ≡ map file_of files.now)
         × (map (λ f. f.finding) found ≡ findings.now)
         × (summary.complete ≡ is_complete_report found) × (summary.faulty ≡ is_faulty_report found)
         × Appends (W.contents writer.old) (W.contents writer.new) (report_text found)) }

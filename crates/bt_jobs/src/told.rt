@@ -63,7 +63,8 @@ impl Told {
 
     /// The runs, where nothing of a line is left.
     pub(crate) fn into_runs(self) -> Option<Vec<Run>>
-        ensures { IfSome result (λ runs. (text : List ℕ) → IsToldBy text self → IsWhollyToldBy text runs.items) }
+        ensures { IfSome result
+            (λ runs. (text : List ℕ) → IsToldBy text self → IsWhollyToldBy text runs.items) }
     {
         let Told { runs, rest } = self;
         if !rest.is_empty() {

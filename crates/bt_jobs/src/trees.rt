@@ -53,10 +53,7 @@ pub(crate) struct PartTrees {
 
 impl PartTrees {
     /// Those of some files of which none is checked yet.
-    pub(crate) fn new<D>(
-        alloc: Global,
-        files: &[PartFile<'_, D>],
-    ) -> Result<PartTrees, AllocError>
+    pub(crate) fn new<D>(alloc: Global, files: &[PartFile<'_, D>]) -> Result<PartTrees, AllocError>
         ensures { IfOk result (λ trees. (layer : ℕ) (layer_at : ℕ → List ℕ → List ℕ)
             → KeepsParts layer layer_at [] (map file_in_part (map part_at files.now)) trees) }
     {

@@ -24,9 +24,7 @@ pub enum Task<'a> {
     /// Write the torrent of a folder.
     Make(MakeTask<'a>),
     /// Print what a torrent says.
-    Show {
-        torrent: Source<'a>,
-    },
+    Show { torrent: Source<'a> },
     /// Check the data files in a folder against a torrent.
     Check(CheckTask<'a>),
     /// Serve the data files in a folder to peers.
