@@ -1,12 +1,12 @@
 -- Trees that are kept for later files of the same root and length in a part, and what is told of a file.
-use Rattle.std.proofs.Common.{◌≡◌, ◌≢◌, ℕ, zero, suc, ◌+◌, ◌-◌, ◌<◌, ◌≤◌, ◌↔◌, ◌⊎◌, ◌&&◌, ◌||◌, ◌==◌, Bool, true, false, true≢false, cond, List, [], ◌∷◌, ◌++◌, length, map, get_or, inl, inr, Option, None, Some, refl, sym, ap, ◌∙◌, subst, arith, IsTrue, IsSomeAnd, if◌then◌else◌}
+use Rattle.std.proofs.Common.{◌≡◌, ◌≢◌, ℕ, zero, suc, ◌+◌, ◌-◌, ◌<◌, ◌≤◌, ◌↔◌, ◌⊎◌, ◌&&◌, ◌||◌, ◌==◌, Bool, true, false, true≢false, cond, List, [], ◌∷◌, ◌++◌, length, map, get_or, inl, inr, Option, None, Some, refl, sym, ap, ◌∙◌, subst, arith, IsTrue, IsSomeAnd, append-nil, if◌then◌else◌}
 use Rattle.std.specs.Prelude.{nat_eq, slice_get}
-use Rattle.std.specs.Io.KnownBytes.{Appends}
+use Rattle.std.specs.Io.KnownBytes.{Appends, Keeps}
 use Rattle.std.specs.Cmp.Lexicographic.{pointwise}
 use Rattle.std.specs.List.{All, count_by, filter, flat_map, list_any, range_with_len}
 use Rattle.std.specs.Option.{option_or}
 use Rattle.std.specs.BTreeMap.{get}
-use Rattle.std.proofs.KnownBytes.{Appends-nil, Appends-trans}
+use Rattle.std.proofs.KnownBytes.{Appends-kept, Appends-nil, Appends-trans}
 use Rattle.std.proofs.lemmas.Bool.{eqb-true}
 use Rattle.std.proofs.lemmas.Bool.Decides.{eqb_tells}
 use Rattle.std.proofs.lemmas.Grind.{flat_map-append}
@@ -18,6 +18,7 @@ use Rattle.bt_disk.specs.History.{History}
 use Rattle.bt_disk.specs.Calls.{HasCalls}
 use Rattle.bt_meta.specs.Files.{File}
 use Rattle.bt_sparse.specs.SparseTree.{Facts}
+use Rattle.bt_sparse.proofs.Values.{none_some}
 use Rattle.bt_store.specs.BlockReads.{BlockRead, block_of, call_of, fault_count}
 use Rattle.bt_check.specs.Check.{CheckedFile, are_twins, is_twin, twins_layer, twins_leaf, layer_before, leaves_before}
 use Rattle.bt_check.specs.CheckSteps.{HoldsLeaves, leaves_after}
@@ -32,10 +33,11 @@ use Rattle.bt_parts.specs.Line.{run_line}
 use Rattle.bt_parts.specs.Run.{IsWithin, is_fault, is_longer}
 use Rattle.bt_parts.specs.declared.cut.Share.{Share}
 use Rattle.bt_parts.specs.declared.run.Met.{Met}
+use Rattle.bt_parts.specs.declared.run.Met.TheVariants.{Nothing, Absent, Longer, Unmeasured}
 use Rattle.bt_parts.specs.declared.run.Run.{Run}
 use Rattle.bt_jobs.specs.Share.{ChecksShare, IsPieceEdge, IsReadyAt, IsShareCheck, runs_text, share_reads}
 use Rattle.bt_jobs.specs.Trees.{AreRunsOf, GoByRoots, IsPartFinding, absent, unread, read, IsShareFinding, file_in_part}
-use Rattle.bt_jobs.specs.TreesSteps.{AreLengthRuns, asked, unasked, ChecksBlocks, ChecksPart, IsMeasured, KeepsOthers, KeepsParts, KnowsOwn, TellsAbsent, TellsLength, answers_of, no_blocks, shared_of}
+use Rattle.bt_jobs.specs.TreesSteps.{AreLengthRuns, asked, unasked, ChecksBlocks, ChecksPart, IsMeasured, KeepsOthers, KeepsParts, KnowsOwn, TellsAbsent, TellsFirst, TellsLength, TellsMissing, answers_of, missing_run, no_blocks, shared_of}
 use Rattle.bt_jobs.specs.declared.trees.FilePart.{FilePart}
 use Rattle.bt_jobs.specs.declared.trees.PartTrees.{PartTrees}
 
@@ -346,3 +348,78 @@ next_part layer layer_at before after file share runs rest old mid new keeps roo
   kept = next_trees layer before after file rest (shared_of old) (shared_of mid) (shared_of new) keeps.kept last_is left_is others goes;
   by_root = roots_after layer layer_at before after file share runs found (All-head (λ (f : File). f.layer ≡ layer_at f.length f.root) file [] roots) keeps.by_root;
 }
+
+-- ---- what is told of a length, and of no file
+
+pub unmeasured : (n : ℕ) → IsMeasured n None Unmeasured
+unmeasured n = record { longer = (λ t. absurd (true≢false (sym t)), λ none. absurd none); faulty = (λ _. refl, λ _. refl) }
+
+pub too_long : (n len : ℕ) → n < len → IsMeasured n (Some len) Longer
+too_long n len more = record { longer = (λ _. more, λ _. refl); faulty = (λ t. absurd (true≢false (sym t)), λ none. absurd (none_some len (sym none))) }
+
+pub not_long : (n len : ℕ) → len ≤ n → IsMeasured n (Some len) Nothing
+not_long n len few = record {
+  longer = (λ t. absurd (true≢false (sym t)), λ more. absurd (omega (arith, more, few)));
+  faulty = (λ t. absurd (true≢false (sym t)), λ none. absurd (none_some len (sym none)));
+}
+
+-- what is kept grows by nothing
+Keeps-appends : (old new : Option (List ℕ)) → Keeps old new → Appends old new []
+Keeps-appends None new keeps = tt
+Keeps-appends (Some x) None keeps = absurd keeps
+Keeps-appends (Some x) (Some y) keeps = keeps ∙ sym (append-nil x)
+
+pub absent_told : (part : FilePart) (old mid new : Option (List ℕ)) → part.share.from ≤ part.share.to → part.share.to ≤ block_count (file_in_part part).length
+    → TellsFirst part old mid → TellsMissing part mid new → TellsAbsent part old new
+absent_told part old mid new forward inside (inl first) (inl nothing) =
+    let run = no_blocks part Absent in (
+      run ∷ [],
+      record {
+        own = All-cons (λ (r : Run). r.file ≡ part.number) run [] refl (All-nil (λ (r : Run). r.file ≡ part.number));
+        chain = subst (IsChain (block_count (file_in_part part).length) part.share.from (run ∷ [])) nothing.0
+            (more part.share.from run [] part.share.from refl (record { forward = omega arith; inside = omega (arith, forward, inside); few = omega arith })
+            (none part.share.from));
+        told = λ _ e. cc;
+      },
+      All-cons (λ (r : Run). (r.marked ≡ 0) × (r.met ≡ Absent)) run [] (refl, refl) (All-nil (λ (r : Run). (r.marked ≡ 0) × (r.met ≡ Absent))),
+      Appends-kept old mid new (runs_text (run ∷ [])) (subst (Appends old mid) (sym (append-nil (run_line run))) first.1) nothing.1,
+    )
+absent_told part old mid new forward inside (inl first) (inr missing) =
+    let run = no_blocks part Absent in
+    let rest = missing_run part in
+    let few : 0 ≤ part.share.to - part.share.from = omega arith in (
+      run ∷ rest ∷ [],
+      record {
+        own = All-cons (λ (r : Run). r.file ≡ part.number) run (rest ∷ []) refl
+            (All-cons (λ (r : Run). r.file ≡ part.number) rest [] refl (All-nil (λ (r : Run). r.file ≡ part.number)));
+        chain = more part.share.from run (rest ∷ []) part.share.to refl
+            (record { forward = omega arith; inside = omega (arith, forward, inside); few = omega arith })
+            (more part.share.from rest [] part.share.to refl (record { forward = forward; inside = inside; few = few }) (none part.share.to));
+        told = λ _ e. cc;
+      },
+      All-cons (λ (r : Run). (r.marked ≡ 0) × (r.met ≡ Absent)) run (rest ∷ []) (refl, refl)
+          (All-cons (λ (r : Run). (r.marked ≡ 0) × (r.met ≡ Absent)) rest [] (refl, refl) (All-nil (λ (r : Run). (r.marked ≡ 0) × (r.met ≡ Absent)))),
+      Appends-trans old mid new (run_line run) (runs_text (rest ∷ [])) first.1 (subst (Appends mid new) (sym (append-nil (run_line rest))) missing),
+    )
+absent_told part old mid new forward inside (inr no) (inl nothing) = (
+  [],
+  record {
+    own = All-nil (λ (r : Run). r.file ≡ part.number);
+    chain = subst (IsChain (block_count (file_in_part part).length) part.share.from []) nothing.0 (none part.share.from);
+    told = λ is_first. absurd (no.0 is_first);
+  },
+  All-nil (λ (r : Run). (r.marked ≡ 0) × (r.met ≡ Absent)),
+  Appends-kept old mid new [] (Keeps-appends old mid no.1) nothing.1,
+)
+absent_told part old mid new forward inside (inr no) (inr missing) =
+    let rest = missing_run part in
+    let few : 0 ≤ part.share.to - part.share.from = omega arith in (
+      rest ∷ [],
+      record {
+        own = All-cons (λ (r : Run). r.file ≡ part.number) rest [] refl (All-nil (λ (r : Run). r.file ≡ part.number));
+        chain = more part.share.from rest [] part.share.to refl (record { forward = forward; inside = inside; few = few }) (none part.share.to);
+        told = λ is_first. absurd (no.0 is_first);
+      },
+      All-cons (λ (r : Run). (r.marked ≡ 0) × (r.met ≡ Absent)) rest [] (refl, refl) (All-nil (λ (r : Run). (r.marked ≡ 0) × (r.met ≡ Absent))),
+      Appends-trans old mid new [] (runs_text (rest ∷ [])) (Keeps-appends old mid no.1) (subst (Appends mid new) (sym (append-nil (run_line rest))) missing),
+    )

@@ -1,12 +1,14 @@
 -- Where files lie, and how they are shared.
-use Rattle.std.proofs.Common.{◌≡◌, ℕ, zero, suc, ◌+◌, ◌-◌, ◌*◌, ◌/◌, ◌^◌, ◌<◌, ◌≤◌, ◌⊎◌, ◌==◌, Bool, true, false, true≢false, cond, List, [], ◌∷◌, ◌++◌, length, map, take, get_or, min, inl, inr, Option, None, Some, refl, sym, ap, ◌∙◌, subst, arith, if◌then◌else◌}
+use Rattle.std.proofs.Common.{◌≡◌, ℕ, zero, suc, ◌+◌, ◌-◌, ◌*◌, ◌/◌, ◌^◌, ◌<◌, ◌≤◌, ◌⊎◌, ◌==◌, Bool, true, false, true≢false, cond, List, [], ◌∷◌, ◌++◌, length, map, take, take_all, get_or, min, inl, inr, Option, None, Some, refl, sym, ap, ◌∙◌, subst, arith, if◌then◌else◌}
 use Rattle.std.specs.Prelude.{max, slice_get}
 use Rattle.std.specs.List.{All, AllZip}
-use Rattle.std.specs.BTreeMap.{BTreeMap, UpdatesBy, get}
+use Rattle.std.specs.BTreeMap.{get, is_at}
+use Rattle.std.specs.Map.{lookup}
 use Rattle.std.specs.Int.{div_ceil}
 use Rattle.std.specs.Ordering.{is_eq}
 use Rattle.std.proofs.Math.Nat.{mul-div_cancel, mul-le-mul_right}
 use Rattle.std.proofs.lemmas.Bool.{cases_lt}
+use Rattle.std.proofs.lemmas.List.{length-map, take_more}
 use Rattle.std.proofs.lemmas.Nat.{pow_pos, pow-add}
 use Rattle.bt_tree.specs.Blocks.{block_count}
 use Rattle.bt_tree.specs.TreeShape.{height_of}
@@ -127,6 +129,24 @@ placing_more layer i files old new cuts file cut so_far here short is inside blo
       few = elim is.total [ inl same ↦ omega (arith, same, so_far.few) | inr grows ↦ omega (arith, grows, short, so_far.few) ];
     }
 
+pub placing_begun : (layer : ℕ) (files : List File) (places : Places) (cuts : List Cut) → places.known.entries ≡ [] → places.total ≡ 0 → cuts ≡ []
+    → IsPlacing layer 0 files places cuts
+placing_begun layer files places cuts empty none begun = record {
+  each = subst (AllZip (λ file cut. (cut.blocks ≡ block_count file.length) × (cut.unit ≡ unit_of layer file) × (place_in places file ≡ Some cut.place)) [])
+      (sym begun) tt;
+  inside = λ file place e. absurd (none_some place (sym (ap (λ (es : List (Key × ℕ)). lookup (is_at (key_cmp (tree_key file))) es) empty) ∙ e));
+  few = omega (arith, none);
+}
+
+-- what was taken of a list that is mapped
+pub taken_more : {X Y : Type 0} (f : X → Y) (xs : List X) (i : ℕ) (d : X) → i < length xs → take (i + 1) (map f xs) ≡ take i (map f xs) ++ f (get_or xs i d) ∷ []
+taken_more f [] i d lt = absurd (omega (arith, lt))
+taken_more f (x ∷ xs) zero d lt = refl
+taken_more f (x ∷ xs) (suc i) d lt = ap (λ l. f x ∷ l) (taken_more f xs i d (omega (arith, lt)))
+
+pub taken_all : {X Y : Type 0} (f : X → Y) (xs : List X) (i : ℕ) → length xs ≤ i → take i (map f xs) ≡ map f xs
+taken_all f xs i le = take_all i (map f xs) (omega (arith, le, length-map xs f))
+
 pub all_placed : (layer n : ℕ) (files : List File) (places : Places) (cuts : List Cut) → IsPlacing layer n files places cuts → take n files ≡ files
     → n ≤ 2 ^ 16 → ArePlaced layer places.total files cuts
 all_placed layer n files places cuts p whole few =
@@ -146,6 +166,23 @@ all_placed layer n files places cuts p whole few =
   where
     some_is : {x y : ℕ} → Some x ≡ Some y → x ≡ y
     some_is e = cc
+
+-- one share more
+pub shared_more : (total : ℕ) (part : Part) (cuts : List Cut) (i : ℕ) (d : Cut) (shares : List Share) (share : Share) → i < length cuts
+    → AllZip (IsShareOf total part) (take i cuts) shares → IsShareOf total part (get_or cuts i d) share
+    → AllZip (IsShareOf total part) (take (i + 1) cuts) (shares ++ share ∷ [])
+shared_more total part cuts i d shares share lt all is =
+    subst (λ l. AllZip (IsShareOf total part) l (shares ++ share ∷ [])) (sym (take_more cuts i d lt))
+    (zip_push (IsShareOf total part) (take i cuts) shares (get_or cuts i d) share all is)
+
+-- a cut that is placed lies inside
+pub cut_inside : (layer total : ℕ) (files : List File) (cuts : List Cut) (i : ℕ) (d : Cut) → AllZip (IsCutOf layer total) files cuts → i < length cuts
+    → (get_or cuts i d).place < total
+cut_inside layer total [] [] i d all lt = absurd (omega (arith, lt))
+cut_inside layer total [] (cut ∷ cuts) i d all lt = absurd all
+cut_inside layer total (file ∷ files) [] i d all lt = absurd all
+cut_inside layer total (file ∷ files) (cut ∷ cuts) zero d all lt = omega (arith, all.0.inside)
+cut_inside layer total (file ∷ files) (cut ∷ cuts) (suc i) d all lt = cut_inside layer total files cuts i d all.1 (omega (arith, lt))
 
 -- ---- what a share is
 

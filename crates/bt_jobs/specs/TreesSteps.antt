@@ -1,7 +1,7 @@
 -- Trees that are kept for later files of the same root and length in a part: for private steps.
 use Rattle.std.specs.Prelude.{◌≡◌, ◌↔◌, ◌⊎◌, ◌++◌, ◌<◌, ◌≤◌, ℕ, IsTrue, IsSomeAnd, List, [], ◌∷◌, Option, None}
 use Rattle.std.specs.List.{All}
-use Rattle.std.specs.Io.KnownBytes.{Appends}
+use Rattle.std.specs.Io.KnownBytes.{Appends, Keeps}
 use Rattle.bt_tree.specs.Blocks.{block_count}
 use Rattle.bt_meta.specs.Files.{File}
 use Rattle.bt_store.specs.BlockReads.{BlockRead}
@@ -10,6 +10,7 @@ use Rattle.bt_check.specs.EntryCheck.{Answers}
 use Rattle.bt_check.specs.Finding.{known_layer}
 use Rattle.bt_check.specs.TreeSteps.{HasTree, Kept, KeepsTrees}
 use Rattle.bt_check.specs.declared.trees.SharedTrees.{SharedTrees}
+use Rattle.bt_parts.specs.Line.{run_line}
 use Rattle.bt_parts.specs.Run.{is_fault, is_longer}
 use Rattle.bt_parts.specs.declared.cut.Share.{Share}
 use Rattle.bt_parts.specs.declared.run.Met.{Met}
@@ -74,6 +75,27 @@ pub data AreLengthRuns (part : FilePart) (len : Option ℕ) : List Run → Type 
 abbrev pub TellsLength : FilePart → (old new : Option (List ℕ)) → Type 0
 TellsLength part old new = (len : Option ℕ) × (runs : List Run) × AreLengthRuns part len runs
     × Appends old new (runs_text runs)
+
+-- the run that tells of the blocks of a file that is not there
+abbrev pub missing_run : FilePart → Run
+missing_run part = record {
+  file = part.number;
+  from = part.share.from;
+  to = part.share.to;
+  marked = 0;
+  met = Absent;
+}
+
+-- That there is no file was told, where the part has the byte at which it would begin.
+abbrev pub TellsFirst : FilePart → (old new : Option (List ℕ)) → Type 0
+TellsFirst part old new =
+    (IsTrue part.share.is_first × Appends old new (run_line (no_blocks part Absent)))
+    ⊎ ((¬ IsTrue part.share.is_first) × Keeps old new)
+
+-- Its blocks were told, if there are some.
+abbrev pub TellsMissing : FilePart → (old new : Option (List ℕ)) → Type 0
+TellsMissing part old new =
+    ((part.share.from ≡ part.share.to) × Keeps old new) ⊎ Appends old new (run_line (missing_run part))
 
 -- A file that is not there was told.
 abbrev pub TellsAbsent : FilePart → (old new : Option (List ℕ)) → Type 0

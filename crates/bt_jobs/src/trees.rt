@@ -1,5 +1,5 @@
 //! Hash trees that files of one root and length share in a part.
-ghost use Rattle.std.specs.Prelude.{◌≡◌, ◌⊎◌, ◌≤◌, ◌↔◌, [], ℕ, List, Option, map, IfOk, IfErr, IsTrue, OnOk};
+ghost use Rattle.std.specs.Prelude.{◌≡◌, ◌⊎◌, ◌≤◌, ◌↔◌, [], ℕ, List, Option, Some, map, IfOk, IfErr, IsTrue, OnOk};
 ghost use Rattle.std.specs.Io.KnownBytes.{Appends};
 ghost use Rattle.bt_tree.specs.Blocks.{IsFileLength, block_count};
 ghost use Rattle.bt_meta.specs.Files.{file_of};
@@ -11,7 +11,7 @@ ghost use Rattle.bt_check.specs.Finding.{known_layer, no_leaves};
 ghost use Rattle.bt_check.specs.TreeSteps.{HasTree, TakesTree, LeavesKept, LetsGo, IsLast};
 ghost use Rattle.bt_parts.specs.Line.{run_line};
 ghost use Rattle.bt_jobs.specs.Trees.{IsReadyPart, file_in_part, part_at};
-ghost use Rattle.bt_jobs.specs.TreesSteps.{ChecksBlocks, ChecksNext, ChecksPart, IsMeasured, IsNextPart, KeepsParts, KnowsOwn, TellsAbsent, TellsLength, no_blocks, shared_of};
+ghost use Rattle.bt_jobs.specs.TreesSteps.{ChecksBlocks, ChecksNext, ChecksPart, IsMeasured, IsNextPart, KeepsParts, KnowsOwn, TellsAbsent, TellsFirst, TellsLength, TellsMissing, no_blocks, shared_of};
 
 use crate::plan::key_of;
 use crate::share::{check_share, tell};
@@ -229,17 +229,34 @@ fn tell_absent<W: Write>(alloc: Global, part: FilePart<'_>, writer: &mut W) -> R
     ensures told { OnOk result (TellsAbsent part.entry (W.contents writer.old) (W.contents writer.new)) }
     ensures fault { IfErr result (λ fault. (fault ≡ device) ⊎ (fault ≡ out_of_memory)) }
 {
-    let share = part.share;
-    if share.is_first {
-        tell_none(alloc, part, Met::Absent, writer)?;
+    tell_first(alloc, part, writer)?;
+    tell_missing(alloc, part, writer)
+}
+
+/// Tells that there is no file, where the part has the byte at which it would begin.
+fn tell_first<W: Write>(alloc: Global, part: FilePart<'_>, writer: &mut W) -> Result<(), Fault>
+    ensures told { OnOk result (TellsFirst part.entry (W.contents writer.old) (W.contents writer.new)) }
+    ensures fault { IfErr result (λ fault. (fault ≡ device) ⊎ (fault ≡ out_of_memory)) }
+{
+    if !part.share.is_first {
+        return Ok(());
     }
-    if share.from >= share.to {
+    tell_none(alloc, part, Met::Absent, writer)
+}
+
+/// Tells of the blocks that a part has of a file which is not there, if there are some.
+fn tell_missing<W: Write>(alloc: Global, part: FilePart<'_>, writer: &mut W) -> Result<(), Fault>
+    requires { part.share.from ≤ part.share.to }
+    ensures told { OnOk result (TellsMissing part.entry (W.contents writer.old) (W.contents writer.new)) }
+    ensures fault { IfErr result (λ fault. (fault ≡ device) ⊎ (fault ≡ out_of_memory)) }
+{
+    if part.share.from == part.share.to {
         return Ok(());
     }
     let run = Run {
         file: part.number,
-        from: share.from,
-        to: share.to,
+        from: part.share.from,
+        to: part.share.to,
         marked: 0,
         met: Met::Absent,
     };
@@ -273,9 +290,19 @@ fn measured<D: Disk>(disk: &mut D, file_length: u64) -> Met
     ensures { (len : Option ℕ) × IsMeasured file_length len result }
 {
     match disk.len() {
-        Ok(length) if length > file_length => Met::Longer,
-        Ok(_) => Met::Nothing,
+        Ok(length) => length_met(length, file_length),
         Err(_) => Met::Unmeasured,
+    }
+}
+
+/// What is met where a device tells this length.
+fn length_met(length: u64, file_length: u64) -> Met
+    ensures { IsMeasured file_length (Some length) result }
+{
+    if length > file_length {
+        Met::Longer
+    } else {
+        Met::Nothing
     }
 }
 
