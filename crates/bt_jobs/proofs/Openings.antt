@@ -24,6 +24,10 @@ pub record AreOpened {D : Type 0} (entries : List FileEntry) (shares : List Shar
   pub numbers : map (λ (p : FilePart). p.number) (map part_at files) ≡ range_with_len 0 count
   pub are_shares : map (λ (p : FilePart). p.share) (map part_at files) ≡ take count shares
 
+pub opened_begun : {D : Type 0} (entries : List FileEntry) (shares : List Share) (files : List (PartFile D)) → files ≡ [] → AreOpened entries shares 0 files
+opened_begun entries shares files none =
+    subst (AreOpened entries shares 0) (sym none) (record { are_files = refl; numbers = refl; are_shares = refl })
+
 pub opened_more : {D : Type 0} (entries : List FileEntry) (shares : List Share) (count : ℕ) (files : List (PartFile D)) (one : PartFile D) (d : FileEntry) (e : Share)
     → AreOpened entries shares count files → count < length entries → count < length shares → file_in_part (part_at one) ≡ file_of (get_or entries count d)
     → (part_at one).number ≡ count → (part_at one).share ≡ get_or shares count e → AreOpened entries shares (count + 1) (files ++ one ∷ [])

@@ -17,7 +17,7 @@ use Rattle.bt_jobs.specs.Part.{IsPartReport}
 use Rattle.bt_jobs.specs.Plan.{AreShares}
 use Rattle.bt_jobs.specs.Share.{runs_text}
 use Rattle.bt_jobs.specs.Trees.{AreRunsOf, ArePartFindings, none, more, GoByRoots, IsPartFinding, IsReadyPart, file_in_part}
-use Rattle.bt_jobs.specs.TreesSteps.{KeepsParts}
+use Rattle.bt_jobs.specs.TreesSteps.{ChecksNext, IsNextPart, KeepsParts}
 use Rattle.bt_jobs.specs.declared.trees.FilePart.{FilePart}
 use Rattle.bt_jobs.specs.declared.trees.PartTrees.{PartTrees}
 
@@ -58,6 +58,16 @@ module _ (layer : ℕ) (layer_at : ℕ → List ℕ → List ℕ) (one : FilePar
       (All-head (λ (f : File). f.layer ≡ layer_at f.length f.root) (file_in_part one) (map file_in_part left) all)
       (All-nil (λ (f : File). f.layer ≡ layer_at f.length f.root))
 
+pub first_next : (layer : ℕ) (layer_at : ℕ → List ℕ → List ℕ) (all before left : List FilePart) (one : FilePart) (trees : PartTrees)
+    (old new : Option (List ℕ)) → IsPartTelling layer layer_at all before trees old new → before ≡ one ∷ left → IsNextPart layer one trees
+first_next layer layer_at all before left one trees old new t taken = (
+  layer_at,
+  t.checked,
+  map file_in_part left,
+  subst (λ l. KeepsParts layer layer_at t.checked (map file_in_part l) trees) taken t.keeps,
+  first_root layer layer_at one left (subst (λ l. GoByRoots layer_at (map file_in_part l)) taken t.roots),
+)
+
 -- one more
 found_more : (layer : ℕ) (before mid after : List CheckedFile) (done : List FilePart) (one : FilePart) (runs others : List Run)
     → ArePartFindings layer before done runs mid → AreRunsOf one.number (block_count (file_in_part one).length) one.share others
@@ -70,10 +80,11 @@ found_more layer _ _ after _ one _ others (more before next mid first rest runs 
 
 pub telling_more : (layer : ℕ) (layer_at : ℕ → List ℕ → List ℕ) (all before left : List FilePart) (one : FilePart) (trees grown : PartTrees)
     (old mid new : Option (List ℕ)) → (t : IsPartTelling layer layer_at all before trees old mid) → before ≡ one ∷ left
-    → (runs : List Run) × (after : List CheckedFile) × AreRunsOf one.number (block_count (file_in_part one).length) one.share runs
-    × IsPartFinding layer t.checked (file_in_part one) one.share runs after × KeepsParts layer layer_at after (map file_in_part left) grown
-    × Appends mid new (runs_text runs) → IsPartTelling layer layer_at all left grown old new
-telling_more layer layer_at all before left one trees grown old mid new t taken made =
+    → ChecksNext layer one trees grown mid new → IsPartTelling layer layer_at all left grown old new
+telling_more layer layer_at all before left one trees grown old mid new t taken checks =
+    let roots_left : GoByRoots layer_at (map file_in_part (one ∷ left)) = subst (λ l. GoByRoots layer_at (map file_in_part l)) taken t.roots in
+    let made = checks layer_at t.checked (map file_in_part left) (subst (λ l. KeepsParts layer layer_at t.checked (map file_in_part l) trees) taken t.keeps)
+    (first_root layer layer_at one left roots_left) in
     let ready : All (IsReadyPart layer) (one ∷ left) = subst (All (IsReadyPart layer)) taken t.ready in
     let roots : GoByRoots layer_at (map file_in_part (one ∷ left)) = subst (λ l. GoByRoots layer_at (map file_in_part l)) taken t.roots in
     record {
