@@ -9,6 +9,7 @@ use Rattle.bt_check.specs.declared.report.FileFinding.{FileFinding}
 use Rattle.bt_check.specs.declared.report.Summary.{Summary}
 use Rattle.bt_parts.specs.Join.{BeginsElsewhere, IsJoined}
 use Rattle.bt_parts.specs.declared.run.Run.{Run}
+use Rattle.bt_jobs.specs.declared.report.Heard.{Heard}
 
 -- The findings are of these files, of which the first has this number, and each is what the file's runs come to: all
 -- blocks of each file are told, each once, and nothing else is.
@@ -18,6 +19,10 @@ pub data AreJoined : (number : ℕ) → List File → List Run → List Finding 
       (findings : List Finding) → BeginsElsewhere number rest
       → IsJoined number (block_count file.length) own finding → AreJoined (suc number) files rest findings
       → AreJoined number (file ∷ files) (own ++ rest) (finding ∷ findings)
+
+-- what was told of a file comes to this
+abbrev pub finding_of : Heard → Finding
+finding_of heard = heard.finding
 
 -- The findings are of a torrent's files, as runs tell them, and the summary is theirs.
 pub record IsJoinedReport (torrent : Metainfo) (found : List FileFinding) (summary : Summary) : Type 0 where

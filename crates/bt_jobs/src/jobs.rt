@@ -10,7 +10,7 @@ ghost use Rattle.bt_jobs.specs.Report.{IsReportByParts};
 
 use crate::children::{end_all, look_at_all, start_part, wait_for_all};
 use crate::part::open_data_file;
-use crate::report::{findings_of, tell_faults, write_report};
+use crate::report::{heard_of, write_report};
 use crate::source::{Loaded, load_text};
 use crate::told::Told;
 use bt_check::{
@@ -70,9 +70,8 @@ pub fn check_by_parts<R: Files + AllocGlobal + Clone + Drop, S: Processes, P: Wa
         return check_torrent(rt, watch, torrent, job.dir, writer);
     }
     let runs = runs_of_parts(rt, system, watch, job, &loaded)?;
-    let findings = of_parts(watch, findings_of(rt.alloc(), torrent.files(), &runs))?;
-    tell_faults(rt.alloc(), watch, job.dir, torrent.files(), &runs)?;
-    write_report(rt.alloc(), torrent.files(), &findings, writer)
+    let heard = of_parts(watch, heard_of(rt.alloc(), torrent.files(), &runs))?;
+    write_report(rt.alloc(), watch, job.dir, torrent.files(), &heard, writer)
 }
 
 /// Looks at the data files of some entries, in turn, and opens each; the bytes of those that are there are to be read.
