@@ -1,5 +1,5 @@
 //! Room for what a wire event sends and notes. It is made before the event changes anything.
-ghost use Rattle.std.specs.Prelude.{◌≡◌, ◌^◌, ◌≤◌, IfOk};
+ghost use Rattle.std.specs.Prelude.{◌≡◌, ◌^◌, ◌≤◌, IfOk, IfErr};
 ghost use Rattle.bt_machine.specs.Orderly.{IsOrderly};
 ghost use Rattle.bt_machine.specs.Shape.{IsShaped};
 ghost use Rattle.bt_state.specs.Parts.{state_of, log_of};
@@ -37,6 +37,7 @@ pub(crate) fn reserve<D: Disk + Drop, H: NodeHash>(
     requires shaped { IsShaped parts.old.torrent (state_of parts.old) }
     requires orderly { IsOrderly (state_of parts.old) }
     ensures room { IfOk result (HasRoomFor parts.new event.now) }
+    ensures kept { IfErr result (λ _. parts.new ≡ parts.old) }
     ensures state { state_of parts.new ≡ state_of parts.old }
     ensures log { log_of parts.new ≡ log_of parts.old }
     ensures others { parts.new ≡ record parts.old { log = parts.new.log } }

@@ -1,4 +1,5 @@
 -- A restart with a log is the machine's.
+use Rattle.std.specs.Prelude.{IfErr}
 use Rattle.bt_machine.proofs.Base.{[], ◌≡◌, ℕ, is_some, Bool, false, List, ◌∷◌, length, Option, Some, None, Result, Ok, Err, refl, sym, ap, ◌∙◌, subst, option_map, range_with_len, History}
 use Rattle.bt_resume.specs.ResumeLog.{LogView}
 use Rattle.bt_resume.specs.declared.hint.Hint.{Hint}
@@ -121,3 +122,9 @@ steps_bare {D} {H} {history} {honest} {faults} {dig} {old} {new} none same disks
       (subst (λ (o : Option (LogView D)). HaveLogCalls history honest faults None [] o) (sym (ap (option_map (λ (held : OpenLog D). held.log)) (same ∙ none))) refl);
   step = step;
 }
+
+-- what has not changed has changed in its log at most
+pub only_log : {D H E : Type 0} (old new : Parts D H) (result : Result (Unit {0}) E) → IfErr result (λ _. new ≡ old)
+    → IfErr result (λ _. new ≡ record old { log = new.log })
+only_log old new (Ok done) same = tt
+only_log {D} {H} old new (Err error) same = same ∙ ap (λ (parts : Parts D H). record old { log = parts.log }) (sym same)

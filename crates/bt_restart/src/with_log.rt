@@ -1,5 +1,5 @@
 //! All is begun anew from a log.
-ghost use Rattle.std.specs.Prelude.{[], ◌≡◌, IfOk, IsSome, map, option_map};
+ghost use Rattle.std.specs.Prelude.{[], ◌≡◌, IfOk, IfErr, IsSome, map, option_map};
 ghost use Rattle.sha2.specs.Sha256.{sha256};
 ghost use Rattle.bt_machine.specs.Shape.{IsShaped};
 ghost use Rattle.bt_state.specs.Parts.{state_of, disks_of, log_of, pending_of};
@@ -39,6 +39,7 @@ pub(crate) fn restart_with_log<D: Disk + Drop, H: NodeHash>(
     requires shaped { IsShaped parts.old.torrent (state_of parts.old) }
     requires logged { IsSome parts.old.log }
     ensures step { RestartsWith D.history D.honest D.faults H.digest parts.old result parts.new }
+    ensures refused { IfErr result (λ _. parts.new ≡ record parts.old { log = parts.new.log }) }
     ensures torrent { parts.new.torrent ≡ parts.old.torrent }
     ensures tied { IsTied parts.new }
 {
@@ -55,7 +56,7 @@ pub(crate) fn restart_with_log<D: Disk + Drop, H: NodeHash>(
     }
 }
 
-/// Reads the log again. A refusal leaves its hints as they were.
+/// Reads the log again. A refusal leaves all but its device as it was.
 fn read_again<D: Disk + Drop>(log: &mut Option<OpenLog<D>>) -> Result<(), LogError>
     requires { IsSome log.old }
     ensures { IsReadAgain D.history D.honest D.faults log.old result log.new }

@@ -21,3 +21,9 @@ returns-clause-runs g c =
     let all = take_all c.loop-event.event-index c.args.events.now c.loop-event-test.false in
     let ran = rw all at c.loop-event.invariant.0 in
     rw c.reserve.ensures.items at ran
+
+pub returns-clause-stands : goal.returns-clause-stands
+returns-clause-stands g c = λ none.
+    let all = take_all c.loop-event.event-index c.args.events.now c.loop-event-test.false in
+    let ran = rw all at c.loop-event.invariant.0 in
+    c.events_stand.ensures.runs c.args.engine.now c.loop-event.engine c.args.events.now ran.said none c.keeps_laws.ensures.sound ran.runs

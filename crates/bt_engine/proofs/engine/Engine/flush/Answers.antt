@@ -25,8 +25,8 @@ returns-clause-stands g c = rw (← c.self.view_is) (
     (record { calls = c.flush.ensures.step.0; step = (c.flush.result, refl, c.flush.ensures.step.3); made = c.flush.ensures.step.1; logged = c.flush.ensures.step.2 }))
 
 pub returns-clause-blocks : goal.returns-clause-blocks
-returns-clause-blocks g c = rw (← c.self.view_is) (blocks_kept {old = view_of c.self.inside.parts} {new = view_of c.flush.new.parts} c.flush_keeps_blocks.ensures c.flush.result
-    (record { calls = c.flush.ensures.step.0; step = (c.flush.result, refl, c.flush.ensures.step.3); made = c.flush.ensures.step.1; logged = c.flush.ensures.step.2 }))
+returns-clause-blocks g c = blocks_kept {dig = g.H.NodeHash.digest} {old = view_of c.self.inside.parts} {new = view_of c.flush.new.parts} c.flush_keeps_blocks.ensures c.flush.result
+    (record { calls = c.flush.ensures.step.0; step = (c.flush.result, refl, c.flush.ensures.step.3); made = c.flush.ensures.step.1; logged = c.flush.ensures.step.2 })
 
 pub returns-clause-hints : goal.returns-clause-hints
 returns-clause-hints g c = rw (← c.self.view_is) (hints_kept {old = view_of c.self.inside.parts} {new = view_of c.flush.new.parts} c.logs_stand.ensures.kept c.flush.result

@@ -1,4 +1,5 @@
-use Rattle.std.proofs.Common.{refl}
+use Rattle.std.proofs.Common.{ap}
+use Rattle.bt_start.specs.Starting.{answer_of}
 use Rattle.bt_engine.specs.Kept.{view_of}
 use Rattle.bt_engine.proofs.Reopenings.{reopened}
 use Rattle.bt_engine.proofs.engine.Engine.start.Goals as goal
@@ -17,4 +18,4 @@ invariant_of-result g c = record {
 
 pub returns-in-Ok-clause-again : goal.returns-in-Ok-clause-again
 returns-in-Ok-clause-again g c =
-    reopened g.D.Disk.history g.D.Disk.honest g.D.Disk.faults g.H.NodeHash.digest c.flushed_blocks_are_marked_again.ensures (view_of c.in-Ok.parts) c.start.ensures.answer refl
+    reopened g.D.Disk.history g.D.Disk.honest g.D.Disk.faults g.H.NodeHash.digest c.flushed_blocks_are_marked_again.ensures (view_of c.in-Ok.parts) c.start.ensures.answer (ap answer_of c.in-Ok.is)
