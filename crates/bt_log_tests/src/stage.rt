@@ -142,7 +142,7 @@ impl Stage {
     fn device_row(&mut self, words: &mut Words, out: &mut String) -> Result<(), RowError> {
         let kind = words.word();
         let disk = device_of(self.alloc, kind, words)?;
-        self.disks.push(disk)?;
+        push(&mut self.disks, disk)?;
         tell(out, "a device")
     }
 
@@ -269,6 +269,10 @@ impl Stage {
             _ => Err(RowError::Unread),
         }
     }
+}
+
+fn push(disks: &mut Vec<TestDisk>, disk: TestDisk) -> Result<(), AllocError> {
+    Ok(disks.push(disk)?)
 }
 
 /// A device: `zeros`, and how many; or its defect, the call of it, and its bytes.
