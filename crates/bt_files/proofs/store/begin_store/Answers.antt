@@ -2,7 +2,8 @@ use Rattle.std.proofs.Common.{Some, None, IfOk, inr, sym, subst}
 use Rattle.std.specs.Prelude.{IfSome}
 use Rattle.sha2.specs.Sha256.{sha256}
 use Rattle.bt_files.specs.Store.{HasBegun}
-use Rattle.bt_files.proofs.Faults.{call_of_memory}
+use Rattle.bt_files.specs.OpenFolder.{IsCallFault}
+use Rattle.bt_files.proofs.Faults.{passed_on}
 use Rattle.bt_files.proofs.store.begin_store.Goals as goal
 
 pub begin_with_log-requires-clause-own_log : goal.begin_with_log-requires-clause-own_log
@@ -19,3 +20,7 @@ returns-in-None-clause-begun g c =
     subst (λ log. IfOk c.begin.result
     (HasBegun g.D.Disk.history g.D.Disk.honest g.D.Disk.faults sha256 c.args.torrent c.args.files.disks.items log c.args.files.filled.items))
     (sym c.in-None.is) c.begin.ensures.begun
+
+pub returns-in_err-engine-in-Some-clause-fault : goal.returns-in_err-engine-in-Some-clause-fault
+returns-in_err-engine-in-Some-clause-fault g c =
+    passed_on c.from_residual.result c.in_err-engine-in-Some.field-0.0 IsCallFault c.from_residual.ensures.1 (inr c.in_err-engine-in-Some.ensures.fault)
