@@ -11,7 +11,7 @@ ghost use Rattle.bt_check.specs.Fault.{out_of_memory};
 ghost use Rattle.bt_files.specs.OpenFolder.{IsCallFault};
 ghost use Rattle.bt_files.specs.Store.{HasBegun, IsFlushFault, IsOpened, IsOpenFault, IsSameButPending, flush_fault};
 
-use crate::adoption::{adopt_files, is_filled};
+use crate::adoption::adopt_files;
 use crate::data_files::{DataDisk, OpenFiles, open_devices};
 use crate::device_context::DeviceContext;
 use crate::file_use::FileUse;
@@ -100,7 +100,7 @@ fn begin_store<'a, D: Disk + Drop, P: Watch>(
 /// Tells that those files are to be read of which bytes are there.
 fn expect_reads<P: Watch>(watch: &P, files: &[FileEntry], filled: &[bool]) {
     for (number, file) in files.iter().enumerate() {
-        if is_filled(filled, number as u32) {
+        if filled.get(number) == Some(&true) {
             watch.expect(file.length);
         }
     }
