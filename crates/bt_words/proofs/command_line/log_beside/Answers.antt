@@ -10,8 +10,8 @@ returns-then-is_read_only-clause-refused c =
     no_log_beside (rows_of (found_of c.args.matches.now)) c.args.is_read_only c.in-Some.path.now c.if-is_read_only.true
     (sym c.log_in.ensures ∙ ap (option_map (λ (p : Bor (List ℕ)). p.now)) c.in-Some.is)
 
-pub returns-in-Some-clause-log : goal.returns-in-Some-clause-log
-returns-in-Some-clause-log c =
+pub returns-else-is_read_only-clause-log : goal.returns-else-is_read_only-clause-log
+returns-else-is_read_only-clause-log c =
     log_beside (rows_of (found_of c.args.matches.now)) c.args.is_read_only c.in-Some.path c.if-is_read_only.false
     (sym c.log_in.ensures ∙ ap (option_map (λ (p : Bor (List ℕ)). p.now)) c.in-Some.is)
 
