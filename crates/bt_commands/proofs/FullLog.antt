@@ -1,11 +1,12 @@
 -- A log that is full ends no task but one with a log.
-use Rattle.std.proofs.Common.{◌≡◌, ◌≢◌, ◌⊎◌, ℕ, Bool, List, Option, None, inl, inr, refl, sym}
+use Rattle.std.proofs.Common.{◌≡◌, ◌≢◌, ◌⊎◌, ℕ, Bool, List, Option, None, Result, Ok, Err, IfErr, inl, inr, refl, sym, subst}
 use Rattle.std.specs.Borrow.{Bor}
+use Rattle.std.specs.Io.KnownBytes.{Keeps}
 use Rattle.bt_meta.specs.declared.error.MetaError.{MetaError}
 use Rattle.bt_meta.specs.declared.error.MetaError.TheVariants.{OutOfMemory as no_memory}
 use Rattle.bt_meta.specs.declared.writer.MakeError.{MakeError}
 use Rattle.bt_meta.specs.declared.writer.MakeError.TheVariants.{BadPath, PieceLength, OutOfMemory as no_memory_to_make}
-use Rattle.bt_check.specs.Fault.{log_full, make_fault, torrent_fault}
+use Rattle.bt_check.specs.Fault.{log_full, make_fault, status_of, torrent_fault}
 use Rattle.bt_check.specs.TorrentFile.{IsLoadFault}
 use Rattle.bt_check.specs.declared.fault.Fault.{Fault}
 use Rattle.bt_check.specs.declared.fault.Fault.TheVariants.{Words, OutAmongFiles, Torrent, Make, SameFile, LogAmongFiles, OtherTorrent, LogTooLong, LogFull, Device, OutOfMemory}
@@ -16,7 +17,7 @@ use Rattle.bt_make.specs.Command.{IsFilesFault, IsMakeFault, Paths}
 use Rattle.bt_transfer.specs.Seed.{seed_use}
 use Rattle.bt_words.specs.declared.command_line.Task.{Task}
 use Rattle.bt_words.specs.declared.command_line.Task.TheVariants.{Make as make, Show, Check, Seed, Fetch, Replay}
-use Rattle.bt_commands.specs.Program.{IsTaskFault, task_log}
+use Rattle.bt_commands.specs.Program.{IsTaskEnd, IsTaskFault, task_log}
 
 -- it is told apart from all other faults
 pub is_full : (fault : Fault) → (fault ≡ log_full) ⊎ (fault ≢ log_full)
@@ -84,3 +85,12 @@ has_log (Seed task) (inr full) = full.0
 has_log (Fetch task) (inl loading) = of_a_log task.torrent.is_info for_fetch task.log loading
 has_log (Fetch task) (inr full) = full.0
 has_log Replay cause = absurd cause
+
+-- what a command with a log says of a refusal is that only by a full log something may have been written
+pub task_ended : {T : Type 0} (r : Result T Fault) (task : Task) (old new : Option (List ℕ)) → IfErr r (IsTaskFault task)
+    → IfErr r (λ fault. status_of fault ≡ 2 → fault ≢ log_full → Keeps old new) → IfErr r (IsTaskEnd task old new)
+task_ended (Ok x) task old new cause refused = tt
+task_ended (Err fault) task old new cause refused = record {
+  cause = cause;
+  refused = λ two other. refused two (λ full. other (has_log task (subst (IsTaskFault task) full cause), full));
+}

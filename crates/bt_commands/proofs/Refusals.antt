@@ -43,7 +43,7 @@ ended words task fault old new (inl full) asked end two = inr (record {
   logged = has_log task (subst (IsTaskFault task) full end.cause);
   ended = subst (IsTaskEnd task old new) full end;
 })
-ended words task fault old new (inr other) asked end two = inl (end.refused two other)
+ended words task fault old new (inr other) asked end two = inl (end.refused two (λ full. other full.1))
 
 -- ---- words that ask for none
 

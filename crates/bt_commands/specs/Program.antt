@@ -113,11 +113,11 @@ IsTaskFault (Fetch task) fault =
     IsStoreFault task.torrent.is_info for_fetch task.log fault ⊎ IsLogFull task.log fault
 IsTaskFault Replay fault = ⊥
 
--- a fault ended a task; where it is a refusal of what was given, nothing was written. That a log is full
--- shows as what is known is written to it, behind the lines of what was done
+-- a fault ended a task; where it is a refusal, nothing was written, but that a task's log is full shows as what
+-- is known is written to it, behind the lines of what was done
 pub record IsTaskEnd (task : Task) (old new : Option (List ℕ)) (fault : Fault) : Type 0 where
   pub cause : IsTaskFault task fault
-  pub refused : status_of fault ≡ 2 → fault ≢ log_full → Keeps old new
+  pub refused : status_of fault ≡ 2 → ¬ IsLogFull (task_log task) fault → Keeps old new
 
 -- status 0 for help and the version, or 3 where the device failed: the kit does not say their text. A mistake
 -- goes to the other stream.
