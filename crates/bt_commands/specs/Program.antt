@@ -113,8 +113,8 @@ IsTaskFault (Fetch task) fault =
     IsStoreFault task.torrent.is_info for_fetch task.log fault ⊎ IsLogFull task.log fault
 IsTaskFault Replay fault = ⊥
 
--- a fault ended a task; where it is a refusal, nothing was written, but that a task's log is full shows as what
--- is known is written to it, behind the lines of what was done
+-- a fault ended a task; where it is a refusal, nothing was written, but that a task's log is full shows as
+-- what is known is written to it, behind the lines of what was done
 pub record IsTaskEnd (task : Task) (old new : Option (List ℕ)) (fault : Fault) : Type 0 where
   pub cause : IsTaskFault task fault
   pub refused : status_of fault ≡ 2 → ¬ IsLogFull (task_log task) fault → Keeps old new
