@@ -1,2 +1,4 @@
 pub mod FaultStatus
+pub mod FullLog
 pub mod ProgramRun
+pub mod Refusals

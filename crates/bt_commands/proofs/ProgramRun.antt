@@ -31,7 +31,7 @@ pub not_made : {T : Type 0} (r : Result T Fault) (request : MakeTask) (old : Opt
 not_made (Ok x) request old fault cause why same = absurd same
 not_made (Err found) request old fault cause why same = record {
   cause = record { cause = subst (IsMakeFault request.name.now request.piece_length) (sym same) cause; unlawful = λ none. same ∙ why none };
-  refused = λ _. Keeps-refl old;
+  refused = λ _ _. Keeps-refl old;
 }
 
 pub checked : (source : Source) (torrent : Metainfo) (summary : Summary) (old new : Option (List ℕ)) (status : ℕ) → HasText source.is_info torrent

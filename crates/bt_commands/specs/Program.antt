@@ -1,5 +1,6 @@
 -- What the program does with its words: the status that it exits with, the text that it writes, and what it reads.
-use Rattle.std.specs.Prelude.{◌≡◌, ℕ, ◌⊎◌, false, List, Option, if◌then◌else◌}
+use Rattle.std.specs.Prelude.{◌≡◌, ◌≢◌, ℕ, ◌⊎◌, false, List, Option, None, if◌then◌else◌}
+use Rattle.std.specs.Borrow.{Bor}
 use Rattle.std.specs.Io.KnownBytes.{Appends, Keeps}
 use Rattle.clap.specs.Words.{Text}
 use Rattle.clap.specs.declared.error.kind.ErrorKind.{ErrorKind}
@@ -10,10 +11,10 @@ use Rattle.bt_meta.specs.declared.writer.MakeError.TheVariants.{PieceLength}
 use Rattle.bt_replay.specs.Command.{IsReplay}
 use Rattle.bt_transfer.specs.Fetch.{IsFetch}
 use Rattle.bt_transfer.specs.Seed.{IsSeed, seed_use}
-use Rattle.bt_files.specs.Loading.{IsStoreFault}
+use Rattle.bt_files.specs.Loading.{IsLogFull, IsStoreFault}
 use Rattle.bt_files.specs.declared.file_use.FileUse.TheVariants.{Fetch as for_fetch}
 use Rattle.bt_words.specs.CommandLine.{IsTaskOf, IsNoTaskOf}
-use Rattle.bt_check.specs.Fault.{make_fault, out_of_memory, status_of, words_fault}
+use Rattle.bt_check.specs.Fault.{log_full, make_fault, out_of_memory, status_of, words_fault}
 use Rattle.bt_make.specs.AtomicFile.{infohash_line}
 use Rattle.bt_make.specs.Command.{IsMakeFault, IsMakeTorrent}
 use Rattle.bt_check.specs.Report.{IsReportOn, is_complete_report, is_faulty_report, report_text}
@@ -58,15 +59,17 @@ pub record IsCheckResult (source : Source) (status : ℕ) (text : List ℕ) : Ty
   pub lines : text ≡ report_text found
   pub answer : status ≡ (if is_complete_report found then 0 else 1)
 
--- the torrent's files were served, as said; or they are only to be read, and not complete
+-- the torrent's files were served, as said, with the log that is asked for, or without one; or they are only
+-- to be read, and not complete
 abbrev pub IsSeedResult : SeedTask → (old new : Option (List ℕ)) → ℕ → Type 0
 IsSeedResult task old new status =
-    IsSeed task.torrent.is_info task.dir.now task.service old new status
+    IsSeed task.torrent.is_info task.dir.now task.service task.log old new status
 
--- the torrent's files were fetched from the peers, as far as these had them
+-- the torrent's files were fetched from the peers, as far as these had them, with the log that is asked for,
+-- or without one
 abbrev pub IsFetchResult : FetchTask → (old new : Option (List ℕ)) → ℕ → Type 0
 IsFetchResult task old new status =
-    IsFetch task.torrent.is_info task.dir.now task.peers.items old new status
+    IsFetch task.torrent.is_info task.dir.now task.peers.items task.log old new status
 
 -- a text was written, and it and the status are as wanted
 pub record Writes (wanted : ℕ → List ℕ → Type 0) (old new : Option (List ℕ)) (status : ℕ) : Type 0 where
@@ -91,20 +94,30 @@ pub record IsMakeEnd (request : MakeTask) (fault : Fault) : Type 0 where
   pub cause : IsMakeFault request.name.now request.piece_length fault
   pub unlawful : ¬ IsPieceLength request.piece_length → fault ≡ make_fault PieceLength
 
--- a fault that can end a task: the commands on a torrent end as the reading of one can, and those that write its files
--- where two of its paths are one file
+-- the file of the log that a task is to go on from, if there is to be one
+abbrev pub task_log : Task → Option (Bor (List ℕ))
+task_log (Seed task) = task.log
+task_log (Fetch task) = task.log
+task_log task = None
+
+-- a fault that can end a task: the commands on a torrent end as the reading of one can, those that write its
+-- files where two of its paths are one file, and those with a log where it is refused, or full
 abbrev pub IsTaskFault : Task → Fault → Type 0
 IsTaskFault (Make request) fault = IsMakeEnd request fault
 IsTaskFault (Show torrent) fault = IsLoadFault torrent.is_info fault
 IsTaskFault (Check torrent dir verbose) fault = IsLoadFault torrent.is_info fault
-IsTaskFault (Seed task) fault = IsStoreFault task.torrent.is_info (seed_use task.service.is_read_only) fault
-IsTaskFault (Fetch task) fault = IsStoreFault task.torrent.is_info for_fetch fault
+IsTaskFault (Seed task) fault =
+    IsStoreFault task.torrent.is_info (seed_use task.service.is_read_only) task.log fault
+    ⊎ IsLogFull task.log fault
+IsTaskFault (Fetch task) fault =
+    IsStoreFault task.torrent.is_info for_fetch task.log fault ⊎ IsLogFull task.log fault
 IsTaskFault Replay fault = ⊥
 
--- a fault ended a task; where it is a refusal, nothing was written
+-- a fault ended a task; where it is a refusal, nothing was written, but that a task's log is full shows as
+-- what is known is written to it, behind the lines of what was done
 pub record IsTaskEnd (task : Task) (old new : Option (List ℕ)) (fault : Fault) : Type 0 where
   pub cause : IsTaskFault task fault
-  pub refused : status_of fault ≡ 2 → Keeps old new
+  pub refused : status_of fault ≡ 2 → ¬ IsLogFull (task_log task) fault → Keeps old new
 
 -- status 0 for help and the version, or 3 where the device failed: the kit does not say their text. A mistake
 -- goes to the other stream.
@@ -124,6 +137,13 @@ pub data IsRun (words : List Text) (given left old new : Option (List ℕ)) (sta
       → IsTaskEnd task old new fault → status ≡ status_of fault → IsRun words given left old new status
   no_task : (kind : ErrorKind) → IsNoTaskOf words kind
       → IsExplanation kind old new status → IsRun words given left old new status
+
+-- the words ask for a task with a log, and the log was full, which ended it
+pub record FillsLog (words : List Text) (old new : Option (List ℕ)) : Type 0 where
+  pub task : Task
+  pub asked : IsTaskOf words task
+  pub logged : task_log task ≢ None
+  pub ended : IsTaskEnd task old new log_full
 
 -- a run on some words; or the words could not be had, and nothing was written
 pub data IsStart (given left old new : Option (List ℕ)) (status : ℕ) : Type 0 where

@@ -5,7 +5,7 @@ ghost use Rattle.std.specs.Process.{exit_status};
 ghost use Rattle.clap.specs.Words.{kind_of};
 ghost use Rattle.bt_check.specs.Fault.{device, out_of_memory, status_of, words_fault};
 ghost use Rattle.bt_words.specs.CommandLine.{IsTaskOf};
-ghost use Rattle.bt_commands.specs.Program.{IsCheckResult, IsDone, IsExplanation, IsFetchResult, IsMakeResult, IsRun, IsSeedResult, IsShowResult, IsStart, IsTaskEnd, Writes};
+ghost use Rattle.bt_commands.specs.Program.{FillsLog, IsCheckResult, IsDone, IsExplanation, IsFetchResult, IsMakeResult, IsRun, IsSeedResult, IsShowResult, IsStart, IsTaskEnd, Writes};
 ghost use Rattle.bt_commands.specs.ProgramSteps.{status_after};
 ghost use Rattle.bt_words.specs.declared.command_line.Task.TheVariants.{Make, Show, Check, Seed, Fetch, Replay};
 
@@ -58,7 +58,7 @@ fn words(rt: &(impl Env + AllocGlobal)) -> Result<Vec<String>, Fault>
 }
 
 /// Does what the words ask for, which follow the program's name, and returns the exit status: 0 where all is
-/// complete or done, 1 where it is not, 2 where the words or the torrent are refused, 3 for a device that
+/// complete or done, 1 where it is not, 2 where the words, the torrent or a log are refused, 3 for a device that
 /// failed and 4 for out of memory.
 ///
 /// A script comes from the reader. Results and help go to the writer, faults to `faults`.
@@ -81,10 +81,11 @@ pub fn run<
     ensures answer { IsRun (map string_bytes words.now) (I.remaining reader.old) (I.remaining reader.new)
         (O.contents writer.old) (O.contents writer.new) result }
 
-    // where the words or the torrent are refused, nothing is written; a script's bad line comes behind the
-    // answers of those before it
+    // where the words, the torrent or a log are refused, nothing is written; but that a log is full shows behind
+    // what was done, and a script's bad line comes behind the answers of those before it
     ensures refused { ¬ IsTaskOf (map string_bytes words.now) Replay → result ≡ 2
-        → Keeps (O.contents writer.old) (O.contents writer.new) }
+        → Keeps (O.contents writer.old) (O.contents writer.new)
+        ⊎ FillsLog (map string_bytes words.now) (O.contents writer.old) (O.contents writer.new) }
 
     // nothing but a script is read
     ensures unread { ¬ IsTaskOf (map string_bytes words.now) Replay
@@ -238,7 +239,16 @@ fn perform_seed<R: Files + AllocGlobal + Clone + Drop, N: Net + Clock, P: Watch,
         (IsTaskEnd (Seed task.entry) (O.contents writer.old) (O.contents writer.new)) }
 {
     watch.set_verbose(task.verbose);
-    seed(rt, net, watch, task.torrent, task.dir, task.service, writer)
+    seed(
+        rt,
+        net,
+        watch,
+        task.torrent,
+        task.dir,
+        task.service,
+        task.log,
+        writer,
+    )
 }
 
 fn perform_fetch<R: Files + AllocGlobal + Clone + Drop, N: Net + Clock, P: Watch, O: Write>(
@@ -254,7 +264,16 @@ fn perform_fetch<R: Files + AllocGlobal + Clone + Drop, N: Net + Clock, P: Watch
         (IsTaskEnd (Fetch task.entry) (O.contents writer.old) (O.contents writer.new)) }
 {
     watch.set_verbose(task.verbose);
-    fetch(rt, net, watch, task.torrent, task.dir, &task.peers, writer)
+    fetch(
+        rt,
+        net,
+        watch,
+        task.torrent,
+        task.dir,
+        &task.peers,
+        task.log,
+        writer,
+    )
 }
 
 /// Prints help, or why the words are refused.

@@ -16,9 +16,10 @@ use Rattle.clap.specs.declared.error.kind.ErrorKind.{ErrorKind}
 use Rattle.clap.proofs.OnLiterals.{clap_on_literals}
 use Rattle.clap.proofs.WalkLemmas.{first_value-rows, raw_values-rows}
 use Rattle.bt_check.specs.declared.torrent_file.Source.{Source}
+use Rattle.bt_words.specs.declared.peer.Service.{Service}
 use Rattle.bt_words.specs.declared.peer.Serving.{Serving}
 use Rattle.bt_words.specs.declared.peer.Serving.TheVariants.{Count, Forever}
-use Rattle.bt_words.specs.CommandLine.{AsksFor, HasNumber, IsFetchTaskIn, IsGiven, IsMakeTaskIn, IsSeedTaskIn, IsServingIn, IsSourceIn, IsTaskIn, IsTaskOf, IsNoTaskOf}
+use Rattle.bt_words.specs.CommandLine.{AsksFor, HasNumber, IsFetchTaskIn, IsGiven, IsLogBeside, IsLogIn, IsMakeTaskIn, IsSeedTaskIn, IsServiceIn, IsServingIn, IsSourceIn, IsTaskIn, IsTaskOf, IsNoTaskOf}
 use Rattle.bt_words.specs.CommandLineSteps.{AreWordsOf, IsRefusalFor, TellsOf}
 use Rattle.bt_words.specs.Subcommands.{check_app, fetch_app, file_app, make_app, program_app, replay_app, seed_app, show_app, top_app, transfer_app}
 use Rattle.bt_words.specs.Values.{IsNumber, IsPeerWord}
@@ -102,6 +103,30 @@ no_serving_number rows text given none Forever is = let bad : None ≡ Some text
 pub not_so : (b : Bool) (P : Type 0) → Decides b P → b ≡ false → ¬ P
 not_so b P decides says p = let bad : true ≡ false = sym (decides.1 p) ∙ says in cc
 
+-- two bools that tell the same are one
+alike : (a b : Bool) (P : Type 0) → Decides a P → Decides b P → a ≡ b
+alike true true P first second = refl
+alike true false P first second = let bad : false ≡ true = second.1 (first.0 refl) in cc
+alike false true P first second = let bad : false ≡ true = first.1 (second.0 refl) in cc
+alike false false P first second = refl
+
+-- ---- the file of a log
+
+-- one is given, and files are only read
+pub no_log_beside : (rows : List Row) (read_only : Bool) (text : List ℕ) → read_only ≡ true → first_of (codes "log") rows ≡ Some text
+    → (log : Option (Bor (List ℕ))) → ¬ IsLogBeside read_only rows log
+no_log_beside rows read_only text is given log beside =
+    let none : option_map (λ (p : Bor (List ℕ)). p.now) log ≡ None = ap (option_map (λ p. p.now)) (beside.unwritten is) in
+    let bad : None ≡ Some text = sym none ∙ beside.log ∙ given in cc
+
+-- one is given, and files are written
+pub log_beside : (rows : List Row) (read_only : Bool) (path : Bor (List ℕ)) → read_only ≡ false → first_of (codes "log") rows ≡ Some path.now
+    → IsLogBeside read_only rows (Some path)
+log_beside rows read_only path is given = record {
+  log = sym given;
+  unwritten = λ other. absurd (let bad : false ≡ true = sym is ∙ other in cc);
+}
+
 -- ---- tasks
 
 both_parts : {X : Type 0} (h : X → Text × List Row) (o : Option X) (name : Text) (rows : List Row) → option_map (λ x. (h x).0) o ≡ Some name
@@ -154,6 +179,13 @@ no_seed rows none (Check torrent dir verbose) a = differ (codes "seed") (codes "
 no_seed rows none (Seed task) a = none task a.1
 no_seed rows none (Fetch task) a = differ (codes "seed") (codes "fetch") refl a.0
 no_seed rows none Replay a = differ (codes "seed") (codes "replay") refl a
+
+-- and where a log is given, and files are only read
+pub no_seed_log : (rows : List Row) (service : Service) → IsServiceIn rows service
+    → ((log : Option (Bor (List ℕ))) → ¬ IsLogBeside service.is_read_only rows log) → (task : Task) → ¬ AsksFor (codes "seed") rows task
+no_seed_log rows service is none = no_seed rows (λ task asked.
+    let same = alike task.service.is_read_only service.is_read_only (IsGiven (codes "read-only") rows) asked.service.read_only is.read_only in
+    none task.log (subst (λ b. IsLogBeside b rows task.log) same asked.log))
 
 pub no_fetch : (rows : List Row) → ((task : FetchTask) → ¬ IsFetchTaskIn rows task) → (task : Task) → ¬ AsksFor (codes "fetch") rows task
 no_fetch rows none (Make request) a = differ (codes "fetch") (codes "make") refl a.0

@@ -2,7 +2,10 @@
 -- subcommand with its matches, a row for each word or option; `fault_of` lists the kinds of error, and is
 -- empty where there is none.
 use Rattle.std.specs.Prelude.{◌≡◌, ℕ, ◌⊎◌, true, false, Bool, List, [], Option, None, Some, codes}
+use Rattle.std.specs.Bool.{Decides}
+use Rattle.std.specs.Borrow.{Bor}
 use Rattle.std.specs.List.{AllZip}
+use Rattle.std.specs.Option.{option_map}
 use Rattle.clap.specs.Words.{IsAmong, Row, Text, all_of, fault_of, first_of, one_of, subcommand_of}
 use Rattle.clap.specs.declared.error.kind.ErrorKind.{ErrorKind}
 use Rattle.clap.specs.declared.error.kind.ErrorKind.TheVariants.{OutOfMemory, ValueValidation}
@@ -35,6 +38,15 @@ pub record IsFlagIn (id : Text) (given : Bool) (rows : List Row) : Type 0 where
 abbrev pub IsGiven : Text → List Row → Type 0
 IsGiven id rows = first_of id rows ≡ Some (codes "true")
 
+-- the file of a log, if there is to be one
+abbrev pub IsLogIn : List Row → Option (Bor (List ℕ)) → Type 0
+IsLogIn rows log = option_map (λ path. path.now) log ≡ first_of (codes "log") rows
+
+-- the same where it may be: not where files are only read, since a log is written
+pub record IsLogBeside (is_read_only : Bool) (rows : List Row) (log : Option (Bor (List ℕ))) : Type 0 where
+  pub log : IsLogIn rows log
+  pub unwritten : is_read_only ≡ true → log ≡ None
+
 -- ---- tasks
 
 pub record IsMakeTaskIn (rows : List Row) (request : MakeTask) : Type 0 where
@@ -58,12 +70,13 @@ pub record IsServiceIn (rows : List Row) (service : Service) : Type 0 where
   pub listen : first_of (codes "listen") rows ≡ Some service.address.now
   pub address : IsAddress service.address.now
   pub port : HasNumber 16 rows (codes "port") service.port
-  pub read_only : IsFlagIn (codes "read-only") service.is_read_only rows
+  pub read_only : Decides service.is_read_only (IsGiven (codes "read-only") rows)
 
 pub record IsSeedTaskIn (rows : List Row) (task : SeedTask) : Type 0 where
   pub torrent : IsSourceIn rows task.torrent
   pub dir : first_of (codes "DIR") rows ≡ Some task.dir.now
   pub service : IsServiceIn rows task.service
+  pub log : IsLogBeside task.service.is_read_only rows task.log
   pub verbose : IsFlagIn (codes "verbose") task.verbose rows
 
 -- each word in a peer's place names one, in turn
@@ -73,6 +86,7 @@ pub record IsFetchTaskIn (rows : List Row) (task : FetchTask) : Type 0 where
   pub words : List Text
   pub given : all_of (codes "PEER") rows ≡ Some words
   pub peers : AllZip IsPeerWord words task.peers.items
+  pub log : IsLogIn rows task.log
   pub verbose : IsFlagIn (codes "verbose") task.verbose rows
 
 -- a subcommand of this name with these rows asks for the task
@@ -97,8 +111,8 @@ pub record IsTaskOf (words : List Text) (task : Task) : Type 0 where
   pub asked : IsTaskIn (subcommand_of program_app words) task
 
 -- out of memory; a fault of the words, help among these; or words without a fault that ask for no task,
--- because what stands in the place of a number, an address or a peer is none, or of the two ways to say how
--- many connections are served not one is there
+-- because what stands in the place of a number, an address or a peer is none, of the two ways to say how many
+-- connections are served not one is there, or a log is to be written where files are only read
 abbrev pub IsNoTaskOf : List Text → ErrorKind → Type 0
 IsNoTaskOf words kind =
     (kind ≡ OutOfMemory)

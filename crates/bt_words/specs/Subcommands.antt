@@ -48,6 +48,9 @@ port_rule = record (option_rule (codes "port")) { defaults = codes "0" ∷ [] }
 abbrev pub read_only_rule : Rule
 read_only_rule = flag_rule (codes "read-only")
 
+abbrev pub log_rule : Rule
+log_rule = option_rule (codes "log")
+
 -- one peer at least
 abbrev pub peers_rule : Rule
 peers_rule = record (required_rule (codes "PEER")) { action = Some Append }
@@ -77,11 +80,11 @@ check_app = command_app (codes "check")
 unfoldable pub seed_app : App
 seed_app = command_app (codes "seed")
     (required_rule (codes "TORRENT") ∷ required_rule (codes "DIR") ∷ serve_rule ∷ forever_rule ∷ listen_rule
-    ∷ port_rule ∷ read_only_rule ∷ info_rule ∷ verbose_rule ∷ [])
+    ∷ port_rule ∷ read_only_rule ∷ log_rule ∷ info_rule ∷ verbose_rule ∷ [])
 
 unfoldable pub fetch_app : App
 fetch_app = command_app (codes "fetch")
-    (required_rule (codes "TORRENT") ∷ required_rule (codes "DIR") ∷ peers_rule ∷ info_rule
+    (required_rule (codes "TORRENT") ∷ required_rule (codes "DIR") ∷ peers_rule ∷ log_rule ∷ info_rule
     ∷ verbose_rule ∷ [])
 
 unfoldable pub replay_app : App

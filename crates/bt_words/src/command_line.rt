@@ -1,9 +1,10 @@
 //! What the words of the command line ask for.
-ghost use Rattle.std.specs.Prelude.{◌≡◌, ℕ, Some, List, map, codes, string_bytes, IfOk, IfErr};
+ghost use Rattle.std.specs.Prelude.{◌≡◌, ℕ, Option, Some, List, map, codes, string_bytes, IfOk, IfErr};
 ghost use Rattle.std.specs.Bool.{Decides};
+ghost use Rattle.std.specs.Borrow.{Bor};
 ghost use Rattle.std.specs.List.{AllZip};
 ghost use Rattle.clap.specs.Words.{all_of, app_of, first_of, found_of, kind_of, rows_of, subcommand_rows_of};
-ghost use Rattle.bt_words.specs.CommandLine.{AsksFor, IsTaskOf, IsNoTaskOf, IsTaskIn, IsMakeTaskIn, IsSeedTaskIn, IsServiceIn, IsServingIn, IsFetchTaskIn, IsSourceIn, IsFlagIn, IsGiven};
+ghost use Rattle.bt_words.specs.CommandLine.{AsksFor, IsTaskOf, IsNoTaskOf, IsTaskIn, IsMakeTaskIn, IsSeedTaskIn, IsServiceIn, IsServingIn, IsFetchTaskIn, IsLogBeside, IsLogIn, IsSourceIn, IsFlagIn, IsGiven};
 ghost use Rattle.bt_words.specs.CommandLineSteps.{AreWordsOf, IsRefusalFor, TellsOf};
 ghost use Rattle.bt_words.specs.Subcommands.{program_app};
 ghost use Rattle.bt_words.specs.Values.{IsPeerWord};
@@ -58,6 +59,8 @@ pub struct SeedTask<'a> {
     pub torrent: Source<'a>,
     pub dir: &'a str,
     pub service: Service<'a>,
+    /// The file of the log, where there is to be one: none, where files are only read.
+    pub log: Option<&'a str>,
     /// Whether a call that fails is told of.
     pub verbose: bool,
 }
@@ -69,6 +72,8 @@ pub struct FetchTask<'a> {
     pub torrent: Source<'a>,
     pub dir: &'a str,
     pub peers: Vec<Peer<'a>>,
+    /// The file of the log, where there is to be one.
+    pub log: Option<&'a str>,
     /// Whether a call that fails is told of.
     pub verbose: bool,
 }
@@ -111,6 +116,8 @@ const COUNT_WANTED: &str = "--serve takes decimal digits: a number from 0 to 429
 const ADDRESS_WANTED: &str = "--listen takes an IPv4 or IPv6 address";
 
 const PORT_WANTED: &str = "--port takes decimal digits: a number from 0 to 65535";
+
+const LOG_UNWANTED: &str = "--log does not go with --read-only: a log is written";
 
 const PEER_WANTED: &str =
     "a peer is HOST:PORT, with a port in decimal digits: a number from 0 to 65535";
@@ -234,11 +241,13 @@ fn seed_task<'a>(matches: &ArgMatches<'a>) -> Result<Task<'a>, Refusal>
     let torrent = source_of(matches)?;
     let dir = word_of(matches, "DIR")?;
     let service = service_of(matches)?;
+    let log = log_beside(matches, service.is_read_only)?;
     let verbose = has_flag(matches, "verbose");
     Ok(Task::Seed(SeedTask {
         torrent,
         dir,
         service,
+        log,
         verbose,
     }))
 }
@@ -251,12 +260,14 @@ fn fetch_task<'a>(alloc: Global, matches: &ArgMatches<'a>) -> Result<Task<'a>, R
     let torrent = source_of(matches)?;
     let dir = word_of(matches, "DIR")?;
     let verbose = has_flag(matches, "verbose");
+    let log = log_in(matches);
     let words = words_of(matches, "PEER")?;
     let peers = peers_of(alloc, words)?;
     Ok(Task::Fetch(FetchTask {
         torrent,
         dir,
         peers,
+        log,
         verbose,
     }))
 }
@@ -295,7 +306,7 @@ fn service_of<'a>(matches: &ArgMatches<'a>) -> Result<Service<'a>, Refusal>
         return Err(Refusal::Value(ADDRESS_WANTED));
     }
     let digits = word_of(matches, "port")?;
-    let is_read_only = has_flag(matches, "read-only");
+    let is_read_only = is_given(matches, "read-only");
     match port_in(digits) {
         Some(port) => Ok(Service {
             address,
@@ -331,6 +342,30 @@ fn serving_of(matches: &ArgMatches<'_>) -> Result<Serving, Refusal>
             Err(Refusal::Value(SERVING_WANTED))
         }
     }
+}
+
+/// The file of a seed's log, if there is to be one: none, where files are only read.
+fn log_beside<'a>(matches: &ArgMatches<'a>, is_read_only: bool) -> Result<Option<&'a str>, Refusal>
+    ensures log { IfOk result (IsLogBeside is_read_only (rows_of (found_of matches.now))) }
+    ensures refused { IfErr result (IsRefusalFor ((log : Option (Bor (List ℕ)))
+        → ¬ IsLogBeside is_read_only (rows_of (found_of matches.now)) log)) }
+{
+    match log_in(matches) {
+        Some(path) => {
+            if is_read_only {
+                return Err(Refusal::Value(LOG_UNWANTED));
+            }
+            Ok(Some(path))
+        }
+        None => Ok(None),
+    }
+}
+
+/// The file of a log, if there is to be one.
+fn log_in<'a>(matches: &ArgMatches<'a>) -> Option<&'a str>
+    ensures { IsLogIn (rows_of (found_of matches.now)) result }
+{
+    matches.get_str("log")
 }
 
 /// Whether a flag is among the words.

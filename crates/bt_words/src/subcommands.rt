@@ -118,6 +118,12 @@ const READ_ONLY: Word<'static> = Word {
     help: "Files are only read, and none is made; if not all are complete, nothing is served",
 };
 
+const LOG: Word<'static> = Word {
+    id: "log",
+    kind: Kind::Value("F"),
+    help: "A file that keeps what is known of the files: a run begins with what it records, and with nothing else; it is made where it is missing",
+};
+
 const FETCH_DIR: Word<'static> = Word {
     id: "DIR",
     kind: Kind::Needed,
@@ -158,13 +164,13 @@ const SUBCOMMANDS: &[Subcommand<'static>] = &[
         name: "seed",
         about: "Serves the files of a folder to peers that connect, one after the other, and takes what is missing from them, unless with --read-only",
         words: &[
-            TORRENT, DIR, SERVE, FOREVER, LISTEN, PORT, READ_ONLY, INFO, VERBOSE,
+            TORRENT, DIR, SERVE, FOREVER, LISTEN, PORT, READ_ONLY, LOG, INFO, VERBOSE,
         ],
     },
     Subcommand {
         name: "fetch",
         about: "Fetches the files of a torrent from peers, which are tried in turn, and prints the report",
-        words: &[TORRENT, FETCH_DIR, PEERS, INFO, VERBOSE],
+        words: &[TORRENT, FETCH_DIR, PEERS, LOG, INFO, VERBOSE],
     },
     Subcommand {
         name: "replay",
