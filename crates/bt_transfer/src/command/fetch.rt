@@ -19,9 +19,7 @@ use crate::peer_lines::write_peers;
 use bt_check::{Fault, Source};
 use bt_disk::Disk;
 use bt_engine::Engine;
-use bt_files::{
-    FileUse, adopt_waiting, begin_fetching, conclude, finish, flush_fault, load_store,
-};
+use bt_files::{FileUse, adopt_waiting, begin_fetching, conclude, finish, flush_fault, load_store};
 use bt_folder::Seal;
 use bt_padding::ShortBlocks;
 use bt_peers::{Link, PeerEnd, run_peers_with_flushes};
@@ -159,7 +157,15 @@ fn fetch_from<D: Disk + Drop, H: NodeHash, N: Net + Clock, W: Write>(
 {
     let mut links = links_to(alloc, net, peers, passage)?;
     let every = flush_turns(log);
-    let status = fetch_over(alloc, engine, peers, &mut links, SESSION_TURNS, every, writer)?;
+    let status = fetch_over(
+        alloc,
+        engine,
+        peers,
+        &mut links,
+        SESSION_TURNS,
+        every,
+        writer,
+    )?;
     hear(passage.shared.alarm.has_rung(), status)?;
     Ok(status)
 }
