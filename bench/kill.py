@@ -19,6 +19,7 @@ Told are how far each fetch was at each end, the log's length in the end, and ho
 one that is named, or else the proved one, which is proved and built where it is not yet. The status is 0 where all is as it has to be.
 """
 
+import contextlib
 import os
 import pathlib
 import random
@@ -105,13 +106,12 @@ class Relay:
 
 
 def passed(source, target):
-    """Passes all on that comes, until one of the two ends."""
-    try:
+    """Passes all on that comes, until one of the two ends, as a process does that is killed: then the other is told."""
+    with contextlib.suppress(OSError):
         while part := source.recv(1 << 16):
             target.sendall(part)
+    with contextlib.suppress(OSError):
         target.shutdown(socket.SHUT_RDWR)
-    except OSError:
-        pass
 
 
 class Bench:
