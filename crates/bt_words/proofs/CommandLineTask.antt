@@ -117,13 +117,13 @@ pub no_log_beside : (rows : List Row) (read_only : Bool) (text : List ℕ) → r
     → (log : Option (Bor (List ℕ))) → ¬ IsLogBeside read_only rows log
 no_log_beside rows read_only text is given log beside =
     let none : option_map (λ (p : Bor (List ℕ)). p.now) log ≡ None = ap (option_map (λ p. p.now)) (beside.unwritten is) in
-    let bad : None ≡ Some text = sym none ∙ beside.log ∙ given in cc
+    let bad : None ≡ Some text = sym none ∙ beside.given ∙ given in cc
 
 -- one is given, and files are written
 pub log_beside : (rows : List Row) (read_only : Bool) (path : Bor (List ℕ)) → read_only ≡ false → first_of (codes "log") rows ≡ Some path.now
     → IsLogBeside read_only rows (Some path)
 log_beside rows read_only path is given = record {
-  log = sym given;
+  given = sym given;
   unwritten = λ other. absurd (let bad : false ≡ true = sym is ∙ other in cc);
 }
 
