@@ -1,5 +1,5 @@
 -- Lemmas on what the words of the command line ask for.
-use Rattle.std.proofs.Common.{◌≡◌, ℕ, ◌<◌, ◌++◌, true, List, [], ◌∷◌, length, map, Option, None, Some, Result, Ok, Err, IfOk, IfErr, IsErrAnd, false, refl, sym, ap, subst, ◌∙◌, arith, codes, slice_index, inl, inr, Bool}
+use Rattle.std.proofs.Common.{◌≡◌, ℕ, true, List, map, Option, None, Some, Result, Ok, Err, IfOk, IfErr, IsErrAnd, false, refl, sym, ap, subst, ◌∙◌, codes, inl, inr, Bool}
 use Rattle.std.specs.Prelude.{option_map}
 use Rattle.std.specs.Bool.{Decides}
 use Rattle.std.specs.Borrow.{Bor}
@@ -19,7 +19,7 @@ use Rattle.bt_check.specs.declared.torrent_file.Source.{Source}
 use Rattle.bt_words.specs.declared.peer.Service.{Service}
 use Rattle.bt_words.specs.declared.peer.Serving.{Serving}
 use Rattle.bt_words.specs.declared.peer.Serving.TheVariants.{Count, Forever}
-use Rattle.bt_words.specs.CommandLine.{AsksFor, HasNumber, IsFetchTaskIn, IsGiven, IsLogBeside, IsLogIn, IsMakeTaskIn, IsSeedTaskIn, IsServiceIn, IsServingIn, IsSourceIn, IsTaskIn, IsTaskOf, IsNoTaskOf}
+use Rattle.bt_words.specs.CommandLine.{AsksFor, HasNumber, IsFetchTaskIn, IsGiven, IsLogBeside, IsMakeTaskIn, IsSeedTaskIn, IsServiceIn, IsServingIn, IsSourceIn, IsTaskIn, IsTaskOf, IsNoTaskOf}
 use Rattle.bt_words.specs.CommandLineSteps.{AreWordsOf, IsRefusalFor, TellsOf}
 use Rattle.bt_words.specs.Subcommands.{check_app, fetch_app, file_app, make_app, program_app, replay_app, seed_app, show_app, top_app, transfer_app}
 use Rattle.bt_words.specs.Values.{IsNumber, IsPeerWord}
