@@ -1,5 +1,5 @@
 -- Lemmas on what the words of the command line ask for.
-use Rattle.std.proofs.Common.{◌≡◌, ℕ, ◌<◌, ◌++◌, true, List, [], ◌∷◌, length, map, Option, None, Some, Result, Ok, Err, IfOk, IfErr, IsErrAnd, false, refl, sym, ap, subst, ◌∙◌, arith, codes, slice_index, inl, inr, Bool}
+use Rattle.std.proofs.Common.{◌≡◌, ℕ, true, List, map, Option, None, Some, Result, Ok, Err, IfOk, IfErr, IsErrAnd, false, refl, sym, ap, subst, ◌∙◌, codes, inl, inr, Bool}
 use Rattle.std.specs.Prelude.{option_map}
 use Rattle.std.specs.Bool.{Decides}
 use Rattle.std.specs.Borrow.{Bor}
@@ -19,7 +19,7 @@ use Rattle.bt_check.specs.declared.torrent_file.Source.{Source}
 use Rattle.bt_words.specs.declared.peer.Service.{Service}
 use Rattle.bt_words.specs.declared.peer.Serving.{Serving}
 use Rattle.bt_words.specs.declared.peer.Serving.TheVariants.{Count, Forever}
-use Rattle.bt_words.specs.CommandLine.{AsksFor, HasNumber, IsFetchTaskIn, IsGiven, IsLogBeside, IsLogIn, IsMakeTaskIn, IsSeedTaskIn, IsServiceIn, IsServingIn, IsSourceIn, IsTaskIn, IsTaskOf, IsNoTaskOf}
+use Rattle.bt_words.specs.CommandLine.{AsksFor, HasNumber, IsFetchTaskIn, IsGiven, IsLogBeside, IsMakeTaskIn, IsSeedTaskIn, IsServiceIn, IsServingIn, IsSourceIn, IsTaskIn, IsTaskOf, IsNoTaskOf}
 use Rattle.bt_words.specs.CommandLineSteps.{AreWordsOf, IsRefusalFor, TellsOf}
 use Rattle.bt_words.specs.Subcommands.{check_app, fetch_app, file_app, make_app, program_app, replay_app, seed_app, show_app, top_app, transfer_app}
 use Rattle.bt_words.specs.Values.{IsNumber, IsPeerWord}
@@ -117,13 +117,13 @@ pub no_log_beside : (rows : List Row) (read_only : Bool) (text : List ℕ) → r
     → (log : Option (Bor (List ℕ))) → ¬ IsLogBeside read_only rows log
 no_log_beside rows read_only text is given log beside =
     let none : option_map (λ (p : Bor (List ℕ)). p.now) log ≡ None = ap (option_map (λ p. p.now)) (beside.unwritten is) in
-    let bad : None ≡ Some text = sym none ∙ beside.log ∙ given in cc
+    let bad : None ≡ Some text = sym none ∙ beside.given ∙ given in cc
 
 -- one is given, and files are written
 pub log_beside : (rows : List Row) (read_only : Bool) (path : Bor (List ℕ)) → read_only ≡ false → first_of (codes "log") rows ≡ Some path.now
     → IsLogBeside read_only rows (Some path)
 log_beside rows read_only path is given = record {
-  log = sym given;
+  given = sym given;
   unwritten = λ other. absurd (let bad : false ≡ true = sym is ∙ other in cc);
 }
 

@@ -44,7 +44,7 @@ IsLogIn rows log = option_map (λ path. path.now) log ≡ first_of (codes "log")
 
 -- the same where it may be: not where files are only read, since a log is written
 pub record IsLogBeside (is_read_only : Bool) (rows : List Row) (log : Option (Bor (List ℕ))) : Type 0 where
-  pub log : IsLogIn rows log
+  pub given : IsLogIn rows log
   pub unwritten : is_read_only ≡ true → log ≡ None
 
 -- ---- tasks

@@ -17,6 +17,6 @@ returns-else-is_read_only-clause-log c =
 
 pub returns-in-None-clause-log : goal.returns-in-None-clause-log
 returns-in-None-clause-log c = record {
-  log = ap (option_map (λ (p : Bor (List ℕ)). p.now)) (sym c.in-None.is) ∙ c.log_in.ensures;
+  given = ap (option_map (λ (p : Bor (List ℕ)). p.now)) (sym c.in-None.is) ∙ c.log_in.ensures;
   unwritten = λ other. refl;
 }

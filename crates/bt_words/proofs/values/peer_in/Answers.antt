@@ -1,4 +1,4 @@
-use Rattle.std.proofs.Common.{◌≡◌, [], length, arith}
+use Rattle.std.proofs.Common.{arith}
 use Rattle.bt_words.specs.Values.{IsPeerWord}
 use Rattle.bt_words.specs.declared.peer.Peer.{Peer}
 use Rattle.bt_words.proofs.PeerWords.{none_always, cut_at, uncut, no_colon, no_host, no_port}
