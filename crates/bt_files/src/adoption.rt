@@ -39,7 +39,7 @@ pub fn adopt_files<D: Disk + Drop, H: NodeHash>(
 }
 
 /// Whether bytes of a file are there.
-pub(crate) fn is_filled(filled: &[bool], file: u32) -> bool
+fn is_filled(filled: &[bool], file: u32) -> bool
     ensures { IsTrue result ↔ (slice_get filled.now file ≡ Some true) }
 {
     filled.get(file as usize) == Some(&true)

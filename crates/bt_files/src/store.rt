@@ -11,7 +11,7 @@ ghost use Rattle.bt_check.specs.Fault.{out_of_memory};
 ghost use Rattle.bt_files.specs.OpenFolder.{IsCallFault};
 ghost use Rattle.bt_files.specs.Store.{HasBegun, IsFlushFault, IsOpened, IsOpenFault, IsSameButPending, flush_fault};
 
-use crate::adoption::{adopt_files, is_filled};
+use crate::adoption::adopt_files;
 use crate::data_files::{DataDisk, OpenFiles, open_devices};
 use crate::device_context::DeviceContext;
 use crate::file_use::FileUse;
@@ -50,7 +50,15 @@ pub(crate) fn open_store<'a, R: Files + AllocGlobal + Clone + Drop, P: Watch>(
     let mut files = open_devices(rt, watch, context, dir, torrent.files())?;
     let attached = open_log_at(rt, watch, context, &mut files.known, dir, &torrent, log)?;
     let hash = CachedLanes::new(context.digests);
-    begin_store(rt.alloc(), watch, context.usage, torrent, files, attached, hash)
+    begin_store(
+        rt.alloc(),
+        watch,
+        context.usage,
+        torrent,
+        files,
+        attached,
+        hash,
+    )
 }
 
 /// Starts an engine of a torrent over the devices of its opened files, with a log of it or without.
@@ -70,7 +78,11 @@ fn begin_store<'a, D: Disk + Drop, P: Watch>(
         (HasBegun D.history D.honest D.faults sha256 torrent files.disks.items log files.filled.items) }
     ensures fault { IfErr result IsCallFault }
 {
-    let OpenFiles { disks, filled, known } = files;
+    let OpenFiles {
+        disks,
+        filled,
+        known,
+    } = files;
     drop(known);
     match log {
         Some(log) => {
@@ -88,7 +100,7 @@ fn begin_store<'a, D: Disk + Drop, P: Watch>(
 /// Tells that those files are to be read of which bytes are there.
 fn expect_reads<P: Watch>(watch: &P, files: &[FileEntry], filled: &[bool]) {
     for (number, file) in files.iter().enumerate() {
-        if is_filled(filled, number as u32) {
+        if filled.get(number) == Some(&true) {
             watch.expect(file.length);
         }
     }

@@ -11,7 +11,7 @@ returns-else-complete-clause-concluded g c = search rules
 
 pub returns-in_err-finish-clause-fault : goal.returns-in_err-finish-clause-fault
 returns-in_err-finish-clause-fault g c =
-    passed_on c.from_residual-in_err-finish.result c.in_err-finish.field-0.0 (IsEndFault c.args.engine.now.log) c.from_residual-in_err-finish.ensures.1
+    passed_on c.from_residual.result c.in_err-finish.field-0.0 (IsEndFault c.args.engine.now.log) c.from_residual.ensures.1
     (inl c.in_err-finish.ensures.fault)
 
 pub returns-in_err-complete-clause-fault : goal.returns-in_err-complete-clause-fault

@@ -1,4 +1,4 @@
-use Rattle.std.proofs.Common.{Some, None, IfOk, inr, sym, subst}
+use Rattle.std.proofs.Common.{◌≡◌, Some, None, IfOk, inr, sym, subst}
 use Rattle.std.specs.Prelude.{IfSome}
 use Rattle.sha2.specs.Sha256.{sha256}
 use Rattle.bt_files.specs.Store.{HasBegun}
@@ -15,8 +15,8 @@ returns-in-Some-clause-begun g c =
     subst (λ log. HasBegun g.D.Disk.history g.D.Disk.honest g.D.Disk.faults sha256 c.args.torrent c.args.files.disks.items log c.args.files.filled.items
     c.in_ok-engine-in-Some.engine) (sym c.in-Some.is) (c.in_ok-engine-in-Some.ensures.begun c.args.files.filled.items)
 
-pub returns-in-None-clause-begun : goal.returns-in-None-clause-begun
-returns-in-None-clause-begun g c =
+pub returns-clause-begun : goal.returns-clause-begun
+returns-clause-begun g c =
     subst (λ log. IfOk c.begin.result
     (HasBegun g.D.Disk.history g.D.Disk.honest g.D.Disk.faults sha256 c.args.torrent c.args.files.disks.items log c.args.files.filled.items))
     (sym c.in-None.is) c.begin.ensures.begun

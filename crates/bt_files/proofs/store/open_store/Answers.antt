@@ -24,8 +24,8 @@ begin_store-requires-clause-own_log g c = log_is_own c.args.torrent c.args.log c
 
 pub returns-in_err-look_at_log-clause-fault : goal.returns-in_err-look_at_log-clause-fault
 returns-in_err-look_at_log-clause-fault g c =
-    passed_on c.from_residual-in_err-look_at_log.result c.in_err-look_at_log.field-0.0 (IsOpenFault c.args.context.usage c.args.torrent c.args.log)
-    c.from_residual-in_err-look_at_log.ensures.1 (inl c.in_err-look_at_log.ensures)
+    passed_on c.from_residual.result c.in_err-look_at_log.field-0.0 (IsOpenFault c.args.context.usage c.args.torrent c.args.log)
+    c.from_residual.ensures.1 (inl c.in_err-look_at_log.ensures)
 
 pub returns-in_err-files-clause-fault : goal.returns-in_err-files-clause-fault
 returns-in_err-files-clause-fault g c =

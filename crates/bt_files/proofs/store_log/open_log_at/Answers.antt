@@ -3,8 +3,8 @@ use Rattle.bt_files.specs.StoreLog.{IsLogAt, IsLogFaultAt}
 use Rattle.bt_files.proofs.Faults.{passed_on}
 use Rattle.bt_files.proofs.store_log.open_log_at.Goals as goal
 
-pub returns-in-Some-clause-log : goal.returns-in-Some-clause-log
-returns-in-Some-clause-log g c =
+pub returns-in_ok-opened-in-Some-clause-log : goal.returns-in_ok-opened-in-Some-clause-log
+returns-in_ok-opened-in-Some-clause-log g c =
     subst (λ log. IsLogAt c.args.torrent.now log (Some c.in_ok-opened-in-Some.opened)) (sym c.in-Some.is) c.in_ok-opened-in-Some.ensures.log
 
 pub returns-in_err-opened-in-Some-clause-fault : goal.returns-in_err-opened-in-Some-clause-fault
