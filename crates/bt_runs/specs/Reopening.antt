@@ -24,7 +24,8 @@ pub record IsNotStarted {D : Type 0} (torrent : Metainfo) (given : List D) (open
   pub same_disks : refused.disks.items ≡ given
   pub same_log : refused.log ≡ opened.disk
 
-module _ {D : Type 0} (history : D → History) (honest : D → Type 0) (faults : D → ℕ) (dig : List ℕ → List ℕ) where
+module _ {D : Type 0} (history : D → History) (honest : D → Type 0) (faults : D → ℕ)
+    (dig : List ℕ → List ℕ) where
   -- The log was opened, and an engine of the torrent has begun with it over these devices. What that marks
   -- again is said of them.
   pub record HasReopened (torrent : Metainfo) (given : List D) (log : D) (engine : EngineView D) : Type 0
