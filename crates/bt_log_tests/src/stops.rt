@@ -93,11 +93,7 @@ fn tell_starts(
 }
 
 /// What a crash leaves of the devices of files.
-fn images_of(
-    alloc: Global,
-    stopped: Stopped<'_>,
-    loss: Loss,
-) -> Result<Vec<TestDisk>, AllocError> {
+fn images_of(alloc: Global, stopped: Stopped<'_>, loss: Loss) -> Result<Vec<TestDisk>, AllocError> {
     let mut images = Vec::new(alloc);
     for number in 0..stopped.count() {
         if let Some(disk) = stopped.disk(number) {
