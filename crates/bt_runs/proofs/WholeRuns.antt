@@ -24,7 +24,7 @@ use Rattle.bt_machine.proofs.Machine.{Digest, EngineState, RunOn, Starts, state_
 use Rattle.bt_machine.proofs.Lists.{and_then_some, get_some, some_below}
 use Rattle.bt_runs.specs.WholeRuns.{starting_calls, IsMarkedAtStart, IsPublishedOn, IsMarkedInRun, at_event, at_start, WholeRunsKeepPromises, WhatLeadsOnIsWhole}
 use Rattle.bt_runs.proofs.Flushes.{flushes}
-use Rattle.bt_runs.proofs.Leads.{leads_run}
+use Rattle.bt_runs.proofs.Leading.{leads_run}
 use Rattle.bt_runs.proofs.Paths.{marked_cases, path_of, sends_on_path}
 
 -- ---- blocks

@@ -1,5 +1,5 @@
 use Rattle.bt_engine.proofs.StandingRuns.{runs_stand}
-use Rattle.bt_runs.proofs.Leads.{leads_stand}
+use Rattle.bt_runs.proofs.Leading.{leads_stand}
 use Rattle.bt_runs.proofs.leads.what_leads_on_stands.Goals as goal
 
 pub returns : goal.returns
