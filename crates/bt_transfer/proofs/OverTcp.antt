@@ -120,8 +120,8 @@ in_turn_by : {D L : Type 0} (Try To : Trial D L)
     → InTurn Try old links ends rest new → InTurn To old links ends rest new
 in_turn_by Try To carry (none_left engine) = none_left engine
 in_turn_by Try To carry (complete engine links is_done) = complete engine links is_done
-in_turn_by Try To carry (tried old mid new link after end links rest ends not_done went turns) =
-    tried old mid new link after end links rest ends not_done (carry old link end after mid went) (in_turn_by Try To carry turns)
+in_turn_by Try To carry (tried old mid new link after end links rest ends not_done t turns) =
+    tried old mid new link after end links rest ends not_done (carry old link end after mid t) (in_turn_by Try To carry turns)
 
 flushed_in_turn_by : {D L : Type 0} (Try To : TrialWithFlushes D L)
     → ((old : EngineView D) (link : L) (end : PeerEnd) (answer : Result (Unit {0}) FlushError) (after : L) (new : EngineView D) → Try old link end answer after new

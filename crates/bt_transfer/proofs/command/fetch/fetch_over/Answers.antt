@@ -1,12 +1,29 @@
-use Rattle.std.proofs.Common.{inl}
+use Rattle.std.proofs.Common.{List, inl, subst}
+use Rattle.std.specs.Io.KnownBytes.{Appends}
+use Rattle.bt_peers.specs.declared.end.PeerEnd.{PeerEnd}
 use Rattle.bt_runs.specs.Leads.{none, both}
 use Rattle.bt_files.specs.Ending.{IsEndFault}
 use Rattle.bt_files.proofs.Adoptions.{adoption_fault}
-use Rattle.bt_files.proofs.Faults.{call_ends, err_weaker, passed_on}
+use Rattle.bt_files.proofs.Faults.{call_ends, err_weaker, ok_weaker, passed_on}
 use Rattle.bt_files.proofs.Unlogged.{end_fault_before}
+use Rattle.bt_transfer.specs.PeerLines.{peer_lines}
 use Rattle.bt_transfer.proofs.EndFaults.{of_fault}
 use Rattle.bt_transfer.proofs.Flushes.{broke_off, on_err}
 use Rattle.bt_transfer.proofs.command.fetch.fetch_over.Goals as goal
+
+pub returns-clause-fetched : goal.returns-clause-fetched
+returns-clause-fetched g c = ok_weaker c.conclude.result _ _ (λ status ended. record {
+  ends = c.try_and_sync-kept.new.ends;
+  kept = c.try_and_sync-kept.new.engine;
+  told = g.W.Write.contents c.write_peers.new.writer;
+  taken = c.adopt_waiting.new.engine;
+  tried = c.in_ok-kept.ensures.kept;
+  lines = subst (λ (ends : List PeerEnd). Appends (g.W.Write.contents c.args.writer.now) (g.W.Write.contents c.write_peers.new.writer) (peer_lines c.args.peers.now ends))
+      c.deref.ensures.value c.in_ok-write_peers.ensures.text;
+  taken_in = c.in_ok-adopt_waiting.ensures.taken_in;
+  end = ended;
+})
+    c.conclude.ensures.concluded
 
 pub returns-in_err-ends-clause-run : goal.returns-in_err-ends-clause-run
 returns-in_err-ends-clause-run g c = none c.args.engine.now
