@@ -83,7 +83,8 @@ pub record IsOpened (usage : FileUse) (dir : List ℕ) (log : Option (Bor (List 
   pub each : length filled ≡ length torrent.files
   pub attached : Option (LogView DeviceView)
   pub of_log : IsLogAt torrent log attached
-  pub begun : HasBegun device_history device_honest device_faults sha256 torrent devices attached filled engine
+  pub begun : HasBegun device_history device_honest device_faults sha256 torrent devices attached filled
+      engine
 
 -- Why none is opened: a look at the path of the log refuses it; the files are not opened, or a call failed; or the log
 -- is not.

@@ -93,7 +93,8 @@ fn fetch_store<D: Disk + Drop, H: NodeHash, N: Net + Clock, P: Watch, W: Write>(
     writer: &mut W,
 ) -> Result<u8, Fault>
     requires no_peer { engine.state.peers ≡ [] }
-    ensures fetched { (torrent : Metainfo) (given : List D) (attached : Option (LogView D)) (filled : List Bool)
+    ensures fetched { (torrent : Metainfo) (given : List D) (attached : Option (LogView D))
+        (filled : List Bool)
         (begun : HasBegun D.history D.honest D.faults H.digest torrent given attached filled engine)
         → IfOk result (λ status. EndsFetch begun.begins engine peers.now log.entry
         (W.contents writer.old) (W.contents writer.new) status) }
@@ -205,13 +206,13 @@ fn fetch_over<D: Disk + Drop, H: NodeHash, L: Link, W: Write>(
     requires same_length { length links.old ≡ length peers.now }
     requires undialled { All (λ link. L.dials link ≡ 0) links.old }
     requires no_peer { engine.old.state.peers ≡ [] }
-    ensures fetched { IfOk result (λ status. HasFetched (InTurnWithFlushes (IsTriedWithFlushes D.history D.honest
+    ensures fetched { IfOk result (λ status. HasFetched (InTurnWithFlushes (IsTriedWithFlushes D.history
+        D.honest D.faults H.digest L.dials L.failures L.gives L.R.remaining L.W.contents flush_every turns))
+        D.history D.honest D.faults H.digest peers.now engine.old links.old (W.contents writer.old)
+        (W.contents writer.new) status links.new engine.new) }
+    ensures broken_off { OnErr result (BreaksOff (InTurnWithFlushes (IsTriedWithFlushes D.history D.honest
         D.faults H.digest L.dials L.failures L.gives L.R.remaining L.W.contents flush_every turns)) D.history
-        D.honest D.faults H.digest peers.now engine.old links.old (W.contents writer.old) (W.contents writer.new)
-        status links.new engine.new) }
-    ensures broken_off { OnErr result (BreaksOff (InTurnWithFlushes (IsTriedWithFlushes D.history D.honest D.faults
-        H.digest L.dials L.failures L.gives L.R.remaining L.W.contents flush_every turns)) D.history D.honest
-        D.faults H.digest engine.old links.old links.new engine.new) }
+        D.honest D.faults H.digest engine.old links.old links.new engine.new) }
     ensures run { LeadsTo D.history D.honest D.faults H.digest engine.old engine.new }
     ensures fault { IfErr result (IsEndFault engine.old.log) }
 {
@@ -237,12 +238,12 @@ fn try_and_sync<D: Disk + Drop, H: NodeHash, L: Link>(
     requires same_length { length links.old ≡ length ends.old }
     requires undialled { All (λ link. L.dials link ≡ 0) links.old }
     requires no_peer { engine.old.state.peers ≡ [] }
-    ensures kept { OnOk result (TriesAndSyncs (InTurnWithFlushes (IsTriedWithFlushes D.history D.honest D.faults
-        H.digest L.dials L.failures L.gives L.R.remaining L.W.contents flush_every turns)) D.history D.honest
-        D.faults H.digest engine.old links.old ends.new links.new (Ok tt) engine.new) }
-    ensures failed { IfErr result (λ fault. FailsToSync (InTurnWithFlushes (IsTriedWithFlushes D.history D.honest
+    ensures kept { OnOk result (TriesAndSyncs (InTurnWithFlushes (IsTriedWithFlushes D.history D.honest
         D.faults H.digest L.dials L.failures L.gives L.R.remaining L.W.contents flush_every turns)) D.history
-        D.honest D.faults H.digest engine.old links.old ends.new links.new fault engine.new) }
+        D.honest D.faults H.digest engine.old links.old ends.new links.new (Ok tt) engine.new) }
+    ensures failed { IfErr result (λ fault. FailsToSync (InTurnWithFlushes (IsTriedWithFlushes D.history
+        D.honest D.faults H.digest L.dials L.failures L.gives L.R.remaining L.W.contents flush_every turns))
+        D.history D.honest D.faults H.digest engine.old links.old ends.new links.new fault engine.new) }
     ensures gone { engine.new.state.peers ≡ [] }
     ensures run { LeadsTo D.history D.honest D.faults H.digest engine.old engine.new }
     ensures fault { IfErr result (IsFlushFault engine.old.log) }

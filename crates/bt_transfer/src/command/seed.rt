@@ -137,7 +137,8 @@ fn seed_store<D: Disk + Drop, H: NodeHash, N: Net + Clock, P: Watch, W: Write>(
     writer: &mut W,
 ) -> Result<u8, Fault>
     requires no_peer { engine.state.peers ≡ [] }
-    ensures listened { (torrent : Metainfo) (given : List D) (attached : Option (LogView D)) (filled : List Bool)
+    ensures listened { (torrent : Metainfo) (given : List D) (attached : Option (LogView D))
+        (filled : List Bool)
         (begun : HasBegun D.history D.honest D.faults H.digest torrent given attached filled engine)
         → IfOk result (λ status. EndsSeed begun.begins engine service.entry.serving
         (W.contents writer.old) (W.contents writer.new) status) }
