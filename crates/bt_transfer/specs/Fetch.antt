@@ -67,7 +67,7 @@ pub record HasFetched {D L : Type 0} (InTurns : Turns D L) (history : D → Hist
 -- which 0 stands.
 abbrev pub flush_turns : Option (Bor (List ℕ)) → ℕ
 flush_turns None = 0
-flush_turns (Some path) = 4096
+flush_turns (Some path) = 16384
 
 -- Peers are tried in turn, and where there is a log, also flushed in their sessions and behind these. Without
 -- one there is no flush among them.

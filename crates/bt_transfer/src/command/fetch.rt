@@ -36,8 +36,8 @@ use std::time::{Clock, Duration};
 
 /// Behind each so many turns with a peer, a fetch that has a log puts what came on the devices, and what is known of
 /// it into the log, so that little has to come again where the fetch is killed. A turn takes in what one read from the
-/// peer gives, 16 KiB at most: so at most 64 MiB come between two flushes.
-const FLUSH_TURNS: u64 = 4096;
+/// peer gives, 16 KiB at most: so at most 256 MiB come between two flushes.
+const FLUSH_TURNS: u64 = 16_384;
 
 /// Opens the store of a torrent's files in a folder, as `load_store` does; takes peers in turn until all
 /// files are complete; writes how it ended with each that was tried; takes in the files whose blocks all came,
