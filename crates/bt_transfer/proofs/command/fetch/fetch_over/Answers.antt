@@ -1,4 +1,5 @@
-use Rattle.std.proofs.Common.{List, inl, subst}
+use Rattle.std.proofs.Common.{List, inl, subst, ◌∙◌}
+use Rattle.std.proofs.lemmas.List.{with_items_is}
 use Rattle.std.specs.Io.KnownBytes.{Appends}
 use Rattle.bt_peers.specs.declared.end.PeerEnd.{PeerEnd}
 use Rattle.bt_runs.specs.Leads.{none, both}
@@ -19,7 +20,8 @@ returns-clause-fetched g c = ok_weaker c.conclude.result _ _ (λ status ended. r
   taken = c.adopt_waiting.new.engine;
   tried = c.in_ok-kept.ensures.kept;
   lines = subst (λ (ends : List PeerEnd). Appends (g.W.Write.contents c.args.writer.now) (g.W.Write.contents c.write_peers.new.writer) (peer_lines c.args.peers.now ends))
-      c.deref.ensures.value c.in_ok-write_peers.ensures.text;
+      (c.deref.ensures.value ∙ with_items_is c.in_ok-ends.ends c.try_and_sync-kept.new.ends (c.try_and_sync-kept.auto.ends ∙ c.deref_mut.ensures.len))
+      c.in_ok-write_peers.ensures.text;
   taken_in = c.in_ok-adopt_waiting.ensures.taken_in;
   end = ended;
 })
