@@ -1,5 +1,5 @@
 -- The status of a fault.
-use Rattle.std.proofs.Common.{◌≤◌, ℕ, arith}
+use Rattle.std.proofs.Common.{◌≤◌, arith}
 use Rattle.bt_check.specs.Fault.{status_of}
 use Rattle.bt_check.specs.declared.fault.Fault.{Fault}
 use Rattle.bt_check.specs.declared.fault.Fault.TheVariants.{Words, OutAmongFiles, Torrent, Make, SameFile, LogAmongFiles, OtherTorrent, LogTooLong, LogFull, Device, OutOfMemory}

@@ -1,5 +1,5 @@
 -- With status 2 nothing was written, but by a script, or where a log was full.
-use Rattle.std.proofs.Common.{◌≡◌, ◌≢◌, ℕ, Bool, true, false, List, Option, inl, inr, refl, sym, subst, ◌∙◌}
+use Rattle.std.proofs.Common.{◌≡◌, ◌≢◌, ℕ, Bool, true, false, List, Option, inl, inr, refl, sym, subst, ◌∙◌, arith}
 use Rattle.std.specs.Prelude.{◌⊎◌, if◌then◌else◌}
 use Rattle.std.specs.Io.KnownBytes.{Keeps}
 use Rattle.clap.specs.Words.{Text}
@@ -17,17 +17,17 @@ use Rattle.bt_commands.proofs.FullLog.{has_log, is_full}
 -- ---- a task that was done
 
 none_of_both : (b : Bool) (status : ℕ) → status ≡ (if b then 0 else 1) → ¬ (status ≡ 2)
-none_of_both true status is two = let bad : 0 ≡ 2 = sym is ∙ two in cc
-none_of_both false status is two = let bad : 1 ≡ 2 = sym is ∙ two in cc
+none_of_both true status is two = omega (arith, is, two)
+none_of_both false status is two = omega (arith, is, two)
 
 seeded : (task : SeedTask) (old new : Option (List ℕ)) (status : ℕ) → IsSeedResult task old new status → ¬ (status ≡ 2)
-seeded task old new status (inl served) two = let bad : 0 ≡ 2 = sym served.ended.done ∙ two in cc
-seeded task old new status (inr lacking) two = let bad : 1 ≡ 2 = sym lacking.answer ∙ two in cc
+seeded task old new status (inl served) two = omega (arith, served.ended.done, two)
+seeded task old new status (inr lacking) two = omega (arith, lacking.answer, two)
 
 -- but for a script its status is another one
 done : (task : Task) (given left old new : Option (List ℕ)) (status : ℕ) → IsDone task given left old new status → task ≢ Replay → ¬ (status ≡ 2)
-done (Make request) given left old new status it other two = let bad : 0 ≡ 2 = sym it.is.answer ∙ two in cc
-done (Show torrent) given left old new status it other two = let bad : 0 ≡ 2 = sym it.is.answer ∙ two in cc
+done (Make request) given left old new status it other two = omega (arith, it.is.answer, two)
+done (Show torrent) given left old new status it other two = omega (arith, it.is.answer, two)
 done (Check torrent dir verbose) given left old new status it other two = none_of_both _ status it.is.answer two
 done (Seed task) given left old new status it other two = seeded task old new status it two
 done (Fetch task) given left old new status it other two = none_of_both _ status it.ended.fetched.fetched.end.told two
@@ -48,10 +48,10 @@ ended words task fault old new (inr other) asked end two = inl (end.refused two 
 -- ---- words that ask for none
 
 explained : (kind : ErrorKind) (old new : Option (List ℕ)) (status : ℕ) → IsExplanation kind old new status → status ≡ 2 → Keeps old new
-explained DisplayHelp old new status (inl printed) two = absurd (let bad : 0 ≡ 2 = sym printed ∙ two in cc)
-explained DisplayHelp old new status (inr failed) two = absurd (let bad : 3 ≡ 2 = sym failed ∙ two in cc)
-explained DisplayVersion old new status (inl printed) two = absurd (let bad : 0 ≡ 2 = sym printed ∙ two in cc)
-explained DisplayVersion old new status (inr failed) two = absurd (let bad : 3 ≡ 2 = sym failed ∙ two in cc)
+explained DisplayHelp old new status (inl printed) two = absurd (omega (arith, printed, two))
+explained DisplayHelp old new status (inr failed) two = absurd (omega (arith, failed, two))
+explained DisplayVersion old new status (inl printed) two = absurd (omega (arith, printed, two))
+explained DisplayVersion old new status (inr failed) two = absurd (omega (arith, failed, two))
 explained OutOfMemory old new status it two = it.1
 explained kind old new status it two = it.1
 
