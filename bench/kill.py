@@ -19,6 +19,7 @@ Told are how far each fetch was at each end, the log's length in the end, and ho
 one that is named, or else the proved one, which is proved and built where it is not yet. The status is 0 where all is as it has to be.
 """
 
+import contextlib
 import os
 import pathlib
 import random
@@ -84,16 +85,13 @@ class Relay:
             threading.Thread(target=self.serve, args=(near,), daemon=True).start()
 
     def serve(self, near):
-        try:
-            with near, socket.create_connection(("127.0.0.1", self.port)) as far:
-                asking = threading.Thread(target=passed, args=(near, far), daemon=True)
-                asking.start()
-                self.give(far, near)
-                for end in (near, far):
-                    end.shutdown(socket.SHUT_RDWR)
-                asking.join()
-        except OSError:
-            pass
+        with contextlib.suppress(OSError), near, socket.create_connection(("127.0.0.1", self.port)) as far:
+            asking = threading.Thread(target=passed, args=(near, far), daemon=True)
+            asking.start()
+            self.give(far, near)
+            for end in (near, far):
+                end.shutdown(socket.SHUT_RDWR)
+            asking.join()
 
     def give(self, far, near):
         """What the seed sends, part by part, each not before its time."""
@@ -105,13 +103,12 @@ class Relay:
 
 
 def passed(source, target):
-    """Passes all on that comes, until one of the two ends."""
-    try:
+    """Passes all on that comes, until one of the two ends, and then ends the other: one that is killed may reset its connection."""
+    with contextlib.suppress(OSError):
         while part := source.recv(1 << 16):
             target.sendall(part)
-        target.shutdown(socket.SHUT_RDWR)
-    except OSError:
-        pass
+    with contextlib.suppress(OSError):
+        target.shutdown(socket.SHUT_WR)
 
 
 class Bench:
