@@ -85,16 +85,13 @@ class Relay:
             threading.Thread(target=self.serve, args=(near,), daemon=True).start()
 
     def serve(self, near):
-        try:
-            with near, socket.create_connection(("127.0.0.1", self.port)) as far:
-                asking = threading.Thread(target=passed, args=(near, far), daemon=True)
-                asking.start()
-                self.give(far, near)
-                for end in (near, far):
-                    end.shutdown(socket.SHUT_RDWR)
-                asking.join()
-        except OSError:
-            pass
+        with contextlib.suppress(OSError), near, socket.create_connection(("127.0.0.1", self.port)) as far:
+            asking = threading.Thread(target=passed, args=(near, far), daemon=True)
+            asking.start()
+            self.give(far, near)
+            for end in (near, far):
+                end.shutdown(socket.SHUT_RDWR)
+            asking.join()
 
     def give(self, far, near):
         """What the seed sends, part by part, each not before its time."""
@@ -106,12 +103,12 @@ class Relay:
 
 
 def passed(source, target):
-    """Passes all on that comes, until one of the two ends, as a process does that is killed: then the other is told."""
+    """Passes all on that comes, until one of the two ends, and then ends the other: one that is killed may reset its connection."""
     with contextlib.suppress(OSError):
         while part := source.recv(1 << 16):
             target.sendall(part)
     with contextlib.suppress(OSError):
-        target.shutdown(socket.SHUT_RDWR)
+        target.shutdown(socket.SHUT_WR)
 
 
 class Bench:
