@@ -5,7 +5,7 @@
 
 A file of 64 MiB, or of so many, is made in a temporary folder, with its torrent, and a `seed` serves it. Between it and each `fetch`
 stands a relay of this script, which passes bytes at a pace at which a whole fetch takes some seconds, and ends each connection after an
-eighth of the file: so a fetch flushes behind several peers, all of them this relay. With more than 512 MiB it flushes within sessions too.
+eighth of the file: so a fetch flushes behind several peers, all of them this relay, and of a greater file also within its sessions.
 The time of a whole fetch is taken first. At each of twenty moments that part it evenly a new fetch is killed; then, in one row, it is run
 again to its end, and in another it is killed at three moments more, chosen by chance, before it is: those at which it was still there.
 
