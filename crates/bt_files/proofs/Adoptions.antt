@@ -98,10 +98,14 @@ module _ {D : Type 0} (history : D → History) (honest : D → Type 0) (faults 
     pub shaped : IsShaped first.state.torrent now.state
     pub no_peer : now.state.peers ≡ []
 
+  -- none of no files
+  pub takes_none : (first : EngineView D) → TakesIn history honest faults dig first [] first
+  takes_none first = record { answers = []; runs = none_run history honest faults dig first; faultless = All-nil IsTakenIn }
+
   pub taking_none : (first : EngineView D) (filled : List Bool) → IsShaped first.state.torrent first.state → first.state.peers ≡ []
       → IsTaking first filled 0 first
   taking_none first filled shaped none = record {
-    taken = record { answers = []; runs = none_run history honest faults dig first; faultless = All-nil IsTakenIn };
+    taken = takes_none first;
     shaped = shaped;
     no_peer = none;
   }

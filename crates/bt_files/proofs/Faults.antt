@@ -1,11 +1,23 @@
 -- What is said of a fault that is passed on.
-use Rattle.std.proofs.Common.{◌≡◌, ◌⊎◌, inl, inr, ℕ, Bool, Result, Ok, Err, IfOk, IfErr, sym, subst, ap, ◌∙◌}
+use Rattle.std.proofs.Common.{◌≡◌, ◌≢◌, ◌⊎◌, inl, inr, ℕ, Bool, List, Option, Some, None, Result, Ok, Err, IfOk, IfErr, sym, subst, ap, ◌∙◌}
+use Rattle.std.specs.Borrow.{Bor}
 use Rattle.std.specs.Prelude.{IsErrAnd}
-use Rattle.bt_check.specs.Fault.{device, out_of_memory, status_of}
+use Rattle.bt_meta.specs.Torrent.{Metainfo}
+use Rattle.bt_resume.specs.ResumeLog.{LogView}
+use Rattle.bt_resume.specs.declared.error.LogError.{LogError}
+use Rattle.bt_resume.specs.declared.error.LogError.TheVariants.{OtherTorrent, TooLong, Device as NoDevice, OutOfMemory as NoMemory}
+use Rattle.bt_check.specs.Fault.{device, log_full, out_of_memory, status_of}
+use Rattle.bt_log_file.specs.Attaching.{log_fault}
+use Rattle.bt_files.specs.Ending.{IsEndFault}
 use Rattle.bt_files.specs.Loading.{IsStoreFault}
 use Rattle.bt_files.specs.OpenFolder.{IsOpeningFault}
+use Rattle.bt_files.specs.Store.{IsOpenFault}
+use Rattle.bt_files.specs.StoreLog.{IsLogFaultAt}
 use Rattle.bt_files.specs.declared.file_use.FileUse.{FileUse}
 use Rattle.bt_check.specs.declared.fault.Fault.{Fault}
+
+pub some_path : (path : Bor (List ℕ)) → Some path ≢ None
+some_path path none = cc
 
 -- what follows from all that is known of a result that is passed on
 pub ok_weaker : {T E : Type 0} (r : Result T E) (P Q : T → Type 0) → ((x : T) → P x → Q x) → IfOk r P → IfOk r Q
@@ -26,14 +38,49 @@ pub not_refused : (fault : Fault) → (fault ≡ device) ⊎ (fault ≡ out_of_m
 not_refused fault (inl at_device) two = let bad : 3 ≡ 2 = ap status_of (sym at_device) ∙ two in cc
 not_refused fault (inr short) two = let bad : 4 ≡ 2 = ap status_of (sym short) ∙ two in cc
 
+-- nor is what ends a flush or a report, but for a full log
+pub end_not_refused : {D : Type 0} (log : Option (LogView D)) (fault : Fault) → IsEndFault log fault → status_of fault ≡ 2 → fault ≢ log_full → ⊥
+end_not_refused log fault (inl (inl failed)) two other = not_refused fault (inl failed) two
+end_not_refused log fault (inl (inr full)) two other = other full.0
+end_not_refused log fault (inr short) two other = not_refused fault (inr short) two
+
+-- both may end it
+pub call_ends : {D : Type 0} (log : Option (LogView D)) (fault : Fault) → (fault ≡ device) ⊎ (fault ≡ out_of_memory) → IsEndFault log fault
+call_ends log fault (inl failed) = inl (inl failed)
+call_ends log fault (inr short) = inr short
+
 -- and each may come as a torrent is loaded
-pub while_loading : (is_info : Bool) (usage : FileUse) (fault : Fault) → (fault ≡ device) ⊎ (fault ≡ out_of_memory)
-    → IsStoreFault is_info usage fault
-while_loading is_info usage fault (inl at_device) = inl (inl at_device)
-while_loading is_info usage fault (inr short) = inl (inr (inl short))
+pub while_loading : (is_info : Bool) (usage : FileUse) (log : Option (Bor (List ℕ))) (fault : Fault) → (fault ≡ device) ⊎ (fault ≡ out_of_memory)
+    → IsStoreFault is_info usage log fault
+while_loading is_info usage log fault (inl at_device) = inl (inl at_device)
+while_loading is_info usage log fault (inr short) = inl (inr (inl short))
 
 -- as its files are opened, and before
-pub while_opening : (is_info : Bool) (usage : FileUse) (count : ℕ) (fault : Fault) → IsOpeningFault usage count fault → IsStoreFault is_info usage fault
-while_opening is_info usage count fault (inl (inl at_device)) = inl (inl at_device)
-while_opening is_info usage count fault (inl (inr short)) = inl (inr (inl short))
-while_opening is_info usage count fault (inr same) = inr (same.0, same.1.0)
+while_files : (is_info : Bool) (usage : FileUse) (log : Option (Bor (List ℕ))) (count : ℕ) (fault : Fault) → IsOpeningFault usage count fault
+    → IsStoreFault is_info usage log fault
+while_files is_info usage log count fault (inl call) = while_loading is_info usage log fault call
+while_files is_info usage log count fault (inr same) = inr (inl (same.0, same.1.0))
+
+-- as its log is read
+while_reading : (is_info : Bool) (usage : FileUse) (log : Option (Bor (List ℕ))) (cause : LogError) (fault : Fault) → log ≢ None → fault ≡ log_fault cause
+    → IsStoreFault is_info usage log fault
+while_reading is_info usage log OtherTorrent fault some told = inr (inr (some, inr (inl told)))
+while_reading is_info usage log TooLong fault some told = inr (inr (some, inr (inr told)))
+while_reading is_info usage log NoDevice fault some told = while_loading is_info usage log fault (inl told)
+while_reading is_info usage log NoMemory fault some told = while_loading is_info usage log fault (inr told)
+
+-- as it is opened
+while_attaching : (is_info : Bool) (usage : FileUse) (torrent : Metainfo) (log : Option (Bor (List ℕ))) (fault : Fault) → IsLogFaultAt torrent log fault
+    → IsStoreFault is_info usage log fault
+while_attaching is_info usage torrent None fault at = absurd at
+while_attaching is_info usage torrent (Some path) fault (known, inl call) = while_loading is_info usage (Some path) fault call
+while_attaching is_info usage torrent (Some path) fault (known, inr (inl among)) = inr (inr (some_path path, inl among.0))
+while_attaching is_info usage torrent (Some path) fault (known, inr (inr attach)) =
+    while_reading is_info usage (Some path) attach.cause fault (some_path path) attach.told
+
+pub while_opening : (is_info : Bool) (usage : FileUse) (torrent : Metainfo) (log : Option (Bor (List ℕ))) (fault : Fault) → IsOpenFault usage torrent log fault
+    → IsStoreFault is_info usage log fault
+while_opening is_info usage torrent log fault (inl (some, inl among)) = inr (inr (some, inl among))
+while_opening is_info usage torrent log fault (inl (some, inr short)) = while_loading is_info usage log fault (inr short)
+while_opening is_info usage torrent log fault (inr (inl files)) = while_files is_info usage log _ fault files
+while_opening is_info usage torrent log fault (inr (inr attach)) = while_attaching is_info usage torrent log fault attach

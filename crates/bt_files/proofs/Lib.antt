@@ -1,5 +1,6 @@
 pub mod Adoptions
 pub mod Starting
+pub mod StoreLogs
 pub mod Unlogged
 pub mod Waits
 pub mod Devices

@@ -1,7 +1,8 @@
--- Lemmas on an engine that has no log. It gets none.
-use Rattle.std.proofs.Common.{[], ◌≡◌, ℕ, List, ◌∷◌, ◌++◌, Option, Some, None, Result, Ok, Err, refl, ap, sym, ◌∙◌}
+-- Lemmas on an engine that has no log, and on flushes. It gets none.
+use Rattle.std.proofs.Common.{[], ◌≡◌, inl, inr, ℕ, List, ◌∷◌, ◌++◌, Option, Some, None, Result, Ok, Err, refl, ap, sym, ◌∙◌}
 use Rattle.bt_disk.specs.History.{History}
-use Rattle.bt_machine.specs.declared.error.FlushError.TheVariants.{LogFull}
+use Rattle.bt_machine.specs.declared.error.FlushError.{FlushError}
+use Rattle.bt_machine.specs.declared.error.FlushError.TheVariants.{Device, LogFull}
 use Rattle.bt_machine.specs.declared.event.Event.TheVariants.{Flush}
 use Rattle.bt_machine.specs.declared.event.Answer.TheVariants.{Flushed}
 use Rattle.bt_machine.specs.Flush.{StepFlush, appended, syncs, writes, fails, unwritten, unflushed}
@@ -9,21 +10,28 @@ use Rattle.bt_machine.specs.LogCalls.{EventCalls, LogCall, HaveLogCalls}
 use Rattle.bt_machine.specs.State.{EngineState, EngineView}
 use Rattle.bt_machine.specs.View.{StepsTo}
 use Rattle.bt_runs.specs.Leads.{LeadsTo, none as no_event, one as one_event, both as one_and_other}
+use Rattle.bt_check.specs.declared.fault.Fault.{Fault}
+use Rattle.bt_files.specs.Ending.{IsEndFault}
+use Rattle.bt_files.specs.Store.{IsFlushFault, IsSameButPending, flush_fault}
 
 some_last : {X : Type 0} (xs : List X) (x : X) → xs ++ x ∷ [] ≡ [] → ⊥
 some_last [] x none = absurd cc
 some_last (y ∷ xs) x none = absurd cc
 
+unpended : {s new : EngineState} → new ≡ s → IsSameButPending s new
+unpended same = ap (λ (z : EngineState). record z { pending = [] }) same
+
 -- the log's calls of a flush
 log_of : {calls made : EventCalls} → calls ≡ made → calls.log ≡ [] → made.log ≡ []
 log_of is none = ap (λ (c : EventCalls). c.log) (sym is) ∙ none
 
-flush_same : {s new : EngineState} {calls : EventCalls} {answer : _} → StepFlush s calls answer new → calls.log ≡ [] → new ≡ s
-flush_same (syncs off made answer same) none = same
-flush_same {s} (writes on made answer after) none = absurd (some_last (appended s.pending) _ (log_of made none))
-flush_same (fails before file after files made answer same) none = same
-flush_same (unwritten before hint after cause on pending made answer same) none = same
-flush_same (unflushed on made answer same) none = same
+-- a flush changes nothing of a state but what is pending
+flush_same : {s new : EngineState} {calls : EventCalls} {answer : _} → StepFlush s calls answer new → IsSameButPending s new
+flush_same (syncs off made answer same) = unpended same
+flush_same (writes on made answer after) = unpended after
+flush_same (fails before file after files made answer same) = unpended same
+flush_same (unwritten before hint after cause on pending made answer same) = unpended same
+flush_same (unflushed on made answer same) = unpended same
 
 flush_not_full : {s new : EngineState} {calls : EventCalls} {answer : _} → StepFlush s calls answer new → answer ≡ Err LogFull → calls.log ≡ [] → ⊥
 flush_not_full (syncs off made answer same) full none = absurd cc
@@ -49,15 +57,32 @@ module _ {D : Type 0} (history : D → History) (honest : D → Type 0) (faults 
   stays_unlogged (one_event old new event answer other step) unlogged = none_after old.log new.log step.calls.log unlogged step.logged
   stays_unlogged (one_and_other old mid new first then) unlogged = stays_unlogged then (stays_unlogged first unlogged)
 
-  -- its flush changes nothing of its state
-  pub unlogged_same : (old new : EngineView D) (answer : _) → old.log ≡ None → StepsTo history honest faults dig old Flush (Flushed answer) new
-      → new.state ≡ old.state
-  unlogged_same old new answer none step = flush_same step.step.2 (none_called old.log new.log step.calls.log none step.logged)
+  -- its flush changes nothing of its state but what is pending
+  pub same_but_pending : (old new : EngineView D) (answer : _) → StepsTo history honest faults dig old Flush (Flushed answer) new
+      → IsSameButPending old.state new.state
+  same_but_pending old new answer step = flush_same step.step.2
 
-  -- and no log is full
-  pub unlogged_not_full : (old new : EngineView D) → old.log ≡ None → StepsTo history honest faults dig old Flush (Flushed (Err LogFull)) new → ⊥
+  -- without a log none is full
+  unlogged_not_full : (old new : EngineView D) → old.log ≡ None → StepsTo history honest faults dig old Flush (Flushed (Err LogFull)) new → ⊥
   unlogged_not_full old new none step =
       flush_not_full step.step.2 (own step.step.1) (none_called old.log new.log step.calls.log none step.logged)
     where
       own : {answer : Result (Unit {0}) _} → Flushed (Err LogFull) ≡ Flushed answer → answer ≡ Err LogFull
       own e = cc
+
+  -- why a flush is refused
+  pub flush_fails : (old new : EngineView D) (error : FlushError) → StepsTo history honest faults dig old Flush (Flushed (Err error)) new
+      → IsFlushFault old.log (flush_fault error)
+  flush_fails old new Device step = inl refl
+  flush_fails old new LogFull step = inr (refl, λ none. unlogged_not_full old new none step)
+
+  -- an engine that has a log had one before
+  pub flush_fault_before : {old mid : EngineView D} → LeadsTo history honest faults dig old mid → (fault : Fault) → IsFlushFault mid.log fault
+      → IsFlushFault old.log fault
+  flush_fault_before leads fault (inl failed) = inl failed
+  flush_fault_before leads fault (inr full) = inr (full.0, λ none. full.1 (stays_unlogged leads none))
+
+  pub end_fault_before : {old mid : EngineView D} → LeadsTo history honest faults dig old mid → (fault : Fault) → IsEndFault mid.log fault
+      → IsEndFault old.log fault
+  end_fault_before leads fault (inl flush) = inl (flush_fault_before leads fault flush)
+  end_fault_before leads fault (inr short) = inr short

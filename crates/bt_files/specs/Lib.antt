@@ -4,6 +4,7 @@ pub mod FileUse
 pub mod OpenFolder
 pub mod DataFiles
 pub mod DataFilesSteps
+pub mod StoreLog
 pub mod Store
 pub mod Report
 pub mod Ending

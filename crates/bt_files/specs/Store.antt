@@ -1,34 +1,62 @@
 -- The engine that a store is opened with.
-use Rattle.std.specs.Prelude.{[], ◌≡◌, ℕ, Bool, List, length, Option, None}
+use Rattle.std.specs.Prelude.{[], ◌≡◌, ◌≢◌, ◌⊎◌, ℕ, Bool, List, length, Option, None, Some}
+use Rattle.std.specs.Borrow.{Bor}
 use Rattle.sha2.specs.Sha256.{sha256}
 use Rattle.bt_ahead.specs.Disk.{AheadView}
 use Rattle.bt_disk.specs.History.{History, new_history}
 use Rattle.bt_disk.specs.Pool.{PooledView}
 use Rattle.bt_meta.specs.Torrent.{Metainfo}
+use Rattle.bt_resume.specs.ResumeLog.{LogView}
+use Rattle.bt_machine.specs.declared.error.FlushError.{FlushError}
+use Rattle.bt_machine.specs.declared.error.FlushError.TheVariants.{Device, LogFull}
 use Rattle.bt_machine.specs.Opening.{BeginsOn}
 use Rattle.bt_machine.specs.Start.{AreDevicesOf}
-use Rattle.bt_machine.specs.State.{EngineView}
+use Rattle.bt_machine.specs.State.{EngineState, EngineView}
 use Rattle.bt_files.specs.Adoption.{TakesIn}
 use Rattle.bt_runs.specs.Leads.{LeadsTo}
 use Rattle.bt_folder.specs.SealedDisk.{fault_count}
+use Rattle.bt_check.specs.Fault.{device, log_full}
+use Rattle.bt_check.specs.declared.fault.Fault.{Fault}
 use Rattle.bt_files.specs.DataFiles.{AreNewDevices, DeviceView}
+use Rattle.bt_files.specs.OpenFolder.{IsOpeningFault}
+use Rattle.bt_files.specs.StoreLog.{IsLogAt, IsLogFaultAt, IsLookFault}
 use Rattle.bt_files.specs.declared.file_use.FileUse.{FileUse}
 
--- An engine of the torrent, which began with these devices, each with its file, and without a log, and has taken in
--- what those files have of which bytes are there, by events of the machine: no read of them failed. No peer is
--- connected, and it has no log.
+-- which files are taken in, of those of which this is said: with a log none, since it tells what is there
+abbrev pub adopted : {D : Type 0} → Option (LogView D) → List Bool → List Bool
+adopted None filled = filled
+adopted (Some log) filled = []
+
+-- An engine of the torrent, which began with these devices, each with its file, and with this log or without one. In
+-- the latter case it has taken in what those files have of which bytes are there, by events of the machine: no read
+-- of them failed; and it has no log. No peer is connected.
 pub record HasBegun {D : Type 0} (history : D → History) (honest : D → Type 0) (faults : D → ℕ)
-    (dig : List ℕ → List ℕ) (torrent : Metainfo) (given : List D) (filled : List Bool)
-    (engine : EngineView D) : Type 0 where
+    (dig : List ℕ → List ℕ) (torrent : Metainfo) (given : List D) (log : Option (LogView D))
+    (filled : List Bool) (engine : EngineView D) : Type 0 where
   pub first : EngineView D
   pub placed : List (Option D)
   pub devices : AreDevicesOf torrent.files given placed
-  pub begins : BeginsOn history honest faults dig torrent placed None first
-  pub taken_in : TakesIn history honest faults dig first filled engine
+  pub begins : BeginsOn history honest faults dig torrent placed log first
+  pub taken_in : TakesIn history honest faults dig first (adopted log filled) engine
   pub run : LeadsTo history honest faults dig first engine
   pub same : engine.state.torrent ≡ torrent
   pub no_peer : engine.state.peers ≡ []
-  pub unlogged : engine.log ≡ None
+  pub unlogged : log ≡ None → engine.log ≡ None
+
+-- ---- its flush
+
+-- the states are one, but for what waits for the log
+abbrev pub IsSameButPending : EngineState → EngineState → Type 0
+IsSameButPending old new = record new { pending = [] } ≡ record old { pending = [] }
+
+-- why the program ends where a flush was refused
+abbrev pub flush_fault : FlushError → Fault
+flush_fault Device = device
+flush_fault LogFull = log_full
+
+-- that of an engine with this log, or without one: then none is full
+abbrev pub IsFlushFault : {D : Type 0} → Option (LogView D) → Fault → Type 0
+IsFlushFault log fault = (fault ≡ device) ⊎ ((fault ≡ log_full) × (log ≢ None))
 
 -- ---- the devices of data files, as `Disk` has them
 
@@ -44,12 +72,22 @@ device_faults disk = fault_count (λ (ahead : AheadView PooledView). ahead.faile
 
 -- ---- the store of a torrent's files in a folder
 
--- An engine of the torrent, which began with the devices of its files, opened for a use, and has taken in what is
--- there. Of which files bytes are there the system tells.
-pub record IsOpened (usage : FileUse) (dir : List ℕ) (torrent : Metainfo) (engine : EngineView DeviceView)
-    : Type 0 where
+-- An engine of the torrent, which began with the devices of its files, opened for a use, and with the log at this path
+-- or without one, and has taken in what is there where there is none. Of which files bytes are there the system
+-- tells.
+pub record IsOpened (usage : FileUse) (dir : List ℕ) (log : Option (Bor (List ℕ))) (torrent : Metainfo)
+    (engine : EngineView DeviceView) : Type 0 where
   pub devices : List DeviceView
   pub of_files : AreNewDevices usage dir torrent.files devices
   pub filled : List Bool
   pub each : length filled ≡ length torrent.files
-  pub begun : HasBegun device_history device_honest device_faults sha256 torrent devices filled engine
+  pub attached : Option (LogView DeviceView)
+  pub of_log : IsLogAt torrent log attached
+  pub begun : HasBegun device_history device_honest device_faults sha256 torrent devices attached filled
+      engine
+
+-- Why none is opened: a look at the path of the log refuses it; the files are not opened, or a call failed; or the log
+-- is not.
+abbrev pub IsOpenFault : FileUse → Metainfo → Option (Bor (List ℕ)) → Fault → Type 0
+IsOpenFault usage torrent log fault =
+    IsLookFault log fault ⊎ IsOpeningFault usage (length torrent.files) fault ⊎ IsLogFaultAt torrent log fault

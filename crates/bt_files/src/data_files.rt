@@ -16,7 +16,7 @@ use crate::open_folder::OpenFolder;
 use bt_ahead::{AlarmDisk, ReadAheadDisk};
 use bt_check::{Fault, OPEN_FILES, data_path, fault_name, told};
 use bt_disk::{DeviceFault, FileDisk, HandlePool, Opening, PooledDisk};
-use bt_folder::SealedDisk;
+use bt_folder::{KnownFiles, SealedDisk};
 use bt_meta::FileEntry;
 use bt_progress::{FileCall, Watch, Watched};
 use std::alloc::{AllocError, Global};
@@ -32,11 +32,12 @@ pub type DataDisk<'a, R, P> = Watched<
 >;
 
 /// The devices of those files of a torrent that have a byte, in their order; and of each file of it, whether bytes of
-/// it are there.
+/// it are there. What the system tells of all these files is known, but for a read-only use.
 #[derive(Drop)]
 pub(crate) struct OpenFiles<D> {
     pub disks: Vec<D>,
     pub filled: Vec<bool>,
+    pub known: KnownFiles,
 }
 
 impl<D: Drop> OpenFiles<D> {
@@ -47,6 +48,7 @@ impl<D: Drop> OpenFiles<D> {
         OpenFiles {
             disks: Vec::new(alloc),
             filled: Vec::new(alloc),
+            known: KnownFiles::new(alloc),
         }
     }
 
@@ -117,7 +119,9 @@ fn push_devices<'a, R: Files + AllocGlobal + Clone + Drop, P: Watch>(
         folder.add(rt, watch, context.usage, dir, &entry.path, file.opening)?;
         files.push(file)?;
     }
-    folder.end(rt, watch, context.usage, dir)
+    folder.end(rt, watch, context.usage, dir)?;
+    files.known = folder.into_files();
+    Ok(())
 }
 
 /// Puts an item, if there is one, behind others.
@@ -155,11 +159,7 @@ fn open_entry<'a, R: Files + AllocGlobal + Drop, P: Watch>(
             opening,
         });
     }
-    let file = open_device(rt.alloc(), watch, context, pool, path)?;
-    if file.opening.len > 0 {
-        watch.expect(entry.length);
-    }
-    Ok(file)
+    open_device(rt.alloc(), watch, context, pool, path)
 }
 
 /// The next device of a pool, of a file that is opened for a use, which is read ahead, and tells of its calls.

@@ -14,6 +14,8 @@ pub struct DeviceContext<'a> {
     pub digests: &'a RefCell<DigestCache>,
     /// Rung where a device refuses a write.
     pub alarm: &'a Alarm,
-    /// Closed where nothing is to be written any more.
+    /// Closed where no file is to be written any more.
     pub seal: &'a Seal,
+    /// That of the log, which is written also then: never closed.
+    pub log_seal: &'a Seal,
 }

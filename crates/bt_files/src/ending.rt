@@ -1,8 +1,7 @@
 //! The end of a fetch.
-ghost use Rattle.std.specs.Prelude.{◌≡◌, ◌⊎◌, None, IfErr, IfOk};
-ghost use Rattle.bt_check.specs.Fault.{device, out_of_memory};
+ghost use Rattle.std.specs.Prelude.{IfErr, IfOk};
 ghost use Rattle.bt_runs.specs.Leads.{LeadsTo};
-ghost use Rattle.bt_files.specs.Ending.{IsConcluded};
+ghost use Rattle.bt_files.specs.Ending.{IsConcluded, IsEndFault};
 
 use crate::report::write_report;
 use crate::store::finish;
@@ -13,19 +12,18 @@ use bt_tree::NodeHash;
 use std::alloc::Global;
 use std::io::Write;
 
-/// Has all that was written put on the devices of an engine without a log, and then reports how far the files
-/// are. The answer is the status of the program: 0 where all files are complete, else 1. Where a device fails at
-/// the first, nothing is reported.
+/// Has all that was written put on the devices of an engine, and what waits for its log written to it, and then
+/// reports how far the files are. The answer is the status of the program: 0 where all files are complete, else 1.
+/// Where a device fails at the first, or the log is full, nothing is reported.
 pub fn conclude<D: Disk + Drop, H: NodeHash, W: Write>(
     alloc: Global,
     engine: &mut Engine<D, H>,
     writer: &mut W,
 ) -> Result<u8, Fault>
-    requires unlogged { engine.old.log ≡ None }
     ensures concluded { IfOk result (λ status. IsConcluded D.history D.honest D.faults H.digest engine.old
         (W.contents writer.old) (W.contents writer.new) status engine.new) }
     ensures run { LeadsTo D.history D.honest D.faults H.digest engine.old engine.new }
-    ensures fault { IfErr result (λ fault. (fault ≡ device) ⊎ (fault ≡ out_of_memory)) }
+    ensures fault { IfErr result (IsEndFault engine.old.log) }
 {
     finish(engine)?;
     let complete = write_report(alloc, engine, writer)?;

@@ -13,6 +13,7 @@ mod loading;
 mod open_folder;
 mod report;
 mod store;
+mod store_log;
 mod waiting;
 
 pub use adoption::adopt_files;
@@ -23,5 +24,5 @@ pub use file_use::FileUse;
 pub use lacking::begin_fetching;
 pub use loading::load_store;
 pub use report::write_report;
-pub use store::{Store, finish};
+pub use store::{Store, finish, flush_fault};
 pub use waiting::adopt_waiting;

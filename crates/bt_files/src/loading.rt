@@ -10,21 +10,22 @@ use bt_meta::Torrent;
 use bt_progress::{FileCall, Watch};
 use std::rt::Files;
 
-/// Reads a torrent from its file, and opens the store of its files in a folder. The calls on the files are told.
-/// The first fault ends it.
+/// Reads a torrent from its file, and opens the store of its files in a folder, with a log where the path of one is
+/// given. The calls on the files are told. The first fault ends it.
 pub fn load_store<'a, R: Files + AllocGlobal + Clone + Drop, P: Watch>(
     rt: &R,
     watch: &'a P,
     context: DeviceContext<'a>,
     source: Source<'_>,
     dir: &str,
+    log: Option<&str>,
 ) -> Result<Store<'a, R, P>, Fault>
-    ensures loaded { IfOk result (IsLoaded source.entry.is_info context.entry.usage dir.now) }
-    ensures fault { IfErr result (IsStoreFault source.entry.is_info context.entry.usage) }
+    ensures loaded { IfOk result (IsLoaded source.entry.is_info context.entry.usage dir.now log.entry) }
+    ensures fault { IfErr result (IsStoreFault source.entry.is_info context.entry.usage log.entry) }
 {
     let torrent = load_torrent(rt, watch, source)?;
     watch.begin(FileCall::Read);
-    open_store(rt, watch, context, torrent, dir)
+    open_store(rt, watch, context, torrent, dir, log)
 }
 
 /// Reads a torrent from its file, which is read once: it may be a pipe.

@@ -98,6 +98,14 @@ impl OpenFolder {
         self.trail.end(rt, watch, dir)
     }
 
+    /// What is known of the files, by what the system tells them apart.
+    pub(crate) fn into_files(self) -> KnownFiles
+        ensures { result ≡ self.files }
+    {
+        let OpenFolder { files, .. } = self;
+        files
+    }
+
     /// A file that was made is to be kept.
     fn keep(&mut self, was_made: bool)
         ensures { self.new.files ≡ self.old.files }

@@ -1,25 +1,28 @@
 //! The store of a torrent's files: an engine over them, from its opening to its flush.
-ghost use Rattle.std.specs.Prelude.{◌≡◌, Ok, Err, None, length, IfOk, IfErr, OnOk};
+ghost use Rattle.std.specs.Prelude.{◌≡◌, Bool, List, Ok, Err, None, Some, length, IfOk, IfErr, IfSome, OnOk};
 ghost use Rattle.sha2.specs.Sha256.{sha256};
-ghost use Rattle.bt_machine.specs.declared.error.FlushError.TheVariants.{Device};
+ghost use Rattle.bt_machine.specs.declared.error.FlushError.{FlushError};
 ghost use Rattle.bt_machine.specs.declared.event.Event.TheVariants.{Flush};
 ghost use Rattle.bt_machine.specs.declared.event.Answer.TheVariants.{Flushed};
 ghost use Rattle.bt_machine.specs.Start.{device_count};
 ghost use Rattle.bt_machine.specs.View.{StepsTo};
 ghost use Rattle.bt_runs.specs.Leads.{LeadsTo};
-ghost use Rattle.bt_check.specs.Fault.{device};
-ghost use Rattle.bt_files.specs.OpenFolder.{IsCallFault, IsOpeningFault};
-ghost use Rattle.bt_files.specs.Store.{HasBegun, IsOpened};
+ghost use Rattle.bt_check.specs.Fault.{out_of_memory};
+ghost use Rattle.bt_files.specs.OpenFolder.{IsCallFault};
+ghost use Rattle.bt_files.specs.Store.{HasBegun, IsFlushFault, IsOpened, IsOpenFault, IsSameButPending, flush_fault};
 
 use crate::adoption::adopt_files;
 use crate::data_files::{DataDisk, OpenFiles, open_devices};
 use crate::device_context::DeviceContext;
+use crate::file_use::FileUse;
+use crate::store_log::{hint_at_unmarked, look_at_log, open_log_at};
 use bt_ahead::CachedLanes;
 use bt_check::Fault;
 use bt_disk::Disk;
 use bt_engine::{Engine, FlushError, StartError};
-use bt_meta::Torrent;
+use bt_meta::{FileEntry, Torrent};
 use bt_progress::Watch;
+use bt_resume::ResumeLog;
 use bt_tree::NodeHash;
 use std::alloc::Global;
 use std::rt::Files;
@@ -27,42 +30,97 @@ use std::rt::Files;
 /// The store of a torrent's data files, whose digests are looked up where they were made ahead.
 pub type Store<'a, R, P> = Engine<DataDisk<'a, R, P>, CachedLanes<'a>>;
 
-/// Opens the store of a torrent's files in a folder: missing folders and files are made, but for a read-only use, the
-/// files are opened in the order of the torrent, and then what they have is taken in. The first fault ends it.
+/// Opens the store of a torrent's files in a folder: missing folders and files are made, but for a read-only use, and
+/// the files are opened in the order of the torrent. Then what they have is taken in; or, where the path of a log is
+/// given, it is opened, and made where it is absent, and tells which blocks are there, and what they have beside these
+/// does not count. The first fault ends it; a log whose file is one of the torrent's, as far as a look tells, comes
+/// before any file is made.
 pub(crate) fn open_store<'a, R: Files + AllocGlobal + Clone + Drop, P: Watch>(
     rt: &R,
     watch: &'a P,
     context: DeviceContext<'a>,
     torrent: Torrent,
     dir: &str,
+    log: Option<&str>,
 ) -> Result<Store<'a, R, P>, Fault>
-    ensures opened { IfOk result (IsOpened context.entry.usage dir.now torrent) }
-    ensures fault { IfErr result (IsOpeningFault context.entry.usage (length torrent.files)) }
+    ensures opened { IfOk result (IsOpened context.entry.usage dir.now log.entry torrent) }
+    ensures fault { IfErr result (IsOpenFault context.entry.usage torrent log.entry) }
 {
-    let files = open_devices(rt, watch, context, dir, torrent.files())?;
-    begin(
+    look_at_log(rt, dir, &torrent, log)?;
+    let mut files = open_devices(rt, watch, context, dir, torrent.files())?;
+    let attached = open_log_at(rt, watch, context, &mut files.known, dir, &torrent, log)?;
+    let hash = CachedLanes::new(context.digests);
+    begin_store(
         rt.alloc(),
+        watch,
+        context.usage,
         torrent,
         files,
-        CachedLanes::new(context.digests),
+        attached,
+        hash,
     )
 }
 
-/// Starts an engine of a torrent over the devices of its files that have a byte, without a log, and takes in what is
-/// there of them.
-pub(crate) fn begin<'a, D: Disk + Drop>(
+/// Starts an engine of a torrent over the devices of its opened files, with a log of it or without.
+fn begin_store<'a, D: Disk + Drop, P: Watch>(
     alloc: Global,
+    watch: &P,
+    usage: FileUse,
     torrent: Torrent,
     files: OpenFiles<D>,
+    log: Option<ResumeLog<D>>,
     hash: CachedLanes<'a>,
 ) -> Result<Engine<D, CachedLanes<'a>>, Fault>
     requires devices { length files.disks.items ≡ device_count torrent.files }
     requires each { length files.filled.items ≡ length torrent.files }
+    requires own_log { IfSome log (λ log. log.infohash ≡ torrent.infohash) }
     ensures begun { IfOk result
-        (HasBegun D.history D.honest D.faults sha256 torrent files.disks.items files.filled.items) }
+        (HasBegun D.history D.honest D.faults sha256 torrent files.disks.items log files.filled.items) }
     ensures fault { IfErr result IsCallFault }
 {
-    let OpenFiles { disks, filled } = files;
+    let OpenFiles {
+        disks,
+        filled,
+        known,
+    } = files;
+    drop(known);
+    match log {
+        Some(log) => {
+            let engine = begin_with_log(alloc, torrent, disks, log, hash)?;
+            hint_at_unmarked(watch, &engine, usage, &filled);
+            Ok(engine)
+        }
+        None => {
+            expect_reads(watch, torrent.files(), &filled);
+            begin(alloc, torrent, disks, filled, hash)
+        }
+    }
+}
+
+/// Tells that those files are to be read of which bytes are there.
+fn expect_reads<P: Watch>(watch: &P, files: &[FileEntry], filled: &[bool]) {
+    for (number, file) in files.iter().enumerate() {
+        if filled.get(number) == Some(&true) {
+            watch.expect(file.length);
+        }
+    }
+}
+
+/// Starts an engine of a torrent over the devices of its files that have a byte, without a log, and takes in what is
+/// there of them. `filled` tells of each file of the torrent whether bytes of it are there.
+pub(crate) fn begin<'a, D: Disk + Drop>(
+    alloc: Global,
+    torrent: Torrent,
+    disks: Vec<D>,
+    filled: Vec<bool>,
+    hash: CachedLanes<'a>,
+) -> Result<Engine<D, CachedLanes<'a>>, Fault>
+    requires devices { length disks.items ≡ device_count torrent.files }
+    requires each { length filled.items ≡ length torrent.files }
+    ensures begun { IfOk result
+        (HasBegun D.history D.honest D.faults sha256 torrent disks.items None filled.items) }
+    ensures fault { IfErr result IsCallFault }
+{
     match Engine::start(alloc, torrent, hash, disks, None) {
         Ok(mut engine) => {
             adopt_files(&mut engine, &filled)?;
@@ -75,22 +133,53 @@ pub(crate) fn begin<'a, D: Disk + Drop>(
     }
 }
 
-/// Has all that was written put on the devices of an engine without a log; nothing else of it changes. Errors: a
-/// device failed.
+/// Starts an engine of a torrent over these devices with a log of it, which tells what is there of them: so nothing is
+/// taken in, whatever files have bytes.
+pub(crate) fn begin_with_log<'a, D: Disk + Drop>(
+    alloc: Global,
+    torrent: Torrent,
+    disks: Vec<D>,
+    log: ResumeLog<D>,
+    hash: CachedLanes<'a>,
+) -> Result<Engine<D, CachedLanes<'a>>, Fault>
+    requires devices { length disks.items ≡ device_count torrent.files }
+    requires own_log { log.infohash ≡ torrent.infohash }
+    ensures begun { IfOk result (λ engine. (filled : List Bool)
+        → HasBegun D.history D.honest D.faults sha256 torrent disks.items (Some log) filled engine) }
+    ensures fault { IfErr result (λ fault. fault ≡ out_of_memory) }
+{
+    match Engine::start(alloc, torrent, hash, disks, Some(log)) {
+        Ok(engine) => Ok(engine),
+        Err(refused) => match refused.cause {
+            StartError::OutOfMemory => Err(Fault::OutOfMemory),
+            StartError::DiskCount | StartError::OtherLog => unreachable!(),
+        },
+    }
+}
+
+/// Has all that was written put on the devices of an engine, and then what waits for its log, if it has one, written to
+/// it; nothing else of it changes. Errors: a device failed, or the log is full; what waited waits still.
 pub fn finish<D: Disk + Drop, H: NodeHash>(engine: &mut Engine<D, H>) -> Result<(), Fault>
-    requires unlogged { engine.old.log ≡ None }
     ensures flushed { OnOk result
         (StepsTo D.history D.honest D.faults H.digest engine.old Flush (Flushed (Ok tt)) engine.new) }
-    ensures failed { IfErr result (λ _.
-        StepsTo D.history D.honest D.faults H.digest engine.old Flush (Flushed (Err Device)) engine.new) }
-    ensures same { engine.new.state ≡ engine.old.state }
+    ensures failed { IfErr result (λ fault. (error : FlushError) × (fault ≡ flush_fault error)
+        × StepsTo D.history D.honest D.faults H.digest engine.old Flush (Flushed (Err error)) engine.new) }
+    ensures same { IsSameButPending engine.old.state engine.new.state }
     ensures run { LeadsTo D.history D.honest D.faults H.digest engine.old engine.new }
-    ensures fault { IfErr result (λ fault. fault ≡ device) }
+    ensures fault { IfErr result (IsFlushFault engine.old.log) }
 {
     match engine.flush() {
         Ok(()) => Ok(()),
-        Err(FlushError::Device) => Err(Fault::Device),
-        // Without a log none is full.
-        Err(FlushError::LogFull) => unreachable!(),
+        Err(error) => Err(flush_fault(error)),
+    }
+}
+
+/// Why the program ends where a flush was refused.
+pub fn flush_fault(error: FlushError) -> Fault
+    ensures { result ≡ flush_fault error }
+{
+    match error {
+        FlushError::Device => Fault::Device,
+        FlushError::LogFull => Fault::LogFull,
     }
 }

@@ -15,7 +15,7 @@ use std::rt::Files;
 
 /// The device of a log's file. An engine has devices of one type, so this is the type of data files too: a device
 /// that tells of its calls, rings where a write fails, may be closed to writes, and is read ahead. Only blocks are
-/// read ahead, and a log is read by greater parts, so of a log nothing is.
+/// read ahead, and a log is mostly read by greater parts, so hardly anything of a log is.
 pub type LogDisk<'a, R, P> = Watched<
     'a,
     AlarmDisk<'a, SealedDisk<'a, ReadAheadDisk<'a, PooledDisk<R>>>>,
@@ -25,7 +25,7 @@ pub type LogDisk<'a, R, P> = Watched<
 /// What a log's device shares with what is outside of it.
 #[derive(Clone, Copy)]
 pub struct LogContext<'a> {
-    /// Where digests are put that are made ahead: none is of a log.
+    /// Where digests are put that are made ahead.
     pub digests: &'a RefCell<DigestCache>,
     /// Rung where a write fails.
     pub alarm: &'a Alarm,

@@ -24,12 +24,12 @@ use std::rt::Files;
 /// Opens the log of a torrent in the file at a path, which is made where it is absent. All files of the torrent were
 /// opened before, or made, below the folder `dir`: `known` has them, and the log's file is added to it.
 ///
-/// A file without bytes becomes a log: its name is kept, by a sync of its folder, and then it gets a header, which is
-/// written and synced. To any other nothing is written.
+/// A file without bytes becomes a log: its name is kept, by a sync of its folder where that can be synced, and then it
+/// gets a header, which is written and synced. To any other nothing is written.
 ///
 /// Errors, in this order: the file can't be opened, or is no regular one; it is one of the torrent's, by this name,
 /// another or a link, before anything is written; it is not kept; and those of [`ResumeLog::attach`]. Or memory is
-/// refused. Which call on a file failed is told.
+/// refused. A file that was made stays, and `known` is of no use any more. Which call on a file failed is told.
 pub fn open_log<'a, R: Files + AllocGlobal + Clone + Drop, P: Watch>(
     rt: &R,
     watch: &'a P,

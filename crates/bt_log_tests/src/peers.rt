@@ -4,10 +4,11 @@ use crate::notes::tell_output;
 use crate::stage::TestEngine;
 use crate::words::{RowError, Words, tell};
 use bt_book::PeerKey;
-use bt_machine::EngineError;
+use bt_machine::{EngineError, Frame};
 use bt_meta::Torrent;
+use bt_tree::BLOCK_LEN;
 use bt_wire::{Bytes, Handshake, Message, fits, write_handshake, write_message};
-use std::alloc::Global;
+use std::alloc::{AllocError, Global};
 use std::fmt::Write;
 
 /// A peer comes. It says hello, has all pieces, and does not choke us.
@@ -61,6 +62,54 @@ fn greet(
         }
     }
     Ok(write!(out, "peer {}", peer.0)?)
+}
+
+/// Tells which blocks of the first piece are asked of a peer that comes, has all pieces, and does not choke us: each
+/// by its number, behind a minus.
+pub fn tell_asked(
+    alloc: Global,
+    engine: &mut TestEngine,
+    out: &mut String,
+) -> Result<(), RowError> {
+    let greeting = greeting_of(alloc, engine.torrent())?;
+    let Ok((peer, _)) = engine.connect() else {
+        return Err(RowError::Memory(AllocError));
+    };
+    match engine.feed(peer, &greeting) {
+        Ok(()) => tell_first_requests(engine, peer, out),
+        Err(cause) => Ok(write!(out, "refused {cause}")?),
+    }
+}
+
+/// Tells what is asked of a peer by its first three events.
+fn tell_first_requests(
+    engine: &mut TestEngine,
+    peer: PeerKey,
+    out: &mut String,
+) -> Result<(), RowError> {
+    for _ in 0..3 {
+        match engine.next(peer) {
+            Ok(Some(output)) => tell_requests(out, &output.send)?,
+            _ => return tell(out, ", not welcome"),
+        }
+    }
+    Ok(())
+}
+
+fn tell_requests(out: &mut String, send: &[(PeerKey, Frame)]) -> Result<(), RowError> {
+    for (_, frame) in send {
+        tell_request(out, frame)?;
+    }
+    Ok(())
+}
+
+fn tell_request(out: &mut String, frame: &Frame) -> Result<(), RowError> {
+    match frame {
+        Frame::Message(Message::Request(ask)) if ask.piece == 0 => {
+            Ok(write!(out, " -{}", ask.begin / BLOCK_LEN as u32)?)
+        }
+        _ => Ok(()),
+    }
 }
 
 /// Hashes come from a peer: its key, that of the hashes, and the digests' bytes.

@@ -6,13 +6,14 @@ use crate::events::{adopt_row, flush_row, peers_row, report_row, restart_row};
 use crate::fill::fill;
 use crate::hints::{tell_log, tell_refusal};
 use crate::peers::{connect_row, hashes_row, lost_row, piece_row};
-use crate::stops::stop_row;
+use crate::stops::{Stopped, stop_row, tell_not_reopened};
 use crate::words::{RowError, Words, tell};
 use bt_engine::Engine;
 use bt_lanes::Lanes;
 use bt_machine::{StartError, StartRefused};
 use bt_meta::{MetaError, Torrent, read_info, read_torrent};
 use bt_resume::{LogError, Refused, ResumeLog};
+use bt_runs::{ReopenRefused, reopen};
 use bt_tree::Hash32;
 use std::alloc::{AllocError, Global};
 use std::fmt::Write;
@@ -20,7 +21,7 @@ use std::mem;
 
 pub type TestEngine = Engine<TestDisk, Lanes>;
 
-pub type TestRefusal = StartRefused<TestDisk, ResumeLog<TestDisk>>;
+type TestRefusal = StartRefused<TestDisk, ResumeLog<TestDisk>>;
 
 /// No torrent of rows has it.
 const OTHER_INFOHASH: Hash32 = [0; 32];
@@ -33,11 +34,20 @@ pub struct Source {
 }
 
 impl Source {
-    pub fn read(&self, alloc: Global) -> Result<Torrent, MetaError> {
+    fn read(&self, alloc: Global) -> Result<Torrent, MetaError> {
         if self.is_whole {
             read_torrent(alloc, &self.text)
         } else {
             read_info(alloc, &self.text)
+        }
+    }
+
+    /// The torrent once more.
+    pub fn torrent(&self, alloc: Global) -> Result<Torrent, RowError> {
+        match self.read(alloc) {
+            Ok(torrent) => Ok(torrent),
+            Err(MetaError::OutOfMemory) => Err(RowError::Memory(AllocError)),
+            Err(_) => Err(RowError::Unread),
         }
     }
 }
@@ -100,6 +110,8 @@ impl Stage {
             "device" => self.device_row(words, out),
             "log" => self.log_row(words, out),
             "start" => self.start_row(words, out),
+            "reopen" => self.reopen_row(out),
+            "stop" => self.stop_row(out),
             "calls" => self.calls_row(words, out),
             name => self.engine_row(name, words, out),
         }
@@ -245,6 +257,46 @@ impl Stage {
         Ok(write!(out, "refused {cause}")?)
     }
 
+    /// Opens the log of the torrent, and starts over the devices, in one call.
+    fn reopen_row(&mut self, out: &mut String) -> Result<(), RowError> {
+        let torrent = self.source.torrent(self.alloc)?;
+        let Some(log) = self.log.take() else {
+            return Err(RowError::Unread);
+        };
+        let disks = mem::replace(&mut self.disks, Vec::new(self.alloc));
+        match reopen(self.alloc, torrent, Lanes, disks, log) {
+            Ok(engine) => {
+                put(&mut self.engine, Some(engine));
+                tell(out, "started")
+            }
+            Err(refused) => self.put_devices_back(refused, out),
+        }
+    }
+
+    /// Nothing is started, and the devices are back.
+    fn put_devices_back(
+        &mut self,
+        refused: ReopenRefused<TestDisk>,
+        out: &mut String,
+    ) -> Result<(), RowError> {
+        let ReopenRefused { disks, log, cause } = refused;
+        put(&mut self.disks, disks);
+        put(&mut self.log, Some(log));
+        tell_not_reopened(out, cause)
+    }
+
+    /// What a stop leaves of the devices, of an engine or of none, and what is marked over it.
+    fn stop_row(&self, out: &mut String) -> Result<(), RowError> {
+        if let Some(engine) = &self.engine {
+            return stop_row(self.alloc, &self.source, Stopped::Engine(engine), out);
+        }
+        let Some(log) = &self.log else {
+            return Err(RowError::Unread);
+        };
+        let devices = Stopped::Devices(self.disks.as_slice(), log);
+        stop_row(self.alloc, &self.source, devices, out)
+    }
+
     /// An event, or what is told of the engine.
     fn engine_row(
         &mut self,
@@ -265,7 +317,6 @@ impl Stage {
             "flush" => flush_row(engine, out),
             "restart" => restart_row(engine, out),
             "report" => report_row(engine, words, out),
-            "stop" => stop_row(self.alloc, &self.source, engine, out),
             _ => Err(RowError::Unread),
         }
     }
@@ -285,7 +336,7 @@ fn device_of(alloc: Global, kind: &str, words: &mut Words) -> Result<TestDisk, R
     Ok(TestDisk::in_memory(alloc, bytes, defect, number))
 }
 
-pub fn started(
+fn started(
     alloc: Global,
     torrent: Torrent,
     disks: Vec<TestDisk>,

@@ -1,11 +1,14 @@
-//! What a stop leaves of an engine's devices and of its log, and what a start makes of it.
+//! What a stop leaves of devices and of a log, and what is marked where an engine begins over them again.
 
 use crate::device::TestDisk;
 use crate::hints::tell_refusal;
-use crate::stage::{Source, TestEngine, TestRefusal, started};
+use crate::peers::tell_asked;
+use crate::stage::{Source, TestEngine};
 use crate::words::{RowError, tell};
 use bt_disk::Loss;
-use bt_resume::ResumeLog;
+use bt_lanes::Lanes;
+use bt_machine::StartError;
+use bt_runs::{ReopenError, reopen};
 use std::alloc::{AllocError, Global};
 use std::fmt::Write;
 
@@ -17,18 +20,53 @@ const LOSSES: [Loss; 4] = [
     Loss::Filled(255),
 ];
 
-/// How many blocks of the first file a start marks over what a stop leaves: a line for each loss of the files' devices,
-/// and in it a word for each loss of the log's.
+/// Where the devices are that are stopped.
+#[derive(Clone, Copy)]
+pub enum Stopped<'a> {
+    Engine(&'a TestEngine),
+    /// Nothing was started over them; and that of the log.
+    Devices(&'a [TestDisk], &'a TestDisk),
+}
+
+impl<'a> Stopped<'a> {
+    /// No file and no device has this number or a greater one.
+    fn count(self) -> usize {
+        match self {
+            Stopped::Engine(engine) => engine.torrent().files().len(),
+            Stopped::Devices(disks, _) => disks.len(),
+        }
+    }
+
+    fn disk(self, number: usize) -> Option<&'a TestDisk> {
+        match self {
+            Stopped::Engine(engine) => match u32::try_from(number) {
+                Ok(number) => engine.disk(number),
+                Err(_) => None,
+            },
+            Stopped::Devices(disks, _) => disks.get(number),
+        }
+    }
+
+    fn log(self) -> Option<&'a TestDisk> {
+        match self {
+            Stopped::Engine(engine) => engine.log_disk(),
+            Stopped::Devices(_, log) => Some(log),
+        }
+    }
+}
+
+/// What is marked where the log is opened and an engine starts over what a stop leaves: a line for each loss of the
+/// files' devices, and in it a word for each loss of the log's.
 pub fn stop_row(
     alloc: Global,
     source: &Source,
-    engine: &TestEngine,
+    stopped: Stopped<'_>,
     out: &mut String,
 ) -> Result<(), RowError> {
     let mut between = "";
     for loss in &LOSSES {
         tell(out, between)?;
-        tell_starts(alloc, source, engine, *loss, out)?;
+        tell_starts(alloc, source, stopped, *loss, out)?;
         between = "\n";
     }
     Ok(())
@@ -37,17 +75,17 @@ pub fn stop_row(
 fn tell_starts(
     alloc: Global,
     source: &Source,
-    engine: &TestEngine,
+    stopped: Stopped<'_>,
     loss: Loss,
     out: &mut String,
 ) -> Result<(), RowError> {
-    let Some(log) = engine.log_disk() else {
+    let Some(log) = stopped.log() else {
         return Err(RowError::Unread);
     };
     let mut between = "";
     for loss_of_log in &LOSSES {
         tell(out, between)?;
-        let disks = images_of(alloc, engine, loss)?;
+        let disks = images_of(alloc, stopped, loss)?;
         tell_start(alloc, source, disks, log.image(alloc, *loss_of_log)?, out)?;
         between = ", ";
     }
@@ -55,17 +93,17 @@ fn tell_starts(
 }
 
 /// What a crash leaves of the devices of files.
-fn images_of(alloc: Global, engine: &TestEngine, loss: Loss) -> Result<Vec<TestDisk>, AllocError> {
+fn images_of(alloc: Global, stopped: Stopped<'_>, loss: Loss) -> Result<Vec<TestDisk>, AllocError> {
     let mut images = Vec::new(alloc);
-    for file in 0..engine.torrent().files().len() {
-        if let Some(disk) = engine.disk(file as u32) {
+    for number in 0..stopped.count() {
+        if let Some(disk) = stopped.disk(number) {
             images.push(disk.image(alloc, loss)?)?;
         }
     }
     Ok(images)
 }
 
-/// How many blocks of the first file a start marks, or why the log is refused.
+/// What is marked over these, or why the log is refused.
 fn tell_start(
     alloc: Global,
     source: &Source,
@@ -73,21 +111,28 @@ fn tell_start(
     log: TestDisk,
     out: &mut String,
 ) -> Result<(), RowError> {
-    let Ok(torrent) = source.read(alloc) else {
-        return Err(RowError::Memory(AllocError));
-    };
-    match ResumeLog::attach(alloc, log, torrent.infohash()) {
-        Ok(log) => tell_marked(out, started(alloc, torrent, disks, log)),
-        Err(refused) => tell_refusal(out, refused.cause),
+    let torrent = source.torrent(alloc)?;
+    match reopen(alloc, torrent, Lanes, disks, log) {
+        Ok(engine) => tell_marked(alloc, engine, out),
+        Err(refused) => tell_not_reopened(out, refused.cause),
     }
 }
 
-fn tell_marked(out: &mut String, started: Result<TestEngine, TestRefusal>) -> Result<(), RowError> {
-    let Ok(engine) = started else {
-        return Err(RowError::Memory(AllocError));
+/// How many blocks of the first file are marked, and which of its first piece are not.
+fn tell_marked(alloc: Global, engine: TestEngine, out: &mut String) -> Result<(), RowError> {
+    let mut engine = engine;
+    let Some(report) = engine.report(0) else {
+        return Err(RowError::Unread);
     };
-    match engine.report(0) {
-        Some(report) => Ok(write!(out, "{}", report.marked)?),
-        None => Err(RowError::Unread),
+    write!(out, "{}", report.marked)?;
+    tell_asked(alloc, &mut engine, out)
+}
+
+/// Why no engine begins.
+pub fn tell_not_reopened(out: &mut String, cause: ReopenError) -> Result<(), RowError> {
+    match cause {
+        ReopenError::Log(cause) => tell_refusal(out, cause),
+        ReopenError::Start(StartError::OutOfMemory) => Err(RowError::Memory(AllocError)),
+        ReopenError::Start(cause) => Ok(write!(out, "refused {cause}")?),
     }
 }

@@ -1,35 +1,20 @@
 -- The events of a session, and of a flush behind it, lead from the engine before it to the one after it.
-use Rattle.std.proofs.Common.{[], ◌≡◌, ◌≢◌, ℕ, Bool, true, false, List, Option, Some, None, ap, ◌∙◌, sym, subst, ne_eqb, refl}
-use Rattle.std.specs.Prelude.{Result, Ok, Err, ◌==◌, not}
+use Rattle.std.proofs.Common.{[], ◌≡◌, ◌≢◌, ℕ, List, Option, ap, ◌∙◌, sym, subst, ne_eqb, refl}
+use Rattle.std.specs.Prelude.{Result, Ok, ◌==◌, not}
 use Rattle.bt_disk.specs.History.{History}
 use Rattle.bt_machine.specs.declared.error.FlushError.{FlushError}
-use Rattle.bt_machine.specs.declared.event.Event.{Event}
-use Rattle.bt_machine.specs.declared.event.Event.TheVariants.{Connect, Flush, Lost, Restart}
-use Rattle.bt_machine.specs.declared.event.Answer.{Answer}
-use Rattle.bt_machine.specs.declared.event.Answer.TheVariants.{Connected, Fed, Stepped, Rechoked, Flushed, Lost as LostAnswer}
+use Rattle.bt_machine.specs.declared.event.Event.TheVariants.{Connect, Flush, Lost}
+use Rattle.bt_machine.specs.declared.event.Answer.TheVariants.{Flushed, Lost as LostAnswer}
 use Rattle.bt_machine.specs.Flush.{StepFlush, syncs, writes, fails, unwritten, unflushed}
 use Rattle.bt_machine.specs.State.{EngineState, EngineView}
 use Rattle.bt_machine.specs.View.{StepsTo}
 use Rattle.bt_session.specs.declared.end.SessionEnd.{SessionEnd}
 use Rattle.bt_session.specs.Ends.{IsSessionWithFlushes}
 use Rattle.bt_session.specs.Progress.{place}
-use Rattle.bt_session.specs.Session.{Session, Follows, FollowsTurn, is_flush_due, begins, goes_on}
+use Rattle.bt_session.specs.Session.{Session, begins, goes_on}
+use Rattle.bt_session.proofs.Standing.{no_restart}
 use Rattle.bt_runs.specs.Leads.{LeadsTo, none, one, both}
 use Rattle.bt_peers.specs.Peer.{IsFlushedWhere}
-
--- a session makes no restart
-turn_no_restart : (due : Bool) (key event : _) → FollowsTurn due key event → event ≢ Restart
-turn_no_restart true key event follows e = absurd cc
-turn_no_restart false key event follows e = let fed = follows.3 in absurd cc
-
-no_restart : (key until every taken s : _) (last : Answer) (event : Event) → Follows key until every taken s last event → event ≢ Restart
-no_restart key until every taken s (Connected (Ok joined)) event follows e = let fed = follows.1.3 in absurd cc
-no_restart key until every taken s (Fed (Ok done)) event follows e = absurd cc
-no_restart key until every taken s (Stepped (Ok (Some out))) event follows e = let is = follows.2 in absurd cc
-no_restart key until every taken s (Stepped (Ok None)) event follows e = absurd cc
-no_restart key until every taken s (Rechoked (Ok out)) event follows e = turn_no_restart (is_flush_due every taken) key event follows e
-no_restart key until every taken s (Flushed (Ok done)) event follows e = let fed = follows.3 in absurd cc
-no_restart key until every taken s _ event follows e = absurd follows
 
 -- a flush connects no peer
 no_peer_flushed : {s new : EngineState} {calls answer : _} → StepFlush s calls answer new → s.peers ≡ [] → new.peers ≡ []

@@ -1,11 +1,12 @@
 //! One peer.
 ghost use Rattle.std.specs.Prelude.{[], ◌≡◌, ◌==◌, not};
-ghost use Rattle.bt_runs.specs.Leads.{LeadsTo};
+ghost use Rattle.bt_runs.specs.Leads.{LeadsTo, Stands};
 ghost use Rattle.bt_peers.specs.Peer.{EndsAs, EndsAsWithFlushes, IsFlushedWhere};
 
 use crate::end::PeerEnd;
 use bt_disk::Disk;
 use bt_machine::FlushError;
+use bt_runs::what_leads_on_stands;
 use bt_session::{Engine, SessionEnd, run_session_with_flushes};
 use bt_tree::NodeHash;
 use std::alloc::Global;
@@ -24,6 +25,7 @@ pub fn meet_peer<D: Disk + Drop, H: NodeHash, R: Read + Drop, W: Write + Drop>(
         turns reached engine.old result engine.new }
     ensures gone { engine.new.state.peers ≡ [] }
     ensures run { LeadsTo D.history D.honest D.faults H.digest engine.old engine.new }
+    ensures stands { Stands D.history D.honest D.faults engine.old engine.new }
 {
     // It is never flushed.
     let (end, _) = meet_peer_with_flushes(alloc, engine, reached, until_complete, turns, 0);
@@ -47,7 +49,10 @@ pub fn meet_peer_with_flushes<D: Disk + Drop, H: NodeHash, R: Read + Drop, W: Wr
         until_complete flush_every turns reached engine.old result.0 result.1 engine.new }
     ensures gone { engine.new.state.peers ≡ [] }
     ensures run { LeadsTo D.history D.honest D.faults H.digest engine.old engine.new }
+    ensures stands { Stands D.history D.honest D.faults engine.old engine.new }
 {
+    what_leads_on_stands::<D, H>(engine.hash());
+    engine.keeps_laws();
     let Some((mut reader, mut writer)) = reached else {
         return (PeerEnd::Unreachable, Ok(()));
     };

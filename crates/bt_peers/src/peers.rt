@@ -1,6 +1,6 @@
 //! Peers in their turns.
 ghost use Rattle.std.specs.Prelude.{[], ◌≡◌, length, All};
-ghost use Rattle.bt_runs.specs.Leads.{LeadsTo};
+ghost use Rattle.bt_runs.specs.Leads.{LeadsTo, Stands};
 ghost use Rattle.bt_peers.specs.Peers.{IsTried, InTurn, IsTriedWithFlushes, InTurnWithFlushes};
 
 use crate::end::PeerEnd;
@@ -8,6 +8,7 @@ use crate::link::Link;
 use crate::peer::meet_peer_with_flushes;
 use bt_disk::Disk;
 use bt_machine::FlushError;
+use bt_runs::what_leads_on_stands;
 use bt_session::Engine;
 use bt_tree::NodeHash;
 use std::alloc::Global;
@@ -29,6 +30,7 @@ pub fn run_peers<D: Disk + Drop, H: NodeHash, L: Link>(
         L.R.remaining L.W.contents turns) engine.old links.old ends.new links.new engine.new }
     ensures gone { engine.new.state.peers ≡ [] }
     ensures run { LeadsTo D.history D.honest D.faults H.digest engine.old engine.new }
+    ensures stands { Stands D.history D.honest D.faults engine.old engine.new }
 {
     // It is never flushed, so no flush is refused.
     let _ = run_peers_with_flushes(alloc, engine, links, ends, turns, 0);
@@ -55,7 +57,10 @@ pub fn run_peers_with_flushes<D: Disk + Drop, H: NodeHash, L: Link>(
         links.new result engine.new }
     ensures gone { engine.new.state.peers ≡ [] }
     ensures run { LeadsTo D.history D.honest D.faults H.digest engine.old engine.new }
+    ensures stands { Stands D.history D.honest D.faults engine.old engine.new }
 {
+    what_leads_on_stands::<D, H>(engine.hash());
+    engine.keeps_laws();
     ends.fill(PeerEnd::Untried);
     for (i, link) in links.iter_mut().enumerate() {
         if engine.is_complete() {

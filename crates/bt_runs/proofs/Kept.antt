@@ -8,8 +8,7 @@ use Rattle.bt_machine.specs.Headline.{IsPublished}
 use Rattle.bt_machine.specs.Law.{AreRooted, StepKeepsRooted, RightIsChecked, StepMarksByBytes, RunSendsReadBytes}
 use Rattle.bt_machine.specs.Shape.{IsShaped, StepKeepsShape}
 use Rattle.bt_machine.specs.Sound.{IsSound, CompleteFilesStand}
-use Rattle.bt_machine.specs.Survival.{RunKeepsImages}
-use Rattle.bt_machine.specs.Unmarks.{HasNoRestart, RunKeepsMarks}
+use Rattle.bt_machine.specs.Unmarks.{HasNoRestart}
 use Rattle.bt_machine.specs.LogCalls.{EventCalls, HaveLogCalls}
 use Rattle.bt_machine.specs.State.{EngineView}
 use Rattle.bt_machine.specs.Stored.{HasFile}
@@ -20,7 +19,7 @@ use Rattle.bt_machine.specs.declared.event.Answer.{Answer}
 use Rattle.bt_machine.proofs.Machine.{Digest, RunOn}
 use Rattle.bt_machine.proofs.Lists.{same_some}
 use Rattle.bt_engine.specs.Run.{RunsEvents}
-use Rattle.bt_runs.specs.Promises.{RunsAsPromised, ArePublished, KeepsMarks, KeepsImages}
+use Rattle.bt_runs.specs.Promises.{RunsAsPromised, ArePublished}
 use Rattle.bt_runs.specs.Flushes.{FlushesLoseNoBlock}
 use Rattle.bt_runs.proofs.Paths.{sends_on_path, run_marks}
 
@@ -80,13 +79,3 @@ module _ {D : Type 0} (history : D → History) (honest : D → Type 0) (faults 
       published dig tell size root
       (stand s.state s.disks number complete.state complete.tree d rooted sound (record { here = complete.here; has_tree = complete.has_tree }) (rw size complete.some)
       (λ i lt. complete.marked i (rw (← size) lt)) there honest_now)
-
-  pub marks_kept : RunKeepsMarks history honest faults dig → (old new : EngineView D) → IsSound history honest dig old.state old.disks
-      → SomeRun old new → KeepsMarks honest old new
-  marks_kept keeps old new sound ran b d there honest_now before =
-      keeps old.state new.state ran.0 ran.2.calls ran.1 old.disks new.disks b d ran.3 ran.2.run sound there honest_now before
-
-  pub images_kept : RunKeepsImages history honest faults dig → (old new : EngineView D) → IsSound history honest dig old.state old.disks
-      → SomeRun old new → KeepsImages history honest old new
-  images_kept keeps old new sound ran file i moment f k bytes d is marked size there honest_now kept =
-      keeps old.state new.state ran.0 ran.2.calls ran.1 old.disks new.disks file i moment f k bytes d ran.3 ran.2.run sound is marked size there honest_now kept

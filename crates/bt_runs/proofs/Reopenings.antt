@@ -1,6 +1,6 @@
 -- How a start is refused where the log is the torrent's, and for what no log is refused.
 use Rattle.std.specs.Prelude.{◌↔◌, IfOk, IfErr}
-use Rattle.std.proofs.Common.{◌≡◌, ◌≢◌, ℕ, List, Option, Some, None, Result, Ok, Err, length, sym, ap, ◌∙◌, subst}
+use Rattle.std.proofs.Common.{◌≡◌, ◌≢◌, ℕ, List, Option, Some, None, Result, Ok, Err, length, refl, sym, ap, ◌∙◌, subst}
 use Rattle.bt_disk.specs.History.{History}
 use Rattle.bt_meta.specs.Torrent.{Metainfo}
 use Rattle.bt_resume.specs.ResumeLog.{LogView, Opens, IsAttached}
@@ -8,7 +8,7 @@ use Rattle.bt_resume.specs.declared.error.LogError.{LogError}
 use Rattle.bt_machine.specs.declared.error.StartError.{StartError}
 use Rattle.bt_machine.specs.declared.error.StartError.TheVariants.{DiskCount, OtherLog, OutOfMemory}
 use Rattle.bt_machine.specs.declared.error.StartRefused.{StartRefused}
-use Rattle.bt_machine.specs.Opening.{AnswersStart, HandsBack, starts, other_count, other_log, no_memory}
+use Rattle.bt_machine.specs.Opening.{AnswersStart, BeginsOn, HandsBack, starts, other_count, other_log, no_memory}
 use Rattle.bt_machine.specs.Reopening.{FlushedLogsAreKept}
 use Rattle.bt_machine.specs.Start.{device_count}
 use Rattle.bt_machine.specs.State.{EngineView}
@@ -56,11 +56,30 @@ module _ {D : Type 0} (history : D → History) (honest : D → Type 0) (faults 
 
   -- ---- what a start with an opened log comes to
 
+  -- an engine has begun
+  has_begun : {torrent : Metainfo} {given : List D} {log : D} {opened : LogView D} {engine : EngineView D} {answer : _} → IsAttached history honest faults torrent.infohash log opened
+      → IsReopened history honest faults dig torrent given (Some opened) engine → AnswersStart history honest faults dig torrent given (Some opened) answer
+      → answer ≡ Ok engine → HasReopened history honest faults dig torrent given log engine
+  has_begun {torrent} {opened = opened} {engine} attached again (starts first placed are begun is) ok =
+      let one : first ≡ engine = cc in record {
+        opened = opened;
+        attached = attached;
+        placed = placed;
+        devices = are;
+        begins = subst (λ (e : EngineView D). BeginsOn history honest faults dig torrent placed (Some opened) e) one begun;
+        again = again;
+      }
+  has_begun attached again (other_count other back) ok = let is = back.is in absurd cc
+  has_begun attached again (other_log l so_many some other back) ok = let is = back.is in absurd cc
+  has_begun attached again (no_memory so_many own back) ok = let is = back.is in absurd cc
+
   pub ok_reopened : (torrent : Metainfo) (given : List D) (log : D) (opened : LogView D) → IsAttached history honest faults torrent.infohash log opened
-      → (result : Result (EngineView D) (ReopenRefused D)) → IfOk result (IsReopened history honest faults dig torrent given (Some opened))
+      → (result : Result (EngineView D) (ReopenRefused D))
+      → IfOk result (λ engine. AnswersStart history honest faults dig torrent given (Some opened) (Ok engine))
+      → IfOk result (IsReopened history honest faults dig torrent given (Some opened))
       → IfOk result (HasReopened history honest faults dig torrent given log)
-  ok_reopened torrent given log opened attached (Ok engine) begun = record { opened = opened; attached = attached; begun = begun }
-  ok_reopened torrent given log opened attached (Err refused) begun = tt
+  ok_reopened torrent given log opened attached (Ok engine) begun again = has_begun attached again begun refl
+  ok_reopened torrent given log opened attached (Err refused) begun again = tt
 
   pub err_unstarted : (torrent : Metainfo) (given : List D) (log : D) (opened : LogView D) → IsAttached history honest faults torrent.infohash log opened
       → (result : Result (EngineView D) (ReopenRefused D)) → IfErr result (IsNotStarted torrent given opened)

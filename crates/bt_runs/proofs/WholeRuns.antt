@@ -1,16 +1,15 @@
 -- What is promised of a whole run follows from what is promised of its events.
 use Rattle.std.specs.List.{list_all}
 use Rattle.std.specs.Prelude.{◌↔◌}
-use Rattle.std.proofs.lemmas.List.Elements.{All-append, All-nil, All-push}
 use Rattle.bt_store.specs.BlockStates.{is_marked}
-use Rattle.bt_machine.proofs.Base.{[], ◌≡◌, ◌≢◌, ℕ, zero, suc, ◌<◌, inl, inr, true, List, ◌∷◌, ◌++◌, length, replicate, Option, Some, None, refl, sym, ap, ◌∙◌, subst, arith, slice_get, History, File, Metainfo, IsLawful, BlockState, Missing, Waiting, Marked, BlockId, block_count}
+use Rattle.bt_machine.proofs.Base.{[], ◌≡◌, ℕ, zero, suc, ◌<◌, inl, inr, true, List, ◌∷◌, length, replicate, Option, Some, None, refl, sym, ap, ◌∙◌, subst, arith, slice_get, History, File, Metainfo, IsLawful, BlockState, Missing, Waiting, Marked, BlockId, block_count}
 use Rattle.bt_machine.specs.Blocks.{block_id, is_complete}
 use Rattle.bt_machine.specs.Headline.{CompleteFilesArePublished}
 use Rattle.bt_machine.specs.Law.{AreRooted, StartsRooted, StepKeepsRooted, RightIsChecked, StartMarksByBytes, StepMarksByBytes, RunSendsReadBytes}
 use Rattle.bt_machine.specs.Shape.{IsShaped, StartsInShape, StepKeepsShape, RunsKeepShape}
 use Rattle.bt_machine.specs.Sound.{StartsSound, StepKeepsSound, HonestDevicesWereSo}
 use Rattle.bt_machine.specs.Survival.{FlushKeepsBlocks, RunKeepsImages}
-use Rattle.bt_machine.specs.Unmarks.{HasNoRestart, RunKeepsMarks}
+use Rattle.bt_machine.specs.Unmarks.{RunKeepsMarks}
 use Rattle.bt_machine.specs.LogCalls.{EventCalls}
 use Rattle.bt_resume.specs.ResumeLog.{LogView}
 use Rattle.bt_machine.specs.Opening.Begins.{bare, with_log}
@@ -20,13 +19,12 @@ use Rattle.bt_machine.specs.Start.{AreDevicesOf}
 use Rattle.bt_machine.specs.State.{EngineView}
 use Rattle.bt_machine.specs.View.{RunsTo, NoEventsRun, OneMoreEventRuns, RunsCompose, RunsAreRuns}
 use Rattle.bt_machine.specs.declared.event.Event.{Event}
-use Rattle.bt_machine.specs.declared.event.Event.TheVariants.{Restart}
 use Rattle.bt_machine.specs.declared.event.Answer.{Answer}
 use Rattle.bt_machine.proofs.Machine.{Digest, EngineState, RunOn, Starts, state_at}
 use Rattle.bt_machine.proofs.Lists.{and_then_some, get_some, some_below}
-use Rattle.bt_runs.specs.Leads.{LeadsTo, none, one, both}
 use Rattle.bt_runs.specs.WholeRuns.{starting_calls, IsMarkedAtStart, IsPublishedOn, IsMarkedInRun, at_event, at_start, WholeRunsKeepPromises, WhatLeadsOnIsWhole}
 use Rattle.bt_runs.proofs.Flushes.{flushes}
+use Rattle.bt_runs.proofs.Leading.{leads_run}
 use Rattle.bt_runs.proofs.Paths.{marked_cases, path_of, sends_on_path}
 
 -- ---- blocks
@@ -66,35 +64,6 @@ positive zero some = absurd (some refl)
 positive (suc n) some = omega arith
 
 module _ {D : Type 0} (history : D → History) (honest : D → Type 0) (faults : D → ℕ) (dig : Digest) where
-  -- ---- lists of events
-
-  record SomeRun (old new : EngineView D) : Type 0 where
-    pub events : List Event
-    pub answers : List Answer
-    pub runs : RunsTo history honest faults dig old events answers new
-    pub no_restart : HasNoRestart events
-
-  abbrev IsNoRestart : Event → Type 0
-  IsNoRestart event = event ≢ Restart
-
-  -- what leads on is a list of events
-  leads_run : NoEventsRun history honest faults dig → OneMoreEventRuns history honest faults dig → RunsCompose history honest faults dig → {old new : EngineView D} → LeadsTo history honest faults dig old new → SomeRun old new
-  leads_run none_run one_more compose (none engine) = record { events = []; answers = []; runs = none_run engine; no_restart = All-nil IsNoRestart }
-  leads_run none_run one_more compose (one old new event answer is_other step) = record {
-    events = event ∷ [];
-    answers = answer ∷ [];
-    runs = one_more old old new [] [] event answer (none_run old) step;
-    no_restart = All-push IsNoRestart [] event (All-nil IsNoRestart) is_other;
-  }
-  leads_run none_run one_more compose (both old mid new first then) =
-      let a = leads_run none_run one_more compose first in
-      let b = leads_run none_run one_more compose then in record {
-        events = a.events ++ b.events;
-        answers = a.answers ++ b.answers;
-        runs = compose old mid new a.events b.events a.answers b.answers a.runs b.runs;
-        no_restart = All-append IsNoRestart a.events b.events a.no_restart b.no_restart;
-      }
-
   -- ---- the start
 
   begins_of : {torrent : Metainfo} {placed : List (Option D)} {log : Option (LogView D)} {first : EngineView D} → BeginsOn history honest faults dig torrent placed log first
@@ -200,7 +169,7 @@ module _ {D : Type 0} (history : D → History) (honest : D → Type 0) (faults 
     pub what_leads_on : NoEventsRun history honest faults dig → OneMoreEventRuns history honest faults dig → RunsCompose history honest faults dig
         → WhatLeadsOnIsWhole history honest faults dig
     what_leads_on none_run one_more compose torrent given placed log first last begins lawful devices leads =
-        let some = leads_run none_run one_more compose leads in
+        let some = leads_run history honest faults dig none_run one_more compose leads in
         record {
           events = some.events;
           answers = some.answers;

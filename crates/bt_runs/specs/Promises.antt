@@ -1,6 +1,5 @@
 -- What is promised of every list of events, whatever peers send and devices answer.
-use Rattle.std.specs.Prelude.{[], ◌≡◌, ◌≢◌, ℕ, List, ◌∷◌, ◌++◌, flat_map, length, Some, slice_get, Contains}
-use Rattle.bt_tree.specs.Blocks.{block_length}
+use Rattle.std.specs.Prelude.{[], ◌≡◌, ◌≢◌, ℕ, List, ◌∷◌, ◌++◌, flat_map, Some, slice_get, Contains}
 use Rattle.bt_disk.specs.History.{History}
 use Rattle.bt_meta.specs.Files.{File}
 use Rattle.bt_sparse.specs.SparseTree.{Facts, IsChecked}
@@ -11,14 +10,12 @@ use Rattle.bt_wire.specs.declared.message.Message.TheVariants.{Piece}
 use Rattle.bt_machine.specs.declared.answer.Frame.TheVariants.{Message}
 use Rattle.bt_machine.specs.declared.event.Event.{Event}
 use Rattle.bt_machine.specs.declared.event.Answer.{Answer}
-use Rattle.bt_machine.specs.State.{FileState, EngineState, EngineView}
+use Rattle.bt_machine.specs.State.{EngineState, EngineView}
 use Rattle.bt_machine.specs.Devices.{DeviceCalls}
 use Rattle.bt_machine.specs.LogCalls.{EventCalls, HaveLogCalls}
 use Rattle.bt_machine.specs.Blocks.{block_id, state_at, tree_of}
-use Rattle.bt_machine.specs.Crash.{IsBlockKept}
 use Rattle.bt_machine.specs.Headline.{IsComplete, IsPublished}
 use Rattle.bt_machine.specs.Law.{IsMarkedBy, IsServed, IsSoAt, brought, read_back, found, recovered, sent_by}
-use Rattle.bt_machine.specs.Request.{IsFile}
 use Rattle.bt_machine.specs.Spans.{spanned_blocks}
 use Rattle.bt_machine.specs.Sound.{RunOn}
 use Rattle.bt_runs.specs.Flushes.{FlushesLoseNoBlock}
@@ -114,18 +111,3 @@ abbrev pub ArePublished : {D : Type 0} → (D → History) → (D → Type 0) �
 ArePublished {D} history honest dig s = (number : ℕ) (file : File) (d : D)
     → IsComplete s.state.torrent s.state number file → slice_get s.disks number ≡ Some (Some d) → honest d
     → IsPublished dig file (history d).now.bytes
-
--- on an honest device a marked block stays marked, where no event is a restart
-abbrev pub KeepsMarks : {D : Type 0} → (D → Type 0) → EngineView D → EngineView D → Type 0
-KeepsMarks {D} honest old new = (b : BlockId) (d : D) → slice_get new.disks b.file ≡ Some (Some d)
-    → honest d → state_at old.state b ≡ Some Marked → state_at new.state b ≡ Some Marked
-
--- What every image of an honest device since a moment has of a marked block, every image goes on to have,
--- where no event is a restart; also those that a crash within an event leaves.
-abbrev pub KeepsImages : {D : Type 0} → (D → History) → (D → Type 0) → EngineView D → EngineView D → Type 0
-KeepsImages {D} history honest old new =
-    (file i moment : ℕ) (f : FileState) (k : Facts) (bytes : List ℕ) (d : D)
-    → IsFile old.state file f k → slice_get f.states i ≡ Some Marked
-    → length bytes ≡ block_length k.file_length i → slice_get new.disks file ≡ Some (Some d) → honest d
-    → ((was : D) → slice_get old.disks file ≡ Some (Some was) → IsBlockKept (history was) moment i bytes)
-    → IsBlockKept (history d) moment i bytes

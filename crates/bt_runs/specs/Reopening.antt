@@ -1,5 +1,5 @@
 -- What an engine begins with where another one was stopped.
-use Rattle.std.specs.Prelude.{◌≡◌, ◌≢◌, ◌↔◌, ℕ, List, length, Some, Err}
+use Rattle.std.specs.Prelude.{◌≡◌, ◌≢◌, ◌↔◌, ℕ, List, length, Option, Some, Err}
 use Rattle.bt_disk.specs.History.{History}
 use Rattle.bt_meta.specs.Torrent.{Metainfo}
 use Rattle.bt_resume.specs.ResumeLog.{LogView, Opens, IsAttached}
@@ -7,8 +7,9 @@ use Rattle.bt_resume.specs.Law.{IsNotOfBytes}
 use Rattle.bt_resume.specs.declared.error.LogError.{LogError}
 use Rattle.bt_machine.specs.declared.error.StartError.{StartError}
 use Rattle.bt_machine.specs.declared.error.StartError.TheVariants.{DiskCount, OtherLog}
+use Rattle.bt_machine.specs.Opening.{BeginsOn}
 use Rattle.bt_machine.specs.Reopening.{RunsPastFlush, IsLogLeft}
-use Rattle.bt_machine.specs.Start.{device_count}
+use Rattle.bt_machine.specs.Start.{device_count, AreDevicesOf}
 use Rattle.bt_machine.specs.State.{EngineView}
 use Rattle.bt_engine.specs.Reopened.{IsReopened}
 use Rattle.bt_runs.specs.declared.reopening.ReopenError.TheVariants.{Log, Start}
@@ -24,14 +25,18 @@ pub record IsNotStarted {D : Type 0} (torrent : Metainfo) (given : List D) (open
   pub same_disks : refused.disks.items ≡ given
   pub same_log : refused.log ≡ opened.disk
 
-module _ {D : Type 0} (history : D → History) (honest : D → Type 0) (faults : D → ℕ) (dig : List ℕ → List ℕ) where
-  -- The log was opened, and an engine of the torrent has begun with it over these devices. What that marks
-  -- again is said of them.
+module _ {D : Type 0} (history : D → History) (honest : D → Type 0) (faults : D → ℕ)
+    (dig : List ℕ → List ℕ) where
+  -- The log was opened, and an engine of the torrent has begun with it over these devices. And so it marks
+  -- again what was marked where another one was stopped.
   pub record HasReopened (torrent : Metainfo) (given : List D) (log : D) (engine : EngineView D) : Type 0
     where
       pub opened : LogView D
       pub attached : IsAttached history honest faults torrent.infohash log opened
-      pub begun : IsReopened history honest faults dig torrent given (Some opened) engine
+      pub placed : List (Option D)
+      pub devices : AreDevicesOf torrent.files given placed
+      pub begins : BeginsOn history honest faults dig torrent placed (Some opened) engine
+      pub again : IsReopened history honest faults dig torrent given (Some opened) engine
 
   -- No log is refused for what its bytes are that a stop has left, at any moment since a flush that answered
   -- Ok, of that of an engine of the torrent.

@@ -33,8 +33,8 @@ abbrev pub starting_calls : {D : Type 0} {history : D → History} {honest : D �
 starting_calls (bare no_log begun same unlogged) = []
 starting_calls (with_log l calls is of_torrent begun made same) = calls
 
--- A block is marked as an engine begins: the log records it, and it was read by one of these calls. The digest
--- of its bytes lies at the block's leaf, on a checked path to the pieces root of its file.
+-- A block is marked as an engine begins: the log records it, and it was read by one of these calls. The
+-- digest of its bytes lies at the block's leaf, on a checked path to the pieces root of its file.
 pub record IsMarkedAtStart (dig : List ℕ → List ℕ) (calls : DeviceCalls) (first : EngineState) (b : BlockId)
     : Type 0 where
   pub recovered : IsRecovered dig calls first b
@@ -75,9 +75,9 @@ module _ {D : Type 0} {history : D → History} {honest : D → Type 0} {faults 
   IsFileMarkedOnPath number file = (i : ℕ) → i < block_count file.length → IsMarkedInRun (block_id number i)
 
   -- Each block that is marked is so by such bytes. All data that an answer sends is cut from blocks that were
-  -- read in its own event, and the digest of each lies so. Of a file that is complete each block is marked so,
-  -- and the file is the published one. What was marked at a flush that answered Ok no later stop loses, up to a
-  -- restart.
+  -- read in its own event, and the digest of each lies so. Of a file that is complete each block is marked
+  -- so, and the file is the published one. What was marked at a flush that answered Ok no later stop loses,
+  -- up to a restart.
   pub record IsWholeRun : Type 0 where
     pub marks : (b : BlockId) → state_at last.state b ≡ Some Marked → IsMarkedInRun b
     pub sends : SendsReadBytes dig first.state events runs.calls answers last.state
@@ -86,8 +86,8 @@ module _ {D : Type 0} {history : D → History} {honest : D → Type 0} {faults 
     pub published : CompleteIsPublished history honest dig torrent last
     pub flushes : FlushesLoseNoBlock history honest faults dig first events runs.calls answers last
 
--- Every run from the start of a lawful torrent, over devices of its files, is so, be restarts among its events
--- or not.
+-- Every run from the start of a lawful torrent, over devices of its files, is so, be restarts among its
+-- events or not.
 abbrev pub WholeRunsKeepPromises : {D : Type 0} → (D → History) → (D → Type 0) → (D → ℕ)
     → (List ℕ → List ℕ) → Type 0
 WholeRunsKeepPromises {D} history honest faults dig = (torrent : Metainfo) (given : List D)
@@ -99,7 +99,8 @@ WholeRunsKeepPromises {D} history honest faults dig = (torrent : Metainfo) (give
 
 -- ---- without a restart
 
--- events, none of them a restart, led from the engine that began to this one, as a run of which that is promised
+-- events, none of them a restart, led from the engine that began to this one, as a run of which that is
+-- promised
 pub record HasWholeRun {D : Type 0} {history : D → History} {honest : D → Type 0} {faults : D → ℕ}
     {dig : List ℕ → List ℕ} {torrent : Metainfo} {placed : List (Option D)} {log : Option (LogView D)}
     {first : EngineView D} (begins : BeginsOn history honest faults dig torrent placed log first)

@@ -1,8 +1,9 @@
 //! What is promised of lists of events.
 ghost use Rattle.std.specs.Prelude.{◌≡◌, OnOk, OnErr};
 ghost use Rattle.bt_machine.specs.Unmarks.{HasNoRestart};
+ghost use Rattle.bt_engine.specs.Standing.{Stands};
 ghost use Rattle.bt_runs.specs.Flushes.{KeepsFlushed, FlushedBlocksStay};
-ghost use Rattle.bt_runs.specs.Promises.{RunsAsPromised, ArePublished, KeepsMarks, KeepsImages};
+ghost use Rattle.bt_runs.specs.Promises.{RunsAsPromised, ArePublished};
 
 use bt_disk::Disk;
 use bt_engine::{Engine, run_events};
@@ -28,8 +29,8 @@ pub fn run_as_promised<D: Disk + Drop, H: NodeHash>(
     ensures kept { OnErr result (engine.new ≡ engine.old) }
     ensures unanswered { OnErr result (answers.new.items ≡ answers.old.items) }
     ensures published { ArePublished D.history D.honest H.digest engine.new }
-    ensures marks { HasNoRestart events.now → KeepsMarks D.honest engine.old engine.new }
-    ensures images { HasNoRestart events.now → KeepsImages D.history D.honest engine.old engine.new }
+    ensures stands { HasNoRestart events.now
+        → Stands D.history D.honest D.faults engine.old engine.new }
     ensures flushed { HasNoRestart events.now
         → KeepsFlushed D.history D.honest D.faults H.digest engine.old engine.new }
 {

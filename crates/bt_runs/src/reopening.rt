@@ -1,6 +1,7 @@
 //! An engine begins where another one was stopped.
-ghost use Rattle.std.specs.Prelude.{◌≡◌, Some, IfOk, IfErr};
+ghost use Rattle.std.specs.Prelude.{◌≡◌, Some, Ok, IfOk, IfErr};
 ghost use Rattle.sha2.specs.Sha256.{sha256};
+ghost use Rattle.bt_machine.specs.Opening.{AnswersStart};
 ghost use Rattle.bt_engine.specs.Reopened.{IsReopened};
 ghost use Rattle.bt_runs.specs.Reopening.{HasReopened, IsNotReopened, IsNotStarted};
 
@@ -34,9 +35,11 @@ pub struct ReopenRefused<D> {
 
 /// Opens the log of a torrent on a device, and starts an engine with it over the devices of the torrent's files.
 ///
-/// Once a flush answered Ok on an engine with a log, a stop at any later moment, also within an event, leaves
-/// devices over which this marks each block that was marked at the flush, where it answers Ok and no read of
-/// them fails; and it refuses the log then only for a device fault or for want of memory.
+/// Once a flush answered Ok on an engine that was started with a log as it was opened, a stop at any later
+/// moment, also within an event, leaves devices over which this marks each block that was marked at the flush,
+/// where it answers Ok and no read of them fails; and it refuses the log then only for a device fault or for
+/// want of memory. So it is of honest devices, where no read of a restart failed behind the flush, and behind a
+/// restart before it that ran out of memory another one was accepted.
 ///
 /// Errors: `Log` as `ResumeLog::attach` has it, and `Start` as `Engine::start`.
 pub fn reopen<D: Disk + Drop, H: NodeHash>(
@@ -73,7 +76,9 @@ fn start_with<D: Disk + Drop, H: NodeHash>(
 ) -> Result<Engine<D, H>, ReopenRefused<D>>
     requires digest { H.digest ≡ sha256 }
     requires same_torrent { opened.infohash ≡ torrent.infohash }
-    ensures begun { IfOk result (IsReopened D.history D.honest D.faults H.digest torrent disks.items
+    ensures begun { IfOk result (λ engine. AnswersStart D.history D.honest D.faults H.digest torrent
+        disks.items (Some opened) (Ok engine)) }
+    ensures again { IfOk result (IsReopened D.history D.honest D.faults H.digest torrent disks.items
         (Some opened)) }
     ensures refused { IfErr result (IsNotStarted torrent disks.items opened) }
 {

@@ -1,6 +1,7 @@
 pub mod FrameLists
 pub mod OnePeer
 pub mod Runs
+pub mod Standing
 pub mod Progress
 pub mod Parts
 pub mod Consumed

@@ -5,6 +5,7 @@ ghost use Rattle.bt_machine.specs.declared.event.Event.TheVariants.{Connect, Fee
 ghost use Rattle.bt_machine.specs.declared.event.Answer.TheVariants.{Connected, Fed, Stepped, Lost as LostAnswer, Rechoked, Flushed};
 ghost use Rattle.bt_machine.specs.Law.{sent_by};
 ghost use Rattle.bt_machine.specs.View.{StepsTo};
+ghost use Rattle.bt_engine.specs.Standing.{Stands};
 ghost use Rattle.bt_session.specs.Frames.{AllFit};
 ghost use Rattle.bt_session.specs.PeerSteps.{IsAlone, HasNoOther, LeavesPeer};
 
@@ -22,6 +23,7 @@ pub(crate) fn connect<D: Disk + Drop, H: NodeHash>(
     requires empty { engine.old.state.peers ≡ [] }
     ensures step { StepsTo D.history D.honest D.faults H.digest engine.old Connect (Connected result)
         engine.new }
+    ensures stands { Stands D.history D.honest D.faults engine.old engine.new }
     ensures alone { IfOk result (λ joined. IsAlone joined.0 engine.new.state) }
     ensures fit { AllFit (sent_by (Connected result)) }
     ensures kept { OnErr result (engine.new ≡ engine.old) }

@@ -1,7 +1,9 @@
+ghost use Rattle.bt_session.specs.LawSteps.{SessionsStand};
 ghost use Rattle.bt_session.specs.Session.{SessionsAreRuns};
 
 use bt_disk::Disk;
-use bt_machine::runs_compose;
+use bt_machine::{run_keeps_images, run_keeps_marks, runs_compose};
+use bt_resume::kept_hints_stand;
 use bt_tree::NodeHash;
 
 /// The events of a session are a run of its engine, one after the other, with the answers that it had. So
@@ -9,5 +11,17 @@ use bt_tree::NodeHash;
 pub fn sessions_are_runs<D: Disk, H: NodeHash>()
     ensures { SessionsAreRuns D.history D.honest D.faults H.digest }
 {
+    runs_compose::<D, H>();
+}
+
+/// No event of a session is a restart, so over a session no mark on an honest device is lost, nothing that
+/// every image since a moment has of a marked block, and nothing of the text that every image of the log
+/// begins with. It does nothing when it runs.
+pub(crate) fn sessions_stand<D: Disk, H: NodeHash>(hash: H)
+    ensures { SessionsStand D.history D.honest D.faults H.digest }
+{
+    run_keeps_marks::<D, H>(hash);
+    run_keeps_images::<D, H>(hash);
+    kept_hints_stand::<D>();
     runs_compose::<D, H>();
 }

@@ -4,6 +4,7 @@ ghost use Rattle.bt_machine.specs.declared.event.Event.TheVariants.{Connect};
 ghost use Rattle.bt_machine.specs.declared.event.Answer.TheVariants.{Connected};
 ghost use Rattle.bt_machine.specs.State.{EngineView};
 ghost use Rattle.bt_machine.specs.View.{StepsTo};
+ghost use Rattle.bt_engine.specs.Standing.{Stands};
 ghost use Rattle.bt_session.specs.Frames.{AllFit};
 ghost use Rattle.bt_session.specs.Progress.{Place, place};
 ghost use Rattle.bt_session.specs.Ends.{IsBetweenTurns, HasEnded, IsSession, IsSessionWithFlushes};
@@ -14,6 +15,7 @@ use crate::calls::{connect, remove};
 use crate::end::SessionEnd;
 use crate::flushes::flush_if_due;
 use crate::frames::write_frames;
+use crate::law::sessions_stand;
 use crate::room::Room;
 use crate::turn::{Partner, end_after, turn};
 use bt_disk::Disk;
@@ -41,6 +43,7 @@ pub fn run_session<D: Disk + Drop, H: NodeHash, R: Read, W: Write>(
     ensures session { IfOk result (λ end. IsSession D.history D.honest D.faults H.digest until_complete turns
         (place engine.old (R.remaining reader.old) (W.contents writer.old)) end
         (place engine.new (R.remaining reader.new) (W.contents writer.new))) }
+    ensures stands { Stands D.history D.honest D.faults engine.old engine.new }
     ensures gone { engine.new.state.peers ≡ [] }
     ensures refused { IfErr result (λ error.
         StepsTo D.history D.honest D.faults H.digest engine.old Connect (Connected (Err error)) engine.new) }
@@ -75,6 +78,7 @@ pub fn run_session_with_flushes<D: Disk + Drop, H: NodeHash, R: Read, W: Write>(
         until_complete flush_every turns
         (place engine.old (R.remaining reader.old) (W.contents writer.old)) end
         (place engine.new (R.remaining reader.new) (W.contents writer.new))) }
+    ensures stands { Stands D.history D.honest D.faults engine.old engine.new }
     ensures gone { engine.new.state.peers ≡ [] }
     ensures refused { IfErr result (λ error.
         StepsTo D.history D.honest D.faults H.digest engine.old Connect (Connected (Err error)) engine.new) }
@@ -82,6 +86,8 @@ pub fn run_session_with_flushes<D: Disk + Drop, H: NodeHash, R: Read, W: Write>(
     ensures unread { OnErr result (reader.new ≡ reader.old) }
     ensures unwritten { OnErr result (writer.new ≡ writer.old) }
 {
+    sessions_stand::<D, H>(engine.hash());
+    engine.keeps_laws();
     let (key, greeting) = connect(engine)?;
     let partner = Partner {
         key,

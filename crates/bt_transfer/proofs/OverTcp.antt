@@ -1,19 +1,23 @@
 -- What is said of a peer with streams is said of it by the bytes of these streams.
-use Rattle.std.proofs.Common.{◌≡◌, ℕ, List, Option, Some, None, refl, sym, subst}
+use Rattle.std.proofs.Common.{◌≡◌, ℕ, Bool, true, List, Option, Some, None, Result, Ok, Err, refl, sym, subst}
+use Rattle.std.specs.Borrow.{Bor}
 use Rattle.std.specs.Prelude.{⊤, All, IfSome}
 use Rattle.std.proofs.lemmas.List.Elements.{All-map}
 use Rattle.bt_disk.specs.History.{History}
 use Rattle.bt_machine.specs.State.{EngineView}
+use Rattle.bt_machine.specs.declared.error.FlushError.{FlushError}
 use Rattle.bt_peers.specs.declared.end.PeerEnd.{PeerEnd}
 use Rattle.bt_peers.specs.declared.end.PeerEnd.TheVariants.{Untried, Unreachable, Refused, Session}
-use Rattle.bt_peers.specs.Peer.{EndsAs}
-use Rattle.bt_peers.specs.Peers.{InTurn, IsDialled, IsTried, Trial}
+use Rattle.bt_peers.specs.Peer.{EndsAs, EndsAsWithFlushes}
+use Rattle.bt_peers.specs.Peers.{InTurn, InTurnWithFlushes, IsDialled, IsTried, IsTriedWithFlushes, Trial, TrialWithFlushes}
 use Rattle.bt_peers.specs.Peers.InTurn.{none_left, complete, tried}
+use Rattle.bt_peers.specs.Peers.InTurnWithFlushes.{none_left as no_more, complete as is_complete, tried as went, stopped}
+use Rattle.bt_peers.proofs.Unflushed.{unflushed_end, unflushed_turns}
 use Rattle.bt_wire.specs.declared.message.Ask.{Ask}
 use Rattle.bt_sockets.specs.Link.{Dials, undialled}
 use Rattle.bt_sockets.specs.Listener.{IsServed}
-use Rattle.bt_transfer.specs.Fetch.{HasFetched, links_of}
-use Rattle.bt_transfer.specs.OverTcp.{MeetsOverTcp, TriesOverTcp, session_turns}
+use Rattle.bt_transfer.specs.Fetch.{HasFetched, TriesAndSyncs, Turns, TurnsOverTcp, among, behind, flush_turns, links_of}
+use Rattle.bt_transfer.specs.OverTcp.{MeetsOverTcp, TriesOverTcp, TriesWithFlushesOverTcp, session_turns}
 use Rattle.bt_words.specs.declared.peer.Peer.{Peer}
 
 -- the bytes of a reader and a writer
@@ -35,6 +39,20 @@ module _ {D : Type 0} (history : D → History) (honest : D → Type 0) (faults 
   ends_by_bytes remaining contents until turns (Some ways) old Unreachable new e = e
   ends_by_bytes remaining contents until turns (Some ways) old (Refused error) new e = e
   ends_by_bytes remaining contents until turns (Some ways) old (Session end) new e = e
+
+  flushed_ends_by_bytes : {R W : Type 0} (remaining : R → Option (List ℕ)) (contents : W → Option (List ℕ)) (until : Bool) (every turns : ℕ)
+      (reached : Option (R × W)) (old : EngineView D) (end : PeerEnd) (answer : Result (Unit {0}) FlushError) (new : EngineView D)
+      → EndsAsWithFlushes history honest faults dig remaining contents until every turns reached old end answer new
+      → EndsAsWithFlushes history honest faults dig (λ (b : Option (List ℕ)). b) (λ (b : Option (List ℕ)). b) until every turns (by_bytes remaining contents reached)
+      old end answer new
+  flushed_ends_by_bytes remaining contents until every turns None old Untried answer new e = e
+  flushed_ends_by_bytes remaining contents until every turns None old Unreachable answer new e = e
+  flushed_ends_by_bytes remaining contents until every turns None old (Refused error) answer new e = e
+  flushed_ends_by_bytes remaining contents until every turns None old (Session end) answer new e = e
+  flushed_ends_by_bytes remaining contents until every turns (Some ways) old Untried answer new e = e
+  flushed_ends_by_bytes remaining contents until every turns (Some ways) old Unreachable answer new e = e
+  flushed_ends_by_bytes remaining contents until every turns (Some ways) old (Refused error) answer new e = e
+  flushed_ends_by_bytes remaining contents until every turns (Some ways) old (Session end) answer new e = e
 
   -- of ways of bytes nothing is said
   some_ways : {R W : Type 0} (remaining : R → Option (List ℕ)) (contents : W → Option (List ℕ)) (reached : Option (R × W))
@@ -70,6 +88,30 @@ module _ {D : Type 0} (history : D → History) (honest : D → Type 0) (faults 
     ended = ends_by_bytes remaining contents _ session_turns t.reached old end new t.ended;
   }
 
+  -- and one in whose session the engine is flushed
+  flushed_by_bytes : {R W : Type 0} (gives : Dials → R → W → Type 0) (remaining : R → Option (List ℕ)) (contents : W → Option (List ℕ)) (every : ℕ)
+      (old : EngineView D) (link : Dials) (end : PeerEnd) (answer : Result (Unit {0}) FlushError) (after : Dials) (new : EngineView D)
+      → IsTriedWithFlushes history honest faults dig (λ (l : Dials). l.all) (λ (l : Dials). l.failed) gives remaining contents every session_turns
+      old link end answer after new
+      → TriesWithFlushesOverTcp history honest faults dig every old link end answer after new
+  flushed_by_bytes gives remaining contents every old link end answer after new t = record {
+    reached = by_bytes remaining contents t.reached;
+    dialled = dialled_by_bytes gives remaining contents link t.reached after t.dialled;
+    ended = flushed_ends_by_bytes remaining contents _ every session_turns t.reached old end answer new t.ended;
+  }
+
+  -- where the engine is never flushed, no flush is refused
+  unflushed_answer : {L R W : Type 0} (dials failures : L → ℕ) (gives : L → R → W → Type 0) (remaining : R → Option (List ℕ)) (contents : W → Option (List ℕ))
+      (turns : ℕ) {old new : EngineView D} {links rest : List L} {ends : List PeerEnd} {answer : Result (Unit {0}) FlushError}
+      → InTurnWithFlushes (IsTriedWithFlushes history honest faults dig dials failures gives remaining contents 0 turns) old links ends rest answer new
+      → answer ≡ Ok tt
+  unflushed_answer dials failures gives remaining contents turns (no_more engine) = refl
+  unflushed_answer dials failures gives remaining contents turns (is_complete engine links is_done) = refl
+  unflushed_answer dials failures gives remaining contents turns (went old mid new link after end links rest ends answer not_done t later) =
+      unflushed_answer dials failures gives remaining contents turns later
+  unflushed_answer dials failures gives remaining contents turns (stopped old new link after end links error not_done t) =
+      (unflushed_end history honest faults dig remaining contents true turns t.reached old new end (Err error) t.ended).0
+
 -- ---- peers in turn
 
 in_turn_by : {D L : Type 0} (Try To : Trial D L)
@@ -78,22 +120,63 @@ in_turn_by : {D L : Type 0} (Try To : Trial D L)
     → InTurn Try old links ends rest new → InTurn To old links ends rest new
 in_turn_by Try To carry (none_left engine) = none_left engine
 in_turn_by Try To carry (complete engine links is_done) = complete engine links is_done
-in_turn_by Try To carry (tried old mid new link after end links rest ends not_done went turns) =
-    tried old mid new link after end links rest ends not_done (carry old link end after mid went) (in_turn_by Try To carry turns)
+in_turn_by Try To carry (tried old mid new link after end links rest ends not_done t turns) =
+    tried old mid new link after end links rest ends not_done (carry old link end after mid t) (in_turn_by Try To carry turns)
+
+flushed_in_turn_by : {D L : Type 0} (Try To : TrialWithFlushes D L)
+    → ((old : EngineView D) (link : L) (end : PeerEnd) (answer : Result (Unit {0}) FlushError) (after : L) (new : EngineView D) → Try old link end answer after new
+    → To old link end answer after new)
+    → {old : EngineView D} {links : List L} {ends : List PeerEnd} {rest : List L} {answer : Result (Unit {0}) FlushError} {new : EngineView D}
+    → InTurnWithFlushes Try old links ends rest answer new → InTurnWithFlushes To old links ends rest answer new
+flushed_in_turn_by Try To carry (no_more engine) = no_more engine
+flushed_in_turn_by Try To carry (is_complete engine links is_done) = is_complete engine links is_done
+flushed_in_turn_by Try To carry (went old mid new link after end links rest ends answer not_done t turns) =
+    went old mid new link after end links rest ends answer not_done (carry old link end (Ok tt) after mid t) (flushed_in_turn_by Try To carry turns)
+flushed_in_turn_by Try To carry (stopped old new link after end links error not_done t) =
+    stopped old new link after end links error not_done (carry old link end (Err error) after new t)
+
+-- with a log and without
+turns_over_tcp : {D R W : Type 0} (history : D → History) (honest : D → Type 0) (faults : D → ℕ) (dig : List ℕ → List ℕ)
+    (gives : Dials → R → W → Type 0) (remaining : R → Option (List ℕ)) (contents : W → Option (List ℕ)) (log : Option (Bor (List ℕ)))
+    (old : EngineView D) (links : List Dials) (ends : List PeerEnd) (rest : List Dials) (answer : Result (Unit {0}) FlushError) (new : EngineView D)
+    → InTurnWithFlushes (IsTriedWithFlushes history honest faults dig (λ (l : Dials). l.all) (λ (l : Dials). l.failed) gives remaining contents (flush_turns log) session_turns)
+    old links ends rest answer new
+    → TurnsOverTcp history honest faults dig log old links ends rest answer new
+turns_over_tcp history honest faults dig gives remaining contents None old links ends rest answer new turns = (
+  unflushed_answer history honest faults dig (λ (l : Dials). l.all) (λ (l : Dials). l.failed) gives remaining contents session_turns turns,
+  in_turn_by _ (TriesOverTcp history honest faults dig) (tried_by_bytes history honest faults dig gives remaining contents)
+      (unflushed_turns history honest faults dig (λ (l : Dials). l.all) (λ (l : Dials). l.failed) gives remaining contents session_turns turns),
+)
+turns_over_tcp history honest faults dig gives remaining contents (Some path) old links ends rest answer new turns =
+    flushed_in_turn_by _ (TriesWithFlushesOverTcp history honest faults dig (flush_turns (Some path)))
+    (flushed_by_bytes history honest faults dig gives remaining contents (flush_turns (Some path))) turns
 
 -- a fetch whose peers are tried so is one whose peers are tried otherwise
-fetched_by : {D L : Type 0} (Try To : Trial D L)
-    → ((old : EngineView D) (link : L) (end : PeerEnd) (after : L) (new : EngineView D) → Try old link end after new → To old link end after new)
+syncs_by : {D L : Type 0} (InTurns To : Turns D L)
+    → ((old : EngineView D) (links : List L) (ends : List PeerEnd) (rest : List L) (answer : Result (Unit {0}) FlushError) (new : EngineView D)
+    → InTurns old links ends rest answer new → To old links ends rest answer new)
+    → (history : D → History) (honest : D → Type 0) (faults : D → ℕ) (dig : List ℕ → List ℕ)
+    (old : EngineView D) (links : List L) (ends : List PeerEnd) (rest : List L) (answer : Result (Unit {0}) FlushError) (new : EngineView D)
+    → TriesAndSyncs InTurns history honest faults dig old links ends rest answer new
+    → TriesAndSyncs To history honest faults dig old links ends rest answer new
+syncs_by InTurns To carry history honest faults dig old links ends rest answer new (behind met turns flushed) =
+    behind met (carry old links ends rest (Ok tt) met turns) flushed
+syncs_by InTurns To carry history honest faults dig old links ends rest answer new (among error turns is) =
+    among error (carry old links ends rest (Err error) new turns) is
+
+fetched_by : {D L : Type 0} (InTurns To : Turns D L)
+    → ((old : EngineView D) (links : List L) (ends : List PeerEnd) (rest : List L) (answer : Result (Unit {0}) FlushError) (new : EngineView D)
+    → InTurns old links ends rest answer new → To old links ends rest answer new)
     → (history : D → History) (honest : D → Type 0) (faults : D → ℕ) (dig : List ℕ → List ℕ) (peers : List Peer)
     (old : EngineView D) (links : List L) (before now : Option (List ℕ)) (status : ℕ) (rest : List L) (new : EngineView D)
-    → HasFetched Try history honest faults dig peers old links before now status rest new
+    → HasFetched InTurns history honest faults dig peers old links before now status rest new
     → HasFetched To history honest faults dig peers old links before now status rest new
-fetched_by Try To carry history honest faults dig peers old links before now status rest new f = record {
+fetched_by InTurns To carry history honest faults dig peers old links before now status rest new f = record {
   ends = f.ends;
   kept = f.kept;
   told = f.told;
   taken = f.taken;
-  tried = record { met = f.tried.met; in_turn = in_turn_by Try To carry f.tried.in_turn; flushed = f.tried.flushed };
+  tried = syncs_by InTurns To carry history honest faults dig old links f.ends rest (Ok tt) f.kept f.tried;
   lines = f.lines;
   taken_in = f.taken_in;
   end = f.end;
@@ -101,15 +184,19 @@ fetched_by Try To carry history honest faults dig peers old links before now sta
 
 -- over links to these peers, peers are tried over TCP
 pub fetched_over_tcp : {D R W : Type 0} (history : D → History) (honest : D → Type 0) (faults : D → ℕ) (dig : List ℕ → List ℕ)
-    (gives : Dials → R → W → Type 0) (remaining : R → Option (List ℕ)) (contents : W → Option (List ℕ)) (short : List Ask) (peers : List Peer) (old : EngineView D)
-    (links : List Dials) (before now : Option (List ℕ)) (status : ℕ) (rest : List Dials) (new : EngineView D) → links ≡ links_of short peers
-    → HasFetched (IsTried history honest faults dig (λ (l : Dials). l.all) (λ (l : Dials). l.failed) gives remaining contents session_turns)
+    (gives : Dials → R → W → Type 0) (remaining : R → Option (List ℕ)) (contents : W → Option (List ℕ)) (short : List Ask) (peers : List Peer)
+    (log : Option (Bor (List ℕ))) (every : ℕ) (old : EngineView D) (links : List Dials) (before now : Option (List ℕ)) (status : ℕ) (rest : List Dials) (new : EngineView D)
+    → links ≡ links_of short peers → every ≡ flush_turns log
+    → HasFetched (InTurnWithFlushes (IsTriedWithFlushes history honest faults dig (λ (l : Dials). l.all) (λ (l : Dials). l.failed) gives remaining contents every session_turns))
     history honest faults dig peers old links before now status rest new
-    → HasFetched (TriesOverTcp history honest faults dig) history honest faults dig peers old (links_of short peers) before now status rest new
-fetched_over_tcp history honest faults dig gives remaining contents short peers old links before now status rest new are fetched =
-    subst (λ given. HasFetched (TriesOverTcp history honest faults dig) history honest faults dig peers old given before now status rest new) are
-    (fetched_by _ (TriesOverTcp history honest faults dig) (tried_by_bytes history honest faults dig gives remaining contents)
-    history honest faults dig peers old links before now status rest new fetched)
+    → HasFetched (TurnsOverTcp history honest faults dig log) history honest faults dig peers old (links_of short peers) before now status rest new
+fetched_over_tcp history honest faults dig gives remaining contents short peers log every old links before now status rest new are often fetched =
+    subst (λ given. HasFetched (TurnsOverTcp history honest faults dig log) history honest faults dig peers old given before now status rest new) are
+    (fetched_by _ (TurnsOverTcp history honest faults dig log) (turns_over_tcp history honest faults dig gives remaining contents log)
+    history honest faults dig peers old links before now status rest new
+    (subst (λ n. HasFetched (InTurnWithFlushes
+    (IsTriedWithFlushes history honest faults dig (λ (l : Dials). l.all) (λ (l : Dials). l.failed) gives remaining contents n session_turns))
+    history honest faults dig peers old links before now status rest new) often fetched))
 
 -- none of these links was dialled
 pub links_undialled : (short : List Ask) (peers : List Peer) (links : List Dials) → links ≡ links_of short peers → All (λ (link : Dials). link.all ≡ 0) links

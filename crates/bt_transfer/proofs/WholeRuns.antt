@@ -1,10 +1,12 @@
 -- What a fetch and a seed come to, from the start of their torrent on.
 use Rattle.std.proofs.Common.{[], ◌≡◌, ℕ, suc, ◌+◌, inl, inr, ◌<◌, Bool, true, false, List, ◌∷◌, length, Option, Some, None, refl, sym, ap, subst, ◌∙◌, arith}
 use Rattle.std.specs.List.{count_by, list_all}
+use Rattle.std.specs.Borrow.{Bor}
 use Rattle.std.specs.Prelude.{◌&&◌, ◌==◌, not, if◌then◌else◌, slice_get, Contains}
 use Rattle.std.proofs.lemmas.Bool.{eqb-true}
 use Rattle.std.proofs.lemmas.List.Sums.{count_by-le-length, sum_by-cons}
 use Rattle.bt_disk.specs.History.{History}
+use Rattle.bt_resume.specs.ResumeLog.{LogView}
 use Rattle.bt_store.specs.BlockStates.{is_marked}
 use Rattle.bt_store.specs.declared.block_states.BlockState.{BlockState}
 use Rattle.bt_store.specs.declared.block_states.BlockState.TheVariants.{Missing, Waiting, Marked}
@@ -73,15 +75,15 @@ zero_is_complete false status told zero = absurd (omega (arith, told, zero))
 module _ {D : Type 0} (history : D → History) (honest : D → Type 0) (faults : D → ℕ) (dig : List ℕ → List ℕ)
     (promises : WhatLeadsOnIsWhole history honest faults dig) (old last : EngineView D)
     (lawful : IsLawful old.state.torrent.piece_length old.state.torrent.files) (leads : LeadsTo history honest faults dig old last)
-    (before after : Option (List ℕ)) (status : ℕ) (torrent : Metainfo) (given : List D) (filled : List Bool)
-    (begun : HasBegun history honest faults dig torrent given filled old) where
+    (before after : Option (List ℕ)) (status : ℕ) (torrent : Metainfo) (given : List D) (attached : Option (LogView D)) (filled : List Bool)
+    (begun : HasBegun history honest faults dig torrent given attached filled old) where
   whole_run : HasWholeRun begun.begins last
-  whole_run = promises torrent given begun.placed None begun.first last begun.begins (subst (λ (t : Metainfo). IsLawful t.piece_length t.files) begun.same lawful)
+  whole_run = promises torrent given begun.placed attached begun.first last begun.begins (subst (λ (t : Metainfo). IsLawful t.piece_length t.files) begun.same lawful)
       begun.devices (both begun.first old last begun.run leads)
 
-  pub ends_fetch : (peers : List Peer) → HasFetchedOverTcp history honest faults dig peers old before after status last
-      → EndsFetch begun.begins old peers before after status
-  ends_fetch peers fetched =
+  pub ends_fetch : (peers : List Peer) (log : Option (Bor (List ℕ))) → HasFetchedOverTcp history honest faults dig peers log old before after status last
+      → EndsFetch begun.begins old peers log before after status
+  ends_fetch peers log fetched =
       let found = whole_run in
       let whole = found.promised in record {
         last = last;

@@ -1,7 +1,9 @@
 -- What a fetch comes to.
-use Rattle.std.specs.Prelude.{◌≡◌, ℕ, Bool, List, Ok, Option, Result, Some, None, map, slice_get}
+use Rattle.std.specs.Prelude.{◌≡◌, ℕ, Bool, List, Ok, Err, Option, Result, Some, None, map, slice_get}
+use Rattle.std.specs.Borrow.{Bor}
 use Rattle.std.specs.Io.KnownBytes.{Appends}
 use Rattle.bt_disk.specs.History.{History}
+use Rattle.bt_resume.specs.ResumeLog.{LogView}
 use Rattle.bt_files.specs.Waiting.{TakesInAllWaiting}
 use Rattle.bt_meta.specs.Files.{File}
 use Rattle.bt_meta.specs.Torrent.{Metainfo}
@@ -12,7 +14,7 @@ use Rattle.bt_machine.specs.Opening.{BeginsOn}
 use Rattle.bt_machine.specs.State.{EngineView}
 use Rattle.bt_machine.specs.View.{StepsTo}
 use Rattle.bt_padding.specs.ShortBlocks.{short_blocks_of}
-use Rattle.bt_peers.specs.Peers.{InTurn, Trial}
+use Rattle.bt_peers.specs.Peers.{InTurn, InTurnWithFlushes}
 use Rattle.bt_peers.specs.declared.end.PeerEnd.{PeerEnd}
 use Rattle.bt_wire.specs.declared.message.Ask.{Ask}
 use Rattle.bt_runs.specs.WholeRuns.{IsFileMarkedOnPath, HasWholeRun}
@@ -21,32 +23,61 @@ use Rattle.bt_files.specs.DataFiles.{DeviceView}
 use Rattle.bt_files.specs.declared.file_use.FileUse.TheVariants.{Fetch}
 use Rattle.bt_files.specs.Ending.{IsConcluded}
 use Rattle.bt_files.specs.Loading.{IsLoaded}
-use Rattle.bt_transfer.specs.OverTcp.{TriesOverTcp}
+use Rattle.bt_transfer.specs.OverTcp.{TriesOverTcp, TriesWithFlushesOverTcp}
 use Rattle.bt_transfer.specs.PeerLines.{peer_lines}
 use Rattle.bt_files.specs.Report.{ReportsMarked, ReportsPublished}
 use Rattle.bt_words.specs.declared.peer.Peer.{Peer}
 
--- The peers were tried in turn, and the next thing was a flush, which was answered so.
-pub record TriesAndSyncs {D L : Type 0} (Try : Trial D L) (history : D → History) (honest : D → Type 0)
+-- ---- peers in turn, and a flush
+
+-- what is said of peers that are tried in turn: of the engine, their links and their ends; and afterwards of
+-- the links, of what the last flush among the peers answered, Ok where there was none, and of the engine
+abbrev pub Turns : (D L : Type 0) → Type 1
+Turns D L = EngineView D → List L → List PeerEnd → List L → Result (Unit {0}) FlushError → EngineView D
+    → Type 0
+
+-- The peers were tried in turn, no flush among them was refused, and the next thing was a flush, which was
+-- answered so. Or a flush among them was refused: that is the answer, and nothing came after it.
+pub data TriesAndSyncs {D L : Type 0} (InTurns : Turns D L) (history : D → History) (honest : D → Type 0)
     (faults : D → ℕ) (dig : List ℕ → List ℕ) (old : EngineView D) (links : List L) (ends : List PeerEnd)
     (rest : List L) (answer : Result (Unit {0}) FlushError) (new : EngineView D) : Type 0 where
-  pub met : EngineView D
-  pub in_turn : InTurn Try old links ends rest met
-  pub flushed : StepsTo history honest faults dig met Flush (Flushed answer) new
+  behind : (met : EngineView D) → InTurns old links ends rest (Ok tt) met
+      → StepsTo history honest faults dig met Flush (Flushed answer) new
+      → TriesAndSyncs InTurns history honest faults dig old links ends rest answer new
+  among : (error : FlushError) → InTurns old links ends rest (Err error) new → answer ≡ Err error
+      → TriesAndSyncs InTurns history honest faults dig old links ends rest answer new
 
 -- The peers were tried in turn, all devices were synced, a line tells of each peer that was tried, the files
 -- whose blocks came without their hashes were taken in, and then it is concluded.
-pub record HasFetched {D L : Type 0} (Try : Trial D L) (history : D → History) (honest : D → Type 0)
+pub record HasFetched {D L : Type 0} (InTurns : Turns D L) (history : D → History) (honest : D → Type 0)
     (faults : D → ℕ) (dig : List ℕ → List ℕ) (peers : List Peer) (old : EngineView D) (links : List L)
     (before after : Option (List ℕ)) (status : ℕ) (rest : List L) (new : EngineView D) : Type 0 where
   pub ends : List PeerEnd
   pub kept : EngineView D
   pub told : Option (List ℕ)
   pub taken : EngineView D
-  pub tried : TriesAndSyncs Try history honest faults dig old links ends rest (Ok tt) kept
+  pub tried : TriesAndSyncs InTurns history honest faults dig old links ends rest (Ok tt) kept
   pub lines : Appends before told (peer_lines peers ends)
   pub taken_in : TakesInAllWaiting history honest faults dig kept taken
   pub end : IsConcluded history honest faults dig taken told after status new
+
+-- ---- over TCP
+
+-- Behind each so many turns of a peer's session a fetch with a log flushes; one without a log never does, for
+-- which 0 stands.
+abbrev pub flush_turns : Option (Bor (List ℕ)) → ℕ
+flush_turns None = 0
+flush_turns (Some path) = 16384
+
+-- Peers are tried in turn, and where there is a log, also flushed in their sessions and behind these. Without
+-- one there is no flush among them.
+abbrev pub TurnsOverTcp : {D : Type 0} → (D → History) → (D → Type 0) → (D → ℕ) → (List ℕ → List ℕ)
+    → (log : Option (Bor (List ℕ))) → Turns D Dials
+TurnsOverTcp history honest faults dig None old links ends rest answer new =
+    (answer ≡ Ok tt) × InTurn (TriesOverTcp history honest faults dig) old links ends rest new
+TurnsOverTcp history honest faults dig (Some path) old links ends rest answer new =
+    InTurnWithFlushes (TriesWithFlushesOverTcp history honest faults dig (flush_turns (Some path)))
+    old links ends rest answer new
 
 -- A link to each peer's host and port, in their order, none of which was dialled. What stands before their
 -- sockets goes by these short blocks.
@@ -55,32 +86,37 @@ links_of short peers = map (λ peer. undialled peer.host.now peer.port short) pe
 
 -- The same over a new link to each of the peers, for the short last blocks of the engine's own torrent.
 pub record HasFetchedOverTcp {D : Type 0} (history : D → History) (honest : D → Type 0) (faults : D → ℕ)
-    (dig : List ℕ → List ℕ) (peers : List Peer) (old : EngineView D) (before after : Option (List ℕ))
-    (status : ℕ) (new : EngineView D) : Type 0 where
+    (dig : List ℕ → List ℕ) (peers : List Peer) (log : Option (Bor (List ℕ))) (old : EngineView D)
+    (before after : Option (List ℕ)) (status : ℕ) (new : EngineView D) : Type 0 where
   pub rest : List Dials
-  pub fetched : HasFetched (TriesOverTcp history honest faults dig) history honest faults dig peers
+  pub fetched : HasFetched (TurnsOverTcp history honest faults dig log) history honest faults dig peers
       old (links_of (short_blocks_of old.state.torrent) peers) before after status rest new
 
--- An engine that began so, with a torrent and without a log, and has come to `old`, fetched the rest from the
--- peers. The whole, from its start on, is a run as promised. Where the report calls a file complete, each of its
--- blocks is marked in this run by bytes whose digest lies at its leaf, on a checked path to the file's root
--- (`reported`); and what its device has is the published file, where that is honest (`published`). With status 0
--- each file of the torrent is so (`complete`).
+-- ---- the whole
+
+-- An engine that began so, with a torrent, and with a log or without, and has come to `old`, fetched the rest
+-- from the peers; `log` is the path of its log, if there is one. The whole, from its start on, is a run as
+-- promised. Where the report calls a file complete, each of its blocks is marked in this run, or since its
+-- start, by bytes whose digest lies at its leaf, on a checked path to the file's root (`reported`); and what
+-- its device has is the published file, where that is honest (`published`). With status 0 each file of the
+-- torrent is so (`complete`).
 pub record EndsFetch {D : Type 0} {history : D → History} {honest : D → Type 0} {faults : D → ℕ}
-    {dig : List ℕ → List ℕ} {torrent : Metainfo} {placed : List (Option D)} {first : EngineView D}
-    (begins : BeginsOn history honest faults dig torrent placed None first) (old : EngineView D)
-    (peers : List Peer) (before after : Option (List ℕ)) (status : ℕ) : Type 0 where
+    {dig : List ℕ → List ℕ} {torrent : Metainfo} {placed : List (Option D)} {attached : Option (LogView D)}
+    {first : EngineView D} (begins : BeginsOn history honest faults dig torrent placed attached first)
+    (old : EngineView D) (peers : List Peer) (log : Option (Bor (List ℕ))) (before after : Option (List ℕ))
+    (status : ℕ) : Type 0 where
   pub last : EngineView D
-  pub fetched : HasFetchedOverTcp history honest faults dig peers old before after status last
+  pub fetched : HasFetchedOverTcp history honest faults dig peers log old before after status last
   pub whole : HasWholeRun begins last
   pub reported : ReportsMarked begins whole.runs
   pub published : ReportsPublished history honest dig torrent last
   pub complete : status ≡ 0 → (number : ℕ) (file : File) → slice_get torrent.files number ≡ Some file
       → IsFileMarkedOnPath begins whole.runs number file
 
--- The store of a torrent of some text was opened in a folder, and the rest was fetched from the peers.
-pub record IsFetch (is_info : Bool) (dir : List ℕ) (peers : List Peer) (before after : Option (List ℕ))
-    (status : ℕ) : Type 0 where
+-- The store of a torrent of some text was opened in a folder, with a log where the path of one is given, and
+-- the rest was fetched from the peers.
+pub record IsFetch (is_info : Bool) (dir : List ℕ) (peers : List Peer) (log : Option (Bor (List ℕ)))
+    (before after : Option (List ℕ)) (status : ℕ) : Type 0 where
   pub store : EngineView DeviceView
-  pub loaded : IsLoaded is_info Fetch dir store
-  pub ended : EndsFetch loaded.opened.begun.begins store peers before after status
+  pub loaded : IsLoaded is_info Fetch dir log store
+  pub ended : EndsFetch loaded.opened.begun.begins store peers log before after status

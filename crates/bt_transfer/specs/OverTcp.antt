@@ -2,7 +2,7 @@
 use Rattle.std.specs.Prelude.{⊤, ℕ, ◌^◌, List}
 use Rattle.bt_disk.specs.History.{History}
 use Rattle.bt_machine.specs.State.{EngineView}
-use Rattle.bt_peers.specs.Peers.{IsTried, Trial}
+use Rattle.bt_peers.specs.Peers.{IsTried, IsTriedWithFlushes, Trial, TrialWithFlushes}
 use Rattle.bt_peers.specs.declared.end.PeerEnd.{PeerEnd}
 use Rattle.bt_sockets.specs.Link.{Dials}
 use Rattle.bt_sockets.specs.Listener.{IsServed}
@@ -17,6 +17,13 @@ abbrev pub TriesOverTcp : {D : Type 0} → (D → History) → (D → Type 0) �
 TriesOverTcp history honest faults dig =
     IsTried history honest faults dig (λ link. link.all) (λ link. link.failed) (λ link given taken. ⊤)
     (λ bytes. bytes) (λ bytes. bytes) session_turns
+
+-- the same, and the engine is flushed behind each `every`-th turn of the session, and behind the session
+abbrev pub TriesWithFlushesOverTcp : {D : Type 0} → (D → History) → (D → Type 0) → (D → ℕ)
+    → (List ℕ → List ℕ) → (every : ℕ) → TrialWithFlushes D Dials
+TriesWithFlushesOverTcp history honest faults dig every =
+    IsTriedWithFlushes history honest faults dig (λ link. link.all) (λ link. link.failed)
+    (λ link given taken. ⊤) (λ bytes. bytes) (λ bytes. bytes) every session_turns
 
 -- what is said of one connection: of the engine before, the peer's end and the engine afterwards
 abbrev pub Meeting : (D : Type 0) → Type 1

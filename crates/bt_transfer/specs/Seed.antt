@@ -1,9 +1,11 @@
 -- What a seed comes to.
-use Rattle.std.specs.Prelude.{◌≡◌, ℕ, ◌-◌, ◌^◌, ◌++◌, ◌⊎◌, Bool, true, false, List, Ok, Option, None, codes}
+use Rattle.std.specs.Prelude.{◌≡◌, ℕ, ◌-◌, ◌^◌, ◌++◌, ◌⊎◌, Bool, true, false, List, Ok, Option, codes}
+use Rattle.std.specs.Borrow.{Bor}
 use Rattle.std.specs.Fmt.{decimal}
 use Rattle.std.specs.Io.KnownBytes.{Appends}
 use Rattle.bt_check.specs.Display.{line_text}
 use Rattle.bt_disk.specs.History.{History}
+use Rattle.bt_resume.specs.ResumeLog.{LogView}
 use Rattle.bt_machine.specs.declared.event.Event.TheVariants.{Flush}
 use Rattle.bt_machine.specs.declared.event.Answer.TheVariants.{Flushed}
 use Rattle.bt_machine.specs.Opening.{BeginsOn}
@@ -52,13 +54,14 @@ pub record HasListened {D : Type 0} (history : D → History) (honest : D → Ty
   pub listening : Appends before told (listening_line port)
   pub served : HasServedAll history honest faults dig serving old told after new
 
--- An engine that began so, with a torrent and without a log, and has come to `old`, served connections, and the
--- status is 0. The whole, from its start on, is a run as promised: what it sent was cut from blocks whose digests
--- lie at their leaves, on checked paths to their files' roots, and each block that is marked is so by such bytes.
+-- An engine that began so, with a torrent, and with a log or without, and has come to `old`, served
+-- connections, and the status is 0. The whole, from its start on, is a run as promised: what it sent was cut
+-- from blocks whose digests lie at their leaves, on checked paths to their files' roots, and each block that
+-- is marked is so by such bytes.
 pub record EndsSeed {D : Type 0} {history : D → History} {honest : D → Type 0} {faults : D → ℕ}
-    {dig : List ℕ → List ℕ} {torrent : Metainfo} {placed : List (Option D)} {first : EngineView D}
-    (begins : BeginsOn history honest faults dig torrent placed None first) (old : EngineView D)
-    (serving : Serving) (before after : Option (List ℕ)) (status : ℕ) : Type 0 where
+    {dig : List ℕ → List ℕ} {torrent : Metainfo} {placed : List (Option D)} {attached : Option (LogView D)}
+    {first : EngineView D} (begins : BeginsOn history honest faults dig torrent placed attached first)
+    (old : EngineView D) (serving : Serving) (before after : Option (List ℕ)) (status : ℕ) : Type 0 where
   pub last : EngineView D
   pub listened : HasListened history honest faults dig serving old before after last
   pub whole : HasWholeRun begins last
@@ -69,26 +72,29 @@ abbrev pub seed_use : Bool → FileUse
 seed_use true = ReadOnly
 seed_use false = Seed
 
--- The store of a torrent of some text was opened in a folder, the port is told, and connections were served. Where
--- files are only read, all were complete.
-pub record HasSeeded (is_info : Bool) (dir : List ℕ) (service : Service) (before after : Option (List ℕ))
-    (status : ℕ) : Type 0 where
+-- The store of a torrent of some text was opened in a folder, with a log where the path of one is given, the
+-- port is told, and connections were served. Where files are only read, all were complete.
+pub record HasSeeded (is_info : Bool) (dir : List ℕ) (service : Service) (log : Option (Bor (List ℕ)))
+    (before after : Option (List ℕ)) (status : ℕ) : Type 0 where
   pub store : EngineView DeviceView
-  pub loaded : IsLoaded is_info (seed_use service.is_read_only) dir store
+  pub loaded : IsLoaded is_info (seed_use service.is_read_only) dir log store
   pub complete : service.is_read_only ≡ true → all_complete store.state ≡ true
   pub ended : EndsSeed loaded.opened.begun.begins store service.serving before after status
 
--- The store was opened to be read, not all files are complete, and nothing but this was told; the status is 1.
-pub record HasNotSeeded (is_info : Bool) (dir : List ℕ) (service : Service) (before after : Option (List ℕ))
-    (status : ℕ) : Type 0 where
+-- The store was opened to be read, not all files are complete, and nothing but this was told; the status is
+-- 1.
+pub record HasNotSeeded (is_info : Bool) (dir : List ℕ) (service : Service) (log : Option (Bor (List ℕ)))
+    (before after : Option (List ℕ)) (status : ℕ) : Type 0 where
   pub store : EngineView DeviceView
-  pub loaded : IsLoaded is_info (seed_use service.is_read_only) dir store
+  pub loaded : IsLoaded is_info (seed_use service.is_read_only) dir log store
   pub read_only : service.is_read_only ≡ true
   pub lacking : all_complete store.state ≡ false
   pub told : Appends before after (engine_report store.state)
   pub answer : status ≡ 1
 
 -- one of the two
-abbrev pub IsSeed : Bool → List ℕ → Service → (before after : Option (List ℕ)) → (status : ℕ) → Type 0
-IsSeed is_info dir service before after status =
-    HasSeeded is_info dir service before after status ⊎ HasNotSeeded is_info dir service before after status
+abbrev pub IsSeed : Bool → List ℕ → Service → (log : Option (Bor (List ℕ))) → (before after : Option (List ℕ))
+    → (status : ℕ) → Type 0
+IsSeed is_info dir service log before after status =
+    HasSeeded is_info dir service log before after status
+    ⊎ HasNotSeeded is_info dir service log before after status

@@ -1,7 +1,8 @@
 //! Connections that are served one after the other, each with its line.
-ghost use Rattle.std.specs.Prelude.{[], ◌≡◌, ◌⊎◌, ◌++◌, ◌-◌, ◌^◌, None, IfErr, IfOk, OnErr, OnOk, string_bytes};
+ghost use Rattle.std.specs.Prelude.{[], ◌≡◌, ◌⊎◌, ◌++◌, ◌-◌, ◌^◌, IfErr, IfOk, OnErr, OnOk, string_bytes};
 ghost use Rattle.std.specs.Io.KnownBytes.{Appends};
 ghost use Rattle.bt_check.specs.Fault.{device, out_of_memory};
+ghost use Rattle.bt_files.specs.Ending.{IsEndFault};
 ghost use Rattle.bt_runs.specs.Leads.{LeadsTo};
 ghost use Rattle.bt_transfer.specs.Connections.{HasServed, IsFlushed, MeetsAndSyncs, served_line};
 ghost use Rattle.bt_transfer.specs.OverTcp.{MeetsOverTcp};
@@ -41,7 +42,7 @@ pub(crate) fn serve_count<D: Disk + Drop, H: NodeHash, N: Net + Clock, W: Write>
 }
 
 /// Serves one connection after the other, whatever came of those before; writes how it ended with each, and
-/// then has all put on the devices.
+/// then has all put on the devices, and into the log.
 pub(crate) fn serve_forever<D: Disk + Drop, H: NodeHash, N: Net + Clock, W: Write>(
     alloc: Global,
     reception: &Reception<'_, N>,
@@ -49,12 +50,11 @@ pub(crate) fn serve_forever<D: Disk + Drop, H: NodeHash, N: Net + Clock, W: Writ
     writer: &mut W,
 ) -> Result<(), Fault>
     requires no_peer { engine.old.state.peers ≡ [] }
-    requires unlogged { engine.old.log ≡ None }
     ensures served { OnOk result (HasServed (MeetsAndSyncs D.history D.honest D.faults H.digest) (2 ^ 64 - 1)
         engine.old (W.contents writer.old) (W.contents writer.new) engine.new) }
     ensures kept { OnErr result (IsFlushed D.history D.honest D.faults H.digest engine.new) }
     ensures run { LeadsTo D.history D.honest D.faults H.digest engine.old engine.new }
-    ensures fault { IfErr result (λ fault. (fault ≡ device) ⊎ (fault ≡ out_of_memory)) }
+    ensures fault { IfErr result (IsEndFault engine.old.log) }
 {
     for number in 0..u64::MAX {
         let next = number + 1;
@@ -63,8 +63,8 @@ pub(crate) fn serve_forever<D: Disk + Drop, H: NodeHash, N: Net + Clock, W: Writ
     Ok(())
 }
 
-/// Serves a connection, as `serve_next` does, and then has all put on the devices. Errors: also where a device
-/// failed.
+/// Serves a connection, as `serve_next` does, and then has all put on the devices, and into the log. Errors: also
+/// where a device failed, or the log is full.
 fn serve_and_sync<D: Disk + Drop, H: NodeHash, N: Net + Clock, W: Write>(
     alloc: Global,
     reception: &Reception<'_, N>,
@@ -73,7 +73,6 @@ fn serve_and_sync<D: Disk + Drop, H: NodeHash, N: Net + Clock, W: Write>(
     writer: &mut W,
 ) -> Result<PeerEnd, Fault>
     requires no_peer { engine.old.state.peers ≡ [] }
-    requires unlogged { engine.old.log ≡ None }
     ensures served { IfOk result
         (λ end. MeetsAndSyncs D.history D.honest D.faults H.digest engine.old end engine.new) }
     ensures told { IfOk result
@@ -81,7 +80,7 @@ fn serve_and_sync<D: Disk + Drop, H: NodeHash, N: Net + Clock, W: Write>(
     ensures gone { OnOk result (engine.new.state.peers ≡ []) }
     ensures kept { IsFlushed D.history D.honest D.faults H.digest engine.new }
     ensures run { LeadsTo D.history D.honest D.faults H.digest engine.old engine.new }
-    ensures fault { IfErr result (λ fault. (fault ≡ device) ⊎ (fault ≡ out_of_memory)) }
+    ensures fault { IfErr result (IsEndFault engine.old.log) }
 {
     let served = serve_next(alloc, reception, engine, number, writer);
     let kept = finish(engine);

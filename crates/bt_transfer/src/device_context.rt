@@ -5,11 +5,13 @@ use bt_files::{DeviceContext, FileUse};
 use bt_folder::Seal;
 use bt_sockets::Shared;
 
-/// What connections and devices share, as the devices have it, whose files are opened for a use.
+/// What connections and devices share, as the devices have it, whose files are opened for a use. The log has a seal of
+/// its own, which nobody closes.
 pub(crate) fn device_context<'a>(
     usage: FileUse,
     shared: &'a Shared,
     seal: &'a Seal,
+    log_seal: &'a Seal,
 ) -> DeviceContext<'a>
     ensures { result.usage ≡ usage }
 {
@@ -18,5 +20,6 @@ pub(crate) fn device_context<'a>(
         digests: &shared.digests,
         alarm: &shared.alarm,
         seal,
+        log_seal,
     }
 }

@@ -1,27 +1,28 @@
 //! The command `fetch`: peers are tried in turn, and what came of it is told.
-ghost use Rattle.std.specs.Prelude.{[], ◌≡◌, ◌≢◌, ◌⊎◌, All, Bool, List, Ok, Err, None, false, true, length, IfErr, IfOk, OnErr, OnOk};
+ghost use Rattle.std.specs.Prelude.{[], ◌≡◌, ◌≢◌, ◌⊎◌, All, Bool, List, Option, Ok, Err, false, true, length, IfErr, IfOk, OnErr, OnOk};
 ghost use Rattle.std.specs.Io.KnownBytes.{Keeps};
-ghost use Rattle.bt_check.specs.Fault.{device, out_of_memory, status_of};
-ghost use Rattle.bt_files.specs.Loading.{IsStoreFault};
+ghost use Rattle.bt_check.specs.Fault.{device, log_full, status_of};
+ghost use Rattle.bt_files.specs.Ending.{IsEndFault};
+ghost use Rattle.bt_files.specs.Loading.{IsLogFull, IsStoreFault};
 ghost use Rattle.bt_files.specs.declared.file_use.FileUse.TheVariants.{Fetch};
-ghost use Rattle.bt_machine.specs.declared.error.FlushError.TheVariants.{Device};
 ghost use Rattle.bt_meta.specs.Torrent.{Metainfo};
 ghost use Rattle.bt_padding.specs.ShortBlocks.{short_blocks_of};
-ghost use Rattle.bt_peers.specs.Peers.{IsTried};
+ghost use Rattle.bt_peers.specs.Peers.{InTurnWithFlushes, IsTriedWithFlushes};
+ghost use Rattle.bt_resume.specs.ResumeLog.{LogView};
 ghost use Rattle.bt_runs.specs.Leads.{LeadsTo};
-ghost use Rattle.bt_transfer.specs.Fetch.{EndsFetch, HasFetched, HasFetchedOverTcp, IsFetch, TriesAndSyncs, links_of};
-ghost use Rattle.bt_transfer.specs.FetchSteps.{BreaksOff};
-ghost use Rattle.bt_files.specs.Store.{HasBegun};
+ghost use Rattle.bt_transfer.specs.Fetch.{EndsFetch, HasFetched, HasFetchedOverTcp, IsFetch, TriesAndSyncs, flush_turns, links_of};
+ghost use Rattle.bt_transfer.specs.FetchSteps.{BreaksOff, FailsToSync};
+ghost use Rattle.bt_files.specs.Store.{HasBegun, IsFlushFault};
 
 use crate::device_context::device_context;
 use crate::peer_lines::write_peers;
 use bt_check::{Fault, Source};
 use bt_disk::Disk;
 use bt_engine::Engine;
-use bt_files::{FileUse, adopt_waiting, begin_fetching, conclude, finish, load_store};
+use bt_files::{FileUse, adopt_waiting, begin_fetching, conclude, finish, flush_fault, load_store};
 use bt_folder::Seal;
 use bt_padding::ShortBlocks;
-use bt_peers::{Link, PeerEnd, run_peers};
+use bt_peers::{Link, PeerEnd, run_peers_with_flushes};
 use bt_progress::Watch;
 use bt_runs::whole_runs_keep_promises;
 use bt_sockets::{IDLE_SECONDS, Passage, SESSION_TURNS, Shared, TcpLink};
@@ -33,18 +34,26 @@ use std::net::Net;
 use std::rt::Files;
 use std::time::{Clock, Duration};
 
+/// Behind each so many turns with a peer, a fetch that has a log puts what came on the devices, and what is known of
+/// it into the log, so that little has to come again where the fetch is killed. A turn takes in what one read from the
+/// peer gives, 16 KiB at most: so at most 256 MiB come between two flushes.
+const FLUSH_TURNS: u64 = 16_384;
+
 /// Opens the store of a torrent's files in a folder, as `load_store` does; takes peers in turn until all
 /// files are complete; writes how it ended with each that was tried; takes in the files whose blocks all came,
 /// some of them without their hashes; has all put on the devices; and reports. The answer is the status of the
 /// program: 0 where all files are complete, else 1.
+///
+/// Where the path of a log is given, it has all put on the devices, and what is known of it into the log, also while it
+/// fetches, behind each so many turns with a peer, and behind each peer.
 ///
 /// It is told how much is read of what the files have, and then how much is written of what they lack.
 ///
 /// A session ends where a device refuses a write. Where that was so of one of them, and files are not complete, the
 /// device's fault comes behind the report.
 ///
-/// Errors: the torrent is refused, or two of its paths are one file, and then nothing is written; a device or the
-/// writer failed; out of memory.
+/// Errors: the torrent or the log is refused, or two of the torrent's paths are one file, and then nothing is written;
+/// a device or the writer failed; out of memory; the log is full.
 pub fn fetch<R: Files + AllocGlobal + Clone + Drop, N: Net + Clock, P: Watch, W: Write>(
     rt: &R,
     net: &N,
@@ -52,24 +61,27 @@ pub fn fetch<R: Files + AllocGlobal + Clone + Drop, N: Net + Clock, P: Watch, W:
     source: Source<'_>,
     dir: &str,
     peers: &[Peer<'_>],
+    log: Option<&str>,
     writer: &mut W,
 ) -> Result<u8, Fault>
-    ensures done { IfOk result (λ status. IsFetch source.entry.is_info dir.now peers.now
+    ensures done { IfOk result (λ status. IsFetch source.entry.is_info dir.now peers.now log.entry
         (W.contents writer.old) (W.contents writer.new) status) }
-    ensures fault { IfErr result (IsStoreFault source.entry.is_info Fetch) }
-    ensures refused { IfErr result
-        (λ fault. status_of fault ≡ 2 → Keeps (W.contents writer.old) (W.contents writer.new)) }
+    ensures fault { IfErr result (λ fault.
+        IsStoreFault source.entry.is_info Fetch log.entry fault ⊎ IsLogFull log.entry fault) }
+    ensures refused { IfErr result (λ fault. status_of fault ≡ 2 → fault ≢ log_full
+        → Keeps (W.contents writer.old) (W.contents writer.new)) }
 {
     let shared = Shared::new(rt.alloc())?;
-    // It is never closed: what comes is written.
+    // It is never closed: what comes is written, and so is the log.
     let seal = Seal::new();
-    let context = device_context(FileUse::Fetch, &shared, &seal);
-    let engine = load_store(rt, watch, context, source, dir)?;
-    fetch_store(rt.alloc(), net, watch, engine, &shared, peers, writer)
+    let context = device_context(FileUse::Fetch, &shared, &seal, &seal);
+    let engine = load_store(rt, watch, context, source, dir, log)?;
+    fetch_store(rt.alloc(), net, watch, engine, &shared, peers, log, writer)
 }
 
-/// Takes peers in turn, over TCP, for an engine that began with a torrent, without a log, which it takes, and tells of
-/// it as `fetch_over` does. What stands before the sockets goes by that torrent.
+/// Takes peers in turn, over TCP, for an engine that began with a torrent, which it takes, and tells of it as
+/// `fetch_over` does; where the path of its log is given, with flushes among them. What stands before the sockets goes
+/// by that torrent.
 fn fetch_store<D: Disk + Drop, H: NodeHash, N: Net + Clock, P: Watch, W: Write>(
     alloc: Global,
     net: &N,
@@ -77,15 +89,16 @@ fn fetch_store<D: Disk + Drop, H: NodeHash, N: Net + Clock, P: Watch, W: Write>(
     engine: Engine<D, H>,
     shared: &Shared,
     peers: &[Peer<'_>],
+    log: Option<&str>,
     writer: &mut W,
 ) -> Result<u8, Fault>
     requires no_peer { engine.state.peers ≡ [] }
-    requires unlogged { engine.log ≡ None }
-    ensures fetched { (torrent : Metainfo) (given : List D) (filled : List Bool)
-        (begun : HasBegun D.history D.honest D.faults H.digest torrent given filled engine)
-        → IfOk result (λ status. EndsFetch begun.begins engine peers.now
+    ensures fetched { (torrent : Metainfo) (given : List D) (attached : Option (LogView D))
+        (filled : List Bool)
+        (begun : HasBegun D.history D.honest D.faults H.digest torrent given attached filled engine)
+        → IfOk result (λ status. EndsFetch begun.begins engine peers.now log.entry
         (W.contents writer.old) (W.contents writer.new) status) }
-    ensures fault { IfErr result (λ fault. (fault ≡ device) ⊎ (fault ≡ out_of_memory)) }
+    ensures fault { IfErr result (IsEndFault engine.log) }
 {
     // These calls say what holds of the engine, and of whatever led to it and leads on from it.
     engine.keeps_laws();
@@ -98,7 +111,7 @@ fn fetch_store<D: Disk + Drop, H: NodeHash, N: Net + Clock, P: Watch, W: Write>(
         pieces: engine.torrent().pieces(),
         shared,
     };
-    fetch_from(alloc, net, &mut engine, passage, peers, writer)
+    fetch_from(alloc, net, &mut engine, passage, peers, log, writer)
 }
 
 /// What comes of an alarm that rang, or did not, in a fetch of this status. Errors: it rang, and files are not
@@ -114,26 +127,46 @@ fn hear(rang: bool, status: u8) -> Result<(), Fault>
     Ok(())
 }
 
-/// Takes peers in turn, over TCP, until an engine of a torrent is complete, and tells of it as `fetch_over` does.
-/// Errors: also where a session ended because a device refused a write, and files are not complete.
+/// Behind how many turns with a peer a fetch flushes: never, for which 0 stands, without a log.
+fn flush_turns(log: Option<&str>) -> u64
+    ensures { result ≡ flush_turns log.entry }
+{
+    match log {
+        Some(_) => FLUSH_TURNS,
+        None => 0,
+    }
+}
+
+/// Takes peers in turn, over TCP, until an engine of a torrent is complete, and tells of it as `fetch_over` does; where
+/// the path of its log is given, with flushes among them. Errors: also where a session ended because a device refused a
+/// write, and files are not complete.
 fn fetch_from<D: Disk + Drop, H: NodeHash, N: Net + Clock, W: Write>(
     alloc: Global,
     net: &N,
     engine: &mut Engine<D, H>,
     passage: Passage<'_>,
     peers: &[Peer<'_>],
+    log: Option<&str>,
     writer: &mut W,
 ) -> Result<u8, Fault>
     requires no_peer { engine.old.state.peers ≡ [] }
-    requires unlogged { engine.old.log ≡ None }
     requires own_short_blocks { passage.short_blocks.now ≡ short_blocks_of engine.old.state.torrent }
     ensures fetched { IfOk result (λ status. HasFetchedOverTcp D.history D.honest D.faults H.digest peers.now
-        engine.old (W.contents writer.old) (W.contents writer.new) status engine.new) }
+        log.entry engine.old (W.contents writer.old) (W.contents writer.new) status engine.new) }
     ensures run { LeadsTo D.history D.honest D.faults H.digest engine.old engine.new }
-    ensures fault { IfErr result (λ fault. (fault ≡ device) ⊎ (fault ≡ out_of_memory)) }
+    ensures fault { IfErr result (IsEndFault engine.old.log) }
 {
     let mut links = links_to(alloc, net, peers, passage)?;
-    let status = fetch_over(alloc, engine, peers, &mut links, SESSION_TURNS, writer)?;
+    let every = flush_turns(log);
+    let status = fetch_over(
+        alloc,
+        engine,
+        peers,
+        &mut links,
+        SESSION_TURNS,
+        every,
+        writer,
+    )?;
     hear(passage.shared.alarm.has_rung(), status)?;
     Ok(status)
 }
@@ -158,60 +191,65 @@ fn links_to<'a, N: Net + Clock>(
 
 /// Takes peers in turn, each by its link, until the engine is complete; has all put on the devices; writes how
 /// it ended with each peer that was tried; takes in the files whose blocks came without their hashes; and then
-/// concludes. A peer's session has so many turns at most. Errors: also where a device failed behind the peers,
-/// which is told of behind their lines; and where these can't be written, what came is on the devices all the same.
+/// concludes. A peer's session has so many turns at most, with a flush behind each `flush_every`-th and behind the
+/// session, or with none where that is 0. Errors: also where a flush was refused, which is told of behind the lines of
+/// the peers; and where these can't be written, what came is on the devices all the same.
 fn fetch_over<D: Disk + Drop, H: NodeHash, L: Link, W: Write>(
     alloc: Global,
     engine: &mut Engine<D, H>,
     peers: &[Peer<'_>],
     links: &mut [L],
     turns: u64,
+    flush_every: u64,
     writer: &mut W,
 ) -> Result<u8, Fault>
     requires same_length { length links.old ≡ length peers.now }
     requires undialled { All (λ link. L.dials link ≡ 0) links.old }
     requires no_peer { engine.old.state.peers ≡ [] }
-    requires unlogged { engine.old.log ≡ None }
-    ensures fetched { IfOk result (λ status. HasFetched (IsTried D.history D.honest D.faults H.digest L.dials
-        L.failures L.gives L.R.remaining L.W.contents turns) D.history D.honest D.faults H.digest peers.now
-        engine.old links.old (W.contents writer.old) (W.contents writer.new) status links.new engine.new) }
-    ensures broken_off { OnErr result (BreaksOff (IsTried D.history D.honest D.faults H.digest L.dials
-        L.failures L.gives L.R.remaining L.W.contents turns) D.history D.honest D.faults H.digest
-        engine.old links.old links.new engine.new) }
+    ensures fetched { IfOk result (λ status. HasFetched (InTurnWithFlushes (IsTriedWithFlushes D.history
+        D.honest D.faults H.digest L.dials L.failures L.gives L.R.remaining L.W.contents flush_every turns))
+        D.history D.honest D.faults H.digest peers.now engine.old links.old (W.contents writer.old)
+        (W.contents writer.new) status links.new engine.new) }
+    ensures broken_off { OnErr result (BreaksOff (InTurnWithFlushes (IsTriedWithFlushes D.history D.honest
+        D.faults H.digest L.dials L.failures L.gives L.R.remaining L.W.contents flush_every turns)) D.history
+        D.honest D.faults H.digest engine.old links.old links.new engine.new) }
     ensures run { LeadsTo D.history D.honest D.faults H.digest engine.old engine.new }
-    ensures fault { IfErr result (λ fault. (fault ≡ device) ⊎ (fault ≡ out_of_memory)) }
+    ensures fault { IfErr result (IsEndFault engine.old.log) }
 {
     let mut ends = vec![in alloc; PeerEnd::Untried; peers.len()]?;
-    let kept = try_and_sync(alloc, engine, links, &mut ends, turns);
+    let kept = try_and_sync(alloc, engine, links, &mut ends, turns, flush_every);
     write_peers(alloc, peers, &ends, writer)?;
     kept?;
     adopt_waiting(engine)?;
     conclude(alloc, engine, writer)
 }
 
-/// Takes peers in turn, each by its link, until the engine is complete, and then, before anything else that may
-/// fail, has all that they brought put on the devices. Errors: a device failed at that.
+/// Takes peers in turn, each by its link, with flushes among them, until the engine is complete, and then, before
+/// anything else that may fail, has all that they brought put on the devices. Errors: this flush was refused, or one
+/// among the peers, which was then the last thing done.
 fn try_and_sync<D: Disk + Drop, H: NodeHash, L: Link>(
     alloc: Global,
     engine: &mut Engine<D, H>,
     links: &mut [L],
     ends: &mut [PeerEnd],
     turns: u64,
+    flush_every: u64,
 ) -> Result<(), Fault>
     requires same_length { length links.old ≡ length ends.old }
     requires undialled { All (λ link. L.dials link ≡ 0) links.old }
     requires no_peer { engine.old.state.peers ≡ [] }
-    requires unlogged { engine.old.log ≡ None }
-    ensures kept { OnOk result (TriesAndSyncs (IsTried D.history D.honest D.faults H.digest L.dials L.failures
-        L.gives L.R.remaining L.W.contents turns) D.history D.honest D.faults H.digest engine.old links.old
-        ends.new links.new (Ok tt) engine.new) }
-    ensures failed { OnErr result (TriesAndSyncs (IsTried D.history D.honest D.faults H.digest L.dials
-        L.failures L.gives L.R.remaining L.W.contents turns) D.history D.honest D.faults H.digest engine.old
-        links.old ends.new links.new (Err Device) engine.new) }
+    ensures kept { OnOk result (TriesAndSyncs (InTurnWithFlushes (IsTriedWithFlushes D.history D.honest
+        D.faults H.digest L.dials L.failures L.gives L.R.remaining L.W.contents flush_every turns)) D.history
+        D.honest D.faults H.digest engine.old links.old ends.new links.new (Ok tt) engine.new) }
+    ensures failed { IfErr result (λ fault. FailsToSync (InTurnWithFlushes (IsTriedWithFlushes D.history
+        D.honest D.faults H.digest L.dials L.failures L.gives L.R.remaining L.W.contents flush_every turns))
+        D.history D.honest D.faults H.digest engine.old links.old ends.new links.new fault engine.new) }
     ensures gone { engine.new.state.peers ≡ [] }
     ensures run { LeadsTo D.history D.honest D.faults H.digest engine.old engine.new }
-    ensures fault { IfErr result (λ fault. fault ≡ device) }
+    ensures fault { IfErr result (IsFlushFault engine.old.log) }
 {
-    run_peers(alloc, engine, links, ends, turns);
-    finish(engine)
+    match run_peers_with_flushes(alloc, engine, links, ends, turns, flush_every) {
+        Ok(()) => finish(engine),
+        Err(error) => Err(flush_fault(error)),
+    }
 }

@@ -1,11 +1,13 @@
 //! The command `seed`: connections are waited for and served, and what came of each is told.
-ghost use Rattle.std.specs.Prelude.{[], ℕ, Bool, List, None, ◌≡◌, ◌⊎◌, ◌++◌, ◌&&◌, not, IfErr, IfOk, OnErr, OnOk, string_bytes};
+ghost use Rattle.std.specs.Prelude.{[], ℕ, Bool, List, Option, ◌≡◌, ◌≢◌, ◌⊎◌, ◌++◌, ◌&&◌, not, IfErr, IfOk, OnErr, OnOk, string_bytes};
 ghost use Rattle.std.specs.Io.KnownBytes.{Appends, Keeps};
-ghost use Rattle.bt_check.specs.Fault.{device, out_of_memory, status_of};
-ghost use Rattle.bt_files.specs.Loading.{IsStoreFault};
+ghost use Rattle.bt_check.specs.Fault.{device, log_full, out_of_memory, status_of};
+ghost use Rattle.bt_files.specs.Ending.{IsEndFault};
+ghost use Rattle.bt_files.specs.Loading.{IsLogFull, IsStoreFault};
 ghost use Rattle.bt_files.specs.Report.{engine_report};
 ghost use Rattle.bt_meta.specs.Torrent.{Metainfo};
 ghost use Rattle.bt_padding.specs.ShortBlocks.{short_blocks_of};
+ghost use Rattle.bt_resume.specs.ResumeLog.{LogView};
 ghost use Rattle.bt_runs.specs.Leads.{LeadsTo};
 ghost use Rattle.bt_transfer.specs.Connections.{IsFlushed};
 ghost use Rattle.bt_transfer.specs.Seed.{EndsSeed, HasListened, HasServedAll, IsSeed, listening_line, seed_use};
@@ -33,18 +35,19 @@ use std::time::Clock;
 
 /// Opens the store of a torrent's files in a folder, as `load_store` does; listens, and writes at which port;
 /// and serves connections, one after the other, whatever came of those before, each with a line that tells how
-/// it ended. All is put on the devices behind the last, or behind each where no count is given. The answer is
-/// the status of the program, 0.
+/// it ended. All is put on the devices, and what is known of it into the log, where the path of one is given, behind
+/// the last, or behind each where no count is given. The answer is the status of the program, 0.
 ///
-/// Where all files are complete at first, none is written from then on: a session ends in which a block comes for one
-/// of them. Where they are only to be read and are not complete, nothing is served: the report is written, that nothing
-/// is served is told, and the answer is 1.
+/// Where all files are complete at first, none is written from then on, but the log is: a session ends in which a block
+/// comes for one of them. Where they are only to be read and are not complete, nothing is served: the report is
+/// written, that nothing is served is told, and the answer is 1.
 ///
 /// It is told how much is read: first of what the files have, and then for peers, where it is not known how much
 /// that will be. Between the two a hint tells where files are not complete.
 ///
-/// Errors: the torrent is refused, two of its paths are one file that may be written, or the port can't be had, and then
-/// nothing is written; a device, the writer or the socket failed; out of memory.
+/// Errors: the torrent or the log is refused, two of the torrent's paths are one file that may be written, or the port
+/// can't be had, and then nothing is written; a device, the writer or the socket failed; out of memory; the log is
+/// full.
 pub fn seed<R: Files + AllocGlobal + Clone + Drop, N: Net + Clock, P: Watch, W: Write>(
     rt: &R,
     net: &N,
@@ -52,18 +55,23 @@ pub fn seed<R: Files + AllocGlobal + Clone + Drop, N: Net + Clock, P: Watch, W: 
     source: Source<'_>,
     dir: &str,
     service: Service<'_>,
+    log: Option<&str>,
     writer: &mut W,
 ) -> Result<u8, Fault>
-    ensures done { IfOk result (IsSeed source.entry.is_info dir.now service.entry
+    ensures done { IfOk result (IsSeed source.entry.is_info dir.now service.entry log.entry
         (W.contents writer.old) (W.contents writer.new)) }
-    ensures fault { IfErr result (IsStoreFault source.entry.is_info (seed_use service.entry.is_read_only)) }
-    ensures refused { IfErr result
-        (λ fault. status_of fault ≡ 2 → Keeps (W.contents writer.old) (W.contents writer.new)) }
+    ensures fault { IfErr result (λ fault.
+        IsStoreFault source.entry.is_info (seed_use service.entry.is_read_only) log.entry fault
+        ⊎ IsLogFull log.entry fault) }
+    ensures refused { IfErr result (λ fault. status_of fault ≡ 2 → fault ≢ log_full
+        → Keeps (W.contents writer.old) (W.contents writer.new)) }
 {
     let shared = Shared::new(rt.alloc())?;
     let seal = Seal::new();
-    let context = device_context(seed_use(service.is_read_only), &shared, &seal);
-    let engine = load_store(rt, watch, context, source, dir)?;
+    // It is never closed: also a seed that writes no file any more writes its log.
+    let log_seal = Seal::new();
+    let context = device_context(seed_use(service.is_read_only), &shared, &seal, &log_seal);
+    let engine = load_store(rt, watch, context, source, dir, log)?;
     let is_complete = engine.is_complete();
     if is_lacking(service.is_read_only, is_complete) {
         return report_lack(rt.alloc(), watch, &engine, writer);
@@ -117,8 +125,7 @@ fn report_lack<D: Disk + Drop, H: NodeHash, P: Watch, W: Write>(
     Ok(1)
 }
 
-/// Tells what is lacking, listens, and serves connections to an engine that began with a torrent, without a log, which
-/// it takes.
+/// Tells what is lacking, listens, and serves connections to an engine that began with a torrent, which it takes.
 /// What stands before the sockets goes by that torrent. The answer is 0.
 fn seed_store<D: Disk + Drop, H: NodeHash, N: Net + Clock, P: Watch, W: Write>(
     alloc: Global,
@@ -130,12 +137,12 @@ fn seed_store<D: Disk + Drop, H: NodeHash, N: Net + Clock, P: Watch, W: Write>(
     writer: &mut W,
 ) -> Result<u8, Fault>
     requires no_peer { engine.state.peers ≡ [] }
-    requires unlogged { engine.log ≡ None }
-    ensures listened { (torrent : Metainfo) (given : List D) (filled : List Bool)
-        (begun : HasBegun D.history D.honest D.faults H.digest torrent given filled engine)
+    ensures listened { (torrent : Metainfo) (given : List D) (attached : Option (LogView D))
+        (filled : List Bool)
+        (begun : HasBegun D.history D.honest D.faults H.digest torrent given attached filled engine)
         → IfOk result (λ status. EndsSeed begun.begins engine service.entry.serving
         (W.contents writer.old) (W.contents writer.new) status) }
-    ensures fault { IfErr result (λ fault. (fault ≡ device) ⊎ (fault ≡ out_of_memory)) }
+    ensures fault { IfErr result (IsEndFault engine.log) }
 {
     // These calls say what holds of the engine, and of whatever led to it and leads on from it.
     engine.keeps_laws();
@@ -172,12 +179,11 @@ fn listen_and_serve<D: Disk + Drop, H: NodeHash, N: Net + Clock, W: Write>(
     writer: &mut W,
 ) -> Result<(), Fault>
     requires no_peer { engine.old.state.peers ≡ [] }
-    requires unlogged { engine.old.log ≡ None }
     requires own_short_blocks { passage.short_blocks.now ≡ short_blocks_of engine.old.state.torrent }
     ensures run { LeadsTo D.history D.honest D.faults H.digest engine.old engine.new }
     ensures served { OnOk result (HasListened D.history D.honest D.faults H.digest service.entry.serving
         engine.old (W.contents writer.old) (W.contents writer.new) engine.new) }
-    ensures fault { IfErr result (λ fault. (fault ≡ device) ⊎ (fault ≡ out_of_memory)) }
+    ensures fault { IfErr result (IsEndFault engine.old.log) }
 {
     let listener = listen(net, service.address, service.port)?;
     announce(alloc, &listener, writer)?;
@@ -222,7 +228,7 @@ fn push_line(line: &mut String, port: u16) -> Result<(), AllocError>
     writeln!(line, "listening {port}")
 }
 
-/// Serves as many connections as is said, and has all put on the devices.
+/// Serves as many connections as is said, and has all put on the devices, and into the log.
 fn serve_all<D: Disk + Drop, H: NodeHash, N: Net + Clock, W: Write>(
     alloc: Global,
     reception: &Reception<'_, N>,
@@ -231,12 +237,11 @@ fn serve_all<D: Disk + Drop, H: NodeHash, N: Net + Clock, W: Write>(
     writer: &mut W,
 ) -> Result<(), Fault>
     requires no_peer { engine.old.state.peers ≡ [] }
-    requires unlogged { engine.old.log ≡ None }
     ensures served { OnOk result (HasServedAll D.history D.honest D.faults H.digest serving
         engine.old (W.contents writer.old) (W.contents writer.new) engine.new) }
     ensures kept { OnErr result (IsFlushed D.history D.honest D.faults H.digest engine.new) }
     ensures run { LeadsTo D.history D.honest D.faults H.digest engine.old engine.new }
-    ensures fault { IfErr result (λ fault. (fault ≡ device) ⊎ (fault ≡ out_of_memory)) }
+    ensures fault { IfErr result (IsEndFault engine.old.log) }
 {
     match serving {
         Serving::Count(count) => {

@@ -1,4 +1,6 @@
-use Rattle.std.proofs.Common.{rules}
+use Rattle.std.proofs.Common.{inl, rules}
+use Rattle.bt_files.specs.Ending.{IsEndFault}
+use Rattle.bt_files.proofs.Faults.{call_ends, passed_on}
 use Rattle.bt_files.proofs.ending.conclude.Goals as goal
 
 pub returns-then-complete-clause-concluded : goal.returns-then-complete-clause-concluded
@@ -6,3 +8,13 @@ returns-then-complete-clause-concluded g c = search rules
 
 pub returns-else-complete-clause-concluded : goal.returns-else-complete-clause-concluded
 returns-else-complete-clause-concluded g c = search rules
+
+pub returns-in_err-finish-clause-fault : goal.returns-in_err-finish-clause-fault
+returns-in_err-finish-clause-fault g c =
+    passed_on c.from_residual.result c.in_err-finish.field-0.0 (IsEndFault c.args.engine.now.log) c.from_residual.ensures.1
+    (inl c.in_err-finish.ensures.fault)
+
+pub returns-in_err-complete-clause-fault : goal.returns-in_err-complete-clause-fault
+returns-in_err-complete-clause-fault g c =
+    passed_on c.from_residual-in_err-complete.result c.in_err-complete.field-0.0 (IsEndFault c.args.engine.now.log) c.from_residual-in_err-complete.ensures.1
+    (call_ends c.args.engine.now.log c.in_err-complete.field-0.0 c.in_err-complete.ensures.fault)

@@ -1,26 +1,54 @@
-use Rattle.std.proofs.Common.{List, length, map, sym, ap, subst, ◌∙◌}
+use Rattle.std.proofs.Common.{List, length, map, inl, inr, sym, ap, subst, ◌∙◌}
 use Rattle.std.proofs.lemmas.List.{length-map}
 use Rattle.bt_meta.specs.Files.{File, file_of}
 use Rattle.bt_machine.specs.Start.{device_count}
 use Rattle.bt_files.specs.DataFiles.{AreNewDevices}
+use Rattle.bt_files.specs.OpenFolder.{IsOpeningFault}
+use Rattle.bt_files.specs.Store.{IsOpenFault}
 use Rattle.bt_files.proofs.Devices.{device_count_is}
-use Rattle.bt_files.proofs.Faults.{ok_weaker}
+use Rattle.bt_files.proofs.Faults.{err_weaker, ok_weaker, passed_on}
+use Rattle.bt_files.proofs.StoreLogs.{log_is_own}
 use Rattle.bt_files.proofs.store.open_store.Goals as goal
 
-pub begin-requires-clause-devices : goal.begin-requires-clause-devices
-begin-requires-clause-devices g c =
+pub begin_store-requires-clause-devices : goal.begin_store-requires-clause-devices
+begin_store-requires-clause-devices g c =
     device_count_is c.args.context.usage c.args.dir.now (map file_of c.files.result.now) _ c.in_ok-files.ensures.devices
     ∙ ap device_count c.files.ensures.said
 
-pub begin-requires-clause-each : goal.begin-requires-clause-each
-begin-requires-clause-each g c =
+pub begin_store-requires-clause-each : goal.begin_store-requires-clause-each
+begin_store-requires-clause-each g c =
     c.in_ok-files.ensures.each ∙ sym (length-map c.files.result.now file_of) ∙ ap length c.files.ensures.said
 
+pub begin_store-requires-clause-own_log : goal.begin_store-requires-clause-own_log
+begin_store-requires-clause-own_log g c = log_is_own c.args.torrent c.args.log c.in_ok-attached.attached c.in_ok-attached.ensures.log
+
+pub returns-in_err-look_at_log-clause-fault : goal.returns-in_err-look_at_log-clause-fault
+returns-in_err-look_at_log-clause-fault g c =
+    passed_on c.from_residual.result c.in_err-look_at_log.field-0.0 (IsOpenFault c.args.context.usage c.args.torrent c.args.log)
+    c.from_residual.ensures.1 (inl c.in_err-look_at_log.ensures)
+
+pub returns-in_err-files-clause-fault : goal.returns-in_err-files-clause-fault
+returns-in_err-files-clause-fault g c =
+    passed_on c.from_residual-in_err-files.result c.in_err-files.field-0.0 (IsOpenFault c.args.context.usage c.args.torrent c.args.log)
+    c.from_residual-in_err-files.ensures.1
+    (inr (inl (subst (λ count. IsOpeningFault c.args.context.usage count c.in_err-files.field-0.0)
+    (sym (length-map c.files.result.now file_of) ∙ ap length c.files.ensures.said) c.in_err-files.ensures.fault)))
+
+pub returns-in_err-attached-clause-fault : goal.returns-in_err-attached-clause-fault
+returns-in_err-attached-clause-fault g c =
+    passed_on c.from_residual-in_err-attached.result c.in_err-attached.field-0.0 (IsOpenFault c.args.context.usage c.args.torrent c.args.log)
+    c.from_residual-in_err-attached.ensures.1 (inr (inr c.in_err-attached.ensures.fault))
+
 pub returns-clause-opened : goal.returns-clause-opened
-returns-clause-opened g c = ok_weaker c.begin.result _ _ (λ engine begun. record {
+returns-clause-opened g c = ok_weaker c.begin_store.result _ _ (λ engine begun. record {
   devices = c.in_ok-files.files.disks.items;
   of_files = subst (λ (files : List File). AreNewDevices c.args.context.usage c.args.dir.now files c.in_ok-files.files.disks.items) c.files.ensures.said c.in_ok-files.ensures.devices;
   filled = c.in_ok-files.files.filled.items;
   each = c.in_ok-files.ensures.each ∙ sym (length-map c.files.result.now file_of) ∙ ap length c.files.ensures.said;
+  attached = c.in_ok-attached.attached;
+  of_log = c.in_ok-attached.ensures.log;
   begun = begun;
-}) c.begin.ensures.begun
+}) c.begin_store.ensures.begun
+
+pub returns-clause-fault : goal.returns-clause-fault
+returns-clause-fault g c = err_weaker c.begin_store.result _ _ (λ fault call. inr (inl (inl call))) c.begin_store.ensures.fault

@@ -13,6 +13,10 @@ returns-in_default-clause-ended g c = search rules
 pub returns-in_default-clause-run : goal.returns-in_default-clause-run
 returns-in_default-clause-run g c = none c.args.engine.now
 
+pub returns-in_default-clause-stands : goal.returns-in_default-clause-stands
+returns-in_default-clause-stands g c =
+    c.what_leads_on_stands.ensures c.args.engine.now c.args.engine.now c.keeps_laws.ensures.sound (none c.args.engine.now)
+
 pub returns-in-Ok-Ok-clause-ended : goal.returns-in-Ok-Ok-clause-ended
 returns-in-Ok-Ok-clause-ended g c =
     flushed_end g.D.Disk.history g.D.Disk.honest g.D.Disk.faults g.H.NodeHash.digest g.R.Read.remaining g.W.Write.contents c.args.until_complete c.args.flush_every c.args.turns c.args.reached _ c.args.engine.now c.flush_behind.new.engine c.in-Ok-Ok.end c.flush_behind.result c.in-Some.is
@@ -26,6 +30,14 @@ returns-in-Ok-Ok-clause-run g c =
     c.in-Ok-Ok.ensures.session)
     c.flush_behind.ensures.run
 
+pub returns-in-Ok-Ok-clause-stands : goal.returns-in-Ok-Ok-clause-stands
+returns-in-Ok-Ok-clause-stands g c =
+    c.what_leads_on_stands.ensures c.args.engine.now c.flush_behind.new.engine c.keeps_laws.ensures.sound
+    (both c.args.engine.now c.run_session_with_flushes.new.engine c.flush_behind.new.engine
+    (session_leads g.D.Disk.history g.D.Disk.honest g.D.Disk.faults g.H.NodeHash.digest _ _ _ c.args.engine.now c.run_session_with_flushes.new.engine _ _ _ _ _
+    c.in-Ok-Ok.ensures.session)
+    c.flush_behind.ensures.run)
+
 pub returns-in-Ok-Err-clause-ended : goal.returns-in-Ok-Err-clause-ended
 returns-in-Ok-Err-clause-ended g c =
     flushed_end g.D.Disk.history g.D.Disk.honest g.D.Disk.faults g.H.NodeHash.digest g.R.Read.remaining g.W.Write.contents c.args.until_complete c.args.flush_every c.args.turns c.args.reached _ c.args.engine.now c.run_session_with_flushes.new.engine ReadFault (Err c.in-Ok-Err.error) c.in-Some.is
@@ -36,5 +48,11 @@ returns-in-Ok-Err-clause-run g c =
     session_leads g.D.Disk.history g.D.Disk.honest g.D.Disk.faults g.H.NodeHash.digest _ _ _ c.args.engine.now c.run_session_with_flushes.new.engine _ _ _ _ _
     c.in-Ok-Err.ensures.session
 
+pub returns-in-Ok-Err-clause-stands : goal.returns-in-Ok-Err-clause-stands
+returns-in-Ok-Err-clause-stands g c = c.in-Ok-Err.ensures.stands
+
 pub returns-clause-run : goal.returns-clause-run
 returns-clause-run g c = one c.args.engine.now c.run_session_with_flushes.new.engine Connect _ (λ e. absurd cc) c.in-Err.ensures.refused
+
+pub returns-clause-stands : goal.returns-clause-stands
+returns-clause-stands g c = c.in-Err.ensures.stands

@@ -45,3 +45,16 @@ returns-in_err-try_peer-clause-peers g c =
 
 pub returns-in_err-try_peer-clause-run : goal.returns-in_err-try_peer-clause-run
 returns-in_err-try_peer-clause-run g c = both _ c.loop-i.engine _ c.loop-i.invariant.run c.in_err-try_peer.ensures.run
+
+pub returns-after-loop-i-clause-stands : goal.returns-after-loop-i-clause-stands
+returns-after-loop-i-clause-stands g c =
+    c.what_leads_on_stands.ensures c.args.engine.now c.loop-i.engine c.keeps_laws.ensures.sound c.loop-i.invariant.run
+
+pub returns-then-is_complete-clause-stands : goal.returns-then-is_complete-clause-stands
+returns-then-is_complete-clause-stands g c =
+    c.what_leads_on_stands.ensures c.args.engine.now c.loop-i.engine c.keeps_laws.ensures.sound c.loop-i.invariant.run
+
+pub returns-in_err-try_peer-clause-stands : goal.returns-in_err-try_peer-clause-stands
+returns-in_err-try_peer-clause-stands g c =
+    c.what_leads_on_stands.ensures c.args.engine.now c.try_peer.new.engine c.keeps_laws.ensures.sound
+    (both _ c.loop-i.engine _ c.loop-i.invariant.run c.in_err-try_peer.ensures.run)

@@ -1,4 +1,4 @@
-use Rattle.bt_runs.proofs.Kept.{as_promised, some_run, files_published, marks_kept, images_kept}
+use Rattle.bt_runs.proofs.Kept.{as_promised, some_run, files_published}
 use Rattle.bt_runs.proofs.Flushes.{flushes, none_lost_then}
 use Rattle.bt_runs.proofs.promises.run_as_promised.Goals as goal
 
@@ -21,21 +21,8 @@ returns-clause-published g c =
     files_published g.D.Disk.history g.D.Disk.honest g.D.Disk.faults g.H.NodeHash.digest c.roots_tell_files.ensures c.complete_files_stand.ensures
     c.run_events-result.new.engine after.shaped after.rooted after.sound
 
-pub returns-clause-marks : goal.returns-clause-marks
-returns-clause-marks g c = λ no_restart.
-    marks_kept g.D.Disk.history g.D.Disk.honest g.D.Disk.faults g.H.NodeHash.digest c.run_keeps_marks.ensures c.args.engine.now c.run_events-result.new.engine
-    c.keeps_laws.ensures.sound
-    (some_run g.D.Disk.history g.D.Disk.honest g.D.Disk.faults g.H.NodeHash.digest c.runs_compose.ensures.none c.args.engine.now c.run_events-result.new.engine
-    c.args.events.now c.args.answers.now.items c.run_events-result.new.answers.items c.run_events-result.result c.run_events-result.ensures.runs
-    c.run_events-result.ensures.kept no_restart)
-
-pub returns-clause-images : goal.returns-clause-images
-returns-clause-images g c = λ no_restart.
-    images_kept g.D.Disk.history g.D.Disk.honest g.D.Disk.faults g.H.NodeHash.digest c.run_keeps_images.ensures c.args.engine.now
-    c.run_events-result.new.engine c.keeps_laws.ensures.sound
-    (some_run g.D.Disk.history g.D.Disk.honest g.D.Disk.faults g.H.NodeHash.digest c.runs_compose.ensures.none c.args.engine.now c.run_events-result.new.engine
-    c.args.events.now c.args.answers.now.items c.run_events-result.new.answers.items c.run_events-result.result c.run_events-result.ensures.runs
-    c.run_events-result.ensures.kept no_restart)
+pub returns-clause-stands : goal.returns-clause-stands
+returns-clause-stands g c = c.run_events-result.ensures.stands
 
 pub returns-clause-flushed : goal.returns-clause-flushed
 returns-clause-flushed g c = λ no_restart.

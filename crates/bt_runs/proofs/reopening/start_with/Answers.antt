@@ -7,7 +7,10 @@ unreachable-requires g c =
     none_back g.D.Disk.history g.D.Disk.honest g.D.Disk.faults g.H.NodeHash.digest c.requires.same_torrent c.start.ensures.answer c.in-Err.is c.in-None.is
 
 pub returns-in-Ok-clause-begun : goal.returns-in-Ok-clause-begun
-returns-in-Ok-clause-begun g c = c.in-Ok.ensures.again
+returns-in-Ok-clause-begun g c = rw c.in-Ok.is at c.start.ensures.answer
+
+pub returns-in-Ok-clause-again : goal.returns-in-Ok-clause-again
+returns-in-Ok-clause-again g c = c.in-Ok.ensures.again
 
 pub returns-in-Some-clause-refused : goal.returns-in-Some-clause-refused
 returns-in-Some-clause-refused g c =

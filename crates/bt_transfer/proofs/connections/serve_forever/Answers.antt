@@ -2,12 +2,10 @@ use Rattle.std.proofs.Common.{refl}
 use Rattle.bt_runs.specs.Leads.{none, both}
 use Rattle.bt_transfer.specs.Connections.{MeetsAndSyncs}
 use Rattle.bt_transfer.proofs.ConnectionLines.{served_more, served_none}
-use Rattle.bt_files.proofs.Unlogged.{stays_unlogged}
+use Rattle.bt_files.specs.Ending.{IsEndFault}
+use Rattle.bt_files.proofs.Faults.{passed_on}
+use Rattle.bt_files.proofs.Unlogged.{end_fault_before}
 use Rattle.bt_transfer.proofs.connections.serve_forever.Goals as goal
-
-pub serve_and_sync-requires-clause-unlogged : goal.serve_and_sync-requires-clause-unlogged
-serve_and_sync-requires-clause-unlogged g c =
-    stays_unlogged g.D.Disk.history g.D.Disk.honest g.D.Disk.faults g.H.NodeHash.digest c.loop-number.invariant.2 c.requires.unlogged
 
 pub loop-number-init : goal.loop-number-init
 loop-number-init g c = (served_none _ c.args.engine.now (g.W.Write.contents c.args.writer.now), c.requires.no_peer, none c.args.engine.now)
@@ -25,3 +23,8 @@ loop-number-preserved g c = (
 pub returns-in_err-serve_and_sync-clause-run : goal.returns-in_err-serve_and_sync-clause-run
 returns-in_err-serve_and_sync-clause-run g c =
     both c.args.engine.now c.loop-number.engine c.serve_and_sync.new.engine c.loop-number.invariant.2 c.serve_and_sync.ensures.run
+
+pub returns-in_err-serve_and_sync-clause-fault : goal.returns-in_err-serve_and_sync-clause-fault
+returns-in_err-serve_and_sync-clause-fault g c =
+    passed_on c.from_residual.result _ (IsEndFault c.args.engine.now.log) c.from_residual.ensures.1
+    (end_fault_before g.D.Disk.history g.D.Disk.honest g.D.Disk.faults g.H.NodeHash.digest c.loop-number.invariant.2 _ c.in_err-serve_and_sync.ensures.fault)

@@ -13,11 +13,11 @@ pub returns-clause-fetched : goal.returns-clause-fetched
 returns-clause-fetched g c = record {
   rest = c.fetch_over.new.links;
   fetched = fetched_over_tcp g.D.Disk.history g.D.Disk.honest g.D.Disk.faults g.H.NodeHash.digest _ _ _
-      (short_blocks_of c.args.engine.now.state.torrent) c.args.peers.now c.args.engine.now
+      (short_blocks_of c.args.engine.now.state.torrent) c.args.peers.now c.args.log c.flush_turns-every.result c.args.engine.now
       c.deref_mut.result.now (g.W.Write.contents c.args.writer.now) (g.W.Write.contents c.fetch_over.new.writer) c.in_ok-status.status
       c.fetch_over.new.links c.fetch_over.new.engine
       (c.deref_mut.ensures.value ∙ c.in_ok-links.ensures ∙ ap (λ short. links_of short c.args.peers.now) c.requires.own_short_blocks)
-      c.in_ok-status.ensures.fetched;
+      c.flush_turns-every.ensures c.in_ok-status.ensures.fetched;
 }
 
 pub returns-in_err-links-clause-run : goal.returns-in_err-links-clause-run

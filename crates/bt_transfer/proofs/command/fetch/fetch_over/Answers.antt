@@ -1,14 +1,31 @@
+use Rattle.std.proofs.Common.{List, inl, subst, ◌∙◌}
+use Rattle.std.proofs.lemmas.List.{with_items_is}
+use Rattle.std.specs.Io.KnownBytes.{Appends}
+use Rattle.bt_peers.specs.declared.end.PeerEnd.{PeerEnd}
 use Rattle.bt_runs.specs.Leads.{none, both}
+use Rattle.bt_files.specs.Ending.{IsEndFault}
+use Rattle.bt_files.proofs.Adoptions.{adoption_fault}
+use Rattle.bt_files.proofs.Faults.{call_ends, err_weaker, ok_weaker, passed_on}
+use Rattle.bt_files.proofs.Unlogged.{end_fault_before}
+use Rattle.bt_transfer.specs.PeerLines.{peer_lines}
+use Rattle.bt_transfer.proofs.EndFaults.{of_fault}
 use Rattle.bt_transfer.proofs.Flushes.{broke_off, on_err}
-use Rattle.bt_files.proofs.Unlogged.{stays_unlogged}
 use Rattle.bt_transfer.proofs.command.fetch.fetch_over.Goals as goal
 
-pub conclude-requires : goal.conclude-requires
-conclude-requires g c = record {
-  unlogged =
-      stays_unlogged g.D.Disk.history g.D.Disk.honest g.D.Disk.faults g.H.NodeHash.digest c.adopt_waiting.ensures.run
-      (stays_unlogged g.D.Disk.history g.D.Disk.honest g.D.Disk.faults g.H.NodeHash.digest c.try_and_sync-kept.ensures.run c.requires.unlogged);
-}
+pub returns-clause-fetched : goal.returns-clause-fetched
+returns-clause-fetched g c = ok_weaker c.conclude.result _ _ (λ status ended. record {
+  ends = c.try_and_sync-kept.new.ends;
+  kept = c.try_and_sync-kept.new.engine;
+  told = g.W.Write.contents c.write_peers.new.writer;
+  taken = c.adopt_waiting.new.engine;
+  tried = c.in_ok-kept.ensures.kept;
+  lines = subst (λ (ends : List PeerEnd). Appends (g.W.Write.contents c.args.writer.now) (g.W.Write.contents c.write_peers.new.writer) (peer_lines c.args.peers.now ends))
+      (c.deref.ensures.value ∙ with_items_is c.in_ok-ends.ends c.try_and_sync-kept.new.ends (c.try_and_sync-kept.auto.ends ∙ c.deref_mut.ensures.len))
+      c.in_ok-write_peers.ensures.text;
+  taken_in = c.in_ok-adopt_waiting.ensures.taken_in;
+  end = ended;
+})
+    c.conclude.ensures.concluded
 
 pub returns-in_err-ends-clause-run : goal.returns-in_err-ends-clause-run
 returns-in_err-ends-clause-run g c = none c.args.engine.now
@@ -46,3 +63,26 @@ pub returns-clause-run : goal.returns-clause-run
 returns-clause-run g c =
     both c.args.engine.now c.try_and_sync-kept.new.engine c.conclude.new.engine c.try_and_sync-kept.ensures.run
     (both c.try_and_sync-kept.new.engine c.adopt_waiting.new.engine c.conclude.new.engine c.adopt_waiting.ensures.run c.conclude.ensures.run)
+
+pub returns-in_err-write_peers-clause-fault : goal.returns-in_err-write_peers-clause-fault
+returns-in_err-write_peers-clause-fault g c =
+    passed_on c.from_residual-in_err-write_peers.result _ (IsEndFault c.args.engine.now.log) c.from_residual-in_err-write_peers.ensures.1
+    (call_ends c.args.engine.now.log _ c.in_err-write_peers.ensures.fault)
+
+pub returns-in_err-kept-clause-fault : goal.returns-in_err-kept-clause-fault
+returns-in_err-kept-clause-fault g c =
+    passed_on c.from_residual-in_err-kept.result _ (IsEndFault c.args.engine.now.log) c.from_residual-in_err-kept.ensures.1
+    (inl (of_fault c.try_and_sync-kept.result _ _ c.in_err-kept.was c.try_and_sync-kept.ensures.fault))
+
+pub returns-in_err-adopt_waiting-clause-fault : goal.returns-in_err-adopt_waiting-clause-fault
+returns-in_err-adopt_waiting-clause-fault g c =
+    let stops = c.in_err-adopt_waiting.ensures.fault in
+    passed_on c.from_residual-in_err-adopt_waiting.result _ (IsEndFault c.args.engine.now.log) c.from_residual-in_err-adopt_waiting.ensures.1
+    (call_ends c.args.engine.now.log _ (adoption_fault stops.answer _ stops.cause))
+
+pub returns-clause-fault : goal.returns-clause-fault
+returns-clause-fault g c =
+    err_weaker c.conclude.result _ _
+    (end_fault_before g.D.Disk.history g.D.Disk.honest g.D.Disk.faults g.H.NodeHash.digest
+    (both c.args.engine.now c.try_and_sync-kept.new.engine c.adopt_waiting.new.engine c.try_and_sync-kept.ensures.run c.adopt_waiting.ensures.run))
+    c.conclude.ensures.fault

@@ -1,4 +1,6 @@
 use Rattle.bt_runs.specs.Leads.{none}
+use Rattle.bt_files.specs.Ending.{IsEndFault}
+use Rattle.bt_files.proofs.Faults.{call_ends, passed_on}
 use Rattle.bt_transfer.proofs.command.seed.listen_and_serve.Goals as goal
 
 pub returns-in_err-listener-clause-run : goal.returns-in_err-listener-clause-run
@@ -6,3 +8,8 @@ returns-in_err-listener-clause-run g c = none c.args.engine.now
 
 pub returns-in_err-announce-clause-run : goal.returns-in_err-announce-clause-run
 returns-in_err-announce-clause-run g c = none c.args.engine.now
+
+pub returns-in_err-announce-clause-fault : goal.returns-in_err-announce-clause-fault
+returns-in_err-announce-clause-fault g c =
+    passed_on c.from_residual-in_err-announce.result _ (IsEndFault c.args.engine.now.log) c.from_residual-in_err-announce.ensures.1
+    (call_ends c.args.engine.now.log _ c.in_err-announce.ensures.fault)

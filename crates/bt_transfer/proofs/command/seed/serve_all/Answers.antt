@@ -1,13 +1,10 @@
-use Rattle.std.proofs.Common.{rules}
+use Rattle.std.proofs.Common.{inl, rules}
 use Rattle.bt_runs.specs.Leads.{both}
-use Rattle.bt_files.proofs.Unlogged.{stays_unlogged}
+use Rattle.bt_files.specs.Ending.{IsEndFault}
+use Rattle.bt_files.proofs.Faults.{call_ends, err_weaker, passed_on}
+use Rattle.bt_files.proofs.Unlogged.{flush_fault_before}
+use Rattle.bt_transfer.proofs.EndFaults.{of_fault}
 use Rattle.bt_transfer.proofs.command.seed.serve_all.Goals as goal
-
-pub finish-kept-requires : goal.finish-kept-requires
-finish-kept-requires g c = record {
-  unlogged =
-      stays_unlogged g.D.Disk.history g.D.Disk.honest g.D.Disk.faults g.H.NodeHash.digest c.serve_count-served.ensures.run c.requires.unlogged;
-}
 
 pub returns-in_ok-served-in-Count-clause-served : goal.returns-in_ok-served-in-Count-clause-served
 returns-in_ok-served-in-Count-clause-served g c = search rules
@@ -19,3 +16,14 @@ returns-in_err-served-in-Count-clause-run g c =
 pub returns-in_ok-served-in-Count-clause-run : goal.returns-in_ok-served-in-Count-clause-run
 returns-in_ok-served-in-Count-clause-run g c =
     both c.args.engine.now c.serve_count-served.new.engine c.finish-kept.new.engine c.serve_count-served.ensures.run c.finish-kept.ensures.run
+
+pub returns-in_err-served-in-Count-clause-fault : goal.returns-in_err-served-in-Count-clause-fault
+returns-in_err-served-in-Count-clause-fault g c =
+    passed_on c.from_residual.result _ (IsEndFault c.args.engine.now.log) c.from_residual.ensures.1
+    (call_ends c.args.engine.now.log _ (of_fault c.serve_count-served.result _ _ c.in_err-served-in-Count.was c.serve_count-served.ensures.fault))
+
+pub returns-in_ok-served-in-Count-clause-fault : goal.returns-in_ok-served-in-Count-clause-fault
+returns-in_ok-served-in-Count-clause-fault g c =
+    err_weaker c.finish-kept.result _ _
+    (λ fault failed. inl (flush_fault_before g.D.Disk.history g.D.Disk.honest g.D.Disk.faults g.H.NodeHash.digest c.serve_count-served.ensures.run fault failed))
+    c.finish-kept.ensures.fault

@@ -1,0 +1,107 @@
+//! The log of a store, where it is to have one.
+ghost use Rattle.std.specs.Prelude.{IfErr, IfOk};
+ghost use Rattle.bt_files.specs.StoreLog.{IsLogAt, IsLogFaultAt, IsLookFault};
+
+use crate::device_context::DeviceContext;
+use crate::file_use::FileUse;
+use bt_check::Fault;
+use bt_disk::Disk;
+use bt_engine::Engine;
+use bt_folder::KnownFiles;
+use bt_log_file::{LogContext, LogDisk, open_log, refuse_data_file};
+use bt_meta::Torrent;
+use bt_progress::Watch;
+use bt_resume::ResumeLog;
+use bt_tree::NodeHash;
+use std::rt::Files;
+
+/// Refuses the file of a log where a look shows that it is one of the torrent's, before any of them is opened or made.
+pub(crate) fn look_at_log<R: Files + AllocGlobal>(
+    rt: &R,
+    dir: &str,
+    torrent: &Torrent,
+    log: Option<&str>,
+) -> Result<(), Fault>
+    ensures { IfErr result (IsLookFault log.entry) }
+{
+    match log {
+        Some(path) => refuse_data_file(rt, dir, torrent, path),
+        None => Ok(()),
+    }
+}
+
+/// Opens the log of a torrent, where the path of one is given. All files of the torrent were opened before: `known` has
+/// them, but for a read-only use.
+pub(crate) fn open_log_at<'a, R: Files + AllocGlobal + Clone + Drop, P: Watch>(
+    rt: &R,
+    watch: &'a P,
+    context: DeviceContext<'a>,
+    known: &mut KnownFiles,
+    dir: &str,
+    torrent: &Torrent,
+    log: Option<&str>,
+) -> Result<Option<ResumeLog<LogDisk<'a, R, P>>>, Fault>
+    ensures log { IfOk result (IsLogAt torrent.now log.entry) }
+    ensures fault { IfErr result (IsLogFaultAt torrent.now log.entry) }
+{
+    match log {
+        Some(path) => {
+            let opened = open_log(rt, watch, log_context(context), known, dir, torrent, path)?;
+            Ok(Some(opened))
+        }
+        None => Ok(None),
+    }
+}
+
+/// What a log's device shares with what is outside of it.
+fn log_context<'a>(context: DeviceContext<'a>) -> LogContext<'a> {
+    LogContext {
+        digests: context.digests,
+        alarm: context.alarm,
+        seal: context.log_seal,
+    }
+}
+
+/// At a terminal tells that a log marks nothing although files have bytes: with it they don't count. `filled` tells
+/// of each file whether it has.
+pub(crate) fn hint_at_unmarked<D: Disk + Drop, H: NodeHash, P: Watch>(
+    watch: &P,
+    engine: &Engine<D, H>,
+    usage: FileUse,
+    filled: &[bool],
+) {
+    if watch.is_terminal() && filled.contains(&true) && marks_nothing(engine) {
+        watch.hint(unmarked_text(usage));
+    }
+}
+
+/// What is told then.
+fn unmarked_text(usage: FileUse) -> &'static str {
+    match usage {
+        FileUse::Fetch => {
+            "no block of what is here is marked in the log, so all is fetched: without --log what is here is taken in"
+        }
+        FileUse::Seed | FileUse::ReadOnly => {
+            "no block of what is here is marked in the log, so none is served: run fetch with this log, or seed without one"
+        }
+    }
+}
+
+/// Whether no block of any file is marked.
+fn marks_nothing<D: Disk + Drop, H: NodeHash>(engine: &Engine<D, H>) -> bool {
+    let count = engine.torrent().files().len() as u32;
+    for file in 0..count {
+        if has_mark(engine, file) {
+            return false;
+        }
+    }
+    true
+}
+
+/// Whether a block of a file is marked.
+fn has_mark<D: Disk + Drop, H: NodeHash>(engine: &Engine<D, H>, file: u32) -> bool {
+    match engine.report(file) {
+        Some(report) => report.marked > 0,
+        None => false,
+    }
+}
