@@ -5,9 +5,9 @@
 
 A file of 64 MiB, or of so many, is made in a temporary folder, with its torrent, and a `seed` serves it. Between it and each `fetch`
 stands a relay of this script, which passes bytes at a pace at which a whole fetch takes some seconds, and ends each connection after an
-eighth of the file: so a fetch flushes behind several peers, all of them this relay. With more than 2 GiB it flushes within sessions too.
+eighth of the file: so a fetch flushes behind several peers, all of them this relay, and of a greater file also within its sessions.
 The time of a whole fetch is taken first. At each of twenty moments that part it evenly a new fetch is killed; then, in one row, it is run
-again to its end, and in another it is killed at three moments more, chosen by chance, before it is.
+again to its end, and in another it is killed at three moments more, chosen by chance, before it is: those at which it was still there.
 
 After each run, killed or not, the files and the log are read by this script, and a fetch with no peer that can be reached reports:
 
@@ -178,7 +178,7 @@ class Fetched:
 
     def see(self, what, wanted):
         if not wanted:
-            self.faults.append(f"{self.folder.name}: {what}")
+            self.faults.append(f"behind {len(self.ends)} ends: {what}")
 
     def look(self):
         """Looks at the log and the file, and has them reported. A run that was killed before it made its log has none."""
@@ -216,26 +216,39 @@ class Fetched:
 
 
 def whole(bench):
-    """The time of a fetch that is not killed."""
-    fetched = Fetched(bench, bench.room / "whole")
-    started = time.monotonic()
-    fetched.complete()
-    seconds = time.monotonic() - started
-    print("a fetch that is not killed, and what it has at its end:")
-    fetched.tell(seconds)
-    shutil.rmtree(fetched.folder)
-    return seconds, fetched.faults
+    """The time of a fetch that is not killed: the lesser of two; and what was wrong."""
+    print("two fetches that are not killed, and what they have at their ends:")
+    times, faults = [], []
+    for _ in range(2):
+        fetched = Fetched(bench, bench.room / "whole")
+        started = time.monotonic()
+        fetched.complete()
+        times.append(time.monotonic() - started)
+        fetched.tell(times[-1])
+        faults += fetched.faults
+        shutil.rmtree(fetched.folder)
+    return min(times), faults
+
+
+def begun(bench, moment):
+    """A fetch that was killed at a moment, and that moment: an earlier one, where the fetch had come to its end by then."""
+    while True:
+        fetched = Fetched(bench, bench.room / "killed")
+        if fetched.kill(moment):
+            return fetched, moment
+        shutil.rmtree(fetched.folder)
+        moment *= 0.9
 
 
 def row(bench, seconds, further, chance):
     """Fetches that are killed at each moment, and at so many more, and then run to their end; and what was wrong."""
     faults, kills = [], 0
-    print(f"killed once more {further} times:" if further else "killed once, and run again:")
+    print(f"killed, and then at {further} moments more:" if further else "killed, and run again:")
     for number in range(1, MOMENTS + 1):
-        fetched = Fetched(bench, bench.room / f"moment-{number}")
-        moment = seconds * number / (MOMENTS + 1)
-        for time_of_kill in [moment, *(seconds * chance.random() for _ in range(further))]:
-            kills += fetched.kill(time_of_kill)
+        fetched, moment = begun(bench, seconds * number / (MOMENTS + 1))
+        kills += 1
+        for _ in range(further):
+            kills += fetched.kill(seconds * chance.random())
         fetched.complete()
         fetched.tell(moment)
         faults += fetched.faults
