@@ -1,0 +1,56 @@
+-- The data files of a part.
+use Rattle.std.proofs.Common.{◌≡◌, ℕ, zero, suc, ◌+◌, ◌<◌, ◌≤◌, List, [], ◌∷◌, ◌++◌, length, map, take, get_or, refl, sym, ap, ◌∙◌, subst, arith}
+use Rattle.std.specs.List.{All, AllZip, range_with_len}
+use Rattle.std.proofs.lemmas.List.{map-append, take_more}
+use Rattle.std.proofs.lemmas.List.Elements.{All-cons, All-head, All-nil, All-tail}
+use Rattle.bt_check.proofs.RightBlocks.{ranges_joined}
+use Rattle.bt_meta.specs.Files.{File, file_of}
+use Rattle.bt_meta.specs.declared.torrent.FileEntry.{FileEntry}
+use Rattle.bt_check.specs.EntryCheck.{IsCheckable}
+use Rattle.bt_parts.specs.declared.cut.Share.{Share}
+use Rattle.bt_jobs.specs.Trees.{IsReadyPart, file_in_part, part_at}
+use Rattle.bt_jobs.specs.declared.trees.FilePart.{FilePart}
+use Rattle.bt_jobs.specs.declared.trees.PartFile.{PartFile}
+use Rattle.bt_jobs.proofs.Plans.{IsReadyShare}
+
+-- one data file more
+pub parts_pushed : {D X : Type 0} (f : FilePart → X) (files : List (PartFile D)) (one : PartFile D)
+    → map f (map part_at (files ++ one ∷ [])) ≡ map f (map part_at files) ++ f (part_at one) ∷ []
+parts_pushed f files one = ap (map f) (map-append part_at files (one ∷ [])) ∙ map-append f (map part_at files) (part_at one ∷ [])
+
+-- The first data files are those of the first entries.
+pub record AreOpened {D : Type 0} (entries : List FileEntry) (shares : List Share) (count : ℕ) (files : List (PartFile D)) : Type 0 where
+  pub are_files : map file_in_part (map part_at files) ≡ map file_of (take count entries)
+  pub numbers : map (λ (p : FilePart). p.number) (map part_at files) ≡ range_with_len 0 count
+  pub are_shares : map (λ (p : FilePart). p.share) (map part_at files) ≡ take count shares
+
+pub opened_begun : {D : Type 0} (entries : List FileEntry) (shares : List Share) (files : List (PartFile D)) → files ≡ [] → AreOpened entries shares 0 files
+opened_begun entries shares files none =
+    subst (AreOpened entries shares 0) (sym none) (record { are_files = refl; numbers = refl; are_shares = refl })
+
+pub opened_more : {D : Type 0} (entries : List FileEntry) (shares : List Share) (count : ℕ) (files : List (PartFile D)) (one : PartFile D) (d : FileEntry) (e : Share)
+    → AreOpened entries shares count files → count < length entries → count < length shares → file_in_part (part_at one) ≡ file_of (get_or entries count d)
+    → (part_at one).number ≡ count → (part_at one).share ≡ get_or shares count e → AreOpened entries shares (count + 1) (files ++ one ∷ [])
+opened_more entries shares count files one d e o inside also file number share = record {
+  are_files = parts_pushed file_in_part files one ∙ ap (λ l. l ++ file_in_part (part_at one) ∷ []) o.are_files
+      ∙ ap (λ f. map file_of (take count entries) ++ f ∷ []) file ∙ sym (map-append file_of (take count entries) (get_or entries count d ∷ []))
+      ∙ sym (ap (map file_of) (take_more entries count d inside));
+  numbers = parts_pushed (λ (p : FilePart). p.number) files one ∙ ap (λ l. l ++ (part_at one).number ∷ []) o.numbers
+      ∙ ap (λ n. range_with_len 0 count ++ n ∷ []) number ∙ ranges_joined 0 count 1 count (omega arith);
+  are_shares = parts_pushed (λ (p : FilePart). p.share) files one ∙ ap (λ l. l ++ (part_at one).share ∷ []) o.are_shares
+      ∙ ap (λ s. take count shares ++ s ∷ []) share ∙ sym (take_more shares count e also);
+}
+
+-- files that can be checked, with shares that begin with a piece
+pub parts_ready : (layer : ℕ) (parts : List FilePart) → AllZip (IsReadyShare layer) (map file_in_part parts) (map (λ (p : FilePart). p.share) parts)
+    → All (IsCheckable layer) (map file_in_part parts) → All (IsReadyPart layer) parts
+parts_ready layer [] ready checkable = All-nil (IsReadyPart layer)
+parts_ready layer (part ∷ parts) ready checkable =
+    All-cons (IsReadyPart layer) part parts
+    (record {
+      checkable = All-head (IsCheckable layer) (file_in_part part) (map file_in_part parts) checkable;
+      forward = ready.0.forward;
+      inside = ready.0.inside;
+      edge = ready.0.edge;
+    })
+    (parts_ready layer parts ready.1 (All-tail (IsCheckable layer) (file_in_part part) (map file_in_part parts) checkable))

@@ -1,0 +1,7 @@
+-- The bytes so far were taken.
+use Rattle.std.proofs.Common.{ℕ, List, ◌++◌, take}
+use Rattle.bt_jobs.specs.Told.{IsToldBy}
+use Rattle.bt_jobs.proofs.told.Told.take_in.Given as goal
+
+abbrev pub invariant-loop-byte : goal.invariant-loop-byte
+invariant-loop-byte l = (text : List ℕ) → IsToldBy text l.fn.self → IsToldBy (text ++ take l.byte-index l.bytes) l.self
