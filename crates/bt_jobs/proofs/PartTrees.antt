@@ -16,13 +16,14 @@ use Rattle.bt_tree.specs.Blocks.{block_count}
 use Rattle.bt_tree.specs.TreeShape.{height_of}
 use Rattle.bt_disk.specs.History.{History}
 use Rattle.bt_disk.specs.Calls.{HasCalls}
+use Rattle.bt_disk.proofs.CallLists.{has_none, has_then}
 use Rattle.bt_meta.specs.Files.{File}
 use Rattle.bt_sparse.specs.SparseTree.{Facts}
 use Rattle.bt_sparse.proofs.Values.{none_some}
 use Rattle.bt_store.specs.BlockReads.{BlockRead, block_of, call_of, fault_count}
 use Rattle.bt_check.specs.Check.{CheckedFile, are_twins, is_twin, twins_layer, twins_leaf, layer_before, leaves_before}
 use Rattle.bt_check.specs.CheckSteps.{HoldsLeaves, leaves_after}
-use Rattle.bt_check.specs.EntryCheck.{Answers, is_node_read, leaf_read}
+use Rattle.bt_check.specs.EntryCheck.{Answers, is_node_read, len_call_of}
 use Rattle.bt_check.specs.Finding.{KnownLayer, digests_in, is_right_block, known_layer}
 use Rattle.bt_check.specs.TreeSteps.{Kept, HasTree, LeavesKept, LetsGo, key_cmp, tree_in}
 use Rattle.bt_check.proofs.SharedTrees.{TellsLast, first_has, next_trees, trees_begun}
@@ -36,8 +37,8 @@ use Rattle.bt_parts.specs.declared.run.Met.{Met}
 use Rattle.bt_parts.specs.declared.run.Met.TheVariants.{Nothing, Absent, Longer, Unmeasured}
 use Rattle.bt_parts.specs.declared.run.Run.{Run}
 use Rattle.bt_jobs.specs.Share.{ChecksShare, IsPieceEdge, IsReadyAt, IsShareCheck, runs_text, share_reads}
-use Rattle.bt_jobs.specs.Trees.{AreRunsOf, GoByRoots, IsPartFinding, absent, unread, read, IsShareFinding, file_in_part}
-use Rattle.bt_jobs.specs.TreesSteps.{AreLengthRuns, asked, unasked, ChecksBlocks, ChecksPart, IsMeasured, KeepsOthers, KeepsParts, KnowsOwn, TellsAbsent, TellsFirst, TellsLength, TellsMissing, answers_of, missing_run, no_blocks, shared_of}
+use Rattle.bt_jobs.specs.Trees.{AreRunsOf, GoByRoots, IsPartFinding, absent, blockless, read, IsShareFinding, answers_of, file_in_part, length_calls, share_calls}
+use Rattle.bt_jobs.specs.TreesSteps.{AreLengthRuns, asked, unasked, ChecksBlocks, ChecksPart, IsMeasured, KeepsOthers, KeepsParts, KnowsOwn, TellsAbsent, TellsFirst, TellsLength, TellsMissing, missing_run, no_blocks, shared_of}
 use Rattle.bt_jobs.specs.declared.trees.FilePart.{FilePart}
 use Rattle.bt_jobs.specs.declared.trees.PartTrees.{PartTrees}
 
@@ -173,15 +174,16 @@ share_at {D} {history} {honest} {faults} {n} {known} {leaves} {tree} {grown} {fi
     holds.length_is (checks known leaves) holds edge
 
 -- a share of no block
-pub nothing_checked : (layer : ℕ) (part : FilePart) (kept : Kept) (old : Option (List ℕ)) → part.share.from ≤ part.share.to → part.share.to ≤ part.share.from
-    → ChecksBlocks layer part kept kept old old
-nothing_checked layer part kept old forward none_left before has own =
+pub nothing_checked : {D : Type 0} (history : D → History) (honest : D → Type 0) (faults : D → ℕ) (layer : ℕ) (part : FilePart) (disk : D) (kept : Kept)
+    (old : Option (List ℕ)) → part.share.from ≤ part.share.to → part.share.to ≤ part.share.from → ChecksBlocks history honest faults layer part disk kept kept old old
+nothing_checked history honest faults layer part disk kept old forward none_left before has own =
     let share = part.share in
     let file = file_in_part part in
     let same : share.from ≡ share.to = omega (arith, forward, none_left) in
     let no_blocks_left : share.to - share.from ≡ 0 = omega (arith, none_left) in (
       [],
       [],
+      disk,
       record {
         each = ap (range_with_len share.from) (sym no_blocks_left);
         own = All-nil (λ (r : Run). r.file ≡ part.number);
@@ -191,6 +193,7 @@ nothing_checked layer part kept old forward none_left before has own =
         faults = (λ t. absurd (true≢false (sym t)), λ some. absurd (omega (arith, some)));
         no_length = refl;
       },
+      has_none history honest faults disk,
       λ len. inl (none_left, refl),
       Appends-nil old,
     )
@@ -212,11 +215,10 @@ module _ (layer : ℕ) (part : FilePart) (before : List CheckedFile) (len : Opti
   abbrev file : File
   file = file_in_part part
 
-  abbrev answers : Answers
-  answers = answers_of file.length share len reads
-
   abbrev is_right : ℕ → Bool
-  is_right = is_right_block (is_node_read answers.reads file.length) (layer_before layer before file) (leaves_before layer before file)
+  is_right =
+      is_right_block (is_node_read (share_reads (block_count file.length) share.from share.to reads) file.length) (layer_before layer before file)
+      (leaves_before layer before file)
 
   abbrev IsChecked : List Run → Type 0
   IsChecked runs =
@@ -231,12 +233,10 @@ module _ (layer : ℕ) (part : FilePart) (before : List CheckedFile) (len : Opti
   }
   runs_joined _ runs (unasked no) is = record { own = is.own; chain = is.chain; told = λ is_first. absurd (no is_first) }
 
-  found_joined : (first runs : List Run) → AreLengthRuns part len first → IsChecked runs → IsShareFinding layer before file share answers (first ++ runs)
+  found_joined : (first runs : List Run) → AreLengthRuns part len first → IsChecked runs → IsShareFinding layer before file share len reads (first ++ runs)
   found_joined _ runs (asked met is_first measured) is =
       let none_left : share.from - share.from ≡ 0 = omega arith in
       record {
-        reads = reads;
-        placed = refl;
         each = is.each;
         counts = All-cons (IsCountOf is_right) (no_blocks part met) runs (ap (λ m. count_by is_right (range_with_len share.from m)) (sym none_left)) is.counts;
         longer =
@@ -252,49 +252,61 @@ module _ (layer : ℕ) (part : FilePart) (before : List CheckedFile) (len : Opti
             );
       }
   found_joined _ runs (unasked no) is = record {
-    reads = reads;
-    placed = refl;
     each = is.each;
     counts = is.counts;
     longer = (λ t. absurd (true≢false (sym t ∙ is.no_length)), λ h. absurd (no h.0));
     faults = (λ t. inr (is.faults.0 t), λ h. elim h [ inl first ↦ absurd (no first.0) | inr some ↦ is.faults.1 some ]);
   }
 
-  part_found : (kept grown : Kept) (first runs : List Run) → AreLengthRuns part len first → IsChecked runs → KeepsOthers layer before file share answers kept grown
-      → (after : List CheckedFile) × IsPartFinding layer before file share (first ++ runs) after
-      × ((other : File) → HasTree layer before other kept → HasTree layer after other grown)
-  part_found kept grown first runs asks is (inl nothing) = (
-    before,
-    unread answers nothing.0 (found_joined first runs asks is),
-    λ other had. subst (HasTree layer before other) (sym nothing.1) had,
-  )
-  part_found kept grown first runs asks is (inr keeps) = (
-    before ++ record { file = file; answers = answers } ∷ [],
-    read answers (found_joined first runs asks is),
-    keeps,
-  )
+  module _ {D : Type 0} (history : D → History) (honest : D → Type 0) (faults : D → ℕ) (disk last : D)
+      (calls : HasCalls history honest faults disk (share_calls file.length share len reads) last) where
+    part_found : (kept grown : Kept) (first runs : List Run) → AreLengthRuns part len first → IsChecked runs
+        → KeepsOthers layer before file share (answers_of file.length share len reads) kept grown
+        → (after : List CheckedFile) × IsPartFinding history honest faults layer before file share (first ++ runs) (Some disk) after
+        × ((other : File) → HasTree layer before other kept → HasTree layer after other grown)
+    part_found kept grown first runs asks is (inl nothing) = (
+      before,
+      blockless disk last len reads nothing.0 calls (found_joined first runs asks is),
+      λ other had. subst (HasTree layer before other) (sym nothing.1) had,
+    )
+    part_found kept grown first runs asks is (inr keeps) = (
+      before ++ record { file = file; answers = answers_of file.length share len reads } ∷ [],
+      read disk last len reads calls (found_joined first runs asks is),
+      keeps,
+    )
 
-pub part_checked : (layer : ℕ) (part : FilePart) (kept grown : Kept) (old mid new : Option (List ℕ)) → part.share.from ≤ block_count (file_in_part part).length
-    → TellsLength part old mid → ChecksBlocks layer part kept grown mid new → ChecksPart layer part kept grown old new
-part_checked layer part kept grown old mid new fits length_told checks before has own =
+pub part_checked : {D : Type 0} (history : D → History) (honest : D → Type 0) (faults : D → ℕ) (layer : ℕ) (part : FilePart) (disk mid : D) (kept grown : Kept)
+    (old told new : Option (List ℕ)) → part.share.from ≤ block_count (file_in_part part).length → TellsLength history honest faults part disk mid old told
+    → ChecksBlocks history honest faults layer part mid kept grown told new → ChecksPart history honest faults layer part (Some disk) kept grown old new
+part_checked history honest faults layer part disk mid kept grown old told new fits length_told checks before has own =
     let blocks = checks before has own in
     let len = length_told.0 in
     let first = length_told.1 in
     let reads = blocks.0 in
     let runs = blocks.1 in
-    let found = part_found layer part before len reads fits kept grown first runs length_told.2.0 blocks.2.0 (blocks.2.1 len) in (
+    let last = blocks.2 in
+    let calls = has_then history honest faults disk mid last (length_calls part.share len) (map (call_of (file_in_part part).length) reads) length_told.3 blocks.4 in
+    let found = part_found layer part before len reads fits history honest faults disk last calls kept grown first runs length_told.2 blocks.3 (blocks.5 len) in (
       first ++ runs,
       found.0,
-      runs_joined layer part before len reads fits first runs length_told.2.0 blocks.2.0,
+      runs_joined layer part before len reads fits first runs length_told.2 blocks.3,
       found.1,
       found.2,
       subst (Appends old new) (sym (flat_map-append run_line first runs))
-          (Appends-trans old mid new (runs_text first) (runs_text runs) length_told.2.1 blocks.2.2),
+          (Appends-trans old told new (runs_text first) (runs_text runs) length_told.4 blocks.6),
     )
 
 -- a file that is not there was told
-pub absent_checked : (layer : ℕ) (part : FilePart) (kept : Kept) (old new : Option (List ℕ)) → TellsAbsent part old new → ChecksPart layer part kept kept old new
-absent_checked layer part kept old new told before has own = (told.0, before, told.1, absent told.2.0, λ other had. had, told.2.1)
+pub absent_checked : {D : Type 0} (history : D → History) (honest : D → Type 0) (faults : D → ℕ) (layer : ℕ) (part : FilePart) (kept : Kept)
+    (old new : Option (List ℕ)) → TellsAbsent part old new → ChecksPart history honest faults layer part None kept kept old new
+absent_checked history honest faults layer part kept old new told before has own = (told.0, before, told.1, absent told.2, λ other had. had, told.3)
+
+-- whether there is a device is known
+pub part_with : {D : Type 0} (history : D → History) (honest : D → Type 0) (faults : D → ℕ) (layer : ℕ) (part : FilePart) (disk there : Option D) (kept grown : Kept)
+    (old new : Option (List ℕ)) → disk ≡ there → ChecksPart history honest faults layer part there kept grown old new
+    → ChecksPart history honest faults layer part disk kept grown old new
+part_with history honest faults layer part disk there kept grown old new same checks =
+    subst (λ o. ChecksPart history honest faults layer part o kept grown old new) (sym same) checks
 
 -- the tree of a file, of which a share begins with a piece
 pub ready_at : {n block : ℕ} {known : KnownLayer} {leaves : ℕ → Option (List ℕ)} {k : Facts} → HoldsLeaves n known leaves k → IsPieceEdge known n block
@@ -324,13 +336,15 @@ parts_begun layer layer_at files trees count empty told = record {
 }
 
 -- the layers of the files that were checked go by their lengths and roots
-roots_after : (layer : ℕ) (layer_at : ℕ → List ℕ → List ℕ) (before after : List CheckedFile) (file : File) (share : Share) (runs : List Run)
-    → IsPartFinding layer before file share runs after → file.layer ≡ layer_at file.length file.root
-    → All (λ c. c.file.layer ≡ layer_at c.file.length c.file.root) before → All (λ c. c.file.layer ≡ layer_at c.file.length c.file.root) after
-roots_after layer layer_at before _ file share runs (absent all) own by_root = by_root
-roots_after layer layer_at before _ file share runs (unread answers nothing found) own by_root = by_root
-roots_after layer layer_at before _ file share runs (read answers found) own by_root =
-    All-push (λ (c : CheckedFile). c.file.layer ≡ layer_at c.file.length c.file.root) before (record { file = file; answers = answers }) by_root own
+module _ {D : Type 0} (history : D → History) (honest : D → Type 0) (faults : D → ℕ) where
+  roots_after : (layer : ℕ) (layer_at : ℕ → List ℕ → List ℕ) (before after : List CheckedFile) (file : File) (share : Share) (runs : List Run) (disk : Option D)
+      → IsPartFinding history honest faults layer before file share runs disk after → file.layer ≡ layer_at file.length file.root
+      → All (λ c. c.file.layer ≡ layer_at c.file.length c.file.root) before → All (λ c. c.file.layer ≡ layer_at c.file.length c.file.root) after
+  roots_after layer layer_at before _ file share runs _ (absent all) own by_root = by_root
+  roots_after layer layer_at before _ file share runs _ (blockless disk last len reads nothing calls found) own by_root = by_root
+  roots_after layer layer_at before _ file share runs _ (read disk last len reads calls found) own by_root =
+      All-push (λ (c : CheckedFile). c.file.layer ≡ layer_at c.file.length c.file.root) before
+      (record { file = file; answers = answers_of file.length share len reads }) by_root own
 
 -- the first of the files that are left
 pub first_part : {layer : ℕ} {layer_at : ℕ → List ℕ → List ℕ} {before : List CheckedFile} {file : File} {rest : List File} {trees : PartTrees}
@@ -339,14 +353,16 @@ first_part {layer} {layer_at} {before} {file} {rest} {trees} keeps roots =
     (first_has keeps.kept, knows_own layer layer_at file before keeps.by_root (All-head (λ (f : File). f.layer ≡ layer_at f.length f.root) file [] roots))
 
 -- it was checked
-pub next_part : (layer : ℕ) (layer_at : ℕ → List ℕ → List ℕ) (before after : List CheckedFile) (file : File) (share : Share) (runs : List Run) (rest : List File)
-    (old mid new : PartTrees) → KeepsParts layer layer_at before (file ∷ rest) old → GoByRoots layer_at (file ∷ []) → mid.last ≡ old.last → mid.left ≡ length rest
-    → IsPartFinding layer before file share runs after
+pub next_part : {D : Type 0} (history : D → History) (honest : D → Type 0) (faults : D → ℕ) (layer : ℕ) (layer_at : ℕ → List ℕ → List ℕ)
+    (before after : List CheckedFile) (file : File) (share : Share) (runs : List Run) (disk : Option D) (rest : List File) (old mid new : PartTrees)
+    → KeepsParts layer layer_at before (file ∷ rest) old → GoByRoots layer_at (file ∷ []) → mid.last ≡ old.last → mid.left ≡ length rest
+    → IsPartFinding history honest faults layer before file share runs disk after
     → ((other : File) → HasTree layer before other old.kept → HasTree layer after other mid.kept) → LetsGo file (shared_of mid) (shared_of new)
     → KeepsParts layer layer_at after rest new
-next_part layer layer_at before after file share runs rest old mid new keeps roots last_is left_is found others goes = record {
+next_part history honest faults layer layer_at before after file share runs disk rest old mid new keeps roots last_is left_is found others goes = record {
   kept = next_trees layer before after file rest (shared_of old) (shared_of mid) (shared_of new) keeps.kept last_is left_is others goes;
-  by_root = roots_after layer layer_at before after file share runs found (All-head (λ (f : File). f.layer ≡ layer_at f.length f.root) file [] roots) keeps.by_root;
+  by_root = roots_after history honest faults layer layer_at before after file share runs disk found
+      (All-head (λ (f : File). f.layer ≡ layer_at f.length f.root) file [] roots) keeps.by_root;
 }
 
 -- ---- what is told of a length, and of no file
@@ -362,6 +378,28 @@ not_long n len few = record {
   longer = (λ t. absurd (true≢false (sym t)), λ more. absurd (omega (arith, more, few)));
   faulty = (λ t. absurd (true≢false (sym t)), λ none. absurd (none_some len (sym none)));
 }
+
+-- the length was not asked for, or it was
+module _ {D : Type 0} (history : D → History) (honest : D → Type 0) (faults : D → ℕ) (part : FilePart) where
+  pub length_unasked : (disk : D) (old : Option (List ℕ)) → part.share.is_first ≡ false → TellsLength history honest faults part disk disk old old
+  length_unasked disk old no = (
+    None,
+    [],
+    unasked (λ t. absurd (true≢false (sym t ∙ no))),
+    subst (λ calls. HasCalls history honest faults disk calls disk) (sym (ap (λ b. if b then len_call_of None ∷ [] else []) no)) (has_none history honest faults disk),
+    Appends-nil old,
+  )
+
+  pub length_asked : (disk after : D) (len : Option ℕ) (met : Met) (old new : Option (List ℕ)) → part.share.is_first ≡ true
+      → IsMeasured (file_in_part part).length len met → HasCalls history honest faults disk (len_call_of len ∷ []) after
+      → Appends old new (run_line (no_blocks part met)) → TellsLength history honest faults part disk after old new
+  length_asked disk after len met old new is_first measured calls put = (
+    len,
+    no_blocks part met ∷ [],
+    asked met is_first measured,
+    subst (λ calls. HasCalls history honest faults disk calls after) (sym (ap (λ b. if b then len_call_of len ∷ [] else []) is_first)) calls,
+    subst (Appends old new) (sym (append-nil (run_line (no_blocks part met)))) put,
+  )
 
 -- what is kept grows by nothing
 Keeps-appends : (old new : Option (List ℕ)) → Keeps old new → Appends old new []

@@ -1,39 +1,38 @@
 -- Where files lie, and how they are shared.
-use Rattle.std.proofs.Common.{◌≡◌, ℕ, zero, suc, ◌+◌, ◌-◌, ◌*◌, ◌/◌, ◌^◌, ◌<◌, ◌≤◌, ◌⊎◌, ◌==◌, Bool, true, false, true≢false, cond, List, [], ◌∷◌, ◌++◌, length, map, take, take_all, get_or, min, inl, inr, Option, None, Some, refl, sym, ap, ◌∙◌, subst, arith, if◌then◌else◌}
-use Rattle.std.specs.Prelude.{max, slice_get}
-use Rattle.std.specs.List.{All, AllZip}
+use Rattle.std.proofs.Common.{◌≡◌, ℕ, zero, suc, ◌+◌, ◌-◌, ◌*◌, ◌/◌, ◌^◌, ◌<◌, ◌≤◌, ◌⊎◌, ◌&&◌, ◌||◌, ◌==◌, Bool, true, false, true≢false, cond, List, [], ◌∷◌, ◌++◌, length, map, take, take_all, get_or, max, inl, inr, Option, None, Some, refl, sym, ap, ◌∙◌, subst, arith, if◌then◌else◌, append-nil, append_assoc}
+use Rattle.std.specs.Prelude.{nat_eq}
+use Rattle.std.specs.Cmp.Lexicographic.{pointwise}
+use Rattle.std.specs.List.{AllZip}
 use Rattle.std.specs.BTreeMap.{get, is_at}
 use Rattle.std.specs.Map.{lookup}
 use Rattle.std.specs.Int.{div_ceil}
 use Rattle.std.specs.Ordering.{is_eq}
 use Rattle.std.proofs.Math.Nat.{mul-div_cancel, mul-le-mul_right}
 use Rattle.std.proofs.lemmas.Bool.{cases_lt}
-use Rattle.std.proofs.lemmas.List.{length-map, take_more}
+use Rattle.std.proofs.lemmas.List.{get_or-map, length-map, take_more}
+use Rattle.std.proofs.lemmas.List.Folds.{list_any-append}
 use Rattle.std.proofs.lemmas.Nat.{pow_pos, pow-add}
 use Rattle.bt_tree.specs.Blocks.{block_count}
-use Rattle.bt_tree.specs.TreeShape.{height_of}
 use Rattle.bt_tree.specs.Limits.{full_block_length, max_file_length}
-use Rattle.bt_meta.specs.Files.{File, file_of}
-use Rattle.bt_meta.specs.declared.torrent.FileEntry.{FileEntry}
+use Rattle.bt_meta.specs.Files.{File}
 use Rattle.bt_sparse.proofs.Values.{none_some}
 use Rattle.bt_check.specs.Check.{are_twins}
-use Rattle.bt_check.specs.EntryCheck.{IsCheckable}
 use Rattle.bt_check.specs.Finding.{KnownLayer, digests_in, known_layer}
 use Rattle.bt_check.specs.TreeSteps.{Key, key_cmp, tree_key}
 use Rattle.bt_check.proofs.RightBlocks.{cases_bool}
 use Rattle.bt_check.proofs.SharedTrees.{key_tells}
 use Rattle.bt_parts.specs.Division.{cut_at, edge_of}
-use Rattle.bt_parts.specs.Limits.{max_total}
 use Rattle.bt_parts.specs.Unit.{unit_of}
 use Rattle.bt_parts.proofs.Cuts.{shares_whole}
 use Rattle.bt_parts.specs.declared.cut.Cut.{Cut}
 use Rattle.bt_parts.specs.declared.cut.Part.{Part}
 use Rattle.bt_parts.specs.declared.cut.Share.{Share}
-use Rattle.bt_jobs.specs.Plan.{ArePlaced, AreShares, HaveOnePlace, IsCutOf, IsShareOf}
-use Rattle.bt_jobs.specs.PlanSteps.{AreInside, IsPlaced, place_in}
+use Rattle.bt_jobs.specs.Plan.{AreShares, IsCutOf, IsShareOf, counted_behind, files_before, has_twin, place_of, total_of}
+use Rattle.bt_jobs.specs.PlanSteps.{ArePlacesOf, IsPlanOf, place_in}
 use Rattle.bt_jobs.specs.Share.{IsPieceEdge}
 use Rattle.bt_jobs.specs.declared.plan.Places.{Places}
-use Rattle.bt_jobs.proofs.PartTrees.{one_length, one_root}
+use Rattle.bt_jobs.specs.declared.plan.Plan.{Plan}
+use Rattle.bt_jobs.proofs.PartTrees.{one_length, one_root, own_twin}
 
 -- ---- lists, place by place
 
@@ -50,23 +49,187 @@ zip_weaker R Q [] (b ∷ ys) f all = absurd all
 zip_weaker R Q (a ∷ xs) [] f all = absurd all
 zip_weaker R Q (a ∷ xs) (b ∷ ys) f all = (f a b all.0, zip_weaker R Q xs ys f all.1)
 
-pub zip_at : {X Y : Type 0} (R : X → Y → Type 0) (xs : List X) (ys : List Y) (i : ℕ) (x : X) (y : Y) → AllZip R xs ys → slice_get xs i ≡ Some x
-    → slice_get ys i ≡ Some y → R x y
-zip_at R [] [] zero x y all at there = cc
-zip_at R [] [] (suc i) x y all at there = cc
-zip_at R [] (b ∷ ys) i x y all at there = absurd all
-zip_at R (a ∷ xs) [] i x y all at there = absurd all
-zip_at R (a ∷ xs) (b ∷ ys) zero x y all at there =
-    let first : a ≡ x = cc in
-    let second : b ≡ y = cc in
-    subst (λ z. R z y) first (subst (R a) second all.0)
-zip_at R (a ∷ xs) (b ∷ ys) (suc i) x y all at there = zip_at R xs ys i x y all.1 at there
+pub zip_length : {X Y : Type 0} (R : X → Y → Type 0) (xs : List X) (ys : List Y) → AllZip R xs ys → length xs ≡ length ys
+zip_length R [] [] all = refl
+zip_length R [] (b ∷ ys) all = absurd all
+zip_length R (a ∷ xs) [] all = absurd all
+zip_length R (a ∷ xs) (b ∷ ys) all = omega (arith, zip_length R xs ys all.1)
 
--- ---- one file
+-- ---- twins
 
--- it has a place
-pub place_known : (places : Places) (file : File) (place : ℕ) → AreInside places → place_in places file ≡ Some place → IsPlaced places file place places
-place_known places file place inside at = record { known = at; kept = λ other p e. e; total = inl refl; inside = inside file place at }
+or_true : (b : Bool) → (b || true) ≡ true
+or_true true = refl
+or_true false = refl
+
+or_false : (b : Bool) → (b || false) ≡ b
+or_false true = refl
+or_false false = refl
+
+-- twins are twins of the same files
+twin_same : (other file twin : File) → are_twins file twin ≡ true → are_twins other file ≡ are_twins other twin
+twin_same other file twin e =
+    ap (λ r. pointwise nat_eq other.root r && other.length == file.length) (one_root file twin e)
+    ∙ ap (λ m. pointwise nat_eq other.root twin.root && other.length == m) (one_length file twin e)
+
+twins_among : (files : List File) (file twin : File) → are_twins file twin ≡ true → has_twin files file ≡ has_twin files twin
+twins_among [] file twin e = refl
+twins_among (other ∷ files) file twin e =
+    ap (λ b. b || has_twin files file) (twin_same other file twin e) ∙ ap (λ b. are_twins other twin || b) (twins_among files file twin e)
+
+-- one file more
+twin_push : (files : List File) (x file : File) → has_twin (files ++ x ∷ []) file ≡ (has_twin files file || are_twins x file)
+twin_push files x file =
+    list_any-append (λ other. are_twins other file) files (x ∷ []) ∙ ap (λ b. has_twin files file || b) (or_false (are_twins x file))
+
+-- a file is among those that it stands between
+among : (done files : List File) (file : File) → has_twin (done ++ file ∷ files) file ≡ true
+among done files file =
+    list_any-append (λ other. are_twins other file) done (file ∷ files) ∙ ap (λ b. has_twin done file || (b || has_twin files file)) (own_twin file)
+    ∙ or_true (has_twin done file)
+
+-- ---- where a file lies
+
+-- behind those that have a twin of it nothing counts
+before_known : (files more : List File) (file : File) → has_twin files file ≡ true → files_before file (files ++ more) ≡ files_before file files
+before_known [] more file e = absurd (true≢false (sym e))
+before_known (other ∷ files) more file e = elim (cases_bool (are_twins other file)) [
+  | inl twin ↦
+      ap (λ b. if b then [] else other ∷ files_before file (files ++ more)) twin ∙ sym (ap (λ b. if b then [] else other ∷ files_before file files) twin)
+  | inr apart ↦
+      ap (λ b. if b then [] else other ∷ files_before file (files ++ more)) apart
+      ∙ ap (λ l. other ∷ l) (before_known files more file (sym (ap (λ b. b || has_twin files file) apart) ∙ e))
+      ∙ sym (ap (λ b. if b then [] else other ∷ files_before file files) apart)
+]
+
+-- the first twin comes behind them
+before_first : (files : List File) (x file : File) → has_twin files file ≡ false → are_twins x file ≡ true → files_before file (files ++ x ∷ []) ≡ files
+before_first [] x file e twin = ap (λ b. if b then [] else x ∷ []) twin
+before_first (other ∷ files) x file e twin = elim (cases_bool (are_twins other file)) [
+  | inl same ↦ absurd (true≢false (sym (ap (λ b. b || has_twin files file) same) ∙ e))
+  | inr apart ↦
+      ap (λ b. if b then [] else other ∷ files_before file (files ++ x ∷ [])) apart
+      ∙ ap (λ l. other ∷ l) (before_first files x file (sym (ap (λ b. b || has_twin files file) apart) ∙ e) twin)
+]
+
+counted_split : (before xs ys : List File) → counted_behind before (xs ++ ys) ≡ counted_behind before xs + counted_behind (before ++ xs) ys
+counted_split before [] ys =
+    let same : counted_behind (before ++ []) ys ≡ counted_behind before ys = ap (λ l. counted_behind l ys) (append-nil before) in
+    omega (arith, same)
+counted_split before (x ∷ xs) ys =
+    let rest = counted_split (before ++ x ∷ []) xs ys in
+    let same : counted_behind ((before ++ x ∷ []) ++ xs) ys ≡ counted_behind (before ++ x ∷ xs) ys = ap (λ l. counted_behind l ys) (append_assoc before (x ∷ []) xs) in
+    omega (arith, rest, same)
+
+-- what one file adds to the total
+added : List File → File → ℕ
+added files x = if has_twin files x then 0 else max 1 x.length
+
+total_push : (files : List File) (x : File) → total_of (files ++ x ∷ []) ≡ total_of files + added files x
+unfolding added
+total_push files x =
+    let split = counted_split [] files (x ∷ []) in
+    omega (arith, split)
+
+added_none : (files : List File) (x : File) → has_twin files x ≡ true → added files x ≡ 0
+unfolding added
+added_none files x e = ap (λ b. if b then 0 else max 1 x.length) e
+
+added_all : (files : List File) (x : File) → has_twin files x ≡ false → added files x ≡ max 1 x.length
+unfolding added
+added_all files x e = ap (λ b. if b then 0 else max 1 x.length) e
+
+added_few : (files : List File) (x : File) → added files x ≤ max 1 x.length
+added_few files x = elim (cases_bool (has_twin files x)) [
+  | inl yes ↦ omega (arith, added_none files x yes)
+  | inr no ↦ omega (arith, added_all files x no)
+]
+
+-- a file lies inside
+twin_inside : (before files : List File) (file : File) → has_twin before file ≡ false → has_twin files file ≡ true
+    → counted_behind before (files_before file files) + max 1 file.length ≤ counted_behind before files
+unfolding added
+twin_inside before [] file none some = absurd (true≢false (sym some))
+twin_inside before (other ∷ files) file none some = elim (cases_bool (are_twins other file)) [
+  | inl twin ↦
+      let here : files_before file (other ∷ files) ≡ [] = ap (λ b. if b then [] else other ∷ files_before file files) twin in
+      let at : counted_behind before (files_before file (other ∷ files)) ≡ 0 = ap (counted_behind before) here in
+      let first : added before other ≡ max 1 other.length = added_all before other (twins_among before other file twin ∙ none) in
+      let long : other.length ≡ file.length = one_length other file twin in
+      omega (arith, at, first, long)
+  | inr apart ↦
+      let here : files_before file (other ∷ files) ≡ other ∷ files_before file files =
+      ap (λ b. if b then [] else other ∷ files_before file files) apart in
+      let at : counted_behind before (files_before file (other ∷ files)) ≡ added before other + counted_behind (before ++ other ∷ []) (files_before file files) =
+      ap (counted_behind before) here in
+      let deeper = twin_inside (before ++ other ∷ []) files file (twin_push before other file ∙ ap (λ b. b || are_twins other file) none ∙ apart)
+      (sym (ap (λ b. b || has_twin files file) apart) ∙ some) in
+      omega (arith, at, deeper)
+]
+
+-- ---- the places of some files
+
+-- where a file lies, if one of some files has its root and length
+abbrev told_place : List File → File → Option ℕ
+told_place files file = if has_twin files file then Some (place_of files file) else None
+
+told_yes : (files : List File) (file : File) → has_twin files file ≡ true → told_place files file ≡ Some (place_of files file)
+told_yes files file e = ap (λ b. if b then Some (place_of files file) else None) e
+
+told_no : (files : List File) (file : File) → has_twin files file ≡ false → told_place files file ≡ None
+told_no files file e = ap (λ b. if b then Some (place_of files file) else None) e
+
+-- one file more leaves the places of others
+told_same : (files : List File) (x other : File) → (are_twins x other ≡ true → has_twin files other ≡ true)
+    → told_place files other ≡ told_place (files ++ x ∷ []) other
+told_same files x other known = elim (cases_bool (has_twin files other)) [
+  | inl yes ↦
+      told_yes files other yes ∙ ap (λ m. Some m) (sym (ap total_of (before_known files (x ∷ []) other yes)))
+      ∙ sym (told_yes (files ++ x ∷ []) other (twin_push files x other ∙ ap (λ b. b || are_twins x other) yes))
+  | inr no ↦
+      let apart : are_twins x other ≡ false = elim (cases_bool (are_twins x other)) [
+        | inl twin ↦ absurd (true≢false (sym (known twin) ∙ no))
+        | inr e ↦ e
+      ] in
+      told_no files other no ∙ sym (told_no (files ++ x ∷ []) other (twin_push files x other ∙ ap (λ b. b || are_twins x other) no ∙ apart))
+]
+
+some_is : {x y : ℕ} → Some x ≡ Some y → x ≡ y
+some_is e = cc
+
+-- a place is told of files that have a twin, and of no others
+known_twin : (files : List File) (places : Places) (file : File) (place : ℕ) → ArePlacesOf files places → place_in places file ≡ Some place
+    → has_twin files file ≡ true
+known_twin files places file place are at = elim (cases_bool (has_twin files file)) [
+  | inl yes ↦ yes
+  | inr no ↦ absurd (none_some place (sym (are.known file ∙ told_no files file no) ∙ at))
+]
+
+known_place : (files : List File) (places : Places) (file : File) (place : ℕ) → ArePlacesOf files places → place_in places file ≡ Some place
+    → place ≡ place_of files file
+known_place files places file place are at =
+    some_is (sym at ∙ are.known file ∙ told_yes files file (known_twin files places file place are at))
+
+unknown_twin : (files : List File) (places : Places) (file : File) → ArePlacesOf files places → place_in places file ≡ None → has_twin files file ≡ false
+unknown_twin files places file are at = elim (cases_bool (has_twin files file)) [
+  | inl yes ↦ absurd (none_some (place_of files file) (sym at ∙ are.known file ∙ told_yes files file yes))
+  | inr no ↦ no
+]
+
+places_begun : (places : Places) → places.known.entries ≡ [] → places.total ≡ 0 → ArePlacesOf [] places
+places_begun places empty none = record {
+  known = λ file. ap (λ (es : List (Key × ℕ)). lookup (is_at (key_cmp (tree_key file))) es) empty;
+  total = none;
+}
+
+-- a file has a place
+pub place_known : (places : Places) (file : File) (place : ℕ) → place_in places file ≡ Some place
+    → (files : List File) → ArePlacesOf files places → ArePlacesOf (files ++ file ∷ []) places
+place_known places file place at files are =
+    let yes : has_twin files file ≡ true = known_twin files places file place are at in
+    record {
+      known = λ other. are.known other ∙ told_same files file other (λ twin. sym (twins_among files file other twin) ∙ yes);
+      total = omega (arith, are.total, total_push files file, added_none files file yes);
+    }
 
 -- it is given one
 module _ (old new : Places) (file : File) (key : Key) (same : key ≡ tree_key file) (none : get key_cmp old.known key ≡ None)
@@ -77,95 +240,86 @@ module _ (old new : Places) (file : File) (key : Key) (same : key ≡ tree_key f
       update (tree_key other)
       ∙ ap (λ t. cond t (Some old.total) (place_in old other)) (ap (λ k. is_eq (key_cmp k (tree_key other))) same ∙ key_tells file other ∙ e)
 
-  twin_unknown : (other : File) → are_twins file other ≡ true → place_in old other ≡ None
-  twin_unknown other e =
-      ap (λ r. get key_cmp old.known (r, other.length)) (sym (one_root file other e)) ∙ ap (λ m. get key_cmp old.known (file.root, m)) (sym (one_length file other e))
-      ∙ ap (get key_cmp old.known) (sym same) ∙ none
+  pub place_here : place_in new file ≡ Some old.total
+  place_here = at file true (own_twin file)
 
-  pub place_made : are_twins file file ≡ true → IsPlaced old file old.total new
-  place_made own = record {
-    known = at file true own;
-    kept = λ other p e. elim (cases_bool (are_twins file other)) [
-      | inl twin ↦ absurd (none_some p (sym (twin_unknown other twin) ∙ e))
-      | inr apart ↦ at other false apart ∙ e
-    ];
-    total = inr grows;
-    inside = omega (arith, grows);
-  }
-
-  pub inside_made : AreInside old → AreInside new
-  inside_made inside other p e = elim (cases_bool (are_twins file other)) [
-    | inl twin ↦
-        let here : old.total ≡ p = some_is (sym (at other true twin) ∙ e) in
-        let long = one_length file other twin in
-        omega (arith, here, long, grows)
-    | inr apart ↦ omega (arith, inside other p (sym (at other false apart) ∙ e), grows)
-  ]
-    where
-      some_is : {x y : ℕ} → Some x ≡ Some y → x ≡ y
-      some_is e = cc
+  pub place_made : (files : List File) → ArePlacesOf files old → ArePlacesOf (files ++ file ∷ []) new
+  place_made files are =
+      let no : has_twin files file ≡ false = unknown_twin files old file are (ap (get key_cmp old.known) (sym same) ∙ none) in
+      record {
+        known = λ other. elim (cases_bool (are_twins file other)) [
+          | inl twin ↦
+              let unknown : has_twin files other ≡ false = sym (twins_among files file other twin) ∙ no in
+              let known : has_twin (files ++ file ∷ []) other ≡ true =
+              twin_push files file other ∙ ap (λ b. has_twin files other || b) twin ∙ or_true (has_twin files other) in
+              at other true twin ∙ ap (λ m. Some m) (are.total ∙ sym (ap total_of (before_first files file other unknown twin)))
+              ∙ sym (told_yes (files ++ file ∷ []) other known)
+          | inr apart ↦ at other false apart ∙ are.known other ∙ told_same files file other (λ twin. absurd (true≢false (sym twin ∙ apart)))
+        ];
+        total = omega (arith, grows, are.total, total_push files file, added_all files file no);
+      }
 
 -- ---- all files
 
+-- a file that has a place is cut so
+abbrev IsPlacedCut : ℕ → Places → File → Cut → Type 0
+IsPlacedCut layer places file cut =
+    (cut.blocks ≡ block_count file.length) × (cut.unit ≡ unit_of layer file) × (place_in places file ≡ Some cut.place)
+
 -- The first files were given places.
 pub record IsPlacing (layer i : ℕ) (files : List File) (places : Places) (cuts : List Cut) : Type 0 where
-  pub each : AllZip (λ file cut. (cut.blocks ≡ block_count file.length) × (cut.unit ≡ unit_of layer file) × (place_in places file ≡ Some cut.place))
-      (take i files) cuts
-  pub inside : AreInside places
+  pub each : AllZip (IsPlacedCut layer places) (take i files) cuts
+  pub are : ArePlacesOf (take i files) places
   pub few : places.total ≤ i * max_file_length
 
 -- one file more
 pub placing_more : (layer i : ℕ) (files : List File) (old new : Places) (cuts : List Cut) (file : File) (cut : Cut) → IsPlacing layer i files old cuts
-    → take (i + 1) files ≡ take i files ++ file ∷ [] → file.length ≤ max_file_length → IsPlaced old file cut.place new → AreInside new
+    → take (i + 1) files ≡ take i files ++ file ∷ [] → file.length ≤ max_file_length → place_in new file ≡ Some cut.place
+    → ((done : List File) → ArePlacesOf done old → ArePlacesOf (done ++ file ∷ []) new)
     → cut.blocks ≡ block_count file.length → cut.unit ≡ unit_of layer file → IsPlacing layer (i + 1) files new (cuts ++ cut ∷ [])
-placing_more layer i files old new cuts file cut so_far here short is inside blocks unit =
-    let R : File → Cut → Type 0 = λ f c. (c.blocks ≡ block_count f.length) × (c.unit ≡ unit_of layer f) × (place_in new f ≡ Some c.place) in
+placing_more layer i files old new cuts file cut so_far here short at placed blocks unit =
+    let done : List File = take i files in
+    let made : ArePlacesOf (done ++ file ∷ []) new = placed done so_far.are in
+    let kept : (f : File) (p : ℕ) → place_in old f ≡ Some p → place_in new f ≡ Some p = λ f p told.
+    made.known f ∙ sym (told_same done file f (λ _. known_twin done old f p so_far.are told)) ∙ sym (so_far.are.known f) ∙ told in
     record {
-      each = subst (λ l. AllZip R l (cuts ++ cut ∷ [])) (sym here) (zip_push R (take i files) cuts file cut
-          (zip_weaker (λ f c. (c.blocks ≡ block_count f.length) × (c.unit ≡ unit_of layer f) × (place_in old f ≡ Some c.place)) R (take i files) cuts
-          (λ f c told. (told.0, told.1, is.kept f c.place told.2)) so_far.each)
-          (blocks, unit, is.known));
-      inside = inside;
-      few = elim is.total [ inl same ↦ omega (arith, same, so_far.few) | inr grows ↦ omega (arith, grows, short, so_far.few) ];
+      each = subst (λ l. AllZip (IsPlacedCut layer new) l (cuts ++ cut ∷ [])) (sym here) (zip_push (IsPlacedCut layer new) done cuts file cut
+          (zip_weaker (IsPlacedCut layer old) (IsPlacedCut layer new) done cuts (λ f c told. (told.0, told.1, kept f c.place told.2)) so_far.each)
+          (blocks, unit, at));
+      are = subst (λ l. ArePlacesOf l new) (sym here) made;
+      few = omega (arith, made.total, total_push done file, added_few done file, so_far.are.total, so_far.few, short);
     }
 
 pub placing_begun : (layer : ℕ) (files : List File) (places : Places) (cuts : List Cut) → places.known.entries ≡ [] → places.total ≡ 0 → cuts ≡ []
     → IsPlacing layer 0 files places cuts
 placing_begun layer files places cuts empty none begun = record {
-  each = subst (AllZip (λ file cut. (cut.blocks ≡ block_count file.length) × (cut.unit ≡ unit_of layer file) × (place_in places file ≡ Some cut.place)) [])
-      (sym begun) tt;
-  inside = λ file place e. absurd (none_some place (sym (ap (λ (es : List (Key × ℕ)). lookup (is_at (key_cmp (tree_key file))) es) empty) ∙ e));
+  each = subst (AllZip (IsPlacedCut layer places) []) (sym begun) tt;
+  are = places_begun places empty none;
   few = omega (arith, none);
 }
 
 -- what was taken of a list that is mapped
-pub taken_more : {X Y : Type 0} (f : X → Y) (xs : List X) (i : ℕ) (d : X) → i < length xs → take (i + 1) (map f xs) ≡ take i (map f xs) ++ f (get_or xs i d) ∷ []
-taken_more f [] i d lt = absurd (omega (arith, lt))
-taken_more f (x ∷ xs) zero d lt = refl
-taken_more f (x ∷ xs) (suc i) d lt = ap (λ l. f x ∷ l) (taken_more f xs i d (omega (arith, lt)))
+pub taken_more : {X Y : Type 0} (f : X → Y) (xs : List X) (i : ℕ) (x : X) → i < length xs → x ≡ get_or xs i x
+    → take (i + 1) (map f xs) ≡ take i (map f xs) ++ f x ∷ []
+taken_more f xs i x lt is =
+    take_more (map f xs) i (f x) (omega (arith, lt, length-map xs f))
+    ∙ ap (λ y. take i (map f xs) ++ y ∷ []) (get_or-map f xs i x (f x) lt ∙ ap f (sym is))
 
 pub taken_all : {X Y : Type 0} (f : X → Y) (xs : List X) (i : ℕ) → length xs ≤ i → take i (map f xs) ≡ map f xs
 taken_all f xs i le = take_all i (map f xs) (omega (arith, le, length-map xs f))
 
-pub all_placed : (layer n : ℕ) (files : List File) (places : Places) (cuts : List Cut) → IsPlacing layer n files places cuts → take n files ≡ files
-    → n ≤ 2 ^ 16 → ArePlaced layer places.total files cuts
-all_placed layer n files places cuts p whole few =
-    let R : File → Cut → Type 0 = λ f c. (c.blocks ≡ block_count f.length) × (c.unit ≡ unit_of layer f) × (place_in places f ≡ Some c.place) in
-    let all : AllZip R files cuts = subst (λ l. AllZip R l cuts) whole p.each in
+-- the files of a plan
+pub all_placed : (layer n : ℕ) (files : List File) (places : Places) (cuts : List Cut) (plan : Plan) → IsPlacing layer n files places cuts
+    → take n files ≡ files → n ≤ 2 ^ 16 → plan.total ≡ places.total → plan.cuts.items ≡ cuts → IsPlanOf layer files plan
+all_placed layer n files places cuts plan p whole few total_is cuts_are =
+    let are : ArePlacesOf files places = subst (λ l. ArePlacesOf l places) whole p.are in
+    let all : AllZip (IsPlacedCut layer places) files cuts = subst (λ l. AllZip (IsPlacedCut layer places) l cuts) whole p.each in
     record {
-      each = zip_weaker R (IsCutOf layer places.total) files cuts
-          (λ f c told. record { blocks = told.0; unit = told.1; inside = p.inside f c.place told.2 }) all;
-      twins = λ i j file other cut next at there cut_is next_is root long.
-          let first = (zip_at R files cuts i file cut all at cut_is).2 in
-          let second = (zip_at R files cuts j other next all there next_is).2 in
-          let same : place_in places file ≡ place_in places other =
-          ap (λ r. get key_cmp places.known (r, file.length)) root ∙ ap (λ m. get key_cmp places.known (other.root, m)) long in
-          some_is (sym first ∙ same ∙ second);
-      few = omega (arith, p.few, few);
+      total = total_is ∙ are.total;
+      cuts = subst (AllZip (IsCutOf layer files) files) (sym cuts_are) (zip_weaker (IsPlacedCut layer places) (IsCutOf layer files) files cuts
+          (λ f c told. record { place = known_place files places f c.place are told.2; blocks = told.0; unit = told.1 }) all);
+      few = omega (arith, total_is, p.few, few);
     }
-  where
-    some_is : {x y : ℕ} → Some x ≡ Some y → x ≡ y
-    some_is e = cc
 
 -- one share more
 pub shared_more : (total : ℕ) (part : Part) (cuts : List Cut) (i : ℕ) (d : Cut) (shares : List Share) (share : Share) → i < length cuts
@@ -175,14 +329,36 @@ shared_more total part cuts i d shares share lt all is =
     subst (λ l. AllZip (IsShareOf total part) l (shares ++ share ∷ [])) (sym (take_more cuts i d lt))
     (zip_push (IsShareOf total part) (take i cuts) shares (get_or cuts i d) share all is)
 
--- a cut that is placed lies inside
-pub cut_inside : (layer total : ℕ) (files : List File) (cuts : List Cut) (i : ℕ) (d : Cut) → AllZip (IsCutOf layer total) files cuts → i < length cuts
-    → (get_or cuts i d).place < total
-cut_inside layer total [] [] i d all lt = absurd (omega (arith, lt))
-cut_inside layer total [] (cut ∷ cuts) i d all lt = absurd all
-cut_inside layer total (file ∷ files) [] i d all lt = absurd all
-cut_inside layer total (file ∷ files) (cut ∷ cuts) zero d all lt = omega (arith, all.0.inside)
-cut_inside layer total (file ∷ files) (cut ∷ cuts) (suc i) d all lt = cut_inside layer total files cuts i d all.1 (omega (arith, lt))
+-- a file that is cut lies inside
+pub record IsInsideCut (layer : ℕ) (files : List File) (file : File) (cut : Cut) : Type 0 where
+  pub is : IsCutOf layer files file cut
+  pub inside : cut.place + max 1 file.length ≤ total_of files
+
+cuts_inside : (layer : ℕ) (all done files : List File) (cuts : List Cut) → all ≡ done ++ files → AllZip (IsCutOf layer all) files cuts
+    → AllZip (IsInsideCut layer all) files cuts
+cuts_inside layer all done [] [] same are = tt
+cuts_inside layer all done [] (cut ∷ cuts) same are = absurd are
+cuts_inside layer all done (file ∷ files) [] same are = absurd are
+cuts_inside layer all done (file ∷ files) (cut ∷ cuts) same are =
+    let yes : has_twin all file ≡ true = ap (λ l. has_twin l file) same ∙ among done files file in (
+      record { is = are.0; inside = omega (arith, are.0.place, twin_inside [] all file refl yes) },
+      cuts_inside layer all (done ++ file ∷ []) files cuts (same ∙ sym (append_assoc done (file ∷ []) files)) are.1,
+    )
+
+pub all_inside : (layer : ℕ) (files : List File) (cuts : List Cut) → AllZip (IsCutOf layer files) files cuts → AllZip (IsInsideCut layer files) files cuts
+all_inside layer files cuts are = cuts_inside layer files [] files cuts refl are
+
+cut_begins : (layer : ℕ) (all files : List File) (cuts : List Cut) (i : ℕ) (d : Cut) → AllZip (IsInsideCut layer all) files cuts → i < length cuts
+    → (get_or cuts i d).place < total_of all
+cut_begins layer all [] [] i d are lt = absurd (omega (arith, lt))
+cut_begins layer all [] (cut ∷ cuts) i d are lt = absurd are
+cut_begins layer all (file ∷ files) [] i d are lt = absurd are
+cut_begins layer all (file ∷ files) (cut ∷ cuts) zero d are lt = omega (arith, are.0.inside)
+cut_begins layer all (file ∷ files) (cut ∷ cuts) (suc i) d are lt = cut_begins layer all files cuts i d are.1 (omega (arith, lt))
+
+pub cut_inside : (layer : ℕ) (files : List File) (cuts : List Cut) (i : ℕ) (d : Cut) → AllZip (IsCutOf layer files) files cuts → i < length cuts
+    → (get_or cuts i d).place < total_of files
+cut_inside layer files cuts i d are lt = cut_begins layer files files cuts i d (all_inside layer files cuts are) lt
 
 -- ---- what a share is
 
@@ -192,7 +368,7 @@ zero_is l = sym (ap (λ m. m * 2 ^ l) (mul-div_cancel 0 (pow_pos l)))
 multiple : (m l x : ℕ) → x ≡ m * 2 ^ l → x ≡ x / 2 ^ l * 2 ^ l
 multiple m l x e = e ∙ ap (λ q. q * 2 ^ l) (sym (ap (λ y. y / 2 ^ l) e ∙ mul-div_cancel m (pow_pos l)))
 
-module _ (layer total : ℕ) (file : File) (cut : Cut) (is : IsCutOf layer total file cut) (edge : ℕ) where
+module _ (layer : ℕ) (files : List File) (file : File) (cut : Cut) (is : IsCutOf layer files file cut) (edge : ℕ) where
   cut_is_few : cut_at cut edge ≤ block_count file.length
   cut_is_few = omega (arith, is.blocks)
 
@@ -255,32 +431,31 @@ pub record IsReadyShare (layer : ℕ) (file : File) (share : Share) : Type 0 whe
 last_begins : (n : ℕ) → (block_count n - 1) * full_block_length < max 1 n
 last_begins n = omega arith
 
-one_ready : (layer total : ℕ) (part : Part) (file : File) (cut : Cut) (share : Share) → IsCutOf layer total file cut → IsShareOf total part cut share
-    → IsReadyShare layer file share
-one_ready layer total part file cut share is of = record {
-  forward = omega (
-    arith,
-    of.from,
-    of.to,
-    (shares_whole cut total part.count (omega (arith, part.inside)) (omega (arith, is.inside, is.blocks, last_begins file.length))).forward part.index,
-  );
-  inside = omega (arith, of.to, cut_is_few layer total file cut is (edge_of total part.count (part.index + 1)));
-  edge = subst (IsPieceEdge (known_layer layer file) file.length) (sym of.from) (cut_edge layer total file cut is (edge_of total part.count part.index));
-}
+one_ready : (layer : ℕ) (files : List File) (part : Part) (file : File) (cut : Cut) (share : Share) → IsInsideCut layer files file cut
+    → IsShareOf (total_of files) part cut share → IsReadyShare layer file share
+one_ready layer files part file cut share inside of =
+    let total : ℕ = total_of files in
+    let last : cut.place + (cut.blocks - 1) * full_block_length < total = omega (arith, inside.inside, inside.is.blocks, last_begins file.length) in
+    record {
+      forward = omega (arith, of.from, of.to, (shares_whole cut total part.count (omega (arith, part.inside)) last).forward part.index);
+      inside = omega (arith, of.to, cut_is_few layer files file cut inside.is (edge_of total part.count (part.index + 1)));
+      edge = subst (IsPieceEdge (known_layer layer file) file.length) (sym of.from)
+          (cut_edge layer files file cut inside.is (edge_of total part.count part.index));
+    }
 
 -- the shares of a part of files that are placed
 module _ (layer : ℕ) (part : Part) where
-  shares_ready : (total : ℕ) (files : List File) (cuts : List Cut) (shares : List Share) → AllZip (IsCutOf layer total) files cuts
-      → AllZip (IsShareOf total part) cuts shares → AllZip (IsReadyShare layer) files shares
-  shares_ready total [] [] [] placed each = tt
-  shares_ready total [] [] (share ∷ shares) placed each = absurd each
-  shares_ready total [] (cut ∷ cuts) shares placed each = absurd placed
-  shares_ready total (file ∷ files) [] shares placed each = absurd placed
-  shares_ready total (file ∷ files) (cut ∷ cuts) [] placed each = absurd each
-  shares_ready total (file ∷ files) (cut ∷ cuts) (share ∷ shares) placed each = (
-    one_ready layer total part file cut share placed.0 each.0,
-    shares_ready total files cuts shares placed.1 each.1,
+  shares_ready : (all files : List File) (cuts : List Cut) (shares : List Share) → AllZip (IsInsideCut layer all) files cuts
+      → AllZip (IsShareOf (total_of all) part) cuts shares → AllZip (IsReadyShare layer) files shares
+  shares_ready all [] [] [] placed each = tt
+  shares_ready all [] [] (share ∷ shares) placed each = absurd each
+  shares_ready all [] (cut ∷ cuts) shares placed each = absurd placed
+  shares_ready all (file ∷ files) [] shares placed each = absurd placed
+  shares_ready all (file ∷ files) (cut ∷ cuts) [] placed each = absurd each
+  shares_ready all (file ∷ files) (cut ∷ cuts) (share ∷ shares) placed each = (
+    one_ready layer all part file cut share placed.0 each.0,
+    shares_ready all files cuts shares placed.1 each.1,
   )
 
   pub are_ready : (files : List File) (shares : List Share) → AreShares layer part files shares → AllZip (IsReadyShare layer) files shares
-  are_ready files shares are = shares_ready are.total files are.cuts shares are.placed.each are.each
+  are_ready files shares are = shares_ready files files are.cuts shares (all_inside layer files are.cuts are.are_cut) are.each

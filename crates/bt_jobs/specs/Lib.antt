@@ -4,6 +4,8 @@ pub mod Trees
 pub mod Part
 pub mod Told
 pub mod Report
+pub mod Children
 -- what private steps cite
 pub mod PlanSteps
+pub mod PartSteps
 pub mod TreesSteps

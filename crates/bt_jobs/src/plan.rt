@@ -1,13 +1,12 @@
 //! What a part has of each file of a torrent.
-ghost use Rattle.std.specs.Prelude.{◌≡◌, ◌+◌, ◌<◌, ◌≤◌, ◌^◌, map, length, max, IfOk};
+ghost use Rattle.std.specs.Prelude.{◌≡◌, ◌+◌, ◌<◌, ◌≤◌, ◌^◌, ◌++◌, [], ◌∷◌, List, Some, map, length, max, IfOk, OnOk};
 ghost use Rattle.std.specs.List.{All};
-ghost use Rattle.bt_tree.specs.Limits.{max_file_length};
 ghost use Rattle.bt_meta.specs.Limits.{max_file_count};
-ghost use Rattle.bt_meta.specs.Files.{file_of};
+ghost use Rattle.bt_meta.specs.Files.{File, file_of};
 ghost use Rattle.bt_check.specs.EntryCheck.{IsCheckable};
 ghost use Rattle.bt_check.specs.TreeSteps.{tree_key};
-ghost use Rattle.bt_jobs.specs.Plan.{AreShares, ArePlaced};
-ghost use Rattle.bt_jobs.specs.PlanSteps.{AreInside, IsPlaced};
+ghost use Rattle.bt_jobs.specs.Plan.{AreShares};
+ghost use Rattle.bt_jobs.specs.PlanSteps.{ArePlacesOf, IsPlanOf, place_in};
 
 use bt_check::PieceSize;
 use bt_meta::FileEntry;
@@ -48,8 +47,7 @@ impl Plan {
     fn new(alloc: Global, files: &[FileEntry], size: PieceSize) -> Result<Plan, AllocError>
         requires few { length files.now ≤ max_file_count }
         requires checkable { All (IsCheckable size.layer) (map file_of files.now) }
-        ensures { IfOk result
-            (λ plan. ArePlaced size.layer plan.total (map file_of files.now) plan.cuts.items) }
+        ensures { IfOk result (IsPlanOf size.layer (map file_of files.now)) }
     {
         let mut places = Places {
             known: BTreeMap::new(alloc),
@@ -81,10 +79,10 @@ struct Places {
 impl Places {
     /// Where a file lies: behind all others, if none of them has its root and length.
     fn place_of(&mut self, file: &FileEntry) -> Result<u64, AllocError>
-        requires inside { AreInside self.old }
-        requires fits { self.old.total + max 1 file.now.length < 2 ^ 64 }
-        ensures placed { IfOk result (λ place. IsPlaced self.old (file_of file.now) place self.new) }
-        ensures inside { IfOk result (λ _. AreInside self.new) }
+        requires { self.old.total + max 1 file.now.length < 2 ^ 64 }
+        ensures known { IfOk result (λ place. place_in self.new (file_of file.now) ≡ Some place) }
+        ensures placed { OnOk result ((files : List File) → ArePlacesOf files self.old
+            → ArePlacesOf (files ++ file_of file.now ∷ []) self.new) }
     {
         if let Some(place) = self.known.get(&key_of(file)) {
             return Ok(*place);

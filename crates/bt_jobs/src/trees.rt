@@ -1,11 +1,12 @@
 //! Hash trees that files of one root and length share in a part.
-ghost use Rattle.std.specs.Prelude.{◌≡◌, ◌⊎◌, ◌≤◌, ◌↔◌, [], ℕ, List, Option, Some, map, IfOk, IfErr, IsTrue, OnOk};
+ghost use Rattle.std.specs.Prelude.{◌≡◌, ◌⊎◌, ◌≤◌, ◌↔◌, [], ◌∷◌, ℕ, List, Option, Some, map, IfOk, IfErr, IsTrue, OnOk};
 ghost use Rattle.std.specs.Io.KnownBytes.{Appends};
 ghost use Rattle.bt_tree.specs.Blocks.{IsFileLength, block_count};
+ghost use Rattle.bt_disk.specs.Calls.{HasCalls};
 ghost use Rattle.bt_meta.specs.Files.{file_of};
 ghost use Rattle.bt_check.specs.Check.{CheckedFile};
 ghost use Rattle.bt_check.specs.CheckSteps.{HoldsLeaves};
-ghost use Rattle.bt_check.specs.EntryCheck.{IsCheckable};
+ghost use Rattle.bt_check.specs.EntryCheck.{IsCheckable, len_call_of};
 ghost use Rattle.bt_check.specs.Fault.{device, out_of_memory};
 ghost use Rattle.bt_check.specs.Finding.{known_layer, no_leaves};
 ghost use Rattle.bt_check.specs.TreeSteps.{HasTree, TakesTree, LeavesKept, LetsGo, IsLast};
@@ -80,8 +81,8 @@ impl PartTrees {
     ) -> Result<(), Fault>
         requires ready { IsReadyPart size.layer opened.part }
         requires trees { IsNextPart size.layer opened.part self.old }
-        ensures told { OnOk result (ChecksNext size.layer opened.entry.part self.old self.new
-            (W.contents writer.old) (W.contents writer.new)) }
+        ensures told { OnOk result (ChecksNext D.history D.honest D.faults size.layer opened.entry
+            self.old self.new (W.contents writer.old) (W.contents writer.new)) }
         ensures fault { IfErr result (λ fault. (fault ≡ device) ⊎ (fault ≡ out_of_memory)) }
     {
         let PartFile { part, disk } = opened;
@@ -124,8 +125,8 @@ fn check_file<D: Disk + Drop, W: Write>(
     requires ready { IsReadyPart size.layer part }
     requires tree { (before : List CheckedFile) × HasTree size.layer before (file_in_part part) kept.old
         × KnowsOwn size.layer before (file_in_part part) }
-    ensures told { OnOk result (ChecksPart size.layer part.entry kept.old kept.new
-        (W.contents writer.old) (W.contents writer.new)) }
+    ensures told { OnOk result (ChecksPart D.history D.honest D.faults size.layer part.entry disk
+        kept.old kept.new (W.contents writer.old) (W.contents writer.new)) }
     ensures fault { IfErr result (λ fault. (fault ≡ device) ⊎ (fault ≡ out_of_memory)) }
 {
     match disk {
@@ -146,8 +147,8 @@ fn check_present<D: Disk + Drop, W: Write>(
     requires ready { IsReadyPart size.layer part }
     requires tree { (before : List CheckedFile) × HasTree size.layer before (file_in_part part) kept.old
         × KnowsOwn size.layer before (file_in_part part) }
-    ensures told { OnOk result (ChecksPart size.layer part.entry kept.old kept.new
-        (W.contents writer.old) (W.contents writer.new)) }
+    ensures told { OnOk result (ChecksPart D.history D.honest D.faults size.layer part.entry (Some disk)
+        kept.old kept.new (W.contents writer.old) (W.contents writer.new)) }
     ensures fault { IfErr result (λ fault. (fault ≡ device) ⊎ (fault ≡ out_of_memory)) }
 {
     let mut disk = disk;
@@ -162,13 +163,15 @@ fn tell_length<D: Disk, W: Write>(
     disk: &mut D,
     writer: &mut W,
 ) -> Result<(), Fault>
-    ensures told { OnOk result (TellsLength part.entry (W.contents writer.old) (W.contents writer.new)) }
+    ensures told { OnOk result (TellsLength D.history D.honest D.faults part.entry disk.old disk.new
+        (W.contents writer.old) (W.contents writer.new)) }
     ensures fault { IfErr result (λ fault. (fault ≡ device) ⊎ (fault ≡ out_of_memory)) }
 {
     if !part.share.is_first {
         return Ok(());
     }
-    let met = measured(disk, part.file.length);
+    let length = length_of(disk);
+    let met = measured(length, part.file.length);
     tell_none(alloc, part, met, writer)
 }
 
@@ -184,8 +187,8 @@ fn check_blocks<D: Disk + Drop, W: Write>(
     requires ready { IsReadyPart size.layer part }
     requires tree { (before : List CheckedFile) × HasTree size.layer before (file_in_part part) kept.old
         × KnowsOwn size.layer before (file_in_part part) }
-    ensures told { OnOk result (ChecksBlocks size.layer part.entry kept.old kept.new
-        (W.contents writer.old) (W.contents writer.new)) }
+    ensures told { OnOk result (ChecksBlocks D.history D.honest D.faults size.layer part.entry disk
+        kept.old kept.new (W.contents writer.old) (W.contents writer.new)) }
     ensures fault { IfErr result (λ fault. (fault ≡ device) ⊎ (fault ≡ out_of_memory)) }
 {
     match Geometry::new(part.file.length) {
@@ -209,8 +212,8 @@ fn check_known<D: Disk + Drop, W: Write>(
     requires lawful { IsFileLength geometry }
     requires tree { (before : List CheckedFile) × HasTree size.layer before (file_in_part part) kept.old
         × KnowsOwn size.layer before (file_in_part part) }
-    ensures told { OnOk result (ChecksBlocks size.layer part.entry kept.old kept.new
-        (W.contents writer.old) (W.contents writer.new)) }
+    ensures told { OnOk result (ChecksBlocks D.history D.honest D.faults size.layer part.entry disk
+        kept.old kept.new (W.contents writer.old) (W.contents writer.new)) }
     ensures fault { IfErr result (λ fault. (fault ≡ device) ⊎ (fault ≡ out_of_memory)) }
 {
     if part.share.from >= part.share.to {
@@ -285,13 +288,23 @@ fn tell_none<W: Write>(
     tell(alloc, run, writer)
 }
 
-/// What is met where a device is asked for its length.
-fn measured<D: Disk>(disk: &mut D, file_length: u64) -> Met
-    ensures { (len : Option ℕ) × IsMeasured file_length len result }
+/// How many bytes a device has; none where the call failed.
+fn length_of<D: Disk>(disk: &mut D) -> Option<u64>
+    ensures { HasCalls D.history D.honest D.faults disk.old (len_call_of result ∷ []) disk.new }
 {
     match disk.len() {
-        Ok(length) => length_met(length, file_length),
-        Err(_) => Met::Unmeasured,
+        Ok(length) => Some(length),
+        Err(_) => None,
+    }
+}
+
+/// What is met where a device tells this length, or none.
+fn measured(length: Option<u64>, file_length: u64) -> Met
+    ensures { IsMeasured file_length length result }
+{
+    match length {
+        Some(length) => length_met(length, file_length),
+        None => Met::Unmeasured,
     }
 }
 

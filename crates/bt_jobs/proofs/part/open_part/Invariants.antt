@@ -3,4 +3,4 @@ use Rattle.bt_jobs.proofs.Openings.{AreOpened}
 use Rattle.bt_jobs.proofs.part.open_part.Given as goal
 
 abbrev pub invariant-loop-number : goal.invariant-loop-number
-invariant-loop-number g l = AreOpened l.entries l.shares l.number l.files.items
+invariant-loop-number g l = AreOpened l.dir l.entries l.shares l.number l.files.items

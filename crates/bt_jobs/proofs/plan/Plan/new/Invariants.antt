@@ -1,5 +1,5 @@
 -- The files so far have places.
-use Rattle.std.proofs.Common.{map, take, ◌≤◌, length}
+use Rattle.std.proofs.Common.{map}
 use Rattle.bt_meta.specs.Files.{file_of}
 use Rattle.bt_jobs.proofs.Plans.{IsPlacing}
 use Rattle.bt_jobs.proofs.plan.Plan.new.Given as goal
