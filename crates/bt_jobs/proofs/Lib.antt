@@ -3,6 +3,8 @@ pub mod Sharing
 pub mod PartTrees
 pub mod Plans
 pub mod Lines
+pub mod Hearing
+pub mod Words
 pub mod Reports
 pub mod Openings
 pub mod PartReports

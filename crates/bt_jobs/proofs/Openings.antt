@@ -1,7 +1,7 @@
 -- The data files of a part.
 use Rattle.std.proofs.Common.{◌≡◌, ℕ, ◌+◌, ◌<◌, List, [], ◌∷◌, ◌++◌, length, map, take, get_or, refl, sym, ap, ◌∙◌, subst, arith}
 use Rattle.std.specs.List.{All, AllZip, range_with_len}
-use Rattle.std.proofs.lemmas.List.{map-append, take_more}
+use Rattle.std.proofs.lemmas.List.{map-append, map_more, take_more}
 use Rattle.std.proofs.lemmas.List.Elements.{All-cons, All-head, All-nil, All-push, All-tail}
 use Rattle.bt_check.proofs.RightBlocks.{ranges_joined}
 use Rattle.bt_disk.specs.Pool.{PooledView}
@@ -35,17 +35,16 @@ opened_begun dir entries shares files none =
     subst (AreOpened dir entries shares 0) (sym none) (record { are_files = refl; numbers = refl; are_shares = refl; paths = All-nil (IsPartAt dir) })
 
 pub opened_more : (dir : List ℕ) (entries : List FileEntry) (shares : List Share) (count : ℕ) (files : List (PartFile PooledView)) (one : PartFile PooledView)
-    (entry : FileEntry) (share : Share) → AreOpened dir entries shares count files → count < length entries → count < length shares
-    → entry ≡ get_or entries count entry → share ≡ get_or shares count share → file_in_part (part_at one) ≡ file_of entry → (part_at one).number ≡ count
-    → (part_at one).share ≡ share → IsPartAt dir one → AreOpened dir entries shares (count + 1) (files ++ one ∷ [])
-opened_more dir entries shares count files one entry share o inside also entry_is share_is file number own there = record {
+    (entry : FileEntry) (d : Share) → AreOpened dir entries shares count files → count < length entries → count < length shares
+    → entry ≡ get_or entries count entry → file_in_part (part_at one) ≡ file_of entry → (part_at one).number ≡ count
+    → (part_at one).share ≡ get_or shares count d → IsPartAt dir one → AreOpened dir entries shares (count + 1) (files ++ one ∷ [])
+opened_more dir entries shares count files one entry d o inside also entry_is file number own there = record {
   are_files = parts_pushed file_in_part files one ∙ ap (λ l. l ++ file_in_part (part_at one) ∷ []) o.are_files
-      ∙ ap (λ f. map file_of (take count entries) ++ f ∷ []) (file ∙ ap file_of entry_is) ∙ sym (map-append file_of (take count entries) (get_or entries count entry ∷ []))
-      ∙ sym (ap (map file_of) (take_more entries count entry inside));
+      ∙ ap (λ f. map file_of (take count entries) ++ f ∷ []) (file ∙ ap file_of entry_is) ∙ sym (map_more file_of entries count entry inside);
   numbers = parts_pushed (λ (p : FilePart). p.number) files one ∙ ap (λ l. l ++ (part_at one).number ∷ []) o.numbers
       ∙ ap (λ n. range_with_len 0 count ++ n ∷ []) number ∙ ranges_joined 0 count 1 count (omega arith);
   are_shares = parts_pushed (λ (p : FilePart). p.share) files one ∙ ap (λ l. l ++ (part_at one).share ∷ []) o.are_shares
-      ∙ ap (λ s. take count shares ++ s ∷ []) (own ∙ share_is) ∙ sym (take_more shares count share also);
+      ∙ ap (λ s. take count shares ++ s ∷ []) own ∙ sym (take_more shares count d also);
   paths = All-push (IsPartAt dir) files one o.paths there;
 }
 

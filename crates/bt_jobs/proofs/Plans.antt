@@ -356,9 +356,9 @@ cut_begins layer all (file ∷ files) [] i d are lt = absurd are
 cut_begins layer all (file ∷ files) (cut ∷ cuts) zero d are lt = omega (arith, are.0.inside)
 cut_begins layer all (file ∷ files) (cut ∷ cuts) (suc i) d are lt = cut_begins layer all files cuts i d are.1 (omega (arith, lt))
 
-pub cut_inside : (layer : ℕ) (files : List File) (cuts : List Cut) (i : ℕ) (d : Cut) → AllZip (IsCutOf layer files) files cuts → i < length cuts
-    → (get_or cuts i d).place < total_of files
-cut_inside layer files cuts i d are lt = cut_begins layer files files cuts i d (all_inside layer files cuts are) lt
+pub cut_inside : (layer total : ℕ) (files : List File) (cuts : List Cut) (i : ℕ) (d : Cut) → total ≡ total_of files → AllZip (IsCutOf layer files) files cuts
+    → i < length cuts → (get_or cuts i d).place < total
+cut_inside layer total files cuts i d same are lt = omega (arith, same, cut_begins layer files files cuts i d (all_inside layer files cuts are) lt)
 
 -- ---- what a share is
 

@@ -1,13 +1,14 @@
 -- What the parts told, file by file.
-use Rattle.std.proofs.Common.{◌≡◌, ℕ, zero, suc, ◌+◌, ◌<◌, ◌≤◌, ◌&&◌, ◌||◌, Bool, true, false, List, [], ◌∷◌, ◌++◌, Option, length, map, take, drop, get_or, refl, sym, ap, ◌∙◌, subst, append-nil, append_assoc, arith}
+use Rattle.std.proofs.Common.{◌≡◌, ℕ, suc, ◌+◌, ◌<◌, ◌≤◌, ◌&&◌, ◌||◌, Bool, true, false, List, [], ◌∷◌, ◌++◌, Option, Result, Ok, IfOk, length, map, take, take_all, drop, get_or, inr, refl, sym, ap, ◌∙◌, subst, add-one, append-nil, append_assoc, arith}
 use Rattle.std.specs.List.{flat_map}
 use Rattle.std.specs.Io.KnownBytes.{Appends}
 use Rattle.std.proofs.KnownBytes.{Appends-nil, Appends-trans}
 use Rattle.std.proofs.lemmas.Grind.{flat_map-append}
-use Rattle.std.proofs.lemmas.List.{map-append, take_more}
+use Rattle.std.proofs.lemmas.List.{drop_all, drop_more, map-append, map_more}
 use Rattle.std.proofs.lemmas.List.Folds.{list_all-append, list_any-append}
 use Rattle.bt_tree.specs.Blocks.{block_count}
-use Rattle.bt_meta.specs.Files.{File}
+use Rattle.bt_meta.specs.Files.{File, file_of}
+use Rattle.bt_meta.specs.declared.torrent.FileEntry.{FileEntry}
 use Rattle.bt_check.specs.Finding.{is_complete_finding}
 use Rattle.bt_check.specs.Report.{file_in, file_line, is_complete_report, is_faulty_report, last_line, lines_text, report_text}
 use Rattle.bt_check.specs.declared.data_file.Finding.{Finding}
@@ -15,7 +16,8 @@ use Rattle.bt_check.specs.declared.report.FileFinding.{FileFinding}
 use Rattle.bt_check.specs.declared.report.Summary.{Summary}
 use Rattle.bt_parts.specs.Join.{BeginsElsewhere, IsJoined}
 use Rattle.bt_parts.specs.declared.run.Run.{Run}
-use Rattle.bt_jobs.specs.Report.{AreJoined, none, more}
+use Rattle.bt_jobs.specs.Report.{AreJoined, none, more, finding_of}
+use Rattle.bt_jobs.specs.declared.report.Heard.{Heard}
 
 -- ---- joining
 
@@ -39,6 +41,30 @@ pub joins_all : (number : ℕ) (all : List File) (runs rest : List Run) (finding
     → AreJoined 0 all runs findings
 joins_all number all runs rest findings joins empty =
     subst (AreJoined 0 all runs) (append-nil findings) (joins [] (subst (λ r. AreJoined number [] r []) (sym empty) (none number)))
+
+-- the files from one on are those from the next one on, with it
+pub joined_next : (all : List File) (number : ℕ) (file : File) (runs rest own behind : List Run) (heard grown : List Heard) (one : Heard)
+    → number < length all → file ≡ get_or all number file → JoinsRest number all (drop number all) runs rest (map finding_of heard) → rest ≡ own ++ behind
+    → BeginsElsewhere number behind → IsJoined number (block_count file.length) own one.finding → grown ≡ heard ++ one ∷ []
+    → JoinsRest (number + 1) all (drop (number + 1) all) runs behind (map finding_of grown)
+joined_next all number file runs rest own behind heard grown one lt is joins parted elsewhere joined more_is =
+    let left : drop number all ≡ file ∷ drop (number + 1) all = drop_more all number file lt ∙ ap (λ f. f ∷ drop (number + 1) all) (sym is) in
+    let are : map finding_of grown ≡ map finding_of heard ++ one.finding ∷ [] = ap (map finding_of) more_is ∙ map-append finding_of heard (one ∷ []) in
+    subst (JoinsRest (number + 1) all (drop (number + 1) all) runs behind) (sym are)
+    (subst (λ m. JoinsRest m all (drop (number + 1) all) runs behind (map finding_of heard ++ one.finding ∷ [])) (sym (add-one number))
+    (joins_more number all (drop (number + 1) all) file runs rest own behind (map finding_of heard) one.finding
+    (subst (λ fs. JoinsRest number all fs runs rest (map finding_of heard)) left joins) parted elsewhere joined))
+
+-- no run is left behind the last
+none_is : {X : Type 0} (xs : List X) → length xs ≡ 0 → xs ≡ []
+none_is [] e = refl
+none_is (x ∷ xs) e = absurd (omega (arith, e))
+
+pub joined_end : (all : List File) (number : ℕ) (runs rest : List Run) (heard : List Heard) → length all ≤ number
+    → JoinsRest number all (drop number all) runs rest (map finding_of heard) → length rest ≡ 0 → AreJoined 0 all runs (map finding_of heard)
+joined_end all number runs rest heard past joins empty =
+    joins_all number all runs rest (map finding_of heard)
+    (subst (λ fs. JoinsRest number all fs runs rest (map finding_of heard)) (drop_all number all past) joins) (none_is rest empty)
 
 -- ---- reporting
 
@@ -87,6 +113,20 @@ telling_more files findings summary next one file finding old mid new t same is 
 
     any_push : (xs : List FileFinding) → is_faulty_report (xs ++ one ∷ []) ≡ (is_faulty_report xs || one.finding.faulty)
     any_push xs = list_any-append (λ (f : FileFinding). f.finding.faulty) xs (one ∷ []) ∙ ap (λ b. is_faulty_report xs || b) (or_false one.finding.faulty)
+
+-- the files so far, with the next one
+pub told_next : (files : List FileEntry) (heard : List Heard) (number : ℕ) (file : FileEntry) (d : Heard) (found : FileFinding) (summary next : Summary)
+    (old mid new : Option (List ℕ)) → number < length files → number < length heard → file ≡ get_or files number file
+    → IsTelling (map file_of (take number files)) (map finding_of (take number heard)) summary old mid → file_in found ≡ file_of file
+    → found.finding ≡ (get_or heard number d).finding → next.complete ≡ (summary.complete && is_complete_finding (get_or heard number d).finding)
+    → next.faulty ≡ (summary.faulty || (get_or heard number d).finding.faulty) → Appends mid new (file_line found)
+    → IsTelling (map file_of (take (number + 1) files)) (map finding_of (take (number + 1) heard)) next old new
+told_next files heard number file d found summary next old mid new lt also is t same own complete faulty put =
+    subst (λ fs. IsTelling fs (map finding_of (take (number + 1) heard)) next old new) (sym (map_more file_of files number file lt))
+    (subst (λ findings. IsTelling (map file_of (take number files) ++ file_of (get_or files number file) ∷ []) findings next old new)
+    (sym (map_more finding_of heard number d also))
+    (telling_more (map file_of (take number files)) (map finding_of (take number heard)) summary next found (file_of (get_or files number file))
+    (get_or heard number d).finding old mid new t (same ∙ ap file_of is) own complete faulty put))
 
 -- and the last line is written
 pub all_told : (files : List File) (findings : List Finding) (summary : Summary) (words : List ℕ) (old mid new : Option (List ℕ))

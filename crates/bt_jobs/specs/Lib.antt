@@ -8,4 +8,5 @@ pub mod Children
 -- what private steps cite
 pub mod PlanSteps
 pub mod PartSteps
+pub mod JobsSteps
 pub mod TreesSteps

@@ -9,10 +9,11 @@ use Rattle.bt_check.specs.declared.report.FileFinding.{FileFinding}
 use Rattle.bt_check.specs.declared.report.Summary.{Summary}
 use Rattle.bt_parts.specs.Join.{BeginsElsewhere, IsJoined}
 use Rattle.bt_parts.specs.declared.run.Run.{Run}
+use Rattle.bt_jobs.specs.Told.{TellsEach}
 use Rattle.bt_jobs.specs.declared.report.Heard.{Heard}
 
--- The findings are of these files, of which the first has this number, and each is what the file's runs come to: all
--- blocks of each file are told, each once, and nothing else is.
+-- The findings are of these files, of which the first has this number, and each is what the file's runs come to:
+-- all blocks of each file are told, each once, and nothing else is.
 pub data AreJoined : (number : ℕ) → List File → List Run → List Finding → Type 0 where
   none : (number : ℕ) → AreJoined number [] [] []
   more : (number : ℕ) (file : File) (files : List File) (own rest : List Run) (finding : Finding)
@@ -24,14 +25,17 @@ pub data AreJoined : (number : ℕ) → List File → List Run → List Finding 
 abbrev pub finding_of : Heard → Finding
 finding_of heard = heard.finding
 
--- The findings are of a torrent's files, as runs tell them, and the summary is theirs.
+-- The findings are of a torrent's files, as runs tell them, of which there are lines, and the summary is theirs.
 pub record IsJoinedReport (torrent : Metainfo) (found : List FileFinding) (summary : Summary) : Type 0 where
   pub each : map file_in found ≡ torrent.files
+  pub text : List ℕ
   pub runs : List Run
+  pub told : TellsEach text runs
   pub joined : AreJoined 0 torrent.files runs (map (λ f. f.finding) found)
   pub complete : summary.complete ≡ is_complete_report found
   pub faulty : summary.faulty ≡ is_faulty_report found
 
 -- Parts told it, or, where there is no data file at all, one process found it alone.
 abbrev pub IsReportByParts : Metainfo → List FileFinding → Summary → Type 0
-IsReportByParts torrent found summary = IsReportOn torrent found summary ⊎ IsJoinedReport torrent found summary
+IsReportByParts torrent found summary =
+    IsReportOn torrent found summary ⊎ IsJoinedReport torrent found summary

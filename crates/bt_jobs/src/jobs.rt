@@ -1,12 +1,16 @@
 //! The command `check` with several jobs: the parts are started, and what they tell is joined.
-ghost use Rattle.std.specs.Prelude.{◌≡◌, ◌⊎◌, ◌≤◌, List, length, IfOk, IfErr};
+ghost use Rattle.std.specs.Prelude.{◌≡◌, ◌⊎◌, ◌+◌, ◌<◌, ◌≤◌, ℕ, List, length, IfOk, IfErr, OnOk};
+ghost use Rattle.std.specs.List.{All};
 ghost use Rattle.std.specs.Io.KnownBytes.{Appends, Keeps};
 ghost use Rattle.bt_meta.specs.Torrent.{Metainfo};
 ghost use Rattle.bt_check.specs.Fault.{device, out_of_memory, status_of};
 ghost use Rattle.bt_check.specs.Report.{report_text};
 ghost use Rattle.bt_check.specs.TorrentFile.{HasText, IsLoadFault};
 ghost use Rattle.bt_check.specs.declared.report.FileFinding.{FileFinding};
+ghost use Rattle.bt_jobs.specs.Children.{HasEndedWell};
+ghost use Rattle.bt_jobs.specs.JobsSteps.{HearsAll, IsGiven, TakesIn};
 ghost use Rattle.bt_jobs.specs.Report.{IsReportByParts};
+ghost use Rattle.bt_jobs.specs.Told.{IsToldBy, TellsEach};
 
 use crate::children::{end_all, look_at_all, start_part, wait_for_all};
 use crate::part::open_data_file;
@@ -127,6 +131,7 @@ fn runs_of_parts<R: Files + AllocGlobal, S: Processes, P: Watch>(
     job: Job<'_>,
     loaded: &Loaded,
 ) -> Result<Vec<Run>, Fault>
+    ensures told { IfOk result (λ runs. (text : List ℕ) × TellsEach text runs.items) }
     ensures fault { IfErr result (λ fault. (fault ≡ device) ⊎ (fault ≡ out_of_memory)) }
 {
     let alloc = rt.alloc();
@@ -150,6 +155,10 @@ fn hear_parts<R: Files + AllocGlobal, S: Processes, P: Watch>(
     children: &mut Vec<Child<S::Started>>,
     told: &mut Told,
 ) -> Result<(), Fault>
+    ensures told { OnOk result ((bytes : List ℕ) × TakesIn bytes told.old told.new) }
+    ensures ended { OnOk result (All HasEndedWell children.new.items) }
+    ensures all { OnOk result
+        (length children.new.items ≡ length children.old.items + job.entry.count) }
     ensures fault { IfErr result (λ fault. (fault ≡ device) ⊎ (fault ≡ out_of_memory)) }
 {
     let (mut output, input) = io::pipe(rt).map_err(|_| Fault::Device)?;
@@ -161,8 +170,10 @@ fn hear_parts<R: Files + AllocGlobal, S: Processes, P: Watch>(
     }
     started?;
     let files = loaded.torrent.files();
-    of_parts(watch, hear(watch, files, &mut output, children, told))?;
-    of_parts(watch, wait_for_all(children))
+    of_parts(
+        watch,
+        hear_to_ends(watch, files, &mut output, children, told),
+    )
 }
 
 /// Starts all parts, which tell by the pipe.
@@ -174,6 +185,8 @@ fn start_all<S: Processes>(
     pipe: &PipeWriter,
     children: &mut Vec<Child<S::Started>>,
 ) -> Result<(), Fault>
+    ensures all { OnOk result
+        (length children.new.items ≡ length children.old.items + job.entry.count) }
     ensures fault { IfErr result (λ fault. (fault ≡ device) ⊎ (fault ≡ out_of_memory)) }
 {
     for index in 0..job.count {
@@ -195,6 +208,7 @@ fn of_parts<T, P: Watch>(watch: &P, outcome: Result<T, Fault>) -> Result<T, Faul
 
 /// The runs that were told, in the order of their files, and in each of its blocks.
 fn in_order(told: Told) -> Result<Vec<Run>, Fault>
+    ensures told { IfOk result (λ runs. (text : List ℕ) → IsToldBy text told → TellsEach text runs.items) }
     ensures fault { IfErr result (λ fault. (fault ≡ device) ⊎ (fault ≡ out_of_memory)) }
 {
     let Some(mut runs) = told.into_runs() else {
@@ -202,6 +216,23 @@ fn in_order(told: Told) -> Result<Vec<Run>, Fault>
     };
     runs.sort()?;
     Ok(runs)
+}
+
+/// Hears parts, and waits for them, each of which has to do what it was to.
+fn hear_to_ends<P: Watch, I: Read, C: OpenProcess>(
+    watch: &P,
+    files: &[FileEntry],
+    output: &mut I,
+    children: &mut [Child<C>],
+    told: &mut Told,
+) -> Result<(), Fault>
+    ensures told { OnOk result
+        (HearsAll (I.remaining output.old) (I.remaining output.new) told.old told.new) }
+    ensures ended { OnOk result (All HasEndedWell children.new) }
+    ensures fault { IfErr result (λ fault. (fault ≡ device) ⊎ (fault ≡ out_of_memory)) }
+{
+    hear(watch, files, output, children, told)?;
+    wait_for_all(children)
 }
 
 /// Hears parts until all have ended, or one without having done what it was to.
@@ -212,6 +243,8 @@ fn hear<P: Watch, I: Read, C: OpenProcess>(
     children: &mut [Child<C>],
     told: &mut Told,
 ) -> Result<(), Fault>
+    ensures told { OnOk result
+        (HearsAll (I.remaining output.old) (I.remaining output.new) told.old told.new) }
     ensures fault { IfErr result (λ fault. (fault ≡ device) ⊎ (fault ≡ out_of_memory)) }
 {
     let mut buffer = [0; PIPE_LEN];
@@ -228,11 +261,15 @@ fn hear<P: Watch, I: Read, C: OpenProcess>(
     Err(Fault::Device)
 }
 
-/// The bytes that come next, one at least; none where nobody is left who may write.
+/// Reads once, and says how many bytes came: none where nobody is left who may write. A read that was interrupted is
+/// made again.
 fn read_some<I: Read>(reader: &mut I, buffer: &mut [u8]) -> Result<usize, Fault>
-    ensures within { IfOk result (λ count. count ≤ length buffer.old) }
+    requires { 0 < length buffer.old }
+    ensures given { IfOk result (λ count. IsGiven (I.remaining reader.old) (I.remaining reader.new) count
+        buffer.new) }
     ensures fault { IfErr result (λ fault. fault ≡ device) }
 {
+    // A bound, so that it ends whatever the system gives.
     for _ in 0..u64::MAX {
         match reader.read(buffer) {
             Ok(count) => return Ok(count),

@@ -90,13 +90,11 @@ pub(crate) fn write_report<P: Watch, W: Write>(
         faulty: false,
     };
     for number in 0..files.len() {
-        let found = FileFinding {
-            file: &files[number],
-            finding: heard[number].finding,
-        };
-        tell_fault(alloc, watch, dir, &files[number], heard[number].fault)?;
-        write_line(alloc, &found, writer)?;
-        summary = summary.with(found.finding);
+        let file = &files[number];
+        let Heard { finding, fault } = heard[number];
+        tell_fault(alloc, watch, dir, file, fault)?;
+        write_line(alloc, &FileFinding { file, finding }, writer)?;
+        summary = summary.with(finding);
     }
     print(writer, last_words(summary.complete))?;
     Ok(summary)

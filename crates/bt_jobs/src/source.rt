@@ -1,6 +1,6 @@
 //! A torrent with the text that spells it, which the parts of a check are passed.
-ghost use Rattle.std.specs.Prelude.{◌≡◌, ◌⊎◌, IfOk, IfErr};
-ghost use Rattle.bt_check.specs.TorrentFile.{HasText, IsLoadFault, IsTorrentOfText};
+ghost use Rattle.std.specs.Prelude.{IfOk, IfErr};
+ghost use Rattle.bt_check.specs.TorrentFile.{IsLoadFault, IsTorrentOfText};
 
 use bt_check::{BUFFER_LEN, Fault, Source, fault_name, read_text, told};
 use bt_meta::{Torrent, read_info, read_torrent};
@@ -22,7 +22,8 @@ pub(crate) fn load_text<R: Files + AllocGlobal, P: Watch>(
     watch: &P,
     source: Source<'_>,
 ) -> Result<Loaded, Fault>
-    ensures torrent { IfOk result (λ loaded. HasText source.entry.is_info loaded.torrent) }
+    ensures spelled { IfOk result
+        (λ loaded. IsTorrentOfText source.entry.is_info loaded.text.items loaded.torrent) }
     ensures fault { IfErr result (IsLoadFault source.entry.is_info) }
 {
     let alloc = rt.alloc();
@@ -32,18 +33,18 @@ pub(crate) fn load_text<R: Files + AllocGlobal, P: Watch>(
     let mut reader = Watched::new(file, watch, name);
     let mut buffer = [0; BUFFER_LEN];
     let text = read_text(alloc, &mut reader, &mut buffer)?;
-    spelled(alloc, text, source.is_info)
+    let torrent = spelled(alloc, &text, source.is_info)?;
+    Ok(Loaded { torrent, text })
 }
 
 /// The torrent that a text spells, as an info dictionary alone or as a whole.
-fn spelled(alloc: Global, text: Vec<u8>, is_info: bool) -> Result<Loaded, Fault>
-    ensures torrent { IfOk result (λ loaded. HasText is_info loaded.torrent) }
+fn spelled(alloc: Global, text: &[u8], is_info: bool) -> Result<Torrent, Fault>
+    ensures spelled { IfOk result (IsTorrentOfText is_info text.now) }
     ensures fault { IfErr result (IsLoadFault is_info) }
 {
-    let torrent = if is_info {
-        read_info(alloc, &text)?
+    if is_info {
+        Ok(read_info(alloc, text)?)
     } else {
-        read_torrent(alloc, &text)?
-    };
-    Ok(Loaded { torrent, text })
+        Ok(read_torrent(alloc, text)?)
+    }
 }

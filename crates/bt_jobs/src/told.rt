@@ -1,5 +1,5 @@
 //! What the parts of a check tell, read line by line.
-ghost use Rattle.std.specs.Prelude.{◌≡◌, ◌⊎◌, ◌++◌, [], ◌∷◌, ℕ, List, IfErr, IfSome, OnOk};
+ghost use Rattle.std.specs.Prelude.{◌≡◌, ◌⊎◌, ◌≤◌, ◌++◌, [], ◌∷◌, ℕ, List, length, IfErr, IfSome, OnOk};
 ghost use Rattle.bt_check.specs.Fault.{device, out_of_memory};
 ghost use Rattle.bt_jobs.specs.Told.{IsToldBy, IsWhollyToldBy};
 
@@ -32,6 +32,7 @@ impl Told {
     pub(crate) fn take_in(&mut self, bytes: &[u8]) -> Result<(), Fault>
         ensures told { OnOk result ((text : List ℕ) → IsToldBy text self.old
             → IsToldBy (text ++ bytes.now) self.new) }
+        ensures onward { OnOk result (length self.old.runs.items ≤ length self.new.runs.items) }
         ensures fault { IfErr result (λ fault. (fault ≡ device) ⊎ (fault ≡ out_of_memory)) }
     {
         for byte in bytes {
@@ -44,6 +45,7 @@ impl Told {
     fn take_byte(&mut self, byte: u8) -> Result<(), Fault>
         ensures told { OnOk result ((text : List ℕ) → IsToldBy text self.old
             → IsToldBy (text ++ byte ∷ []) self.new) }
+        ensures onward { OnOk result (length self.old.runs.items ≤ length self.new.runs.items) }
         ensures fault { IfErr result (λ fault. (fault ≡ device) ⊎ (fault ≡ out_of_memory)) }
     {
         if byte != b'\n' {

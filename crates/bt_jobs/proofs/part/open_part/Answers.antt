@@ -10,9 +10,9 @@ loop-number-init g c = opened_begun c.args.dir.now c.args.entries.now c.args.sha
 pub loop-number-preserved : goal.loop-number-preserved
 loop-number-preserved g c =
     subst (AreOpened c.args.dir.now c.args.entries.now c.args.shares.now (c.loop-number.number + 1)) (sym c.in_ok-push.ensures.items)
-    (opened_more c.args.dir.now c.args.entries.now c.args.shares.now c.loop-number.number c.loop-number.files.items _ c.index-entries-number.result
-    c.index-shares-number.result c.loop-number.invariant c.loop-number-test.true (omega (arith, c.loop-number-test.true, c.requires.each))
-    c.index-entries-number.is c.index-shares-number.is refl refl refl c.in_ok-disk.ensures.path)
+    (opened_more c.args.dir.now c.args.entries.now c.args.shares.now c.loop-number.number c.loop-number.files.items _ c.index-entries-number.result _
+    c.loop-number.invariant c.loop-number-test.true (omega (arith, c.loop-number-test.true, c.requires.each)) c.index-entries-number.is refl refl refl
+    c.in_ok-disk.ensures.path)
 
 pub returns-clause-files : goal.returns-clause-files
 returns-clause-files g c =

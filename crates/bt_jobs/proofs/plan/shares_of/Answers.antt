@@ -8,17 +8,15 @@ use Rattle.bt_jobs.proofs.plan.shares_of.Goals as goal
 pub share_of-requires-clause-inside : goal.share_of-requires-clause-inside
 share_of-requires-clause-inside c =
     let plan = c.in_ok-plan.plan in
-    let inside = cut_inside c.args.size.layer (map file_of c.args.files.now) plan.cuts.items c.loop-cut.cut-index c.cut-item.result c.in_ok-plan.ensures.cuts
-    c.loop-cut-test.true in
-    omega (arith, inside, c.cut-item.is, c.in_ok-plan.ensures.total)
+    cut_inside c.args.size.layer plan.total (map file_of c.args.files.now) plan.cuts.items c.loop-cut.cut-index _ c.in_ok-plan.ensures.total c.in_ok-plan.ensures.cuts
+    c.loop-cut-test.true
 
 pub loop-cut-preserved : goal.loop-cut-preserved
 loop-cut-preserved c =
     let plan = c.in_ok-plan.plan in
     subst (AllZip (IsShareOf plan.total c.args.part) (take (c.loop-cut.cut-index + 1) plan.cuts.items)) (sym c.in_ok-push.ensures.items)
-    (shared_more plan.total c.args.part plan.cuts.items c.loop-cut.cut-index c.cut-item.result c.loop-cut.shares.items c.share_of.result c.loop-cut-test.true
-    c.loop-cut.invariant (subst (λ cut. IsShareOf plan.total c.args.part cut c.share_of.result) c.cut-item.is
-    (record { from = c.share_of.ensures.from; to = c.share_of.ensures.to; first = c.share_of.ensures.first })))
+    (shared_more plan.total c.args.part plan.cuts.items c.loop-cut.cut-index _ c.loop-cut.shares.items c.share_of.result c.loop-cut-test.true
+    c.loop-cut.invariant (record { from = c.share_of.ensures.from; to = c.share_of.ensures.to; first = c.share_of.ensures.first }))
 
 pub returns : goal.returns
 returns c =

@@ -1,9 +1,9 @@
-use Rattle.bt_jobs.proofs.Lines.{told_line, told_more}
 use Rattle.std.proofs.Common.{refl}
+use Rattle.bt_jobs.proofs.Lines.{told_line, told_more}
 use Rattle.bt_jobs.proofs.told.Told.take_byte.Goals as goal
 
 pub returns-then-byte-clause-told : goal.returns-then-byte-clause-told
-returns-then-byte-clause-told c = λ text is. told_more text c.args.self.now _ c.args.byte is c.in_ok-push.ensures.items refl
+returns-then-byte-clause-told c = λ text is. told_more text c.args.self.now _ c.args.byte is c.if-byte.true c.in_ok-push.ensures.items refl
 
 pub returns-clause-told : goal.returns-clause-told
 returns-clause-told c = λ text is.
