@@ -16,7 +16,9 @@ use Rattle.bt_check.specs.declared.report.FileFinding.{FileFinding}
 use Rattle.bt_check.specs.declared.report.Summary.{Summary}
 use Rattle.bt_parts.specs.Join.{BeginsElsewhere, IsJoined}
 use Rattle.bt_parts.specs.declared.run.Run.{Run}
-use Rattle.bt_jobs.specs.Report.{AreJoined, none, more, finding_of}
+use Rattle.bt_meta.specs.Torrent.{Metainfo}
+use Rattle.bt_jobs.specs.Report.{AreJoined, none, more, IsJoinedReport, finding_of}
+use Rattle.bt_jobs.specs.Told.{TellsEach}
 use Rattle.bt_jobs.specs.declared.report.Heard.{Heard}
 
 -- ---- joining
@@ -141,3 +143,18 @@ all_told files findings summary words old mid new t last put = (
   t.faulty,
   subst (Appends old new) (ap (λ w. lines_text t.found ++ w) (last ∙ ap last_line t.complete)) (Appends-trans old mid new _ _ t.lines put),
 )
+
+-- what the parts told, as a report on a torrent
+pub joined_report : (torrent : Metainfo) (files : List File) (text : List ℕ) (runs : List Run) (heard : List Heard) (found : List FileFinding) (summary : Summary)
+    → files ≡ torrent.files → TellsEach text runs → AreJoined 0 files runs (map finding_of heard) → map file_in found ≡ files
+    → map (λ (f : FileFinding). f.finding) found ≡ map finding_of heard → summary.complete ≡ is_complete_report found
+    → summary.faulty ≡ is_faulty_report found → IsJoinedReport torrent found summary
+joined_report torrent files text runs heard found summary same told joined are_files are complete faulty = record {
+  each = are_files ∙ same;
+  text = text;
+  runs = runs;
+  told = told;
+  joined = subst (λ fs. AreJoined 0 fs runs (map (λ (f : FileFinding). f.finding) found)) same (subst (AreJoined 0 files runs) (sym are) joined);
+  complete = complete;
+  faulty = faulty;
+}

@@ -302,7 +302,7 @@ module _ {D : Type 0} (history : D → History) (honest : D → Type 0) (faults 
     pub sharing_told : (end : ℕ) (later : Option (List ℕ)) (next : Run) → TellsOrKeeps run end new later next
         → IsSharing history honest faults n known leaves disk file from next k store old later
     sharing_told end later next (inr goes_on) =
-        subst (λ r. IsSharing history honest faults n known leaves disk file from r k store old later) (sym goes_on.2.1)
+        subst (λ r. IsSharing history honest faults n known leaves disk file from r k store old later) (sym goes_on.2)
         (record {
           reads = s.reads;
           runs = s.runs;
@@ -388,5 +388,5 @@ pub ends_empty : (run next : Run) (end : ℕ) (old new : Option (List ℕ)) → 
 ends_empty run next end old new (inl told) past =
     (ap (λ (r : Run). r.from) told.1 ∙ sym (ap (λ (r : Run). r.to) told.1), ap (λ (r : Run). r.met) told.1)
 ends_empty run next end old new (inr goes_on) past =
-    let same : next.to ≡ run.to = ap (λ (r : Run). r.to) goes_on.2.1 in
+    let same : next.to ≡ run.to = ap (λ (r : Run). r.to) goes_on.2 in
     absurd (omega (arith, goes_on.0, past, same))

@@ -1,5 +1,5 @@
 -- What a part of a check tells of a torrent.
-use Rattle.std.specs.Prelude.{◌≡◌, ℕ, ◌*◌, ◌^◌, ⊥, List, [], length, map, IfSome}
+use Rattle.std.specs.Prelude.{◌≡◌, ℕ, ◌*◌, ◌^◌, List, [], length, map, IfSome}
 use Rattle.std.specs.List.{All, range_with_len}
 use Rattle.bt_tree.specs.Limits.{full_block_length}
 use Rattle.bt_disk.specs.History.{History, new_history}

@@ -69,13 +69,14 @@ pub fn check_by_parts<R: Files + AllocGlobal + Clone + Drop, S: Processes, P: Wa
 {
     let loaded = load_text(rt, watch, job.source)?;
     let torrent = &loaded.torrent;
+    let files = torrent.files();
     watch.begin(FileCall::Read);
-    if !has_files(rt, watch, job.dir, torrent.files())? {
+    if !has_files(rt, watch, job.dir, files)? {
         return check_torrent(rt, watch, torrent, job.dir, writer);
     }
     let runs = runs_of_parts(rt, system, watch, job, &loaded)?;
-    let heard = of_parts(watch, heard_of(rt.alloc(), torrent.files(), &runs))?;
-    write_report(rt.alloc(), watch, job.dir, torrent.files(), &heard, writer)
+    let heard = of_parts(watch, heard_of(rt.alloc(), files, &runs))?;
+    write_report(rt.alloc(), watch, job.dir, files, &heard, writer)
 }
 
 /// Looks at the data files of some entries, in turn, and opens each; the bytes of those that are there are to be read.

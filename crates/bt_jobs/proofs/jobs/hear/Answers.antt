@@ -4,10 +4,6 @@ use Rattle.bt_jobs.proofs.jobs.hear.Goals as goal
 pub loop-init : goal.loop-init
 loop-init g c = heard_none _ _
 
-pub loop-preserved : goal.loop-preserved
-loop-preserved g c =
-    heard_more _ _ _ _ _ c.in_ok-count.count c.read_some.new.buffer c.loop.invariant c.in_ok-count.ensures.given _ _ ? c.in_ok-take_in.ensures.told
-
 pub returns-then-count-eq0-clause-told : goal.returns-then-count-eq0-clause-told
 returns-then-count-eq0-clause-told g c =
     heard_all _ _ _ _ _ c.in_ok-count.count c.read_some.new.buffer c.loop.invariant c.in_ok-count.ensures.given c.if-count-eq0.true

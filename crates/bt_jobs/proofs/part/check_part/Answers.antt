@@ -1,5 +1,5 @@
 use Rattle.std.proofs.Common.{◌≡◌, map, rules, sym, subst, ◌∙◌, ap, length, arith}
-use Rattle.std.specs.List.{All}
+use Rattle.std.specs.List.{All, range_with_len}
 use Rattle.std.proofs.lemmas.List.{length-map}
 use Rattle.std.proofs.lemmas.Result.{on_ok_weaker}
 use Rattle.bt_meta.specs.Files.{file_of}
@@ -50,6 +50,6 @@ returns-clause-report g c =
     let opened = c.in_ok-files.files.items in
     on_ok_weaker c.check_each.result
     (λ told. part_report c.args.dir.now c.args.torrent.now c.args.part size.layer size.bytes (map file_of entries) opened _ _ (sym bytes) size.of_layer
-    c.files-entries.ensures.said c.in_ok-files.ensures.files (c.in_ok-files.ensures.numbers ∙ ap _ (sym (length-map entries file_of)))
+    c.files-entries.ensures.said c.in_ok-files.ensures.files (c.in_ok-files.ensures.numbers ∙ ap (range_with_len 0) (sym (length-map entries file_of)))
     (subst (AreShares size.layer c.args.part (map file_of entries)) (sym (c.in_ok-files.ensures.shares ∙ c.deref.ensures.value)) c.in_ok-shares.ensures)
     c.in_ok-files.ensures.paths told) c.check_each.ensures.told

@@ -17,23 +17,23 @@ loop-run-init g c = (
 
 pub adopt_ahead-requires-clause-geometry : goal.adopt_ahead-requires-clause-geometry
 adopt_ahead-requires-clause-geometry g c =
-    let is = c.loop-run.invariant.0 c.requires.ready.0 c.requires.ready.1 c.requires.ready.2.0 c.requires.ready.2.1 in
+    let is = c.loop-run.invariant.0 c.requires.ready.0 c.requires.ready.1 c.requires.ready.2 c.requires.ready.3 in
     is.learned.tree.length_is ∙ sym is.same_file
 
 pub adopt_ahead-requires-clause-inside : goal.adopt_ahead-requires-clause-inside
 adopt_ahead-requires-clause-inside g c =
-    let is = c.loop-run.invariant.0 c.requires.ready.0 c.requires.ready.1 c.requires.ready.2.0 c.requires.ready.2.1 in
+    let is = c.loop-run.invariant.0 c.requires.ready.0 c.requires.ready.1 c.requires.ready.2 c.requires.ready.3 in
     omega (arith, c.loop-run-test.true, c.requires.inside, ap block_count is.same_file)
 
 pub with_groups-requires : goal.with_groups-requires
 with_groups-requires g c =
-    let is = c.loop-run.invariant.0 c.requires.ready.0 c.requires.ready.1 c.requires.ready.2.0 c.requires.ready.2.1 in
+    let is = c.loop-run.invariant.0 c.requires.ready.0 c.requires.ready.1 c.requires.ready.2 c.requires.ready.3 in
     let few = sum_is_few _ _ _ _ _ _ _ _ _ _ _ _ _ _ is _ _ _ _ c.in_ok-adopted.ensures.ok.1 in
     omega (arith, few, c.geometry.ensures.limit)
 
 pub loop-run-smaller : goal.loop-run-smaller
 loop-run-smaller g c =
-    let is = c.loop-run.invariant.0 c.requires.ready.0 c.requires.ready.1 c.requires.ready.2.0 c.requires.ready.2.1 in
+    let is = c.loop-run.invariant.0 c.requires.ready.0 c.requires.ready.1 c.requires.ready.2 c.requires.ready.3 in
     omega (arith, c.in_ok-adopted.ensures.onward, c.in_ok-adopted.ensures.within, ap block_count is.same_file)
 
 pub loop-run-preserved : goal.loop-run-preserved
