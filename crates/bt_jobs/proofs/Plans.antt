@@ -362,11 +362,11 @@ cut_inside layer total files cuts i d same are lt = omega (arith, same, cut_begi
 
 -- ---- what a share is
 
-zero_is : (l : ℕ) → 0 ≡ 0 / 2 ^ l * 2 ^ l
-zero_is l = sym (ap (λ m. m * 2 ^ l) (mul-div_cancel 0 (pow_pos l)))
-
 multiple : (m l x : ℕ) → x ≡ m * 2 ^ l → x ≡ x / 2 ^ l * 2 ^ l
 multiple m l x e = e ∙ ap (λ q. q * 2 ^ l) (sym (ap (λ y. y / 2 ^ l) e ∙ mul-div_cancel m (pow_pos l)))
+
+zero_is : (l : ℕ) → 0 ≡ 0 / 2 ^ l * 2 ^ l
+zero_is l = multiple 0 l 0 (omega arith)
 
 module _ (layer : ℕ) (files : List File) (file : File) (cut : Cut) (is : IsCutOf layer files file cut) (edge : ℕ) where
   cut_is_few : cut_at cut edge ≤ block_count file.length

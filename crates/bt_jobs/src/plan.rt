@@ -29,7 +29,8 @@ pub fn shares_of(
     let plan = Plan::new(alloc, files, size)?;
     let mut shares = Vec::new(alloc);
     for cut in &plan.cuts {
-        shares.push(share_of(part, plan.total, *cut))?;
+        let share = share_of(part, plan.total, *cut);
+        shares.push(share)?;
     }
     Ok(shares)
 }

@@ -15,8 +15,8 @@ pub loop-cut-preserved : goal.loop-cut-preserved
 loop-cut-preserved c =
     let plan = c.in_ok-plan.plan in
     subst (AllZip (IsShareOf plan.total c.args.part) (take (c.loop-cut.cut-index + 1) plan.cuts.items)) (sym c.in_ok-push.ensures.items)
-    (shared_more plan.total c.args.part plan.cuts.items c.loop-cut.cut-index _ c.loop-cut.shares.items c.share_of.result c.loop-cut-test.true
-    c.loop-cut.invariant (record { from = c.share_of.ensures.from; to = c.share_of.ensures.to; first = c.share_of.ensures.first }))
+    (shared_more plan.total c.args.part plan.cuts.items c.loop-cut.cut-index _ c.loop-cut.shares.items c.share_of-share.result c.loop-cut-test.true
+    c.loop-cut.invariant (record { from = c.share_of-share.ensures.from; to = c.share_of-share.ensures.to; first = c.share_of-share.ensures.first }))
 
 pub returns : goal.returns
 returns c =
