@@ -9,3 +9,4 @@ pub mod Reports
 pub mod Openings
 pub mod PartReports
 pub mod Roots
+pub mod Wholes

@@ -428,7 +428,7 @@ pub record IsReadyShare (layer : ℕ) (file : File) (share : Share) : Type 0 whe
   pub edge : IsPieceEdge (known_layer layer file) file.length share.from
 
 -- the last block of a file begins before its end
-last_begins : (n : ℕ) → (block_count n - 1) * full_block_length < max 1 n
+pub last_begins : (n : ℕ) → (block_count n - 1) * full_block_length < max 1 n
 last_begins n = omega arith
 
 one_ready : (layer : ℕ) (files : List File) (part : Part) (file : File) (cut : Cut) (share : Share) → IsInsideCut layer files file cut

@@ -2,6 +2,7 @@ pub mod Plan
 pub mod Share
 pub mod Trees
 pub mod Part
+pub mod Law
 pub mod Told
 pub mod Report
 pub mod Children

@@ -4,6 +4,7 @@
 
 mod children;
 mod jobs;
+mod law;
 mod part;
 mod plan;
 mod report;
@@ -13,4 +14,5 @@ mod told;
 mod trees;
 
 pub use jobs::{Job, check_by_parts};
+pub use law::parts_are_whole;
 pub use part::check_part;
