@@ -180,9 +180,9 @@ module _ (dir : List ℕ) (torrent : Metainfo) (count number : ℕ) (file : File
         chain = subst (λ a. IsChain (block_count file.length) a (runs_of number runs) (cut_at cut (edge_of total count (part.index + 1)))) from
             (subst (IsChain (block_count file.length) one.0.part.share.from (runs_of number runs)) to own.chain);
         told = λ first. own.told (subst IsTrue (sym (ap (λ (s : Share). s.is_first) share_is)) (has.2.first.1 (record {
-              begun = subst (λ m. edge_of total m part.index ≤ here.0.place) (sym parts) (omega (arith, first.begun, here.2.place, is.place));
-              before = subst (λ m. here.0.place < edge_of total m (part.index + 1)) (sym parts) (omega (arith, first.before, here.2.place, is.place));
-            })));
+          begun = subst (λ m. edge_of total m part.index ≤ here.0.place) (sym parts) (omega (arith, first.begun, here.2.place, is.place));
+          before = subst (λ m. here.0.place < edge_of total m (part.index + 1)) (sym parts) (omega (arith, first.before, here.2.place, is.place));
+        })));
       }
     where
       unit_at : ℕ → ℕ
