@@ -382,6 +382,11 @@ module _ {D : Type 0} (history : D → History) (honest : D → Type 0) (faults 
           s.lines,
         )
 
+-- a run that is told, and one that goes on, ends where it did
+pub told_to : (run next : Run) (end : ℕ) (old new : Option (List ℕ)) → TellsOrKeeps run end old new next → next.to ≡ run.to
+told_to run next end old new (inl told) = ap (λ (r : Run). r.to) told.1
+told_to run next end old new (inr goes_on) = ap (λ (r : Run). r.to) goes_on.2
+
 -- a run that ends a share was told, and the next one is empty
 pub ends_empty : (run next : Run) (end : ℕ) (old new : Option (List ℕ)) → TellsOrKeeps run end old new next → end ≤ next.to
     → (next.from ≡ next.to) × (next.met ≡ Nothing)

@@ -1,8 +1,7 @@
-use Rattle.std.proofs.Common.{◌<◌, ◌+◌, arith, refl, sym, ◌∙◌, ap}
+use Rattle.std.proofs.Common.{arith, sym, ◌∙◌, ap}
 use Rattle.bt_parts.specs.declared.run.Run.{Run}
 use Rattle.bt_tree.specs.Blocks.{block_count}
-use Rattle.bt_tree.specs.Limits.{max_block_count}
-use Rattle.bt_jobs.proofs.Sharing.{ends_empty, next_is_inside, share_checked, sharing_begun, sharing_more, sharing_told, sum_is_few}
+use Rattle.bt_jobs.proofs.Sharing.{ends_empty, share_checked, sharing_begun, sharing_more, sharing_told, sum_is_few, told_to}
 use Rattle.bt_jobs.proofs.share.check_share.Goals as goal
 
 pub loop-run-init : goal.loop-run-init
@@ -34,7 +33,14 @@ with_groups-requires g c =
 pub loop-run-smaller : goal.loop-run-smaller
 loop-run-smaller g c =
     let is = c.loop-run.invariant.0 c.requires.ready.0 c.requires.ready.1 c.requires.ready.2 c.requires.ready.3 in
-    omega (arith, c.in_ok-adopted.ensures.onward, c.in_ok-adopted.ensures.within, ap block_count is.same_file)
+    omega (
+      arith,
+      told_to _ _ _ _ _ c.in_ok-run.ensures.next,
+      c.with_groups.ensures.to,
+      c.in_ok-adopted.ensures.onward,
+      c.in_ok-adopted.ensures.within,
+      ap block_count is.same_file,
+    )
 
 pub loop-run-preserved : goal.loop-run-preserved
 loop-run-preserved g c = (
