@@ -231,7 +231,7 @@ module _ (layer : ℕ) (part : FilePart) (before : List CheckedFile) (len : Opti
         (record { forward = omega arith; inside = fits; few = omega arith }) is.chain;
     told = λ _ none_told. cc;
   }
-  runs_joined _ runs (unasked no) is = record { own = is.own; chain = is.chain; told = λ is_first. absurd (no is_first) }
+  runs_joined _ runs (unasked behind) is = record { own = is.own; chain = is.chain; told = λ is_first. absurd (behind is_first) }
 
   found_joined : (first runs : List Run) → AreLengthRuns part len first → IsChecked runs → IsShareFinding layer before file share len reads (first ++ runs)
   found_joined _ runs (asked met is_first measured) is =
@@ -251,11 +251,11 @@ module _ (layer : ℕ) (part : FilePart) (before : List CheckedFile) (len : Opti
               λ h. both.1 (elim h [ inl unknown ↦ inl unknown.1 | inr some ↦ inr some ]),
             );
       }
-  found_joined _ runs (unasked no) is = record {
+  found_joined _ runs (unasked behind) is = record {
     each = is.each;
     counts = is.counts;
-    longer = (λ t. absurd (true≢false (sym t ∙ is.no_length)), λ h. absurd (no h.0));
-    faults = (λ t. inr (is.faults.0 t), λ h. elim h [ inl first ↦ absurd (no first.0) | inr some ↦ is.faults.1 some ]);
+    longer = (λ t. absurd (true≢false (sym t ∙ is.no_length)), λ h. absurd (behind h.0));
+    faults = (λ t. inr (is.faults.0 t), λ h. elim h [ inl first ↦ absurd (behind first.0) | inr some ↦ is.faults.1 some ]);
   }
 
   module _ {D : Type 0} (history : D → History) (honest : D → Type 0) (faults : D → ℕ) (disk last : D)
@@ -382,11 +382,11 @@ not_long n len few = record {
 -- the length was not asked for, or it was
 module _ {D : Type 0} (history : D → History) (honest : D → Type 0) (faults : D → ℕ) (part : FilePart) where
   pub length_unasked : (disk : D) (old : Option (List ℕ)) → part.share.is_first ≡ false → TellsLength history honest faults part disk disk old old
-  length_unasked disk old no = (
+  length_unasked disk old behind = (
     None,
     [],
-    unasked (λ t. absurd (true≢false (sym t ∙ no))),
-    subst (λ calls. HasCalls history honest faults disk calls disk) (sym (ap (λ b. if b then len_call_of None ∷ [] else []) no)) (has_none history honest faults disk),
+    unasked (λ t. absurd (true≢false (sym t ∙ behind))),
+    subst (λ calls. HasCalls history honest faults disk calls disk) (sym (ap (λ b. if b then len_call_of None ∷ [] else []) behind)) (has_none history honest faults disk),
     Appends-nil old,
   )
 
@@ -439,25 +439,25 @@ absent_told part old mid new forward inside (inl first) (inr missing) =
           (All-cons (λ (r : Run). (r.marked ≡ 0) × (r.met ≡ Absent)) rest [] (refl, refl) (All-nil (λ (r : Run). (r.marked ≡ 0) × (r.met ≡ Absent)))),
       Appends-trans old mid new (run_line run) (runs_text (rest ∷ [])) first.1 (subst (Appends mid new) (sym (append-nil (run_line rest))) missing),
     )
-absent_told part old mid new forward inside (inr no) (inl nothing) = (
+absent_told part old mid new forward inside (inr behind) (inl nothing) = (
   [],
   record {
     own = All-nil (λ (r : Run). r.file ≡ part.number);
     chain = subst (IsChain (block_count (file_in_part part).length) part.share.from []) nothing.0 (none part.share.from);
-    told = λ is_first. absurd (no.0 is_first);
+    told = λ is_first. absurd (behind.0 is_first);
   },
   All-nil (λ (r : Run). (r.marked ≡ 0) × (r.met ≡ Absent)),
-  Appends-kept old mid new [] (Keeps-appends old mid no.1) nothing.1,
+  Appends-kept old mid new [] (Keeps-appends old mid behind.1) nothing.1,
 )
-absent_told part old mid new forward inside (inr no) (inr missing) =
+absent_told part old mid new forward inside (inr behind) (inr missing) =
     let rest = missing_run part in
     let few : 0 ≤ part.share.to - part.share.from = omega arith in (
       rest ∷ [],
       record {
         own = All-cons (λ (r : Run). r.file ≡ part.number) rest [] refl (All-nil (λ (r : Run). r.file ≡ part.number));
         chain = more part.share.from rest [] part.share.to refl (record { forward = forward; inside = inside; few = few }) (none part.share.to);
-        told = λ is_first. absurd (no.0 is_first);
+        told = λ is_first. absurd (behind.0 is_first);
       },
       All-cons (λ (r : Run). (r.marked ≡ 0) × (r.met ≡ Absent)) rest [] (refl, refl) (All-nil (λ (r : Run). (r.marked ≡ 0) × (r.met ≡ Absent))),
-      Appends-trans old mid new [] (runs_text (rest ∷ [])) (Keeps-appends old mid no.1) (subst (Appends mid new) (sym (append-nil (run_line rest))) missing),
+      Appends-trans old mid new [] (runs_text (rest ∷ [])) (Keeps-appends old mid behind.1) (subst (Appends mid new) (sym (append-nil (run_line rest))) missing),
     )

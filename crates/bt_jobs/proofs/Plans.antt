@@ -140,8 +140,8 @@ added_all files x e = ap (λ b. if b then 0 else max 1 x.length) e
 
 added_few : (files : List File) (x : File) → added files x ≤ max 1 x.length
 added_few files x = elim (cases_bool (has_twin files x)) [
-  | inl yes ↦ omega (arith, added_none files x yes)
-  | inr no ↦ omega (arith, added_all files x no)
+  | inl has_one ↦ omega (arith, added_none files x has_one)
+  | inr has_none ↦ omega (arith, added_all files x has_none)
 ]
 
 -- a file lies inside
@@ -182,15 +182,15 @@ told_no files file e = ap (λ b. if b then Some (place_of files file) else None)
 told_same : (files : List File) (x other : File) → (are_twins x other ≡ true → has_twin files other ≡ true)
     → told_place files other ≡ told_place (files ++ x ∷ []) other
 told_same files x other known = elim (cases_bool (has_twin files other)) [
-  | inl yes ↦
-      told_yes files other yes ∙ ap (λ m. Some m) (sym (ap total_of (before_known files (x ∷ []) other yes)))
-      ∙ sym (told_yes (files ++ x ∷ []) other (twin_push files x other ∙ ap (λ b. b || are_twins x other) yes))
-  | inr no ↦
+  | inl has_one ↦
+      told_yes files other has_one ∙ ap (λ m. Some m) (sym (ap total_of (before_known files (x ∷ []) other has_one)))
+      ∙ sym (told_yes (files ++ x ∷ []) other (twin_push files x other ∙ ap (λ b. b || are_twins x other) has_one))
+  | inr has_none ↦
       let apart : are_twins x other ≡ false = elim (cases_bool (are_twins x other)) [
-        | inl twin ↦ absurd (true≢false (sym (known twin) ∙ no))
+        | inl twin ↦ absurd (true≢false (sym (known twin) ∙ has_none))
         | inr e ↦ e
       ] in
-      told_no files other no ∙ sym (told_no (files ++ x ∷ []) other (twin_push files x other ∙ ap (λ b. b || are_twins x other) no ∙ apart))
+      told_no files other has_none ∙ sym (told_no (files ++ x ∷ []) other (twin_push files x other ∙ ap (λ b. b || are_twins x other) has_none ∙ apart))
 ]
 
 some_is : {x y : ℕ} → Some x ≡ Some y → x ≡ y
@@ -200,8 +200,8 @@ some_is e = cc
 known_twin : (files : List File) (places : Places) (file : File) (place : ℕ) → ArePlacesOf files places → place_in places file ≡ Some place
     → has_twin files file ≡ true
 known_twin files places file place are at = elim (cases_bool (has_twin files file)) [
-  | inl yes ↦ yes
-  | inr no ↦ absurd (none_some place (sym (are.known file ∙ told_no files file no) ∙ at))
+  | inl has_one ↦ has_one
+  | inr has_none ↦ absurd (none_some place (sym (are.known file ∙ told_no files file has_none) ∙ at))
 ]
 
 known_place : (files : List File) (places : Places) (file : File) (place : ℕ) → ArePlacesOf files places → place_in places file ≡ Some place
@@ -211,8 +211,8 @@ known_place files places file place are at =
 
 unknown_twin : (files : List File) (places : Places) (file : File) → ArePlacesOf files places → place_in places file ≡ None → has_twin files file ≡ false
 unknown_twin files places file are at = elim (cases_bool (has_twin files file)) [
-  | inl yes ↦ absurd (none_some (place_of files file) (sym at ∙ are.known file ∙ told_yes files file yes))
-  | inr no ↦ no
+  | inl has_one ↦ absurd (none_some (place_of files file) (sym at ∙ are.known file ∙ told_yes files file has_one))
+  | inr has_none ↦ has_none
 ]
 
 places_begun : (places : Places) → places.known.entries ≡ [] → places.total ≡ 0 → ArePlacesOf [] places
@@ -225,10 +225,10 @@ places_begun places empty none = record {
 pub place_known : (places : Places) (file : File) (place : ℕ) → place_in places file ≡ Some place
     → (files : List File) → ArePlacesOf files places → ArePlacesOf (files ++ file ∷ []) places
 place_known places file place at files are =
-    let yes : has_twin files file ≡ true = known_twin files places file place are at in
+    let has_one : has_twin files file ≡ true = known_twin files places file place are at in
     record {
-      known = λ other. are.known other ∙ told_same files file other (λ twin. sym (twins_among files file other twin) ∙ yes);
-      total = omega (arith, are.total, total_push files file, added_none files file yes);
+      known = λ other. are.known other ∙ told_same files file other (λ twin. sym (twins_among files file other twin) ∙ has_one);
+      total = omega (arith, are.total, total_push files file, added_none files file has_one);
     }
 
 -- it is given one
@@ -245,18 +245,18 @@ module _ (old new : Places) (file : File) (key : Key) (same : key ≡ tree_key f
 
   pub place_made : (files : List File) → ArePlacesOf files old → ArePlacesOf (files ++ file ∷ []) new
   place_made files are =
-      let no : has_twin files file ≡ false = unknown_twin files old file are (ap (get key_cmp old.known) (sym same) ∙ none) in
+      let has_none : has_twin files file ≡ false = unknown_twin files old file are (ap (get key_cmp old.known) (sym same) ∙ none) in
       record {
         known = λ other. elim (cases_bool (are_twins file other)) [
           | inl twin ↦
-              let unknown : has_twin files other ≡ false = sym (twins_among files file other twin) ∙ no in
+              let unknown : has_twin files other ≡ false = sym (twins_among files file other twin) ∙ has_none in
               let known : has_twin (files ++ file ∷ []) other ≡ true =
               twin_push files file other ∙ ap (λ b. has_twin files other || b) twin ∙ or_true (has_twin files other) in
               at other true twin ∙ ap (λ m. Some m) (are.total ∙ sym (ap total_of (before_first files file other unknown twin)))
               ∙ sym (told_yes (files ++ file ∷ []) other known)
           | inr apart ↦ at other false apart ∙ are.known other ∙ told_same files file other (λ twin. absurd (true≢false (sym twin ∙ apart)))
         ];
-        total = omega (arith, grows, are.total, total_push files file, added_all files file no);
+        total = omega (arith, grows, are.total, total_push files file, added_all files file has_none);
       }
 
 -- ---- all files
@@ -340,8 +340,8 @@ cuts_inside layer all done [] [] same are = tt
 cuts_inside layer all done [] (cut ∷ cuts) same are = absurd are
 cuts_inside layer all done (file ∷ files) [] same are = absurd are
 cuts_inside layer all done (file ∷ files) (cut ∷ cuts) same are =
-    let yes : has_twin all file ≡ true = ap (λ l. has_twin l file) same ∙ among done files file in (
-      record { is = are.0; inside = omega (arith, are.0.place, twin_inside [] all file refl yes) },
+    let has_one : has_twin all file ≡ true = ap (λ l. has_twin l file) same ∙ among done files file in (
+      record { is = are.0; inside = omega (arith, are.0.place, twin_inside [] all file refl has_one) },
       cuts_inside layer all (done ++ file ∷ []) files cuts (same ∙ sym (append_assoc done (file ∷ []) files)) are.1,
     )
 

@@ -250,16 +250,16 @@ module _ {D : Type 0} (history : D → History) (honest : D → Type 0) (faults 
           λ t. omega (arith, all_faults, some.0),
           λ lt. ap (λ m. list_any (λ r. is_fault r.met) s.runs || is_fault m) some.1 ∙ or_true (list_any (λ r. is_fault r.met) s.runs),
         )
-        | inr no ↦ (
-          λ t. omega (arith, all_faults, s.fault.0 (sym (ap (λ m. list_any (λ r. is_fault r.met) s.runs || is_fault m) no.1) ∙ t)),
-          λ lt. ap (λ m. list_any (λ r. is_fault r.met) s.runs || is_fault m) no.1 ∙ s.fault.1 (omega (arith, all_faults, lt, no.0)),
+        | inr sound ↦ (
+          λ t. omega (arith, all_faults, s.fault.0 (sym (ap (λ m. list_any (λ r. is_fault r.met) s.runs || is_fault m) sound.1) ∙ t)),
+          λ lt. ap (λ m. list_any (λ r. is_fault r.met) s.runs || is_fault m) sound.1 ∙ s.fault.1 (omega (arith, all_faults, lt, sound.0)),
         )
       ]
 
       longer_then : (next : Run) → IsWithGroups run groups next → is_longer next.met ≡ false
       longer_then next is = elim (met_is next is) [
         | inl some ↦ ap is_longer some.1
-        | inr no ↦ ap is_longer no.1 ∙ s.not_longer
+        | inr sound ↦ ap is_longer sound.1 ∙ s.not_longer
       ]
 
       pub sharing_more : (next : Run) → IsWithGroups run groups next
