@@ -51,4 +51,4 @@ module _ (a b c : Option (List ℕ)) (before mid : Told) (count : ℕ) (buffer :
 
 -- a result that is known to be Ok
 pub ok_is : {T E : Type 0} (r : Result T E) (x : T) (P : T → Type 0) → r ≡ Ok x → IfOk r P → P x
-ok_is r x P is holds = subst (λ (s : Result _ _). IfOk s P) is holds
+ok_is {T} {E} r x P is holds = subst (λ (s : Result T E). IfOk s P) is holds

@@ -11,7 +11,7 @@ use Rattle.bt_check.specs.EntryCheck.{IsCheckable}
 use Rattle.bt_parts.specs.declared.cut.Part.{Part}
 use Rattle.bt_parts.specs.declared.cut.Share.{Share}
 use Rattle.bt_jobs.specs.Part.{IsPartAt}
-use Rattle.bt_jobs.specs.Plan.{AreShares}
+use Rattle.bt_jobs.specs.Plan.{AreShares, IsCutOf, IsShareOf, total_of}
 use Rattle.bt_jobs.specs.Trees.{IsReadyPart, file_in_part, part_at}
 use Rattle.bt_jobs.specs.declared.trees.FilePart.{FilePart}
 use Rattle.bt_jobs.specs.declared.trees.PartFile.{PartFile}
@@ -73,4 +73,5 @@ parts_ready layer part files shares parts are same own checkable =
 
 -- there is a share for each file
 pub shares_each : (layer : ℕ) (part : Part) (files : List File) (shares : List Share) → AreShares layer part files shares → length shares ≡ length files
-shares_each layer part files shares are = sym (zip_length _ files are.cuts are.are_cut ∙ zip_length _ are.cuts shares are.each)
+shares_each layer part files shares are =
+    sym (zip_length (IsCutOf layer files) files are.cuts are.are_cut ∙ zip_length (IsShareOf (total_of files) part) are.cuts shares are.each)
