@@ -52,7 +52,7 @@ pub joined_next : (all : List File) (number : ℕ) (file : File) (runs rest own 
 joined_next all number file runs rest own behind heard grown one lt is joins parted elsewhere joined more_is =
     let left : drop number all ≡ file ∷ drop (number + 1) all = drop_more all number file lt ∙ ap (λ f. f ∷ drop (number + 1) all) (sym is) in
     let are : map finding_of grown ≡ map finding_of heard ++ one.finding ∷ [] = ap (map finding_of) more_is ∙ map-append finding_of heard (one ∷ []) in
-    subst (JoinsRest (number + 1) all (drop (number + 1) all) runs behind) (sym are)
+    subst (λ fs. JoinsRest (number + 1) all (drop (number + 1) all) runs behind fs) (sym are)
     (subst (λ m. JoinsRest m all (drop (number + 1) all) runs behind (map finding_of heard ++ one.finding ∷ [])) (sym (add-one number))
     (joins_more number all (drop (number + 1) all) file runs rest own behind (map finding_of heard) one.finding
     (subst (λ fs. JoinsRest number all fs runs rest (map finding_of heard)) left joins) parted elsewhere joined))
