@@ -28,8 +28,8 @@ heard_none known told = record {
 
 module _ (a b c : Option (List ℕ)) (before mid : Told) (count : ℕ) (buffer : List ℕ) (h : Hears a b before mid) (given : IsGiven b c count buffer) where
   -- those of one read more
-  pub heard_more : (after : Told) (piece : List ℕ) → piece ≡ take count buffer → TakesIn piece mid after → Hears a c before after
-  heard_more after piece is more = record {
+  pub heard_more : (after : Told) (piece : List ℕ) → TakesIn piece mid after → piece ≡ take count buffer → Hears a c before after
+  heard_more after piece more is = record {
     bytes = h.bytes ++ take count buffer;
     taken = Consumes-trans a b c h.bytes (take count buffer) h.taken given.taken;
     told = λ text was.

@@ -4,5 +4,5 @@ pub returns-clause-told : goal.returns-clause-told
 returns-clause-told c = λ text is. record {
   told = c.in-Some.runs.items;
   lines = c.in-Some.ensures text is;
-  same = c.in_ok-sort.ensures.permutation;
+  same = c.sort.ensures.permutation;
 }

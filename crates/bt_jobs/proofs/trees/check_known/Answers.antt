@@ -12,10 +12,10 @@ check_share-requires-clause-ready g c =
     ready_at (c.in_ok-tree.ensures.tree c.requires.tree.0 c.requires.tree.1 c.requires.lawful.some)
     (subst (λ known. IsPieceEdge known file.length part.share.from) (sym c.requires.tree.2) c.requires.ready.edge)
 
-pub returns-then-part-part-clause-told : goal.returns-then-part-part-clause-told
-returns-then-part-part-clause-told g c =
+pub returns-then-part-clause-told : goal.returns-then-part-clause-told
+returns-then-part-clause-told g c =
     let d = g.D.Disk in
-    nothing_checked d.history d.honest d.faults c.args.size.layer c.args.part c.args.disk c.args.kept.now _ c.requires.ready.forward c.if-part-part.true
+    nothing_checked d.history d.honest d.faults c.args.size.layer c.args.part c.args.disk c.args.kept.now _ c.requires.ready.forward c.if-part.true
 
 pub returns-clause-told : goal.returns-clause-told
 returns-clause-told g c = λ before has own.
