@@ -27,8 +27,8 @@ pub record HasEndedWell {P I O E : Type 0} (child : Child P I O E) : Type 0 wher
   pub ended : child_status child ≡ Some status
   pub well : exit_code status ≡ Some (pos 0)
 
--- The fault that a part's end comes to, of which the code is none where a signal ended it: memory was short where the
--- code says so, and else a device failed.
+-- The fault that a part's end comes to, of which the code is none where a signal ended it: memory was short
+-- where the code says so, and else a device failed.
 abbrev pub IsPartFault : Option ℤ → Fault → Type 0
 IsPartFault code fault = (code ≢ Some (pos 0))
     × (((code ≡ Some (pos 4)) × (fault ≡ out_of_memory)) ⊎ ((code ≢ Some (pos 4)) × (fault ≡ device)))

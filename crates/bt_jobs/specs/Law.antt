@@ -14,14 +14,16 @@ abbrev pub runs_of : ℕ → List Run → List Run
 runs_of number runs = filter (λ run. run.file == number) runs
 
 -- These are reports of so many parts: one of each from a part on to the last.
-pub data AreReports (dir : List ℕ) (torrent : Metainfo) (count : ℕ) : (index : ℕ) → List (List Run) → Type 0 where
+pub data AreReports (dir : List ℕ) (torrent : Metainfo) (count : ℕ)
+    : (index : ℕ) → List (List Run) → Type 0 where
   none : AreReports dir torrent count count []
   more : (index : ℕ) (part : Part) (runs : List Run) (rest : List (List Run)) → part.index ≡ index
-      → part.count ≡ count → IsPartReport dir torrent part runs → AreReports dir torrent count (index + 1) rest
+      → part.count ≡ count → IsPartReport dir torrent part runs
+      → AreReports dir torrent count (index + 1) rest
       → AreReports dir torrent count index (runs ∷ rest)
 
--- What all parts tell of a file, part by part, are runs of all its blocks, each block once; and there is one at
--- least. So whoever puts them into this order can join them.
+-- What all parts tell of a file, part by part, are runs of all its blocks, each block once; and there is one
+-- at least. So whoever puts them into this order can join them.
 abbrev pub PartsAreWhole : Type 0
 PartsAreWhole = (dir : List ℕ) (torrent : Metainfo) (count : ℕ) (reports : List (List Run)) → 0 < count
     → AreReports dir torrent count 0 reports

@@ -31,8 +31,8 @@ device_faults disk = disk.failed
 abbrev pub IsPartAt : List ℕ → PartFile PooledView → Type 0
 IsPartAt dir d = IfSome d.disk (λ disk. disk.path ≡ path_below dir (file_in_part d.part).path)
 
--- The runs are what is told of the part's shares of a torrent's files, in order, by the answers of the devices at
--- their paths below a folder.
+-- The runs are what is told of the part's shares of a torrent's files, in order, by the answers of the
+-- devices at their paths below a folder.
 pub record IsPartReport (dir : List ℕ) (torrent : Metainfo) (part : Part) (runs : List Run) : Type 0 where
   pub layer : ℕ
   pub pieces : torrent.piece_length ≡ full_block_length * 2 ^ layer

@@ -1,6 +1,6 @@
--- What a part has of each file of a torrent. All bytes of the files are counted through, in the order of the files: one
--- without a byte counts as one byte, and files of one root and length lie at one place, so that a part has the same of
--- each of them.
+-- What a part has of each file of a torrent. All bytes of the files are counted through, in the order of the
+-- files: one without a byte counts as one byte, and files of one root and length lie at one place, so that a
+-- part has the same of each of them.
 use Rattle.std.specs.Prelude.{◌≡◌, ℕ, ◌+◌, ◌↔◌, if◌then◌else◌, IsTrue, Bool, List, [], ◌∷◌, ◌++◌, max}
 use Rattle.std.specs.List.{AllZip, list_any}
 use Rattle.bt_tree.specs.Blocks.{block_count}

@@ -12,8 +12,8 @@ use Rattle.bt_parts.specs.declared.run.Run.{Run}
 use Rattle.bt_jobs.specs.Told.{TellsEach}
 use Rattle.bt_jobs.specs.declared.report.Heard.{Heard}
 
--- The findings are of these files, of which the first has this number, and each is what the file's runs come to:
--- all blocks of each file are told, each once, and nothing else is.
+-- The findings are of these files, of which the first has this number, and each is what the file's runs come
+-- to: all blocks of each file are told, each once, and nothing else is.
 pub data AreJoined : (number : ℕ) → List File → List Run → List Finding → Type 0 where
   none : (number : ℕ) → AreJoined number [] [] []
   more : (number : ℕ) (file : File) (files : List File) (own rest : List Run) (finding : Finding)
@@ -25,7 +25,8 @@ pub data AreJoined : (number : ℕ) → List File → List Run → List Finding 
 abbrev pub finding_of : Heard → Finding
 finding_of heard = heard.finding
 
--- The findings are of a torrent's files, as runs tell them, of which there are lines, and the summary is theirs.
+-- The findings are of a torrent's files, as runs tell them, of which there are lines, and the summary is
+-- theirs.
 pub record IsJoinedReport (torrent : Metainfo) (found : List FileFinding) (summary : Summary) : Type 0 where
   pub each : map file_in found ≡ torrent.files
   pub text : List ℕ

@@ -32,9 +32,9 @@ abbrev pub IsPieceEdge : KnownLayer → ℕ → ℕ → Type 0
 IsPieceEdge known n block =
     (block ≡ block / 2 ^ known.layer * 2 ^ known.layer) ⊎ (block ≡ block_count n)
 
--- These runs are of a file's blocks from one on to before another, each of which was read, in turn. A run counts
--- the blocks that are right by the reads, as a check of the whole file does; and a run tells of a fault where a
--- read failed.
+-- These runs are of a file's blocks from one on to before another, each of which was read, in turn. A run
+-- counts the blocks that are right by the reads, as a check of the whole file does; and a run tells of a
+-- fault where a read failed.
 pub record IsShareCheck (n : ℕ) (known : KnownLayer) (leaves : ℕ → Option (List ℕ)) (file from to : ℕ)
     (reads : List BlockRead) (runs : List Run) : Type 0 where
   pub each : map block_of reads ≡ range_with_len from (to - from)
@@ -54,8 +54,8 @@ abbrev pub IsReadyAt : ℕ → Facts → Type 0
 IsReadyAt block k = (known : KnownLayer) × (leaves : ℕ → Option (List ℕ))
     × HoldsLeaves k.file_length known leaves k × IsPieceEdge known k.file_length block
 
--- The blocks of a share were checked by what a tree knows: these calls lead from the old device to the new one,
--- the tree learns the leaves of the pieces that are right, and a line was written for each run.
+-- The blocks of a share were checked by what a tree knows: these calls lead from the old device to the new
+-- one, the tree learns the leaves of the pieces that are right, and a line was written for each run.
 abbrev pub ChecksShare : {D : Type 0} → (D → History) → (D → Type 0) → (D → ℕ) → Facts → ℕ → Share → D → D
     → Facts → (old new : Option (List ℕ)) → Type 0
 ChecksShare history honest faults tree file share disk after grown old new =

@@ -1,5 +1,5 @@
--- What a part tells of the files of a torrent, whose pieces have 2 ^ layer blocks, by what it read of the files
--- before.
+-- What a part tells of the files of a torrent, whose pieces have 2 ^ layer blocks, by what it read of the
+-- files before.
 use Rattle.std.specs.Prelude.{◌≡◌, ◌≢◌, ℕ, ◌-◌, ◌<◌, ◌≤◌, ◌↔◌, ◌⊎◌, if◌then◌else◌, IsTrue, IsSomeAnd, List, [], ◌∷◌, ◌++◌, Option, None, Some, map}
 use Rattle.std.specs.List.{All, list_any, range_with_len}
 use Rattle.bt_tree.specs.Blocks.{block_count}
@@ -27,8 +27,8 @@ file_in_part part = file_of part.file.now
 abbrev pub part_at : {D : Type 0} → PartFile D → FilePart
 part_at d = d.part
 
--- The runs are of a share of a file of this number, each block once; and where the part has the byte at which the
--- file begins, there is one.
+-- The runs are of a share of a file of this number, each block once; and where the part has the byte at which
+-- the file begins, there is one.
 pub record AreRunsOf (number blocks : ℕ) (share : Share) (runs : List Run) : Type 0 where
   pub own : All (λ run. run.file ≡ number) runs
   pub chain : IsChain blocks share.from runs share.to
@@ -51,10 +51,11 @@ answers_of n share len reads = record {
   reads = share_reads (block_count n) share.from share.to reads;
 }
 
--- The blocks of the share were read, in turn, and each run counts those of its blocks that are right, as a check of
--- the whole does by the same reads. Longer and a fault are told just where the length or a read says so.
-pub record IsShareFinding (layer : ℕ) (before : List CheckedFile) (file : File) (share : Share) (len : Option ℕ)
-    (reads : List BlockRead) (runs : List Run) : Type 0 where
+-- The blocks of the share were read, in turn, and each run counts those of its blocks that are right, as a
+-- check of the whole does by the same reads. Longer and a fault are told just where the length or a read says
+-- so.
+pub record IsShareFinding (layer : ℕ) (before : List CheckedFile) (file : File) (share : Share)
+    (len : Option ℕ) (reads : List BlockRead) (runs : List Run) : Type 0 where
   pub each : map block_of reads ≡ range_with_len share.from (share.to - share.from)
   pub counts : All (IsCountOf (is_right_block
       (is_node_read (share_reads (block_count file.length) share.from share.to reads) file.length)
@@ -66,8 +67,8 @@ pub record IsShareFinding (layer : ℕ) (before : List CheckedFile) (file : File
 
 -- ---- what is told
 
--- What is told of a share of a file, by the answers of its device, and which files are read then. There is no device,
--- and no block is right; or there is one, of whose blocks the share has none, or some.
+-- What is told of a share of a file, by the answers of its device, and which files are read then. There is no
+-- device, and no block is right; or there is one, of whose blocks the share has none, or some.
 pub data IsPartFinding {D : Type 0} (history : D → History) (honest : D → Type 0) (faults : D → ℕ) (layer : ℕ)
     (before : List CheckedFile) (file : File) (share : Share) (runs : List Run)
     : Option D → List CheckedFile → Type 0 where
@@ -84,13 +85,14 @@ pub data IsPartFinding {D : Type 0} (history : D → History) (honest : D → Ty
       (before ++ record { file = file; answers = answers_of file.length share len reads } ∷ [])
 
 -- what is told of some files, each after those before it, and which are read then
-pub data ArePartFindings {D : Type 0} (history : D → History) (honest : D → Type 0) (faults : D → ℕ) (layer : ℕ)
-    : List CheckedFile → List (PartFile D) → List Run → List CheckedFile → Type 0 where
+pub data ArePartFindings {D : Type 0} (history : D → History) (honest : D → Type 0) (faults : D → ℕ)
+    (layer : ℕ) : List CheckedFile → List (PartFile D) → List Run → List CheckedFile → Type 0 where
   none : (before : List CheckedFile) → ArePartFindings history honest faults layer before [] [] before
   more : (before mid after : List CheckedFile) (one : PartFile D) (rest : List (PartFile D))
       (runs others : List Run)
       → AreRunsOf one.part.number (block_count (file_in_part one.part).length) one.part.share runs
-      → IsPartFinding history honest faults layer before (file_in_part one.part) one.part.share runs one.disk mid
+      → IsPartFinding history honest faults layer before (file_in_part one.part) one.part.share runs
+      one.disk mid
       → ArePartFindings history honest faults layer mid rest others after
       → ArePartFindings history honest faults layer before (one ∷ rest) (runs ++ others) after
 

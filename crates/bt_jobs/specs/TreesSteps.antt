@@ -30,8 +30,8 @@ use Rattle.bt_jobs.specs.declared.trees.PartTrees.{PartTrees}
 abbrev pub shared_of : PartTrees → SharedTrees
 shared_of trees = record { kept = trees.kept; last = trees.last; left = trees.left }
 
--- Trees after some files were checked, before the others; and the layer of each file that was checked goes by its
--- length and root.
+-- Trees after some files were checked, before the others; and the layer of each file that was checked goes by
+-- its length and root.
 pub record KeepsParts (layer : ℕ) (layer_at : ℕ → List ℕ → List ℕ) (before : List CheckedFile)
     (left : List File) (trees : PartTrees) : Type 0 where
   pub kept : KeepsTrees layer before left (shared_of trees)
@@ -65,19 +65,21 @@ pub record IsMeasured (n : ℕ) (len : Option ℕ) (met : Met) : Type 0 where
   pub longer : IsTrue (is_longer met) ↔ IsSomeAnd len (λ l. n < l)
   pub faulty : IsTrue (is_fault met) ↔ (len ≡ None)
 
--- What was met where the length was asked for is told by a run of no blocks; where it was not, there is no run.
+-- What was met where the length was asked for is told by a run of no blocks; where it was not, there is no
+-- run.
 pub data AreLengthRuns (part : FilePart) (len : Option ℕ) : List Run → Type 0 where
   asked : (met : Met) → IsTrue part.share.is_first → IsMeasured (file_in_part part).length len met
       → AreLengthRuns part len (no_blocks part met ∷ [])
   unasked : ¬ IsTrue part.share.is_first → AreLengthRuns part len []
 
--- The length of a data file was told, where the part has the byte at which it begins: no other call led from the old
--- device to the new one.
+-- The length of a data file was told, where the part has the byte at which it begins: no other call led from
+-- the old device to the new one.
 abbrev pub TellsLength : {D : Type 0} → (D → History) → (D → Type 0) → (D → ℕ) → FilePart → D → D
     → (old new : Option (List ℕ)) → Type 0
 TellsLength history honest faults part disk after old new =
     (len : Option ℕ) × (runs : List Run) × AreLengthRuns part len runs
-    × HasCalls history honest faults disk (length_calls part.share len) after × Appends old new (runs_text runs)
+    × HasCalls history honest faults disk (length_calls part.share len) after
+    × Appends old new (runs_text runs)
 
 -- ---- a file that is not there
 
@@ -110,10 +112,10 @@ TellsAbsent part old new = (runs : List Run)
 
 -- ---- one file
 
--- The blocks of a part were read and told, if it has some, and what is kept of any file is so after it too, whatever
--- length the device tells.
-abbrev pub ChecksBlocks : {D : Type 0} → (D → History) → (D → Type 0) → (D → ℕ) → ℕ → FilePart → D → Kept → Kept
-    → (old new : Option (List ℕ)) → Type 0
+-- The blocks of a part were read and told, if it has some, and what is kept of any file is so after it too,
+-- whatever length the device tells.
+abbrev pub ChecksBlocks : {D : Type 0} → (D → History) → (D → Type 0) → (D → ℕ) → ℕ → FilePart → D → Kept
+    → Kept → (old new : Option (List ℕ)) → Type 0
 ChecksBlocks {D} history honest faults layer part disk kept grown old new =
     let file = file_in_part part in
     (before : List CheckedFile) → HasTree layer before file kept → KnowsOwn layer before file
@@ -121,8 +123,8 @@ ChecksBlocks {D} history honest faults layer part disk kept grown old new =
     × IsShareCheck file.length (layer_before layer before file) (leaves_before layer before file) part.number
     part.share.from part.share.to reads runs
     × HasCalls history honest faults disk (map (call_of file.length) reads) last
-    × ((len : Option ℕ) → KeepsOthers layer before file part.share (answers_of file.length part.share len reads)
-    kept grown)
+    × ((len : Option ℕ) → KeepsOthers layer before file part.share
+    (answers_of file.length part.share len reads) kept grown)
     × Appends old new (runs_text runs)
 
 -- A part of a file was checked and told, and what is kept of any file is so after it too.
@@ -141,7 +143,8 @@ ChecksPart history honest faults layer part disk kept grown old new =
 
 -- The part is of the next file.
 abbrev pub IsNextPart : ℕ → FilePart → PartTrees → Type 0
-IsNextPart layer part trees = (layer_at : ℕ → List ℕ → List ℕ) × (before : List CheckedFile) × (rest : List File)
+IsNextPart layer part trees =
+    (layer_at : ℕ → List ℕ → List ℕ) × (before : List CheckedFile) × (rest : List File)
     × KeepsParts layer layer_at before (file_in_part part ∷ rest) trees
     × GoByRoots layer_at (file_in_part part ∷ [])
 
