@@ -14,3 +14,4 @@ pub mod Settlements
 pub mod OtherFiles
 pub mod OtherMarks
 pub mod Adoptions
+pub mod OwnTrees

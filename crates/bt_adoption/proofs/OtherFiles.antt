@@ -9,7 +9,7 @@ use Rattle.bt_state.specs.Ties.{root_and_length}
 use Rattle.bt_state.specs.declared.parts.Parts.{Parts}
 use Rattle.bt_state.proofs.DeviceCalls.{have_none, have_then}
 use Rattle.bt_state.proofs.Leaves.{leaves_alike, leaves_then}
-use Rattle.bt_adoption.specs.PartsSteps.{AreInLine, KeepsRest, blocks_in}
+use Rattle.bt_adoption.specs.PartsSteps.{AreInLine, KeepsRest, block_count_of_tree}
 use Rattle.bt_adoption.specs.SettlingSteps.{SettlesFiles}
 use Rattle.bt_adoption.proofs.Settlements.{before, same_meant, settles_none, settles_then}
 
@@ -81,7 +81,7 @@ module _ {D H : Type 0} {history : D → History} {honest : D → Type 0} {fault
       [],
       _,
       have_none history honest faults (disks_of old),
-      settles_none dig tree (blocks_in (state_of old) tree) (before file 0) (state_of old)
+      settles_none dig tree (block_count_of_tree (state_of old) tree) (before file 0) (state_of old)
           (get_some old.trees.items tree (omega (arith, lt, old.trees.ok.0))).1 (λ f. none_from file 0 f (omega arith)),
     );
     log = refl;
@@ -94,7 +94,7 @@ module _ {D H : Type 0} {history : D → History} {honest : D → Type 0} {fault
   settled_more {i} {parts} {new} a apart (calls, notes, have, two) log rest in_line =
       let size : length (state_of parts).files ≡ length (state_of old).files =
       length-map parts.slots.items file_of ∙ a.rest.count ∙ sym (length-map old.slots.items file_of) in
-      let both = settles_then dig tree (blocks_in (state_of old) tree) i a.settles.3
+      let both = settles_then dig tree (block_count_of_tree (state_of old) tree) i a.settles.3
       (subst (λ n. SettlesIn dig (λ other. other == i) tree 0 n (state_of parts) calls notes (state_of new)) (a.rest.blocks tree) two)
       size (none_from file i) (not_it file i) (same_before file i) (it_alone file i apart) in
       record {
@@ -111,7 +111,7 @@ module _ {D H : Type 0} {history : D → History} {honest : D → Type 0} {fault
 
   pub settled_skipped : {i : ℕ} {parts : Parts D H} → AreSettled history honest faults dig file tree old i parts → i ≡ file → AreSettled history honest faults dig file tree old (i + 1) parts
   settled_skipped {i} a own = record {
-    settles = (a.settles.0, a.settles.1, a.settles.2, same_meant dig tree (blocks_in (state_of old) tree) (λ f lt. skipped file i own f) a.settles.3);
+    settles = (a.settles.0, a.settles.1, a.settles.2, same_meant dig tree (block_count_of_tree (state_of old) tree) (λ f lt. skipped file i own f) a.settles.3);
     log = a.log;
     rest = a.rest;
     in_line = a.in_line;
@@ -123,6 +123,6 @@ module _ {D H : Type 0} {history : D → History} {honest : D → Type 0} {fault
     a.settles.0,
     a.settles.1,
     a.settles.2,
-    same_meant dig tree (blocks_in (state_of old) tree)
+    same_meant dig tree (block_count_of_tree (state_of old) tree)
         (λ f lt. all_before file i f (omega (arith, lt, all, length-map old.slots.items file_of))) a.settles.3,
   )

@@ -1,22 +1,26 @@
 //! The other files of a tree, of which blocks waited for their leaf.
 ghost use Rattle.std.specs.Prelude.{[], ◌≡◌, ◌<◌, ◌==◌, ◌↔◌, IsTrue, OnOk, OnErr, length, vec_len, slice_get, Some};
 ghost use Rattle.bt_machine.specs.Adopting.{is_other};
-ghost use Rattle.bt_state.specs.Parts.{pending_of};
+ghost use Rattle.bt_machine.specs.Blocks.{states_of};
+ghost use Rattle.bt_machine.specs.Shape.{IsShaped};
+ghost use Rattle.bt_state.specs.Parts.{state_of, pending_of};
+ghost use Rattle.bt_state.specs.Ties.{IsTied};
 ghost use Rattle.bt_adoption.specs.PartsSteps.{AreFit, AreInLine, KeepsRest, ChangesFile};
 ghost use Rattle.bt_adoption.specs.SettlingSteps.{SettlesFiles, SettlesOthers, IsDue};
-ghost use Rattle.bt_adoption.specs.WaitingSteps.{KeepsLog};
+ghost use Rattle.bt_adoption.specs.WaitingSteps.{OnlyPendingChanges};
 
 use crate::recount::{count_in, leave_out};
-use crate::waiting::{leave_marks, plan_marks};
+use crate::waiting::{leave_marks, list_waiting};
 use bt_disk::Disk;
 use bt_state::{Parts, Slot};
 use bt_tree::NodeHash;
 use std::alloc::{AllocError, Global};
 
-/// Settles all blocks of the other files of a tree, all but this one. With a log the marks of those that have
-/// become marked are pending behind what was. No peer is connected.
+/// Settles all blocks of the other files of a tree, all but this one, which has a block. With a log the marks
+/// of those that have become marked are pending behind what was. No peer is connected. Where there are as many
+/// trees as files, no file is looked at.
 ///
-/// The one error is out of memory: then no block has changed, and nothing more is pending.
+/// Errors: out of memory, and then no block has changed, and nothing more is pending.
 pub(crate) fn settle_recorded<D: Disk + Drop, H: NodeHash>(
     alloc: Global,
     parts: &mut Parts<D, H>,
@@ -24,19 +28,26 @@ pub(crate) fn settle_recorded<D: Disk + Drop, H: NodeHash>(
     file: u32,
 ) -> Result<(), AllocError>
     requires alone { parts.old.peers.items ≡ [] }
-    requires in_line { AreInLine parts.old }
-    requires count { length parts.old.slots.items ≡ length parts.old.torrent.files }
+    requires tied { IsTied parts.old }
+    requires shaped { IsShaped parts.old.torrent (state_of parts.old) }
     requires here { tree < vec_len parts.old.trees }
+    requires of_tree { (slot : Slot D H) → slice_get parts.old.slots.items file ≡ Some slot → slot.tree ≡ tree }
+    requires inside { file < vec_len parts.old.slots }
+    requires some { 0 < length (states_of (state_of parts.old) file) }
     ensures settles { OnOk result (SettlesOthers D.history D.honest D.faults H.digest file tree
         parts.old parts.new) }
-    ensures refused { OnErr result (KeepsLog parts.old parts.new) }
+    ensures refused { OnErr result (OnlyPendingChanges parts.old parts.new) }
     ensures pending { OnErr result (pending_of parts.new.log ≡ pending_of parts.old.log) }
     ensures rest { KeepsRest parts.old parts.new }
     ensures in_line { AreInLine parts.new }
 {
-    let waiting = plan_marks(alloc, parts, tree, file)?;
+    if parts.trees.len() == parts.slots.len() {
+        // Each file has a tree of its own.
+        return Ok(());
+    }
+    let listed = list_waiting(alloc, parts, tree, file)?;
     settle_others(parts, tree, file);
-    leave_marks(parts, &waiting);
+    leave_marks(parts, &listed);
     Ok(())
 }
 

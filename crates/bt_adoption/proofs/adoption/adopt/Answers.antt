@@ -1,8 +1,10 @@
-use Rattle.std.proofs.Common.{length, sym, ap, ◌∙◌, arith}
+use Rattle.std.proofs.Common.{sym, ap, ◌∙◌, arith}
 use Rattle.bt_state.specs.declared.parts.Parts.{Parts}
 use Rattle.bt_adoption.proofs.Slots.{here_at}
 use Rattle.bt_adoption.proofs.OtherFiles.{as_many_trees, rest_then}
-use Rattle.bt_adoption.proofs.Adoptions.{in_line_first, tied_last, alone_if, steps_no_file, steps_busy, steps_empty, steps_stopped, steps_unsettled, steps_adopted, tree_below}
+use Rattle.bt_adoption.proofs.Adoptions.{in_line_first, tied_last, alone_if, steps_no_file, steps_busy, steps_empty, steps_stopped, steps_unsettled, steps_adopted, tree_below, groups_size}
+use Rattle.bt_adoption.proofs.OwnTrees.{shaped_behind, tree_behind}
+use Rattle.bt_state.specs.Parts.{state_of}
 use Rattle.bt_adoption.proofs.adoption.adopt.Goals as goal
 
 pub returns-then-file-len-clause-step : goal.returns-then-file-len-clause-step
@@ -40,10 +42,36 @@ pub settle_recorded-requires-clause-alone : goal.settle_recorded-requires-clause
 settle_recorded-requires-clause-alone g c =
     ap (λ (p : Parts g.row.D.Denot g.row.H.Denot). p.peers.items) c.adopt_file.ensures.rest.others ∙ alone_if c.has_peer.ensures.1 c.if-has_peer.false
 
-pub settle_recorded-requires-clause-count : goal.settle_recorded-requires-clause-count
-settle_recorded-requires-clause-count g c =
-    c.adopt_file.ensures.rest.count ∙ c.requires.tied.count
-    ∙ sym (ap (λ (p : Parts g.row.D.Denot g.row.H.Denot). length p.torrent.files) c.adopt_file.ensures.rest.others)
+pub settle_recorded-requires-clause-tied : goal.settle_recorded-requires-clause-tied
+settle_recorded-requires-clause-tied g c = tied_last c.args.parts.now c.requires.tied c.adopt_file.new.parts c.adopt_file.ensures.rest c.adopt_file.ensures.in_line
+
+pub settle_recorded-requires-clause-shaped : goal.settle_recorded-requires-clause-shaped
+settle_recorded-requires-clause-shaped g c =
+    let old = c.args.parts.now in
+    let here = here_at old (omega (arith, c.if-file-len.false, c.len.ensures)) c.index.ensures in
+    shaped_behind old c.args.file here (omega (arith, c.if-block_count-eq0.false, c.block_count.ensures)) (alone_if c.has_peer.ensures.1 c.if-has_peer.false)
+    c.in-Ok.ensures.ok c.adopt_file.ensures.rest c.adopt_file.ensures.in_line c.requires.shaped
+
+pub settle_recorded-requires-clause-of_tree : goal.settle_recorded-requires-clause-of_tree
+settle_recorded-requires-clause-of_tree g c = λ slot at.
+    let old = c.args.parts.now in
+    let here = here_at old (omega (arith, c.if-file-len.false, c.len.ensures)) c.index.ensures in
+    tree_behind old c.args.file here (omega (arith, c.if-block_count-eq0.false, c.block_count.ensures)) (alone_if c.has_peer.ensures.1 c.if-has_peer.false)
+    c.in-Ok.ensures.ok c.adopt_file.ensures.rest c.adopt_file.ensures.in_line at
+
+pub settle_recorded-requires-clause-inside : goal.settle_recorded-requires-clause-inside
+settle_recorded-requires-clause-inside g c =
+    omega (arith, c.if-file-len.false, c.len.ensures, c.adopt_file.ensures.rest.count, c.args.parts.now.slots.ok.0, c.adopt_file.new.parts.slots.ok.0)
+
+pub settle_recorded-requires-clause-some : goal.settle_recorded-requires-clause-some
+settle_recorded-requires-clause-some g c =
+    let a = c.in-Ok.ensures.ok in
+    omega (
+      arith,
+      c.if-block_count-eq0.false,
+      c.block_count.ensures,
+      groups_size g.H.NodeHash.digest c.args.file (state_of c.args.parts.now) (state_of c.adopt_file.new.parts) 0 a.groups c.in-Ok.total a.adopts,
+    )
 
 pub settle_recorded-requires-clause-here : goal.settle_recorded-requires-clause-here
 settle_recorded-requires-clause-here g c =

@@ -22,7 +22,7 @@ returns-then-adopted-gt0-clause-ok g c =
     takes_found c.args.file c.args.pending.now.hints c.in_ok-adopted.ensures.ok.1 c.push_runs.new.pending.hints (c.requires.states ∙ sym (ap block_count c.requires.geometry))
     c.group_below-group.ensures.group c.in_ok-runs.runs.items c.push_proofs.new.pending.hints c.if-adopted-gt0.true
     (proofs, zip, hints ∙ ap (λ hs. add_hints hs proofs) c.reserve.ensures.hints) c.in_ok-runs.ensures.blocks
-    (c.push_runs.ensures ∙ ap (λ (runs : List Run). add_hints c.push_proofs.new.pending.hints (marks_in c.args.file (flat_map run_blocks runs))) c.deref.ensures.value)
+    (c.push_runs.ensures.hints ∙ ap (λ (runs : List Run). add_hints c.push_proofs.new.pending.hints (marks_in c.args.file (flat_map run_blocks runs))) c.deref.ensures.value)
 
 pub returns-else-adopted-gt0-clause-ok : goal.returns-else-adopted-gt0-clause-ok
 returns-else-adopted-gt0-clause-ok g c =

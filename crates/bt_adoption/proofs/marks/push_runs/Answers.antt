@@ -11,6 +11,6 @@ loop-run-preserved c =
     record {
       hints = c.push.ensures.hints
           ∙ runs_more c.args.pending.now.hints l.pending.hints c.args.file runs l.run-index _ (omega (arith, c.loop-run-test.true)) refl
-          (All-get_or (λ r. IsRun r.first r.count) runs l.run-index _ (omega (arith, c.loop-run-test.true)) c.requires.runs).some l.invariant.hints;
+          (All-get_or (λ r. IsRun r.first r.count) runs l.run-index _ (omega (arith, c.loop-run-test.true)) c.requires.runs.each).some l.invariant.hints;
       room = omega (arith, l.invariant.room, c.push.ensures.room);
     }
