@@ -1,17 +1,16 @@
 -- Blocks that wait, and what is left of them for a log once they are settled.
-use Rattle.bt_machine.proofs.Base.{[], ◌≡◌, ◌≢◌, ℕ, zero, suc, ◌+◌, ◌<◌, inl, inr, Bool, true, false, not, cond, if◌then◌else◌, ◌==◌, List, ◌∷◌, ◌++◌, length, map, take, get_or, filter, flat_map, Option, Some, None, is_some, refl, sym, ap, ◌∙◌, subst, arith, append-nil, length-map, filter-append, slice_get, option_map_or, range_with_len, cases_lt, eq-eqb, eqb-true, is_waiting, is_waiting_at, BlockState, Missing, Waiting, Marked, BlockId, History}
+use Rattle.bt_machine.proofs.Base.{[], ◌≡◌, ◌≢◌, ℕ, zero, suc, ◌+◌, ◌<◌, ◌≤◌, inl, inr, Bool, true, false, not, cond, if◌then◌else◌, ◌==◌, List, ◌∷◌, ◌++◌, length, map, take, get_or, filter, flat_map, Option, Some, None, is_some, refl, sym, ap, ◌∙◌, subst, arith, append-nil, length-map, filter-append, slice_get, option_map_or, range_with_len, cases_lt, eq-eqb, eqb-true, is_waiting, is_waiting_at, BlockState, Missing, Waiting, Marked, BlockId, History}
 use Rattle.std.specs.List.{count_by}
-use Rattle.std.proofs.Common.{append_assoc}
 use Rattle.std.proofs.lemmas.Bool.{ne_eqb}
 use Rattle.std.proofs.lemmas.List.{map-append}
-use Rattle.std.proofs.lemmas.List.Elements.{filter_agree}
+use Rattle.std.proofs.lemmas.List.Elements.{filter_agree, All-head, All-tail}
 use Rattle.bt_store.specs.Review.{is_marked_at}
 use Rattle.bt_state.proofs.Lists.{filter_mapped}
 use Rattle.std.proofs.lemmas.List.Sums.{sum_by-cons}
 use Rattle.bt_store.specs.FileStore.{StoreView}
 use Rattle.bt_machine.specs.declared.answer.Note.{Note}
 use Rattle.bt_machine.specs.State.{EngineState, FileState, Hint, mark_of}
-use Rattle.bt_machine.specs.Hints.{add_hint, add_hints}
+use Rattle.bt_machine.specs.Hints.{add_hints}
 use Rattle.bt_machine.specs.Devices.{DeviceCalls, HaveCalls}
 use Rattle.bt_machine.specs.Blocks.{block_id, new_marked_blocks}
 use Rattle.bt_machine.specs.Next.{with_pending}
@@ -22,11 +21,14 @@ use Rattle.bt_state.specs.declared.slot.Slot.{Slot}
 use Rattle.bt_state.specs.declared.parts.Parts.{Parts}
 use Rattle.bt_adoption.specs.PartsSteps.{KeepsRest, block_count_of_tree}
 use Rattle.bt_adoption.specs.SettlingSteps.{SettlesFiles, SettlesOthers, IsDue}
-use Rattle.bt_adoption.specs.MarksSteps.{marks_in}
-use Rattle.bt_adoption.specs.WaitingSteps.{OnlyPendingChanges, is_marked_among, waiting_blocks_in, waiting_in, waiting_in_others, listed_in, listed_blocks}
+use Rattle.bt_tree.specs.Limits.{max_block_count}
+use Rattle.bt_adoption.specs.declared.marks.Run.{Run}
+use Rattle.bt_adoption.specs.MarksSteps.{marks_in, run_blocks, AreRuns, most_hints}
+use Rattle.bt_adoption.specs.WaitingSteps.{OnlyPendingChanges, is_marked_among, waiting_blocks_in, waiting_in, waiting_in_others, listed_in, listed_blocks, AreListed, most_hints_of_all}
 use Rattle.bt_adoption.specs.declared.waiting.FileRuns.{FileRuns}
 use Rattle.bt_adoption.proofs.Ranges.{range_more, flat_map_more, flat_map_take, filter_off, keeps_none}
 use Rattle.bt_adoption.proofs.Hints.{add_more}
+use Rattle.bt_adoption.proofs.RunMarks.{few_hints, no_hints}
 use Rattle.bt_adoption.proofs.News.{all_listed, marked_of, map_both}
 use Rattle.bt_adoption.proofs.Logs.{logged_same, state_with, state_same, same_disks}
 
@@ -103,6 +105,26 @@ module _ {D H : Type 0} (slot : Slot D H) (tree : ℕ) where
 pub listed_put : (files : List FileRuns) (one : FileRuns) → listed_blocks (files ++ one ∷ []) ≡ listed_blocks files ++ listed_in one
 listed_put files one = flat_map_more listed_in files (one ∷ []) ∙ ap (λ xs. listed_blocks files ++ xs) (append-nil (listed_in one))
 
+-- ---- room for their marks
+
+-- the marks of one file's blocks take no more hints than a file may have blocks
+pub few_in : (listed : List FileRuns) → AreListed listed → (i : ℕ) {one : FileRuns} → i < length listed → one ≡ get_or listed i one → {runs : List Run} → runs ≡ one.runs.items
+    → most_hints runs ≤ max_block_count
+few_in listed are i {one} lt is {runs} same =
+    let own : AreRuns one.runs.items = subst (λ (x : FileRuns). AreRuns x.runs.items) (sym is) (are i one lt) in
+    let alike : most_hints runs ≡ most_hints one.runs.items = ap (λ (xs : List Run). most_hints xs) same in
+    omega (arith, alike, few_hints one.runs.items own)
+
+-- those that leave no hint are none
+pub none_listed : (listed : List FileRuns) → AreListed listed → most_hints_of_all listed ≤ 0 → listed_blocks listed ≡ []
+none_listed [] are none = refl
+none_listed (one ∷ listed) are none =
+    let sum = sum_by-cons (λ (x : FileRuns). most_hints x.runs.items) one listed in
+    let own : flat_map run_blocks one.runs.items ≡ [] =
+    ap (flat_map run_blocks) (no_hints one.runs.items (All-head (λ (x : FileRuns). AreRuns x.runs.items) one listed are) (omega (arith, none, sum))) in
+    ap (λ xs. map (block_id one.file) xs ++ listed_blocks listed) own
+    ∙ none_listed listed (All-tail (λ (x : FileRuns). AreRuns x.runs.items) one listed are) (omega (arith, none, sum))
+
 -- ---- marks of those that are marked then
 
 -- those of one file more
@@ -136,6 +158,10 @@ module _ (files : List FileState) (file : ℕ) (blocks : List ℕ) where
       (sym (ap (map (block_id file)) (filter_agree (λ i. is_marked_among files (block_id file i)) (λ i. false)
       (λ i. ap (λ o. option_map_or (λ (f : FileState). is_marked_at f.states i) o false) none) blocks ∙ keeps_none blocks))
       ∙ filter_mapped (block_id file) (is_marked_among files) blocks)
+
+-- the states of a slot's file
+pub states_by : {D H : Type 0} (slot : Slot D H) {store : Option (StoreView D)} → slot.store ≡ store → (file_of slot).states ≡ option_map_or (λ (st : StoreView D). st.states) store []
+states_by {D} slot has = ap (λ (o : Option (StoreView D)). option_map_or (λ st. st.states) o []) has
 
 -- a file without a block has none that is marked
 pub none_marked : (blocks : List ℕ) → filter (is_marked_at []) blocks ≡ []

@@ -1,16 +1,12 @@
 -- Where there are as many trees as files, no two files that have a block share one.
-use Rattle.bt_machine.proofs.Base.{[], ◌≡◌, ◌≢◌, ℕ, zero, suc, ◌+◌, ◌<◌, ◌≤◌, inl, inr, Bool, true, false, not, ◌==◌, if◌then◌else◌, List, ◌∷◌, ◌++◌, All, length, map, flat_map, filter, get_or, Option, Some, None, Result, Err, refl, sym, ap, ◌∙◌, subst, arith, cases_lt, eq-eqb, length-map, get_or-map, slice_get, option_map_or, range_with_len, Contains, Facts, BlockState, block_count, Adopted, History}
-use Rattle.std.specs.Prelude.{IsTrue}
-use Rattle.std.specs.Bool.{unsigned_Decides}
-use Rattle.std.specs.Cmp.{nat_eq_equiv}
-use Rattle.std.specs.List.{count_by}
-use Rattle.std.proofs.lemmas.Bool.{cases_eq, ne_eqb}
-use Rattle.std.proofs.lemmas.List.Sums.{count_by-le-length}
+use Rattle.bt_machine.proofs.Base.{[], ◌≡◌, ◌≢◌, ℕ, zero, suc, ◌<◌, ◌≤◌, inl, inr, Bool, true, false, not, ◌==◌, nat_eq, if◌then◌else◌, List, ◌∷◌, All, length, map, flat_map, get_or, Option, Some, Err, refl, sym, ap, ◌∙◌, subst, arith, cases_lt, eq-eqb, length-map, get_or-map, count_by-le-length, length-range_with_len, slice_get, option_map_or, range_with_len, Contains, Facts, is_waiting, BlockState, block_count, Adopted, History}
+use Rattle.std.specs.Cmp.{unsigned_Decides, nat_eq_equiv}
+use Rattle.std.proofs.lemmas.Bool.{ne_eqb}
 use Rattle.std.proofs.lemmas.List.Elements.{filter_agree}
-use Rattle.std.proofs.lemmas.List.FromFn.{length-range_with_len}
 use Rattle.std.proofs.lemmas.Map.Keys.{IsDistinct-from_apart}
-use Rattle.std.proofs.lemmas.Map.Made.{length_le_from_is_member, is_member-Decides}
+use Rattle.std.proofs.lemmas.Map.Made.{length-le_from_is_member, is_member-Decides}
 use Rattle.bt_meta.specs.Files.{File}
+use Rattle.bt_store.specs.FileStore.{StoreView}
 use Rattle.bt_machine.proofs.Lists.{some_is, some_below, get_some, get_map, range_contains}
 use Rattle.bt_machine.proofs.Shape.{Keeps, step_keeps, shape_after}
 use Rattle.bt_machine.specs.declared.error.AdoptError.TheVariants.{OutOfMemory}
@@ -22,7 +18,6 @@ use Rattle.bt_machine.specs.Blocks.{states_of, is_marked_in, all_blocks, has_bec
 use Rattle.bt_machine.specs.Next.{with_pending}
 use Rattle.bt_machine.specs.Settling.{due_blocks, settling_notes}
 use Rattle.bt_machine.specs.Shape.{IsShaped}
-use Rattle.bt_machine.specs.Adopting.{is_other}
 use Rattle.bt_state.specs.Parts.{state_of, file_of, disks_of}
 use Rattle.bt_state.specs.Ties.{IsTied, IsFirstFile, root_and_length, root_and_length_of}
 use Rattle.bt_state.specs.declared.slot.Slot.{Slot}
@@ -54,7 +49,7 @@ module _ (n m : ℕ) (numbers : List ℕ) (inside : m < n) (below : All (λ i. i
 
   pub fewer : length numbers < n
   fewer =
-      let le = length_le_from_is_member nat_eq_equiv (m ∷ numbers) (range_with_len 0 n) (IsDistinct-from_apart (λ x y. x == y) (m ∷ numbers) all_apart)
+      let le = length-le_from_is_member nat_eq_equiv (m ∷ numbers) (range_with_len 0 n) (IsDistinct-from_apart nat_eq (m ∷ numbers) all_apart)
       (λ q on.
       let there = (is_member-Decides unsigned_Decides (m ∷ numbers) q).0 on in
       (is_member-Decides unsigned_Decides (range_with_len 0 n) q).1 (contained_at q there.0 there.1 there.2)) in
@@ -126,9 +121,9 @@ module _ {D H : Type 0} (parts : Parts D H) (tied : IsTied parts) (shaped : IsSh
       let tree = shape.has_tree byte in
       record { file = fits.file; listed = fits.listed; some = byte; facts = tree.0; stands = tree.1; root = tree.2 }
 
-  pub alone : (i j : ℕ) {a b : Slot D H} → slice_get parts.slots.items i ≡ Some a → 0 < length (file_of a).states
+  not_shared : (i j : ℕ) {a b : Slot D H} → slice_get parts.slots.items i ≡ Some a → 0 < length (file_of a).states
       → slice_get parts.slots.items j ≡ Some b → 0 < length (file_of b).states → a.tree ≡ b.tree → i ≢ j → ⊥
-  alone i j {a} {b} at_i some_i at_j some_j same apart =
+  not_shared i j {a} {b} at_i some_i at_j some_j same apart =
       let one = stands_as i at_i some_i in
       let two = stands_as j at_j some_j in
       let tree : one.facts ≡ two.facts = some_is (sym one.stands ∙ ap (slice_get trees) same ∙ two.stands) in
@@ -146,8 +141,8 @@ module _ {D H : Type 0} (parts : Parts D H) (tied : IsTied parts) (shaped : IsSh
       → (other : ℕ) {slot : Slot D H} → slice_get parts.slots.items other ≡ Some slot → other ≢ file → IsDue tree slot → ⊥
   none_else file tree {own} here of_tree some other {slot} at apart due =
       let own_some = ap (λ (xs : List BlockState). length xs) (states_are parts file here) in
-      let states = ap (λ (o : Option _). length (option_map_or (λ st. st.states) o [])) due.has in
-      alone file other here (omega (arith, some, own_some)) at (omega (arith, states, due.waits, count_by-le-length _ due.store.states)) (of_tree ∙ sym due.of_tree)
+      let states = ap (λ (o : Option (StoreView D)). length (option_map_or (λ st. st.states) o [])) due.has in
+      not_shared file other here (omega (arith, some, own_some)) at (omega (arith, states, due.waits, count_by-le-length is_waiting due.store.states)) (of_tree ∙ sym due.of_tree)
       (λ e. apart (sym e))
 
 -- ---- nothing is settled

@@ -1,11 +1,11 @@
 -- Loops over the blocks of a group: which are not marked, in runs and one by one, and at which a proof begins.
-use Rattle.bt_machine.proofs.Base.{[], ◌≡◌, ℕ, zero, suc, ◌+◌, ◌-◌, ◌*◌, ◌%◌, ◌^◌, ◌<◌, ◌≤◌, min, Bool, true, false, not, cond, ◌==◌, if◌then◌else◌, List, ◌∷◌, ◌++◌, length, map, take, get_or, filter, flat_map, refl, sym, ap, ◌∙◌, subst, arith, append-nil, filter-append, length-append, range_with_len, All, Contains, Contains-append_left, Contains-append_right, HeightsAreLeast, height_of-pow, answer_size, max_run_height, planned_key, Facts, BlockState}
+use Rattle.bt_machine.proofs.Base.{[], ◌≡◌, ℕ, zero, suc, ◌+◌, ◌-◌, ◌*◌, ◌%◌, ◌^◌, ◌<◌, ◌≤◌, min, Bool, true, false, not, cond, ◌==◌, if◌then◌else◌, List, ◌∷◌, ◌++◌, length, map, take, get_or, filter, flat_map, refl, sym, ap, ◌∙◌, subst, arith, append-nil, filter-append, length-append, range_with_len, All, Contains, Contains-append_left, Contains-append_right, HeightsAreLeast, height_of-pow, answer_size, max_run_height, planned_key, sum_by, Facts, BlockState}
 use Rattle.std.specs.List.{AllZip}
 use Rattle.std.proofs.Common.{append_assoc}
 use Rattle.std.proofs.lemmas.List.{map-append}
 use Rattle.std.proofs.lemmas.List.Elements.{filter_more, All-push, All-nil, All-cons, All-head, All-tail, All-weaker, All-filter}
 use Rattle.std.proofs.lemmas.List.Quantifiers.{all_pairs_push}
-use Rattle.std.proofs.lemmas.List.Sums.{sum_by-cons}
+use Rattle.std.proofs.lemmas.List.Sums.{sum_by-cons, sum_by_more, sum_by_more_le}
 use Rattle.std.specs.Int.{div_ceil}
 use Rattle.bt_tree.specs.Limits.{max_block_count}
 use Rattle.bt_resume.specs.Hint.{IsRun}
@@ -69,20 +69,21 @@ pub run_empty : (runs : List Run) (run : Run) → run.count ≤ 0 → flat_map r
 run_empty runs run none = sym (append-nil (flat_map run_blocks runs)) ∙ ap (λ xs. flat_map run_blocks runs ++ xs) (sym (no_blocks run none))
 
 pub no_runs : AreRuns []
-no_runs = record { each = All-nil (λ r. IsRun r.first r.count); apart = λ i j d lt within. absurd (omega arith) }
+no_runs = record { each = All-nil (λ (r : Run). IsRun r.first r.count); apart = λ i j d lt within. absurd (omega arith) }
 
 pub are_more : (runs : List Run) (run : Run) → AreRuns runs → EndBefore run.first runs → 0 < run.count → run.first + run.count ≤ max_block_count → AreRuns (runs ++ run ∷ [])
 are_more runs run are before some within = record {
-  each = All-push (λ r. IsRun r.first r.count) runs run are.each (record { some = some; within = within });
-  apart = all_pairs_push (λ r later. r.first + r.count < later.first) runs run are.apart (λ k d lt. before k d lt);
+  each = All-push (λ (r : Run). IsRun r.first r.count) runs run are.each (record { some = some; within = within });
+  apart = all_pairs_push (λ (r later : Run). r.first + r.count < later.first) runs run are.apart (λ k d lt. before k d lt);
 }
 
 pub ends_later : (runs : List Run) (low high : ℕ) → low ≤ high → EndBefore low runs → EndBefore high runs
-ends_later runs low high le before = All-weaker (λ r. r.first + r.count < low) (λ r. r.first + r.count < high) (λ r lt. omega (arith, lt, le)) runs before
+ends_later runs low high le before =
+    All-weaker (λ (r : Run). r.first + r.count < low) (λ (r : Run). r.first + r.count < high) (λ r lt. omega (arith, lt, le)) runs before
 
 pub ends_more : (runs : List Run) (run : Run) → EndBefore run.first runs → EndBefore (run.first + run.count + 1) (runs ++ run ∷ [])
 ends_more runs run before =
-    All-push (λ r. r.first + r.count < run.first + run.count + 1) runs run (ends_later runs run.first (run.first + run.count + 1) (omega arith) before) (omega arith)
+    All-push (λ (r : Run). r.first + r.count < run.first + run.count + 1) runs run (ends_later runs run.first (run.first + run.count + 1) (omega arith) before) (omega arith)
 
 -- ---- how many hints the marks of runs take at most
 
@@ -90,20 +91,43 @@ ends_more runs run before =
 hints_within : (runs : List Run) (low : ℕ) → low ≤ max_block_count → All (λ r. low ≤ r.first) runs → AreRuns runs → low + most_hints runs ≤ max_block_count
 hints_within [] low inside from are = omega (arith, inside)
 hints_within (run ∷ runs) low inside from are =
-    let starts : low ≤ run.first = All-head (λ r. low ≤ r.first) run runs from in
-    let own = All-head (λ r. IsRun r.first r.count) run runs are.each in
+    let starts : low ≤ run.first = All-head (λ (r : Run). low ≤ r.first) run runs from in
+    let own : IsRun run.first run.count = All-head (λ (r : Run). IsRun r.first r.count) run runs are.each in
     let rest = hints_within runs (run.first + run.count) own.within later
-    (record { each = All-tail (λ r. IsRun r.first r.count) run runs are.each; apart = λ i j d lt within. are.apart (suc i) (suc j) d (omega (arith, lt)) (omega (arith, within)) }) in
+    (record { each = All-tail (λ (r : Run). IsRun r.first r.count) run runs are.each; apart = λ i j d lt within. are.apart (suc i) (suc j) d (omega (arith, lt)) (omega (arith, within)) }) in
     omega (arith, starts, rest, own.some, half run.count, sum_by-cons (λ (r : Run). div_ceil r.count 2) run runs)
   where
     half : (n : ℕ) → div_ceil n 2 ≤ n
     half n = omega arith
 
     later : All (λ r. run.first + run.count ≤ r.first) runs
-    later = λ k d lt. (let apart = are.apart 0 (suc k) d (omega arith) (omega (arith, lt)) in omega (arith, apart))
+    later = λ k d lt. (let apart = are.apart zero (suc k) d (omega arith) (omega (arith, lt)) in omega (arith, apart))
 
 pub few_hints : (runs : List Run) → AreRuns runs → most_hints runs ≤ max_block_count
 few_hints runs are = omega (arith, hints_within runs 0 (omega arith) (λ k d lt. omega arith) are)
+
+-- runs that leave no hint have no block
+pub no_hints : (runs : List Run) → AreRuns runs → most_hints runs ≤ 0 → runs ≡ []
+no_hints [] are none = refl
+no_hints (run ∷ runs) are none =
+    let own : IsRun run.first run.count = All-head (λ (r : Run). IsRun r.first r.count) run runs are.each in
+    absurd (omega (arith, none, own.some, half run.count own.some, sum_by-cons (λ (r : Run). div_ceil r.count 2) run runs))
+  where
+    half : (n : ℕ) → 0 < n → 0 < div_ceil n 2
+    half n some = omega arith
+
+-- ---- room for what the parts of a list take, one after the other
+
+module _ {X : Type 0} (f : X → ℕ) (xs : List X) (i : ℕ) {x : X} (d : X) (lt : i < length xs) (is : x ≡ get_or xs i d) where
+  pub room_for_one : (old left : ℕ) → sum_by f xs ≤ old → old ≤ left + sum_by f (take i xs) → f x ≤ left
+  room_for_one old left has so_far =
+      let own : f x ≡ f (get_or xs i d) = ap f is in
+      omega (arith, has, so_far, own, sum_by_more_le f xs i d lt)
+
+  pub room_with_one : (old left new : ℕ) → old ≤ left + sum_by f (take i xs) → left ≤ new + f x → old ≤ new + sum_by f (take (i + 1) xs)
+  room_with_one old left new so_far more =
+      let own : f x ≡ f (get_or xs i d) = ap f is in
+      omega (arith, so_far, more, own, sum_by_more f xs i d lt)
 
 -- ---- marks that are left one after the other
 

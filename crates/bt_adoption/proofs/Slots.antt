@@ -231,10 +231,10 @@ module _ {D H : Type 0} {old : Parts D H} {file : ℕ} {slot : Slot D H} {store 
         → TakesGroups history honest faults dig file (is_some old.log) (file_view k store (pending_of old.log)) total (file_view grown after (pending_of log))
         → total.next ≡ length store.states → AdoptsIn history honest faults dig file old total (parts_with old file slot after grown log)
     adopts_in {total} takes all = record {
-      groups = map (reads_at file k.file_length) takes.takes.groups;
-      calls = rw (group_calls file k.file_length takes.takes.groups ∙ calls_are file (all_reads takes.takes.groups) at.same)
-          (have_changed old.slots.items file at.here at.has after history honest faults (map (call_of store.file_length) (all_reads takes.takes.groups)) takes.calls);
-      adopts = taken_in dig after grown takes.takes.groups total {mid = after} log same_log takes.taken refl;
+      groups = map (reads_at file k.file_length) takes.groups;
+      calls = rw (group_calls file k.file_length takes.groups ∙ calls_are file (all_reads takes.groups) at.same)
+          (have_changed old.slots.items file at.here at.has after history honest faults (map (call_of store.file_length) (all_reads takes.groups)) takes.calls);
+      adopts = taken_in dig after grown takes.groups total {mid = after} log same_log takes.taken refl;
       all = all ∙ sym (length_is old file at.here at.has);
     }
 
@@ -261,7 +261,7 @@ module _ {D H : Type 0} {old : Parts D H} {file : ℕ} {slot : Slot D H} {store 
             done = s.done;
             reads = s.last;
             some = λ none. absurd (omega (arith, ap (λ (xs : List BlockState). length xs) none, ap (λ (xs : List BlockState). length xs) states, s.takes.same_size, some, length_is old file at.here at.has));
-            adopts = taken_in dig after grown s.takes.takes.groups s.done {mid = s.before} log same_log s.takes.taken states;
+            adopts = taken_in dig after grown s.takes.groups s.done {mid = s.before} log same_log s.takes.taken states;
             is_file = record {
               here = ap (λ (fs : List FileState). slice_get fs file) (files_changed old.slots.items file at.here at.has after)
                   ∙ set_same (state_of old).files file (file_here old.slots.items file at.here at.has store);

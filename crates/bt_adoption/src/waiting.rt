@@ -117,9 +117,10 @@ fn add_waiting<D: Disk + Drop, H: NodeHash>(
     let Some(store) = &slot.store else {
         unreachable!();
     };
+    let blocks = store.geometry().blocks();
     let whole = Run {
         first: 0,
-        count: store.geometry().blocks(),
+        count: blocks,
     };
     let runs = runs_of(alloc, store, whole, Kind::Waits)?;
     listed.push(FileRuns { file, runs })?;

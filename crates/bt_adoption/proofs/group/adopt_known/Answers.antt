@@ -1,4 +1,4 @@
-use Rattle.std.proofs.Common.{◌<◌, List, ℕ, sym, ap, ◌∙◌, arith}
+use Rattle.std.proofs.Common.{ℕ, ◌<◌, List, length, sym, ap, ◌∙◌, arith}
 use Rattle.std.specs.Prelude.{filter}
 use Rattle.std.proofs.lemmas.List.Elements.{All-same}
 use Rattle.bt_tree.specs.Limits.{max_block_count}
@@ -15,6 +15,9 @@ push_marked-requires-clause-within g c =
     let group = c.blocks_ahead-group.result in
     All-same (λ (b : ℕ). b < max_block_count) c.as_slice.result.now (unmarked_blocks c.args.store.now.states c.blocks_ahead-group.result.first c.blocks_ahead-group.result.count)
     (c.as_slice.ensures.value ∙ c.unmarked_blocks-unmarked.ensures) (unmarked_within c.args.store.now.states group.first group.count c.blocks_ahead-group.ensures.limit)
+
+pub push_marked-requires-clause-room : goal.push_marked-requires-clause-room
+push_marked-requires-clause-room g c = omega (arith, c.in_ok-reserve.ensures.room, c.len.ensures.value, ap (λ (blocks : List ℕ). length blocks) c.as_slice.ensures.value)
 
 pub returns-clause-ok : goal.returns-clause-ok
 returns-clause-ok g c =

@@ -1,10 +1,9 @@
 use Rattle.std.proofs.Common.{refl, arith}
 use Rattle.std.specs.Int.{div_ceil}
 use Rattle.std.proofs.lemmas.List.Elements.{All-get_or}
-use Rattle.std.proofs.lemmas.List.Sums.{sum_by_more, sum_by_more_le}
 use Rattle.bt_resume.specs.Hint.{IsRun}
 use Rattle.bt_adoption.specs.declared.marks.Run.{Run}
-use Rattle.bt_adoption.proofs.RunMarks.{marked_more}
+use Rattle.bt_adoption.proofs.RunMarks.{marked_more, room_for_one, room_with_one}
 use Rattle.bt_adoption.proofs.marks.push_marked_in.Goals as goal
 
 pub push_marked_of-requires-clause-within : goal.push_marked_of-requires-clause-within
@@ -14,7 +13,8 @@ push_marked_of-requires-clause-within g c =
 pub push_marked_of-requires-clause-room : goal.push_marked_of-requires-clause-room
 push_marked_of-requires-clause-room g c =
     let l = c.loop-run in
-    omega (arith, c.requires.room, l.invariant.room, sum_by_more_le (λ (r : Run). div_ceil r.count 2) c.args.runs.now l.run-index _ (omega (arith, c.loop-run-test.true)))
+    room_for_one (λ (r : Run). div_ceil r.count 2) c.args.runs.now l.run-index _ (omega (arith, c.loop-run-test.true)) refl
+    c.args.pending.now.room l.pending.room c.requires.room l.invariant.room
 
 pub loop-run-preserved : goal.loop-run-preserved
 loop-run-preserved g c =
@@ -22,5 +22,6 @@ loop-run-preserved g c =
     let runs = c.args.runs.now in
     record {
       hints = marked_more c.args.store.now.states c.args.file runs l.run-index _ (omega (arith, c.loop-run-test.true)) refl c.args.pending.now.hints l.invariant.hints c.push_marked_of.ensures.hints;
-      room = omega (arith, l.invariant.room, c.push_marked_of.ensures.room, sum_by_more (λ (r : Run). div_ceil r.count 2) runs l.run-index _ (omega (arith, c.loop-run-test.true)));
+      room = room_with_one (λ (r : Run). div_ceil r.count 2) runs l.run-index _ (omega (arith, c.loop-run-test.true)) refl
+          c.args.pending.now.room l.pending.room c.push_marked_of.new.pending.room l.invariant.room c.push_marked_of.ensures.room;
     }

@@ -1,6 +1,5 @@
-use Rattle.std.proofs.Common.{◌≡◌, ◌+◌, ◌*◌, ◌≤◌, ◌<◌, ℕ, List, min, sym, ap, ◌∙◌, subst, arith}
+use Rattle.std.proofs.Common.{◌≡◌, ◌+◌, List, sym, ap, ◌∙◌, subst, arith}
 use Rattle.std.specs.Prelude.{filter}
-use Rattle.std.specs.Int.{div_ceil}
 use Rattle.std.specs.List.{range_with_len}
 use Rattle.bt_resume.specs.declared.hint.Hint.{Hint}
 use Rattle.bt_store.specs.Review.{is_marked_at}
@@ -8,7 +7,7 @@ use Rattle.bt_machine.specs.Hints.{add_hints}
 use Rattle.bt_pending.specs.Pending.{PendingView}
 use Rattle.bt_adoption.specs.declared.marks.Run.{Run}
 use Rattle.bt_adoption.specs.MarksSteps.{marks_in, run_blocks}
-use Rattle.bt_adoption.proofs.RunMarks.{marked_goes_on, marked_ends, room_left, room_then, room_last}
+use Rattle.bt_adoption.proofs.RunMarks.{marked_goes_on, marked_ends, room_left, room_then}
 use Rattle.bt_adoption.proofs.marks.push_marked_of.Goals as goal
 use Rattle.bt_adoption.proofs.marks.push_marked_of.Goals.{then-is_marked, else-is_marked}
 

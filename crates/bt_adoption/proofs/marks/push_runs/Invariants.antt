@@ -1,4 +1,4 @@
-use Rattle.std.proofs.Common.{◌≡◌, ◌+◌, ◌≤◌, length, take, flat_map}
+use Rattle.std.proofs.Common.{◌≡◌, ◌+◌, ◌≤◌, take, flat_map}
 use Rattle.bt_machine.specs.Hints.{add_hints}
 use Rattle.bt_adoption.specs.MarksSteps.{marks_in, run_blocks}
 use Rattle.bt_adoption.proofs.marks.push_runs.Given as goal

@@ -1,4 +1,4 @@
-use Rattle.std.proofs.Common.{◌≡◌, ◌+◌, ◌++◌, List, ℕ, flat_map, refl, sym, ap, ◌∙◌, subst, arith}
+use Rattle.std.proofs.Common.{◌≡◌, ℕ, ◌+◌, ◌<◌, List, ◌++◌, flat_map, sym, ap, ◌∙◌, subst, arith}
 use Rattle.std.proofs.lemmas.List.Elements.{All-nil}
 use Rattle.bt_store.specs.declared.block_states.BlockState.{BlockState}
 use Rattle.bt_adoption.specs.declared.marks.Kind.{Kind}
@@ -12,12 +12,14 @@ abbrev IsUpTo : Kind → (states : List BlockState) (first i : ℕ) → List Run
 IsUpTo kind states first i runs current = flat_map run_blocks runs ++ run_blocks current ≡ blocks_of_kind kind states first i
 
 pub loop-offset-init : goal.loop-offset-init
-loop-offset-init g c = record {
-  blocks = refl;
-  runs = no_runs;
-  before = All-nil (λ (r : Run). r.first + r.count < c.args.run.first);
-  ends = omega arith;
-}
+loop-offset-init g c =
+    let none = c.new-runs.ensures.items in
+    record {
+      blocks = ap (λ (runs : List Run). flat_map run_blocks runs ++ run_blocks (record { first = c.args.run.first; count = 0 })) none;
+      runs = subst (λ (runs : List Run). AreRuns runs) (sym none) no_runs;
+      before = subst (λ (runs : List Run). EndBefore c.args.run.first runs) (sym none) (All-nil (λ (r : Run). r.first + r.count < c.args.run.first));
+      ends = omega arith;
+    }
 
 pub loop-offset-preserved : goal.loop-offset-preserved
 loop-offset-preserved g c =

@@ -1,4 +1,4 @@
-use Rattle.std.proofs.Common.{◌<◌, List, length, map, sym, ap, ◌∙◌, arith}
+use Rattle.std.proofs.Common.{List, length, map, sym, ap, ◌∙◌, arith}
 use Rattle.std.specs.Prelude.{filter}
 use Rattle.std.proofs.lemmas.List.Elements.{All-same}
 use Rattle.bt_machine.specs.Hints.{mark_of, add_hints}
@@ -7,13 +7,28 @@ use Rattle.bt_adoption.specs.MarksSteps.{AreRuns}
 use Rattle.bt_adoption.specs.WaitingSteps.{room_in, is_marked_among, listed_blocks, most_hints_of_all}
 use Rattle.bt_adoption.specs.declared.waiting.FileRuns.{FileRuns}
 use Rattle.bt_state.specs.declared.parts.Parts.{Parts}
-use Rattle.bt_adoption.proofs.OtherFiles.{rest_then}
+use Rattle.bt_machine.proofs.Lists.{get_some}
+use Rattle.bt_adoption.proofs.OtherFiles.{rest_none, rest_then}
 use Rattle.bt_adoption.proofs.Logs.{rest_of_log, in_line_of_log}
 use Rattle.bt_adoption.proofs.OtherMarks.{settles_all}
 use Rattle.bt_adoption.proofs.Adoptions.{in_line_first}
-use Rattle.bt_adoption.proofs.Slots.{there_at}
 use Rattle.bt_adoption.proofs.OwnTrees.{none_else, settles_nothing}
 use Rattle.bt_adoption.proofs.settling.settle_recorded.Goals as goal
+
+pub returns-then-len-len-clause-settles : goal.returns-then-len-len-clause-settles
+returns-then-len-len-clause-settles g c =
+    let old = c.args.parts.now in
+    let here = get_some old.slots.items c.args.file (omega (arith, c.requires.inside, old.slots.ok.0)) in
+    let there = get_some old.trees.items c.args.tree (omega (arith, c.requires.here, old.trees.ok.0)) in
+    settles_nothing g.H.NodeHash.digest old c.args.file c.args.tree there.1
+    (none_else old c.requires.tied c.requires.shaped (omega (arith, c.if-len-len.true, c.len.ensures, c.len-2.ensures, old.slots.ok.0, old.trees.ok.0))
+    c.args.file c.args.tree here.1 (c.requires.of_tree here.0 here.1) c.requires.some)
+
+pub returns-then-len-len-clause-rest : goal.returns-then-len-len-clause-rest
+returns-then-len-len-clause-rest g c = rest_none c.args.parts.now
+
+pub returns-then-len-len-clause-in_line : goal.returns-then-len-len-clause-in_line
+returns-then-len-len-clause-in_line g c = in_line_first c.args.parts.now c.requires.tied c.requires.shaped
 
 pub list_waiting-requires : goal.list_waiting-requires
 list_waiting-requires g c = c.requires.tied.count
@@ -59,3 +74,6 @@ returns-clause-in_line g c = in_line_of_log c.leave_marks.ensures.keeps c.settle
 
 pub returns-in_err-listed-clause-rest : goal.returns-in_err-listed-clause-rest
 returns-in_err-listed-clause-rest g c = rest_of_log c.list_waiting.ensures.keeps
+
+pub returns-in_err-listed-clause-in_line : goal.returns-in_err-listed-clause-in_line
+returns-in_err-listed-clause-in_line g c = in_line_of_log c.list_waiting.ensures.keeps (in_line_first c.args.parts.now c.requires.tied c.requires.shaped)

@@ -1,4 +1,4 @@
-use Rattle.std.proofs.Common.{length, map, refl, sym, ap, ◌∙◌, subst, arith}
+use Rattle.std.proofs.Common.{List, length, map, sym, ap, ◌∙◌, subst, arith}
 use Rattle.std.proofs.lemmas.List.{length-map}
 use Rattle.std.proofs.lemmas.List.Elements.{All-nil}
 use Rattle.bt_state.specs.Parts.{file_of}
@@ -11,7 +11,13 @@ use Rattle.bt_adoption.proofs.waiting.find_waiting.Goals as goal
 use Rattle.bt_adoption.proofs.waiting.find_waiting.Goals.{then-other-file+in_ok-add_waiting, else-other-file}
 
 pub loop-other-init : goal.loop-other-init
-loop-other-init g c = record { blocks = refl; runs = All-nil (λ (one : FileRuns). AreRuns one.runs.items); few = omega arith }
+loop-other-init g c =
+    let none = c.new-listed.ensures.items in
+    record {
+      blocks = ap (λ (listed : List FileRuns). listed_blocks listed) none;
+      runs = subst (λ (listed : List FileRuns). AreListed listed) (sym none) (All-nil (λ (one : FileRuns). AreRuns one.runs.items));
+      few = omega (arith, ap (λ (listed : List FileRuns). length listed) none);
+    }
 
 pub loop-other-preserved : goal.loop-other-preserved
 loop-other-preserved g c =
