@@ -128,10 +128,7 @@ fn add_waiting<D: Disk + Drop, H: NodeHash>(
 }
 
 /// Leaves the marks of those of the listed blocks that are marked now, where there is a log.
-pub(crate) fn leave_marks<D: Disk + Drop, H: NodeHash>(
-    parts: &mut Parts<D, H>,
-    listed: &[FileRuns],
-)
+pub(crate) fn leave_marks<D: Disk + Drop, H: NodeHash>(parts: &mut Parts<D, H>, listed: &[FileRuns])
     requires runs { AreListed listed.now }
     requires room { most_hints_of_all listed.now ≤ room_in parts.old.log }
     ensures keeps { OnlyPendingChanges parts.old parts.new }

@@ -23,9 +23,8 @@ loop-offset-preserved g c =
     let file = c.args.file in
     let first = c.args.run.first in
     let old = c.args.pending.now in
-    let left = add_hints c.args.pending.now.hints (marks_in file (filter (is_marked_at states) (range_with_len first (l.offset + 1)))) in
     let is = λ (hints : List Hint) (run : Run). add_hints hints (marks_in c.args.file (run_blocks run))
-        ≡ add_hints c.args.pending.now.hints (marks_in c.args.file (filter (is_marked_at c.args.store.now.states) (range_with_len c.args.run.first (c.loop-offset.offset + 1)))) in
+    ≡ add_hints c.args.pending.now.hints (marks_in c.args.file (filter (is_marked_at c.args.store.now.states) (range_with_len c.args.run.first (c.loop-offset.offset + 1)))) in
     elim c.if-is_marked.branch [
       | then-is_marked w ↦ record {
         hints = subst (λ (p : PendingView). is p.hints c.if-is_marked.marked) (sym w.pending-is)
