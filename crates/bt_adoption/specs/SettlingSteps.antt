@@ -20,7 +20,8 @@ abbrev pub SettlesFiles : {D H : Type 0} → (D → History) → (D → Type 0) 
     → (ℕ → Bool) → ℕ → Parts D H → Parts D H → Type 0
 SettlesFiles history honest faults dig is_meant tree old new = (calls : DeviceCalls) × (notes : List Note)
     × HaveCalls history honest faults (disks_of old) calls (disks_of new)
-    × SettlesIn dig is_meant tree 0 (block_count_of_tree (state_of old) tree) (state_of old) calls notes (state_of new)
+    × SettlesIn dig is_meant tree 0 (block_count_of_tree (state_of old) tree) (state_of old) calls notes
+    (state_of new)
 
 -- the file is of the tree, and has a block that waits
 pub record IsDue {D H : Type 0} (tree : ℕ) (slot : Slot D H) : Type 0 where
