@@ -116,7 +116,7 @@ no_hints (run ∷ runs) are none =
     half : (n : ℕ) → 0 < n → 0 < div_ceil n 2
     half n some = omega arith
 
--- ---- room for what the parts of a list take, one after the other
+-- ---- sums over a list, with one element more, and room for them
 
 module _ {X : Type 0} (f : X → ℕ) (xs : List X) (i : ℕ) {x : X} (d : X) (lt : i < length xs) (is : x ≡ get_or xs i d) where
   pub room_for_one : (old left : ℕ) → sum_by f xs ≤ old → old ≤ left + sum_by f (take i xs) → f x ≤ left
@@ -128,6 +128,16 @@ module _ {X : Type 0} (f : X → ℕ) (xs : List X) (i : ℕ) {x : X} (d : X) (l
   room_with_one old left new so_far more =
       let own : f x ≡ f (get_or xs i d) = ap f is in
       omega (arith, so_far, more, own, sum_by_more f xs i d lt)
+
+  pub sum_fits : (most sum more : ℕ) → sum_by f xs ≤ most → sum ≡ sum_by f (take i xs) → more ≡ f x → sum + more ≤ most
+  sum_fits most sum more has so_far is_more =
+      let own : f x ≡ f (get_or xs i d) = ap f is in
+      omega (arith, has, so_far, is_more, own, sum_by_more_le f xs i d lt)
+
+  pub sum_with_one : (sum more : ℕ) → sum ≡ sum_by f (take i xs) → more ≡ f x → sum + more ≡ sum_by f (take (i + 1) xs)
+  sum_with_one sum more so_far is_more =
+      let own : f x ≡ f (get_or xs i d) = ap f is in
+      omega (arith, so_far, is_more, own, sum_by_more f xs i d lt)
 
 -- ---- marks that are left one after the other
 

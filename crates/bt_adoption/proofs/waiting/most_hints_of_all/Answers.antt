@@ -1,8 +1,8 @@
-use Rattle.std.proofs.Common.{List, ap, arith}
-use Rattle.std.proofs.lemmas.List.Sums.{sum_by_more}
+use Rattle.std.proofs.Common.{List, ap, ◌∙◌, arith}
 use Rattle.bt_adoption.specs.declared.marks.Run.{Run}
 use Rattle.bt_adoption.specs.declared.waiting.FileRuns.{FileRuns}
 use Rattle.bt_adoption.specs.MarksSteps.{most_hints}
+use Rattle.bt_adoption.proofs.RunMarks.{sum_with_one}
 use Rattle.bt_adoption.proofs.OtherMarks.{few_in}
 use Rattle.bt_adoption.proofs.waiting.most_hints_of_all.Goals as goal
 
@@ -19,11 +19,9 @@ overflow_add-hints c =
 pub loop-one-preserved : goal.loop-one-preserved
 loop-one-preserved c =
     let l = c.loop-one in
-    let listed = c.args.listed.now in
-    let few = few_in c.args.listed.now c.requires.runs c.loop-one.one-index (omega (arith, c.loop-one-test.true)) c.one-item.is c.deref.ensures.value in
-    let step = sum_by_more (λ (x : FileRuns). most_hints x.runs.items) listed l.one-index c.one-item.result (omega (arith, c.loop-one-test.true)) in
-    let same = ap (λ (x : FileRuns). most_hints x.runs.items) c.one-item.is in
+    let few = few_in c.args.listed.now c.requires.runs l.one-index (omega (arith, c.loop-one-test.true)) c.one-item.is c.deref.ensures.value in
     record {
-      hints = omega (arith, l.invariant.hints, c.most_hints.ensures, ap (λ (runs : List Run). most_hints runs) c.deref.ensures.value, same, step);
+      hints = sum_with_one (λ (x : FileRuns). most_hints x.runs.items) c.args.listed.now l.one-index c.one-item.result (omega (arith, c.loop-one-test.true)) c.one-item.is
+          l.hints c.most_hints.result l.invariant.hints (c.most_hints.ensures ∙ ap (λ (runs : List Run). most_hints runs) c.deref.ensures.value);
       few = omega (arith, few, l.invariant.few, c.most_hints.ensures);
     }
