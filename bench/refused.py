@@ -39,11 +39,23 @@ ABC = digest(b"abc")
 # How the calls that no engine answers say that they are out of memory.
 REFUSALS = {"torrent": "M18 OutOfMemory", "info": "M18 OutOfMemory", "make": "N8 OutOfMemory", "parse": "B8 OutOfMemory",
             "write": "OutOfMemory", "tree": "OutOfMemory", "layer": "out of memory", "claim": "P7 OutOfMemory",
-            "accept": "P7 OutOfMemory", "answer": "out of memory", "start": "OutOfMemory"}
+            "accept": "P7 OutOfMemory", "answer": "out of memory", "start": "OutOfMemory", "cut": "W4 OutOfMemory",
+            "take": "W4 OutOfMemory", "message": "OutOfMemory", "book": "OutOfMemory", "store": "OutOfMemory", "image": "OutOfMemory"}
 # Rows that call nothing of the library.
 SILENT = "data", "log", "stop", "tell", "peer"
 # Calls that take no memory.
 FREE = "plan", "lost"
+
+
+def word_of(value):
+    """A word of a row; bytes are told in hexadecimal, and long runs of one byte by their length."""
+    if not isinstance(value, bytes):
+        return str(value)
+    runs = [(byte, len(list(run))) for byte, run in itertools.groupby(value)]
+    if not any(count > BLOCK // 2 for _, count in runs):
+        return value.hex()
+    parts = "".join(f"+{byte:02x}*{count}+" if count > BLOCK // 2 else f"{byte:02x}" * count for byte, count in runs)
+    return "+".join(part for part in parts.split("+") if part)
 
 
 class Row:
@@ -55,7 +67,7 @@ class Row:
     def __str__(self):
         if self.name == "run":
             return "".join(f"event {row}\n" for row in self.of) + "run"
-        return " ".join([self.name] + [word.hex() if isinstance(word, bytes) else str(word) for word in self.words])
+        return " ".join([self.name, *map(word_of, self.words)])
 
 
 # ---- devices and logs
@@ -209,6 +221,10 @@ class LoggedEngine(Engine):
         self.recover(self.opened.hints if self.opened else [])
         return ["done"]
 
+    def next(self, key):
+        # What comes first may be no handshake, where that was lost; no other fault of the wire is in an example.
+        return ["close C1 W1 BadProtocol" if line == "close C1" else line for line in super().next(key)]
+
     def refused_restart(self, is_reading):
         """Memory is refused while the log is read again, or behind that."""
         fault = self.opened.read(is_reading) if self.opened else None
@@ -246,9 +262,14 @@ class LoggedEngine(Engine):
 
     def session(self, data, part, stop):
         """A session until all is complete, in which memory is refused at the place of this number, or nowhere."""
-        places, written, self.rest = itertools.count(), b"", data
+        self.places, self.rest, self.written = 0, data, b""
+
+        def is_stop():
+            self.places += 1
+            return self.places - 1 == stop
+
         try:
-            end = self.talk(part, lambda: next(places) == stop)
+            end = self.talk(part, is_stop)
         except Memory:
             end = "memory"
         self.peers = {}
@@ -256,7 +277,6 @@ class LoggedEngine(Engine):
 
     def talk(self, part, is_stop):
         """The turns of a session, and how it ends."""
-        self.written = b""
         if is_stop():
             return "refused OutOfMemory"
         key = self.next_key
@@ -308,8 +328,11 @@ class Play:
     def __init__(self, rows, refusal=None, failing=Failing(0, 0)):
         self.rows, self.refusal, self.failing = rows, refusal, failing
         self.lines, self.kinds, self.made = [], [], []
+        # At how many places each session may be refused memory.
+        self.places = {}
         self.disks, self.log_disk, self.log, self.engine, self.peer = [], None, None, None, 0
-        self.torrent = self.tree = self.claim = None
+        self.torrent = self.tree = self.claim = self.store = None
+        self.stored = 0
         # How many calls were made of devices that are gone.
         self.gone = 0, 0
         at = 0
@@ -384,18 +407,22 @@ class Play:
             return [f"{len(row.of.files)} files, {row.of.pieces} pieces, infohash {row.of.infohash.hex()}"]
         if row.name == "attach":
             return self.attach()
+        if row.name == "reload":
+            return self.reload(False)
         if row.name == "start":
             self.engine = LoggedEngine(self.torrent, self.disks, self.log)
             self.disks, self.log = [], None
             return ["started"]
         if row.name == "session":
-            return self.engine.session(row.words[1], row.words[0], None)
+            lines = self.engine.session(row.words[1], row.words[0], None)
+            self.places[len(self.kinds)] = self.engine.places
+            return lines
         if row.name == "run":
             return [line for one in row.of for line in self.event(one, 1)]
         return self.event(row, self.peer)
 
     def text_answer(self, row):
-        """What is answered of texts and trees."""
+        """What is answered of texts and trees, and of what an engine is made of."""
         if row.name in ("tree", "layer") and row.told == "a tree":
             self.tree = Tree(row.of, BLOCK if row.name == "layer" else 1 << 28)
         if row.name == "claim" and row.told == "a claim":
@@ -404,7 +431,22 @@ class Play:
             known = len(self.tree.held)
             assert self.tree.accept(*self.claim)
             assert row.told == f"accepted {len(self.tree.held) - known}"
+        if row.name == "store":
+            self.store = self.disks.pop()
+        if row.name == "group":
+            self.read_group(row)
+            self.tree.accept(0, 0, row.of, [])
+            self.stored = 3
         return [row.told]
+
+    def read_group(self, row):
+        """Reads the blocks of the group of the first block; there are none behind the last group."""
+        for block in range(3 if row.words[0] == 0 else 0):
+            self.store.read(block * BLOCK, BLOCK)
+
+    def reload(self, is_refused):
+        fault = self.log.read(is_refused)
+        return [f"refused {fault}, {len(self.log.hints)} hints" if fault else f"read, {len(self.log.hints)} hints"]
 
     def attach(self, is_refused=False):
         log = Log(self.log_disk, self.torrent.infohash)
@@ -427,6 +469,12 @@ class Play:
             return [f"refused {REFUSALS[row.name]}"]
         if row.name == "attach":
             return self.attach(True)
+        if row.name == "reload":
+            return self.reload(True)
+        if row.name == "group":
+            if way:
+                self.read_group(row)
+            return ["refused OutOfMemory"]
         if row.name == "restart":
             return self.engine.refused_restart(way)
         if row.name == "adopt":
@@ -448,14 +496,15 @@ class Play:
             lines += ["refused OutOfMemory"] if at == place else self.event(one, 1)
         return lines
 
-    def ways(self, row):
+    def ways(self, call):
         """The ways in which a refusal of a call may be seen."""
-        if row.name == "restart":
+        row = self.kinds[call]
+        if row.name in ("restart", "group"):
             return [True, False]
         if row.name == "adopt":
             return [(groups, is_read) for groups in range(len(self.torrent.files[0].blocks) + 1) for is_read in (False, True)]
         if row.name == "session":
-            return range(4 * len(row.words[1]))
+            return range(self.places[call])
         if row.name == "run":
             return [None, *range(len(row.of))]
         return [None]
@@ -471,6 +520,8 @@ class Play:
                 self.lines.append(self.log_disk.shown("log's device, in hand"))
             if self.log:
                 self.lines.append(self.log.disk.shown("log, in hand"))
+        if self.store:
+            self.lines += [f"store: {self.stored} marked, 0 wait", self.store.shown("store's device")]
         if self.tree:
             nodes = [(layer, index) for layer in range(self.tree.height) for index in range(1 << self.tree.height - layer)]
             known = [(layer, index, self.tree.value(layer, index)) for layer, index in nodes]
@@ -587,6 +638,24 @@ def proof():
             Row("layer", len(file.contents), root, 0, layer, answer="a tree", of=file)]
 
 
+def parts():
+    """What an engine is made of: a cutter and the messages that it cuts, a book, a store, a log with hints, and what a crash leaves."""
+    ask = message(6, number(0) + number(0) + number(BLOCK))
+    rows = [Row("cut", THREE.torrent.handshake(b"p" * 20), answer="fed"), Row("take", answer="another event"), Row("take", answer="none")]
+    for text in (bytes(4), message(5, b"\x80"), ask, THREE.piece(0), THREE.hashes(), message(21, spelled(THREE.key))):
+        rows += [Row("cut", text, answer="fed"), Row("take", answer="a message"), Row("message", answer=f"written {text.hex()}")]
+    rows += [Row("cut", message(21), answer="fed"), Row("take", answer="refused W3 BadLength"), Row("cut", b"", answer="refused W5 Failed")]
+    rows += [Row("book", 3, 0, 1, answer="a book"), Row("data", 0, 0, 0, THREE.file.contents)]
+    rows += [Row("store", len(THREE.file.contents), answer="a store")]
+    rows += [Row("tree", len(THREE.file.contents), THREE.file.root, answer="a tree", of=THREE.file)]
+    rows += [Row("group", 0, answer="adopted 3, next 3, anchor 2, 0 faults", of=THREE.leaves)]
+    rows += [Row("group", 3, answer="adopted 0, next 3, anchor 0, 0 faults", of=THREE.leaves)]
+    hints = spelled_hint((THREE.key, THREE.leaves)) + spelled_hint((0, 0, 2))
+    rows += [Row("log", 0, 0, 0, b"btseed-2" + THREE.torrent.infohash + hints)]
+    rows += [Row("torrent", THREE.torrent.text, of=THREE.torrent), Row("attach"), Row("attach"), Row("reload")]
+    return rows + [Row("data", 0, 0, 0, b"kept"), Row("image", answer=f"left {b'kept'.hex()}")]
+
+
 def straight():
     """*straight fetch*. All pieces come twice, so that one that could not be written comes again."""
     first = THREE.says(THREE.hashes(), UNCHOKE, *THREE.pieces())
@@ -651,7 +720,7 @@ def session(part):
 
 
 EXAMPLES = {
-    "abc torrent": texts, "first proof": proof, "straight fetch": straight, "waiting fetch": waiting, "two peers": two_peers,
+    "abc torrent": texts, "first proof": proof, "parts": parts, "straight fetch": straight, "waiting fetch": waiting, "two peers": two_peers,
     "list of events": listed, "flush and restart": lambda: flushed((4, 16_384)), "restart and start": restarted, "adoption": adopted,
     "serving": served, "session of the abc fetch": lambda: session(READ), "session, byte by byte": lambda: session(1),
 }
@@ -695,7 +764,7 @@ class Trial:
         """What a run has to print where memory is refused to a call, each with how that may be seen."""
         row, owed = self.ample.kinds[call], {}
         if row.name not in FREE and row.name != "flush":
-            for way in self.ample.ways(row):
+            for way in self.ample.ways(call):
                 owed.setdefault(Play(self.rows, Refusal(call, way)).text(), "out of memory")
         (data, log), (data_end, log_end) = self.ample.made[call]
         for failing in [Failing(at, 0) for at in range(data + 1, data_end + 1)] + [Failing(0, at) for at in range(log + 1, log_end + 1)]:
@@ -705,16 +774,18 @@ class Trial:
 
     def refuse_each(self):
         """Refuses each allocation in turn."""
-        calls = self.calls()
-        owed = {}
+        calls, owed = self.calls(), {}
+        for at, (row, first, behind) in enumerate(calls):
+            if row.name in FREE and behind > first:
+                self.note(f"memory is asked for in call {at} {row.name}", "", self.first.printed)
         for failing in range(1, self.count + 1):
             done = self.run(self.script, failing)
             call = next((at for at, (_, first, behind) in enumerate(calls) if first <= failing < behind), None)
             if call is None:
                 self.judge_own(failing, done)
                 continue
-            owed.setdefault(call, None)
-            owed[call] = owed[call] or self.owed_of(call)
+            if call not in owed:
+                owed[call] = self.owed_of(call)
             name = calls[call][0].name
             came = owed[call].get(done.printed) if done.status == 0 else None
             self.told[name, came or "OTHERWISE"] += 1
