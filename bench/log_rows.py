@@ -18,28 +18,10 @@ import sys
 import tempfile
 
 from measure import TOP
+from refusing import refuses
 
 CRATE = TOP / "crates" / "bt_log_tests"
 LISTS = pathlib.Path(__file__).resolve().with_suffix("")
-
-# Refuses the allocation that FAILING names, and tells at the end in the file COUNTED how many were asked for.
-REFUSING = r"""
-#define _GNU_SOURCE
-#include <dlfcn.h>
-#include <stdio.h>
-#include <stdlib.h>
-static long asked;
-static int refused(void) { const char *n = getenv("FAILING"); return n && ++asked == atol(n); }
-void *malloc(size_t size) { return refused() ? 0 : ((void *(*)(size_t))dlsym(RTLD_NEXT, "malloc"))(size); }
-void *realloc(void *old, size_t size) {
-    return refused() ? 0 : ((void *(*)(void *, size_t))dlsym(RTLD_NEXT, "realloc"))(old, size);
-}
-__attribute__((destructor)) static void tell(void) {
-    long counted = asked;
-    FILE *file = fopen(getenv("COUNTED"), "w");
-    if (file) { fprintf(file, "%ld", counted); fclose(file); }
-}
-"""
 
 
 def built():
@@ -74,18 +56,8 @@ def adoptions(name):
     return rows[first : rows.index("# adoption_memory ends") + 1]
 
 
-def refuses(program, folder):
-    """A function that runs rows with an allocation refused, and gives the status, what was printed, and how many were asked for."""
-    source, library, counted = folder / "refusing.c", folder / "refusing.so", folder / "counted"
-    source.write_text(REFUSING)
-    subprocess.run(["cc", "-shared", "-fPIC", "-o", library, source, "-ldl"], check=True)
-
-    def run(rows, failing):
-        words = {"LD_PRELOAD": str(library), "COUNTED": str(counted), "FAILING": str(failing)}
-        done = subprocess.run([program], input="\n".join(rows) + "\n", env=words, capture_output=True, text=True)
-        return done.returncode, done.stdout.splitlines(), int(counted.read_text())
-
-    return run
+def text_of(rows):
+    return "".join(f"{row}\n" for row in rows)
 
 
 def stays(program, name, rows, wanted, places):
@@ -95,10 +67,11 @@ def stays(program, name, rows, wanted, places):
     with tempfile.TemporaryDirectory() as folder:
         run = refuses(program, pathlib.Path(folder))
         for place in places:
-            for failing in range(run(rows[:place], 0)[2] + 1, run(rows[: place + 1], 0)[2] + 1):
-                status, printed, _ = run(rows, failing)
+            before, behind = (run(text_of(rows[:end]), 0).asked[-1][1] for end in (place, place + 1))
+            for failing in range(before + 1, behind + 1):
+                status, printed, _ = run(text_of(rows), failing)
                 # Of a log that could not be read again for want of memory the answer says so.
-                printed = ["refused OutOfMemory" if line == "refused out of memory" else line for line in printed]
+                printed = ["refused OutOfMemory" if line == "refused out of memory" else line for line in printed.splitlines()]
                 alike += status == 0 and printed == wanted
                 ended += status != 0
                 other += status == 0 and printed != wanted

@@ -47,6 +47,24 @@ def unproved(folder):
     return folder / "out" / "unproved" / "btseed-unproved"
 
 
+def tried(folder, name, stands_on):
+    """The program `bench/NAME/main.rt.in` compiled without proof, with run-time checks and little optimised, in a repository of its own in
+    a folder, where it stands in the place of `btseed`."""
+    lines = below(stands_on)
+    folder.mkdir(parents=True, exist_ok=True)
+    shutil.copy2(TOP / "btseed", folder)
+    for part in ("scripts", *(f"crates/{crate}/src" for crate in lines)):
+        shutil.copytree(TOP / part, folder / part, dirs_exist_ok=True)
+    clang = folder / "scripts" / "clang"
+    clang.write_text(clang.read_text().replace("-O3", "-O1"))
+    source = folder / "crates" / "btseed" / "src"
+    source.mkdir(parents=True, exist_ok=True)
+    shutil.copy2(TOP / "bench" / name / "main.rt.in", source / "main.rt")
+    (folder / "crates.txt").write_text("\n".join([*lines.values(), f"btseed: {' '.join(stands_on)}"]) + "\n")
+    subprocess.run([folder / "btseed", "--version"], check=True, stdout=subprocess.DEVNULL)
+    return folder / "out" / "unproved" / "btseed-unproved"
+
+
 def built(folder, name, stands_on):
     """The program `bench/NAME/main.rt.in`, proved and built in a repository of its own in a folder, beside copies of the crates that it
     stands on."""
