@@ -60,7 +60,10 @@ def tried(folder, name, stands_on):
     source = folder / "crates" / "btseed" / "src"
     source.mkdir(parents=True, exist_ok=True)
     shutil.copy2(TOP / "bench" / name / "main.rt.in", source / "main.rt")
-    (folder / "crates.txt").write_text("\n".join([*lines.values(), f"btseed: {' '.join(stands_on)}"]) + "\n")
+    text, place = "\n".join([*lines.values(), f"btseed: {' '.join(stands_on)}"]) + "\n", folder / "crates.txt"
+    # It is not written again, so that nothing is compiled again that did not change.
+    if not place.exists() or place.read_text() != text:
+        place.write_text(text)
     subprocess.run([folder / "btseed", "--version"], check=True, stdout=subprocess.DEVNULL)
     return folder / "out" / "unproved" / "btseed-unproved"
 

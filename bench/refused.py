@@ -670,7 +670,7 @@ def waiting():
 
 
 def two_peers():
-    """*straight fetch* from two peers, of which each is asked for all: one brings a block, the other is sent a cancel."""
+    """*straight fetch* from two peers, of which each is asked for all: where one brings a block, the other is sent a cancel."""
     first = THREE.comes() + THREE.says(UNCHOKE, THREE.hashes())
     second = THREE.comes() + THREE.says(UNCHOKE, message(2))
     rest = [Row("peer", 1), *THREE.says(THREE.piece(0)), Row("peer", 2), *THREE.says(THREE.piece(1)), Row("rechoke"),
@@ -687,14 +687,15 @@ def listed():
 def flushed(flip=(0, 0)):
     """*flush and restart*, up to the restart."""
     first = THREE.comes() + THREE.says(THREE.hashes(), UNCHOKE, THREE.piece(0), THREE.piece(1), THREE.piece(0), THREE.piece(1))
-    return THREE.begin(log=True, flip=flip) + first + [Row("flush"), Row("flush"), Row("tell"), Row("restart"), Row("restart"), Row("tell")]
+    rest = [Row("flush"), Row("flush"), Row("tell"), Row("restart"), Row("restart"), Row("tell")]
+    return THREE.begin(log=True, flip=flip) + first + rest
 
 
 def restarted():
     """The same on a device that reads right; then the third piece comes, and all is opened anew."""
-    more = THREE.comes() + THREE.says(UNCHOKE, THREE.hashes(), *THREE.pieces(), *THREE.pieces()) + [Row("flush"), Row("flush"), Row("tell")]
+    more = THREE.comes() + THREE.says(UNCHOKE, THREE.hashes(), *THREE.pieces(), *THREE.pieces())
     anew = [Row("stop"), Row("torrent", THREE.torrent.text, of=THREE.torrent), Row("attach"), Row("start"), Row("flush"), Row("tell")]
-    return flushed() + more + anew
+    return flushed() + more + [Row("flush"), Row("flush"), Row("tell")] + anew
 
 
 def adopted():
@@ -720,9 +721,9 @@ def session(part):
 
 
 EXAMPLES = {
-    "abc torrent": texts, "first proof": proof, "parts": parts, "straight fetch": straight, "waiting fetch": waiting, "two peers": two_peers,
-    "list of events": listed, "flush and restart": lambda: flushed((4, 16_384)), "restart and start": restarted, "adoption": adopted,
-    "serving": served, "session of the abc fetch": lambda: session(READ), "session, byte by byte": lambda: session(1),
+    "abc torrent": texts, "first proof": proof, "parts": parts, "straight fetch": straight, "waiting fetch": waiting,
+    "two peers": two_peers, "list of events": listed, "flush and restart": lambda: flushed((4, 16_384)), "restart and start": restarted,
+    "adoption": adopted, "serving": served, "session of the abc fetch": lambda: session(READ), "session, byte by byte": lambda: session(1),
 }
 # Examples of which each call of a device fails.
 FAILING = "straight fetch", "waiting fetch", "flush and restart", "restart and start", "adoption", "serving"
