@@ -14,7 +14,7 @@ use Rattle.bt_machine.specs.Settling.{SettlesIn}
 use Rattle.bt_machine.specs.Shape.{IsShaped}
 use Rattle.bt_machine.specs.Adopting.{AdoptsGroup, AdoptsGroups, is_other, nothing_adopted, unread, StepAdopt, no_file, busy, empty, adopts, no_memory}
 use Rattle.bt_state.specs.Parts.{state_of, file_of, peer_of, disks_of, pending_of}
-use Rattle.bt_state.specs.Ties.{IsTied, AreFirstFiles, root_and_length}
+use Rattle.bt_state.specs.Ties.{IsTied, FitRoots, root_and_length}
 use Rattle.bt_state.specs.declared.slot.Slot.{Slot}
 use Rattle.bt_state.specs.declared.parts.Parts.{Parts}
 use Rattle.bt_state.proofs.BlockChanges.{followed_tied, tied_followed}
@@ -49,8 +49,8 @@ module _ {D H : Type 0} (old : Parts D H) (tied : IsTied old) where
   tied_last new rest in_line =
       tied_followed old new tied (ap (λ (p : Parts D H). p.torrent) rest.others) (ap (λ (p : Parts D H). map (λ q. q.key) p.peers.items) rest.others)
       (subst (λ (p : Parts D H). max_peers ≤ vec_capacity p.peers) (sym rest.others) tied.room) rest.peers rest.count in_line.fits
-      (subst (λ (p : Parts D H). AreFirstFiles p.torrent.files (map root_and_length new.trees.items) p.first_files.items) (sym rest.others)
-      (rw rest.trees tied.firsts)) in_line.follows
+      (subst (λ (p : Parts D H). FitRoots p.torrent.files (map root_and_length new.trees.items) p.roots) (sym rest.others)
+      (rw rest.trees tied.roots)) in_line.follows
       (ap (λ (p : Parts D H). p.known) rest.others) rest.leaves
 
 -- ---- a file that has blocks

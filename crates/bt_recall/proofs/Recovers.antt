@@ -15,7 +15,7 @@ use Rattle.bt_machine.specs.State.{EngineState, FileState, PeerState}
 use Rattle.bt_machine.proofs.Lists.{some_is, get_some, get_map, map_some}
 use Rattle.bt_state.specs.BlockChange.{AreFollowed}
 use Rattle.bt_state.specs.Parts.{state_of, disks_of, file_of, peer_of}
-use Rattle.bt_state.specs.Ties.{IsTied, HaveFirstFiles, LeavesStay}
+use Rattle.bt_state.specs.Ties.{IsTied, HaveRoots, LeavesStay}
 use Rattle.bt_state.specs.declared.peer.Peer.{Peer}
 use Rattle.bt_state.specs.declared.slot.Slot.{Slot}
 use Rattle.bt_state.specs.declared.parts.Parts.{Parts}
@@ -149,7 +149,7 @@ module _ {D H : Type 0} (old : Parts D H) (slots : Vec (Slot D H)) (named : map 
         tied_followed old new tied (ap (λ (p : Parts D H). p.torrent) others) (ap (λ (p : Parts D H). map (λ q. q.key) p.peers.items) others)
         (subst (λ (p : Parts D H). max_peers ≤ vec_capacity p.peers) (sym others) tied.room) peers (ap (λ (p : Parts D H). length p.slots.items) others ∙ as_many)
         (subst (λ (p : Parts D H). EachFits p.torrent.files p.trees.items p.slots.items) (sym others) (fits_then tied))
-        (subst (λ (p : Parts D H). HaveFirstFiles p) (sym others) tied.firsts)
+        (subst (λ (p : Parts D H). HaveRoots p) (sym others) tied.roots)
         (followed_alike (state_of new) follows (ap (λ (p : Parts D H). p.torrent) others) (ap (λ (p : Parts D H). map file_of p.slots.items) others))
         (ap (λ (p : Parts D H). p.known) others) leaves_then
 

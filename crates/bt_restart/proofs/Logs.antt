@@ -36,16 +36,16 @@ use Rattle.bt_restart.proofs.Restarts as anew
 
 -- no two of the trees that were made anew have one root
 pub made_apart : {D H : Type 0} {dig : List ℕ → List ℕ} {parts : Parts D H} {trees : List Facts} → IsTied parts → IsShaped parts.torrent (state_of parts)
-    → AreTreesOf dig parts.torrent parts.first_files.items trees → AllPairs (λ j k. j.root ≢ k.root) trees
+    → AreTreesOf dig parts.torrent parts.roots.first_files.items trees → AllPairs (λ j k. j.root ≢ k.root) trees
 made_apart {parts = parts} {trees = trees} tied shaped made =
-    let names : map root_and_length trees ≡ map root_and_length parts.trees.items = names_of_trees made ∙ sym tied.firsts.same in
+    let names : map root_and_length trees ≡ map root_and_length parts.trees.items = names_of_trees made ∙ sym tied.roots.firsts.same in
     apart_alike trees parts.trees.items
     (sym (map-map (λ (p : List ℕ × ℕ). p.0) root_and_length trees) ∙ ap (map (λ (p : List ℕ × ℕ). p.0)) names
     ∙ map-map (λ (p : List ℕ × ℕ). p.0) root_and_length parts.trees.items) shaped.roots
 
 -- trees that were lent, and have taken the log's proofs
 pub trees_from : {D H : Type 0} {dig : List ℕ → List ℕ} {parts : Parts D H} (trees : Vec Facts) {lent made : List Facts} {numbers : List ℕ} {hints : List Hint}
-    → AreTreesOf dig parts.torrent numbers trees.items → numbers ≡ parts.first_files.items → lent ≡ trees.items → (with_items trees made).items ≡ made
+    → AreTreesOf dig parts.torrent numbers trees.items → numbers ≡ parts.roots.first_files.items → lent ≡ trees.items → (with_items trees made).items ≡ made
     → TakeHints dig hints lent made → hints ≡ hints_of parts.log → map (λ k. k.root) made ≡ map (λ k. k.root) lent
     → map (λ k. k.file_length) made ≡ map (λ k. k.file_length) lent → AreTreesFrom dig parts (with_items trees made).items
 trees_from {D} {H} {dig} {parts} trees {lent} {made} {numbers} {hints} of firsts lends are takes same roots lengths = record {
@@ -72,7 +72,7 @@ module _ {D H : Type 0} (parts : Parts D H) (log : Option (OpenLog D)) where
     ranged = tied.ranged;
     count = tied.count;
     each = tied.each;
-    firsts = tied.firsts;
+    roots = tied.roots;
     unmarked = record { size = tied.unmarked.size; each = tied.unmarked.each };
     known = record { size = tied.known.size; each = tied.known.each };
   }
@@ -104,8 +104,8 @@ module _ {D H : Type 0} {dig : List ℕ → List ℕ} (old : Parts D H) (slots :
   bare_shaped : IsShaped old.torrent (state_of bare)
   bare_shaped = shaped_with_log old None shaped
 
-  made_first : AreTreesOf dig old.torrent old.first_files.items first.items
-  made_first = subst (λ (ks : List Facts). AreTreesOf dig old.torrent old.first_files.items ks) (sym first_is) from.made
+  made_first : AreTreesOf dig old.torrent old.roots.first_files.items first.items
+  made_first = subst (λ (ks : List Facts). AreTreesOf dig old.torrent old.roots.first_files.items ks) (sym first_is) from.made
 
   abbrev base_next : Parts D H
   base_next = anew.next bare slots first books bare_tied bare_shaped lawful are made_first fresh refl

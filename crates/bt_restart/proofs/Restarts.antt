@@ -13,7 +13,7 @@ use Rattle.bt_machine.specs.Restart.{KeepsPlaces}
 use Rattle.bt_machine.specs.Shape.{IsShaped}
 use Rattle.bt_machine.specs.Start.{IsNew}
 use Rattle.bt_state.specs.Parts.{state_of, disks_of, file_of, disk_of, peer_of, pending_of, hints_of}
-use Rattle.bt_state.specs.Ties.{IsTied, FitsFile, root_and_length}
+use Rattle.bt_state.specs.Ties.{IsTied, FitsFile, FitRoots, root_and_length}
 use Rattle.bt_state.specs.declared.peer.Peer.{Peer}
 use Rattle.bt_state.specs.declared.open_log.OpenLog.{OpenLog}
 use Rattle.bt_state.specs.declared.slot.Slot.{Slot}
@@ -126,13 +126,13 @@ module _ {D H : Type 0} where
 
 module _ {D H : Type 0} {dig : List ℕ → List ℕ} (old : Parts D H) (slots : Vec (Slot D H)) (trees : Vec Facts) (books : Books)
     (tied : IsTied old) (shaped : IsShaped old.torrent (state_of old)) (lawful : IsLawful old.torrent.piece_length old.torrent.files)
-    (are : slots.items ≡ map cleared old.slots.items) (made : AreTreesOf dig old.torrent old.first_files.items trees.items)
+    (are : slots.items ≡ map cleared old.slots.items) (made : AreTreesOf dig old.torrent old.roots.first_files.items trees.items)
     (fresh : AreNewBooks old.torrent books) (none : old.log ≡ None) where
   abbrev pub next : Parts D H
   next = record old { slots = slots; trees = trees; unmarked = books.unmarked; known = books.known; peers = books.peers; book = books.book }
 
   names : map root_and_length trees.items ≡ map root_and_length old.trees.items
-  names = names_of_trees made ∙ sym tied.firsts.same
+  names = names_of_trees made ∙ sym tied.roots.firsts.same
 
   same_by : {X : Type 0} (f : List ℕ × ℕ → X) → map (λ k. f (root_and_length k)) trees.items ≡ map (λ k. f (root_and_length k)) old.trees.items
   same_by f = sym (map-map f root_and_length trees.items) ∙ ap (map f) names ∙ map-map f root_and_length old.trees.items
@@ -140,11 +140,11 @@ module _ {D H : Type 0} {dig : List ℕ → List ℕ} (old : Parts D H) (slots :
   pub new_parts : AreNewParts dig next
   new_parts = record {
     lawful = lawful;
-    trees = torrent_trees made tied.firsts.each (trees_apart trees.items (map (λ k. k.root) old.trees.items) (same_by (λ p. p.0))
+    trees = torrent_trees made tied.roots.firsts.each (trees_apart trees.items (map (λ k. k.root) old.trees.items) (same_by (λ p. p.0))
         (from_pairs (λ r s. r ≢ s) (map (λ (k : Facts). k.root) old.trees.items)
         (pairs_map (λ j k. j.root ≢ k.root) (λ r s. r ≢ s) (λ (k : Facts). k.root) old.trees.items (λ j k apart. apart)
         (to_pairs (λ j k. j.root ≢ k.root) old.trees.items shaped.roots))));
-    firsts = record { each = tied.firsts.each; same = names_of_trees made };
+    roots = subst (λ (ps : List (List ℕ × ℕ)). FitRoots old.torrent.files ps old.roots) (sym names) tied.roots;
     books = fresh;
   }
 

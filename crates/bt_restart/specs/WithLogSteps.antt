@@ -26,7 +26,7 @@ pub record IsReadAgain {D : Type 0} (history : D → History) (honest : D → Ty
 pub record AreTreesFrom {D H : Type 0} (dig : List ℕ → List ℕ) (parts : Parts D H) (trees : List Facts)
     : Type 0 where
   pub bases : List Facts
-  pub made : AreTreesOf dig parts.torrent parts.first_files.items bases
+  pub made : AreTreesOf dig parts.torrent parts.roots.first_files.items bases
   pub takes : TakeHints dig (hints_of parts.log) bases trees
   pub roots : map (λ k. k.root) trees ≡ map (λ k. k.root) bases
   pub lengths : map (λ k. k.file_length) trees ≡ map (λ k. k.file_length) bases

@@ -58,10 +58,10 @@ fn made_anew<D: Disk + Drop, H: NodeHash>(
     requires digest { H.digest ≡ sha256 }
     requires tied { IsTied parts.now }
     ensures trees { IfOk result (λ made.
-        AreTreesOf H.digest parts.now.torrent parts.now.first_files.items made.0.items) }
+        AreTreesOf H.digest parts.now.torrent parts.now.roots.first_files.items made.0.items) }
     ensures books { IfOk result (λ made. AreNewBooks parts.now.torrent made.1) }
 {
-    let trees = new_trees(alloc, hash, &parts.torrent, &parts.first_files)?;
+    let trees = new_trees(alloc, hash, &parts.torrent, &parts.roots.first_files)?;
     Ok((trees, new_books(alloc, &parts.torrent)?))
 }
 
@@ -74,7 +74,7 @@ fn begin_again<D: Disk + Drop, H: NodeHash>(
     requires tied { IsTied parts.old }
     requires unlogged { parts.old.log ≡ None }
     requires shaped { IsShaped parts.old.torrent (state_of parts.old) }
-    requires trees { AreTreesOf H.digest parts.old.torrent parts.old.first_files.items trees.items }
+    requires trees { AreTreesOf H.digest parts.old.torrent parts.old.roots.first_files.items trees.items }
     requires books { AreNewBooks parts.old.torrent books }
     ensures recovers { Recovers H.digest (state_of parts.old) [] [] (state_of parts.new) }
     ensures places { KeepsPlaces (state_of parts.old) (state_of parts.new) }

@@ -84,7 +84,7 @@ fn made_from_log<D: Disk + Drop, H: NodeHash>(
     let Some(open) = &parts.log else {
         unreachable!();
     };
-    let mut trees = new_trees(alloc, hash, &parts.torrent, &parts.first_files)?;
+    let mut trees = new_trees(alloc, hash, &parts.torrent, &parts.roots.first_files)?;
     take_proofs(alloc, &mut trees, open.log.hints())?;
     Ok((trees, new_books(alloc, &parts.torrent)?))
 }

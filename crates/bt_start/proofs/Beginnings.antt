@@ -205,7 +205,7 @@ module _ {D H : Type 0} {dig : List ℕ → List ℕ} (parts : Parts D H) (is : 
     ranged = known_ranged (state_of parts) parts.book.wanted parts.torrent.files is.books.wanted are_new.count missing;
     count = count;
     each = fits;
-    firsts = is.firsts;
+    roots = is.roots;
     known = record {
       size = ap (λ (bs : List Bool). length bs) is.books.known ∙ length-replicate (total_pieces parts.torrent) false;
       each = λ b k has among at.
@@ -224,7 +224,7 @@ module _ {D H : Type 0} {dig : List ℕ → List ℕ} (bare next : Parts D H) (i
   begun = record bare { slots = next.slots }
 
   new_parts : AreNewParts dig begun
-  new_parts = record { lawful = is.new.lawful; trees = is.new.trees; firsts = is.new.firsts; books = is.new.books }
+  new_parts = record { lawful = is.new.lawful; trees = is.new.trees; roots = is.new.roots; books = is.new.books }
 
   as_many : length next.slots.items ≡ length bare.torrent.files
   as_many =

@@ -2,6 +2,7 @@ pub mod NewTrees
 pub mod NewBooks
 pub mod Pushes
 pub mod RootTrees
+pub mod NextFiles
 pub mod DeviceOrder
 pub mod Sizes
 pub mod Beginnings

@@ -9,7 +9,7 @@ use Rattle.bt_machine.proofs.Lists.{heads, tails, some_is, some_below, get_some}
 use Rattle.bt_machine.proofs.Pairs.{to_pairs, pairs_map, from_pairs}
 use Rattle.bt_recovery.specs.Taking.{TakeHints}
 use Rattle.bt_state.specs.Parts.{state_of}
-use Rattle.bt_state.specs.Ties.{IsTied, FitsFile, StillKnows, LeavesStay, root_and_length}
+use Rattle.bt_state.specs.Ties.{IsTied, FitsFile, FitRoots, StillKnows, LeavesStay, root_and_length}
 use Rattle.bt_state.specs.declared.open_log.OpenLog.{OpenLog}
 use Rattle.bt_state.specs.declared.slot.Slot.{Slot}
 use Rattle.bt_state.specs.declared.parts.Parts.{Parts}
@@ -89,7 +89,7 @@ module _ {D H : Type 0} {dig : List ℕ → List ℕ} {hints : List Hint} (base 
         ranged = t.ranged;
         count = t.count;
         each = λ i slot at. fits_then i slot (t.each i slot at);
-        firsts = record { each = t.firsts.each; same = names ∙ t.firsts.same };
+        roots = subst (λ (ps : List (List ℕ × ℕ)). FitRoots base.torrent.files ps base.roots) (sym names) t.roots;
         unmarked = record { size = t.unmarked.size; each = t.unmarked.each };
         known = knows_still refl leaves t.known;
       }

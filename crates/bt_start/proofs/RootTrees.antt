@@ -22,7 +22,8 @@ use Rattle.bt_state.specs.Ties.{EachIsFirst, IsFirstFile, root_and_length, root_
 use Rattle.bt_state.specs.declared.slot.Slot.{Slot}
 use Rattle.bt_state.proofs.BlockChanges.{pairs_of_map}
 use Rattle.bt_state.proofs.Lists.{get_at, get_read, get_mapped}
-use Rattle.bt_start.specs.TreeSteps.{Numbers, number_of, roots_of, roots_and_lengths, AreByRoot, Extends, HasTreeAt, AreTorrentTrees, IsBareSlot, AreBareSlotsSoFar, AreBareSlots}
+use Rattle.bt_state.specs.Roots.{Numbers, number_of, AreNumbered}
+use Rattle.bt_start.specs.TreeSteps.{roots_of, roots_and_lengths, AreByRoot, Extends, HasTreeAt, AreTorrentTrees, IsBareSlot, AreBareSlotsSoFar, AreBareSlots}
 use Rattle.bt_start.specs.Trees.{AreTreesSoFar, AreTreesOf}
 use Rattle.bt_start.proofs.Pushes.{nothing_at, get_kept, get_last, get_cases}
 
@@ -276,6 +277,11 @@ module _ {dig : List ℕ → List ℕ} {torrent : Metainfo} {firsts : List ℕ} 
       let is = tree_is of.says in
       ap (λ root. (root, k.file_length)) is.0 ∙ ap (λ m. (of.file.root, m)) is.1 ∙ sym (listed_root torrent.files n of.listed)
       ))
+
+  pub numbered_trees : {numbers : Numbers} → AreNumbered (roots_of torrent.files firsts) numbers → AreNumbered (map (λ p. p.0) (map root_and_length trees)) numbers
+  numbered_trees {numbers} are_numbered =
+      subst (λ (roots : List (List ℕ)). AreNumbered roots numbers)
+      (sym (ap (map (λ p. p.0)) names_of_trees ∙ map-map (λ p. p.0) (root_and_length_of torrent.files) firsts)) are_numbered
 
   pub roots_of_trees : map (λ k. k.root) trees ≡ roots_of torrent.files firsts
   roots_of_trees =

@@ -4,7 +4,7 @@ use Rattle.std.specs.Prelude.{◌≡◌, ℕ, List, map, None}
 use Rattle.bt_meta.specs.Torrent.{IsLawful}
 use Rattle.bt_machine.specs.Start.{Starts, AreDevicesOf}
 use Rattle.bt_state.specs.Parts.{state_of, disks_of}
-use Rattle.bt_state.specs.Ties.{IsTied, HaveFirstFiles, root_and_length}
+use Rattle.bt_state.specs.Ties.{IsTied, HaveRoots, root_and_length}
 use Rattle.bt_state.specs.declared.parts.Parts.{Parts}
 use Rattle.bt_start.specs.declared.books.Books.{Books}
 use Rattle.bt_start.specs.Books.{AreNewBooks}
@@ -19,11 +19,11 @@ books_of parts = record {
   book = parts.book;
 }
 
--- the torrent's trees, with their first files, and its books
+-- the torrent's trees, with the files of their roots, and its books
 pub record AreNewParts {D H : Type 0} (dig : List ℕ → List ℕ) (parts : Parts D H) : Type 0 where
   pub lawful : IsLawful parts.torrent.piece_length parts.torrent.files
   pub trees : AreTorrentTrees dig parts.torrent parts.trees.items
-  pub firsts : HaveFirstFiles parts
+  pub roots : HaveRoots parts
   pub books : AreNewBooks parts.torrent (books_of parts)
 
 -- no file has its device yet, nothing came in, and there is no log

@@ -1,22 +1,14 @@
 -- The trees of a torrent, and the slots of its files, before devices are handed out. No public contract cites
 -- them.
-use Rattle.std.specs.Prelude.{◌≡◌, ◌≢◌, ◌↔◌, ℕ, ◌<◌, List, length, map, Option, Some, None, IsSome, slice_get}
+use Rattle.std.specs.Prelude.{◌≡◌, ◌≢◌, ℕ, ◌<◌, List, length, map, Some, None, IsSome, slice_get, unwrap_or}
 use Rattle.std.specs.List.{AllPairs}
-use Rattle.std.specs.Ordering.{nat_cmp}
-use Rattle.std.specs.Cmp.Lexicographic.{slice_cmp}
-use Rattle.std.specs.BTreeMap.{BTreeMap, get}
 use Rattle.bt_meta.specs.Files.{File}
 use Rattle.bt_meta.specs.Torrent.{Metainfo}
 use Rattle.bt_sparse.specs.SparseTree.{Facts}
 use Rattle.bt_machine.specs.Start.{IsTorrentTree}
+use Rattle.bt_state.specs.Roots.{Numbers, number_of, AreNumbered, IsFirstFrom, IsOfRoot}
 use Rattle.bt_state.specs.Ties.{EachIsFirst, root_and_length_of}
 use Rattle.bt_state.specs.declared.slot.Slot.{Slot}
-
-abbrev pub Numbers : Type 0
-Numbers = BTreeMap (List ℕ) ℕ
-
-abbrev pub number_of : Numbers → List ℕ → Option ℕ
-number_of numbers root = get (slice_cmp nat_cmp) numbers root
 
 -- the roots and lengths of the files of these numbers
 abbrev pub roots_and_lengths : List File → List ℕ → List (List ℕ × ℕ)
@@ -29,10 +21,14 @@ roots_of files firsts = map (λ number. (root_and_length_of files number).0) fir
 -- number, but those of all files before one have
 pub record AreByRoot (files : List File) (from : ℕ) (firsts : List ℕ) (numbers : Numbers) : Type 0 where
   pub each : EachIsFirst files firsts
-  pub numbered : (t : ℕ) (root : List ℕ)
-      → (number_of numbers root ≡ Some t) ↔ (slice_get (roots_of files firsts) t ≡ Some root)
+  pub numbered : AreNumbered (roots_of files firsts) numbers
   pub before : (j : ℕ) (file : File) → j < from → slice_get files j ≡ Some file → 0 < file.length
       → IsSome (number_of numbers file.root)
+
+-- of the files from one on, the first of each root is its number; a root that none has, has no number
+abbrev pub AreFirstsFrom : List File → (from : ℕ) → Numbers → Type 0
+AreFirstsFrom files from numbers = (root : List ℕ) → IsFirstFrom (IsOfRoot files root) (length files) from
+    (unwrap_or (number_of numbers root) (length files))
 
 -- each element stands where it stood
 abbrev pub Extends : {X : Type 0} → List X → List X → Type 0

@@ -87,12 +87,12 @@ pub(crate) fn bare_parts<D: Disk + Drop, H: NodeHash>(
     ensures bare { IfOk result (λ parts. AreBareParts H.digest parts) }
 {
     torrent.keeps_laws();
-    let (first_files, slots) = bare_slots(alloc, torrent.files())?;
-    let trees = new_trees(alloc, hash, &torrent, &first_files)?;
+    let (roots, slots) = bare_slots(alloc, torrent.files())?;
+    let trees = new_trees(alloc, hash, &torrent, &roots.first_files)?;
     let books = new_books(alloc, &torrent)?;
     Ok(Parts {
         trees,
-        first_files,
+        roots,
         slots,
         unmarked: books.unmarked,
         known: books.known,

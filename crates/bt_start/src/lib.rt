@@ -8,6 +8,7 @@ mod books;
 mod devices;
 mod new_book;
 mod new_tree;
+mod next_files;
 mod piece_sizes;
 mod roots;
 mod starting;

@@ -3,26 +3,28 @@ ghost use Rattle.std.specs.List.{AllPairs};
 ghost use Rattle.bt_meta.specs.Files.{File, file_of};
 ghost use Rattle.bt_meta.specs.Limits.{max_file_count};
 ghost use Rattle.bt_meta.specs.Torrent.{HaveOneLengthPerRoot};
+ghost use Rattle.bt_state.specs.Roots.{AreNumbered, AreNextFiles};
 ghost use Rattle.bt_state.specs.Ties.{EachIsFirst};
 ghost use Rattle.bt_start.specs.TreeSteps.{AreByRoot, Extends, HasTreeAt, AreBareSlots, roots_and_lengths, roots_of};
 
+use crate::next_files::next_files;
 use bt_disk::Disk;
 use bt_meta::FileEntry;
-use bt_state::Slot;
+use bt_state::{Roots, Slot};
 use bt_tree::{Hash32, NodeHash};
 use std::alloc::{AllocError, Global};
 use std::collections::BTreeMap;
 
 /// The roots of files, which have numbers in the order in which they come first.
 #[derive(Drop)]
-struct Roots {
+struct NumberedRoots {
     /// The first file of each.
     first_files: Vec<u32>,
     /// The number of each.
     numbers: BTreeMap<Hash32, u32>,
 }
 
-impl Roots {
+impl NumberedRoots {
     /// The number of a file's root, which it gets where it has none yet; 0 for an empty file, which has no
     /// tree. The roots of all files before have theirs. Errors: out of memory.
     fn number_of(&mut self, files: &[FileEntry], index: usize) -> Result<u32, AllocError>
@@ -53,22 +55,26 @@ impl Roots {
     }
 }
 
-/// For each root of files the first that has it and a byte; and for each of the files a slot without a
-/// device. Errors: out of memory.
+/// The trees and files of the roots of files, where trees have the order in which their roots come first; and
+/// for each of the files a slot without a device. Errors: out of memory.
 pub(crate) fn bare_slots<D: Disk + Drop, H: NodeHash>(
     alloc: Global,
     files: &[FileEntry],
-) -> Result<(Vec<u32>, Vec<Slot<D, H>>), AllocError>
+) -> Result<(Roots, Vec<Slot<D, H>>), AllocError>
     requires few { length files.now ≤ max_file_count }
     requires one_length { HaveOneLengthPerRoot (map file_of files.now) }
-    ensures firsts { IfOk result (λ made. EachIsFirst (map file_of files.now) made.0.items) }
+    ensures firsts { IfOk result (λ made. EachIsFirst (map file_of files.now) made.0.first_files.items) }
+    ensures nexts { IfOk result (λ made. AreNextFiles (map file_of files.now) made.0.next_files.items) }
+    ensures numbered { IfOk result (λ made.
+        AreNumbered (roots_of (map file_of files.now) made.0.first_files.items) made.0.trees) }
     ensures apart { IfOk result (λ made.
-        AllPairs (λ r s. r ≢ s) (roots_of (map file_of files.now) made.0.items)) }
+        AllPairs (λ r s. r ≢ s) (roots_of (map file_of files.now) made.0.first_files.items)) }
     ensures slots { IfOk result (λ made. AreBareSlots (map file_of files.now)
-        (roots_and_lengths (map file_of files.now) made.0.items) made.1.items) }
+        (roots_and_lengths (map file_of files.now) made.0.first_files.items) made.1.items) }
 {
+    let next_files = next_files(alloc, files)?;
     let mut slots = Vec::with_capacity(alloc, files.len())?;
-    let mut roots = Roots {
+    let mut roots = NumberedRoots {
         first_files: Vec::new(alloc),
         numbers: BTreeMap::new(alloc),
     };
@@ -76,5 +82,12 @@ pub(crate) fn bare_slots<D: Disk + Drop, H: NodeHash>(
         let tree = roots.number_of(files, index)?;
         slots.push(Slot { tree, store: None })?;
     }
-    Ok((roots.first_files, slots))
+    Ok((
+        Roots {
+            first_files: roots.first_files,
+            next_files,
+            trees: roots.numbers,
+        },
+        slots,
+    ))
 }

@@ -11,6 +11,8 @@ pub mod Leaves
 pub mod Books
 pub mod PeerLists
 pub mod Ties
+-- the files of a tree
+pub mod Chains
 pub mod Joins
 -- what is told of files
 pub mod Completeness

@@ -49,7 +49,7 @@ module _ {D H : Type 0} (parts : Parts D H) where
       ranged = tied.ranged;
       count = tied.count;
       each = tied.each;
-      firsts = tied.firsts;
+      roots = tied.roots;
       unmarked = record { size = tied.unmarked.size; each = tied.unmarked.each };
       known = record { size = tied.known.size; each = tied.known.each };
     }
@@ -69,7 +69,7 @@ tied_known parts pieces tied knows = record {
   ranged = tied.ranged;
   count = tied.count;
   each = tied.each;
-  firsts = tied.firsts;
+  roots = tied.roots;
   unmarked = record { size = tied.unmarked.size; each = tied.unmarked.each };
   known = record { size = knows.size; each = knows.each };
 }
@@ -84,7 +84,7 @@ tied_logged parts log tied = record {
   ranged = tied.ranged;
   count = tied.count;
   each = tied.each;
-  firsts = tied.firsts;
+  roots = tied.roots;
   unmarked = record { size = tied.unmarked.size; each = tied.unmarked.each };
   known = record { size = tied.known.size; each = tied.known.each };
 }
@@ -105,11 +105,11 @@ same_counts s t counts torrent files has =
 
 -- peers come and go, and what they are asked for changes, but which blocks are missing and wanted stays
 pub tied_again : {D H : Type 0} (old new : Parts D H) → IsTied old → new.torrent ≡ old.torrent → new.trees.items ≡ old.trees.items
-    → new.first_files.items ≡ old.first_files.items
+    → new.roots ≡ old.roots
     → new.slots.items ≡ old.slots.items → new.unmarked.items ≡ old.unmarked.items → new.known ≡ old.known → new.book.wanted ≡ old.book.wanted
     → map (λ p. p.key) new.peers.items ≡ map (λ r. r.peer) new.book.peers → AreInOrder new.peers.items
     → max_peers ≤ vec_capacity new.peers → IsTied new
-tied_again {D} {H} old new tied torrent trees firsts slots counts known wanted joined in_order room = record {
+tied_again {D} {H} old new tied torrent trees roots slots counts known wanted joined in_order room = record {
   joined = joined;
   in_order = in_order;
   room = room;
@@ -117,7 +117,7 @@ tied_again {D} {H} old new tied torrent trees firsts slots counts known wanted j
   ranged = λ b x at. rw wanted (tied.ranged b x (sym (same b) ∙ at));
   count = ap (λ xs. length xs) slots ∙ tied.count ∙ ap (λ (t : Metainfo). length t.files) (sym torrent);
   each = λ i slot at. rw torrent (rw trees (tied.each i slot (ap (λ xs. slice_get xs i) (sym slots) ∙ at)));
-  firsts = rw torrent (rw trees (rw firsts tied.firsts));
+  roots = rw torrent (rw trees (rw roots tied.roots));
   unmarked = rw counts (same_counts (state_of old) (state_of new) old.unmarked.items torrent (ap (λ (xs : List (Slot D H)). map file_of xs) slots) tied.unmarked);
   known = rw known (knows_still torrent (leaves_alike (state_of old) (state_of new) trees (ap (λ (xs : List (Slot D H)). map file_of xs) slots)) tied.known);
 }

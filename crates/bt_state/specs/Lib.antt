@@ -2,6 +2,7 @@ pub mod Parts
 pub mod PieceSets
 pub mod PieceSetSteps
 pub mod ComparisonSteps
+pub mod Roots
 pub mod Ties
 pub mod Connection
 pub mod BlockChange

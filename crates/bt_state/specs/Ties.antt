@@ -16,6 +16,8 @@ use Rattle.bt_store.specs.declared.block_states.BlockState.TheVariants.{Missing}
 use Rattle.bt_machine.specs.State.{EngineState}
 use Rattle.bt_machine.specs.Blocks.{state_at, tree_of, piece_of, is_marked_in, is_in_piece, all_blocks}
 use Rattle.bt_state.specs.Parts.{state_of}
+use Rattle.bt_state.specs.Roots.{AreNumbered, AreNextFiles}
+use Rattle.bt_state.specs.declared.roots.Roots.{Roots}
 use Rattle.bt_state.specs.declared.slot.Slot.{Slot}
 use Rattle.bt_state.specs.declared.parts.Parts.{Parts}
 
@@ -74,7 +76,7 @@ abbrev pub LeavesStay : EngineState → EngineState → Type 0
 LeavesStay s t = (file : ℕ) (j : Facts) → tree_of t file ≡ Some j
     → (k : Facts) × (tree_of s file ≡ Some k) × StillKnows k j
 
--- ---- the first files of trees
+-- ---- the trees and files of roots
 
 -- what a tree has of its files
 abbrev pub root_and_length : Facts → List ℕ × ℕ
@@ -100,15 +102,20 @@ pub record AreFirstFiles (files : List File) (trees : List (List ℕ × ℕ)) (n
   pub each : EachIsFirst files numbers
   pub same : trees ≡ map (root_and_length_of files) numbers
 
-abbrev pub HaveFirstFiles : {D H : Type 0} → Parts D H → Type 0
-HaveFirstFiles parts =
-    AreFirstFiles parts.torrent.files (map root_and_length parts.trees.items) parts.first_files.items
+-- each of the trees has its first file and is found by its root, and each file leads to the next of its root
+pub record FitRoots (files : List File) (trees : List (List ℕ × ℕ)) (roots : Roots) : Type 0 where
+  pub firsts : AreFirstFiles files trees roots.first_files.items
+  pub nexts : AreNextFiles files roots.next_files.items
+  pub numbered : AreNumbered (map (λ p. p.0) trees) roots.trees
+
+abbrev pub HaveRoots : {D H : Type 0} → Parts D H → Type 0
+HaveRoots parts = FitRoots parts.torrent.files (map root_and_length parts.trees.items) parts.roots
 
 -- ---- all
 
 -- The peers are the book's, in its order, which is that of their keys, and there is room for all that may be.
 -- A block is wanted exactly while it is missing. There is a slot for each file, and a count for each piece,
--- and each tree has its first file. The leaves of the blocks in the pieces of the set are known.
+-- and each root leads to its tree and its files. The leaves of the blocks in the pieces of the set are known.
 pub record IsTied {D H : Type 0} (parts : Parts D H) : Type 0 where
   pub joined : map (λ p. p.key) parts.peers.items ≡ map (λ r. r.peer) parts.book.peers
   pub in_order : AllPairs (λ p q. p.key.0 < q.key.0) parts.peers.items
@@ -120,6 +127,6 @@ pub record IsTied {D H : Type 0} (parts : Parts D H) : Type 0 where
   pub count : length parts.slots.items ≡ length parts.torrent.files
   pub each : (i : ℕ) (slot : Slot D H) → slice_get parts.slots.items i ≡ Some slot
       → FitsFile parts.torrent.files parts.trees.items i slot
-  pub firsts : HaveFirstFiles parts
+  pub roots : HaveRoots parts
   pub unmarked : AreUnmarked (state_of parts) parts.unmarked.items
   pub known : KnowsLeaves (state_of parts) parts.known

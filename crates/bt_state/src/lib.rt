@@ -13,6 +13,7 @@ mod peer;
 mod peers;
 mod piece_set;
 mod reports;
+mod roots;
 mod slot;
 
 pub use block_change::follow_block;
@@ -23,4 +24,5 @@ pub use peer::Peer;
 pub use peers::{feed, index_of, lost};
 pub use piece_set::PieceSet;
 pub use reports::{disk, is_complete, peer_count, report};
+pub use roots::Roots;
 pub use slot::Slot;

@@ -1,6 +1,7 @@
 use crate::open_log::OpenLog;
 use crate::peer::Peer;
 use crate::piece_set::PieceSet;
+use crate::roots::Roots;
 use crate::slot::Slot;
 use bt_book::Book;
 use bt_disk::Disk;
@@ -14,8 +15,8 @@ pub struct Parts<D: Disk + Drop, H: NodeHash> {
     pub torrent: Torrent,
     /// One for each root.
     pub trees: Vec<SparseTree<H>>,
-    /// For each tree the first file that has it.
-    pub first_files: Vec<u32>,
+    /// Which tree and which files each root has.
+    pub roots: Roots,
     /// One for each file, in the torrent's order.
     pub slots: Vec<Slot<D, H>>,
     /// For each piece how many of its blocks are not marked.

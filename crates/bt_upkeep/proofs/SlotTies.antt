@@ -86,7 +86,7 @@ module _ {D H : Type 0} where
       ranged = λ b x at. tied.ranged b x (sym (ap (λ s. state_at s b) state_kept) ∙ at);
       count = sym (length-map new.slots.items without_disk) ∙ ap (λ ks. length ks) kept ∙ length-map old.slots.items without_disk ∙ tied.count;
       each = fits_still tied;
-      firsts = tied.firsts;
+      roots = tied.roots;
       unmarked = subst (λ (s : EngineState). AreUnmarked s old.unmarked.items) (sym state_kept) tied.unmarked;
       known = subst (λ (s : EngineState). KnowsLeaves s old.known) (sym state_kept) tied.known;
     }

@@ -148,7 +148,7 @@ module _ {D H : Type 0} (history : D → History) (honest : D → Type 0) (fault
         (ap (λ (ss : List (Slot D H)). length ss) slots ∙ l.settles.size)
         (subst (λ (ts : List Facts). EachFits old.torrent.files ts next.slots.items) (sym trees)
         (subst (λ (ss : List (Slot D H)). EachFits old.torrent.files grown ss) (sym slots) fits_settled))
-        (rw (trees ∙ l.grows) (rw (same_names old.trees.items l.tree l.new l.here.here (still_joined l.accepts.joins)) tied.firsts))
+        (rw (trees ∙ l.grows) (rw (same_names old.trees.items l.tree l.new l.here.here (still_joined l.accepts.joins)) tied.roots))
         (followed_alike (state_of new_parts) followed refl refl) refl leaves_learnt
 
     state_learnt : ((known : PeerKey) → asked_of next.book known ≡ asked_of old.book known)

@@ -1,10 +1,12 @@
 -- Hashes that come, and the files whose blocks waited for them.
-use Rattle.bt_machine.proofs.Base.{◌≡◌, ◌≢◌, ℕ, ◌+◌, ◌<◌, List, get_or, Some, refl, sym, ap, ◌∙◌, arith, All, slice_get, ◌⊎◌, inl, inr, Facts, cases_lt, Result, Ok, Err, subst}
+use Rattle.bt_machine.proofs.Base.{◌≡◌, ℕ, List, get_or, map, Some, None, refl, sym, ap, ◌∙◌, All, slice_get, Facts, Result, Ok, Err, subst}
 use Rattle.std.specs.Prelude.{IfOk, IfErr}
 use Rattle.std.proofs.lemmas.Option.{slice_get-get_or}
-use Rattle.bt_machine.proofs.Lists.{some_is}
+use Rattle.bt_machine.proofs.Lists.{some_is, get_map}
+use Rattle.bt_state.specs.Roots.{Numbers, number_of, AreNumbered}
+use Rattle.bt_state.proofs.Lists.{get_mapped}
 use Rattle.bt_wire_events.specs.RunSteps.{FitsLength}
-use Rattle.bt_wire_events.specs.LearningSteps.{HasRoot, FitLengths}
+use Rattle.bt_wire_events.specs.LearningSteps.{HasRoot, LacksRoot, FitLengths}
 use Rattle.bt_state.specs.declared.slot.Slot.{Slot}
 
 -- the tree keeps its length, so each slot of it still fits
@@ -14,21 +16,20 @@ fits_all trees slots tree old new fit here same file slot lt = λ of_tree store 
     let there = slice_get-get_or slots file slot lt in
     same ∙ fit file (get_or slots file slot) old there (ap (slice_get trees) of_tree ∙ here) refl store has
 
--- ---- the search for the tree of a root
+-- ---- the number of a root
 
-module _ (trees : List Facts) (root : List ℕ) where
-  abbrev pub NoneBefore : ℕ → Type 0
-  NoneBefore n = (i : ℕ) (k : Facts) → i < n → HasRoot trees root i k → ⊥
+module _ (trees : List Facts) {numbers : Numbers} (are : AreNumbered (map (λ k. k.root) trees) numbers) (root : List ℕ) where
+  pub root_found : (i : ℕ) → number_of numbers root ≡ Some i → (k : Facts) × HasRoot trees root i k
+  root_found i is =
+      let k = get_map (λ (k : Facts). k.root) trees i ((are i root).0 is) in
+      (k.0, record { here = k.1; same_root = k.2 })
 
-  pub none_more : (n : ℕ) {k : Facts} → NoneBefore n → slice_get trees n ≡ Some k → k.root ≢ root → NoneBefore (n + 1)
-  none_more n {k} none here apart i j lt has = by (same_or_below i n lt)
-    where
-      same_or_below : (a b : ℕ) → a < b + 1 → (a < b) ⊎ (a ≡ b)
-      same_or_below a b lt = elim (cases_lt a b) [ inl below ↦ inl below | inr le ↦ inr (omega arith) ]
+  -- each tree of the root has its number
+  pub root_only : {i : ℕ} {k : Facts} → slice_get trees i ≡ Some k → k.root ≡ root → number_of numbers root ≡ Some i
+  root_only {i} {k} here same = sym (ap (number_of numbers) same) ∙ (are i k.root).1 (get_mapped (λ (k : Facts). k.root) trees i here)
 
-      by : (i < n) ⊎ (i ≡ n) → ⊥
-      by (inl below) = none i j below has
-      by (inr same) = apart (ap (λ (f : Facts). f.root) (some_is (sym here ∙ ap (slice_get trees) (sym same) ∙ has.here)) ∙ has.same_root)
+  pub root_lacks : number_of numbers root ≡ None → LacksRoot trees root
+  root_lacks none i k has = absurd (let own = root_only has.here has.same_root in cc)
 
 -- ---- refusals
 

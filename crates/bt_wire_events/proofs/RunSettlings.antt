@@ -1,18 +1,21 @@
 -- The blocks of a run, settled file by file.
-use Rattle.bt_machine.proofs.Base.{◌≡◌, ◌≢◌, ℕ, zero, suc, ◌+◌, ◌-◌, ◌<◌, ◌≤◌, min, ◌⊎◌, inl, inr, Bool, true, false, cond, ◌&&◌, List, [], ◌∷◌, ◌++◌, length, map, filter, flat_map, drop, Option, Some, None, is_some, refl, sym, ap, ◌∙◌, subst, arith, ◌==◌, eq-eqb, eqb-true, slice_get, slice_set, option_map_or, range_with_len, filter-append, append-nil, length-set, Facts, value_at, History, BlockRead, call_of, judged, waiting_blocks, is_waiting_at, BlockState, cases_lt, option_map, get_or, All, sum_by}
+use Rattle.bt_machine.proofs.Base.{◌≡◌, ◌≢◌, ℕ, zero, suc, ◌+◌, ◌-◌, ◌<◌, ◌≤◌, min, ◌⊎◌, inl, inr, Bool, true, false, cond, ◌&&◌, List, [], ◌∷◌, ◌++◌, length, map, filter, flat_map, take, drop, Option, Some, None, is_some, refl, sym, ap, ◌∙◌, subst, arith, ◌==◌, eq-eqb, eqb-true, slice_get, slice_set, option_map_or, range_with_len, filter-append, append-nil, length-set, Facts, value_at, History, BlockRead, call_of, judged, waiting_blocks, is_waiting_at, BlockState, cases_lt, option_map, get_or, All, sum_by}
 use Rattle.std.proofs.Common.{append_assoc}
 use Rattle.std.proofs.lemmas.Grind.{flat_map-append}
-use Rattle.std.proofs.lemmas.List.Sums.{sum_by-drop_more}
+use Rattle.std.proofs.lemmas.Bool.{cases_eq}
+use Rattle.std.proofs.lemmas.List.Sums.{sum_by_more, sum_by-drop_more}
 use Rattle.std.proofs.lemmas.Option.{slice_get-get_or, get_or_from_slice_get}
 use Rattle.bt_disk.specs.Calls.{HasCalls}
 use Rattle.bt_disk.proofs.CallLists.{has_none}
 use Rattle.bt_store.specs.FileStore.{StoreView}
 use Rattle.bt_store.proofs.Reviews.{range_split}
-use Rattle.bt_machine.proofs.Lists.{some_is, some_below, set_same, set_other}
+use Rattle.bt_machine.proofs.Lists.{some_is, some_below, get_some, set_id, set_same, set_other}
 use Rattle.bt_machine.specs.declared.answer.Note.{Note}
 use Rattle.bt_machine.specs.Settling.{settling_notes, due_blocks}
 use Rattle.bt_wire_events.specs.SettlingSteps.{SettlesBlocks, is_due}
 use Rattle.bt_state.specs.Parts.{file_of, disk_of}
+use Rattle.bt_state.proofs.Chains.{NoneOfTree}
+use Rattle.bt_wire_events.specs.NoteRooms.{note_room, slot_room}
 use Rattle.bt_wire_events.specs.RunSteps.{HasCallsIfAny, SettlesSlot, SettlesSlots}
 use Rattle.bt_state.specs.declared.slot.Slot.{Slot}
 
@@ -93,6 +96,67 @@ module _ {D H : Type 0} (history : D → History) (honest : D → Type 0) (fault
     made = subst (λ (disk : Option (StoreView D)). HasCallsIfAny history honest faults (option_map (λ st. st.disk) disk) (map (call_of k.file_length) s.reads) (Some new.disk)) (sym has)
         (new.disk, refl, subst (λ (n : ℕ). HasCalls history honest faults old.disk (map (call_of n) s.reads) new.disk) (sym length) s.judged.device.calls);
   }
+
+-- ---- a file that is not of the tree
+
+abbrev IsOff : {D H : Type 0} → ℕ → Slot D H → Type 0
+IsOff tree slot = slot.tree ≡ tree → slot.store ≡ None
+
+module _ {D H : Type 0} (tree count : ℕ) (slot : Slot D H) (off : IsOff tree slot) where
+  off_due : (history : D → History) (honest : D → Type 0) (faults : D → ℕ) (dig : List ℕ → List ℕ) (k : Facts) (from : ℕ) → due_blocks dig k tree from count (file_of slot) ≡ []
+  off_due history honest faults dig k from = elim (cases_eq slot.tree tree) [
+    | inl same ↦ (
+        sym (of_tree history honest faults dig k tree from count slot same) ∙ of_empty history honest faults dig k tree from count slot (off same)
+        )
+    | inr apart ↦ of_other history honest faults dig k tree from count slot apart
+  ]
+
+  off_room : slot_room tree count slot ≡ 0
+  off_room = by (slot.tree == tree) refl
+    where
+      by : (b : Bool) → (slot.tree == tree) ≡ b → cond b (option_map_or (λ (store : StoreView D). note_room count store.states) slot.store 0) 0 ≡ 0
+      by true e = ap (λ o. option_map_or (λ (store : StoreView D). note_room count store.states) o 0) (off (eqb-true slot.tree tree e))
+      by false e = refl
+
+-- what is 0 adds nothing
+module _ {X : Type 0} (f : X → ℕ) (xs : List X) where
+  abbrev AreNought : (i j : ℕ) → Type 0
+  AreNought i j = (n : ℕ) (x : X) → i ≤ n → n < j → slice_get xs n ≡ Some x → f x ≡ 0
+
+  nought_at : (i : ℕ) {j : ℕ} → i < j → j ≤ length xs → AreNought i j → (x : X) × (f (get_or xs i x) ≡ 0)
+  nought_at i lt inside none =
+      let x = get_some xs i (omega arith) in
+      (x.0, ap f (get_or_from_slice_get xs i x.0 x.0 x.1) ∙ none i x.0 (omega arith) lt x.1)
+
+  take_by : (gap i : ℕ) → i + gap ≤ length xs → AreNought i (i + gap) → sum_by f (take (i + gap) xs) ≡ sum_by f (take i xs)
+  take_by zero i inside none = ap (λ n. sum_by f (take n xs)) (omega arith)
+  take_by (suc gap) i inside none =
+      let x = nought_at i {i + suc gap} (omega arith) inside none in
+      let step : (i + 1) + gap ≡ i + suc gap = omega arith in
+      let rest = take_by gap (i + 1) (omega (arith, inside)) (λ n y low lt. none n y (omega arith) (omega (arith, lt))) in
+      ap (λ n. sum_by f (take n xs)) (sym step) ∙ rest ∙ omega (arith, sum_by_more f xs i x.0 (omega (arith, inside)), x.1)
+
+  drop_by : (gap i : ℕ) → i + gap ≤ length xs → AreNought i (i + gap) → sum_by f (drop (i + gap) xs) ≡ sum_by f (drop i xs)
+  drop_by zero i inside none = ap (λ n. sum_by f (drop n xs)) (omega arith)
+  drop_by (suc gap) i inside none =
+      let x = nought_at i {i + suc gap} (omega arith) inside none in
+      let step : (i + 1) + gap ≡ i + suc gap = omega arith in
+      let rest = drop_by gap (i + 1) (omega (arith, inside)) (λ n y low lt. none n y (omega arith) (omega (arith, lt))) in
+      ap (λ n. sum_by f (drop n xs)) (sym step) ∙ rest ∙ omega (arith, sum_by-drop_more f xs i x.0 (omega (arith, inside)), x.1)
+
+module _ {D H : Type 0} (slots : List (Slot D H)) (tree count : ℕ) {i j : ℕ} (low : i ≤ j) (inside : j ≤ length slots) (none : NoneOfTree slots tree i j) where
+  off_between : AreNought (slot_room tree count) slots i (i + (j - i))
+  off_between n slot from lt at = off_room tree count slot (none n slot from (omega (arith, lt, low)) at)
+
+  whole : i + (j - i) ≡ j
+  whole = omega (arith, low)
+
+  -- the room that the files of the tree take, where others are passed
+  pub room_taken : sum_by (slot_room tree count) (take j slots) ≡ sum_by (slot_room tree count) (take i slots)
+  room_taken = ap (λ n. sum_by (slot_room tree count) (take n slots)) (sym whole) ∙ take_by (slot_room tree count) slots (j - i) i (omega (arith, low, inside)) off_between
+
+  pub room_left : sum_by (slot_room tree count) (drop j slots) ≡ sum_by (slot_room tree count) (drop i slots)
+  room_left = ap (λ n. sum_by (slot_room tree count) (drop n slots)) (sym whole) ∙ drop_by (slot_room tree count) slots (j - i) i (omega (arith, low, inside)) off_between
 
 -- ---- all files
 
@@ -181,6 +245,26 @@ module _ {D H : Type 0} (history : D → History) (honest : D → Type 0) (fault
             set_other now i file new apart ∙ before_it.1,
             subst (λ (r : List BlockRead). SettlesSlot history honest faults dig k tree from count was r before_it.0) (sym (reads_other i reads a.reads file apart)) before_it.2,
           )
+
+  past : (gap i : ℕ) (notes : List Note) (now : List (Slot D H)) → AreSettledTo i notes now → i + gap ≤ length old → NoneOfTree old tree i (i + gap)
+      → AreSettledTo (i + gap) notes now
+  past zero i notes now a inside none = subst (λ n. AreSettledTo n notes now) (omega arith) a
+  past (suc gap) i notes now a inside none =
+      let slot = get_some old i (omega arith) in
+      let at : slice_get now i ≡ Some slot.0 = a.rest i (omega arith) ∙ slot.1 in
+      let quiet = slot_kept history honest faults dig k tree from count slot.0
+      (off_due tree count slot.0 (none i slot.0 (omega arith) (omega arith) slot.1) history honest faults dig k from) in
+      let one = settled_more i notes notes now slot.0 [] a at quiet (sym (append-nil notes)) in
+      subst (λ n. AreSettledTo n notes now) (omega arith)
+      (past gap (i + 1) notes now (subst (λ (ss : List (Slot D H)). AreSettledTo (i + 1) notes ss) (set_id now i at) one) (omega (arith, inside))
+      (λ j s low lt. none j s (omega arith) (omega (arith, lt))))
+
+  -- files that are not of the tree are passed
+  pub settled_past : (i j : ℕ) (notes : List Note) (now : List (Slot D H)) → i ≤ j → j ≤ length old → NoneOfTree old tree i j → AreSettledTo i notes now
+      → AreSettledTo j notes now
+  settled_past i j notes now low inside none a =
+      subst (λ n. AreSettledTo n notes now) (omega (arith, low))
+      (past (j - i) i notes now a (omega (arith, low, inside)) (λ n s from lt. none n s from (omega (arith, lt, low))))
 
   pub settled_all : (i : ℕ) (notes : List Note) (now : List (Slot D H)) → length old ≡ i → AreSettledTo i notes now
       → SettlesSlots history honest faults dig k tree from count old before notes now

@@ -1,10 +1,11 @@
-ghost use Rattle.std.specs.Prelude.{[], ◌≡◌, ℕ, IfOk};
+ghost use Rattle.std.specs.Prelude.{[], ℕ, IfOk};
 ghost use Rattle.std.specs.List.{concat};
-ghost use Rattle.bt_machine.specs.State.{EngineState, PeerState};
+ghost use Rattle.bt_machine.specs.State.{PeerState};
 ghost use Rattle.bt_machine.specs.Output.{sending};
 ghost use Rattle.bt_machine.specs.HashMessages.{HandlesHashRequest};
 ghost use Rattle.bt_machine.specs.WireEvents.{HandlesMessage};
 ghost use Rattle.bt_state.specs.Parts.{state_of};
+ghost use Rattle.bt_state.specs.Ties.{IsTied};
 ghost use Rattle.bt_wire_events.specs.HashRequestSteps.{answer_of, IsAnswerBy};
 
 use bt_disk::Disk;
@@ -15,17 +16,18 @@ use bt_tree::{Hash32, NodeHash};
 use bt_wire::{Bytes, Message};
 use std::alloc::{AllocError, Global};
 
-/// The message that answers a hash request: the digests, or a reject where no tree knows them all. Errors:
-/// out of memory.
+/// The message that answers a hash request: the digests, or a reject where the tree of the root, if there is
+/// one, does not know them all. Errors: out of memory.
 pub fn take_hash_request<D: Disk + Drop, H: NodeHash>(
     alloc: Global,
     parts: &Parts<D, H>,
     key: &HashKey,
 ) -> Result<Message, AllocError>
+    requires { IsTied parts.now }
     ensures { IfOk result (λ message. (i : ℕ) (p : PeerState) → HandlesMessage H.digest (state_of parts.now)
         i p (Message.HashRequest key.now) [] (sending p message) (state_of parts.now)) }
 {
-    match answer_hash_request(&parts.trees, key)? {
+    match answer_hash_request(parts, key)? {
         Some(digests) => Ok(Message::Hashes(*key, joined(alloc, &digests)?)),
         None => Ok(Message::HashReject(*key)),
     }
@@ -39,22 +41,21 @@ fn joined(alloc: Global, digests: &[Hash32]) -> Result<Bytes, AllocError>
 }
 
 /// The digests that answer a hash request; None where no tree has them all, and the request is rejected.
-fn answer_hash_request<H: NodeHash>(
-    trees: &[SparseTree<H>],
+fn answer_hash_request<D: Disk + Drop, H: NodeHash>(
+    parts: &Parts<D, H>,
     key: &HashKey,
 ) -> Result<Option<Vec<Hash32>>, AllocError>
-    ensures { IfOk result (λ digests. (s : EngineState) (p : PeerState) → s.trees ≡ trees.now
-        → HandlesHashRequest H.digest s p key.now (sending p (answer_of key.now digests))) }
+    requires { IsTied parts.now }
+    ensures { IfOk result (λ digests. (p : PeerState) → HandlesHashRequest H.digest (state_of parts.now) p
+        key.now (sending p (answer_of key.now digests))) }
 {
-    for tree in trees {
-        if let Some(digests) = answer_by(tree, key)? {
-            return Ok(Some(digests));
-        }
+    match parts.roots.tree_of(&key.root) {
+        Some(index) => answer_by(&parts.trees[index as usize], key),
+        None => Ok(None),
     }
-    Ok(None)
 }
 
-/// What one tree answers.
+/// What a tree answers.
 fn answer_by<H: NodeHash>(
     tree: &SparseTree<H>,
     key: &HashKey,

@@ -14,7 +14,7 @@ ghost use Rattle.bt_wire_events.specs.Hashes.{TakesHashes, IsNoteRoom, hint_in};
 ghost use Rattle.bt_wire_events.specs.HashesSteps.{IsNoteOf, HasNoted, IsBehind};
 
 use crate::hints::hint_for;
-use crate::learning::{Learnt, learn_hashes, settled_count, tree_of};
+use crate::learning::{Learnt, learn_hashes, settled_count};
 use crate::message::resolved_hash_state;
 use crate::runs::room_for;
 use bt_disk::Disk;
@@ -60,6 +60,7 @@ pub fn take_hashes<D: Disk + Drop, H: NodeHash>(
         alloc,
         &mut parts.slots,
         &mut parts.trees,
+        &parts.roots,
         key,
         digests,
         hint,
@@ -83,8 +84,13 @@ pub fn room_for_notes<D: Disk + Drop, H: NodeHash>(parts: &Parts<D, H>, key: &Ha
 {
     // A clause of this call says how many files there are at most.
     let _ = parts.torrent.files();
-    match tree_of(&parts.trees, &key.root) {
-        Some(index) => room_for(&parts.slots, index, settled_count(key).min(MAX_RUN_LENGTH)),
+    match parts.roots.tree_of(&key.root) {
+        Some(index) => room_for(
+            &parts.slots,
+            &parts.roots,
+            index as usize,
+            settled_count(key).min(MAX_RUN_LENGTH),
+        ),
         None => 0,
     }
 }

@@ -1,9 +1,9 @@
-ghost use Rattle.std.specs.Prelude.{[], ◌≡◌, ◌≢◌, ◌≤◌, ◌<◌, ◌↔◌, ℕ, IsTrue, IfOk, IfErr, IfSome, IfNone, length};
+ghost use Rattle.std.specs.Prelude.{◌≡◌, ◌≢◌, ◌≤◌, ◌<◌, ℕ, IfOk, IfErr, length, map};
 ghost use Rattle.bt_meta.specs.Limits.{max_file_count};
-ghost use Rattle.bt_sparse.specs.SparseTree.{Facts};
 ghost use Rattle.bt_machine.specs.HashMessages.{settled_count};
+ghost use Rattle.bt_state.specs.Roots.{AreNumbered, LeadThrough};
 ghost use Rattle.bt_wire_events.specs.NoteRooms.{note_count};
-ghost use Rattle.bt_wire_events.specs.LearningSteps.{HasRoot, LacksRoot, FitLengths, IsRoomFor, ChangesByHashes};
+ghost use Rattle.bt_wire_events.specs.LearningSteps.{FitLengths, IsRoomFor, ChangesByHashes};
 
 use crate::hints::hint_if_added;
 use crate::runs::{room_for, settle_slots};
@@ -12,8 +12,8 @@ use bt_hashreq::{HashKey, to_claim};
 use bt_machine::{Note, Why};
 use bt_resume::Hint;
 use bt_sparse::{ProofError, SparseTree};
-use bt_state::Slot;
-use bt_tree::{Hash32, NodeHash};
+use bt_state::{Roots, Slot};
+use bt_tree::NodeHash;
 use std::alloc::{AllocError, Global};
 
 /// What hashes that came come to.
@@ -33,10 +33,13 @@ pub(crate) fn learn_hashes<D: Disk + Drop, H: NodeHash>(
     alloc: Global,
     slots: &mut [Slot<D, H>],
     trees: &mut [SparseTree<H>],
+    roots: &Roots,
     key: &HashKey,
     digests: &[u8],
     hint: Option<Hint>,
 ) -> Result<Learnt, AllocError>
+    requires numbered { AreNumbered (map (λ k. k.root) trees.old) roots.now.trees }
+    requires lead { (tree : ℕ) → tree < length trees.old → LeadThrough slots.old roots.now tree }
     requires fit { FitLengths trees.old slots.old }
     requires files { length slots.old ≤ max_file_count }
     ensures changes { IfOk result (λ learnt. ChangesByHashes D.history D.honest D.faults H.digest
@@ -46,43 +49,23 @@ pub(crate) fn learn_hashes<D: Disk + Drop, H: NodeHash>(
     ensures trees { IfErr result (λ _. trees.new ≡ trees.old) }
     ensures slots { IfErr result (λ _. slots.new ≡ slots.old) }
 {
-    let Some(index) = tree_of(trees, &key.root) else {
+    let Some(index) = roots.tree_of(&key.root) else {
         return Ok(Learnt::Refused(Why::UnknownRoot));
     };
+    let index = index as usize;
     let claim = match to_claim(alloc, key, digests) {
         Ok(claim) => claim,
         Err(fault) => return refusal(fault),
     };
     let count = settled_count(key);
-    let mut notes = Vec::with_capacity(alloc, room_for(slots, index, count))?;
+    let mut notes = Vec::with_capacity(alloc, room_for(slots, roots, index, count))?;
     let tree = &mut trees[index];
     let added = match tree.accept(&claim) {
         Ok(added) => added,
         Err(fault) => return refusal(fault),
     };
-    settle_slots(&mut notes, slots, tree, index, key.index, count);
+    settle_slots(&mut notes, slots, roots, tree, index, key.index, count);
     Ok(Learnt::Settled(notes, hint_if_added(hint, added)))
-}
-
-/// Where the tree of a root stands, if there is one.
-pub(crate) fn tree_of<H: NodeHash>(trees: &[SparseTree<H>], root: &Hash32) -> Option<usize>
-    ensures inside { IfSome result (λ i. i < length trees.now) }
-    ensures some { IfSome result (λ i. (k : Facts) × HasRoot trees.now root.now i k) }
-    ensures none { IfNone result (LacksRoot trees.now root.now) }
-{
-    for (index, tree) in trees.iter().enumerate() {
-        if has_root(tree, root) {
-            return Some(index);
-        }
-    }
-    None
-}
-
-/// Whether it is the tree of a root.
-fn has_root<H: NodeHash>(tree: &SparseTree<H>, root: &Hash32) -> bool
-    ensures { IsTrue result ↔ (tree.now.root ≡ root.now) }
-{
-    tree.root() == *root
 }
 
 /// How many blocks the hashes may have waited for: with leaves in the run, as many as it has.

@@ -5,6 +5,7 @@ ghost use Rattle.bt_meta.specs.Limits.{max_file_count};
 ghost use Rattle.bt_sparse.specs.Answer.{max_run_length};
 ghost use Rattle.bt_store.specs.BlockReads.{BlockRead};
 ghost use Rattle.bt_machine.specs.Settling.{settling_notes};
+ghost use Rattle.bt_state.specs.Roots.{LeadThrough};
 ghost use Rattle.bt_wire_events.specs.NoteRooms.{slot_room};
 ghost use Rattle.bt_wire_events.specs.RunSteps.{SettlesSlot, SettlesSlots, FitsLength};
 
@@ -12,19 +13,21 @@ use crate::settling::settle_blocks;
 use bt_disk::Disk;
 use bt_machine::Note;
 use bt_sparse::SparseTree;
-use bt_state::Slot;
+use bt_state::{Roots, Slot};
 use bt_tree::NodeHash;
 
 /// Settles the blocks of a run in every file of a tree, in the order of files, and adds the notes of each,
-/// for which there is room.
+/// for which there is room. No other file is looked at.
 pub(crate) fn settle_slots<D: Disk + Drop, H: NodeHash>(
     notes: &mut Vec<Note>,
     slots: &mut [Slot<D, H>],
+    roots: &Roots,
     tree: &SparseTree<H>,
     index: usize,
     from: u32,
     count: u32,
 )
+    requires lead { LeadThrough slots.old roots.now index }
     requires fits { All (FitsLength tree.now index) slots.old }
     requires files { length slots.old ≤ max_file_count }
     requires few { count ≤ max_run_length }
@@ -33,7 +36,8 @@ pub(crate) fn settle_slots<D: Disk + Drop, H: NodeHash>(
         notes.old.items notes.new.items slots.new }
     ensures few { vec_len notes.new ≤ vec_len notes.old + sum_by (slot_room index count) slots.old }
 {
-    for file in 0..slots.len() {
+    let mut file = roots.first_files[index] as usize;
+    while file < slots.len() {
         settle_slot(
             notes,
             file as u32,
@@ -43,6 +47,7 @@ pub(crate) fn settle_slots<D: Disk + Drop, H: NodeHash>(
             from,
             count,
         );
+        file = roots.next_files[file] as usize;
     }
 }
 
@@ -77,20 +82,24 @@ fn settle_slot<D: Disk + Drop, H: NodeHash>(
     }
 }
 
-/// How many notes there are at most.
+/// How many notes there are at most of the files of a tree. No other file is looked at.
 pub(crate) fn room_for<D: Disk + Drop, H: NodeHash>(
     slots: &[Slot<D, H>],
+    roots: &Roots,
     index: usize,
     count: u32,
 ) -> usize
+    requires lead { LeadThrough slots.now roots.now index }
     requires files { length slots.now ≤ max_file_count }
     requires few { count ≤ max_run_length }
     ensures value { result ≡ sum_by (slot_room index count) slots.now }
     ensures small { result ≤ (max_run_length + 1) * length slots.now }
 {
     let mut room = 0;
-    for slot in slots {
-        room += slot_room(slot, index, count);
+    let mut file = roots.first_files[index] as usize;
+    while file < slots.len() {
+        room += slot_room(&slots[file], index, count);
+        file = roots.next_files[file] as usize;
     }
     room
 }

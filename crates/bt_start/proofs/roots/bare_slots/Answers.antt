@@ -34,3 +34,6 @@ returns-clause-slots g c = record {
   count = omega (arith, c.loop-index.invariant.count, c.loop-index-test.false, c.loop-index.auto.index-end, length-map c.args.files.now file_of);
   each = c.loop-index.invariant.each;
 }
+
+pub returns-clause-numbered : goal.returns-clause-numbered
+returns-clause-numbered g c = c.loop-index.invariant.by_root.numbered

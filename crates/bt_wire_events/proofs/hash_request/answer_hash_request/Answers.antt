@@ -1,23 +1,29 @@
-use Rattle.std.proofs.Common.{refl, subst}
-use Rattle.bt_machine.specs.HashMessages.{answered, rejected}
-use Rattle.bt_wire_events.specs.HashRequestSteps.{IsAnswerBy}
-use Rattle.bt_wire_events.proofs.HashAnswers.{stands_at, silent_more, answered_at, all_silent}
+use Rattle.std.proofs.Common.{refl, sym, arith}
+use Rattle.bt_machine.proofs.Lists.{some_below}
+use Rattle.bt_machine.specs.HashMessages.{rejected}
+use Rattle.bt_state.specs.Parts.{state_of}
+use Rattle.bt_state.proofs.Chains.{roots_numbered}
+use Rattle.bt_state.proofs.Lists.{get_read}
+use Rattle.bt_wire_events.proofs.HashAnswers.{none_answers, tree_answers, ok_more}
+use Rattle.bt_wire_events.proofs.Learnings.{root_found}
 use Rattle.bt_wire_events.proofs.hash_request.answer_hash_request.Goals as goal
 
+pub index-requires : goal.index-requires
+index-requires g c =
+    let parts = c.args.parts.now in
+    let has = root_found parts.trees.items (roots_numbered c.requires) c.args.key.now.root c.in-Some.index (sym c.in-Some.ensures) in
+    omega (arith, some_below parts.trees.items c.in-Some.index has.1.here, parts.trees.ok.0)
+
 pub returns-in-Some : goal.returns-in-Some
-returns-in-Some g c = λ s p same.
-    let dig = g.H.NodeHash.digest in
-    let found = subst (IsAnswerBy dig c.tree-item.result c.args.key.now) c.in-Some.is c.in_ok-digests.ensures in
-    answered c.in-Some.digests.items
-    (answered_at dig c.args.key.now c.args.trees.now s same c.loop-tree.tree-index (stands_at _ _ c.loop-tree-test.true c.tree-item.is) found) refl
+returns-in-Some g c =
+    let parts = c.args.parts.now in
+    let are = roots_numbered c.requires in
+    let own = sym c.in-Some.ensures in
+    let has = root_found parts.trees.items are c.args.key.now.root c.in-Some.index own in
+    let here = get_read parts.trees.items c.in-Some.index c.index.result.now (some_below parts.trees.items c.in-Some.index has.1.here) c.index.ensures in
+    ok_more c.answer_by.result (λ digests says p. tree_answers g.H.NodeHash.digest c.args.key.now (state_of parts) are c.in-Some.index here own digests says p)
+    c.answer_by.ensures
 
-pub loop-tree-preserved : goal.loop-tree-preserved
-loop-tree-preserved g c =
-    let dig = g.H.NodeHash.digest in
-    let none = subst (IsAnswerBy dig c.tree-item.result c.args.key.now) c.in_default.is c.in_ok-digests.ensures in
-    silent_more dig c.args.key.now c.args.trees.now c.loop-tree.tree-index c.loop-tree.invariant
-    (stands_at _ _ c.loop-tree-test.true c.tree-item.is) none
-
-pub returns : goal.returns
-returns g c = λ s p same.
-    rejected (all_silent g.H.NodeHash.digest c.args.key.now c.args.trees.now s same c.loop-tree.invariant c.loop-tree-test.false) refl
+pub returns-in-None : goal.returns-in-None
+returns-in-None g c = λ p.
+    rejected (none_answers g.H.NodeHash.digest c.args.key.now (state_of c.args.parts.now) (roots_numbered c.requires) (sym c.in-None.ensures)) refl

@@ -13,8 +13,8 @@ returns-in_ok-joined-in-Some g c = λ i p.
     let s = state_of c.args.parts.now in
     let key = c.args.key.now in
     let found = subst (λ (o : Option (Vec (List ℕ))). HandlesHashRequest g.H.NodeHash.digest s p key (sending p (answer_of key o))) c.in-Some.is
-    (c.in_ok-digests.ensures s p (sym c.deref.ensures.value)) in
-    let bytes = c.in_ok-joined-in-Some.ensures ∙ ap concat c.deref-in-Some.ensures.value in (
+    (c.in_ok-digests.ensures p) in
+    let bytes = c.in_ok-joined-in-Some.ensures ∙ ap concat c.deref.ensures.value in (
       refl,
       subst (λ (bs : List ℕ). HandlesHashRequest g.H.NodeHash.digest s p key (sending p (Hashes key bs))) (sym bytes) found,
       refl,
@@ -26,6 +26,6 @@ returns-in-None g c = λ i p.
     let key = c.args.key.now in (
       refl,
       subst (λ (o : Option (Vec (List ℕ))). HandlesHashRequest g.H.NodeHash.digest s p key (sending p (answer_of key o))) c.in-None.is
-          (c.in_ok-digests.ensures s p (sym c.deref.ensures.value)),
+          (c.in_ok-digests.ensures p),
       refl,
     )

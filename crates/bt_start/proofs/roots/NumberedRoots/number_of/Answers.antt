@@ -5,10 +5,10 @@ use Rattle.bt_meta.specs.Files.{File, file_of}
 use Rattle.bt_machine.proofs.Lists.{some_is}
 use Rattle.bt_state.proofs.Lists.{get_mapped, get_read}
 use Rattle.bt_state.specs.Ties.{root_and_length_of}
-use Rattle.bt_start.specs.TreeSteps.{number_of}
+use Rattle.bt_state.specs.Roots.{number_of}
 use Rattle.bt_start.proofs.RootTrees.{known_tree, listed_root, root_passed, root_added}
 use Rattle.bt_start.proofs.Pushes.{get_kept, get_last}
-use Rattle.bt_start.proofs.roots.Roots.number_of.Goals as goal
+use Rattle.bt_start.proofs.roots.NumberedRoots.number_of.Goals as goal
 
 pub returns-then-file-eq0-clause-by_root : goal.returns-then-file-eq0-clause-by_root
 returns-then-file-eq0-clause-by_root c =

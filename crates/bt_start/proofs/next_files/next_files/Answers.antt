@@ -1,0 +1,9 @@
+use Rattle.std.proofs.Common.{sym, ◌∙◌, subst}
+use Rattle.std.proofs.lemmas.List.{with_items_is}
+use Rattle.bt_state.specs.Roots.{AreNextFiles}
+use Rattle.bt_start.proofs.next_files.next_files.Goals as goal
+
+pub returns : goal.returns
+returns c =
+    subst (λ ns. AreNextFiles _ ns) (sym (with_items_is c.in_ok-nexts.nexts c.fill_next_files.new.nexts (c.fill_next_files.auto.nexts ∙ c.deref_mut.ensures.len)))
+    c.in_ok-fill_next_files.ensures
