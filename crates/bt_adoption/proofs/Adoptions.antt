@@ -4,8 +4,11 @@ use Rattle.std.specs.Prelude.{IsTrue}
 use Rattle.std.specs.Vec.{vec_capacity}
 use Rattle.bt_store.specs.FileStore.{StoreView}
 use Rattle.bt_machine.proofs.Lists.{get_some, set_same, some_below}
+use Rattle.bt_machine.proofs.Shape.{step_keeps, shape_after}
 use Rattle.bt_machine.specs.declared.error.AdoptError.{AdoptError}
 use Rattle.bt_machine.specs.declared.error.AdoptError.TheVariants.{NoFile, Busy, OutOfMemory}
+use Rattle.bt_machine.specs.declared.event.Event.TheVariants.{Adopt}
+use Rattle.bt_machine.specs.declared.event.Answer.TheVariants.{Adopted as AdoptedAnswer}
 use Rattle.bt_machine.specs.State.{EngineState, FileState}
 use Rattle.bt_machine.specs.Devices.{DeviceCalls, HaveCalls}
 use Rattle.bt_machine.specs.Blocks.{states_of}
@@ -182,3 +185,12 @@ module _ {D H : Type 0} (old : Parts D H) (file : ℕ) {slot : Slot D H} (here :
           made = refl;
         }) refl,
       )
+
+  -- so the engine that has taken in the groups is of its torrent's shape
+  pub shaped_behind : {history : D → History} {honest : D → Type 0} {faults : D → ℕ} {dig : List ℕ → List ℕ} {mid : Parts D H} {total : Adopted} → old.peers.items ≡ []
+      → AdoptsIn history honest faults dig file old total mid → KeepsRest old mid → AreInLine mid → IsShaped old.torrent (state_of old)
+      → IsShaped mid.torrent (state_of mid)
+  shaped_behind {dig = dig} {mid = mid} alone a rest in_line shaped =
+      let steps = steps_unsettled mid alone a rest in_line (record { others = refl; log = refl }) refl in
+      let kept = step_keeps dig (Adopt file) (record { devices = steps.0; log = [] }) (AdoptedAnswer (Err OutOfMemory)) (λ e. absurd cc) (Err OutOfMemory, refl, refl, steps.2) in
+      subst (λ torrent. IsShaped torrent (state_of mid)) (sym (ap (λ (p : Parts D H). p.torrent) rest.others)) (shape_after dig shaped kept)

@@ -1,17 +1,19 @@
 -- The files of a tree but one are settled, one after the other.
-use Rattle.bt_machine.proofs.Base.{[], ◌≡◌, ◌≢◌, ℕ, ◌+◌, ◌<◌, ◌≤◌, inl, inr, false, not, ◌&&◌, List, ◌++◌, length, refl, sym, ap, ◌∙◌, subst, arith, ◌==◌, eq-eqb, lt-ltb, le-ltb, cases_lt, length-map, History}
+use Rattle.bt_machine.proofs.Base.{[], ◌≡◌, ◌≢◌, ℕ, ◌+◌, ◌<◌, ◌≤◌, inl, inr, Bool, true, false, not, ◌&&◌, if◌then◌else◌, List, ◌++◌, length, get_or, Some, refl, slice_get, sym, ap, ◌∙◌, subst, arith, ◌==◌, eq-eqb, lt-ltb, le-ltb, cases_lt, length-map, History}
 use Rattle.std.proofs.lemmas.Bool.{cases_eq, ne_eqb}
-use Rattle.bt_machine.proofs.Lists.{get_some}
-use Rattle.bt_machine.specs.Settling.{SettlesIn}
+use Rattle.bt_machine.proofs.Lists.{get_some, get_map}
+use Rattle.bt_machine.specs.State.{FileState}
+use Rattle.bt_machine.specs.Settling.{SettlesIn, due_blocks}
 use Rattle.bt_machine.specs.Adopting.{is_other}
 use Rattle.bt_state.specs.Parts.{state_of, file_of, disks_of}
 use Rattle.bt_state.specs.Ties.{root_and_length}
 use Rattle.bt_state.specs.declared.parts.Parts.{Parts}
+use Rattle.bt_state.proofs.Chains.{NoneOfTree}
 use Rattle.bt_state.proofs.DeviceCalls.{have_none, have_then}
 use Rattle.bt_state.proofs.Leaves.{leaves_alike, leaves_then}
 use Rattle.bt_adoption.specs.PartsSteps.{AreInLine, KeepsRest, blocks_in}
 use Rattle.bt_adoption.specs.SettlingSteps.{SettlesFiles}
-use Rattle.bt_adoption.proofs.Settlements.{before, same_meant, settles_none, settles_then}
+use Rattle.bt_adoption.proofs.Settlements.{before, alike_meant, same_meant, none_due, settles_none, settles_then}
 
 -- ---- what stays
 
@@ -33,6 +35,11 @@ module _ {D H : Type 0} where
     leaves = leaves_then (state_of old) (state_of mid) (state_of new) one.leaves two.leaves;
     peers = two.peers ∙ one.peers;
   }
+
+-- the next file that is read there is the one that was
+pub next_read : {D H : Type 0} {old new : Parts D H} → KeepsRest old new → (file next : ℕ) → next ≡ get_or new.roots.next_files.items file next
+    → next ≡ get_or old.roots.next_files.items file next
+next_read {D} {H} rest file next read = read ∙ ap (λ (p : Parts D H). get_or p.roots.next_files.items file next) rest.others
 
 -- ---- which files are meant
 
@@ -116,6 +123,39 @@ module _ {D H : Type 0} {history : D → History} {honest : D → Type 0} {fault
     rest = a.rest;
     in_line = a.in_line;
   }
+
+  -- files that are not of the tree are passed
+  pub settled_past : {i : ℕ} (j : ℕ) {parts : Parts D H} → AreSettled history honest faults dig file tree old i parts → i ≤ j → NoneOfTree old.slots.items tree i j
+      → AreSettled history honest faults dig file tree old j parts
+  settled_past {i} j a low none = record {
+    settles = (a.settles.0, a.settles.1, a.settles.2, alike_meant dig tree (blocks_in (state_of old) tree) a.settles.3 same);
+    log = a.log;
+    rest = a.rest;
+    in_line = a.in_line;
+  }
+    where
+      nothing : (b : Bool) (state : FileState) → due_blocks dig a.settles.3.facts tree 0 (blocks_in (state_of old) tree) state ≡ []
+          → [] ≡ (if b then due_blocks dig a.settles.3.facts tree 0 (blocks_in (state_of old) tree) state else [])
+      nothing true state none = sym none
+      nothing false state none = refl
+
+      same : (f : ℕ) (state : FileState) → slice_get (state_of old).files f ≡ Some state
+          → (if before file i f then due_blocks dig a.settles.3.facts tree 0 (blocks_in (state_of old) tree) state else [])
+          ≡ (if before file j f then due_blocks dig a.settles.3.facts tree 0 (blocks_in (state_of old) tree) state else [])
+      same f state at =
+          let due = due_blocks dig a.settles.3.facts tree 0 (blocks_in (state_of old) tree) state in
+          elim (cases_lt f i) [
+            | inl lt ↦ ap (λ b. if b then due else []) (all_before file i f lt ∙ sym (all_before file j f (omega arith)))
+            | inr le ↦ ap (λ b. if b then due else []) (none_from file i f le) ∙ elim (cases_lt f j) [
+              | inl lt ↦ (
+                  let slot = get_map file_of old.slots.items f at in
+                  nothing (before file j f) state
+                  (ap (due_blocks dig a.settles.3.facts tree 0 (blocks_in (state_of old) tree)) (sym slot.2)
+                  ∙ none_due dig old f tree slot.1 a.settles.3.here (λ is. absurd (let off = none f slot.0 le lt slot.1 is.of_tree in let has = is.has in cc)))
+                  )
+              | inr far ↦ sym (ap (λ b. if b then due else []) (none_from file j f far))
+            ]
+          ]
 
   pub settled_done : {i : ℕ} {parts : Parts D H} → AreSettled history honest faults dig file tree old i parts → length old.slots.items ≡ i
       → SettlesFiles history honest faults dig (is_other file) tree old parts

@@ -1,5 +1,5 @@
 -- Blocks that wait, and what is left of them for a log once they are settled.
-use Rattle.bt_machine.proofs.Base.{[], ◌≡◌, ◌≢◌, ℕ, zero, suc, ◌+◌, ◌<◌, inl, inr, Bool, true, false, not, cond, if◌then◌else◌, ◌==◌, List, ◌∷◌, ◌++◌, length, map, take, get_or, filter, flat_map, Option, Some, None, is_some, refl, sym, ap, ◌∙◌, subst, arith, append-nil, length-map, filter-append, slice_get, option_map_or, range_with_len, cases_lt, eq-eqb, eqb-true, is_waiting, is_waiting_at, BlockState, Missing, Waiting, Marked, BlockId, History}
+use Rattle.bt_machine.proofs.Base.{[], ◌≡◌, ◌≢◌, ℕ, zero, suc, ◌+◌, ◌-◌, ◌<◌, ◌≤◌, inl, inr, Bool, true, false, not, cond, if◌then◌else◌, ◌==◌, List, ◌∷◌, ◌++◌, length, map, take, get_or, filter, flat_map, Option, Some, None, is_some, refl, sym, ap, ◌∙◌, subst, arith, append-nil, length-map, filter-append, slice_get, option_map_or, range_with_len, cases_lt, eq-eqb, eqb-true, is_waiting, is_waiting_at, BlockState, Missing, Waiting, Marked, BlockId, History}
 use Rattle.std.specs.List.{count_by}
 use Rattle.std.proofs.Common.{append_assoc}
 use Rattle.std.proofs.lemmas.Bool.{ne_eqb}
@@ -18,6 +18,9 @@ use Rattle.bt_machine.specs.Adopting.{is_other}
 use Rattle.bt_state.specs.Parts.{state_of, file_of, disks_of, pending_of}
 use Rattle.bt_state.specs.declared.slot.Slot.{Slot}
 use Rattle.bt_state.specs.declared.parts.Parts.{Parts}
+use Rattle.bt_machine.proofs.Lists.{get_some}
+use Rattle.bt_state.proofs.Lists.{get_mapped}
+use Rattle.bt_state.proofs.Chains.{NoneOfTree}
 use Rattle.bt_adoption.specs.PartsSteps.{KeepsRest, blocks_in}
 use Rattle.bt_adoption.specs.SettlingSteps.{SettlesFiles, SettlesOthers, IsDue}
 use Rattle.bt_adoption.specs.WaitingSteps.{KeepsLog, is_marked_of, waiting_in, waiting_ids, waiting_others}
@@ -90,6 +93,40 @@ module _ {D H : Type 0} (slot : Slot D H) (tree : ℕ) where
   due_blocks {store} has same =
       ap (λ b. if b then filter (is_waiting_at (file_of slot).states) (range_with_len 0 (length (file_of slot).states)) else []) (eq-eqb slot.tree tree same)
       ∙ ap (λ o. filter (is_waiting_at (option_map_or (λ (st : StoreView D). st.states) o [])) (range_with_len 0 (length (option_map_or (λ (st : StoreView D). st.states) o [])))) has
+
+-- files that are not of the tree are passed
+module _ {D H : Type 0} (file tree : ℕ) (slots : List (Slot D H)) where
+  none_listed : (i : ℕ) {slot : Slot D H} → slice_get slots i ≡ Some slot → (slot.tree ≡ tree → slot.store ≡ None) → step_ids file tree (map file_of slots) i ≡ []
+  none_listed i {slot} at off = by (is_other file i)
+    where
+      nothing : waiting_ids tree (map file_of slots) i ≡ []
+      nothing =
+          ap (λ o. map (block_id i) (option_map_or (waiting_in tree) o [])) (get_mapped file_of slots i at)
+          ∙ ap (map (block_id i)) (not_due slot tree (λ due. absurd (let none = off due.of_tree in let has = due.has in cc)))
+
+      by : (b : Bool) → (if b then waiting_ids tree (map file_of slots) i else []) ≡ []
+      by true = nothing
+      by false = refl
+
+  passed : (gap i : ℕ) → i + gap ≤ length slots → NoneOfTree slots tree i (i + gap)
+      → waiting_others file tree (map file_of slots) (i + gap) ≡ waiting_others file tree (map file_of slots) i
+  passed zero i inside none = ap (waiting_others file tree (map file_of slots)) (omega arith)
+  passed (suc gap) i inside none =
+      let slot = get_some slots i (omega (arith, inside)) in
+      let step : (i + 1) + gap ≡ i + suc gap = omega arith in
+      ap (waiting_others file tree (map file_of slots)) (sym step)
+      ∙ passed gap (i + 1) (omega (arith, inside)) (λ j s low lt. none j s (omega (arith, low)) (omega (arith, lt)))
+      ∙ others_more file tree (map file_of slots) i
+      ∙ ap (λ xs. waiting_others file tree (map file_of slots) i ++ xs) (none_listed i slot.1 (none i slot.0 (omega arith) (omega arith) slot.1))
+      ∙ append-nil (waiting_others file tree (map file_of slots) i)
+
+  pub listed_past : {i : ℕ} (j : ℕ) {ids : List BlockId} → ids ≡ waiting_others file tree (map file_of slots) i → i ≤ j → j ≤ length slots → NoneOfTree slots tree i j
+      → ids ≡ waiting_others file tree (map file_of slots) j
+  listed_past {i} j so_far low inside none =
+      let whole : i + (j - i) ≡ j = omega (arith, low) in
+      so_far
+      ∙ sym (ap (waiting_others file tree (map file_of slots)) (sym whole)
+      ∙ passed (j - i) i (omega (arith, low, inside)) (λ n s from lt. none n s from (omega (arith, lt, low))))
 
 -- one block more is looked at
 pub listed_more : (states : List BlockState) (file i : ℕ) (ids new : List BlockId) (waits : Bool) → is_waiting_at states i ≡ waits

@@ -125,7 +125,7 @@ module _ {D H : Type 0} (dig : List ℕ → List ℕ) (old : Parts D H) (file tr
       )
 
   -- nothing of it is due
-  none_due : (is_due : IsDue tree slot → ⊥) → due_blocks dig k tree 0 count (file_of slot) ≡ []
+  pub none_due : (is_due : IsDue tree slot → ⊥) → due_blocks dig k tree 0 count (file_of slot) ≡ []
   none_due is_due = by (slot.tree == tree) refl
     where
       waits : (store : Option (StoreView D)) → slot.store ≡ store → slot.tree ≡ tree
@@ -152,20 +152,26 @@ abbrev pub before : (file i : ℕ) → ℕ → Bool
 before file i other = nat_lt other i && is_other file other
 
 module _ (dig : List ℕ → List ℕ) (tree count : ℕ) where
-  -- the meant files alone are named
-  pub same_meant : {p q : ℕ → Bool} {s new : EngineState} {calls : DeviceCalls} {notes : List Note} → ((f : ℕ) → f < length s.files → p f ≡ q f)
-      → SettlesIn dig p tree 0 count s calls notes new → SettlesIn dig q tree 0 count s calls notes new
-  same_meant {p} {q} {s} same one = record {
+  -- files are meant as well of which nothing is due
+  pub alike_meant : {p q : ℕ → Bool} {s new : EngineState} {calls : DeviceCalls} {notes : List Note} (one : SettlesIn dig p tree 0 count s calls notes new)
+      → ((f : ℕ) (state : FileState) → slice_get s.files f ≡ Some state → (if p f then due_blocks dig one.facts tree 0 count state else []) ≡ (if q f then due_blocks dig one.facts tree 0 count state else []))
+      → SettlesIn dig q tree 0 count s calls notes new
+  alike_meant one same = record {
     facts = one.facts;
     reads = one.reads;
     here = one.here;
-    due = λ file f at. one.due file f at
-        ∙ ap (λ b. if b then due_blocks dig one.facts tree 0 count f else []) (same file (some_below s.files file at));
+    due = λ file f at. one.due file f at ∙ same file f at;
     made = one.made;
     noted = one.noted;
     files = one.files;
     others = one.others;
   }
+
+  -- the meant files alone are named
+  pub same_meant : {p q : ℕ → Bool} {s new : EngineState} {calls : DeviceCalls} {notes : List Note} → ((f : ℕ) → f < length s.files → p f ≡ q f)
+      → SettlesIn dig p tree 0 count s calls notes new → SettlesIn dig q tree 0 count s calls notes new
+  same_meant {p} {q} {s} same one =
+      alike_meant one (λ file f at. ap (λ b. if b then due_blocks dig one.facts tree 0 count f else []) (same file (some_below s.files file at)))
 
   pub settles_none : (p : ℕ → Bool) (s : EngineState) {k : Facts} → slice_get s.trees tree ≡ Some k → ((f : ℕ) → p f ≡ false)
       → SettlesIn dig p tree 0 count s [] (flat_map (λ file. settling_notes dig k file []) (file_numbers s)) s

@@ -1,7 +1,8 @@
 //! The other files of a tree, of which blocks waited for their leaf.
-ghost use Rattle.std.specs.Prelude.{[], ◌≡◌, ◌<◌, ◌==◌, ◌↔◌, IsTrue, OnOk, OnErr, length, vec_len, slice_get, Some};
+ghost use Rattle.std.specs.Prelude.{[], ◌≡◌, ◌<◌, ◌==◌, ◌↔◌, IsTrue, OnOk, OnErr, vec_len, slice_get, Some};
 ghost use Rattle.bt_machine.specs.Adopting.{is_other};
 ghost use Rattle.bt_state.specs.Parts.{pending_of};
+ghost use Rattle.bt_state.specs.Roots.{LeadThrough};
 ghost use Rattle.bt_adoption.specs.PartsSteps.{AreFit, AreInLine, KeepsRest, ChangesFile};
 ghost use Rattle.bt_adoption.specs.SettlingSteps.{SettlesFiles, SettlesOthers, IsDue};
 ghost use Rattle.bt_adoption.specs.WaitingSteps.{KeepsLog};
@@ -25,8 +26,8 @@ pub(crate) fn settle_recorded<D: Disk + Drop, H: NodeHash>(
 ) -> Result<(), AllocError>
     requires alone { parts.old.peers.items ≡ [] }
     requires in_line { AreInLine parts.old }
-    requires count { length parts.old.slots.items ≡ length parts.old.torrent.files }
     requires here { tree < vec_len parts.old.trees }
+    requires lead { LeadThrough parts.old.slots.items parts.old.roots tree }
     ensures settles { OnOk result (SettlesOthers D.history D.honest D.faults H.digest file tree
         parts.old parts.new) }
     ensures refused { OnErr result (KeepsLog parts.old parts.new) }
@@ -40,23 +41,25 @@ pub(crate) fn settle_recorded<D: Disk + Drop, H: NodeHash>(
     Ok(())
 }
 
-/// Settles all blocks of the other files of a tree, all but this one. No peer is connected.
+/// Settles all blocks of the other files of a tree, all but this one, and looks at no file of another tree. No
+/// peer is connected.
 fn settle_others<D: Disk + Drop, H: NodeHash>(parts: &mut Parts<D, H>, tree: usize, file: u32)
     requires alone { parts.old.peers.items ≡ [] }
     requires in_line { AreInLine parts.old }
-    requires count { length parts.old.slots.items ≡ length parts.old.torrent.files }
     requires here { tree < vec_len parts.old.trees }
+    requires lead { LeadThrough parts.old.slots.items parts.old.roots tree }
     ensures settles { SettlesFiles D.history D.honest D.faults H.digest (is_other file) tree
         parts.old parts.new }
     ensures log { parts.new.log ≡ parts.old.log }
     ensures rest { KeepsRest parts.old parts.new }
     ensures in_line { AreInLine parts.new }
 {
-    let count = parts.torrent.files().len() as u32;
-    for other in 0..count {
+    let mut other = parts.roots.first_files[tree];
+    while (other as usize) < parts.slots.len() {
         if other != file {
             settle_file(parts, tree, other);
         }
+        other = parts.roots.next_files[other as usize];
     }
 }
 

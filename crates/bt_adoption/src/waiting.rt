@@ -6,6 +6,7 @@ ghost use Rattle.bt_machine.specs.Hints.{mark_of, add_hints};
 ghost use Rattle.bt_machine.specs.Blocks.{block_id};
 ghost use Rattle.bt_store.specs.Review.{is_marked_at, is_waiting_at};
 ghost use Rattle.bt_state.specs.Parts.{state_of, file_of, pending_of};
+ghost use Rattle.bt_state.specs.Roots.{LeadThrough};
 ghost use Rattle.bt_adoption.specs.GroupSteps.{log_in};
 ghost use Rattle.bt_adoption.specs.WaitingSteps.{room_in, KeepsLog, is_marked_of, waiting_in, waiting_others};
 
@@ -14,7 +15,7 @@ use crate::settling::is_due;
 use bt_book::BlockId;
 use bt_disk::Disk;
 use bt_pending::Pending;
-use bt_state::{OpenLog, Parts, Slot};
+use bt_state::{OpenLog, Parts, Roots, Slot};
 use bt_store::{BlockState, FileStore};
 use bt_tree::NodeHash;
 use std::alloc::{AllocError, Global};
@@ -27,7 +28,7 @@ pub(crate) fn plan_marks<D: Disk + Drop, H: NodeHash>(
     tree: usize,
     file: u32,
 ) -> Result<Vec<BlockId>, AllocError>
-    requires { length parts.old.slots.items ≡ length parts.old.torrent.files }
+    requires { LeadThrough parts.old.slots.items parts.old.roots tree }
     ensures blocks { IfOk result (λ blocks. blocks.items ≡ (if is_some parts.old.log
         then waiting_others file tree (state_of parts.old).files (length parts.old.slots.items) else [])) }
     ensures within { IfOk result (λ blocks. All (λ b. b.block < max_block_count) blocks.items) }
@@ -38,8 +39,7 @@ pub(crate) fn plan_marks<D: Disk + Drop, H: NodeHash>(
     if parts.log.is_none() {
         return Ok(Vec::new(alloc));
     }
-    let count = parts.torrent.files().len() as u32;
-    let blocks = find_waiting(alloc, &parts.slots, count, tree, file)?;
+    let blocks = find_waiting(alloc, &parts.slots, &parts.roots, tree, file)?;
     make_room(&mut parts.log, blocks.len())?;
     Ok(blocks)
 }
@@ -56,24 +56,26 @@ fn make_room<D: Disk + Drop>(log: &mut Option<OpenLog<D>>, count: usize) -> Resu
     }
 }
 
-/// The blocks that wait in the other files of a tree.
+/// The blocks that wait in the other files of a tree. No file of another tree is looked at.
 fn find_waiting<D: Disk + Drop, H: NodeHash>(
     alloc: Global,
     slots: &[Slot<D, H>],
-    count: u32,
+    roots: &Roots,
     tree: usize,
     file: u32,
 ) -> Result<Vec<BlockId>, AllocError>
-    requires { length slots.now ≡ count }
+    requires { LeadThrough slots.now roots.now tree }
     ensures blocks { IfOk result (λ blocks.
-        blocks.items ≡ waiting_others file tree (map file_of slots.now) count) }
+        blocks.items ≡ waiting_others file tree (map file_of slots.now) (length slots.now)) }
     ensures within { IfOk result (λ blocks. All (λ b. b.block < max_block_count) blocks.items) }
 {
     let mut blocks = Vec::new(alloc);
-    for other in 0..count {
+    let mut other = roots.first_files[tree];
+    while (other as usize) < slots.len() {
         if other != file {
             add_waiting(&slots[other as usize], tree, other, &mut blocks)?;
         }
+        other = roots.next_files[other as usize];
     }
     Ok(blocks)
 }

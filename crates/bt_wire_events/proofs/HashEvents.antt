@@ -5,7 +5,7 @@ use Rattle.std.specs.Vec.{with_item, with_items, vec_len}
 use Rattle.bt_book.specs.Book.{asked_of, peers_of}
 use Rattle.bt_store.specs.FileStore.{StoreView}
 use Rattle.std.proofs.lemmas.Option.{get_or_from_slice_get}
-use Rattle.bt_machine.proofs.Lists.{some_is, some_below, map_some, get_map}
+use Rattle.bt_machine.proofs.Lists.{some_is, some_below, get_some, map_some, get_map}
 use Rattle.bt_machine.proofs.Shape.{map_set}
 use Rattle.bt_machine.specs.State.{EngineState, PeerState, FileState, Hint}
 use Rattle.bt_machine.specs.Blocks.{with_peer}
@@ -20,11 +20,13 @@ use Rattle.bt_machine.specs.HashMessages.{HandlesHashes}
 use Rattle.bt_machine.specs.Output.{no_effect}
 use Rattle.bt_state.specs.BlockChange.{AreFollowed}
 use Rattle.bt_state.specs.Parts.{state_of, disks_of, peer_of, file_of, disk_of}
+use Rattle.bt_state.specs.Roots.{AreNumbered, LeadThrough}
 use Rattle.bt_state.specs.Ties.{IsTied, LeavesStay}
 use Rattle.bt_state.specs.declared.peer.Peer.{Peer}
 use Rattle.bt_state.specs.declared.slot.Slot.{Slot}
 use Rattle.bt_state.specs.declared.parts.Parts.{Parts}
 use Rattle.bt_state.proofs.BlockChanges.{EachFits, followed_alike, followed_tied, tied_followed, state_kept}
+use Rattle.bt_state.proofs.Chains.{roots_numbered, tree_leads}
 use Rattle.bt_state.proofs.Leaves.{leaves_by, one_grown, same_names, still_joined}
 use Rattle.bt_state.proofs.SlotChanges.{fits_trees}
 use Rattle.bt_state.proofs.Lists.{get_mapped}
@@ -197,6 +199,15 @@ fits_lent {D} {H} old trees slots same_trees same_slots tied =
     subst (λ (ts : List Facts). FitLengths ts slots) (sym same_trees)
     (subst (λ (ss : List (Slot D H)). FitLengths old.trees.items ss) (sym same_slots) (fits_lengths old tied))
 
+pub numbered_lent : {D H : Type 0} (old : Parts D H) (trees : List Facts) → trees ≡ old.trees.items → IsTied old → AreNumbered (map (λ k. k.root) trees) old.roots.trees
+numbered_lent old trees same tied = subst (λ (ts : List Facts). AreNumbered (map (λ k. k.root) ts) old.roots.trees) (sym same) (roots_numbered tied)
+
+pub leads_lent : {D H : Type 0} (old : Parts D H) (trees : List Facts) (slots : List (Slot D H)) → trees ≡ old.trees.items → slots ≡ old.slots.items
+    → IsTied old → IsShaped old.torrent (state_of old) → (tree : ℕ) → tree < length trees → LeadThrough slots old.roots tree
+leads_lent {D} {H} old trees slots same_trees same_slots tied shaped tree lt =
+    let k = get_some old.trees.items tree (omega (arith, lt, ap (λ (ts : List Facts). length ts) same_trees)) in
+    subst (λ (ss : List (Slot D H)). LeadThrough ss old.roots tree) (sym same_slots) (tree_leads tied shaped tree k.1)
+
 -- ---- the room for notes
 
 one_tree : (trees : List Facts) (root : List ℕ) (i j : ℕ) {a b : Facts} → AllPairs (λ j k. j.root ≢ k.root) trees → HasRoot trees root i a → HasRoot trees root j b → i ≡ j
@@ -212,11 +223,10 @@ one_tree trees root i j {a} {b} apart first second = elim (cases_lt i j) [
         ∙ sym (ap (λ (k : Facts). k.root) (get_or_from_slice_get trees n d c other.here) ∙ other.same_root))
 
 -- the tree that was found is the only one of its root
-pub room_found : {D H : Type 0} (parts : Parts D H) (key : HashKey) (i : ℕ) (k : Facts) (trees : List Facts) (slots : List (Slot D H)) (count room : ℕ)
-    → IsShaped parts.torrent (state_of parts) → trees ≡ parts.trees.items → slots ≡ parts.slots.items → HasRoot trees key.root i k
+pub room_found : {D H : Type 0} (parts : Parts D H) (key : HashKey) (i : ℕ) {k : Facts} (slots : List (Slot D H)) (count room : ℕ)
+    → IsShaped parts.torrent (state_of parts) → slots ≡ parts.slots.items → HasRoot parts.trees.items key.root i k
     → count ≡ run_room key → room ≡ sum_by (slot_room i count) slots → IsNoteRoom parts key room
-room_found {D} {H} parts key i k trees slots count room shaped same_trees same_slots has counted is =
-    let found = subst (λ (ts : List Facts). HasRoot ts key.root i k) same_trees has in
+room_found {D} {H} parts key i {k} slots count room shaped same_slots found counted is =
     record {
       known = λ tree j of. (
           let same = one_tree parts.trees.items key.root i tree shaped.roots found (record { here = of.here; same_root = of.same_root }) in

@@ -131,7 +131,7 @@ module _ {X : Type 0} (f : X → ℕ) (xs : List X) where
   take_by : (gap i : ℕ) → i + gap ≤ length xs → AreNought i (i + gap) → sum_by f (take (i + gap) xs) ≡ sum_by f (take i xs)
   take_by zero i inside none = ap (λ n. sum_by f (take n xs)) (omega arith)
   take_by (suc gap) i inside none =
-      let x = nought_at i {i + suc gap} (omega arith) inside none in
+      let x = nought_at i {j = i + suc gap} (omega arith) inside none in
       let step : (i + 1) + gap ≡ i + suc gap = omega arith in
       let rest = take_by gap (i + 1) (omega (arith, inside)) (λ n y low lt. none n y (omega arith) (omega (arith, lt))) in
       ap (λ n. sum_by f (take n xs)) (sym step) ∙ rest ∙ omega (arith, sum_by_more f xs i x.0 (omega (arith, inside)), x.1)
@@ -139,7 +139,7 @@ module _ {X : Type 0} (f : X → ℕ) (xs : List X) where
   drop_by : (gap i : ℕ) → i + gap ≤ length xs → AreNought i (i + gap) → sum_by f (drop (i + gap) xs) ≡ sum_by f (drop i xs)
   drop_by zero i inside none = ap (λ n. sum_by f (drop n xs)) (omega arith)
   drop_by (suc gap) i inside none =
-      let x = nought_at i {i + suc gap} (omega arith) inside none in
+      let x = nought_at i {j = i + suc gap} (omega arith) inside none in
       let step : (i + 1) + gap ≡ i + suc gap = omega arith in
       let rest = drop_by gap (i + 1) (omega (arith, inside)) (λ n y low lt. none n y (omega arith) (omega (arith, lt))) in
       ap (λ n. sum_by f (drop n xs)) (sym step) ∙ rest ∙ omega (arith, sum_by-drop_more f xs i x.0 (omega (arith, inside)), x.1)

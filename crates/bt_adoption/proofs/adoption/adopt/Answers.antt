@@ -1,8 +1,10 @@
-use Rattle.std.proofs.Common.{length, sym, ap, ◌∙◌, arith}
+use Rattle.std.proofs.Common.{sym, ap, ◌∙◌, arith}
+use Rattle.bt_machine.proofs.Lists.{get_some}
+use Rattle.bt_state.proofs.Chains.{tree_leads}
 use Rattle.bt_state.specs.declared.parts.Parts.{Parts}
 use Rattle.bt_adoption.proofs.Slots.{here_at}
 use Rattle.bt_adoption.proofs.OtherFiles.{as_many_trees, rest_then}
-use Rattle.bt_adoption.proofs.Adoptions.{in_line_first, tied_last, alone_if, steps_no_file, steps_busy, steps_empty, steps_stopped, steps_unsettled, steps_adopted, tree_below}
+use Rattle.bt_adoption.proofs.Adoptions.{in_line_first, tied_last, alone_if, shaped_behind, steps_no_file, steps_busy, steps_empty, steps_stopped, steps_unsettled, steps_adopted, tree_below}
 use Rattle.bt_adoption.proofs.adoption.adopt.Goals as goal
 
 pub returns-then-file-len-clause-step : goal.returns-then-file-len-clause-step
@@ -40,10 +42,17 @@ pub settle_recorded-requires-clause-alone : goal.settle_recorded-requires-clause
 settle_recorded-requires-clause-alone g c =
     ap (λ (p : Parts g.row.D.Denot g.row.H.Denot). p.peers.items) c.adopt_file.ensures.rest.others ∙ alone_if c.has_peer.ensures.1 c.if-has_peer.false
 
-pub settle_recorded-requires-clause-count : goal.settle_recorded-requires-clause-count
-settle_recorded-requires-clause-count g c =
-    c.adopt_file.ensures.rest.count ∙ c.requires.tied.count
-    ∙ sym (ap (λ (p : Parts g.row.D.Denot g.row.H.Denot). length p.torrent.files) c.adopt_file.ensures.rest.others)
+pub settle_recorded-requires-clause-lead : goal.settle_recorded-requires-clause-lead
+settle_recorded-requires-clause-lead g c =
+    let old = c.args.parts.now in
+    let mid = c.adopt_file.new.parts in
+    let alone = alone_if c.has_peer.ensures.1 c.if-has_peer.false in
+    let here = here_at old (omega (arith, c.if-file-len.false, c.len.ensures)) c.index.ensures in
+    let below = tree_below old c.args.file here (omega (arith, c.if-block_count-eq0.false, c.block_count.ensures)) (in_line_first old c.requires.tied c.requires.shaped) in
+    let k = get_some mid.trees.items c.index.result.now.tree (omega (arith, below, as_many_trees c.adopt_file.ensures.rest)) in
+    tree_leads (tied_last old c.requires.tied mid c.adopt_file.ensures.rest c.adopt_file.ensures.in_line)
+    (shaped_behind old c.args.file here (omega (arith, c.if-block_count-eq0.false, c.block_count.ensures)) alone c.in-Ok.ensures.ok c.adopt_file.ensures.rest c.adopt_file.ensures.in_line c.requires.shaped)
+    c.index.result.now.tree k.1
 
 pub settle_recorded-requires-clause-here : goal.settle_recorded-requires-clause-here
 settle_recorded-requires-clause-here g c =

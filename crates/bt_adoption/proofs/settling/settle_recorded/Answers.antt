@@ -1,10 +1,11 @@
-use Rattle.std.proofs.Common.{◌<◌, List, length, map, sym, ap, ◌∙◌, arith}
+use Rattle.std.proofs.Common.{◌<◌, List, length, map, sym, ap, ◌∙◌, subst, arith}
 use Rattle.std.specs.Prelude.{filter}
 use Rattle.std.proofs.lemmas.List.Elements.{All-same}
 use Rattle.bt_tree.specs.Limits.{max_block_count}
 use Rattle.bt_book.specs.declared.names.BlockId.{BlockId}
 use Rattle.bt_machine.specs.Hints.{mark_of, add_hints}
 use Rattle.bt_state.specs.Parts.{state_of, pending_of}
+use Rattle.bt_state.specs.Roots.{LeadThrough}
 use Rattle.bt_adoption.specs.WaitingSteps.{room_in, is_marked_of}
 use Rattle.bt_state.specs.declared.parts.Parts.{Parts}
 use Rattle.bt_adoption.proofs.OtherFiles.{rest_then}
@@ -13,7 +14,7 @@ use Rattle.bt_adoption.proofs.OtherMarks.{settles_all}
 use Rattle.bt_adoption.proofs.settling.settle_recorded.Goals as goal
 
 pub plan_marks-requires : goal.plan_marks-requires
-plan_marks-requires g c = c.requires.count
+plan_marks-requires g c = c.requires.lead
 
 pub settle_others-requires-clause-alone : goal.settle_others-requires-clause-alone
 settle_others-requires-clause-alone g c =
@@ -22,11 +23,9 @@ settle_others-requires-clause-alone g c =
 pub settle_others-requires-clause-in_line : goal.settle_others-requires-clause-in_line
 settle_others-requires-clause-in_line g c = in_line_of_log c.plan_marks.ensures.keeps c.requires.in_line
 
-pub settle_others-requires-clause-count : goal.settle_others-requires-clause-count
-settle_others-requires-clause-count g c =
-    let keeps = c.plan_marks.ensures.keeps in
-    ap (λ (p : Parts g.row.D.Denot g.row.H.Denot). length p.slots.items) keeps.others ∙ c.requires.count
-    ∙ sym (ap (λ (p : Parts g.row.D.Denot g.row.H.Denot). length p.torrent.files) keeps.others)
+pub settle_others-requires-clause-lead : goal.settle_others-requires-clause-lead
+settle_others-requires-clause-lead g c =
+    subst (λ (p : Parts g.row.D.Denot g.row.H.Denot). LeadThrough p.slots.items p.roots c.args.tree) (sym c.plan_marks.ensures.keeps.others) c.requires.lead
 
 pub settle_others-requires-clause-here : goal.settle_others-requires-clause-here
 settle_others-requires-clause-here g c =

@@ -16,12 +16,19 @@ use Rattle.bt_wire_events.proofs.Learnings.{if_err_by}
 use Rattle.bt_wire_events.specs.NoteRooms.{note_count}
 use Rattle.bt_wire_events.specs.declared.learning.Learnt.{Learnt}
 use Rattle.bt_wire_events.specs.declared.learning.Learnt.TheVariants.{Refused, Settled}
-use Rattle.bt_wire_events.proofs.HashEvents.{fits_lent, changes_of, parts_kept, takes_refused, room_of, notes_behind, tied_learnt, takes_learnt}
+use Rattle.bt_wire_events.proofs.HashEvents.{fits_lent, numbered_lent, leads_lent, changes_of, parts_kept, takes_refused, room_of, notes_behind, tied_learnt, takes_learnt}
 use Rattle.bt_wire_events.proofs.hashes.take_hashes.Goals as goal
 
 pub learn_hashes-requires-clause-fit : goal.learn_hashes-requires-clause-fit
 learn_hashes-requires-clause-fit g c =
     fits_lent c.args.parts.now c.deref_mut-2.result.now c.deref_mut.result.now c.deref_mut-2.ensures.value c.deref_mut.ensures.value c.requires.tied
+
+pub learn_hashes-requires-clause-numbered : goal.learn_hashes-requires-clause-numbered
+learn_hashes-requires-clause-numbered g c = numbered_lent c.args.parts.now c.deref_mut-2.result.now c.deref_mut-2.ensures.value c.requires.tied
+
+pub learn_hashes-requires-clause-lead : goal.learn_hashes-requires-clause-lead
+learn_hashes-requires-clause-lead g c =
+    leads_lent c.args.parts.now c.deref_mut-2.result.now c.deref_mut.result.now c.deref_mut-2.ensures.value c.deref_mut.ensures.value c.requires.tied c.requires.shaped
 
 pub returns-in_err-why-clause-kept : goal.returns-in_err-why-clause-kept
 returns-in_err-why-clause-kept g c =

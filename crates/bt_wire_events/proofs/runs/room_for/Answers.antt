@@ -1,21 +1,44 @@
-use Rattle.std.proofs.Common.{ap, ◌∙◌, arith}
+use Rattle.std.proofs.Common.{◌≡◌, ◌+◌, ◌<◌, length, take, ap, ◌∙◌, arith}
 use Rattle.std.proofs.lemmas.List.{take_all}
 use Rattle.std.proofs.lemmas.List.Sums.{sum_by_more}
 use Rattle.std.specs.Prelude.{sum_by}
+use Rattle.bt_state.proofs.Chains.{stands_there, none_passed, walk_begins, walk_goes_on}
 use Rattle.bt_wire_events.specs.NoteRooms.{slot_room}
+use Rattle.bt_wire_events.proofs.RunSettlings.{room_taken}
 use Rattle.bt_wire_events.proofs.runs.room_for.Goals as goal
 
-pub loop-slot-preserved : goal.loop-slot-preserved
-loop-slot-preserved g c =
-    let so_far = c.loop-slot.invariant in
-    let room = slot_room c.args.index c.args.count in
-    let more = sum_by_more room c.args.slots.now c.loop-slot.slot-index c.slot-item.result c.loop-slot-test.true in
-    let here = ap (λ slot. room slot) c.slot-item.is in
+pub loop-file-init : goal.loop-file-init
+loop-file-init g c =
+    let slots = c.args.slots.now in
+    let is = walk_begins c.requires.lead c.index.result.now c.index.ensures in
     record {
-      summed = omega (arith, so_far.summed, c.slot_room-room.ensures.value, here, more);
-      few = omega (arith, so_far.few, c.slot_room-room.ensures.few);
+      stands = stands_there is;
+      summed = omega (arith, room_taken slots c.args.index c.args.count is.inside is.limit (none_passed is));
+      few = omega arith;
     }
+
+pub loop-file-preserved : goal.loop-file-preserved
+loop-file-preserved g c =
+    let l = c.loop-file in
+    let slots = c.args.slots.now in
+    let room = slot_room c.args.index c.args.count in
+    let is = walk_goes_on c.requires.lead c.index-2.result.now l.invariant.stands c.loop-file-test.true c.index-2.ensures in
+    let more = sum_by_more room slots l.file c.index-slots-file.result c.loop-file-test.true in
+    let here = ap (λ slot. room slot) c.index-slots-file.is in
+    record {
+      stands = stands_there is;
+      summed = omega (arith, l.invariant.summed, c.slot_room.ensures.value, here, more, room_taken slots c.args.index c.args.count is.inside is.limit (none_passed is));
+      few = omega (arith, l.invariant.few, c.slot_room.ensures.few, is.inside);
+    }
+
+pub loop-file-smaller : goal.loop-file-smaller
+loop-file-smaller g c =
+    let is = walk_goes_on c.requires.lead c.index-2.result.now c.loop-file.invariant.stands c.loop-file-test.true c.index-2.ensures in
+    omega (arith, is.inside, c.loop-file-test.true)
 
 pub returns-clause-value : goal.returns-clause-value
 returns-clause-value g c =
-    c.loop-slot.invariant.summed ∙ ap (λ slots. sum_by (slot_room c.args.index c.args.count) slots) (take_all c.loop-slot.slot-index c.args.slots.now c.loop-slot-test.false)
+    c.loop-file.invariant.summed ∙ ap (λ slots. sum_by (slot_room c.args.index c.args.count) slots) (take_all c.loop-file.file c.args.slots.now c.loop-file-test.false)
+
+pub returns-clause-small : goal.returns-clause-small
+returns-clause-small g c = omega (arith, c.loop-file.invariant.few, c.loop-file.invariant.stands.limit)
