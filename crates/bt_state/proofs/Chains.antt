@@ -1,5 +1,5 @@
 -- The trees and the files of roots: what the torrent's files lead through are the slots of a tree.
-use Rattle.bt_machine.proofs.Base.{◌≡◌, ℕ, ◌+◌, ◌<◌, ◌≤◌, List, length, map, get_or, Option, Some, None, is_some, refl, sym, ap, ◌∙◌, subst, arith, slice_get, Facts, File}
+use Rattle.bt_machine.proofs.Base.{[], ◌≡◌, ℕ, ◌+◌, ◌<◌, ◌≤◌, List, length, map, get_or, Option, Some, None, is_some, refl, sym, ap, ◌∙◌, subst, arith, slice_get, Facts, File}
 use Rattle.std.specs.Prelude.{IsSome}
 use Rattle.std.specs.Option.{option_map_or}
 use Rattle.std.proofs.lemmas.Simd.{map-map}
