@@ -120,9 +120,9 @@ module _ {D H : Type 0} (file tree : ℕ) (slots : List (Slot D H)) where
       ∙ ap (λ xs. waiting_others file tree (map file_of slots) i ++ xs) (none_listed i slot.1 (none i slot.0 (omega arith) (omega arith) slot.1))
       ∙ append-nil (waiting_others file tree (map file_of slots) i)
 
-  pub listed_past : {i : ℕ} (j : ℕ) {ids : List BlockId} → ids ≡ waiting_others file tree (map file_of slots) i → i ≤ j → j ≤ length slots → NoneOfTree slots tree i j
+  pub listed_past : (i j : ℕ) {ids : List BlockId} → ids ≡ waiting_others file tree (map file_of slots) i → i ≤ j → j ≤ length slots → NoneOfTree slots tree i j
       → ids ≡ waiting_others file tree (map file_of slots) j
-  listed_past {i} j so_far low inside none =
+  listed_past i j so_far low inside none =
       let whole : i + (j - i) ≡ j = omega (arith, low) in
       so_far
       ∙ sym (ap (waiting_others file tree (map file_of slots)) (sym whole)

@@ -25,8 +25,8 @@ first_back {P} {count} {from} {first} none is = record {
 }
 
 -- no file was seen
-pub firsts_none : (files : List File) {numbers : Numbers} {n : ℕ} → IsEmpty numbers → n ≡ length files → AreFirstsFrom files n numbers
-firsts_none files {numbers} {n} empty all root =
+pub firsts_none : (files : List File) (numbers : Numbers) {n : ℕ} → IsEmpty numbers → n ≡ length files → AreFirstsFrom files n numbers
+firsts_none files numbers {n} empty all root =
     let no : number_of numbers root ≡ None = ap (λ (es : List (List ℕ × ℕ)). lookup (is_at (slice_cmp nat_cmp root)) es) empty in
     subst (λ first. IsFirstFrom (IsOfRoot files root) (length files) n first) (sym (ap (λ o. unwrap_or o (length files)) no)) (record {
       inside = omega (arith, all);
@@ -35,16 +35,16 @@ firsts_none files {numbers} {n} empty all root =
       is_first = λ j low of. absurd (let below = some_below files j of.listed in omega (arith, below, all, low));
     })
 
-module _ {files : List File} {from : ℕ} {file : File} (listed : slice_get files from ≡ Some file) where
+module _ (files : List File) (from : ℕ) {file : File} (listed : slice_get files from ≡ Some file) where
   -- an empty file is passed
-  pub firsts_passed : {numbers : Numbers} → file.length ≡ 0 → AreFirstsFrom files (from + 1) numbers → AreFirstsFrom files from numbers
-  firsts_passed empty are root =
+  pub firsts_passed : (numbers : Numbers) → file.length ≡ 0 → AreFirstsFrom files (from + 1) numbers → AreFirstsFrom files from numbers
+  firsts_passed numbers empty are root =
       first_back (λ of. absurd (omega (arith, of.some, empty, ap (λ (f : File). f.length) (some_is (sym of.listed ∙ listed))))) (are root)
 
   -- another is the first of its root then
-  pub firsts_put : {old new : Numbers} → 0 < file.length → Updates (slice_cmp nat_cmp) old new file.root (Some from) → AreFirstsFrom files (from + 1) old
+  pub firsts_put : (old new : Numbers) → 0 < file.length → Updates (slice_cmp nat_cmp) old new file.root (Some from) → AreFirstsFrom files (from + 1) old
       → AreFirstsFrom files from new
-  firsts_put {old} {new} some update are root = by (is_eq (slice_cmp nat_cmp file.root root)) refl
+  firsts_put old new some update are root = by (is_eq (slice_cmp nat_cmp file.root root)) refl
     where
       by : (b : Bool) → is_eq (slice_cmp nat_cmp file.root root) ≡ b → IsFirstFrom (IsOfRoot files root) (length files) from (unwrap_or (number_of new root) (length files))
       by true e =
@@ -66,9 +66,9 @@ module _ {files : List File} {from : ℕ} {file : File} (listed : slice_get file
           absurd cc) (are root))
 
   -- what was its first before comes next
-  pub next_before : {numbers : Numbers} {next : ℕ} → next ≡ unwrap_or (number_of numbers file.root) (length files) → AreFirstsFrom files (from + 1) numbers
+  pub next_before : (numbers : Numbers) {next : ℕ} → next ≡ unwrap_or (number_of numbers file.root) (length files) → AreFirstsFrom files (from + 1) numbers
       → IsFirstFrom (IsOfRoot files file.root) (length files) (from + 1) next
-  next_before is are = subst (λ first. IsFirstFrom (IsOfRoot files file.root) (length files) (from + 1) first) (sym is) (are file.root)
+  next_before numbers is are = subst (λ first. IsFirstFrom (IsOfRoot files file.root) (length files) (from + 1) first) (sym is) (are file.root)
 
 -- from one file on each has its next
 abbrev pub AreNextsFrom : List File → ℕ → List ℕ → Type 0

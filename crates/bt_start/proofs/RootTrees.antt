@@ -278,8 +278,8 @@ module _ {dig : List ℕ → List ℕ} {torrent : Metainfo} {firsts : List ℕ} 
       ap (λ root. (root, k.file_length)) is.0 ∙ ap (λ m. (of.file.root, m)) is.1 ∙ sym (listed_root torrent.files n of.listed)
       ))
 
-  pub numbered_trees : {numbers : Numbers} → AreNumbered (roots_of torrent.files firsts) numbers → AreNumbered (map (λ p. p.0) (map root_and_length trees)) numbers
-  numbered_trees {numbers} are_numbered =
+  pub numbered_trees : (numbers : Numbers) → AreNumbered (roots_of torrent.files firsts) numbers → AreNumbered (map (λ p. p.0) (map root_and_length trees)) numbers
+  numbered_trees numbers are_numbered =
       subst (λ (roots : List (List ℕ)). AreNumbered roots numbers)
       (sym (ap (map (λ p. p.0)) names_of_trees ∙ map-map (λ p. p.0) (root_and_length_of torrent.files) firsts)) are_numbered
 

@@ -73,8 +73,8 @@ module _ {D H : Type 0} {parts : Parts D H} (tied : IsTied parts) where
         get_map (root_and_length_of parts.torrent.files) parts.roots.first_files.items t
         (ap (λ ps. slice_get ps t) (sym tied.roots.firsts.same) ∙ get_mapped root_and_length parts.trees.items t stands)
 
-    first_said : {n : ℕ} (file : File) → slice_get parts.torrent.files n ≡ Some file → root_and_length_of parts.torrent.files n ≡ root_and_length k → (file.root ≡ k.root) × (file.length ≡ k.file_length)
-    first_said {n} file listed is =
+    first_said : (n : ℕ) (file : File) → slice_get parts.torrent.files n ≡ Some file → root_and_length_of parts.torrent.files n ≡ root_and_length k → (file.root ≡ k.root) × (file.length ≡ k.file_length)
+    first_said n file listed is =
         let said : root_and_length_of parts.torrent.files n ≡ (file.root, file.length) = ap (λ o. option_map_or (λ (f : File). (f.root, f.length)) o ([], 0)) listed in
         (ap (λ p. p.0) (sym said ∙ is), ap (λ p. p.1) (sym said ∙ is))
 
@@ -82,14 +82,14 @@ module _ {D H : Type 0} {parts : Parts D H} (tied : IsTied parts) where
     has_byte =
         let n = first_number in
         let first = tied.roots.firsts.each t n.0 n.1 in
-        omega (arith, first.some, (first_said first.file first.listed n.2).1)
+        omega (arith, first.some, (first_said n.0 first.file first.listed n.2).1)
 
     pub first_of_root : (n : ℕ) → slice_get parts.roots.first_files.items t ≡ Some n → IsFirstFrom (IsOfRoot parts.torrent.files k.root) (length parts.torrent.files) 0 n
     first_of_root n at =
         let m = first_number in
         let first = tied.roots.firsts.each t n at in
         let is : root_and_length_of parts.torrent.files n ≡ root_and_length k = ap (root_and_length_of parts.torrent.files) (some_is (sym at ∙ m.1)) ∙ m.2 in
-        let root = (first_said first.file first.listed is).0 in
+        let root = (first_said n first.file first.listed is).0 in
         let below = some_below parts.torrent.files n first.listed in
         record {
           inside = omega arith;

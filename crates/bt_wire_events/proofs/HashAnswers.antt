@@ -12,9 +12,9 @@ use Rattle.bt_state.specs.Roots.{Numbers, number_of, AreNumbered}
 use Rattle.bt_wire_events.specs.HashRequestSteps.{IsAnsweredBy, IsAnswerBy, answer_of}
 use Rattle.bt_wire_events.proofs.Learnings.{root_only}
 
-module _ (dig : List ℕ → List ℕ) (key : HashKey) (s : EngineState) {numbers : Numbers} (are : AreNumbered (map (λ k. k.root) s.trees) numbers) where
+module _ (dig : List ℕ → List ℕ) (key : HashKey) (s : EngineState) (numbers : Numbers) (are : AreNumbered (map (λ k. k.root) s.trees) numbers) where
   own_number : {digests : List (List ℕ)} (a : IsAnswered dig s key digests) → number_of numbers key.root ≡ Some a.tree
-  own_number a = root_only s.trees are key.root a.here.here a.here.same_root
+  own_number a = root_only s.trees numbers are key.root a.here.here a.here.same_root
 
   -- there is no tree of the root
   pub none_answers : number_of numbers key.root ≡ None → (digests : List (List ℕ)) → IsAnswered dig s key digests → ⊥

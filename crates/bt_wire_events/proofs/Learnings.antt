@@ -18,7 +18,7 @@ fits_all trees slots tree old new fit here same file slot lt = λ of_tree store 
 
 -- ---- the number of a root
 
-module _ (trees : List Facts) {numbers : Numbers} (are : AreNumbered (map (λ k. k.root) trees) numbers) (root : List ℕ) where
+module _ (trees : List Facts) (numbers : Numbers) (are : AreNumbered (map (λ k. k.root) trees) numbers) (root : List ℕ) where
   pub root_found : (i : ℕ) → number_of numbers root ≡ Some i → (k : Facts) × HasRoot trees root i k
   root_found i is =
       let k = get_map (λ (k : Facts). k.root) trees i ((are i root).0 is) in

@@ -123,15 +123,15 @@ module _ {X : Type 0} (f : X → ℕ) (xs : List X) where
   abbrev AreNought : (i j : ℕ) → Type 0
   AreNought i j = (n : ℕ) (x : X) → i ≤ n → n < j → slice_get xs n ≡ Some x → f x ≡ 0
 
-  nought_at : (i : ℕ) {j : ℕ} → i < j → j ≤ length xs → AreNought i j → (x : X) × (f (get_or xs i x) ≡ 0)
-  nought_at i lt inside none =
+  nought_at : (i j : ℕ) → i < j → j ≤ length xs → AreNought i j → (x : X) × (f (get_or xs i x) ≡ 0)
+  nought_at i j lt inside none =
       let x = get_some xs i (omega arith) in
       (x.0, ap f (get_or_from_slice_get xs i x.0 x.0 x.1) ∙ none i x.0 (omega arith) lt x.1)
 
   take_by : (gap i : ℕ) → i + gap ≤ length xs → AreNought i (i + gap) → sum_by f (take (i + gap) xs) ≡ sum_by f (take i xs)
   take_by zero i inside none = ap (λ n. sum_by f (take n xs)) (omega arith)
   take_by (suc gap) i inside none =
-      let x = nought_at i {j = i + suc gap} (omega arith) inside none in
+      let x = nought_at i (i + suc gap) (omega arith) inside none in
       let step : (i + 1) + gap ≡ i + suc gap = omega arith in
       let rest = take_by gap (i + 1) (omega (arith, inside)) (λ n y low lt. none n y (omega arith) (omega (arith, lt))) in
       ap (λ n. sum_by f (take n xs)) (sym step) ∙ rest ∙ omega (arith, sum_by_more f xs i x.0 (omega (arith, inside)), x.1)
@@ -139,12 +139,12 @@ module _ {X : Type 0} (f : X → ℕ) (xs : List X) where
   drop_by : (gap i : ℕ) → i + gap ≤ length xs → AreNought i (i + gap) → sum_by f (drop (i + gap) xs) ≡ sum_by f (drop i xs)
   drop_by zero i inside none = ap (λ n. sum_by f (drop n xs)) (omega arith)
   drop_by (suc gap) i inside none =
-      let x = nought_at i {j = i + suc gap} (omega arith) inside none in
+      let x = nought_at i (i + suc gap) (omega arith) inside none in
       let step : (i + 1) + gap ≡ i + suc gap = omega arith in
       let rest = drop_by gap (i + 1) (omega (arith, inside)) (λ n y low lt. none n y (omega arith) (omega (arith, lt))) in
       ap (λ n. sum_by f (drop n xs)) (sym step) ∙ rest ∙ omega (arith, sum_by-drop_more f xs i x.0 (omega (arith, inside)), x.1)
 
-module _ {D H : Type 0} (slots : List (Slot D H)) (tree count : ℕ) {i j : ℕ} (low : i ≤ j) (inside : j ≤ length slots) (none : NoneOfTree slots tree i j) where
+module _ {D H : Type 0} (slots : List (Slot D H)) (tree count i j : ℕ) (low : i ≤ j) (inside : j ≤ length slots) (none : NoneOfTree slots tree i j) where
   off_between : AreNought (slot_room tree count) slots i (i + (j - i))
   off_between n slot from lt at = off_room tree count slot (none n slot from (omega (arith, lt, low)) at)
 

@@ -13,7 +13,7 @@ loop-other-init g c =
     let is = walk_begins c.requires c.index-other.result.now c.index-other.ensures in
     record {
       stands = stands_there is;
-      blocks = listed_past c.args.file c.args.tree c.args.slots.now {i = 0} c.index-other.result.now c.new-blocks.ensures.items is.inside is.limit (none_passed is);
+      blocks = listed_past c.args.file c.args.tree c.args.slots.now 0 c.index-other.result.now c.new-blocks.ensures.items is.inside is.limit (none_passed is);
       within = subst (λ xs. All (λ b. b.block < max_block_count) xs) (sym c.new-blocks.ensures.items) tt;
     }
 
@@ -28,14 +28,14 @@ loop-other-preserved g c =
           let here = get_read slots l.other w.index-slots-other.result c.loop-other-test.true w.index-slots-other.is in
           record {
             stands = stands_there is;
-            blocks = listed_past c.args.file c.args.tree slots c.index.result.now
+            blocks = listed_past c.args.file c.args.tree slots (l.other + 1) c.index.result.now
                 (listed_other c.args.file c.args.tree files l.other l.invariant.blocks w.if-other-file.true (get_mapped file_of slots l.other here)
                 (ap (λ v. v.items) w.blocks-is ∙ w.in_ok-add_waiting.ensures.blocks)) is.inside is.limit (none_passed is);
             within = subst (λ v. All (λ b. b.block < max_block_count) v.items) (sym w.blocks-is) w.in_ok-add_waiting.ensures.within;
           }
       | else-other-file w ↦ record {
         stands = stands_there is;
-        blocks = listed_past c.args.file c.args.tree slots c.index.result.now
+        blocks = listed_past c.args.file c.args.tree slots (l.other + 1) c.index.result.now
             (ap (λ v. v.items) w.blocks-is ∙ listed_own c.args.file c.args.tree files l.other l.invariant.blocks w.if-other-file.false) is.inside is.limit (none_passed is);
         within = subst (λ v. All (λ b. b.block < max_block_count) v.items) (sym w.blocks-is) l.invariant.within;
       }

@@ -19,7 +19,7 @@ returns-clause-bare g c =
         roots = record {
           firsts = record { each = each; same = names_of_trees are };
           nexts = rw said at c.in_ok-roots.ensures.nexts;
-          numbered = numbered_trees are (rw said at c.in_ok-roots.ensures.numbered);
+          numbered = numbered_trees are c.in_ok-roots.roots.trees (rw said at c.in_ok-roots.ensures.numbered);
         };
         books = c.in_ok-books.ensures;
       };

@@ -11,7 +11,7 @@ loop-index-init c =
     let files = map file_of c.args.files.now in
     let size = sym (length-map c.args.files.now file_of) in
     record {
-      firsts = firsts_none files c.new-firsts.ensures.empty size;
+      firsts = firsts_none files c.new-firsts.result c.new-firsts.ensures.empty size;
       size = c.requires.count;
       each = nexts_none files c.args.nexts.now size;
     }

@@ -1,4 +1,4 @@
-use Rattle.std.proofs.Common.{length, sym, ap, ◌∙◌, subst, arith}
+use Rattle.std.proofs.Common.{◌+◌, length, map, sym, ap, ◌∙◌, subst, arith}
 use Rattle.std.specs.Prelude.{unwrap_or}
 use Rattle.std.proofs.lemmas.List.{length-map}
 use Rattle.bt_meta.specs.Files.{File, file_of}
@@ -12,7 +12,7 @@ pub returns-then-file-eq0-clause-firsts : goal.returns-then-file-eq0-clause-firs
 returns-then-file-eq0-clause-firsts c =
     let files = c.args.files.now in
     let own = get_mapped file_of files c.args.index (get_read files c.args.index c.index-files-index.result c.requires.inside c.index-files-index.is) in
-    firsts_passed own c.if-file-eq0.true c.requires.firsts
+    firsts_passed (map file_of files) c.args.index own c.args.firsts.now c.if-file-eq0.true c.requires.firsts
 
 pub returns-then-file-eq0-clause-next : goal.returns-then-file-eq0-clause-next
 returns-then-file-eq0-clause-next c = λ file listed some.
@@ -24,14 +24,14 @@ pub returns-clause-firsts : goal.returns-clause-firsts
 returns-clause-firsts c =
     let files = c.args.files.now in
     let own = get_mapped file_of files c.args.index (get_read files c.args.index c.index-files-index.result c.requires.inside c.index-files-index.is) in
-    firsts_put own (omega (arith, c.if-file-eq0.false)) c.in_ok-next.ensures.updates c.requires.firsts
+    firsts_put (map file_of files) c.args.index own c.args.firsts.now c.insert-next.new.self (omega (arith, c.if-file-eq0.false)) c.in_ok-next.ensures.updates c.requires.firsts
 
 pub returns-clause-next : goal.returns-clause-next
 returns-clause-next c = λ file listed some.
     let files = c.args.files.now in
     let size = length-map files file_of in
     let own = get_mapped file_of files c.args.index (get_read files c.args.index c.index-files-index.result c.requires.inside c.index-files-index.is) in
-    subst (λ n. IsFirstFrom (IsOfRoot _ file.root) n _ c.unwrap_or.result) size
-    (next_before listed
+    subst (λ n. IsFirstFrom (IsOfRoot (map file_of files) file.root) n (c.args.index + 1) c.unwrap_or.result) size
+    (next_before (map file_of files) c.args.index listed c.args.firsts.now
     (c.unwrap_or.ensures ∙ ap (λ o. unwrap_or o c.len-count.result) (c.in_ok-next.ensures.old ∙ ap (λ (f : File). number_of c.args.firsts.now f.root) (some_is (sym own ∙ listed)))
     ∙ ap (λ n. unwrap_or (number_of c.args.firsts.now file.root) n) (c.len-count.ensures ∙ sym size)) c.requires.firsts)

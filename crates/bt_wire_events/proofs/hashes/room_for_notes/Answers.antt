@@ -9,7 +9,7 @@ use Rattle.bt_wire_events.proofs.hashes.room_for_notes.Goals as goal
 
 pub returns-in-Some-clause-room : goal.returns-in-Some-clause-room
 returns-in-Some-clause-room g c =
-    let has = root_found c.args.parts.now.trees.items (roots_numbered c.requires.tied) c.args.key.now.root c.in-Some.index (sym c.in-Some.ensures) in
+    let has = root_found c.args.parts.now.trees.items c.args.parts.now.roots.trees (roots_numbered c.requires.tied) c.args.key.now.root c.in-Some.index (sym c.in-Some.ensures) in
     room_found c.args.parts.now c.args.key.now c.in-Some.index c.deref.result.now c.min.result c.room_for.result
     c.requires.shaped c.deref.ensures.value has.1
     (c.min.ensures ∙ ap (λ n. min n max_run_length) c.settled_count.ensures.value) c.room_for.ensures.value
@@ -17,7 +17,7 @@ returns-in-Some-clause-room g c =
 pub returns-in-None-clause-room : goal.returns-in-None-clause-room
 returns-in-None-clause-room g c = record {
   known = λ tree k of.
-      absurd (root_lacks c.args.parts.now.trees.items (roots_numbered c.requires.tied) c.args.key.now.root (sym c.in-None.ensures)
+      absurd (root_lacks c.args.parts.now.trees.items c.args.parts.now.roots.trees (roots_numbered c.requires.tied) c.args.key.now.root (sym c.in-None.ensures)
       tree k (record { here = of.here; same_root = of.same_root }));
   unknown = λ none. refl;
 }
@@ -25,6 +25,6 @@ returns-in-None-clause-room g c = record {
 pub room_for-requires-clause-lead : goal.room_for-requires-clause-lead
 room_for-requires-clause-lead g c =
     let parts = c.args.parts.now in
-    let has = root_found parts.trees.items (roots_numbered c.requires.tied) c.args.key.now.root c.in-Some.index (sym c.in-Some.ensures) in
+    let has = root_found parts.trees.items parts.roots.trees (roots_numbered c.requires.tied) c.args.key.now.root c.in-Some.index (sym c.in-Some.ensures) in
     leads_lent parts parts.trees.items c.deref.result.now refl c.deref.ensures.value c.requires.tied c.requires.shaped
     c.in-Some.index (some_below parts.trees.items c.in-Some.index has.1.here)

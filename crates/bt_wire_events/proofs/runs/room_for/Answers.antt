@@ -13,7 +13,7 @@ loop-file-init g c =
     let is = walk_begins c.requires.lead c.index.result.now c.index.ensures in
     record {
       stands = stands_there is;
-      summed = omega (arith, room_taken slots c.args.index c.args.count is.inside is.limit (none_passed is));
+      summed = omega (arith, room_taken slots c.args.index c.args.count 0 c.index.result.now is.inside is.limit (none_passed is));
       few = omega arith;
     }
 
@@ -27,7 +27,7 @@ loop-file-preserved g c =
     let here = ap (λ slot. room slot) c.index-slots-file.is in
     record {
       stands = stands_there is;
-      summed = omega (arith, l.invariant.summed, c.slot_room.ensures.value, here, more, room_taken slots c.args.index c.args.count is.inside is.limit (none_passed is));
+      summed = omega (arith, l.invariant.summed, c.slot_room.ensures.value, here, more, room_taken slots c.args.index c.args.count (l.file + 1) c.index-2.result.now is.inside is.limit (none_passed is));
       few = omega (arith, l.invariant.few, c.slot_room.ensures.few, is.inside);
     }
 

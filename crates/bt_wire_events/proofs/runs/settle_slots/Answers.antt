@@ -13,7 +13,7 @@ loop-file-init g c =
     let slots = c.args.slots.now in
     let is = walk_begins c.requires.lead c.index.result.now c.index.ensures in
     let none = none_passed is in
-    let left = room_left slots c.args.index c.args.count is.inside is.limit none in
+    let left = room_left slots c.args.index c.args.count 0 c.index.result.now is.inside is.limit none in
     record {
       stands = stands_there is;
       settled = settled_past d.history d.honest d.faults g.H.NodeHash.digest c.args.tree.now c.args.index c.args.from c.args.count slots c.args.notes.now.items
@@ -47,7 +47,7 @@ loop-file-preserved g c =
     let at = stays_at slots now file x lt (c.loop-file.invariant.settled.rest file (omega arith)) in
     let is = walk_goes_on c.requires.lead c.index-2.result.now c.loop-file.invariant.stands (omega (arith, lt, c.loop-file.auto.slots)) c.index-2.ensures in
     let none = none_passed is in
-    let left = room_left slots c.args.index c.args.count is.inside is.limit none in
+    let left = room_left slots c.args.index c.args.count (file + 1) c.index-2.result.now is.inside is.limit none in
     let r = c.settle_slot.ensures.settles in
     record {
       stands = stands_there is;
