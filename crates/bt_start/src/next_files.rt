@@ -28,7 +28,8 @@ fn fill_next_files(alloc: Global, files: &[FileEntry], nexts: &mut [u32]) -> Res
 {
     let mut firsts = BTreeMap::new(alloc);
     for index in (0..files.len()).rev() {
-        nexts[index] = put_first(&mut firsts, files, index)?;
+        let next = put_first(&mut firsts, files, index)?;
+        nexts[index] = next;
     }
     Ok(())
 }

@@ -1,4 +1,4 @@
-ghost use Rattle.std.specs.Prelude.{[], ℕ, IfOk};
+ghost use Rattle.std.specs.Prelude.{[], ◌≡◌, ℕ, IfOk};
 ghost use Rattle.std.specs.List.{concat};
 ghost use Rattle.bt_machine.specs.State.{PeerState};
 ghost use Rattle.bt_machine.specs.Output.{sending};

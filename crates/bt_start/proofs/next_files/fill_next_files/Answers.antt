@@ -28,11 +28,11 @@ loop-index-preserved c =
     let next : l.index ≡ i + 1 = omega (arith, c.loop-index-test.true) in
     let below : i < length l.nexts = omega (arith, next, l.auto.index, l.invariant.size) in
     record {
-      firsts = c.in_ok-put_first.ensures.firsts;
-      size = length-set l.nexts i c.in_ok-put_first.field-0 ∙ l.invariant.size;
-      each = nexts_more files l.nexts i c.in_ok-put_first.field-0 below
-          (λ file listed some. subst (λ n. IsFirstFrom (IsOfRoot files file.root) n (i + 1) c.in_ok-put_first.field-0) (sym (length-map c.args.files.now file_of))
-          (c.in_ok-put_first.ensures.next file listed some))
+      firsts = c.in_ok-next.ensures.firsts;
+      size = length-set l.nexts i c.in_ok-next.next ∙ l.invariant.size;
+      each = nexts_more files l.nexts i c.in_ok-next.next below
+          (λ file listed some. subst (λ n. IsFirstFrom (IsOfRoot files file.root) n (i + 1) c.in_ok-next.next) (sym (length-map c.args.files.now file_of))
+          (c.in_ok-next.ensures.next file listed some))
           (subst (λ n. AreNextsFrom files n l.nexts) next l.invariant.each);
     }
 

@@ -24,7 +24,7 @@ pub returns-clause-firsts : goal.returns-clause-firsts
 returns-clause-firsts c =
     let files = c.args.files.now in
     let own = get_mapped file_of files c.args.index (get_read files c.args.index c.index-files-index.result c.requires.inside c.index-files-index.is) in
-    firsts_put (map file_of files) c.args.index own c.args.firsts.now c.insert-next.new.self (omega (arith, c.if-file-eq0.false)) c.in_ok-next.ensures.updates c.requires.firsts
+    firsts_put (map file_of files) c.args.index own c.args.firsts.now c.insert.new.self (omega (arith, c.if-file-eq0.false)) c.in_ok-next.ensures.updates c.requires.firsts
 
 pub returns-clause-next : goal.returns-clause-next
 returns-clause-next c = λ file listed some.
@@ -33,5 +33,5 @@ returns-clause-next c = λ file listed some.
     let own = get_mapped file_of files c.args.index (get_read files c.args.index c.index-files-index.result c.requires.inside c.index-files-index.is) in
     subst (λ n. IsFirstFrom (IsOfRoot (map file_of files) file.root) n (c.args.index + 1) c.unwrap_or.result) size
     (next_before (map file_of files) c.args.index listed c.args.firsts.now
-    (c.unwrap_or.ensures ∙ ap (λ o. unwrap_or o c.len-count.result) (c.in_ok-next.ensures.old ∙ ap (λ (f : File). number_of c.args.firsts.now f.root) (some_is (sym own ∙ listed)))
-    ∙ ap (λ n. unwrap_or (number_of c.args.firsts.now file.root) n) (c.len-count.ensures ∙ sym size)) c.requires.firsts)
+    (c.unwrap_or.ensures ∙ ap (λ o. unwrap_or o (length files)) (c.in_ok-next.ensures.old ∙ ap (λ (f : File). number_of c.args.firsts.now f.root) (some_is (sym own ∙ listed)))
+    ∙ ap (λ n. unwrap_or (number_of c.args.firsts.now file.root) n) (sym size)) c.requires.firsts)

@@ -1,12 +1,12 @@
-use Rattle.std.proofs.Common.{◌≡◌, ℕ, List, [], refl, sym, ap, ◌∙◌, get_or, subst, arith}
+use Rattle.std.proofs.Common.{◌≡◌, ◌≤◌, ℕ, List, [], refl, sym, ap, ◌∙◌, get_or, subst, arith}
 use Rattle.std.specs.List.{sum_by}
 use Rattle.std.proofs.lemmas.Option.{slice_get-get_or}
 use Rattle.std.specs.Prelude.{slice_set}
 use Rattle.bt_machine.proofs.Lists.{set_id, some_below}
 use Rattle.bt_machine.specs.declared.answer.Note.{Note}
 use Rattle.bt_wire_events.specs.RunSteps.{SettlesSlots}
-use Rattle.bt_wire_events.specs.NoteRooms.{slot_room, run_room}
-use Rattle.bt_wire_events.specs.LearningSteps.{unknown_root, no_claim, refused, ChangesByHashes}
+use Rattle.bt_wire_events.specs.NoteRooms.{note_count, slot_room, run_room}
+use Rattle.bt_wire_events.specs.LearningSteps.{unknown_root, no_claim, refused, IsRoomFor, ChangesByHashes}
 use Rattle.bt_wire_events.proofs.KeptHints.{kept_if_added}
 use Rattle.bt_wire_events.proofs.Learnings.{fits_all, root_found, root_lacks, if_ok_by, if_err_by, root_at}
 use Rattle.bt_wire_events.proofs.learning.learn_hashes.Goals as goal
@@ -105,3 +105,13 @@ pub settle_slots-requires-clause-lead : goal.settle_slots-requires-clause-lead
 settle_slots-requires-clause-lead g c =
     let has = root_found c.args.trees.now c.args.roots.now.trees c.requires.numbered c.args.key.now.root c.in-Some.index (sym c.in-Some.ensures) in
     c.requires.lead c.in-Some.index (some_below c.args.trees.now c.in-Some.index has.1.here)
+
+pub offset_bounds-trees-index : goal.offset_bounds-trees-index
+offset_bounds-trees-index g c =
+    let has = root_found c.args.trees.now c.args.roots.now.trees c.requires.numbered c.args.key.now.root c.in-Some.index (sym c.in-Some.ensures) in
+    omega (arith, some_below c.args.trees.now c.in-Some.index has.1.here)
+
+pub returns-in-Err-accept-clause-few : goal.returns-in-Err-accept-clause-few
+returns-in-Err-accept-clause-few g c =
+    if_ok_by (λ learnt. (room : ℕ) → IsRoomFor c.args.trees.now c.args.slots.now c.args.key.now room → note_count learnt ≤ room)
+    c.refusal-in-Err-accept.result c.refusal-in-Err-accept.ensures.ok c.refusal-in-Err-accept.ensures.other (λ memory room fits. omega arith)

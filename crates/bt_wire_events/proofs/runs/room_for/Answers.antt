@@ -22,18 +22,18 @@ loop-file-preserved g c =
     let l = c.loop-file in
     let slots = c.args.slots.now in
     let room = slot_room c.args.index c.args.count in
-    let is = walk_goes_on c.requires.lead c.index-2.result.now l.invariant.stands c.loop-file-test.true c.index-2.ensures in
+    let is = walk_goes_on c.requires.lead c.index-in-loop-file.result.now l.invariant.stands c.loop-file-test.true c.index-in-loop-file.ensures in
     let more = sum_by_more room slots l.file c.index-slots-file.result c.loop-file-test.true in
     let here = ap (λ slot. room slot) c.index-slots-file.is in
     record {
       stands = stands_there is;
-      summed = omega (arith, l.invariant.summed, c.slot_room.ensures.value, here, more, room_taken slots c.args.index c.args.count (l.file + 1) c.index-2.result.now is.inside is.limit (none_passed is));
+      summed = omega (arith, l.invariant.summed, c.slot_room.ensures.value, here, more, room_taken slots c.args.index c.args.count (l.file + 1) c.index-in-loop-file.result.now is.inside is.limit (none_passed is));
       few = omega (arith, l.invariant.few, c.slot_room.ensures.few, is.inside);
     }
 
 pub loop-file-smaller : goal.loop-file-smaller
 loop-file-smaller g c =
-    let is = walk_goes_on c.requires.lead c.index-2.result.now c.loop-file.invariant.stands c.loop-file-test.true c.index-2.ensures in
+    let is = walk_goes_on c.requires.lead c.index-in-loop-file.result.now c.loop-file.invariant.stands c.loop-file-test.true c.index-in-loop-file.ensures in
     omega (arith, is.inside, c.loop-file-test.true)
 
 pub returns-clause-value : goal.returns-clause-value

@@ -45,14 +45,14 @@ loop-file-preserved g c =
     let new = c.settle_slot.new.slot in
     let lt : file < length now = omega (arith, c.loop-file-test.true, c.loop-file.auto.slots) in
     let at = stays_at slots now file x lt (c.loop-file.invariant.settled.rest file (omega arith)) in
-    let is = walk_goes_on c.requires.lead c.index-2.result.now c.loop-file.invariant.stands (omega (arith, lt, c.loop-file.auto.slots)) c.index-2.ensures in
+    let is = walk_goes_on c.requires.lead c.index-in-loop-file.result.now c.loop-file.invariant.stands (omega (arith, lt, c.loop-file.auto.slots)) c.index-in-loop-file.ensures in
     let none = none_passed is in
-    let left = room_left slots c.args.index c.args.count (file + 1) c.index-2.result.now is.inside is.limit none in
+    let left = room_left slots c.args.index c.args.count (file + 1) c.index-in-loop-file.result.now is.inside is.limit none in
     let r = c.settle_slot.ensures.settles in
     record {
       stands = stands_there is;
       settled = settled_past d.history d.honest d.faults g.H.NodeHash.digest c.args.tree.now c.args.index c.args.from c.args.count slots c.args.notes.now.items
-          (file + 1) c.index-2.result.now c.settle_slot.new.notes.items (slice_set now file new) is.inside is.limit none
+          (file + 1) c.index-in-loop-file.result.now c.settle_slot.new.notes.items (slice_set now file new) is.inside is.limit none
           (settled_more d.history d.honest d.faults g.H.NodeHash.digest c.args.tree.now c.args.index c.args.from c.args.count slots c.args.notes.now.items
           file c.loop-file.notes.items c.settle_slot.new.notes.items now new r.0 c.loop-file.invariant.settled (slice_get-get_or now file x lt) r.1 r.2);
       few = omega (arith, left, room_at slots now file x (slot_room c.args.index c.args.count) at, c.loop-file.invariant.few, c.settle_slot.ensures.few);
@@ -62,7 +62,7 @@ loop-file-preserved g c =
 pub loop-file-smaller : goal.loop-file-smaller
 loop-file-smaller g c =
     let lt : c.loop-file.file < length c.args.slots.now = omega (arith, c.loop-file-test.true, c.loop-file.auto.slots) in
-    let is = walk_goes_on c.requires.lead c.index-2.result.now c.loop-file.invariant.stands lt c.index-2.ensures in
+    let is = walk_goes_on c.requires.lead c.index-in-loop-file.result.now c.loop-file.invariant.stands lt c.index-in-loop-file.ensures in
     omega (arith, is.inside, lt)
 
 pub returns-clause-settles : goal.returns-clause-settles
