@@ -46,12 +46,11 @@ pub settle_recorded-requires-clause-lead : goal.settle_recorded-requires-clause-
 settle_recorded-requires-clause-lead g c =
     let old = c.args.parts.now in
     let mid = c.adopt_file.new.parts in
-    let alone = alone_if c.has_peer.ensures.1 c.if-has_peer.false in
     let here = here_at old (omega (arith, c.if-file-len.false, c.len.ensures)) c.index.ensures in
     let below = tree_below old c.args.file here (omega (arith, c.if-block_count-eq0.false, c.block_count.ensures)) (in_line_first old c.requires.tied c.requires.shaped) in
     let k = get_some mid.trees.items c.index.result.now.tree (omega (arith, below, as_many_trees c.adopt_file.ensures.rest)) in
     tree_leads (tied_last old c.requires.tied mid c.adopt_file.ensures.rest c.adopt_file.ensures.in_line)
-    (shaped_behind old c.args.file here (omega (arith, c.if-block_count-eq0.false, c.block_count.ensures)) alone c.in-Ok.ensures.ok c.adopt_file.ensures.rest c.adopt_file.ensures.in_line c.requires.shaped)
+    (shaped_behind old c.args.file here (omega (arith, c.if-block_count-eq0.false, c.block_count.ensures)) (alone_if c.has_peer.ensures.1 c.if-has_peer.false) c.in-Ok.ensures.ok c.adopt_file.ensures.rest c.adopt_file.ensures.in_line c.requires.shaped)
     c.index.result.now.tree k.1
 
 pub settle_recorded-requires-clause-here : goal.settle_recorded-requires-clause-here

@@ -29,19 +29,19 @@ pub loop-other-preserved : goal.loop-other-preserved
 loop-other-preserved g c =
     let d = g.D.Disk in
     let l = c.loop-other in
-    let next = c.index.result.now in
+    let next = c.index-other-in-loop-other.result.now in
     let old = c.args.parts.now in
     let lt : l.other < length old.slots.items = omega (arith, c.loop-other-test.true, c.len.ensures, l.parts.slots.ok.0, l.invariant.settled.rest.count) in
     elim c.if-other-file.branch [
       | then-other-file w ↦
           let now = settled_more l.invariant.settled w.if-other-file.true w.settle_file.ensures.settles w.settle_file.ensures.log w.settle_file.ensures.rest w.settle_file.ensures.in_line in
           let same = subst (λ (p : Parts g.row.D.Denot g.row.H.Denot). AreSettled d.history d.honest d.faults g.H.NodeHash.digest c.args.file c.args.tree old (l.other + 1) p) (sym w.parts-is) now in
-          let is = walk_goes_on c.requires.lead next l.invariant.stands lt (next_read same.rest l.other next c.index.ensures) in
+          let is = walk_goes_on c.requires.lead next l.invariant.stands lt (next_read same.rest l.other next c.index-other-in-loop-other.ensures) in
           record { stands = stands_there is; settled = settled_past next same is.inside (none_passed is) }
       | else-other-file w ↦
           let same = subst (λ (p : Parts g.row.D.Denot g.row.H.Denot). AreSettled d.history d.honest d.faults g.H.NodeHash.digest c.args.file c.args.tree old (l.other + 1) p) (sym w.parts-is)
           (settled_skipped l.invariant.settled w.if-other-file.false) in
-          let is = walk_goes_on c.requires.lead next l.invariant.stands lt (next_read same.rest l.other next c.index.ensures) in
+          let is = walk_goes_on c.requires.lead next l.invariant.stands lt (next_read same.rest l.other next c.index-other-in-loop-other.ensures) in
           record { stands = stands_there is; settled = settled_past next same is.inside (none_passed is) }
     ]
 
@@ -49,17 +49,17 @@ pub loop-other-smaller : goal.loop-other-smaller
 loop-other-smaller g c =
     let d = g.D.Disk in
     let l = c.loop-other in
-    let next = c.index.result.now in
+    let next = c.index-other-in-loop-other.result.now in
     let old = c.args.parts.now in
     let lt : l.other < length old.slots.items = omega (arith, c.loop-other-test.true, c.len.ensures, l.parts.slots.ok.0, l.invariant.settled.rest.count) in
     elim c.if-other-file.branch [
       | then-other-file w ↦
           let rest = rest_then l.invariant.settled.rest w.settle_file.ensures.rest in
-          let is = walk_goes_on c.requires.lead next l.invariant.stands lt (next_read (subst (λ (p : Parts g.row.D.Denot g.row.H.Denot). KeepsRest old p) (sym w.parts-is) rest) l.other next c.index.ensures) in
+          let is = walk_goes_on c.requires.lead next l.invariant.stands lt (next_read (subst (λ (p : Parts g.row.D.Denot g.row.H.Denot). KeepsRest old p) (sym w.parts-is) rest) l.other next c.index-other-in-loop-other.ensures) in
           omega (arith, is.inside, lt)
       | else-other-file w ↦
           let is = walk_goes_on c.requires.lead next l.invariant.stands lt
-          (next_read (subst (λ (p : Parts g.row.D.Denot g.row.H.Denot). KeepsRest old p) (sym w.parts-is) l.invariant.settled.rest) l.other next c.index.ensures) in
+          (next_read (subst (λ (p : Parts g.row.D.Denot g.row.H.Denot). KeepsRest old p) (sym w.parts-is) l.invariant.settled.rest) l.other next c.index-other-in-loop-other.ensures) in
           omega (arith, is.inside, lt)
     ]
 
