@@ -1,5 +1,6 @@
 -- Hashes that come, and the files whose blocks waited for them.
-use Rattle.bt_machine.proofs.Base.{◌≡◌, ℕ, List, get_or, map, Some, None, refl, sym, ap, ◌∙◌, All, slice_get, Facts, Result, Ok, Err, subst}
+use Rattle.bt_machine.proofs.Base.{◌≡◌, ℕ, ◌<◌, ◌≤◌, arith, List, get_or, map, Some, None, refl, sym, ap, ◌∙◌, All, slice_get, Facts, Result, Ok, Err, subst}
+use Rattle.std.proofs.Common.{Fits, w64, ◌*◌, mul-le-mul_right}
 use Rattle.std.specs.Prelude.{IfOk, IfErr}
 use Rattle.std.proofs.lemmas.Option.{slice_get-get_or}
 use Rattle.bt_machine.proofs.Lists.{some_is, get_map}
@@ -15,6 +16,10 @@ pub fits_all : {D H : Type 0} (trees : List Facts) (slots : List (Slot D H)) (tr
 fits_all trees slots tree old new fit here same file slot lt = λ of_tree store has.
     let there = slice_get-get_or slots file slot lt in
     same ∙ fit file (get_or slots file slot) old there (ap (slice_get trees) of_tree ∙ here) refl store has
+
+-- where an element below another lies
+pub fits_below : (i n size : ℕ) → i < n → Fits w64 (n * size) → Fits w64 (i * size)
+fits_below i n size lt fits = let le : i * size ≤ n * size = mul-le-mul_right size (omega arith) in omega (arith, fits, le)
 
 -- ---- the number of a root
 

@@ -1,4 +1,4 @@
-use Rattle.std.proofs.Common.{◌≡◌, ◌≤◌, ℕ, List, [], refl, sym, ap, ◌∙◌, get_or, subst, arith}
+use Rattle.std.proofs.Common.{◌≡◌, ◌≤◌, ℕ, List, [], length, rules, refl, sym, ap, ◌∙◌, get_or, subst, arith}
 use Rattle.std.specs.List.{sum_by}
 use Rattle.std.proofs.lemmas.Option.{slice_get-get_or}
 use Rattle.std.specs.Prelude.{slice_set}
@@ -8,7 +8,7 @@ use Rattle.bt_wire_events.specs.RunSteps.{SettlesSlots}
 use Rattle.bt_wire_events.specs.NoteRooms.{note_count, slot_room, run_room}
 use Rattle.bt_wire_events.specs.LearningSteps.{unknown_root, no_claim, refused, IsRoomFor, ChangesByHashes}
 use Rattle.bt_wire_events.proofs.KeptHints.{kept_if_added}
-use Rattle.bt_wire_events.proofs.Learnings.{fits_all, root_found, root_lacks, if_ok_by, if_err_by, root_at}
+use Rattle.bt_wire_events.proofs.Learnings.{fits_all, fits_below, root_found, root_lacks, if_ok_by, if_err_by, root_at}
 use Rattle.bt_wire_events.proofs.learning.learn_hashes.Goals as goal
 
 pub returns-in_default-clause-changes : goal.returns-in_default-clause-changes
@@ -109,7 +109,7 @@ settle_slots-requires-clause-lead g c =
 pub offset_bounds-trees-index : goal.offset_bounds-trees-index
 offset_bounds-trees-index g c =
     let has = root_found c.args.trees.now c.args.roots.now.trees c.requires.numbered c.args.key.now.root c.in-Some.index (sym c.in-Some.ensures) in
-    omega (arith, some_below c.args.trees.now c.in-Some.index has.1.here)
+    fits_below c.in-Some.index (length c.args.trees.now) _ (some_below c.args.trees.now c.in-Some.index has.1.here) (first_of (omega arith, search rules))
 
 pub returns-in-Err-accept-clause-few : goal.returns-in-Err-accept-clause-few
 returns-in-Err-accept-clause-few g c =

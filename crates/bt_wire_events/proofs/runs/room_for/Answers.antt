@@ -27,8 +27,8 @@ loop-file-preserved g c =
     let here = ap (λ slot. room slot) c.index-slots-file.is in
     record {
       stands = stands_there is;
-      summed = omega (arith, l.invariant.summed, c.slot_room.ensures.value, here, more, room_taken slots c.args.index c.args.count (l.file + 1) c.index-in-loop-file.result.now is.inside is.limit (none_passed is));
-      few = omega (arith, l.invariant.few, c.slot_room.ensures.few, is.inside);
+      summed = omega (arith, l.invariant.summed, c.slot_room-room.ensures.value, here, more, room_taken slots c.args.index c.args.count (l.file + 1) c.index-in-loop-file.result.now is.inside is.limit (none_passed is));
+      few = omega (arith, l.invariant.few, c.slot_room-room.ensures.few, is.inside);
     }
 
 pub loop-file-smaller : goal.loop-file-smaller
