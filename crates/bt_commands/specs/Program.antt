@@ -78,23 +78,25 @@ pub record IsJoinedResult (source : Source) (status : ℕ) (text : List ℕ) : T
   pub lines : text ≡ report_text found
   pub answer : status ≡ (if is_complete_report found then 0 else 1)
 
--- a torrent was read, and the text is what a part of a check tells of its files, a line for each run of blocks
-pub record IsPartResult (source : Source) (part : PartOf) (status : ℕ) (text : List ℕ) : Type 0 where
+-- a torrent was read, and the text is what a part of a check tells of its files in a folder, a line for each run
+-- of blocks
+pub record IsPartResult (source : Source) (dir : List ℕ) (part : PartOf) (status : ℕ) (text : List ℕ)
+    : Type 0 where
   pub torrent : Metainfo
   pub loaded : HasText source.is_info torrent
   pub runs : List Run
-  pub report : IsPartReport torrent part runs
+  pub report : IsPartReport dir torrent part runs
   pub lines : text ≡ runs_text runs
   pub answer : status ≡ 0
 
 -- all was checked, by one process or by several; or a part was
-abbrev pub IsWorkResult : Source → Work → ℕ → List ℕ → Type 0
-IsWorkResult source (Jobs n) status text =
+abbrev pub IsWorkResult : Source → List ℕ → Work → ℕ → List ℕ → Type 0
+IsWorkResult source dir (Jobs n) status text =
     (n ≡ 1 → IsWholeResult source status text) × (n ≢ 1 → IsJoinedResult source status text)
-IsWorkResult source (Part part) status text = IsPartResult source part status text
+IsWorkResult source dir (Part part) status text = IsPartResult source dir part status text
 
 abbrev pub IsCheckResult : CheckTask → ℕ → List ℕ → Type 0
-IsCheckResult task status text = IsWorkResult task.torrent task.work status text
+IsCheckResult task status text = IsWorkResult task.torrent task.dir.now task.work status text
 
 -- the torrent's files were served, as said, with the log that is asked for, or without one; or they are only
 -- to be read, and not complete

@@ -274,7 +274,8 @@ fn perform_part<R: Files + AllocGlobal + Clone + Drop, P: Watch, O: Write>(
     writer: &mut O,
 ) -> Result<u8, Fault>
     ensures done { IfOk result
-        (Writes (IsPartResult task.entry.torrent part) (O.contents writer.old) (O.contents writer.new)) }
+        (Writes (IsPartResult task.entry.torrent task.entry.dir.now part)
+        (O.contents writer.old) (O.contents writer.new)) }
     ensures ended { IfErr result
         (IsTaskEnd (Check task.entry) (O.contents writer.old) (O.contents writer.new)) }
 {
