@@ -1,6 +1,6 @@
 //! The parts of a check as processes: how they are started, passed the torrent, and waited for.
-ghost use Rattle.std.specs.Prelude.{◌≡◌, ◌⊎◌, ◌↔◌, ◌++◌, [], ◌∷◌, Some, pos, IfOk, IfErr, IsTrue, OnOk};
-ghost use Rattle.std.specs.List.{All};
+ghost use Rattle.std.specs.Prelude.{◌≡◌, ◌⊎◌, ◌↔◌, ◌++◌, [], ◌∷◌, Some, pos, map, IfOk, IfErr, IsTrue, OnOk};
+ghost use Rattle.std.specs.List.{All, range_with_len};
 ghost use Rattle.std.specs.Process.{command_args, command_program, exit_code};
 ghost use Rattle.bt_check.specs.Fault.{device, out_of_memory};
 ghost use Rattle.bt_jobs.specs.Children.{HasEndedWell, IsPartFault, info_words, part_words, program_text};
@@ -19,16 +19,13 @@ const STANDARD_INPUT: &str = "/dev/stdin";
 
 /// Starts a part, which tells by the pipe, and passes it the torrent.
 pub(crate) fn start_part<S: Processes>(
-    alloc: Global,
     system: &S,
-    job: Job<'_>,
-    index: u32,
+    command: &mut Command,
     text: &[u8],
     pipe: &PipeWriter,
 ) -> Result<Child<S::Started>, Fault>
     ensures fault { IfErr result (λ fault. (fault ≡ device) ⊎ (fault ≡ out_of_memory)) }
 {
-    let mut command = part_command(alloc, job, index)?;
     let output = pipe.try_clone().map_err(|_| Fault::Device)?;
     command.stdin(Stdio::piped());
     command.stdout(output);
@@ -41,6 +38,22 @@ pub(crate) fn start_part<S: Processes>(
             Err(fault)
         }
     }
+}
+
+/// The commands by which all parts are started, in their order.
+pub(crate) fn part_commands(alloc: Global, job: Job<'_>) -> Result<Vec<Command>, AllocError>
+    ensures programs { IfOk result
+        (λ commands. All (λ command. command_program command ≡ program_text) commands.items) }
+    ensures words { IfOk result (λ commands. map command_args commands.items
+        ≡ map (λ index. part_words job.entry.source.is_info job.entry.dir.now index job.entry.count)
+        (range_with_len 0 job.entry.count)) }
+{
+    let mut commands = Vec::with_capacity(alloc, job.count as usize)?;
+    for index in 0..job.count {
+        let command = part_command(alloc, job, index)?;
+        commands.push(command)?;
+    }
+    Ok(commands)
 }
 
 /// The program and the words by which a part is started.

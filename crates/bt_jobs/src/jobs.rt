@@ -12,7 +12,7 @@ ghost use Rattle.bt_jobs.specs.JobsSteps.{HearsAll, IsGiven, TakesIn};
 ghost use Rattle.bt_jobs.specs.Report.{IsReportByParts};
 ghost use Rattle.bt_jobs.specs.Told.{IsToldBy, TellsEach};
 
-use crate::children::{end_all, look_at_all, start_part, wait_for_all};
+use crate::children::{end_all, look_at_all, part_commands, start_part, wait_for_all};
 use crate::part::open_data_file;
 use crate::report::{heard_of, write_report};
 use crate::source::{Loaded, load_text};
@@ -27,7 +27,7 @@ use bt_progress::{FileCall, Watch};
 use bt_tree::BLOCK_LEN;
 use std::alloc::Global;
 use std::io::{self, ErrorKind, PipeWriter, Read, Write};
-use std::process::{Child, OpenProcess, Processes};
+use std::process::{Child, Command, OpenProcess, Processes};
 use std::rt::Files;
 
 /// What is told where a part can't be started.
@@ -163,7 +163,8 @@ fn hear_parts<R: Files + AllocGlobal, S: Processes, P: Watch>(
     ensures fault { IfErr result (λ fault. (fault ≡ device) ⊎ (fault ≡ out_of_memory)) }
 {
     let (mut output, input) = io::pipe(rt).map_err(|_| Fault::Device)?;
-    let started = start_all(rt.alloc(), system, job, &loaded.text, &input, children);
+    let commands = part_commands(rt.alloc(), job)?;
+    let started = start_all(system, commands, &loaded.text, &input, children);
     // Once the parts have ended, nobody is left who may write.
     drop(input);
     if is_device_fault(&started) {
@@ -177,21 +178,21 @@ fn hear_parts<R: Files + AllocGlobal, S: Processes, P: Watch>(
     )
 }
 
-/// Starts all parts, which tell by the pipe.
+/// Starts the parts of some commands, which tell by the pipe. The commands' own ends of it are closed then.
 fn start_all<S: Processes>(
-    alloc: Global,
     system: &S,
-    job: Job<'_>,
+    commands: Vec<Command>,
     text: &[u8],
     pipe: &PipeWriter,
     children: &mut Vec<Child<S::Started>>,
 ) -> Result<(), Fault>
     ensures all { OnOk result
-        (length children.new.items ≡ length children.old.items + job.entry.count) }
+        (length children.new.items ≡ length children.old.items + length commands.items) }
     ensures fault { IfErr result (λ fault. (fault ≡ device) ⊎ (fault ≡ out_of_memory)) }
 {
-    for index in 0..job.count {
-        let child = start_part(alloc, system, job, index, text, pipe)?;
+    let mut commands = commands;
+    for command in commands.iter_mut() {
+        let child = start_part(system, command, text, pipe)?;
         children.push(child)?;
     }
     Ok(())
