@@ -186,6 +186,24 @@ def is_left(pid):
         return False
 
 
+def mebibytes_read(pid):
+    """How much a process has read so far; none where it has ended."""
+    try:
+        return int((pathlib.Path(f"/proc/{pid}") / "io").read_text().split()[1]) >> 20
+    except (OSError, IndexError):
+        return None
+
+
+def read_until_gone(parts):
+    """How much each of some processes still reads until it has ended."""
+    first = [mebibytes_read(part) or 0 for part in parts]
+    last = list(first)
+    while any(map(is_left, parts)):
+        last = [mebibytes_read(part) or at for part, at in zip(parts, last)]
+        time.sleep(0.002)
+    return [end - begin for begin, end in zip(first, last)]
+
+
 def begun(program, folder, **others):
     """A check with four jobs of a file that takes some time, and its parts once all were started."""
     words = [program, "check", folder / "whole.torrent", folder / "files", "--jobs", "4"]
@@ -224,9 +242,9 @@ def faults(program):
             right &= told(f"part {number} is killed: {run.returncode} {out} {err}", is_right)
         run, parts = begun(program, folder)
         run.kill()
+        more = max(read_until_gone(parts))
         run.communicate()
-        time.sleep(0.3)
-        right &= told("the program is killed, and no part is left", not any(map(is_left, parts)))
+        right &= told(f"the program is killed, and no part reads much more: {more} MiB", more <= 64)
         run, parts = begun(program, folder, start_new_session=True)
         os.killpg(run.pid, signal.SIGINT)
         run.communicate()
