@@ -1,5 +1,5 @@
 -- What the parts tell, read by several reads.
-use Rattle.std.proofs.Common.{◌≡◌, ℕ, List, [], ◌++◌, Option, None, Some, Result, Ok, IfOk, sym, ap, ◌∙◌, subst, take, append-nil, append_assoc}
+use Rattle.std.proofs.Common.{◌≡◌, ℕ, List, [], ◌++◌, Option, None, Some, Result, Ok, Err, IfOk, OnOk, sym, ap, ◌∙◌, subst, take, append-nil, append_assoc}
 use Rattle.std.specs.Io.KnownBytes.{Consumes, IsAtEnd, Keeps}
 use Rattle.std.proofs.KnownBytes.{Consumes-nil, Consumes-trans}
 use Rattle.bt_jobs.specs.JobsSteps.{HearsAll, IsGiven, TakesIn}
@@ -48,6 +48,11 @@ module _ (a b c : Option (List ℕ)) (before mid : Told) (count : ℕ) (buffer :
         ended = given.ended none;
         told = h.told;
       }
+
+-- what holds whatever the result is
+pub on_ok_any : {T E : Type 0} (r : Result T E) (P : Type 0) → P → OnOk r P
+on_ok_any (Ok x) P holds = holds
+on_ok_any (Err e) P holds = tt
 
 -- a result that is known to be Ok
 pub ok_is : {T E : Type 0} (r : Result T E) (x : T) (P : T → Type 0) → r ≡ Ok x → IfOk r P → P x

@@ -161,12 +161,12 @@ knows_own layer layer_at file (c ∷ before) by_root own = elim (cases_bool (is_
 
 -- a share of a file whose length is told by its tree
 pub share_at : {D : Type 0} {history : D → History} {honest : D → Type 0} {faults : D → ℕ} {n : ℕ} {known : KnownLayer} {leaves : ℕ → Option (List ℕ)}
-    {tree grown : Facts} {file : ℕ} {share : Share} {disk after : D} {old new : Option (List ℕ)}
+    {tree grown : Facts} {file : ℕ} (share : Share) {disk after : D} (old new : Option (List ℕ))
     → ChecksShare history honest faults tree file share disk after grown old new → HoldsLeaves n known leaves tree → IsPieceEdge known n share.from
     → (reads : List BlockRead) × (runs : List Run) × IsShareCheck n known leaves file share.from share.to reads runs
     × HasCalls history honest faults disk (map (call_of n) reads) after
     × HoldsLeaves n known (leaves_after leaves (share_reads (block_count n) share.from share.to reads) n known) grown × Appends old new (runs_text runs)
-share_at {D} {history} {honest} {faults} {n} {known} {leaves} {tree} {grown} {file} {share} {disk} {after} {old} {new} checks holds edge =
+share_at {D} {history} {honest} {faults} {n} {known} {leaves} {tree} {grown} {file} share {disk} {after} old new checks holds edge =
     subst (λ m. HoldsLeaves m known leaves tree → IsPieceEdge known m share.from
     → (reads : List BlockRead) × (runs : List Run) × IsShareCheck m known leaves file share.from share.to reads runs
     × HasCalls history honest faults disk (map (call_of m) reads) after
@@ -371,11 +371,11 @@ pub unmeasured : (n : ℕ) → IsMeasured n None Unmeasured
 unmeasured n = record { longer = (λ t. absurd (true≢false (sym t)), λ none. absurd none); faulty = (λ _. refl, λ _. refl) }
 
 pub too_long : (n len : ℕ) → n < len → IsMeasured n (Some len) Longer
-too_long n len more = record { longer = (λ _. more, λ _. refl); faulty = (λ t. absurd (true≢false (sym t)), λ none. absurd (none_some len (sym none))) }
+too_long n len beyond = record { longer = (λ _. beyond, λ _. refl); faulty = (λ t. absurd (true≢false (sym t)), λ none. absurd (none_some len (sym none))) }
 
 pub not_long : (n len : ℕ) → len ≤ n → IsMeasured n (Some len) Nothing
 not_long n len few = record {
-  longer = (λ t. absurd (true≢false (sym t)), λ more. absurd (omega (arith, more, few)));
+  longer = (λ t. absurd (true≢false (sym t)), λ beyond. absurd (omega (arith, beyond, few)));
   faulty = (λ t. absurd (true≢false (sym t)), λ none. absurd (none_some len (sym none)));
 }
 

@@ -2,7 +2,7 @@
 use Rattle.std.proofs.Common.{◌≡◌, ℕ, zero, suc, ◌+◌, ◌-◌, ◌*◌, ◌/◌, ◌^◌, ◌<◌, ◌≤◌, ◌⊎◌, ◌&&◌, ◌||◌, ◌==◌, Bool, true, false, true≢false, cond, List, [], ◌∷◌, ◌++◌, length, map, take, take_all, get_or, max, inl, inr, Option, None, Some, refl, sym, ap, ◌∙◌, subst, arith, if◌then◌else◌, append-nil, append_assoc}
 use Rattle.std.specs.Prelude.{nat_eq}
 use Rattle.std.specs.Cmp.Lexicographic.{pointwise}
-use Rattle.std.specs.List.{AllZip}
+use Rattle.std.specs.List.{All, AllZip}
 use Rattle.std.specs.BTreeMap.{get, is_at}
 use Rattle.std.specs.Map.{lookup}
 use Rattle.std.specs.Int.{div_ceil}
@@ -14,9 +14,11 @@ use Rattle.std.proofs.lemmas.List.Folds.{list_any-append}
 use Rattle.std.proofs.lemmas.Nat.{pow_pos, pow-add}
 use Rattle.bt_tree.specs.Blocks.{block_count}
 use Rattle.bt_tree.specs.Limits.{full_block_length, max_file_length}
-use Rattle.bt_meta.specs.Files.{File}
+use Rattle.bt_meta.specs.Files.{File, file_of}
+use Rattle.bt_meta.specs.declared.torrent.FileEntry.{FileEntry}
 use Rattle.bt_sparse.proofs.Values.{none_some}
 use Rattle.bt_check.specs.Check.{are_twins}
+use Rattle.bt_check.specs.EntryCheck.{IsCheckable}
 use Rattle.bt_check.specs.Finding.{KnownLayer, digests_in, known_layer}
 use Rattle.bt_check.specs.TreeSteps.{Key, key_cmp, tree_key}
 use Rattle.bt_check.proofs.RightBlocks.{cases_bool}
@@ -297,6 +299,14 @@ placing_begun layer files places cuts empty none begun = record {
   are = places_begun places empty none;
   few = omega (arith, none);
 }
+
+-- a file that can be checked is no longer than a file may be
+pub one_short : (layer : ℕ) (files : List FileEntry) (i : ℕ) (file : FileEntry) → All (IsCheckable layer) (map file_of files) → i < length files
+    → file ≡ get_or files i file → (file_of file).length ≤ max_file_length
+one_short layer files i file all lt is =
+    let short = (all i (file_of file) (omega (arith, lt, length-map files file_of))).short in
+    let same : get_or (map file_of files) i (file_of file) ≡ file_of file = get_or-map file_of files i file (file_of file) lt ∙ ap file_of (sym is) in
+    omega (arith, short, ap (λ (f : File). f.length) same)
 
 -- what was taken of a list that is mapped
 pub taken_more : {X Y : Type 0} (f : X → Y) (xs : List X) (i : ℕ) (x : X) → i < length xs → x ≡ get_or xs i x

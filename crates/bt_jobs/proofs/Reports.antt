@@ -68,6 +68,12 @@ joined_end all number runs rest heard past joins empty =
     joins_all number all runs rest (map finding_of heard)
     (subst (λ fs. JoinsRest number all fs runs rest (map finding_of heard)) (drop_all number all past) joins) (none_is rest empty)
 
+-- there is a finding for each file
+pub joined_each : (number : ℕ) (files : List File) (runs : List Run) (findings : List Finding) → AreJoined number files runs findings
+    → length findings ≡ length files
+joined_each _ _ _ _ (none number) = refl
+joined_each _ _ _ _ (more number file files own rest finding findings elsewhere is are) = omega (arith, joined_each (suc number) files rest findings are)
+
 -- ---- reporting
 
 -- The first findings are reported.

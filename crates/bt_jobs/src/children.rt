@@ -1,6 +1,7 @@
 //! The parts of a check as processes: how they are started, passed the torrent, and waited for.
-ghost use Rattle.std.specs.Prelude.{◌≡◌, ◌⊎◌, ◌↔◌, ◌++◌, [], ◌∷◌, Some, pos, map, IfOk, IfErr, IsTrue, OnOk};
+ghost use Rattle.std.specs.Prelude.{◌≡◌, ◌⊎◌, ◌↔◌, ◌++◌, [], ◌∷◌, Some, pos, map, codes, string_bytes, IfOk, IfErr, IsTrue, OnOk};
 ghost use Rattle.std.specs.List.{All, range_with_len};
+ghost use Rattle.std.specs.Fmt.{decimal};
 ghost use Rattle.std.specs.Process.{command_args, command_program, exit_code};
 ghost use Rattle.bt_check.specs.Fault.{device, out_of_memory};
 ghost use Rattle.bt_jobs.specs.Children.{HasEndedWell, IsPartFault, info_words, part_words, program_text};
@@ -62,8 +63,7 @@ fn part_command(alloc: Global, job: Job<'_>, index: u32) -> Result<Command, Allo
     ensures words { IfOk result (λ command. command_args command
         ≡ part_words job.entry.source.is_info job.entry.dir.now index job.entry.count) }
 {
-    let count = job.count;
-    let part = format!(in alloc; "{index}/{count}")?;
+    let part = part_word(alloc, index, job.count)?;
     let mut command = Command::new(alloc, PROGRAM)?;
     push_word(&mut command, "check")?;
     push_word(&mut command, "--part")?;
@@ -73,6 +73,13 @@ fn part_command(alloc: Global, job: Job<'_>, index: u32) -> Result<Command, Allo
     push_word(&mut command, STANDARD_INPUT)?;
     push_word(&mut command, job.dir)?;
     Ok(command)
+}
+
+/// The word that names a part.
+fn part_word(alloc: Global, index: u32, count: u32) -> Result<String, AllocError>
+    ensures { IfOk result (λ word. string_bytes word ≡ decimal index ++ codes "/" ++ decimal count) }
+{
+    format!(in alloc; "{index}/{count}")
 }
 
 /// Adds a word to those of a command.

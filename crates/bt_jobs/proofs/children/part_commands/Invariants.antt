@@ -9,4 +9,4 @@ abbrev pub invariant-loop-index : goal.invariant-loop-index
 invariant-loop-index l =
     All (λ command. command_program command ≡ program_text) l.commands.items
     × (map command_args l.commands.items
-    ≡ map (λ index. part_words l.job.source.is_info l.job.dir.now index l.job.count) (range_with_len 0 l.index))
+    ≡ map (λ index. part_words l.fn.job.source.is_info l.fn.job.dir.now index l.fn.job.count) (range_with_len 0 l.index))

@@ -1,4 +1,4 @@
-use Rattle.std.proofs.Common.{◌≡◌, map, rules, sym, subst, ◌∙◌, ap, length, arith}
+use Rattle.std.proofs.Common.{◌≡◌, [], map, rules, sym, subst, ◌∙◌, ap, length, arith}
 use Rattle.std.specs.List.{All, range_with_len}
 use Rattle.std.proofs.lemmas.List.{length-map}
 use Rattle.std.proofs.lemmas.Result.{on_ok_weaker}
@@ -7,6 +7,7 @@ use Rattle.bt_check.specs.EntryCheck.{IsCheckable}
 use Rattle.bt_check.proofs.CheckFault.{all_checkable}
 use Rattle.bt_jobs.specs.Plan.{AreShares}
 use Rattle.bt_jobs.specs.Trees.{GoByRoots, file_in_part, part_at}
+use Rattle.bt_jobs.specs.TreesSteps.{KeepsParts}
 use Rattle.bt_jobs.proofs.Openings.{parts_ready, shares_each}
 use Rattle.bt_jobs.proofs.PartReports.{part_report}
 use Rattle.bt_jobs.proofs.Roots.{text_by_root}
@@ -29,8 +30,10 @@ check_each-requires-clause-ready g c =
     let size = c.in-Some.size in
     let entries = c.files-entries.result.now in
     let opened = c.in_ok-files.files.items in
+    let bytes : size.bytes ≡ c.args.torrent.now.piece_length = search rules in
     parts_ready size.layer c.args.part (map file_of entries) c.in_ok-shares.shares.items (map part_at opened) c.in_ok-shares.ensures c.in_ok-files.ensures.files
-    (c.in_ok-files.ensures.shares ∙ c.deref.ensures.value) (shares_of-requires-clause-checkable g c)
+    (c.in_ok-files.ensures.shares ∙ c.deref.ensures.value)
+    (all_checkable size.bytes size.layer (map file_of entries) size.of_layer (rw bytes c.files-entries.ensures.lawful) c.layers_are_of_trees.ensures)
 
 pub check_each-requires-clause-trees : goal.check_each-requires-clause-trees
 check_each-requires-clause-trees g c =
@@ -39,7 +42,8 @@ check_each-requires-clause-trees g c =
     let roots = text_by_root c.requires.0 c.args.torrent.now c.requires.1 in (
       roots.0,
       subst (GoByRoots roots.0) (sym (c.in_ok-files.ensures.files ∙ c.files-entries.ensures.said)) roots.1,
-      c.in_ok-trees.ensures size.layer roots.0,
+      subst (λ files. KeepsParts size.layer roots.0 [] (map file_in_part (map part_at files)) c.in_ok-trees.trees) c.deref-2.ensures.value
+          (c.in_ok-trees.ensures size.layer roots.0),
     )
 
 pub returns-clause-report : goal.returns-clause-report

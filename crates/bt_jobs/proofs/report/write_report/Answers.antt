@@ -9,7 +9,8 @@ loop-number-init g c = telling_begun _ _ refl refl
 
 pub loop-number-preserved : goal.loop-number-preserved
 loop-number-preserved g c =
-    told_next c.args.files.now c.args.heard.now c.loop-number.number c.index-files-number.result _ _ c.loop-number.summary _ _ _ _ c.loop-number-test.true
+    told_next c.args.files.now c.args.heard.now c.loop-number.number c.index-files-number.result _
+    (record { file = record { ref_ptr = (0, 0); now = c.index-files-number.result }; finding = _ }) c.loop-number.summary _ _ _ _ c.loop-number-test.true
     (omega (arith, c.loop-number-test.true, c.requires)) c.index-files-number.is c.loop-number.invariant refl refl c.with-summary.ensures.complete
     c.with-summary.ensures.faulty c.in_ok-write_line.ensures.text
 

@@ -1,4 +1,4 @@
-use Rattle.std.proofs.Common.{arith, sym, ◌∙◌, ap}
+use Rattle.std.proofs.Common.{◌≡◌, arith, sym, ◌∙◌, ap}
 use Rattle.bt_parts.specs.declared.run.Run.{Run}
 use Rattle.bt_tree.specs.Blocks.{block_count}
 use Rattle.bt_jobs.proofs.Sharing.{ends_empty, share_checked, sharing_begun, sharing_more, sharing_told, sum_is_few, told_to}
@@ -28,7 +28,12 @@ pub with_groups-requires : goal.with_groups-requires
 with_groups-requires g c =
     let is = c.loop-run.invariant.0 c.requires.ready.0 c.requires.ready.1 c.requires.ready.2 c.requires.ready.3 in
     let few = sum_is_few _ _ _ _ _ _ _ _ _ _ _ _ _ _ is _ _ _ _ c.in_ok-adopted.ensures.ok.1 in
-    omega (arith, few, c.geometry.ensures.limit)
+    omega (arith, few, c.geometry.ensures.sound.lawful.limit)
+
+pub told_if_long-requires : goal.told_if_long-requires
+told_if_long-requires g c =
+    let is = c.loop-run.invariant.0 c.requires.ready.0 c.requires.ready.1 c.requires.ready.2 c.requires.ready.3 in
+    omega (arith, is.forward, c.with_groups.ensures.from, c.with_groups.ensures.to, c.in_ok-adopted.ensures.onward)
 
 pub loop-run-smaller : goal.loop-run-smaller
 loop-run-smaller g c =
@@ -53,6 +58,6 @@ loop-run-preserved g c = (
 
 pub returns-clause-checked : goal.returns-clause-checked
 returns-clause-checked g c = λ known leaves holds edge.
-    let end = omega (arith, c.loop-run-test.false, c.if-run-share.false) in
+    let end : c.loop-run.run.to ≡ c.args.share.to = omega (arith, c.loop-run-test.false, c.if-run-share.false) in
     let empty = c.loop-run.invariant.1 (omega (arith, c.loop-run-test.false)) in
     share_checked _ _ _ _ known leaves _ _ _ _ _ _ _ _ (c.loop-run.invariant.0 known leaves holds edge) c.args.share.to _ end empty.0 empty.1 c.into_disk.ensures

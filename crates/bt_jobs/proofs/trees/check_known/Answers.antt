@@ -1,4 +1,4 @@
-use Rattle.std.proofs.Common.{false, sym, ◌∙◌, subst, inr}
+use Rattle.std.proofs.Common.{◌<◌, false, sym, ◌∙◌, subst, inr, arith}
 use Rattle.bt_check.proofs.SharedTrees.{others_kept, put_at, tree_kept}
 use Rattle.bt_jobs.specs.Share.{IsPieceEdge}
 use Rattle.bt_jobs.specs.Trees.{answers_of, file_in_part}
@@ -9,7 +9,8 @@ pub check_share-requires-clause-ready : goal.check_share-requires-clause-ready
 check_share-requires-clause-ready g c =
     let part = c.args.part in
     let file = file_in_part part in
-    ready_at (c.in_ok-tree.ensures.tree c.requires.tree.0 c.requires.tree.1 c.requires.lawful.some)
+    let some : 0 < part.file.now.length = omega (arith, c.requires.lawful.some, c.requires.length) in
+    ready_at (c.in_ok-tree.ensures.tree c.requires.tree.0 c.requires.tree.1 some)
     (subst (λ known. IsPieceEdge known file.length part.share.from) (sym c.requires.tree.2) c.requires.ready.edge)
 
 pub returns-then-part-clause-told : goal.returns-then-part-clause-told
@@ -23,7 +24,8 @@ returns-clause-told g c = λ before has own.
     let file = file_in_part part in
     let layer = c.args.size.layer in
     let edge = subst (λ known. IsPieceEdge known file.length part.share.from) (sym own) c.requires.ready.edge in
-    let done = share_at c.in_ok-check_share.ensures.checked (c.in_ok-tree.ensures.tree before has c.requires.lawful.some) edge in (
+    let some : 0 < part.file.now.length = omega (arith, c.requires.lawful.some, c.requires.length) in
+    let done = share_at part.share _ _ c.in_ok-check_share.ensures.checked (c.in_ok-tree.ensures.tree before has some) edge in (
       done.0,
       done.1,
       c.in_ok-check_share.field-0,

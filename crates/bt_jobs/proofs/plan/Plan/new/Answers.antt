@@ -1,7 +1,6 @@
-use Rattle.std.proofs.Common.{map, sym, subst, refl, arith}
-use Rattle.std.proofs.lemmas.List.{length-map}
+use Rattle.std.proofs.Common.{◌+◌, map, sym, subst, refl, arith}
 use Rattle.bt_meta.specs.Files.{file_of}
-use Rattle.bt_jobs.proofs.Plans.{IsPlacing, all_placed, placing_begun, placing_more, taken_all, taken_more}
+use Rattle.bt_jobs.proofs.Plans.{IsPlacing, all_placed, one_short, placing_begun, placing_more, taken_all, taken_more}
 use Rattle.bt_jobs.proofs.plan.Plan.new.Goals as goal
 
 pub loop-file-init : goal.loop-file-init
@@ -9,9 +8,16 @@ loop-file-init c = placing_begun c.args.size.layer (map file_of c.args.files.now
 
 pub place_of-requires : goal.place_of-requires
 place_of-requires c =
-    let files = c.args.files.now in
-    let short = (c.requires.checkable c.loop-file.file-index (file_of c.file-item.result) (omega (arith, c.loop-file-test.true, length-map files file_of))).short in
+    let short = one_short c.args.size.layer c.args.files.now c.loop-file.file-index c.file-item.result c.requires.checkable c.loop-file-test.true c.file-item.is in
     omega (arith, short, c.loop-file.invariant.few, c.requires.few, c.loop-file-test.true)
+
+pub blocks_of-requires : goal.blocks_of-requires
+blocks_of-requires c =
+    one_short c.args.size.layer c.args.files.now c.loop-file.file-index c.file-item.result c.requires.checkable c.loop-file-test.true c.file-item.is
+
+pub unit_of-requires : goal.unit_of-requires
+unit_of-requires c =
+    one_short c.args.size.layer c.args.files.now c.loop-file.file-index c.file-item.result c.requires.checkable c.loop-file-test.true c.file-item.is
 
 pub loop-file-preserved : goal.loop-file-preserved
 loop-file-preserved c =
@@ -21,7 +27,7 @@ loop-file-preserved c =
     subst (λ cuts. IsPlacing c.args.size.layer (i + 1) (map file_of files) c.place_of.new.self cuts) (sym c.in_ok-push.ensures.items)
     (placing_more c.args.size.layer i (map file_of files) c.loop-file.places c.place_of.new.self c.loop-file.cuts.items (file_of file) _
     c.loop-file.invariant (taken_more file_of files i file c.loop-file-test.true c.file-item.is)
-    (c.requires.checkable i (file_of file) (omega (arith, c.loop-file-test.true, length-map files file_of))).short
+    (one_short c.args.size.layer files i file c.requires.checkable c.loop-file-test.true c.file-item.is)
     c.in_ok-place.ensures.known c.in_ok-place.ensures.placed c.blocks_of.ensures c.unit_of.ensures)
 
 pub returns : goal.returns
