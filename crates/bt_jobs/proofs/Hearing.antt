@@ -1,6 +1,6 @@
 -- What the parts tell, read by several reads.
 use Rattle.std.proofs.Common.{◌≡◌, ℕ, List, [], ◌++◌, Option, None, Some, Result, Ok, Err, IfOk, OnOk, sym, ap, ◌∙◌, subst, take, append-nil, append_assoc}
-use Rattle.std.specs.Io.KnownBytes.{Consumes, IsAtEnd, Keeps}
+use Rattle.std.specs.Io.KnownBytes.{Consumes, Keeps}
 use Rattle.std.proofs.KnownBytes.{Consumes-nil, Consumes-trans}
 use Rattle.bt_jobs.specs.JobsSteps.{HearsAll, IsGiven, TakesIn}
 use Rattle.bt_jobs.specs.Told.{IsToldBy}

@@ -1,10 +1,9 @@
 -- Trees that are kept for later files of the same root and length in a part, and what is told of a file.
-use Rattle.std.proofs.Common.{◌≡◌, ◌≢◌, ℕ, zero, suc, ◌+◌, ◌-◌, ◌<◌, ◌≤◌, ◌↔◌, ◌⊎◌, ◌&&◌, ◌||◌, ◌==◌, Bool, true, false, true≢false, cond, List, [], ◌∷◌, ◌++◌, length, map, get_or, inl, inr, Option, None, Some, refl, sym, ap, ◌∙◌, subst, arith, IsTrue, IsSomeAnd, append-nil, if◌then◌else◌}
+use Rattle.std.proofs.Common.{◌≡◌, ℕ, zero, suc, ◌-◌, ◌<◌, ◌≤◌, ◌↔◌, ◌⊎◌, ◌&&◌, ◌||◌, ◌==◌, Bool, true, false, true≢false, cond, List, [], ◌∷◌, ◌++◌, length, map, get_or, inl, inr, Option, None, Some, refl, sym, ap, ◌∙◌, subst, arith, IsTrue, append-nil, if◌then◌else◌}
 use Rattle.std.specs.Prelude.{nat_eq, slice_get}
 use Rattle.std.specs.Io.KnownBytes.{Appends, Keeps}
 use Rattle.std.specs.Cmp.Lexicographic.{pointwise}
-use Rattle.std.specs.List.{All, count_by, filter, flat_map, list_any, range_with_len}
-use Rattle.std.specs.Option.{option_or}
+use Rattle.std.specs.List.{All, count_by, filter, list_any, range_with_len}
 use Rattle.std.specs.BTreeMap.{get}
 use Rattle.std.proofs.KnownBytes.{Appends-kept, Appends-nil, Appends-trans}
 use Rattle.std.proofs.lemmas.Bool.{eqb-true}
@@ -20,7 +19,7 @@ use Rattle.bt_disk.proofs.CallLists.{has_none, has_then}
 use Rattle.bt_meta.specs.Files.{File}
 use Rattle.bt_sparse.specs.SparseTree.{Facts}
 use Rattle.bt_sparse.proofs.Values.{none_some}
-use Rattle.bt_store.specs.BlockReads.{BlockRead, block_of, call_of, fault_count}
+use Rattle.bt_store.specs.BlockReads.{BlockRead, call_of, fault_count}
 use Rattle.bt_check.specs.Check.{CheckedFile, are_twins, is_twin, twins_layer, twins_leaf, layer_before, leaves_before}
 use Rattle.bt_check.specs.CheckSteps.{HoldsLeaves, leaves_after}
 use Rattle.bt_check.specs.EntryCheck.{Answers, is_node_read, len_call_of}
@@ -31,7 +30,7 @@ use Rattle.bt_check.proofs.RightBlocks.{cases_bool}
 use Rattle.bt_check.proofs.AdoptedGroups.{both_true}
 use Rattle.bt_parts.specs.Join.{IsChain, none, more, IsCountOf}
 use Rattle.bt_parts.specs.Line.{run_line}
-use Rattle.bt_parts.specs.Run.{IsWithin, is_fault, is_longer}
+use Rattle.bt_parts.specs.Run.{is_fault, is_longer}
 use Rattle.bt_parts.specs.declared.cut.Share.{Share}
 use Rattle.bt_parts.specs.declared.run.Met.{Met}
 use Rattle.bt_parts.specs.declared.run.Met.TheVariants.{Nothing, Absent, Longer, Unmeasured}

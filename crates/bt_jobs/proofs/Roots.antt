@@ -1,12 +1,11 @@
 -- In a torrent that was read the layer of a file goes by its length and its root.
-use Rattle.std.proofs.Common.{◌≡◌, ℕ, ◌++◌, Bool, true, false, List, [], ◌∷◌, refl, sym, ap, subst}
-use Rattle.std.specs.List.{All}
+use Rattle.std.proofs.Common.{◌≡◌, ℕ, ◌++◌, Bool, true, false, List, [], ◌∷◌, refl, sym, subst}
 use Rattle.std.proofs.lemmas.List.Elements.{All-cons, All-nil}
 use Rattle.bt_bencode.specs.Value.{Data}
 use Rattle.bt_meta.specs.Faults.{info_of, layers_of, piece_length_of, tree_of}
 use Rattle.bt_meta.specs.Fields.{no_dictionary}
 use Rattle.bt_meta.specs.Files.{File, file_at, files_of, is_file, layer_for}
-use Rattle.bt_meta.specs.Torrent.{IsInfo, IsTorrent, Metainfo, metainfo_of}
+use Rattle.bt_meta.specs.Torrent.{Metainfo, metainfo_of}
 use Rattle.bt_meta.specs.TreeEntries.{TreeEntry, tree_entries_below, with_earlier}
 use Rattle.std.specs.Prelude.{filter}
 use Rattle.bt_check.specs.TorrentFile.{HasText}

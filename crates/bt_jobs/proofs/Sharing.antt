@@ -1,11 +1,9 @@
 -- A check of a share of a file's blocks, group by group and run by run.
-use Rattle.std.proofs.Common.{◌≡◌, ℕ, ◌+◌, ◌-◌, ◌*◌, ◌/◌, ◌^◌, ◌<◌, ◌≤◌, ◌↔◌, ◌⊎◌, ◌||◌, ◌&&◌, Bool, true, false, true≢false, Option, None, Some, IsTrue, List, [], ◌∷◌, ◌++◌, map, length, take, drop, min, zero, suc, inl, inr, arith, refl, sym, ap, ◌∙◌, subst, cond, append-nil, append_assoc, length-append}
-use Rattle.std.specs.Prelude.{nat_lt}
+use Rattle.std.proofs.Common.{◌≡◌, ℕ, ◌+◌, ◌-◌, ◌<◌, ◌≤◌, ◌↔◌, ◌⊎◌, ◌||◌, Bool, true, false, true≢false, Option, IsTrue, List, [], ◌∷◌, ◌++◌, map, length, inl, inr, arith, refl, sym, ap, ◌∙◌, subst, cond, append-nil, append_assoc, length-append}
 use Rattle.std.specs.Io.KnownBytes.{Appends}
-use Rattle.std.specs.List.{All, count_by, flat_map, list_all, list_any, range_with_len}
-use Rattle.std.specs.Option.{option_or}
+use Rattle.std.specs.List.{All, count_by, flat_map, list_any, range_with_len}
 use Rattle.std.proofs.KnownBytes.{Appends-kept, Appends-nil, Appends-trans}
-use Rattle.std.proofs.lemmas.Bool.{cases_lt, lt-ltb, le-ltb}
+use Rattle.std.proofs.lemmas.Bool.{cases_lt}
 use Rattle.std.proofs.lemmas.Grind.{flat_map-append}
 use Rattle.std.proofs.lemmas.List.{length-map, map-append}
 use Rattle.std.proofs.lemmas.List.Elements.{All-head, All-nil, All-push, All-tail, All-cons}
@@ -17,25 +15,22 @@ use Rattle.bt_tree.specs.Blocks.{block_count}
 use Rattle.bt_disk.specs.History.{History}
 use Rattle.bt_disk.specs.Calls.{HasCalls}
 use Rattle.bt_disk.proofs.CallLists.{has_none, has_then}
-use Rattle.bt_sparse.specs.SparseTree.{Facts, blocks_of}
+use Rattle.bt_sparse.specs.SparseTree.{Facts}
 use Rattle.bt_store.specs.FileStore.{StoreView}
-use Rattle.bt_store.specs.BlockReads.{BlockRead, failed, block_of, call_of, fault_count, is_fault as is_failed}
+use Rattle.bt_store.specs.BlockReads.{BlockRead, block_of, call_of, fault_count, is_fault as is_failed}
 use Rattle.bt_store.specs.SmallGroups.{AdoptsInTurn, none as no_group, more as more_groups, AreAdopted}
 use Rattle.bt_store.specs.declared.adoption.Adopted.{Adopted}
 use Rattle.bt_store.specs.declared.small_groups.AdoptedGroups.{AdoptedGroups}
 use Rattle.bt_store.specs.declared.block_states.BlockState.{BlockState}
 use Rattle.bt_check.specs.CheckSteps.{HoldsLeaves, leaves_after}
-use Rattle.bt_check.specs.EntryCheck.{is_node_read, leaf_read}
+use Rattle.bt_check.specs.EntryCheck.{is_node_read}
 use Rattle.bt_check.specs.Finding.{KnownLayer, is_right_block}
 use Rattle.bt_check.proofs.RightBlocks.{count_same, count_few, ranges_joined}
-use Rattle.bt_check.proofs.LeafKnowledge.{same_leaves}
-use Rattle.bt_check.proofs.AdoptedGroups.{IsLearned, IsGroupDone, group_done, right_kept, so_far_past, so_far_read, so_far_known, cases_option, leaves_so_far}
+use Rattle.bt_check.proofs.AdoptedGroups.{IsLearned, IsGroupDone, group_done, right_kept}
 use Rattle.bt_parts.specs.Join.{IsChain, none, more, IsCountOf}
 use Rattle.bt_parts.specs.Line.{run_line}
 use Rattle.bt_parts.specs.Run.{IsWithin, is_fault, is_longer}
-use Rattle.bt_parts.specs.declared.cut.Share.{Share}
-use Rattle.bt_parts.specs.declared.run.Met.{Met}
-use Rattle.bt_parts.specs.declared.run.Met.TheVariants.{Nothing, Absent, Longer, Unmeasured, Unread}
+use Rattle.bt_parts.specs.declared.run.Met.TheVariants.{Nothing, Unread}
 use Rattle.bt_parts.specs.declared.run.Run.{Run}
 use Rattle.bt_parts.proofs.Chains.{chain_more}
 use Rattle.bt_jobs.specs.Share.{IsPieceEdge, IsShareCheck, IsWithGroups, TellsOrKeeps, run_at, runs_text, share_reads}

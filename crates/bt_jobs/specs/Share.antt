@@ -15,7 +15,6 @@ use Rattle.bt_parts.specs.Join.{IsChain, IsCountOf}
 use Rattle.bt_parts.specs.Line.{run_line}
 use Rattle.bt_parts.specs.Run.{is_fault, is_longer}
 use Rattle.bt_parts.specs.declared.cut.Share.{Share}
-use Rattle.bt_parts.specs.declared.run.Met.{Met}
 use Rattle.bt_parts.specs.declared.run.Met.TheVariants.{Nothing, Unread}
 use Rattle.bt_parts.specs.declared.run.Run.{Run}
 

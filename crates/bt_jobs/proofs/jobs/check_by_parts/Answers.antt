@@ -1,4 +1,4 @@
-use Rattle.std.proofs.Common.{List, length, map, arith, inl, inr, sym, subst, ap, ◌∙◌}
+use Rattle.std.proofs.Common.{length, map, arith, inl, inr, sym, subst, ap, ◌∙◌}
 use Rattle.std.proofs.lemmas.List.{length-map}
 use Rattle.std.proofs.lemmas.Result.{IfOk-weaker}
 use Rattle.bt_meta.specs.Files.{file_of}

@@ -1,9 +1,8 @@
-use Rattle.std.proofs.Common.{◌≡◌, [], map, rules, sym, subst, ◌∙◌, ap, length, arith}
-use Rattle.std.specs.List.{All, range_with_len}
+use Rattle.std.proofs.Common.{◌≡◌, [], map, rules, sym, subst, ◌∙◌, ap, length}
+use Rattle.std.specs.List.{range_with_len}
 use Rattle.std.proofs.lemmas.List.{length-map}
 use Rattle.std.proofs.lemmas.Result.{on_ok_weaker}
 use Rattle.bt_meta.specs.Files.{file_of}
-use Rattle.bt_check.specs.EntryCheck.{IsCheckable}
 use Rattle.bt_check.proofs.CheckFault.{all_checkable}
 use Rattle.bt_jobs.specs.Plan.{AreShares}
 use Rattle.bt_jobs.specs.Trees.{GoByRoots, file_in_part, part_at}

@@ -1,4 +1,4 @@
-use Rattle.std.proofs.Common.{◌+◌, map, ap, sym, ◌∙◌, subst, refl, take_all, length, arith}
+use Rattle.std.proofs.Common.{◌+◌, map, ap, sym, ◌∙◌, subst, refl, take_all, arith}
 use Rattle.std.specs.List.{range_with_len}
 use Rattle.bt_meta.specs.Files.{file_of}
 use Rattle.bt_jobs.proofs.Openings.{AreOpened, opened_begun, opened_more}

@@ -1,4 +1,4 @@
-use Rattle.std.proofs.Common.{map, sym, subst, ap, ◌∙◌, refl, arith}
+use Rattle.std.proofs.Common.{map, sym, subst, ap, ◌∙◌, arith}
 use Rattle.std.proofs.lemmas.Bool.{eqb-true}
 use Rattle.std.proofs.lemmas.List.{get_or-map, length-map}
 use Rattle.bt_tree.specs.Blocks.{block_count}

@@ -1,4 +1,4 @@
-use Rattle.std.proofs.Common.{map, take, take_all, sym, subst, ap, ◌∙◌, refl, arith}
+use Rattle.std.proofs.Common.{map, take, take_all, subst, ap, refl, arith}
 use Rattle.bt_meta.specs.Files.{file_of}
 use Rattle.bt_jobs.specs.Report.{finding_of}
 use Rattle.bt_jobs.proofs.Reports.{IsTelling, all_told, telling_begun, told_next}

@@ -1,4 +1,4 @@
-use Rattle.std.proofs.Common.{None, Some, sym, subst}
+use Rattle.std.proofs.Common.{sym, subst}
 use Rattle.bt_jobs.specs.TreesSteps.{IsMeasured}
 use Rattle.bt_jobs.proofs.PartTrees.{unmeasured}
 use Rattle.bt_parts.specs.declared.run.Met.TheVariants.{Unmeasured}

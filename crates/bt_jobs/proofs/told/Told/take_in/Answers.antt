@@ -1,4 +1,4 @@
-use Rattle.std.proofs.Common.{◌∷◌, [], ◌++◌, take, append-nil, append_assoc, sym, subst, ap, ◌∙◌, arith, take_all}
+use Rattle.std.proofs.Common.{◌++◌, take, append-nil, append_assoc, sym, subst, ap, ◌∙◌, arith, take_all}
 use Rattle.std.proofs.lemmas.List.{take_more}
 use Rattle.bt_jobs.specs.Told.{IsToldBy}
 use Rattle.bt_jobs.proofs.told.Told.take_in.Goals as goal

@@ -1,9 +1,9 @@
-use Rattle.std.proofs.Common.{◌-◌, Some, [], cond, map, length, sym, ap, ◌∙◌, subst, arith}
+use Rattle.std.proofs.Common.{◌-◌, Some, cond, map, ap, ◌∙◌, subst, arith}
 use Rattle.std.specs.BTreeMap.{get}
 use Rattle.std.specs.Ordering.{is_eq}
 use Rattle.std.proofs.lemmas.List.{length-map}
 use Rattle.bt_check.specs.TreeSteps.{key_cmp}
-use Rattle.bt_check.proofs.SharedTrees.{TellsLast, last_more, trees_begun}
+use Rattle.bt_check.proofs.SharedTrees.{TellsLast, last_more}
 use Rattle.bt_jobs.specs.Trees.{file_in_part, part_at}
 use Rattle.bt_jobs.proofs.PartTrees.{parts_begun, read_twice}
 use Rattle.bt_jobs.proofs.trees.PartTrees.new.Goals as goal
