@@ -1,5 +1,5 @@
 -- Lemmas on what a run does.
-use Rattle.std.proofs.Common.{◌≡◌, ℕ, Bool, true, false, ap, List, Option, Result, Ok, Err, IfOk, IfErr, IsErrAnd, refl, sym, subst, ◌∙◌}
+use Rattle.std.proofs.Common.{◌≡◌, ℕ, Bool, true, false, ap, List, Option, Result, Ok, Err, IfOk, IfErr, IsErrAnd, refl, sym, subst, ◌∙◌, inl, inr}
 use Rattle.std.specs.Prelude.{◌⊎◌, if◌then◌else◌}
 use Rattle.std.specs.Io.KnownBytes.{Appends, Keeps}
 use Rattle.std.proofs.KnownBytes.{Keeps-refl}
@@ -8,11 +8,12 @@ use Rattle.bt_tree.specs.TreeShape.{IsPieceLength}
 use Rattle.bt_meta.specs.declared.writer.MakeError.TheVariants.{PieceLength}
 use Rattle.bt_words.specs.CommandLine.{IsTaskOf}
 use Rattle.bt_meta.specs.Torrent.{Metainfo}
-use Rattle.bt_check.specs.Report.{IsReportOn, check_outcome, report_text}
+use Rattle.bt_check.specs.Report.{IsReportOn, check_outcome, is_complete_report, is_faulty_report, report_text}
 use Rattle.bt_check.specs.TorrentFile.{HasText}
+use Rattle.bt_jobs.specs.Report.{IsReportByParts}
 use Rattle.bt_make.specs.AtomicFile.{infohash_line}
 use Rattle.bt_make.specs.Command.{IsMakeFault, IsMakeTorrent}
-use Rattle.bt_commands.specs.Program.{IsCheckResult, IsDone, IsMakeResult, IsTaskEnd, IsRun, IsStart, Writes, no_words, on_words, task_result, task_end}
+use Rattle.bt_commands.specs.Program.{IsDone, IsJoinedResult, IsMakeResult, IsWholeResult, IsTaskEnd, IsRun, IsStart, Writes, no_words, on_words, task_result, task_end}
 use Rattle.bt_commands.specs.ProgramSteps.{status_after}
 use Rattle.bt_check.specs.Fault.{device, make_fault, out_of_memory, status_of, words_fault}
 use Rattle.bt_make.specs.declared.command.NewTorrent.{NewTorrent}
@@ -34,11 +35,19 @@ not_made (Err found) request old fault cause why same = record {
   refused = λ _ _. Keeps-refl old;
 }
 
-pub checked : (source : Source) (torrent : Metainfo) (summary : Summary) (old new : Option (List ℕ)) (status : ℕ) → HasText source.is_info torrent
-    → (found : List FileFinding) × IsReportOn torrent found summary × Appends old new (report_text found) → summary.faulty ≡ false
-    → status ≡ (if summary.complete then 0 else 1) → Writes (IsCheckResult source) old new status
-checked source torrent summary old new status loaded r sound is =
-    record {
+-- a check that was done ends as its summary says: where a device failed with this fault, and else with this status
+outcome_written : (is_faulty is_complete : Bool) (P : ℕ → Type 0) → (is_faulty ≡ false → P (if is_complete then 0 else 1))
+    → IfOk (if is_faulty then Err device else Ok (if is_complete then 0 else 1)) P
+outcome_written true is_complete P h = tt
+outcome_written false is_complete P h = h refl
+
+pub check_done : (source : Source) (torrent : Metainfo) (summary : Summary) (old new : Option (List ℕ)) (outcome : Result ℕ Fault)
+    → outcome ≡ check_outcome summary → HasText source.is_info torrent
+    → (found : List FileFinding) × IsReportOn torrent found summary × Appends old new (report_text found)
+    → IfOk outcome (Writes (IsWholeResult source) old new)
+check_done source torrent summary old new outcome is loaded r =
+    subst (λ o. IfOk o (Writes (IsWholeResult source) old new)) (sym is)
+    (outcome_written summary.faulty summary.complete (Writes (IsWholeResult source) old new) (λ sound. record {
       text = report_text r.0;
       written = r.2;
       is = record {
@@ -49,23 +58,36 @@ checked source torrent summary old new status loaded r sound is =
         report = r.1;
         sound = sym r.1.report.faulty ∙ sound;
         lines = refl;
-        answer = is ∙ ap (λ b. if b then 0 else 1) r.1.report.complete;
+        answer = ap (λ b. if b then 0 else 1) r.1.report.complete;
       };
-    }
+    }))
 
-outcome_written : (source : Source) (torrent : Metainfo) (summary : Summary) (old new : Option (List ℕ)) (is_faulty : Bool) → HasText source.is_info torrent
-    → (found : List FileFinding) × IsReportOn torrent found summary × Appends old new (report_text found) → summary.faulty ≡ is_faulty
-    → IfOk (if is_faulty then Err device else Ok (if summary.complete then 0 else 1)) (Writes (IsCheckResult source) old new)
-outcome_written source torrent summary old new true loaded r sound = tt
-outcome_written source torrent summary old new false loaded r sound = checked source torrent summary old new _ loaded r sound refl
+-- the summary of a report by parts is that of its findings
+by_parts : (torrent : Metainfo) (found : List FileFinding) (summary : Summary) → IsReportByParts torrent found summary
+    → (summary.faulty ≡ is_faulty_report found) × (summary.complete ≡ is_complete_report found)
+by_parts torrent found summary (inl alone) = (alone.report.faulty, alone.report.complete)
+by_parts torrent found summary (inr joined) = (joined.faulty, joined.complete)
 
--- a check that was done ends as its summary says
-pub check_done : (source : Source) (torrent : Metainfo) (summary : Summary) (old new : Option (List ℕ)) (outcome : Result ℕ Fault)
-    → outcome ≡ check_outcome summary → HasText source.is_info torrent
-    → (found : List FileFinding) × IsReportOn torrent found summary × Appends old new (report_text found)
-    → IfOk outcome (Writes (IsCheckResult source) old new)
-check_done source torrent summary old new outcome is loaded r =
-    subst (λ o. IfOk o (Writes (IsCheckResult source) old new)) (sym is) (outcome_written source torrent summary old new summary.faulty loaded r refl)
+pub jobs_done : (source : Source) (summary : Summary) (old new : Option (List ℕ)) (outcome : Result ℕ Fault) → outcome ≡ check_outcome summary
+    → (torrent : Metainfo) × (found : List FileFinding) × HasText source.is_info torrent × IsReportByParts torrent found summary
+    × Appends old new (report_text found) → IfOk outcome (Writes (IsJoinedResult source) old new)
+jobs_done source summary old new outcome is r =
+    let sums = by_parts r.0 r.1 summary r.2.1 in
+    subst (λ o. IfOk o (Writes (IsJoinedResult source) old new)) (sym is)
+    (outcome_written summary.faulty summary.complete (Writes (IsJoinedResult source) old new) (λ sound. record {
+      text = report_text r.1;
+      written = r.2.2;
+      is = record {
+        torrent = r.0;
+        loaded = r.2.0;
+        found = r.1;
+        summary = summary;
+        report = r.2.1;
+        sound = sym sums.0 ∙ sound;
+        lines = refl;
+        answer = ap (λ b. if b then 0 else 1) sums.1;
+      };
+    }))
 
 pub performed : (words : List Text) (task : Task) (given left old new : Option (List ℕ)) (r : Result ℕ Fault) → IsTaskOf words task
     → IfOk r (IsDone task given left old new) → IfErr r (IsTaskEnd task old new) → IsRun words given left old new (status_after r)

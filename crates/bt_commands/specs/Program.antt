@@ -20,6 +20,14 @@ use Rattle.bt_make.specs.Command.{IsMakeFault, IsMakeTorrent}
 use Rattle.bt_check.specs.Report.{IsReportOn, is_complete_report, is_faulty_report, report_text}
 use Rattle.bt_check.specs.Show.{show_text}
 use Rattle.bt_check.specs.TorrentFile.{HasText, IsLoadFault}
+use Rattle.bt_parts.specs.declared.cut.Part.{Part as PartOf}
+use Rattle.bt_parts.specs.declared.run.Run.{Run}
+use Rattle.bt_jobs.specs.Part.{IsPartReport}
+use Rattle.bt_jobs.specs.Report.{IsReportByParts}
+use Rattle.bt_jobs.specs.Share.{runs_text}
+use Rattle.bt_words.specs.declared.command_line.CheckTask.{CheckTask}
+use Rattle.bt_words.specs.declared.command_line.Work.{Work}
+use Rattle.bt_words.specs.declared.command_line.Work.TheVariants.{Jobs, Part}
 use Rattle.bt_words.specs.declared.command_line.FetchTask.{FetchTask}
 use Rattle.bt_words.specs.declared.command_line.MakeTask.{MakeTask}
 use Rattle.bt_words.specs.declared.command_line.SeedTask.{SeedTask}
@@ -49,7 +57,7 @@ pub record IsShowResult (source : Source) (status : ℕ) (text : List ℕ) : Typ
 
 -- a torrent was read and its files were checked, no device of which failed; the text is the report's, and the
 -- status says whether all are complete
-pub record IsCheckResult (source : Source) (status : ℕ) (text : List ℕ) : Type 0 where
+pub record IsWholeResult (source : Source) (status : ℕ) (text : List ℕ) : Type 0 where
   pub torrent : Metainfo
   pub loaded : HasText source.is_info torrent
   pub found : List FileFinding
@@ -58,6 +66,37 @@ pub record IsCheckResult (source : Source) (status : ℕ) (text : List ℕ) : Ty
   pub sound : is_faulty_report found ≡ false
   pub lines : text ≡ report_text found
   pub answer : status ≡ (if is_complete_report found then 0 else 1)
+
+-- the same, where parts told what was found of the files: of all blocks of each, each once
+pub record IsJoinedResult (source : Source) (status : ℕ) (text : List ℕ) : Type 0 where
+  pub torrent : Metainfo
+  pub loaded : HasText source.is_info torrent
+  pub found : List FileFinding
+  pub summary : Summary
+  pub report : IsReportByParts torrent found summary
+  pub sound : is_faulty_report found ≡ false
+  pub lines : text ≡ report_text found
+  pub answer : status ≡ (if is_complete_report found then 0 else 1)
+
+-- a torrent was read, and the text is what a part of a check tells of its files in a folder, a line for each run
+-- of blocks
+pub record IsPartResult (source : Source) (dir : List ℕ) (part : PartOf) (status : ℕ) (text : List ℕ)
+    : Type 0 where
+  pub torrent : Metainfo
+  pub loaded : HasText source.is_info torrent
+  pub runs : List Run
+  pub report : IsPartReport dir torrent part runs
+  pub lines : text ≡ runs_text runs
+  pub answer : status ≡ 0
+
+-- all was checked, by one process or by several; or a part was
+abbrev pub IsWorkResult : Source → List ℕ → Work → ℕ → List ℕ → Type 0
+IsWorkResult source dir (Jobs n) status text =
+    (n ≡ 1 → IsWholeResult source status text) × (n ≢ 1 → IsJoinedResult source status text)
+IsWorkResult source dir (Part part) status text = IsPartResult source dir part status text
+
+abbrev pub IsCheckResult : CheckTask → ℕ → List ℕ → Type 0
+IsCheckResult task status text = IsWorkResult task.torrent task.dir.now task.work status text
 
 -- the torrent's files were served, as said, with the log that is asked for, or without one; or they are only
 -- to be read, and not complete
@@ -82,7 +121,7 @@ pub record Writes (wanted : ℕ → List ℕ → Type 0) (old new : Option (List
 abbrev pub IsDone : Task → (given left old new : Option (List ℕ)) → ℕ → Type 0
 IsDone (Make request) given left old new status = Writes (IsMakeResult request) old new status
 IsDone (Show torrent) given left old new status = Writes (IsShowResult torrent) old new status
-IsDone (Check torrent dir verbose) given left old new status = Writes (IsCheckResult torrent) old new status
+IsDone (Check task) given left old new status = Writes (IsCheckResult task) old new status
 IsDone (Seed task) given left old new status = IsSeedResult task old new status
 IsDone (Fetch task) given left old new status = IsFetchResult task old new status
 IsDone Replay given left old new status = IsReplay given left old new status
@@ -105,7 +144,7 @@ task_log task = None
 abbrev pub IsTaskFault : Task → Fault → Type 0
 IsTaskFault (Make request) fault = IsMakeEnd request fault
 IsTaskFault (Show torrent) fault = IsLoadFault torrent.is_info fault
-IsTaskFault (Check torrent dir verbose) fault = IsLoadFault torrent.is_info fault
+IsTaskFault (Check task) fault = IsLoadFault task.torrent.is_info fault
 IsTaskFault (Seed task) fault =
     IsStoreFault task.torrent.is_info (seed_use task.service.is_read_only) task.log fault
     ⊎ IsLogFull task.log fault

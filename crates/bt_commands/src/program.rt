@@ -5,23 +5,25 @@ ghost use Rattle.std.specs.Process.{exit_status};
 ghost use Rattle.clap.specs.Words.{kind_of};
 ghost use Rattle.bt_check.specs.Fault.{device, out_of_memory, status_of, words_fault};
 ghost use Rattle.bt_words.specs.CommandLine.{IsTaskOf};
-ghost use Rattle.bt_commands.specs.Program.{FillsLog, IsCheckResult, IsDone, IsExplanation, IsFetchResult, IsMakeResult, IsRun, IsSeedResult, IsShowResult, IsStart, IsTaskEnd, Writes};
+ghost use Rattle.bt_commands.specs.Program.{FillsLog, IsCheckResult, IsDone, IsExplanation, IsFetchResult, IsJoinedResult, IsMakeResult, IsPartResult, IsRun, IsSeedResult, IsShowResult, IsStart, IsTaskEnd, IsWholeResult, Writes};
 ghost use Rattle.bt_commands.specs.ProgramSteps.{status_after};
 ghost use Rattle.bt_words.specs.declared.command_line.Task.TheVariants.{Make, Show, Check, Seed, Fetch, Replay};
 
 use bt_check::{BUFFER_LEN, Fault, Source, check_torrent, load, load_watched, show_torrent};
+use bt_jobs::{Job, check_by_parts, check_part};
 use bt_make::{InfohashLine, make, of_device, publish};
+use bt_parts::Part;
 use bt_progress::{Watch, escaped_lines};
 use bt_replay::replay;
 use bt_transfer::{fetch, seed};
-use bt_words::{FetchTask, MakeTask, SeedTask, Task, parse};
+use bt_words::{CheckTask, FetchTask, MakeTask, SeedTask, Task, Work, parse};
 use clap::Error;
 use clap::error::ErrorKind;
 use std::alloc::Global;
 use std::env::{self, Env};
 use std::io::{self, Read, Write};
 use std::net::Net;
-use std::process::ExitCode;
+use std::process::{ExitCode, Processes};
 use std::rt::Files;
 use std::time::Clock;
 
@@ -29,7 +31,7 @@ use std::time::Clock;
 /// is, and which call failed, is told to `watch`, of which no clause speaks.
 pub fn start<
     R: Env + Files + AllocGlobal + Clone + Drop,
-    N: Net + Clock,
+    N: Net + Clock + Processes,
     P: Watch,
     I: Read,
     O: Write,
@@ -64,7 +66,7 @@ fn words(rt: &(impl Env + AllocGlobal)) -> Result<Vec<String>, Fault>
 /// A script comes from the reader. Results and help go to the writer, faults to `faults`.
 pub fn run<
     R: Files + AllocGlobal + Clone + Drop,
-    N: Net + Clock,
+    N: Net + Clock + Processes,
     P: Watch,
     I: Read,
     O: Write,
@@ -109,7 +111,7 @@ pub fn run<
 /// Reads the words, and does what they ask for.
 fn attempt<
     R: Files + AllocGlobal + Clone + Drop,
-    N: Net + Clock,
+    N: Net + Clock + Processes,
     P: Watch,
     I: Read,
     O: Write,
@@ -138,7 +140,7 @@ fn attempt<
 /// Does a task, and returns its status.
 fn perform<
     R: Files + AllocGlobal + Clone + Drop,
-    N: Net + Clock,
+    N: Net + Clock + Processes,
     P: Watch,
     I: Read,
     O: Write,
@@ -161,11 +163,7 @@ fn perform<
     match task {
         Task::Make(request) => perform_make(rt, watch, request, writer),
         Task::Show { torrent } => perform_show(rt, torrent, writer),
-        Task::Check {
-            torrent,
-            dir,
-            verbose,
-        } => perform_check(rt, watch, torrent, dir, verbose, writer),
+        Task::Check(task) => perform_check(rt, net, watch, task, writer),
         Task::Seed(task) => perform_seed(rt, net, watch, task, writer),
         Task::Fetch(task) => perform_fetch(rt, net, watch, task, writer),
         Task::Replay => Ok(replay(rt.alloc(), reader, writer, faults)),
@@ -206,24 +204,85 @@ fn perform_show<R: Files + AllocGlobal, O: Write>(
     Ok(0)
 }
 
-fn perform_check<R: Files + AllocGlobal + Clone + Drop, P: Watch, O: Write>(
+fn perform_check<R: Files + AllocGlobal + Clone + Drop, N: Processes, P: Watch, O: Write>(
     rt: &R,
+    system: &N,
     watch: &P,
-    source: Source<'_>,
-    dir: &str,
-    verbose: bool,
+    task: CheckTask<'_>,
     writer: &mut O,
 ) -> Result<u8, Fault>
     ensures done { IfOk result
-        (Writes (IsCheckResult source.entry) (O.contents writer.old) (O.contents writer.new)) }
+        (Writes (IsCheckResult task.entry) (O.contents writer.old) (O.contents writer.new)) }
     ensures ended { IfErr result
-        (IsTaskEnd (Check source.entry dir.entry verbose) (O.contents writer.old) (O.contents writer.new)) }
+        (IsTaskEnd (Check task.entry) (O.contents writer.old) (O.contents writer.new)) }
 {
-    watch.set_verbose(verbose);
+    watch.set_verbose(task.verbose);
+    match task.work {
+        Work::Jobs(1) => perform_whole(rt, watch, task, writer),
+        Work::Jobs(count) => perform_jobs(rt, system, watch, task, count, writer),
+        Work::Part(part) => perform_part(rt, watch, task, part, writer),
+    }
+}
+
+/// Checks all files by this process alone.
+fn perform_whole<R: Files + AllocGlobal + Clone + Drop, P: Watch, O: Write>(
+    rt: &R,
+    watch: &P,
+    task: CheckTask<'_>,
+    writer: &mut O,
+) -> Result<u8, Fault>
+    ensures done { IfOk result
+        (Writes (IsWholeResult task.entry.torrent) (O.contents writer.old) (O.contents writer.new)) }
+    ensures ended { IfErr result
+        (IsTaskEnd (Check task.entry) (O.contents writer.old) (O.contents writer.new)) }
+{
     let mut buffer = [0; BUFFER_LEN];
-    let torrent = load_watched(rt, watch, source, &mut buffer)?;
-    let summary = check_torrent(rt, watch, &torrent, dir, writer)?;
+    let torrent = load_watched(rt, watch, task.torrent, &mut buffer)?;
+    let summary = check_torrent(rt, watch, &torrent, task.dir, writer)?;
     summary.outcome()
+}
+
+/// Checks all files by several processes.
+fn perform_jobs<R: Files + AllocGlobal + Clone + Drop, N: Processes, P: Watch, O: Write>(
+    rt: &R,
+    system: &N,
+    watch: &P,
+    task: CheckTask<'_>,
+    count: u32,
+    writer: &mut O,
+) -> Result<u8, Fault>
+    ensures done { IfOk result
+        (Writes (IsJoinedResult task.entry.torrent) (O.contents writer.old) (O.contents writer.new)) }
+    ensures ended { IfErr result
+        (IsTaskEnd (Check task.entry) (O.contents writer.old) (O.contents writer.new)) }
+{
+    let job = Job {
+        source: task.torrent,
+        dir: task.dir,
+        count,
+    };
+    let summary = check_by_parts(rt, system, watch, job, writer)?;
+    summary.outcome()
+}
+
+/// Checks a part of the files, and tells of it.
+fn perform_part<R: Files + AllocGlobal + Clone + Drop, P: Watch, O: Write>(
+    rt: &R,
+    watch: &P,
+    task: CheckTask<'_>,
+    part: Part,
+    writer: &mut O,
+) -> Result<u8, Fault>
+    ensures done { IfOk result
+        (Writes (IsPartResult task.entry.torrent task.entry.dir.now part)
+        (O.contents writer.old) (O.contents writer.new)) }
+    ensures ended { IfErr result
+        (IsTaskEnd (Check task.entry) (O.contents writer.old) (O.contents writer.new)) }
+{
+    let mut buffer = [0; BUFFER_LEN];
+    let torrent = load_watched(rt, watch, task.torrent, &mut buffer)?;
+    check_part(rt, &torrent, task.dir, part, writer)?;
+    Ok(0)
 }
 
 fn perform_seed<R: Files + AllocGlobal + Clone + Drop, N: Net + Clock, P: Watch, O: Write>(

@@ -3,9 +3,11 @@
 
 use bt_commands::run;
 use bt_progress::Unwatched;
+use std::alloc::Allocator;
 use std::io::{self, Read, Write};
 use std::net::{Net, OpenListener, OpenStream, SocketAddr, TcpListener, TcpStream};
 use std::os::fd::{AsRawFd, RawFd};
+use std::process::{Child, Command, Processes, Stdio, SystemProcess};
 use std::time::{Clock, Duration};
 
 /// How many times as short the time is for which a connection waits.
@@ -66,6 +68,20 @@ impl Clock for Hasty<'_> {
 
     fn sleep(&self, time: Duration) {
         self.host.sleep(time / HASTE)
+    }
+}
+
+impl Processes for Hasty<'_> {
+    type Started = SystemProcess;
+
+    fn spawn<B: Allocator + Clone>(
+        &self,
+        command: &Command<B>,
+        stdin: &Stdio,
+        stdout: &Stdio,
+        stderr: &Stdio,
+    ) -> io::Result<Child<SystemProcess>> {
+        self.host.spawn(command, stdin, stdout, stderr)
     }
 }
 

@@ -6,6 +6,7 @@ use Rattle.std.specs.Borrow.{Bor}
 use Rattle.std.specs.Cmp.Lexicographic.{bytes_decides}
 use Rattle.std.specs.List.{AllZip}
 use Rattle.std.specs.Str.{bytes_eq}
+use Rattle.std.specs.Str.Parse.{digits_value}
 use Rattle.std.specs.Box.{box_value}
 use Rattle.clap.specs.Words.{App, FailsBy, HasKind, HasMatchesOf, IsAmong, Row, Text, all_of, fault_of, kind_of, first_of, first_value, found_of, is_simple, is_simple_and_free, matched_of, raw_values, rows_of, subcommand_name_of, subcommand_of, subcommand_rows, subcommand_rows_of}
 use Rattle.clap.specs.declared.parser.matches.ArgMatches.{ArgMatches}
@@ -16,16 +17,20 @@ use Rattle.clap.specs.declared.error.kind.ErrorKind.{ErrorKind}
 use Rattle.clap.proofs.OnLiterals.{clap_on_literals}
 use Rattle.clap.proofs.WalkLemmas.{first_value-rows, raw_values-rows}
 use Rattle.bt_check.specs.declared.torrent_file.Source.{Source}
+use Rattle.bt_parts.specs.declared.cut.Part.{Part as PartOf}
 use Rattle.bt_words.specs.declared.peer.Service.{Service}
 use Rattle.bt_words.specs.declared.peer.Serving.{Serving}
 use Rattle.bt_words.specs.declared.peer.Serving.TheVariants.{Count, Forever}
-use Rattle.bt_words.specs.CommandLine.{AsksFor, HasNumber, IsFetchTaskIn, IsGiven, IsLogBeside, IsMakeTaskIn, IsSeedTaskIn, IsServiceIn, IsServingIn, IsSourceIn, IsTaskIn, IsTaskOf, IsNoTaskOf}
+use Rattle.bt_words.specs.CommandLine.{AsksFor, HasJobs, HasNumber, IsCheckTaskIn, IsFetchTaskIn, IsGiven, IsLogBeside, IsMakeTaskIn, IsSeedTaskIn, IsServiceIn, IsServingIn, IsSourceIn, IsTaskIn, IsTaskOf, IsNoTaskOf, IsWorkIn}
 use Rattle.bt_words.specs.CommandLineSteps.{AreWordsOf, IsRefusalFor, TellsOf}
 use Rattle.bt_words.specs.Subcommands.{check_app, fetch_app, file_app, make_app, program_app, replay_app, seed_app, show_app, top_app, transfer_app}
-use Rattle.bt_words.specs.Values.{IsNumber, IsPeerWord}
+use Rattle.bt_words.specs.Values.{IsJobs, IsNumber, IsPartWord, IsPeerWord}
 use Rattle.bt_words.specs.declared.peer.Peer.{Peer}
 use Rattle.bt_words.specs.declared.command_line.Refusal.{Refusal}
 use Rattle.bt_words.specs.declared.command_line.Refusal.TheVariants as refusal
+use Rattle.bt_words.specs.declared.command_line.CheckTask.{CheckTask}
+use Rattle.bt_words.specs.declared.command_line.Work.{Work}
+use Rattle.bt_words.specs.declared.command_line.Work.TheVariants.{Jobs, Part}
 use Rattle.bt_words.specs.declared.command_line.FetchTask.{FetchTask}
 use Rattle.bt_words.specs.declared.command_line.MakeTask.{MakeTask}
 use Rattle.bt_words.specs.declared.command_line.SeedTask.{SeedTask}
@@ -99,6 +104,47 @@ pub no_serving_number : (rows : List Row) (text : List ℕ) → first_of (codes 
 no_serving_number rows text given none (Count n) is = number_none 32 rows (codes "serve") text given none n is.0
 no_serving_number rows text given none Forever is = let bad : None ≡ Some text = sym is.0 ∙ given in cc
 
+-- ---- how much of a check is done
+
+-- one text is one number
+one_count : (rows : List Row) (n m : ℕ) → HasJobs rows n → HasJobs rows m → n ≡ m
+one_count rows n m first second =
+    let both : Some first.text ≡ Some second.text = sym first.given ∙ second.given in
+    let same : first.text ≡ second.text = cc in
+    first.number.number.value ∙ ap (digits_value 10) same ∙ sym second.number.number.value
+
+no_jobs : (rows : List Row) (text : List ℕ) → first_of (codes "jobs") rows ≡ Some text → ((n : ℕ) → ¬ IsJobs text n) → (n : ℕ) → ¬ HasJobs rows n
+no_jobs rows text given none n has =
+    let both : Some has.text ≡ Some text = sym has.given ∙ given in
+    let same : has.text ≡ text = cc in
+    none n (subst (λ t. IsJobs t n) same has.number)
+
+-- no number of processes
+pub no_work_jobs : (rows : List Row) (text : List ℕ) → first_of (codes "jobs") rows ≡ Some text → ((n : ℕ) → ¬ IsJobs text n) → (work : Work)
+    → ¬ IsWorkIn rows work
+no_work_jobs rows text given none (Jobs n) is = no_jobs rows text given none n is.0
+no_work_jobs rows text given none (Part part) is = no_jobs rows text given none 1 is.0
+
+-- no word for it
+pub no_work_missing : (rows : List Row) → ((text : List ℕ) → ¬ (first_of (codes "jobs") rows ≡ Some text)) → (work : Work) → ¬ IsWorkIn rows work
+no_work_missing rows none (Jobs n) is = none is.0.text is.0.given
+no_work_missing rows none (Part part) is = none is.0.text is.0.given
+
+-- a word that names no part
+pub no_work_part : (rows : List Row) (text : List ℕ) → first_of (codes "part") rows ≡ Some text → ((part : PartOf) → ¬ IsPartWord text part) → (work : Work)
+    → ¬ IsWorkIn rows work
+no_work_part rows text given none (Jobs n) is = let bad : None ≡ Some text = sym is.1 ∙ given in cc
+no_work_part rows text given none (Part part) is =
+    let both : Some is.1.text ≡ Some text = sym is.1.given ∙ given in
+    let same : is.1.text ≡ text = cc in
+    none part (subst (λ t. IsPartWord t part) same is.1.named)
+
+-- a part, and several processes
+pub no_work_both : (rows : List Row) (text : List ℕ) (count : ℕ) → first_of (codes "part") rows ≡ Some text → HasJobs rows count → ¬ (count ≡ 1) → (work : Work)
+    → ¬ IsWorkIn rows work
+no_work_both rows text count given has other (Jobs n) is = let bad : None ≡ Some text = sym is.1 ∙ given in cc
+no_work_both rows text count given has other (Part part) is = other (one_count rows count 1 has is.0)
+
 -- what a test says is so is not where the test says no
 pub not_so : (b : Bool) (P : Type 0) → Decides b P → b ≡ false → ¬ P
 not_so b P decides says p = let bad : true ≡ false = sym (decides.1 p) ∙ says in cc
@@ -151,7 +197,7 @@ differ a b unequal same = let equal : bytes_eq a b ≡ true = (bytes_decides a b
 pub no_make : (rows : List Row) → ((request : MakeTask) → ¬ IsMakeTaskIn rows request) → (task : Task) → ¬ AsksFor (codes "make") rows task
 no_make rows none (Make request) a = none request a.1
 no_make rows none (Show torrent) a = differ (codes "make") (codes "show") refl a.0
-no_make rows none (Check torrent dir verbose) a = differ (codes "make") (codes "check") refl a.0
+no_make rows none (Check task) a = differ (codes "make") (codes "check") refl a.0
 no_make rows none (Seed task) a = differ (codes "make") (codes "seed") refl a.0
 no_make rows none (Fetch task) a = differ (codes "make") (codes "fetch") refl a.0
 no_make rows none Replay a = differ (codes "make") (codes "replay") refl a
@@ -159,15 +205,15 @@ no_make rows none Replay a = differ (codes "make") (codes "replay") refl a
 pub no_show : (rows : List Row) → ((source : Source) → ¬ IsSourceIn rows source) → (task : Task) → ¬ AsksFor (codes "show") rows task
 no_show rows none (Make request) a = differ (codes "show") (codes "make") refl a.0
 no_show rows none (Show torrent) a = none torrent a.1
-no_show rows none (Check torrent dir verbose) a = differ (codes "show") (codes "check") refl a.0
+no_show rows none (Check task) a = differ (codes "show") (codes "check") refl a.0
 no_show rows none (Seed task) a = differ (codes "show") (codes "seed") refl a.0
 no_show rows none (Fetch task) a = differ (codes "show") (codes "fetch") refl a.0
 no_show rows none Replay a = differ (codes "show") (codes "replay") refl a
 
-pub no_check : (rows : List Row) → ((source : Source) (dir : Bor (List ℕ)) → IsSourceIn rows source → ¬ (first_of (codes "DIR") rows ≡ Some dir.now)) → (task : Task) → ¬ AsksFor (codes "check") rows task
+pub no_check : (rows : List Row) → ((task : CheckTask) → ¬ IsCheckTaskIn rows task) → (task : Task) → ¬ AsksFor (codes "check") rows task
 no_check rows none (Make request) a = differ (codes "check") (codes "make") refl a.0
 no_check rows none (Show torrent) a = differ (codes "check") (codes "show") refl a.0
-no_check rows none (Check torrent dir verbose) a = none torrent dir a.1 a.2
+no_check rows none (Check task) a = none task a.1
 no_check rows none (Seed task) a = differ (codes "check") (codes "seed") refl a.0
 no_check rows none (Fetch task) a = differ (codes "check") (codes "fetch") refl a.0
 no_check rows none Replay a = differ (codes "check") (codes "replay") refl a
@@ -175,7 +221,7 @@ no_check rows none Replay a = differ (codes "check") (codes "replay") refl a
 pub no_seed : (rows : List Row) → ((task : SeedTask) → ¬ IsSeedTaskIn rows task) → (task : Task) → ¬ AsksFor (codes "seed") rows task
 no_seed rows none (Make request) a = differ (codes "seed") (codes "make") refl a.0
 no_seed rows none (Show torrent) a = differ (codes "seed") (codes "show") refl a.0
-no_seed rows none (Check torrent dir verbose) a = differ (codes "seed") (codes "check") refl a.0
+no_seed rows none (Check task) a = differ (codes "seed") (codes "check") refl a.0
 no_seed rows none (Seed task) a = none task a.1
 no_seed rows none (Fetch task) a = differ (codes "seed") (codes "fetch") refl a.0
 no_seed rows none Replay a = differ (codes "seed") (codes "replay") refl a
@@ -190,7 +236,7 @@ no_seed_log rows service is none = no_seed rows (λ task asked.
 pub no_fetch : (rows : List Row) → ((task : FetchTask) → ¬ IsFetchTaskIn rows task) → (task : Task) → ¬ AsksFor (codes "fetch") rows task
 no_fetch rows none (Make request) a = differ (codes "fetch") (codes "make") refl a.0
 no_fetch rows none (Show torrent) a = differ (codes "fetch") (codes "show") refl a.0
-no_fetch rows none (Check torrent dir verbose) a = differ (codes "fetch") (codes "check") refl a.0
+no_fetch rows none (Check task) a = differ (codes "fetch") (codes "check") refl a.0
 no_fetch rows none (Seed task) a = differ (codes "fetch") (codes "seed") refl a.0
 no_fetch rows none (Fetch task) a = none task a.1
 no_fetch rows none Replay a = differ (codes "fetch") (codes "replay") refl a
@@ -207,7 +253,7 @@ pub no_command : (name : Text) (rows : List Row) → ¬ (name ≡ codes "make") 
     → ¬ (name ≡ codes "fetch") → ¬ (name ≡ codes "replay") → (task : Task) → ¬ AsksFor name rows task
 no_command name rows make show check seed fetch replay (Make request) a = make a.0
 no_command name rows make show check seed fetch replay (Show torrent) a = show a.0
-no_command name rows make show check seed fetch replay (Check torrent dir verbose) a = check a.0
+no_command name rows make show check seed fetch replay (Check task) a = check a.0
 no_command name rows make show check seed fetch replay (Seed task) a = seed a.0
 no_command name rows make show check seed fetch replay (Fetch task) a = fetch a.0
 no_command name rows make show check seed fetch replay Replay a = replay a

@@ -1,3 +1,4 @@
 pub mod PeerWords
+pub mod PartWords
 pub mod CommandWords
 pub mod CommandLineTask

@@ -10,11 +10,15 @@ use Rattle.clap.specs.Words.{IsAmong, Row, Text, all_of, fault_of, first_of, one
 use Rattle.clap.specs.declared.error.kind.ErrorKind.{ErrorKind}
 use Rattle.clap.specs.declared.error.kind.ErrorKind.TheVariants.{OutOfMemory, ValueValidation}
 use Rattle.bt_check.specs.declared.torrent_file.Source.{Source}
+use Rattle.bt_parts.specs.declared.cut.Part.{Part as PartOf}
 use Rattle.bt_words.specs.declared.peer.Service.{Service}
 use Rattle.bt_words.specs.declared.peer.Serving.{Serving}
 use Rattle.bt_words.specs.declared.peer.Serving.TheVariants.{Count, Forever}
 use Rattle.bt_words.specs.Subcommands.{program_app}
-use Rattle.bt_words.specs.Values.{IsAddress, IsNumber, IsPeerWord}
+use Rattle.bt_words.specs.Values.{IsAddress, IsJobs, IsNumber, IsPartWord, IsPeerWord}
+use Rattle.bt_words.specs.declared.command_line.CheckTask.{CheckTask}
+use Rattle.bt_words.specs.declared.command_line.Work.{Work}
+use Rattle.bt_words.specs.declared.command_line.Work.TheVariants.{Jobs, Part}
 use Rattle.bt_words.specs.declared.command_line.FetchTask.{FetchTask}
 use Rattle.bt_words.specs.declared.command_line.MakeTask.{MakeTask}
 use Rattle.bt_words.specs.declared.command_line.SeedTask.{SeedTask}
@@ -28,6 +32,18 @@ pub record HasNumber (bits : ℕ) (rows : List Row) (id : Text) (n : ℕ) : Type
   pub text : List ℕ
   pub given : first_of id rows ≡ Some text
   pub number : IsNumber bits text n
+
+-- the value of `--jobs` is a number of processes
+pub record HasJobs (rows : List Row) (n : ℕ) : Type 0 where
+  pub text : List ℕ
+  pub given : first_of (codes "jobs") rows ≡ Some text
+  pub number : IsJobs text n
+
+-- that of `--part` names a part
+pub record HasPart (rows : List Row) (part : PartOf) : Type 0 where
+  pub text : List ℕ
+  pub given : first_of (codes "part") rows ≡ Some text
+  pub named : IsPartWord text part
 
 -- a flag is given or not
 pub record IsFlagIn (id : Text) (given : Bool) (rows : List Row) : Type 0 where
@@ -59,6 +75,17 @@ pub record IsMakeTaskIn (rows : List Row) (request : MakeTask) : Type 0 where
 pub record IsSourceIn (rows : List Row) (source : Source) : Type 0 where
   pub path : first_of (codes "TORRENT") rows ≡ Some source.path.now
   pub info : IsFlagIn (codes "info") source.is_info rows
+
+-- all of a check, by so many processes; or a part, by one
+abbrev pub IsWorkIn : List Row → Work → Type 0
+IsWorkIn rows (Jobs n) = HasJobs rows n × (first_of (codes "part") rows ≡ None)
+IsWorkIn rows (Part part) = HasJobs rows 1 × HasPart rows part
+
+pub record IsCheckTaskIn (rows : List Row) (task : CheckTask) : Type 0 where
+  pub torrent : IsSourceIn rows task.torrent
+  pub dir : first_of (codes "DIR") rows ≡ Some task.dir.now
+  pub work : IsWorkIn rows task.work
+  pub verbose : IsFlagIn (codes "verbose") task.verbose rows
 
 -- so many connections, or all that come: one of the two is said, and not both
 abbrev pub IsServingIn : List Row → Serving → Type 0
@@ -93,9 +120,7 @@ pub record IsFetchTaskIn (rows : List Row) (task : FetchTask) : Type 0 where
 abbrev pub AsksFor : Text → List Row → Task → Type 0
 AsksFor name rows (Make request) = (name ≡ codes "make") × IsMakeTaskIn rows request
 AsksFor name rows (Show torrent) = (name ≡ codes "show") × IsSourceIn rows torrent
-AsksFor name rows (Check torrent dir verbose) =
-    (name ≡ codes "check") × IsSourceIn rows torrent × (first_of (codes "DIR") rows ≡ Some dir.now)
-    × IsFlagIn (codes "verbose") verbose rows
+AsksFor name rows (Check task) = (name ≡ codes "check") × IsCheckTaskIn rows task
 AsksFor name rows (Seed task) = (name ≡ codes "seed") × IsSeedTaskIn rows task
 AsksFor name rows (Fetch task) = (name ≡ codes "fetch") × IsFetchTaskIn rows task
 AsksFor name rows Replay = name ≡ codes "replay"

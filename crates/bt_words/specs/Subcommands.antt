@@ -33,6 +33,12 @@ piece_length_rule = record (new_rule (codes "piece-length")) {
   defaults = codes "262144" ∷ [];
 }
 
+abbrev pub jobs_rule : Rule
+jobs_rule = record (option_rule (codes "jobs")) { defaults = codes "1" ∷ [] }
+
+abbrev pub part_rule : Rule
+part_rule = option_rule (codes "part")
+
 abbrev pub serve_rule : Rule
 serve_rule = option_rule (codes "serve")
 
@@ -75,7 +81,8 @@ show_app = command_app (codes "show") (required_rule (codes "TORRENT") ∷ info_
 
 unfoldable pub check_app : App
 check_app = command_app (codes "check")
-    (required_rule (codes "TORRENT") ∷ required_rule (codes "DIR") ∷ info_rule ∷ verbose_rule ∷ [])
+    (required_rule (codes "TORRENT") ∷ required_rule (codes "DIR") ∷ jobs_rule ∷ part_rule ∷ info_rule
+    ∷ verbose_rule ∷ [])
 
 unfoldable pub seed_app : App
 seed_app = command_app (codes "seed")

@@ -4,7 +4,7 @@ ghost use Rattle.std.specs.Bool.{Decides};
 ghost use Rattle.std.specs.Borrow.{Bor};
 ghost use Rattle.std.specs.List.{AllZip};
 ghost use Rattle.clap.specs.Words.{all_of, app_of, first_of, found_of, kind_of, rows_of, subcommand_rows_of};
-ghost use Rattle.bt_words.specs.CommandLine.{AsksFor, IsTaskOf, IsNoTaskOf, IsTaskIn, IsMakeTaskIn, IsSeedTaskIn, IsServiceIn, IsServingIn, IsFetchTaskIn, IsLogBeside, IsLogIn, IsSourceIn, IsFlagIn, IsGiven};
+ghost use Rattle.bt_words.specs.CommandLine.{AsksFor, IsTaskOf, IsNoTaskOf, IsTaskIn, IsMakeTaskIn, IsSeedTaskIn, IsServiceIn, IsServingIn, IsFetchTaskIn, IsLogBeside, IsLogIn, IsSourceIn, IsFlagIn, IsGiven, IsWorkIn, HasJobs};
 ghost use Rattle.bt_words.specs.CommandLineSteps.{AreWordsOf, IsRefusalFor, TellsOf};
 ghost use Rattle.bt_words.specs.Subcommands.{program_app};
 ghost use Rattle.bt_words.specs.Values.{IsPeerWord};
@@ -12,8 +12,9 @@ ghost use Rattle.bt_words.specs.declared.command_line.Refusal.TheVariants.{OutOf
 
 use crate::peer::{Peer, Service, Serving};
 use crate::subcommands::commands;
-use crate::values::{is_address, number_in, peer_in, port_in};
+use crate::values::{is_address, jobs_in, number_in, part_in, peer_in, port_in};
 use bt_check::Source;
+use bt_parts::Part;
 use clap::error::ErrorKind;
 use clap::{ArgMatches, Command, Error};
 use std::alloc::{AllocError, AllocFailed, Global};
@@ -24,16 +25,9 @@ pub enum Task<'a> {
     /// Write the torrent of a folder.
     Make(MakeTask<'a>),
     /// Print what a torrent says.
-    Show {
-        torrent: Source<'a>,
-    },
+    Show { torrent: Source<'a> },
     /// Check the data files in a folder against a torrent.
-    Check {
-        torrent: Source<'a>,
-        dir: &'a str,
-        /// Whether a call that fails is told of.
-        verbose: bool,
-    },
+    Check(CheckTask<'a>),
     /// Serve the data files in a folder to peers.
     Seed(SeedTask<'a>),
     /// Fetch the data files of a torrent from peers.
@@ -51,6 +45,25 @@ pub struct MakeTask<'a> {
     pub piece_length: u32,
     /// Whether a call that fails is told of.
     pub verbose: bool,
+}
+
+/// The torrent whose files are checked, the folder in which they lie, and how much of the check is done.
+#[derive(Clone, Copy)]
+pub struct CheckTask<'a> {
+    pub torrent: Source<'a>,
+    pub dir: &'a str,
+    pub work: Work,
+    /// Whether a call that fails is told of.
+    pub verbose: bool,
+}
+
+/// How much of a check is done.
+#[derive(Clone, Copy, Debug)]
+pub enum Work {
+    /// All of it, by so many processes: 1 to 64.
+    Jobs(u32),
+    /// One of the parts into which it is divided.
+    Part(Part),
 }
 
 /// The torrent whose files are served, the folder in which they lie, and where peers connect.
@@ -110,6 +123,11 @@ const PIECE_LENGTH_WANTED: &str =
     "--piece-length takes decimal digits: a power of two from 16384 to 268435456";
 
 const SERVING_WANTED: &str = "one of --serve N and --forever is wanted, and not both";
+
+const JOBS_WANTED: &str = "--jobs takes decimal digits: a number from 1 to 64";
+
+const PART_WANTED: &str =
+    "--part takes I/N, with I below N and N from 1 to 64, and no --jobs beside it";
 
 const COUNT_WANTED: &str = "--serve takes decimal digits: a number from 0 to 4294967295";
 
@@ -225,12 +243,57 @@ fn check_task<'a>(matches: &ArgMatches<'a>) -> Result<Task<'a>, Refusal>
 {
     let torrent = source_of(matches)?;
     let dir = word_of(matches, "DIR")?;
+    let work = work_of(matches)?;
     let verbose = has_flag(matches, "verbose");
-    Ok(Task::Check {
+    Ok(Task::Check(CheckTask {
         torrent,
         dir,
+        work,
         verbose,
-    })
+    }))
+}
+
+/// How much of a check is done: all of it, by one process or more, or a part.
+fn work_of(matches: &ArgMatches<'_>) -> Result<Work, Refusal>
+    ensures work { IfOk result (IsWorkIn (rows_of (found_of matches.now))) }
+    ensures refused { IfErr result (IsRefusalFor
+        ((work : Work) → ¬ IsWorkIn (rows_of (found_of matches.now)) work)) }
+{
+    let digits = word_of(matches, "jobs")?;
+    match jobs_in(digits) {
+        Some(count) => work_by(matches, count),
+        None => Err(Refusal::Value(JOBS_WANTED)),
+    }
+}
+
+/// The same, where so many processes are asked for.
+fn work_by(matches: &ArgMatches<'_>, count: u32) -> Result<Work, Refusal>
+    requires { HasJobs (rows_of (found_of matches.now)) count }
+    ensures work { IfOk result (IsWorkIn (rows_of (found_of matches.now))) }
+    ensures refused { IfErr result (IsRefusalFor
+        ((work : Work) → ¬ IsWorkIn (rows_of (found_of matches.now)) work)) }
+{
+    match matches.get_str("part") {
+        Some(word) => part_by(matches, word, count),
+        None => Ok(Work::Jobs(count)),
+    }
+}
+
+/// The part that a word names, where so many processes are asked for.
+fn part_by(matches: &ArgMatches<'_>, word: &str, count: u32) -> Result<Work, Refusal>
+    requires jobs { HasJobs (rows_of (found_of matches.now)) count }
+    requires given { first_of (codes "part") (rows_of (found_of matches.now)) ≡ Some word.now }
+    ensures work { IfOk result (IsWorkIn (rows_of (found_of matches.now))) }
+    ensures refused { IfErr result (IsRefusalFor
+        ((work : Work) → ¬ IsWorkIn (rows_of (found_of matches.now)) work)) }
+{
+    if count != 1 {
+        return Err(Refusal::Value(PART_WANTED));
+    }
+    match part_in(word) {
+        Some(part) => Ok(Work::Part(part)),
+        None => Err(Refusal::Value(PART_WANTED)),
+    }
 }
 
 fn seed_task<'a>(matches: &ArgMatches<'a>) -> Result<Task<'a>, Refusal>

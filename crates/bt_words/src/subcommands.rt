@@ -88,6 +88,18 @@ const DIR: Word<'static> = Word {
     help: "The folder that holds the files",
 };
 
+const JOBS: Word<'static> = Word {
+    id: "jobs",
+    kind: Kind::ValueOr("N", "1"),
+    help: "How many processes check side by side, from 1 to 64: each reads its part of the files",
+};
+
+const PART: Word<'static> = Word {
+    id: "part",
+    kind: Kind::Value("I/N"),
+    help: "For --jobs itself: checks part I of N, from 0 on, and prints a line for each run of its blocks",
+};
+
 const SERVE: Word<'static> = Word {
     id: "serve",
     kind: Kind::Value("N"),
@@ -158,7 +170,7 @@ const SUBCOMMANDS: &[Subcommand<'static>] = &[
     Subcommand {
         name: "check",
         about: "Checks downloaded files against a torrent; changes nothing",
-        words: &[TORRENT, DIR, INFO, VERBOSE],
+        words: &[TORRENT, DIR, JOBS, PART, INFO, VERBOSE],
     },
     Subcommand {
         name: "seed",

@@ -1,7 +1,0 @@
-use Rattle.bt_commands.proofs.ProgramRun.{check_done}
-use Rattle.bt_commands.proofs.program.perform_check.Goals as goal
-
-pub returns-clause-done : goal.returns-clause-done
-returns-clause-done g c =
-    check_done c.args.source c.in_ok-torrent.torrent c.in_ok-summary.summary _ _ _ c.outcome.ensures c.in_ok-torrent.ensures.torrent
-    c.in_ok-summary.ensures.report

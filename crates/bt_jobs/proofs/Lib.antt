@@ -1,0 +1,12 @@
+pub mod Unread
+pub mod Sharing
+pub mod PartTrees
+pub mod Plans
+pub mod Lines
+pub mod Hearing
+pub mod Words
+pub mod Reports
+pub mod Openings
+pub mod PartReports
+pub mod Roots
+pub mod Wholes

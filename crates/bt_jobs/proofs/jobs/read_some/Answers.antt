@@ -1,0 +1,13 @@
+use Rattle.std.proofs.Common.{◌<◌, length, arith}
+use Rattle.bt_jobs.proofs.Hearing.{kept_then}
+use Rattle.bt_jobs.proofs.jobs.read_some.Goals as goal
+
+pub returns-in-Ok-clause-given : goal.returns-in-Ok-clause-given
+returns-in-Ok-clause-given g c =
+    let read = c.in-Ok.ensures in
+    let room : 0 < length c.read.new.buf = omega (arith, c.requires, c.loop.auto.buffer, c.read.auto.buf) in
+    record {
+      within = read.bound.0;
+      taken = kept_then _ _ _ _ c.loop.invariant read.bytes.0;
+      ended = λ none. read.bytes.1 none room;
+    }

@@ -1,0 +1,22 @@
+-- What the parts of a check are heard to tell: for private steps.
+use Rattle.std.specs.Prelude.{◌≡◌, ℕ, ◌≤◌, List, ◌++◌, Option, length, take}
+use Rattle.std.specs.Io.KnownBytes.{Consumes, IsAtEnd}
+use Rattle.bt_jobs.specs.Told.{IsToldBy}
+use Rattle.bt_jobs.specs.declared.told.Told.{Told}
+
+-- one read gave so many bytes, at the front of the buffer: none only where the reader has no more
+pub record IsGiven (old new : Option (List ℕ)) (count : ℕ) (buffer : List ℕ) : Type 0 where
+  pub within : count ≤ length buffer
+  pub taken : Consumes old new (take count buffer)
+  pub ended : count ≡ 0 → IsAtEnd new
+
+-- whatever was told by a text before is told with these bytes behind it
+abbrev pub TakesIn : List ℕ → Told → Told → Type 0
+TakesIn bytes before after = (text : List ℕ) → IsToldBy text before → IsToldBy (text ++ bytes) after
+
+-- all bytes that a reader had were taken in
+pub record HearsAll (old new : Option (List ℕ)) (before after : Told) : Type 0 where
+  pub bytes : List ℕ
+  pub taken : Consumes old new bytes
+  pub ended : IsAtEnd new
+  pub told : TakesIn bytes before after

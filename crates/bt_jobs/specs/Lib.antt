@@ -1,0 +1,13 @@
+pub mod Plan
+pub mod Share
+pub mod Trees
+pub mod Part
+pub mod Law
+pub mod Told
+pub mod Report
+pub mod Children
+-- what private steps cite
+pub mod PlanSteps
+pub mod PartSteps
+pub mod JobsSteps
+pub mod TreesSteps

@@ -1,0 +1,183 @@
+//! The parts of a check as processes: how they are started, passed the torrent, and waited for.
+ghost use Rattle.std.specs.Prelude.{◌≡◌, ◌⊎◌, ◌↔◌, ◌++◌, [], ◌∷◌, Some, pos, map, codes, string_bytes, IfOk, IfErr, IsTrue, OnOk};
+ghost use Rattle.std.specs.List.{All, range_with_len};
+ghost use Rattle.std.specs.Fmt.{decimal};
+ghost use Rattle.std.specs.Process.{command_args, command_program, exit_code};
+ghost use Rattle.bt_check.specs.Fault.{device, out_of_memory};
+ghost use Rattle.bt_jobs.specs.Children.{HasEndedWell, IsPartFault, info_words, part_words, program_text};
+
+use crate::jobs::Job;
+use bt_check::Fault;
+use std::alloc::{AllocError, Global};
+use std::io::{PipeWriter, Write};
+use std::process::{Child, Command, ExitStatus, OpenProcess, Processes, Stdio};
+
+/// The program that this process runs.
+const PROGRAM: &str = "/proc/self/exe";
+
+/// Where a part reads the torrent.
+const STANDARD_INPUT: &str = "/dev/stdin";
+
+/// Starts a part, which tells by the pipe, and passes it the torrent.
+pub(crate) fn start_part<S: Processes>(
+    system: &S,
+    command: &mut Command,
+    text: &[u8],
+    pipe: &PipeWriter,
+) -> Result<Child<S::Started>, Fault>
+    ensures fault { IfErr result (λ fault. (fault ≡ device) ⊎ (fault ≡ out_of_memory)) }
+{
+    let output = pipe.try_clone().map_err(|_| Fault::Device)?;
+    command.stdin(Stdio::piped());
+    command.stdout(output);
+    command.stderr(Stdio::null());
+    let mut child = command.spawn(system).map_err(|_| Fault::Device)?;
+    match pass(&mut child, text) {
+        Ok(()) => Ok(child),
+        Err(fault) => {
+            end(&mut child);
+            Err(fault)
+        }
+    }
+}
+
+/// The commands by which all parts are started, in their order.
+pub(crate) fn part_commands(alloc: Global, job: Job<'_>) -> Result<Vec<Command>, AllocError>
+    ensures programs { IfOk result
+        (λ commands. All (λ command. command_program command ≡ program_text) commands.items) }
+    ensures words { IfOk result (λ commands. map command_args commands.items
+        ≡ map (λ index. part_words job.entry.source.is_info job.entry.dir.now index job.entry.count)
+        (range_with_len 0 job.entry.count)) }
+{
+    let mut commands = Vec::with_capacity(alloc, job.count as usize)?;
+    for index in 0..job.count {
+        let command = part_command(alloc, job, index)?;
+        commands.push(command)?;
+    }
+    Ok(commands)
+}
+
+/// The program and the words by which a part is started.
+fn part_command(alloc: Global, job: Job<'_>, index: u32) -> Result<Command, AllocError>
+    ensures program { IfOk result (λ command. command_program command ≡ program_text) }
+    ensures words { IfOk result (λ command. command_args command
+        ≡ part_words job.entry.source.is_info job.entry.dir.now index job.entry.count) }
+{
+    let part = part_word(alloc, index, job.count)?;
+    let mut command = Command::new(alloc, PROGRAM)?;
+    push_word(&mut command, "check")?;
+    push_word(&mut command, "--part")?;
+    push_word(&mut command, part.as_str())?;
+    push_info(&mut command, job.source.is_info)?;
+    push_word(&mut command, "--")?;
+    push_word(&mut command, STANDARD_INPUT)?;
+    push_word(&mut command, job.dir)?;
+    Ok(command)
+}
+
+/// The word that names a part.
+fn part_word(alloc: Global, index: u32, count: u32) -> Result<String, AllocError>
+    ensures { IfOk result (λ word. string_bytes word ≡ decimal index ++ codes "/" ++ decimal count) }
+{
+    format!(in alloc; "{index}/{count}")
+}
+
+/// Adds a word to those of a command.
+fn push_word(command: &mut Command, word: &str) -> Result<(), AllocError>
+    ensures program { OnOk result (command_program command.new ≡ command_program command.old) }
+    ensures words { OnOk result (command_args command.new ≡ command_args command.old ++ word.now ∷ []) }
+{
+    command.arg(word)?;
+    Ok(())
+}
+
+/// Adds the word that says that the torrent is an info dictionary alone, where it is.
+fn push_info(command: &mut Command, is_info: bool) -> Result<(), AllocError>
+    ensures program { OnOk result (command_program command.new ≡ command_program command.old) }
+    ensures words { OnOk result
+        (command_args command.new ≡ command_args command.old ++ info_words is_info) }
+{
+    if !is_info {
+        return Ok(());
+    }
+    push_word(command, "--info")
+}
+
+/// Writes a torrent's text to the input of a part, and closes it.
+fn pass<C: OpenProcess>(child: &mut Child<C>, text: &[u8]) -> Result<(), Fault>
+    ensures { IfErr result (λ fault. fault ≡ device) }
+{
+    let Some(mut input) = child.stdin.take() else {
+        return Err(Fault::Device);
+    };
+    input.write_all(text).map_err(|_| Fault::Device)
+}
+
+/// Ends a part, and waits for it.
+fn end<C: OpenProcess>(child: &mut Child<C>) {
+    let _ = child.kill();
+    let _ = child.wait();
+}
+
+/// Ends all parts, and waits for them.
+pub(crate) fn end_all<C: OpenProcess>(children: &mut [Child<C>]) {
+    for child in children.iter_mut() {
+        end(child);
+    }
+}
+
+/// Looks whether a part has ended that did not do what it was to. Waits for none.
+pub(crate) fn look_at_all<C: OpenProcess>(children: &mut [Child<C>]) -> Result<(), Fault>
+    ensures fault { IfErr result (λ fault. (fault ≡ device) ⊎ (fault ≡ out_of_memory)) }
+{
+    for child in children.iter_mut() {
+        if let Ok(Some(status)) = child.try_wait() {
+            part_outcome(status)?;
+        }
+    }
+    Ok(())
+}
+
+/// Waits for all parts, each of which has to do what it was to.
+pub(crate) fn wait_for_all<C: OpenProcess>(children: &mut [Child<C>]) -> Result<(), Fault>
+    ensures ended { OnOk result (All HasEndedWell children.new) }
+    ensures fault { IfErr result (λ fault. (fault ≡ device) ⊎ (fault ≡ out_of_memory)) }
+{
+    for child in children.iter_mut() {
+        wait_for(child)?;
+    }
+    Ok(())
+}
+
+/// Waits for a part, which has to do what it was to.
+fn wait_for<C: OpenProcess>(child: &mut Child<C>) -> Result<(), Fault>
+    ensures ended { OnOk result (HasEndedWell child.new) }
+    ensures fault { IfErr result (λ fault. (fault ≡ device) ⊎ (fault ≡ out_of_memory)) }
+{
+    match child.wait() {
+        Ok(status) => part_outcome(status),
+        Err(_) => Err(Fault::Device),
+    }
+}
+
+/// What the end of a part comes to: one that did not do what it was to is a device that failed, unless it told that
+/// memory was short.
+fn part_outcome(status: ExitStatus) -> Result<(), Fault>
+    ensures well { OnOk result (exit_code status ≡ Some (pos 0)) }
+    ensures fault { IfErr result (IsPartFault (exit_code status)) }
+{
+    if status.success() {
+        return Ok(());
+    }
+    if was_short_of_memory(status) {
+        return Err(Fault::OutOfMemory);
+    }
+    Err(Fault::Device)
+}
+
+/// Whether a part ended since memory was short.
+fn was_short_of_memory(status: ExitStatus) -> bool
+    ensures { IsTrue result ↔ (exit_code status ≡ Some (pos 4)) }
+{
+    status.code() == Some(4)
+}

@@ -1,0 +1,301 @@
+//! The command `check` with several jobs: the parts are started, and what they tell is joined.
+ghost use Rattle.std.specs.Prelude.{◌≡◌, ◌⊎◌, ◌+◌, ◌<◌, ℕ, List, length, IfOk, IfErr, OnOk};
+ghost use Rattle.std.specs.List.{All};
+ghost use Rattle.std.specs.Io.KnownBytes.{Appends, Keeps};
+ghost use Rattle.bt_meta.specs.Torrent.{Metainfo};
+ghost use Rattle.bt_check.specs.Fault.{device, out_of_memory, status_of};
+ghost use Rattle.bt_check.specs.Report.{report_text};
+ghost use Rattle.bt_check.specs.TorrentFile.{HasText, IsLoadFault};
+ghost use Rattle.bt_check.specs.declared.report.FileFinding.{FileFinding};
+ghost use Rattle.bt_jobs.specs.Children.{HasEndedWell};
+ghost use Rattle.bt_jobs.specs.JobsSteps.{HearsAll, IsGiven, TakesIn};
+ghost use Rattle.bt_jobs.specs.Report.{IsReportByParts};
+ghost use Rattle.bt_jobs.specs.Told.{IsToldBy, TellsEach};
+
+use crate::children::{end_all, look_at_all, part_commands, start_part, wait_for_all};
+use crate::part::open_data_file;
+use crate::report::{heard_of, write_report};
+use crate::source::{Loaded, load_text};
+use crate::told::Told;
+use bt_check::{
+    Fault, OPEN_FILES, Source, Summary, check_torrent, data_path, fault_name, is_device_fault,
+};
+use bt_disk::HandlePool;
+use bt_meta::FileEntry;
+use bt_parts::{Met, Run};
+use bt_progress::{FileCall, Watch};
+use bt_tree::BLOCK_LEN;
+use std::alloc::Global;
+use std::io::{self, ErrorKind, PipeWriter, Read, Write};
+use std::process::{Child, Command, OpenProcess, Processes};
+use std::rt::Files;
+
+/// What is told where a part can't be started.
+const NOT_STARTED: &str = "a part of the check could not be started, by /proc/self/exe";
+
+/// What is told where a part ended without having done what it was to, or told what is no part of the check.
+const FAILED: &str = "a part of the check failed";
+
+/// How many bytes of what the parts tell are read at a time.
+const PIPE_LEN: usize = 4096;
+
+/// The torrent whose files are checked, the folder in which they lie, and how many parts check them.
+#[derive(Clone, Copy)]
+pub struct Job<'a> {
+    pub source: Source<'a>,
+    pub dir: &'a str,
+    pub count: u32,
+}
+
+/// Checks the files of a folder against a torrent by so many runs of this program side by side, and writes what they
+/// find: what a check by one writes, once all are done.
+///
+/// All files are looked at first, and one that can't be opened ends it before anything is started. A part that can't
+/// be started, that ends without having done what it was to, or tells what is no part of a check, is a device that
+/// failed, and nothing is written then.
+pub fn check_by_parts<R: Files + AllocGlobal + Clone + Drop, S: Processes, P: Watch, W: Write>(
+    rt: &R,
+    system: &S,
+    watch: &P,
+    job: Job<'_>,
+    writer: &mut W,
+) -> Result<Summary, Fault>
+    ensures report { IfOk result (λ summary. (torrent : Metainfo) × (found : List FileFinding)
+        × HasText job.entry.source.is_info torrent × IsReportByParts torrent found summary
+        × Appends (W.contents writer.old) (W.contents writer.new) (report_text found)) }
+    ensures fault { IfErr result (IsLoadFault job.entry.source.is_info) }
+    ensures refused { IfErr result (λ fault. status_of fault ≡ 2
+        → Keeps (W.contents writer.old) (W.contents writer.new)) }
+{
+    let loaded = load_text(rt, watch, job.source)?;
+    let torrent = &loaded.torrent;
+    let files = torrent.files();
+    watch.begin(FileCall::Read);
+    if !has_files(rt, watch, job.dir, files)? {
+        return check_torrent(rt, watch, torrent, job.dir, writer);
+    }
+    let runs = runs_of_parts(rt, system, watch, job, &loaded)?;
+    let heard = of_parts(watch, heard_of(rt.alloc(), files, &runs))?;
+    write_report(rt.alloc(), watch, job.dir, files, &heard, writer)
+}
+
+/// Looks at the data files of some entries, in turn, and opens each; the bytes of those that are there are to be read.
+/// Whether there is any.
+fn has_files<R: Files + AllocGlobal + Clone + Drop, P: Watch>(
+    rt: &R,
+    watch: &P,
+    dir: &str,
+    entries: &[FileEntry],
+) -> Result<bool, Fault>
+    ensures fault { IfErr result (λ fault. (fault ≡ device) ⊎ (fault ≡ out_of_memory)) }
+{
+    let mut pool = HandlePool::new(rt.alloc(), rt.clone()?, OPEN_FILES)?;
+    let mut any = false;
+    for file in entries {
+        any |= has_file(rt, watch, &mut pool, dir, file)?;
+    }
+    Ok(any)
+}
+
+/// Whether there is a data file, which is opened. A fault is told of.
+fn has_file<R: Files + AllocGlobal + Drop, P: Watch>(
+    rt: &R,
+    watch: &P,
+    pool: &mut HandlePool<R>,
+    dir: &str,
+    file: &FileEntry,
+) -> Result<bool, Fault>
+    ensures fault { IfErr result (λ fault. (fault ≡ device) ⊎ (fault ≡ out_of_memory)) }
+{
+    let path = data_path(rt.alloc(), dir, &file.path)?;
+    let name = fault_name(rt.alloc(), watch, path.as_path().as_str())?;
+    match open_data_file(rt, pool, path) {
+        Ok(Some(_)) => {
+            watch.expect(file.length);
+            Ok(true)
+        }
+        Ok(None) => Ok(false),
+        Err(fault) => {
+            if let Some(name) = name {
+                watch.tell_fault(FileCall::Open, name.as_str());
+            }
+            Err(fault)
+        }
+    }
+}
+
+/// The runs that the parts tell, in order. When it ends, no part is left.
+fn runs_of_parts<R: Files + AllocGlobal, S: Processes, P: Watch>(
+    rt: &R,
+    system: &S,
+    watch: &P,
+    job: Job<'_>,
+    loaded: &Loaded,
+) -> Result<Vec<Run>, Fault>
+    ensures told { IfOk result (λ runs. (text : List ℕ) × TellsEach text runs.items) }
+    ensures fault { IfErr result (λ fault. (fault ≡ device) ⊎ (fault ≡ out_of_memory)) }
+{
+    let alloc = rt.alloc();
+    let mut children = Vec::with_capacity(alloc, job.count as usize)?;
+    let mut told = Told::new(alloc);
+    let outcome = hear_parts(rt, system, watch, job, loaded, &mut children, &mut told);
+    if outcome.is_err() {
+        end_all(&mut children);
+    }
+    outcome?;
+    of_parts(watch, in_order(told))
+}
+
+/// Starts all parts, and hears them to their ends.
+fn hear_parts<R: Files + AllocGlobal, S: Processes, P: Watch>(
+    rt: &R,
+    system: &S,
+    watch: &P,
+    job: Job<'_>,
+    loaded: &Loaded,
+    children: &mut Vec<Child<S::Started>>,
+    told: &mut Told,
+) -> Result<(), Fault>
+    ensures told { OnOk result ((bytes : List ℕ) × TakesIn bytes told.old told.new) }
+    ensures ended { OnOk result (All HasEndedWell children.new.items) }
+    ensures all { OnOk result
+        (length children.new.items ≡ length children.old.items + job.entry.count) }
+    ensures fault { IfErr result (λ fault. (fault ≡ device) ⊎ (fault ≡ out_of_memory)) }
+{
+    let (mut output, input) = io::pipe(rt).map_err(|_| Fault::Device)?;
+    let commands = part_commands(rt.alloc(), job)?;
+    let started = start_all(system, commands, &loaded.text, &input, children);
+    // Once the parts have ended, nobody is left who may write.
+    drop(input);
+    if is_device_fault(&started) {
+        watch.tell(NOT_STARTED);
+    }
+    started?;
+    let files = loaded.torrent.files();
+    of_parts(
+        watch,
+        hear_to_ends(watch, files, &mut output, children, told),
+    )
+}
+
+/// Starts the parts of some commands, which tell by the pipe. The commands' own ends of it are closed then.
+fn start_all<S: Processes>(
+    system: &S,
+    commands: Vec<Command>,
+    text: &[u8],
+    pipe: &PipeWriter,
+    children: &mut Vec<Child<S::Started>>,
+) -> Result<(), Fault>
+    ensures all { OnOk result
+        (length children.new.items ≡ length children.old.items + length commands.items) }
+    ensures fault { IfErr result (λ fault. (fault ≡ device) ⊎ (fault ≡ out_of_memory)) }
+{
+    let mut commands = commands;
+    for command in commands.iter_mut() {
+        let child = start_part(system, command, text, pipe)?;
+        children.push(child)?;
+    }
+    Ok(())
+}
+
+/// The outcome of what parts did or told, which is told of where it is a fault of theirs.
+fn of_parts<T, P: Watch>(watch: &P, outcome: Result<T, Fault>) -> Result<T, Fault>
+    ensures { result ≡ outcome }
+{
+    if is_device_fault(&outcome) {
+        watch.tell(FAILED);
+    }
+    outcome
+}
+
+/// The runs that were told, in the order of their files, and in each of its blocks.
+fn in_order(told: Told) -> Result<Vec<Run>, Fault>
+    ensures told { IfOk result (λ runs. (text : List ℕ) → IsToldBy text told → TellsEach text runs.items) }
+    ensures fault { IfErr result (λ fault. (fault ≡ device) ⊎ (fault ≡ out_of_memory)) }
+{
+    let Some(mut runs) = told.into_runs() else {
+        return Err(Fault::Device);
+    };
+    runs.sort()?;
+    Ok(runs)
+}
+
+/// Hears parts, and waits for them, each of which has to do what it was to.
+fn hear_to_ends<P: Watch, I: Read, C: OpenProcess>(
+    watch: &P,
+    files: &[FileEntry],
+    output: &mut I,
+    children: &mut [Child<C>],
+    told: &mut Told,
+) -> Result<(), Fault>
+    ensures told { OnOk result
+        (HearsAll (I.remaining output.old) (I.remaining output.new) told.old told.new) }
+    ensures ended { OnOk result (All HasEndedWell children.new) }
+    ensures fault { IfErr result (λ fault. (fault ≡ device) ⊎ (fault ≡ out_of_memory)) }
+{
+    hear(watch, files, output, children, told)?;
+    wait_for_all(children)
+}
+
+/// Hears parts until all have ended, or one without having done what it was to.
+fn hear<P: Watch, I: Read, C: OpenProcess>(
+    watch: &P,
+    files: &[FileEntry],
+    output: &mut I,
+    children: &mut [Child<C>],
+    told: &mut Told,
+) -> Result<(), Fault>
+    ensures told { OnOk result
+        (HearsAll (I.remaining output.old) (I.remaining output.new) told.old told.new) }
+    ensures fault { IfErr result (λ fault. (fault ≡ device) ⊎ (fault ≡ out_of_memory)) }
+{
+    let mut buffer = [0; PIPE_LEN];
+    for _ in 0..u64::MAX {
+        let count = read_some(output, &mut buffer)?;
+        if count == 0 {
+            return Ok(());
+        }
+        let before = told.runs.len();
+        told.take_in(&buffer[..count])?;
+        advance(watch, files, &told.runs[before..]);
+        look_at_all(children)?;
+    }
+    Err(Fault::Device)
+}
+
+/// Reads once, and says how many bytes came: none where nobody is left who may write. A read that was interrupted is
+/// made again.
+fn read_some<I: Read>(reader: &mut I, buffer: &mut [u8]) -> Result<usize, Fault>
+    requires { 0 < length buffer.old }
+    ensures given { IfOk result (λ count. IsGiven (I.remaining reader.old) (I.remaining reader.new) count
+        buffer.new) }
+    ensures fault { IfErr result (λ fault. fault ≡ device) }
+{
+    // A bound, so that it ends whatever the system gives.
+    for _ in 0..u64::MAX {
+        match reader.read(buffer) {
+            Ok(count) => return Ok(count),
+            Err(error) if error.kind() == ErrorKind::Interrupted => {}
+            Err(_) => return Err(Fault::Device),
+        }
+    }
+    Err(Fault::Device)
+}
+
+/// Tells how far the work is, by runs that were told.
+fn advance<P: Watch>(watch: &P, files: &[FileEntry], runs: &[Run]) {
+    for run in runs {
+        if let Some(file) = files.get(run.file as usize) {
+            if run.met != Met::Absent {
+                watch.advance(FileCall::Read, run_len(file.length, *run));
+            }
+        }
+    }
+}
+
+/// How many bytes the blocks of a run have, in a file of this length.
+fn run_len(length: u64, run: Run) -> u64 {
+    let begin = (run.from as u64 * BLOCK_LEN as u64).min(length);
+    let end = (run.to as u64 * BLOCK_LEN as u64).min(length);
+    end.saturating_sub(begin)
+}
