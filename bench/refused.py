@@ -869,7 +869,7 @@ def reopened():
 def reopened_anew():
     """One is opened with a new log, and fetches two pieces; and what a stop leaves is opened once more."""
     first = THREE.comes() + THREE.says(UNCHOKE, THREE.hashes(), THREE.piece(0), THREE.piece(1), THREE.piece(0), THREE.piece(1))
-    anew = [Row("stop"), Row("torrent", THREE.torrent.text, of=THREE.torrent), Row("reopen"), Row("tell")]
+    anew = [Row("stop"), Row("torrent", THREE.torrent.text, of=THREE.torrent), Row("reopen"), Row("reopen"), Row("tell")]
     return opened_with(b"", Row("reopen"), Row("reopen"), *first, Row("flush"), Row("flush"), *anew)
 
 
