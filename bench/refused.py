@@ -13,8 +13,9 @@ told by how many were asked for before and behind each.
 What each run has to print is worked out here, with `second_engine.py` and with what the contracts say: a call that is refused memory
 answers so, and no other answer stands in its place; it changes nothing, but that `next` loses the event and its peer, `adopt` keeps the
 groups that were taken in, with what they left for the log, `restart` has read the log again, a session has come as far as it came, and its
-peer is gone; a start hands back the devices and the log. A device in memory that is refused memory fails, and changes nothing. An
-allocation of the program itself, for its rows or for what it prints, ends the run.
+peer is gone; of peers in turn the one is told so, and the next is tried; a start hands back the devices and the log, and `reopen` all
+devices; a script ends with status 4 behind the answers of whole lines, or tells it as the answer of an event. A device in memory that is
+refused memory fails, and changes nothing. An allocation of the program itself, for its rows or for what it prints, ends the run.
 
 Told are, for each example, how many allocations were refused and how many calls of devices failed, and of each kind of call how it was
 answered then; and what is not as it is owed, with the rows, what was owed and what was printed in a folder that is named. The status is 0
@@ -31,8 +32,8 @@ from measure import tried
 from refusing import refuses
 from second_engine import BLOCK, MARKED, PADS, Device, Engine, Key, Torrent, Tree, digest, message, number, spelled
 
-CRATES = ["bt_session", "bt_engine", "bt_machine", "bt_resume", "bt_meta", "bt_bencode", "bt_store", "bt_book", "bt_wire", "bt_hashreq",
-          "bt_disk", "bt_sparse", "bt_lanes", "bt_tree", "hex", "anyhow"]
+CRATES = ["bt_replay", "bt_peers", "bt_runs", "bt_session", "bt_engine", "bt_machine", "bt_resume", "bt_meta", "bt_bencode", "bt_store",
+          "bt_book", "bt_wire", "bt_hashreq", "bt_disk", "bt_sparse", "bt_lanes", "bt_tree", "hex", "anyhow"]
 HEADER, WINDOW, TURNS, READ = 40, 65_536, 1000, 16_384
 ABC = digest(b"abc")
 
@@ -45,6 +46,8 @@ REFUSALS = {"torrent": "M18 OutOfMemory", "info": "M18 OutOfMemory", "make": "N8
 SILENT = "data", "log", "stop", "tell", "peer"
 # Calls that take no memory.
 FREE = "plan", "lost"
+# Calls that have sessions.
+SESSIONS = "session", "flushing", "peers"
 
 
 def word_of(value):
@@ -254,34 +257,57 @@ class LoggedEngine(Engine):
         block, self.notes = 0, []
         for block, _ in itertools.islice(self.groups(at), groups):
             pass
-        anchor = self.tree_of(at).anchor(block) if is_read else 0
-        for one in range(block >> anchor << anchor, min((block >> anchor) + 1 << anchor, len(self.torrent.files[at].blocks))):
+        count = len(self.torrent.files[at].blocks)
+        anchor = self.tree_of(at).anchor(block) if is_read and block < count else 0
+        for one in range(block >> anchor << anchor, min((block >> anchor) + 1 << anchor, count)):
             if is_read:
                 self.read((at, one))
         return ["refused OutOfMemory"]
 
-    def session(self, data, part, stop):
-        """A session until all is complete, in which memory is refused at the place of this number, or nowhere."""
-        self.places, self.rest, self.written = 0, data, b""
+    def session(self, data, part, stop, every=0):
+        """A session until all is complete, with a flush behind each `every`-th turn, in which memory is refused at the place of this
+        number, or nowhere."""
+        self.places = 0
+        return [self.meet(data, part, stop, every), f"{len(self.rest)} left, written {self.written.hex()}"]
+
+    def meet(self, data, part, stop, every):
+        """A session, and how it ended. Its places are counted on from those of the sessions before."""
+        self.rest, self.written = data, b""
 
         def is_stop():
             self.places += 1
             return self.places - 1 == stop
 
         try:
-            end = self.talk(part, is_stop)
+            end = self.talk(part, is_stop, every)
         except Memory:
             end = "memory"
         self.peers = {}
-        return [end, f"{len(self.rest)} left, written {self.written.hex()}"]
+        return end
 
-    def talk(self, part, is_stop):
+    def peers_in_turn(self, sent, every, stop):
+        """Peers that send these bytes, of whose sessions one is refused memory at the place of this number, or none: what came of each,
+        and then of a flush that was refused."""
+        self.places, ends, refused = 0, [], []
+        for data in sent:
+            if refused or len(self.complete_files()) == len(self.torrent.files):
+                ends.append("untried")
+                continue
+            end = self.meet(data, READ, stop, every)
+            if end.startswith("flush"):
+                refused = [end]
+            elif every and not end.startswith("refused"):
+                refused = [f"flush {line}" for line in self.flush() if line != "done"]
+            ends.append({"flush": "fault", "refused": "memory", "turns": "turns"}.get(end.split(" ")[0], end))
+        return ends + refused
+
+    def talk(self, part, is_stop, every):
         """The turns of a session, and how it ends."""
         if is_stop():
             return "refused OutOfMemory"
         key = self.next_key
         self.put(self.connect(), is_stop)
-        for _ in range(TURNS):
+        for turn in range(TURNS):
             if len(self.complete_files()) == len(self.torrent.files):
                 return "complete"
             chunk, self.rest = self.rest[:min(part, READ)], self.rest[min(part, READ):]
@@ -302,6 +328,9 @@ class LoggedEngine(Engine):
             if is_stop():
                 raise Memory
             self.put(self.rechoke(), is_stop)
+            flushed = self.flush() if every and (turn + 1) % every == 0 else ["done"]
+            if flushed != ["done"]:
+                return f"flush {flushed[0]}"
         return "turns spent"
 
     def put(self, lines, is_stop):
@@ -313,6 +342,82 @@ class LoggedEngine(Engine):
                 word = line.split(" ")[2]
                 ours = self.torrent.handshake(b"-BS0001-000000000000")
                 self.written += ours if word == "hello" else bytes.fromhex(word)
+
+
+# ---- a script
+
+# What a script answers: its status, what is written, and what is written to the stream of faults.
+Told = collections.namedtuple("Told", "status written faults")
+NO_MEMORY = "btseed: out of memory\n"
+
+
+class Script:
+    """A script of a torrent of one file, on a device of zeros and a new log."""
+
+    def __init__(self, torrent, *events):
+        self.torrent, self.events = torrent, events
+        lines = [" ".join(part.hex() if isinstance(part, bytes) else str(part) for part in event) for event in events]
+        self.text = "".join(f"{line}\n" for line in [f"torrent {torrent.text.hex()}", *lines]).encode()
+
+    def answers(self, data=0, log=0, refused=None):
+        """What each event answers, where these calls of the devices fail, or one event is refused memory in some way; and the devices'
+        calls. None where no log is made."""
+        log_disk = Disk(b"", log)
+        opened = Log(log_disk, self.torrent.infohash)
+        if opened.attach():
+            return None, 0, log_disk.calls
+        disk = Disk(bytes(len(self.torrent.files[0].contents)), data)
+        engine = LoggedEngine(self.torrent, [disk], opened)
+        told = [self.answer(engine, event, refused[1:] if refused and refused[0] == at else None) for at, event in enumerate(self.events)]
+        return told, disk.calls, log_disk.calls
+
+    def answer(self, engine, event, way):
+        name, *parts = event
+        if way is None:
+            call = {"hello": lambda key: engine.feed(key, self.torrent.handshake(b"p" * 20))}.get(name) or getattr(engine, name)
+            lines = call(*parts)
+        elif name == "restart":
+            lines = engine.refused_restart(*way)
+        elif name == "adopt":
+            lines = engine.refused_adoption(*parts, *way)
+        else:
+            lines = ["refused OutOfMemory"]
+            if name == "next":
+                engine.lost(*parts)
+        return "".join(f"{in_script(line)}\n" for line in lines)
+
+    def ample(self):
+        return Told(0, "".join(self.answers()[0]), "")
+
+    def refusals(self):
+        """All that may be answered where an allocation is refused: in front of a line's answer, to an event, or to a device."""
+        told, data, log = self.answers()
+        found = [Told(4, "".join(told[:at]), NO_MEMORY) for at in range(len(told) + 1)]
+        ways = [(at, *way) for at, event in enumerate(self.events) for way in self.ways(event[0])]
+        runs = [self.answers(refused=way)[0] for way in ways] + [self.answers(data=at)[0] for at in range(1, data + 1)]
+        runs += [self.answers(log=at)[0] for at in range(1, log + 1)]
+        return found + [Told(0, "".join(run), "") for run in runs if run is not None]
+
+    def ways(self, name):
+        """The ways in which an event may be refused memory."""
+        if name in ("flush", "lost", "report"):
+            return []
+        groups = len(self.torrent.files[0].blocks) + 1
+        return {"restart": [(True,), (False,)], "adopt": [(at, read) for at in range(groups) for read in (False, True)]}.get(name, [()])
+
+
+def in_script(line):
+    """A line of an answer, as `replay` spells it."""
+    if line.startswith("adopted"):
+        return line.split(" of")[0]
+    if line.startswith("close"):
+        return " ".join(line.split(" ")[:2])
+    return "refused Log" if line in ("refused out of memory", "refused device fault") else line
+
+
+def told_lines(told):
+    """The lines that tell what a script answered."""
+    return [f"status {told.status}", f"written {told.written.encode().hex()}", f"faults {told.faults.encode().hex()}"]
 
 
 # ---- what a run has to print
@@ -354,7 +459,7 @@ class Play:
         if row.name in SILENT:
             self.prepare(row)
             return False
-        if row.name == "attach" and self.log:
+        if row.name == "attach" and self.log or row.name == "reopen" and self.engine:
             self.tell_state()
             return False
         before = self.calls_made()
@@ -364,7 +469,7 @@ class Play:
         self.lines += ["> torrent" if row.name == "info" else f"> {row.name}", "<", *answer]
         self.made.append((before, self.calls_made()))
         self.tell_state()
-        return refusal is not None and not (row.name == "run" and refusal.way is not None)
+        return refusal is not None and row.name not in ("peers", "replay") and not (row.name == "run" and refusal.way is not None)
 
     def calls_made(self):
         """How many calls of the data's devices and of the log's were made."""
@@ -413,10 +518,14 @@ class Play:
             self.engine = LoggedEngine(self.torrent, self.disks, self.log)
             self.disks, self.log = [], None
             return ["started"]
-        if row.name == "session":
-            lines = self.engine.session(row.words[1], row.words[0], None)
+        if row.name == "reopen":
+            return self.reopen()
+        if row.name in SESSIONS:
+            lines = self.sessions(row, None)
             self.places[len(self.kinds)] = self.engine.places
             return lines
+        if row.name == "replay":
+            return told_lines(row.of.ample())
         if row.name == "run":
             return [line for one in row.of for line in self.event(one, 1)]
         return self.event(row, self.peer)
@@ -456,6 +565,23 @@ class Play:
         self.log, self.log_disk = log, None
         return [f"attached, {len(log.hints)} hints"]
 
+    def reopen(self, way=None):
+        """A log is opened, and an engine starts with it; or memory is refused while the log is read, or behind that."""
+        log = Log(self.log_disk, self.torrent.infohash)
+        fault = log.read(True) if way == "reading" else log.attach()
+        if fault or way:
+            return [f"refused {fault or 'OutOfMemory'}"]
+        self.engine = LoggedEngine(self.torrent, self.disks, log)
+        self.disks, self.log_disk = [], None
+        return ["started"]
+
+    def sessions(self, row, stop):
+        """Sessions, of which one is refused memory at the place of this number, or none."""
+        if row.name == "peers":
+            return self.engine.peers_in_turn(row.words[1:], row.words[0], stop)
+        every = row.words[0] if row.name == "flushing" else 0
+        return self.engine.session(row.words[-1], row.words[-2], stop, every)
+
     def event(self, row, peer):
         of_peer = (peer,) if row.name in ("feed", "next", "lost") else ()
         lines = getattr(self.engine, row.name)(*of_peer, *row.words)
@@ -479,8 +605,12 @@ class Play:
             return self.engine.refused_restart(way)
         if row.name == "adopt":
             return self.engine.refused_adoption(*row.words, *way)
-        if row.name == "session":
-            return self.engine.session(row.words[1], row.words[0], way)
+        if row.name == "reopen":
+            return self.reopen(way)
+        if row.name in SESSIONS:
+            return self.sessions(row, way)
+        if row.name == "replay":
+            return told_lines(way)
         if row.name == "run":
             return ["refused OutOfMemory"] if way is None else self.refused_list(row.of, way)
         if row.name == "next":
@@ -503,8 +633,12 @@ class Play:
             return [True, False]
         if row.name == "adopt":
             return [(groups, is_read) for groups in range(len(self.torrent.files[0].blocks) + 1) for is_read in (False, True)]
-        if row.name == "session":
+        if row.name in SESSIONS:
             return range(self.places[call])
+        if row.name == "reopen":
+            return ["reading", "starting"]
+        if row.name == "replay":
+            return row.of.refusals()
         if row.name == "run":
             return [None, *range(len(row.of))]
         return [None]
@@ -720,13 +854,65 @@ def session(part):
     return rows + [Row("session", part, data)] * 2
 
 
+def opened_with(log, *rows):
+    """Rows over an empty device and a log with these bytes."""
+    return [Row("data", 0, 0, 0, b""), Row("log", 0, 0, 0, log), Row("torrent", THREE.torrent.text, of=THREE.torrent), *rows]
+
+
+def reopened():
+    """An engine is opened with a log that has a proof and a run of three marks, the second of which is of other bytes."""
+    log = b"btseed-2" + THREE.torrent.infohash + spelled_hint((THREE.key, THREE.leaves)) + spelled_hint((0, 0, 3))
+    rows = opened_with(log, Row("reopen"), Row("reopen"), Row("tell"), Row("flush"), Row("flush"), Row("tell"))
+    return [Row("data", 0, 0, 0, blocks(1, 9, 3)), *rows[1:]]
+
+
+def reopened_anew():
+    """One is opened with a new log, and fetches two pieces; and what a stop leaves is opened once more."""
+    first = THREE.comes() + THREE.says(UNCHOKE, THREE.hashes(), THREE.piece(0), THREE.piece(1), THREE.piece(0), THREE.piece(1))
+    anew = [Row("stop"), Row("torrent", THREE.torrent.text, of=THREE.torrent), Row("reopen"), Row("reopen"), Row("tell")]
+    return opened_with(b"", Row("reopen"), Row("reopen"), *first, Row("flush"), Row("flush"), *anew)
+
+
+def all_of_three():
+    """What a peer says in a session that has all of the file."""
+    return THREE.torrent.handshake(b"p" * 20) + message(5, b"\x80") + UNCHOKE + THREE.hashes() + b"".join(THREE.pieces())
+
+
+def flushing(every):
+    """Sessions of *straight fetch* with a log, which is flushed behind each turn, or each second one."""
+    sessions = [Row("flushing", every, READ, all_of_three())] * 3
+    return opened_with(b"", Row("attach"), Row("attach"), Row("start"), *sessions, Row("tell"))
+
+
+def in_turn(every):
+    """Peers in turn: the first says hello alone, and each of the others has all."""
+    sent = [THREE.torrent.handshake(b"p" * 20), *[all_of_three()] * 3]
+    return opened_with(b"", Row("attach"), Row("attach"), Row("start"), Row("peers", every, *sent), Row("tell"))
+
+
+def replayed():
+    """Scripts: of *abc torrent*, whose file is taken in too; and of two blocks, of which one comes, with flushes and restarts."""
+    (abc, _), two = abc_torrent(), Torrent(32_768, b"abc" + bytes(BLOCK))
+    fetch = [("connect",), ("hello", 1), ("next", 1), ("feed", 1, message(5, b"\x80") + UNCHOKE), ("next", 1), ("next", 1)]
+    first = [("adopt", 0), *fetch, ("feed", 1, message(7, bytes(8) + b"abc")), ("next", 1), ("next", 1), ("report",), ("rechoke",),
+             ("lost", 1), ("adopt", 0), ("flush",), ("restart",), ("report",)]
+    file = Fetch(two)
+    second = [*fetch, ("feed", 1, file.hashes()), ("next", 1), ("feed", 1, file.piece(1)), ("next", 1), ("connect",), ("flush",),
+              ("flush",), ("restart",), ("restart",), ("report",), ("connect",), ("feed", 3, b"\x12"), ("next", 3), ("report",)]
+    return [Row("replay", script.text, of=script) for script in (Script(abc, *first), Script(two, *second))]
+
+
 EXAMPLES = {
     "abc torrent": texts, "first proof": proof, "parts": parts, "straight fetch": straight, "waiting fetch": waiting,
     "two peers": two_peers, "list of events": listed, "flush and restart": lambda: flushed((4, 16_384)), "restart and start": restarted,
     "adoption": adopted, "serving": served, "session of the abc fetch": lambda: session(READ), "session, byte by byte": lambda: session(1),
+    "reopen": reopened, "reopen, a new log": reopened_anew, "flushing session": lambda: flushing(1),
+    "flushing each second turn": lambda: flushing(2), "peers in turn": lambda: in_turn(0), "peers in turn with flushes": lambda: in_turn(1),
+    "replay": replayed,
 }
 # Examples of which each call of a device fails.
-FAILING = "straight fetch", "waiting fetch", "flush and restart", "restart and start", "adoption", "serving"
+FAILING = ("straight fetch", "waiting fetch", "flush and restart", "restart and start", "adoption", "serving", "reopen",
+           "reopen, a new log", "flushing session", "flushing each second turn", "peers in turn with flushes")
 
 
 # ---- runs, and what came of them

@@ -40,16 +40,31 @@ __attribute__((destructor)) static void end(void) { tell(); }
 Run = collections.namedtuple("Run", "status printed asked")
 
 
-def refuses(program, folder):
-    """A function that runs the program on rows, with an allocation refused, or with none where that is 0."""
-    source, library, counted = folder / "refusing.c", folder / "refusing.so", folder / "counted"
+def refusing_library(folder):
+    """The library, compiled in a folder."""
+    source, library = folder / "refusing.c", folder / "refusing.so"
     source.write_text(REFUSING)
     subprocess.run(["cc", "-shared", "-fPIC", "-o", library, source, "-ldl"], check=True)
+    return library
+
+
+def refusal(library, counted, failing):
+    """The environment of a program that is refused an allocation, or none where that is 0; and that tells in a file what it asked for."""
+    return {"LD_PRELOAD": str(library), "COUNTED": str(counted), "FAILING": str(failing)}
+
+
+def asked_in(counted):
+    """What such a program told."""
+    return [tuple(map(int, line.split())) for line in counted.read_text().splitlines()]
+
+
+def refuses(program, folder):
+    """A function that runs the program on rows, with an allocation refused, or with none where that is 0."""
+    library, counted = refusing_library(folder), folder / "counted"
 
     def run(rows, failing):
-        words = {"LD_PRELOAD": str(library), "COUNTED": str(counted), "FAILING": str(failing)}
+        words = refusal(library, counted, failing)
         done = subprocess.run([program], input=rows, env=words, capture_output=True, text=True, check=False)
-        asked = [tuple(map(int, line.split())) for line in counted.read_text().splitlines()]
-        return Run(done.returncode, done.stdout, asked)
+        return Run(done.returncode, done.stdout, asked_in(counted))
 
     return run
