@@ -131,6 +131,12 @@ def changed_value(chance, value):
     return chance.choice((0, 1, 2, 16_384, b"", b"x", bytes(32), [], [value], {}, {b"": value}, {b"": {}}, {b"x": value}, {b"": {b"length": 0}}))
 
 
+@functools.cache
+def value_of(text):
+    """The value of a right torrent."""
+    return Bencoding(text).whole()
+
+
 def bencoded(value):
     if isinstance(value, dict):
         return b"d" + b"".join(bencoded(key) + bencoded(value[key]) for key in sorted(value)) + b"e"
@@ -142,7 +148,7 @@ def bencoded(value):
 def changed_torrent(chance, text):
     """The torrent with values, bytes or numbers changed, these to edges."""
     if chance.randrange(2):
-        value = Bencoding(text).whole()
+        value = value_of(text)
         for _ in range(chance.choice((1, 1, 1, 2, 3))):
             value = changed_value(chance, value)
         return bencoded(value)

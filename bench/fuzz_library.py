@@ -35,7 +35,7 @@ import second_engine
 import second_reader
 from changes import changed_log, changed_script, changed_torrent, samples, some_sample, stream_script
 from measure import processor_seconds, tried
-from second_reader import Meta, Refused, log_answer, script_answer, torrent_answer
+from second_reader import log_answer, read_both, script_answer, torrent_answer
 
 CRATES = ["bt_replay", "bt_engine", "bt_machine", "bt_resume", "bt_meta", "bt_wire", "bt_hashreq", "bt_disk", "bt_lanes", "bt_tree", "hex",
           "anyhow"]
@@ -93,12 +93,10 @@ def refusal_of(script):
     """What ends the answer of a script whose first line names another torrent, if it is refused with status 2."""
     words = script.partition(b"\n")[0].split(b" ")
     try:
-        Meta(second_reader.bytes_in(words[-1]), False)
+        told = read_both(second_reader.bytes_in(words[-1]))[0]
     except second_reader.BadLine:
         return "btseed: line 1\n"
-    except Refused as refused:
-        return f"btseed: {refused}\n"
-    return ""
+    return told.replace("refused", "btseed:", 1) if isinstance(told, str) else ""
 
 
 def framed(kind, data):

@@ -1,6 +1,8 @@
 """Torrents, logs and scripts read by BEP 3, BEP 52 and the READMEs of `bt_meta`, `bt_resume` and `bt_replay`, by none of these crates' code.
 `fuzz_library.py` compares both."""
 
+import re
+
 import second_engine
 from second_engine import BLOCK, PADS, Device, Engine, Key, digest
 
@@ -16,6 +18,10 @@ class Refused(Exception):
 
 def fault(code, at):
     raise Refused(f"M1 Bencode {code} {at}")
+
+
+# A number up to the byte behind it, where all is as it has to be.
+NUMBERS = {end: re.compile(rb"(0|[1-9][0-9]*)" + end) for end in (b"e", b":")}
 
 
 class Bencoding:
@@ -51,6 +57,9 @@ class Bencoding:
     def digits(self, end):
         """Digits up to a byte that has to follow."""
         start = self.at
+        if found := NUMBERS[end].match(self.data, start):
+            self.at = found.end()
+            return found.group(1)
         while self.byte().isdigit():
             if self.at == start + 1 and self.data[start:self.at] == b"0":
                 fault("B3 LeadingZero", start)
@@ -91,9 +100,9 @@ class Bencoding:
 
     def dictionary(self, depth):
         found, last = {}, None
-        while self.byte() != b"e":
+        while (kind := self.byte()) != b"e":
             start = self.at
-            if not self.byte().isdigit():
+            if not kind.isdigit():
                 fault("B2 BadByte", self.at)
             key = self.string()
             if last is not None and key <= last:
@@ -111,14 +120,12 @@ class Bencoding:
 class Meta:
     """A torrent that was read, or the info dictionary of one."""
 
-    def __init__(self, data, is_info):
-        reading = Bencoding(data)
-        value = reading.whole()
+    def __init__(self, reading, value, is_info):
         self.info = value if is_info else isinstance(value, dict) and value.get(b"info")
         if not isinstance(self.info, dict):
             raise Refused("M2 NoInfo")
         self.front()
-        self.infohash = digest(data if is_info else reading.spans[id(value), b"info"])
+        self.infohash = digest(reading.data if is_info else reading.spans[id(value), b"info"])
         self.files, self.pieces, self.roots = [], 0, {}
         tree = self.info.get(b"file tree")
         if not isinstance(tree, dict) or b"" in tree:
@@ -211,13 +218,23 @@ def is_utf8(text):
 
 def torrent_answer(data):
     """What is told of bytes as a torrent, and as an info dictionary."""
-    told = ""
+    return "".join(told if isinstance(told, str) else told.told() for told in read_both(data))
+
+
+def read_both(data):
+    """Bytes as a torrent, and as an info dictionary; in place of each the line that tells its refusal."""
+    reading = Bencoding(data)
+    try:
+        value = reading.whole()
+    except Refused as refused:
+        return [f"refused {refused}\n"] * 2
+    both = []
     for is_info in (False, True):
         try:
-            told += Meta(data, is_info).told()
+            both.append(Meta(reading, value, is_info))
         except Refused as refused:
-            told += f"refused {refused}\n"
-    return told
+            both.append(f"refused {refused}\n")
+    return both
 
 
 # ---- logs
