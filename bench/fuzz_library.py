@@ -157,8 +157,8 @@ class Process:
 
 
 def run(program, inputs):
-    """Runs inputs one after the other; gives what is wrong with which of them, and how each was answered in short."""
-    told, found = collections.Counter(), []
+    """Runs inputs one after the other; gives how each was answered in short, what is wrong with which of them, and the peak memory."""
+    told, found, most = collections.Counter(), [], 0
     while inputs:
         process, silent = Process(program, inputs), None
         for place, one in enumerate(inputs):
@@ -170,6 +170,7 @@ def run(program, inputs):
             if one.differs(answer):
                 found.append((one, "is answered otherwise", answer))
         status, peak = process.end()
+        most = max(most, peak)
         tried_now = inputs if silent is None else inputs[:silent + 1]
         bound = WHOLE_MEMORY if inputs[0].kind == "other" else MEMORY + 41 * max(len(one.data) for one in tried_now)
         if peak > bound:
@@ -178,7 +179,7 @@ def run(program, inputs):
             break
         found.append((inputs[silent], f"has no answer, and the status is {status}", ""))
         inputs = inputs[silent + 1:]
-    return told, found
+    return told, found, most
 
 
 def short(kind, answer):
@@ -194,14 +195,14 @@ def short(kind, answer):
 def batch(job):
     """A range of inputs of one kind."""
     program, folder, seed, kind, first, end = job
-    told, found = run(program, [Input(seed, kind, index) for index in range(first, end)])
+    told, found, peak = run(program, [Input(seed, kind, index) for index in range(first, end)])
     for one, what, answer in found:
         place = folder / f"{kind}-{one.index}"
         place.write_bytes(one.data)
         place.with_suffix(".framed").write_bytes(one.frame())
         place.with_suffix(".answer").write_text(answer)
         place.with_suffix(".wanted").write_text(one.wanted() or "")
-    return told, [(kind, one.index, what) for one, what, _ in found]
+    return told, [(kind, one.index, what) for one, what, _ in found], (kind, peak)
 
 
 def jobs_of(program, folder, seed, count):
@@ -217,20 +218,22 @@ def main():
     folder = pathlib.Path(tempfile.mkdtemp(prefix="fuzz-"))
     program = pathlib.Path(sys.argv[3]).resolve() if len(sys.argv) > 3 else tried(folder / "sources", "fuzz", CRATES)
     workers = int(sys.argv[4]) if len(sys.argv) > 4 else len(os.sched_getaffinity(0))
-    told, found = collections.Counter(), []
+    told, found, peaks = collections.Counter(), [], {}
     jobs = list(jobs_of(program, folder, seed, count))
     # Kinds take different times, so they are mixed.
     random.Random(seed).shuffle(jobs)
     with multiprocessing.Pool(workers, limits) as pool:
-        for done, (some, wrongs) in enumerate(pool.imap_unordered(batch, jobs), 1):
+        for done, (some, wrongs, (kind, peak)) in enumerate(pool.imap_unordered(batch, jobs), 1):
             told += some
             found += wrongs
+            peaks[kind] = max(peak, peaks.get(kind, 0))
             for kind, index, what in wrongs:
                 print(f"{kind} {index} {what}", flush=True)
             if done % 100 == 0:
                 print(f"{done} of {len(jobs)} batches", file=sys.stderr, flush=True)
     for (kind, answer), times in sorted(told.items()):
         print(f"{kind}: {answer}, {times} times")
+    print("at most " + ", ".join(f"{peak / (1 << 20):.1f} MiB ({kind})" for kind, peak in sorted(peaks.items())))
     print(f"{sum(told.values())} inputs, {len(found)} wrong" + (f", kept in {folder}" if found else ""))
     sys.exit(1 if found else 0)
 
