@@ -1,167 +1,52 @@
 #!/usr/bin/env python3
-"""Runs `btseed` on torrents, peer streams and scripts that were changed by chance, and says where it did what it never may.
+"""Runs `btseed` on torrents, peer streams, scripts and logs that were changed by chance, and says where it did what it never may.
 
-    python3 bench/fuzz.py [COUNT [SEED [PROGRAM]]]
+    python3 bench/fuzz.py [COUNT [SEED [PROGRAM [WORKERS]]]]
 
-Each of COUNT inputs (10,000 by default) is made of a right one by a few changes of bytes, numbers, messages or lines, by a generator
-that SEED begins (1 by default): the same numbers make the same inputs. A torrent is shown and checked, a peer's stream and a script
-are replayed. A run has ten seconds, and answers with a status from 0 to 4, with a line on standard error that says why where it is 2,
-3 or 4; a torrent or a stream takes at most 64 MiB beside 41 bytes for each byte of a torrent. What does not is kept in a folder that
-is named at the end, and the status is then 1. The program is the one that is compiled without proof, since its run-time checks stop
-at what a proof would have ruled out.
+Each of COUNT inputs (10,000 by default) is made of a right one by a few changes of bytes, numbers, messages, lines or hints, by a
+generator that SEED begins (1 by default): the same numbers make the same inputs. A torrent is shown and checked, a peer's stream and a
+script are replayed, and a log is given to a `fetch` whose one peer can't be reached, in folders whose files are right in part. Of a log
+what is refused and reported is compared with what `second_reader.py` makes of it, and the log's bytes and the files have to stay.
+
+A run has ten seconds of a processor, or 300 in all, and answers with a status from 0 to 4, with a line on standard error that says why where it is 2, 3 or 4; a
+torrent, a stream or a log takes at most 64 MiB beside 41 bytes for each byte of a torrent. What does not is kept in a folder that is
+named at the end, and the status is then 1. The program is the one that is compiled without proof, since its run-time checks stop at what
+a proof would have ruled out. Many more inputs a second, and all answers compared: `fuzz_library.py`.
 """
 
-import hashlib
 import multiprocessing
 import os
 import pathlib
 import random
 import resource
+import shutil
 import subprocess
 import sys
 import tempfile
 import time
 
-from measure import unproved
+from changes import changed_log, changed_script, changed_torrent, samples, some_sample, stream_script
+from measure import processor_seconds, unproved
+from second_reader import Refused, reported
 
-SECONDS = 10
+SECONDS, LONGEST = 10, 290
 MEMORY = 64 << 20
 WHOLE_MEMORY = 4 << 30
-BLOCK = 16_384
-# Numbers at the edges of what types and limits hold, as a text may spell them.
-EDGES = [str(n) for n in (0, 1, 2, 127, 128, 255, 256, 16_383, 16_384, 16_385, 2**20, 2**20 + 1, 2**26, 2**31, 2**32 - 1, 2**32,
-                          2**40, 2**40 + 1, 2**63 - 1, 2**63, 2**64 - 2, 2**64 - 1, 2**64, 10**30)]
 
 
-def number(value):
-    return value.to_bytes(4, "big")
+class Tree:
+    """A folder of a sample's files, with some contents, and its torrent beside."""
 
+    def __init__(self, folder, torrent, contents):
+        self.folder, self.torrent, self.files, self.contents = folder, folder / "torrent", folder / "files", contents
+        self.names = [file.name.decode() for file in torrent.files]
+        self.files.mkdir(parents=True)
+        self.torrent.write_bytes(torrent.text)
+        for name, content in zip(self.names, contents):
+            (self.files / name).write_bytes(content or b"")
 
-def message(kind, payload=b""):
-    return number(len(payload) + 1) + bytes([kind]) + payload
-
-
-class Sample:
-    """A file of a torrent of its own: its torrent, and what a peer that has it sends."""
-
-    def __init__(self, program, folder, name, contents, piece_length):
-        place = folder / name
-        place.mkdir()
-        (place / "f").write_bytes(contents)
-        self.folder = place
-        self.blocks = [contents[at:at + BLOCK] for at in range(0, len(contents), BLOCK)]
-        self.piece_length = piece_length
-        torrent = folder / f"{name}.torrent"
-        subprocess.run([program, "make", place, torrent, "--name", name, "--piece-length", str(piece_length)], check=True,
-                       stdout=subprocess.DEVNULL)
-        self.torrent = torrent.read_bytes()
-        leaves = [hashlib.sha256(block).digest() for block in self.blocks]
-        width = 2
-        while width < len(leaves):
-            width *= 2
-        self.leaves = leaves + [bytes(32)] * (width - len(leaves))
-        self.root = self.fold(self.leaves) if len(leaves) > 1 else leaves[0]
-
-    @staticmethod
-    def fold(digests):
-        while len(digests) > 1:
-            digests = [hashlib.sha256(a + b).digest() for a, b in zip(digests[::2], digests[1::2])]
-        return digests[0]
-
-    def messages(self):
-        """All that the peer sends after its handshake, one message an item."""
-        pieces = -(-len(self.blocks) * BLOCK // self.piece_length)
-        yield message(5, ((1 << 8 * ((pieces + 7) // 8)) - (1 << (8 * ((pieces + 7) // 8) - pieces))).to_bytes((pieces + 7) // 8, "big"))
-        yield message(2)
-        yield message(1)
-        key = self.root + number(0) + number(0) + number(len(self.leaves)) + number(max(0, len(self.leaves).bit_length() - 2))
-        yield message(22, key + b"".join(self.leaves))
-        for index, block in enumerate(self.blocks):
-            piece, begin = divmod(index * BLOCK, self.piece_length)
-            yield message(7, number(piece) + number(begin) + block)
-            yield message(6, number(piece) + number(begin) + number(min(len(block), 100)))
-        yield message(21, key)
-        yield message(4, number(0))
-        yield message(0)
-
-
-def changed_bytes(chance, data):
-    data = bytearray(data)
-    for _ in range(chance.choice((1, 1, 1, 2, 4))):
-        at = chance.randrange(len(data) + 1)
-        length = chance.choice((1, 1, 2, 4, 32, 500))
-        how = chance.randrange(5)
-        if how == 0 and at < len(data):
-            data[at] ^= 1 << chance.randrange(8)
-        elif how == 1:
-            del data[at:at + length]
-        elif how == 2:
-            data[at:at] = chance.randbytes(length)
-        elif how == 3:
-            data[at:at] = data[at:at + length]
-        else:
-            data[at:at + 4] = number(chance.choice((0, 1, 5, 13, 49, 2**20, 2**20 + 1, 2**32 - 1)))
-    return bytes(data)
-
-
-def changed_torrent(chance, sample):
-    """The torrent with bytes changed, or with one of its numbers at an edge."""
-    data = sample.torrent
-    digits = [at for at in range(1, len(data)) if data[at:at + 1].isdigit() and not data[at - 1:at].isdigit()]
-    if digits and chance.randrange(2):
-        at = chance.choice(digits)
-        end = at
-        while data[end:end + 1].isdigit():
-            end += 1
-        return data[:at] + chance.choice(EDGES).encode() + data[end:]
-    return changed_bytes(chance, data)
-
-
-def changed_items(chance, items):
-    """Items taken away, put twice or exchanged."""
-    items = list(items)
-    for _ in range(chance.choice((0, 1, 2, 5))):
-        at, other = chance.randrange(len(items)), chance.randrange(len(items))
-        how = chance.randrange(3)
-        if how == 0 and len(items) > 1:
-            del items[at]
-        elif how == 1:
-            items.insert(at, items[other])
-        else:
-            items[at], items[other] = items[other], items[at]
-    return items
-
-
-def stream_script(chance, sample):
-    """A script that feeds a changed stream, cut anywhere."""
-    stream = b"".join(changed_items(chance, sample.messages()))
-    if chance.randrange(3):
-        stream = changed_bytes(chance, stream)
-    lines = [f"torrent {sample.torrent.hex()}", "connect", "hello 1", "next 1"]
-    while stream:
-        size = chance.choice((1, 4, 17, 100, 5_000, 20_000))
-        lines.append(f"feed 1 {stream[:size].hex()}")
-        lines += ["next 1"] * chance.choice((1, 1, 2, 12))
-        stream = stream[size:]
-        if len(lines) > 400:
-            break
-    return "\n".join(lines + ["next 1"] * 20 + ["rechoke", "flush", "report"]) + "\n"
-
-
-def changed_script(chance, sample):
-    """A script of events with lines, words and numbers changed."""
-    lines = ["fault 0 3", "flip 0 2 0", "connect", "hello 1", "next 1", "connect", "hello 2", "next 2"]
-    for part in sample.messages():
-        lines += [f"feed 1 {part.hex()}", "next 1"]
-    lines += ["rechoke", "flush", "lost 1", "restart", "flush", "adopt 0", "report"]
-    lines = changed_items(chance, changed_items(chance, lines))
-    for _ in range(chance.randrange(3)):
-        at = chance.randrange(len(lines))
-        words = lines[at].split(" ")
-        words[chance.randrange(len(words))] = chance.choice(EDGES + ["", "-1", "report", "zz", "0x1"])
-        lines[at] = " ".join(words)
-    text = "\n".join([f"torrent {sample.torrent.hex()}", *lines, ""]).encode()
-    return changed_bytes(chance, text) if chance.randrange(4) == 0 else text
+    def is_kept(self):
+        return all((self.files / name).read_bytes() == (content or b"") for name, content in zip(self.names, self.contents))
 
 
 def limits():
@@ -170,26 +55,28 @@ def limits():
 
 
 def run(words, given):
-    """The status of a run, negative for a signal, or None where it took too long; its last line on standard error; its memory."""
-    with tempfile.TemporaryFile() as told, tempfile.TemporaryFile() as text:
+    """The status of a run, negative for a signal, or None where it took too long; its last line on standard error; its memory; what it
+    wrote."""
+    with tempfile.TemporaryFile() as told, tempfile.TemporaryFile() as text, tempfile.TemporaryFile() as written:
         text.write(given)
         text.seek(0)
-        process = subprocess.Popen(words, stdin=text, stdout=subprocess.DEVNULL, stderr=told, preexec_fn=limits)
+        process = subprocess.Popen(words, stdin=text, stdout=written, stderr=told)
         until = time.monotonic() + SECONDS
         while True:
             found, status, used = os.wait4(process.pid, os.WNOHANG)
             if found:
                 break
-            if time.monotonic() > until:
+            if time.monotonic() > until and (processor_seconds(process.pid) > SECONDS or time.monotonic() > until + LONGEST):
                 process.kill()
                 os.wait4(process.pid, 0)
                 process.returncode = -9
-                return None, "", 0
+                return None, "", 0, ""
             time.sleep(0.0005)
         process.returncode = os.waitstatus_to_exitcode(status)
         told.seek(0)
+        written.seek(0)
         lines = told.read().decode(errors="replace").splitlines()
-        return process.returncode, lines[-1] if lines else "", used.ru_maxrss << 10
+        return process.returncode, lines[-1] if lines else "", used.ru_maxrss << 10, written.read().decode(errors="replace")
 
 
 def wrong(status, line, memory, bound):
@@ -203,35 +90,78 @@ def wrong(status, line, memory, bound):
     return f"took {memory >> 20} MiB" if memory > bound else None
 
 
+def wrong_log(tree, sample, data, log, done):
+    """What a fetch with a log did that it never may, or nothing."""
+    status, line, _, written = done
+    now = log.read_bytes()
+    if not tree.is_kept():
+        return "changed a file"
+    if now != (data or b"btseed-2" + sample.torrent.infohash):
+        return "changed the log"
+    try:
+        report = reported(sample.torrent, tree.contents, now)
+    except Refused as refused:
+        return None if status == 2 and line.startswith(f"btseed: {refused}") else f"is not refused as {refused}"
+    lines = [one for one in written.splitlines() if not one.startswith("peer ")]
+    return None if (status, lines) == report else "is not reported so"
+
+
+class Trials:
+    """Runs of the program, in a folder of a process."""
+
+    def __init__(self, program, folder):
+        self.program, self.folder, self.statuses, self.found = program, folder, {}, []
+        self.trees = {}
+
+    def tree(self, sample, contents):
+        key = samples().index(sample), sample.contents.index(contents)
+        if key not in self.trees:
+            place = self.folder / f"{os.getpid()}-{key[0]}-{key[1]}"
+            shutil.rmtree(place, ignore_errors=True)
+            self.trees[key] = Tree(place, sample.torrent, contents)
+        return self.trees[key]
+
+    def note(self, kind, index, done, what, data):
+        self.statuses[kind, done[0]] = self.statuses.get((kind, done[0]), 0) + 1
+        if what:
+            self.found.append((index, kind, what))
+            (self.folder / f"{kind}-{index}").write_bytes(data)
+
+    def torrent(self, chance, sample, index):
+        data = changed_torrent(chance, sample.torrent.text)
+        place = self.folder / f"{os.getpid()}.torrent"
+        place.write_bytes(data)
+        for words in (["show", place], ["check", place, self.tree(sample, sample.contents[0]).files]):
+            done = run([self.program, *words], b"")
+            self.note("torrent", index, done, wrong(*done[:3], MEMORY + 41 * len(data)), data)
+
+    def stream(self, chance, sample, index):
+        data = stream_script(chance, sample.torrent)
+        done = run([self.program, "replay"], data)
+        self.note("stream", index, done, wrong(*done[:3], MEMORY), data)
+
+    def script(self, chance, sample, index):
+        data = changed_script(chance, sample.torrent)
+        done = run([self.program, "replay"], data)
+        self.note("script", index, done, wrong(*done[:3], WHOLE_MEMORY), data)
+
+    def log(self, chance, sample, index):
+        data, tree = changed_log(chance, sample.torrent), self.tree(sample, chance.choice(sample.contents))
+        log = self.folder / f"{os.getpid()}.log"
+        log.write_bytes(data)
+        done = run([self.program, "fetch", tree.torrent, tree.files, "127.0.0.1:1", "--log", log], b"")
+        self.note("log", index, done, wrong(*done[:3], MEMORY) or wrong_log(tree, sample, data, log, done), data)
+
+
 def tried(job):
     """Tries inputs of a range of numbers; gives the statuses, and what was wrong with which input."""
-    program, folder, samples, seed, numbers = job
-    statuses, found = {}, []
+    program, folder, seed, numbers = job
+    trials = Trials(program, folder)
     for index in numbers:
         chance = random.Random(f"{seed} {index}")
-        sample = chance.choice(samples)
-        kind = ("torrent", "stream", "script")[index % 3]
-        given, bound = b"", MEMORY
-        if kind == "torrent":
-            data = changed_torrent(chance, sample)
-            place = folder / f"{os.getpid()}.torrent"
-            place.write_bytes(data)
-            bound += 41 * len(data)
-            runs = [[program, "show", place], [program, "check", place, sample.folder]]
-        elif kind == "stream":
-            data = given = stream_script(chance, sample).encode()
-            runs = [[program, "replay"]]
-        else:
-            data = given = changed_script(chance, sample)
-            runs, bound = [[program, "replay"]], WHOLE_MEMORY
-        for words in runs:
-            status, line, memory = run(words, given)
-            statuses[kind, status] = statuses.get((kind, status), 0) + 1
-            what = wrong(status, line, memory, bound)
-            if what:
-                found.append((index, kind, what))
-                (folder / f"{kind}-{index}").write_bytes(data)
-    return statuses, found
+        kind = ("torrent", "stream", "log", "script")[index % 4]
+        getattr(trials, kind)(chance, some_sample(chance, kind), index)
+    return trials.statuses, trials.found
 
 
 def main():
@@ -239,24 +169,20 @@ def main():
     seed = sys.argv[2] if len(sys.argv) > 2 else "1"
     folder = pathlib.Path(tempfile.mkdtemp(prefix="fuzz-"))
     program = pathlib.Path(sys.argv[3]).resolve() if len(sys.argv) > 3 else unproved(folder / "sources")
-    chance = random.Random(seed)
-    samples = [Sample(program, folder, "abc", b"abc", BLOCK),
-               Sample(program, folder, "two", chance.randbytes(BLOCK + 3), 2 * BLOCK),
-               Sample(program, folder, "pieces", chance.randbytes(2 * BLOCK + 100), BLOCK),
-               Sample(program, folder, "five", chance.randbytes(5 * BLOCK), 2 * BLOCK)]
     # Statuses are waited for by polling, so each processor has two inputs in work.
-    workers = 2 * len(os.sched_getaffinity(0))
-    jobs = [(program, folder, samples, seed, range(first, min(first + 200, count))) for first in range(0, count, 200)]
+    workers = int(sys.argv[4]) if len(sys.argv) > 4 else 2 * len(os.sched_getaffinity(0))
+    jobs = [(program, folder, seed, range(first, min(first + 1000, count))) for first in range(0, count, 1000)]
     statuses, found = {}, []
-    with multiprocessing.Pool(workers) as pool:
-        for some, wrongs in pool.imap_unordered(tried, jobs):
+    with multiprocessing.Pool(workers, limits) as pool:
+        for done, (some, wrongs) in enumerate(pool.imap_unordered(tried, jobs), 1):
             found += wrongs
             for key, times in some.items():
                 statuses[key] = statuses.get(key, 0) + times
+            for index, kind, what in wrongs:
+                print(f"input {index}, a {kind}, {what}", flush=True)
+            print(f"{done} of {len(jobs)} parts", file=sys.stderr, flush=True)
     for (kind, status), times in sorted(statuses.items(), key=str):
         print(f"{kind}: status {status}, {times} times")
-    for index, kind, what in found:
-        print(f"input {index}, a {kind}, {what}")
     print(f"{count} inputs, {len(found)} wrong" + (f", kept in {folder}" if found else ""))
     sys.exit(1 if found else 0)
 

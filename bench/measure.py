@@ -111,6 +111,16 @@ def resident(process):
         return 0
 
 
+def processor_seconds(process):
+    """The processor time of a running process until now, or 0 where it has ended."""
+    try:
+        with open(f"/proc/{process}/stat", "rb") as stat:
+            words = stat.read().rpartition(b")")[2].split()
+    except OSError:
+        return 0.0
+    return (int(words[11]) + int(words[12])) / os.sysconf("SC_CLK_TCK")
+
+
 def measured_once(words):
     """The wall time and the processor time of one run in seconds, and its peak memory in MiB.
 

@@ -310,12 +310,12 @@ class Engine:
     def next(self, key):
         if key not in self.peers:
             return ["refused NoPeer"]
-        peer, before, whole, complete = self.peers[key], self.marked(), self.whole_pieces(), self.complete_files()
-        self.sent, self.notes, self.proofs = [], [], []
+        peer, self.sent, self.notes, self.proofs = self.peers[key], [], [], []
         try:
             event = cut(peer)
             if event is None:
                 return ["none"]
+            before, whole, complete = self.marked(), self.whole_pieces(), self.complete_files()
             self.handle(peer, event)
         except Closed as closed:
             del self.peers[key]
