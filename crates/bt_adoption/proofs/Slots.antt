@@ -217,11 +217,11 @@ module _ {D H : Type 0} {old : Parts D H} {file : ℕ} {slot : Slot D H} {store 
       ∙ ap (λ b. record (taken_state (state_of old) file slot.tree states grown (pending_of log)) { logged = b; hints = hints_of log }) (logged_same log old.log same_log)
       ∙ ap (λ hs. record (taken_state (state_of old) file slot.tree states grown (pending_of log)) { hints = hs }) (hints_same log old.log same_log))
 
-  taken_in : (dig : List ℕ → List ℕ) (after : StoreView D) (grown : Facts) (groups : List (List BlockRead)) (total : Adopted) {mid : StoreView D}
+  taken_in : (dig : List ℕ → List ℕ) (after : StoreView D) (grown : Facts) (groups : List (List BlockRead)) (total : Adopted) (mid : StoreView D)
       (log : Option (OpenLog D)) → log_in log ≡ log_of old
       → AreTaken dig file (is_some old.log) (file_view k store (pending_of old.log)) groups total (file_view grown mid (pending_of log)) → after.states ≡ mid.states
       → AdoptsGroups dig (state_of old) file 0 (map (reads_at file k.file_length) groups) total (state_of (parts_with old file slot after grown log))
-  taken_in dig after grown groups total log same_log taken is =
+  taken_in dig after grown groups total mid log same_log taken is =
       subst (λ (s : EngineState). AdoptsGroups dig (state_of old) file 0 (map (reads_at file k.file_length) groups) total s) (state_is after grown is log same_log)
       (taken (state_of old) slot.tree refl refl
       (record { here = file_here old.slots.items file at.here at.has store; has_tree = at.there }))
@@ -234,7 +234,7 @@ module _ {D H : Type 0} {old : Parts D H} {file : ℕ} {slot : Slot D H} {store 
       groups = map (reads_at file k.file_length) takes.groups;
       calls = rw (group_calls file k.file_length takes.groups ∙ calls_are file (all_reads takes.groups) at.same)
           (have_changed old.slots.items file at.here at.has after history honest faults (map (call_of store.file_length) (all_reads takes.groups)) takes.calls);
-      adopts = taken_in dig after grown takes.groups total {mid = after} log same_log takes.taken refl;
+      adopts = taken_in dig after grown takes.groups total after log same_log takes.taken refl;
       all = all ∙ sym (length_is old file at.here at.has);
     }
 
@@ -261,7 +261,7 @@ module _ {D H : Type 0} {old : Parts D H} {file : ℕ} {slot : Slot D H} {store 
             done = s.done;
             reads = s.last;
             some = λ none. absurd (omega (arith, ap (λ (xs : List BlockState). length xs) none, ap (λ (xs : List BlockState). length xs) states, s.takes.same_size, some, length_is old file at.here at.has));
-            adopts = taken_in dig after grown s.takes.groups s.done {mid = s.before} log same_log s.takes.taken states;
+            adopts = taken_in dig after grown s.takes.groups s.done s.before log same_log s.takes.taken states;
             is_file = record {
               here = ap (λ (fs : List FileState). slice_get fs file) (files_changed old.slots.items file at.here at.has after)
                   ∙ set_same (state_of old).files file (file_here old.slots.items file at.here at.has store);
