@@ -27,8 +27,8 @@ use Rattle.bt_state.proofs.Lists.{get_mapped}
 use Rattle.bt_adoption.proofs.Takings.{length_adopted}
 use Rattle.bt_adoption.proofs.Logs.{same_disks, state_same}
 use Rattle.bt_adoption.proofs.Slots.{states_are, not_empty, tree_there, length_is}
-use Rattle.bt_adoption.specs.PartsSteps.{AreFit, AreInLine, KeepsRest, blocks_in}
-use Rattle.bt_adoption.specs.WaitingSteps.{KeepsLog}
+use Rattle.bt_adoption.specs.PartsSteps.{AreFit, AreInLine, KeepsRest, block_count_of_tree}
+use Rattle.bt_adoption.specs.WaitingSteps.{OnlyPendingChanges}
 use Rattle.bt_adoption.specs.SettlingSteps.{SettlesOthers}
 use Rattle.bt_adoption.specs.AdoptionSteps.{AdoptsIn, StopsIn}
 
@@ -73,7 +73,7 @@ module _ (dig : List ℕ → List ℕ) (file : ℕ) where
       ∙ length_adopted g.adopts ∙ sym (ap (λ o. length (option_map_or (λ (f : FileState). f.states) o [])) g.is_file.here)
 
   -- groups leave it as many blocks as it had
-  groups_size : (s new : EngineState) (from : ℕ) (groups : List DeviceCalls) (total : Adopted) → AdoptsGroups dig s file from groups total new
+  pub groups_size : (s new : EngineState) (from : ℕ) (groups : List DeviceCalls) (total : Adopted) → AdoptsGroups dig s file from groups total new
       → length (states_of new file) ≡ length (states_of s file)
   groups_size s new from [] total g = ap (λ (x : EngineState). length (states_of x file)) g.1
   groups_size s new from (calls ∷ more) total g = groups_size g.1 new g.0.next more g.2 g.4 ∙ group_size g.3
@@ -129,7 +129,7 @@ module _ {D H : Type 0} (old : Parts D H) (file : ℕ) {slot : Slot D H} (here :
   tree_below in_line = tree_there old file here in_line.fits (has_store old file here some slot.store refl).1
 
   -- the file's tree is of as many blocks as the file has
-  blocks_are : IsTied old → IsShaped old.torrent (state_of old) → blocks_in (state_of old) slot.tree ≡ length (states_of (state_of old) file)
+  blocks_are : IsTied old → IsShaped old.torrent (state_of old) → block_count_of_tree (state_of old) slot.tree ≡ length (states_of (state_of old) file)
   blocks_are tied shaped =
       let store = has_store old file here some slot.store refl in
       let fits = (tied.each file slot here).some store.0 store.1 in
@@ -140,7 +140,7 @@ module _ {D H : Type 0} (old : Parts D H) (file : ℕ) {slot : Slot D H} (here :
       → AdoptsIn history honest faults dig file old total mid → KeepsRest old mid → SettlesOthers history honest faults dig file slot.tree mid new → Steps history honest faults dig old file (Ok total) new
   steps_adopted {history} {honest} {faults} {dig} {mid} {total} new alone tied shaped a rest s =
       let states = ap (λ (xs : List BlockState). length xs) (states_are old file here) in
-      let count : blocks_in (state_of mid) slot.tree ≡ length (file_of slot).states = rest.blocks slot.tree ∙ blocks_are tied shaped ∙ states in (
+      let count : block_count_of_tree (state_of mid) slot.tree ≡ length (file_of slot).states = rest.blocks slot.tree ∙ blocks_are tied shaped ∙ states in (
         flat_map (λ c. c) a.groups ++ s.calls,
         have_then history honest faults (disks_of old) (disks_of mid) (disks_of new) (flat_map (λ c. c) a.groups) s.calls a.calls s.made,
         adopts total (ap (map (peer_of old.book)) alone) (record {
@@ -162,7 +162,7 @@ module _ {D H : Type 0} (old : Parts D H) (file : ℕ) {slot : Slot D H} (here :
 
   -- all groups were taken in, and there was no room for what comes behind them
   pub steps_unsettled : {history : D → History} {honest : D → Type 0} {faults : D → ℕ} {dig : List ℕ → List ℕ} {mid : Parts D H} {total : Adopted} (new : Parts D H) → old.peers.items ≡ []
-      → AdoptsIn history honest faults dig file old total mid → KeepsRest old mid → AreInLine mid → KeepsLog mid new → pending_of new.log ≡ pending_of mid.log
+      → AdoptsIn history honest faults dig file old total mid → KeepsRest old mid → AreInLine mid → OnlyPendingChanges mid new → pending_of new.log ≡ pending_of mid.log
       → Steps history honest faults dig old file (Err OutOfMemory) new
   steps_unsettled {history} {honest} {faults} {dig} {mid} {total} new alone a rest in_line keeps pending =
       let same : state_of new ≡ state_of mid = state_same keeps pending in

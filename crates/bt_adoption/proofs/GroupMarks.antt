@@ -14,7 +14,7 @@ use Rattle.bt_machine.specs.Hints.{add_hints}
 use Rattle.bt_machine.specs.ProofKeys.{HasAnswer, ProofKeysAreAnswered}
 use Rattle.bt_machine.specs.Adopting.{IsProof, proof_keys}
 use Rattle.bt_adoption.specs.declared.marks.Run.{Run}
-use Rattle.bt_adoption.specs.GroupSteps.{TakesGroup}
+use Rattle.bt_adoption.specs.GroupSteps.{file_view, TakesGroup}
 use Rattle.bt_adoption.specs.MarksSteps.{unmarked_blocks, newly_marked, marks_in, run_blocks}
 use Rattle.bt_adoption.specs.RunProofsSteps.{run_keys}
 use Rattle.bt_adoption.proofs.Hints.{add_more}
@@ -163,7 +163,7 @@ module _ {dig : List ℕ → List ℕ} {k grown : Facts} {from : ℕ} {old new :
 module _ {D : Type 0} {history : D → History} {honest : D → Type 0} {faults : D → ℕ} {dig : List ℕ → List ℕ} (file : ℕ) {k grown : Facts} {from : ℕ} {old new : StoreView D}
     (pending : List Hint) {adopted : Adopted} {reads : List BlockRead} (is : IsAdopted history honest faults dig k from old reads adopted grown new) where
   -- without a log
-  pub takes_bare : ProofKeysAreAnswered dig → TakesGroup history honest faults dig file false k from old pending adopted grown new pending
+  pub takes_bare : ProofKeysAreAnswered dig → TakesGroup history honest faults dig file false from (file_view k old pending) adopted (file_view grown new pending)
   takes_bare answered =
       let some = some_proofs answered is.adopts in
       record { reads = reads; adopts = is; proofs = some.0; proves = some.1; leaves = refl }
@@ -171,7 +171,7 @@ module _ {D : Type 0} {history : D → History} {honest : D → Type 0} {faults 
   module _ (left : List Hint) (size : length old.states ≡ blocks_of k) where
     pub takes_known : from < blocks_of k → IsAnchor k from 0
         → left ≡ add_hints pending (marks_in file (filter (is_marked_at new.states) (unmarked_blocks old.states from (min 8 (blocks_of k - from)))))
-        → TakesGroup history honest faults dig file true k from old pending adopted grown new left
+        → TakesGroup history honest faults dig file true from (file_view k old pending) adopted (file_view grown new left)
     takes_known inside zeroth left_is =
         let leaves = of_known inside size zeroth is.adopts in
         record {
@@ -186,7 +186,7 @@ module _ {D : Type 0} {history : D → History} {honest : D → Type 0} {faults 
       pub takes_found : (runs : List Run) (waits : List Hint) → 0 < adopted.marked
           → (proofs : List Hint) × AllZip (IsProof dig grown) (run_keys grown a (range_with_len f n)) proofs × (waits ≡ add_hints pending proofs)
           → flat_map run_blocks runs ≡ unmarked_blocks old.states f n → left ≡ add_hints waits (marks_in file (flat_map run_blocks runs))
-          → TakesGroup history honest faults dig file true k from old pending adopted grown new left
+          → TakesGroup history honest faults dig file true from (file_view k old pending) adopted (file_view grown new left)
       takes_found runs waits some (proofs, zip, waits_is) runs_are left_is =
           let both = found_both is.adopts size at some in
           record {
@@ -199,7 +199,7 @@ module _ {D : Type 0} {history : D → History} {honest : D → Type 0} {faults 
                 ∙ ap (λ blocks. add_hints pending (proofs ++ marks_in file blocks)) (runs_are ∙ sym both.marks);
           }
 
-      pub takes_unfound : adopted.marked ≤ 0 → left ≡ pending → TakesGroup history honest faults dig file true k from old pending adopted grown new left
+      pub takes_unfound : adopted.marked ≤ 0 → left ≡ pending → TakesGroup history honest faults dig file true from (file_view k old pending) adopted (file_view grown new left)
       takes_unfound few left_is =
           let nothing = found_nothing is.adopts size at few in
           record {

@@ -1,6 +1,6 @@
 -- Hints that are left one after the other, and runs of marks.
 use Rattle.bt_machine.proofs.Base.{[], ◌≡◌, ℕ, zero, suc, ◌+◌, ◌<◌, Bool, true, false, ◌&&◌, ◌==◌, if◌then◌else◌, List, ◌∷◌, ◌++◌, length, take, get_or, flat_map, refl, sym, ap, ◌∙◌, arith, range_with_len, eq-eqb, eqb-true}
-use Rattle.std.proofs.lemmas.List.{map-append, take_more, append-nil}
+use Rattle.std.proofs.lemmas.List.{map-append}
 use Rattle.bt_resume.specs.declared.hint.Hint.{Hint}
 use Rattle.bt_resume.specs.declared.hint.Hint.TheVariants.{Proof, Marks}
 use Rattle.bt_machine.proofs.Lists.{and_true}
@@ -8,7 +8,7 @@ use Rattle.bt_machine.specs.Hints.{mark_of, continues, joined_run, add_hint, add
 use Rattle.bt_machine.specs.Blocks.{block_id}
 use Rattle.bt_adoption.specs.declared.marks.Run.{Run}
 use Rattle.bt_adoption.specs.MarksSteps.{marks_in, run_blocks}
-use Rattle.bt_adoption.proofs.Ranges.{range_more, flat_map_more}
+use Rattle.bt_adoption.proofs.Ranges.{range_more, flat_map_take}
 
 pub add_more : (hints xs ys : List Hint) → add_hints hints (xs ++ ys) ≡ add_hints (add_hints hints xs) ys
 add_more hints [] ys = refl
@@ -83,7 +83,7 @@ run_is_marks hints file a (suc n) =
     ∙ ap (λ hs. add_hint hs mark) (run_is_marks hints file a n) ∙ sym (add_more hints (marks_in file (range_with_len a (suc n))) (mark ∷ []))
     ∙ ap (add_hints hints) (sym range)
 
-run_is : (hints : List Hint) (file first count : ℕ) → 0 < count → add_hint hints (Marks file first count) ≡ add_hints hints (marks_in file (range_with_len first count))
+pub run_is : (hints : List Hint) (file first count : ℕ) → 0 < count → add_hint hints (Marks file first count) ≡ add_hints hints (marks_in file (range_with_len first count))
 run_is hints file first zero some = absurd (omega arith)
 run_is hints file first (suc n) some = run_is_marks hints file first n
 
@@ -93,9 +93,7 @@ pub runs_more : (old hints : List Hint) (file : ℕ) (runs : List Run) (i : ℕ)
     → add_hint hints (Marks file run.first run.count) ≡ add_hints old (marks_in file (flat_map run_blocks (take (i + 1) runs)))
 runs_more old hints file runs i {run} d lt is some so_far =
     let before = flat_map run_blocks (take i runs) in
-    let blocks : flat_map run_blocks (take (i + 1) runs) ≡ flat_map run_blocks (take i runs) ++ run_blocks run =
-    ap (flat_map run_blocks) (take_more runs i d lt ∙ ap (λ (r : Run). take i runs ++ r ∷ []) (sym is))
-    ∙ flat_map_more run_blocks (take i runs) (run ∷ []) ∙ ap (λ xs. flat_map run_blocks (take i runs) ++ xs) (append-nil (run_blocks run)) in
+    let blocks = flat_map_take run_blocks runs i d lt is in
     run_is hints file run.first run.count some ∙ ap (λ hs. add_hints hs (marks_in file (run_blocks run))) so_far
     ∙ sym (add_more old (marks_in file before) (marks_in file (run_blocks run)))
     ∙ ap (add_hints old) (sym (map-append (λ j. mark_of (block_id file j)) before (run_blocks run)) ∙ ap (marks_in file) (sym blocks))

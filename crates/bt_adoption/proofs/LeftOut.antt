@@ -13,7 +13,7 @@ use Rattle.bt_state.specs.Ties.{LeavesStay, root_and_length}
 use Rattle.bt_state.proofs.BlockChanges.{followed_alike}
 use Rattle.bt_state.proofs.Leaves.{leaves_alike, leaves_then}
 use Rattle.bt_adoption.specs.RecountSteps.{with_marked_file, Follows, LeavesOut, CountsIn}
-use Rattle.bt_adoption.specs.PartsSteps.{AreFit, AreInLine, KeepsRest, ChangesFile, blocks_in}
+use Rattle.bt_adoption.specs.PartsSteps.{AreFit, AreInLine, KeepsRest, ChangesFile, block_count_of_tree}
 use Rattle.bt_adoption.specs.SettlingSteps.{SettlesFiles}
 use Rattle.bt_adoption.specs.AdoptionSteps.{AdoptsIn, StopsIn}
 
@@ -76,7 +76,7 @@ module _ {D H : Type 0} {file : ℕ} {old left : Parts D H} (out : LeavesOut fil
         log = through (λ p. log_of p) changes.log refl;
         count = through (λ p. length p.slots.items) changes.count refl;
         trees = through (λ p. map root_and_length p.trees.items) changes.trees refl;
-        blocks = λ tree. through (λ p. blocks_in (state_of p) tree) (changes.blocks tree) refl;
+        blocks = λ tree. through (λ p. block_count_of_tree (state_of p) tree) (changes.blocks tree) refl;
         leaves = leaves_then (state_of old) (state_of left) (state_of new) (leaves_alike (state_of old) (state_of left) (ap (λ (p : Parts D H). p.trees.items) out.others) (ap (λ (p : Parts D H). (state_of p).files) out.others))
             (subst (λ (s : EngineState). LeavesStay (state_of left) s) (sym last) changes.leaves);
         peers = back.peers ∙ ap (λ (p : Parts D H). peers_of p.book) changes.others ∙ out.peers;
@@ -107,4 +107,4 @@ module _ {D H : Type 0} {file : ℕ} {old left : Parts D H} (out : LeavesOut fil
         pub settles_again : {is_meant : ℕ → Bool} {tree : ℕ} → SettlesFiles history honest faults dig is_meant tree left mid
             → SettlesFiles history honest faults dig is_meant tree old new
         settles_again {is_meant} {tree} (calls, notes, have, settles) =
-            (calls, notes, made have, said (λ s t. SettlesIn dig is_meant tree 0 (blocks_in s tree) s calls notes t) settles)
+            (calls, notes, made have, said (λ s t. SettlesIn dig is_meant tree 0 (block_count_of_tree s tree) s calls notes t) settles)

@@ -10,8 +10,8 @@ use Rattle.bt_state.proofs.BlockChanges.{followed_alike}
 use Rattle.bt_state.proofs.Leaves.{leaves_alike}
 use Rattle.bt_adoption.specs.GroupSteps.{log_in}
 use Rattle.bt_adoption.specs.RecountSteps.{Follows}
-use Rattle.bt_adoption.specs.PartsSteps.{AreFit, AreInLine, KeepsRest, blocks_in}
-use Rattle.bt_adoption.specs.WaitingSteps.{KeepsLog}
+use Rattle.bt_adoption.specs.PartsSteps.{AreFit, AreInLine, KeepsRest, block_count_of_tree}
+use Rattle.bt_adoption.specs.WaitingSteps.{OnlyPendingChanges}
 
 module _ {D : Type 0} where
   has_log : (log : Option (OpenLog D)) → is_some log ≡ is_some (log_in log)
@@ -31,7 +31,7 @@ module _ {D : Type 0} where
 
 -- ---- nothing else has changed
 
-module _ {D H : Type 0} {old new : Parts D H} (keeps : KeepsLog old new) where
+module _ {D H : Type 0} {old new : Parts D H} (keeps : OnlyPendingChanges old new) where
   pub same_disks : disks_of new ≡ disks_of old
   same_disks = ap (λ (p : Parts D H). disks_of p) keeps.others
 
@@ -51,7 +51,7 @@ module _ {D H : Type 0} {old new : Parts D H} (keeps : KeepsLog old new) where
     log = keeps.log;
     count = ap (λ (p : Parts D H). length p.slots.items) keeps.others;
     trees = ap (λ (p : Parts D H). map root_and_length p.trees.items) keeps.others;
-    blocks = λ tree. ap (λ (p : Parts D H). blocks_in (state_of p) tree) keeps.others;
+    blocks = λ tree. ap (λ (p : Parts D H). block_count_of_tree (state_of p) tree) keeps.others;
     leaves = leaves_alike (state_of old) (state_of new) (ap (λ (p : Parts D H). p.trees.items) keeps.others) (ap (λ (p : Parts D H). (state_of p).files) keeps.others);
     peers = ap (λ (p : Parts D H). peers_of p.book) keeps.others;
   }

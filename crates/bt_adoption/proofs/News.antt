@@ -13,7 +13,7 @@ use Rattle.bt_machine.specs.Adopting.{is_other}
 use Rattle.bt_state.proofs.Lists.{filter_mapped}
 use Rattle.bt_adoption.specs.GroupsSteps.{file_with}
 use Rattle.bt_adoption.specs.MarksSteps.{newly_marked, marks_in}
-use Rattle.bt_adoption.specs.WaitingSteps.{is_marked_of, waiting_in, waiting_ids, waiting_others}
+use Rattle.bt_adoption.specs.WaitingSteps.{is_marked_among, waiting_blocks_in, waiting_in, waiting_in_others}
 use Rattle.bt_adoption.proofs.Ranges.{filter_alike, filter_flat, flat_map_alike, flat_map_one}
 use Rattle.bt_adoption.proofs.NewMarks.{newly_none, newly_settled}
 
@@ -27,7 +27,7 @@ state_in (Some f) i = refl
 marked_there : (s : EngineState) (file i : ℕ) → is_marked_in s (block_id file i) ≡ is_marked_at (states_of s file) i
 marked_there s file i = ap (λ o. option_map_or is_marked o false) (sym (state_in (slice_get s.files file) i))
 
-marked_of : (files : List FileState) (b : BlockId) {f : FileState} → slice_get files b.file ≡ Some f → is_marked_of files b ≡ is_marked_at f.states b.block
+pub marked_of : (files : List FileState) (b : BlockId) {f : FileState} → slice_get files b.file ≡ Some f → is_marked_among files b ≡ is_marked_at f.states b.block
 marked_of files b here = ap (λ o. option_map_or (λ (f : FileState). is_marked_at f.states b.block) o false) here
 
 states_at : (s : EngineState) (file : ℕ) {o : Option FileState} → slice_get s.files file ≡ o → states_of s file ≡ option_map_or (λ f. f.states) o []
@@ -59,7 +59,7 @@ module _ (s t : EngineState) where
 
 -- ---- a group of one file
 
-map_both : (file : ℕ) (blocks : List ℕ) → map (λ b. mark_of b) (map (block_id file) blocks) ≡ marks_in file blocks
+pub map_both : (file : ℕ) (blocks : List ℕ) → map (λ b. mark_of b) (map (block_id file) blocks) ≡ marks_in file blocks
 map_both file [] = refl
 map_both file (i ∷ blocks) = ap (λ hs. mark_of (block_id file i) ∷ hs) (map_both file blocks)
 
@@ -109,12 +109,12 @@ module _ {dig : List ℕ → List ℕ} (file : ℕ) {tree count : ℕ} {s t : En
 
   -- of the listed blocks of a file those that are marked then
   listed_news : (other : ℕ) {f : FileState} → slice_get s.files other ≡ Some f → (meant same_tree : Bool) → is_other file other ≡ meant → (f.tree == tree) ≡ same_tree
-      → filter (is_marked_of t.files) (if meant then waiting_ids tree s.files other else []) ≡ news_in s t other
+      → filter (is_marked_among t.files) (if meant then waiting_in tree s.files other else []) ≡ news_in s t other
   listed_news other {f} at false same_tree e g =
       sym (unread_news other at (settles.due other f at ∙ ap (λ b. if b then due_blocks dig settles.facts tree 0 count f else []) e))
   listed_news other {f} at true false e g =
-      ap (λ o. filter (is_marked_of t.files) (map (block_id other) (option_map_or (waiting_in tree) o []))) at
-      ∙ ap (λ b. filter (is_marked_of t.files) (map (block_id other) (if b then filter (is_waiting_at f.states) (range_with_len 0 (length f.states)) else []))) g
+      ap (λ o. filter (is_marked_among t.files) (map (block_id other) (option_map_or (waiting_blocks_in tree) o []))) at
+      ∙ ap (λ b. filter (is_marked_among t.files) (map (block_id other) (if b then filter (is_waiting_at f.states) (range_with_len 0 (length f.states)) else []))) g
       ∙ sym (unread_news other at (settles.due other f at ∙ ap (λ b. if b then due_blocks dig settles.facts tree 0 count f else []) e
       ∙ ap (λ b. if b then waiting_blocks dig settles.facts f.states 0 count else []) g))
   listed_news other {f} at true true e g =
@@ -123,16 +123,16 @@ module _ {dig : List ℕ → List ℕ} (file : ℕ) {tree count : ℕ} {s t : En
       let read : map block_of (settles.reads other) ≡ waiting_blocks dig settles.facts f.states 0 count =
       settles.due other f at ∙ ap (λ b. if b then due_blocks dig settles.facts tree 0 count f else []) e
       ∙ ap (λ b. if b then waiting_blocks dig settles.facts f.states 0 count else []) g in
-      ap (λ o. filter (is_marked_of t.files) (map (block_id other) (option_map_or (waiting_in tree) o []))) at
-      ∙ ap (λ b. filter (is_marked_of t.files) (map (block_id other) (if b then filter (is_waiting_at f.states) (range_with_len 0 (length f.states)) else []))) g
-      ∙ sym (filter_mapped (block_id other) (is_marked_of t.files) waiting)
-      ∙ ap (map (block_id other)) (filter_agree (λ i. is_marked_of t.files (block_id other i)) (is_marked_at new) (λ i. marked_of t.files (block_id other i) (now_is other at)) waiting
+      ap (λ o. filter (is_marked_among t.files) (map (block_id other) (option_map_or (waiting_blocks_in tree) o []))) at
+      ∙ ap (λ b. filter (is_marked_among t.files) (map (block_id other) (if b then filter (is_waiting_at f.states) (range_with_len 0 (length f.states)) else []))) g
+      ∙ sym (filter_mapped (block_id other) (is_marked_among t.files) waiting)
+      ∙ ap (map (block_id other)) (filter_agree (λ i. is_marked_among t.files (block_id other i)) (is_marked_at new) (λ i. marked_of t.files (block_id other i) (now_is other at)) waiting
       ∙ sym (newly_settled dig settles.facts (settles.reads other) f.states 0 count read))
       ∙ sym (news_are other at)
 
-  pub all_listed : filter (is_marked_of t.files) (waiting_others file tree s.files (length s.files)) ≡ new_marked_blocks s t
+  pub all_listed : filter (is_marked_among t.files) (waiting_in_others file tree s.files) ≡ new_marked_blocks s t
   all_listed =
-      filter_flat (is_marked_of t.files) (λ other. if is_other file other then waiting_ids tree s.files other else []) (range_with_len 0 (length s.files))
-      ∙ flat_map_alike (λ other. filter (is_marked_of t.files) (if is_other file other then waiting_ids tree s.files other else [])) (news_in s t) 0 (length s.files)
+      filter_flat (is_marked_among t.files) (λ other. if is_other file other then waiting_in tree s.files other else []) (range_with_len 0 (length s.files))
+      ∙ flat_map_alike (λ other. filter (is_marked_among t.files) (if is_other file other then waiting_in tree s.files other else [])) (news_in s t) 0 (length s.files)
       (λ other low high. let f = get_some s.files other (omega arith) in listed_news other f.1 (is_other file other) (f.0.tree == tree) refl refl)
       ∙ ap (λ n. flat_map (news_in s t) (range_with_len 0 n)) (sym size) ∙ sym (by_file s t)

@@ -11,7 +11,7 @@ use Rattle.bt_state.specs.declared.parts.Parts.{Parts}
 use Rattle.bt_state.proofs.Chains.{NoneOfTree}
 use Rattle.bt_state.proofs.DeviceCalls.{have_none, have_then}
 use Rattle.bt_state.proofs.Leaves.{leaves_alike, leaves_then}
-use Rattle.bt_adoption.specs.PartsSteps.{AreInLine, KeepsRest, blocks_in}
+use Rattle.bt_adoption.specs.PartsSteps.{AreInLine, KeepsRest, block_count_of_tree}
 use Rattle.bt_adoption.specs.SettlingSteps.{SettlesFiles}
 use Rattle.bt_adoption.proofs.Settlements.{before, alike_meant, same_meant, none_due, settles_none, settles_then}
 
@@ -88,7 +88,7 @@ module _ {D H : Type 0} {history : D → History} {honest : D → Type 0} {fault
       [],
       _,
       have_none history honest faults (disks_of old),
-      settles_none dig tree (blocks_in (state_of old) tree) (before file 0) (state_of old)
+      settles_none dig tree (block_count_of_tree (state_of old) tree) (before file 0) (state_of old)
           (get_some old.trees.items tree (omega (arith, lt, old.trees.ok.0))).1 (λ f. none_from file 0 f (omega arith)),
     );
     log = refl;
@@ -101,7 +101,7 @@ module _ {D H : Type 0} {history : D → History} {honest : D → Type 0} {fault
   settled_more {i} {parts} {new} a apart (calls, notes, have, two) log rest in_line =
       let size : length (state_of parts).files ≡ length (state_of old).files =
       length-map parts.slots.items file_of ∙ a.rest.count ∙ sym (length-map old.slots.items file_of) in
-      let both = settles_then dig tree (blocks_in (state_of old) tree) i a.settles.3
+      let both = settles_then dig tree (block_count_of_tree (state_of old) tree) i a.settles.3
       (subst (λ n. SettlesIn dig (λ other. other == i) tree 0 n (state_of parts) calls notes (state_of new)) (a.rest.blocks tree) two)
       size (none_from file i) (not_it file i) (same_before file i) (it_alone file i apart) in
       record {
@@ -118,7 +118,7 @@ module _ {D H : Type 0} {history : D → History} {honest : D → Type 0} {fault
 
   pub settled_skipped : {i : ℕ} {parts : Parts D H} → AreSettled history honest faults dig file tree old i parts → i ≡ file → AreSettled history honest faults dig file tree old (i + 1) parts
   settled_skipped {i} a own = record {
-    settles = (a.settles.0, a.settles.1, a.settles.2, same_meant dig tree (blocks_in (state_of old) tree) (λ f lt. skipped file i own f) a.settles.3);
+    settles = (a.settles.0, a.settles.1, a.settles.2, same_meant dig tree (block_count_of_tree (state_of old) tree) (λ f lt. skipped file i own f) a.settles.3);
     log = a.log;
     rest = a.rest;
     in_line = a.in_line;
@@ -128,29 +128,29 @@ module _ {D H : Type 0} {history : D → History} {honest : D → Type 0} {fault
   pub settled_past : {i : ℕ} (j : ℕ) {parts : Parts D H} → AreSettled history honest faults dig file tree old i parts → i ≤ j → NoneOfTree old.slots.items tree i j
       → AreSettled history honest faults dig file tree old j parts
   settled_past {i} j a low none = record {
-    settles = (a.settles.0, a.settles.1, a.settles.2, alike_meant dig tree (blocks_in (state_of old) tree) a.settles.3 same);
+    settles = (a.settles.0, a.settles.1, a.settles.2, alike_meant dig tree (block_count_of_tree (state_of old) tree) a.settles.3 same);
     log = a.log;
     rest = a.rest;
     in_line = a.in_line;
   }
     where
-      nothing : (b : Bool) (state : FileState) → due_blocks dig a.settles.3.facts tree 0 (blocks_in (state_of old) tree) state ≡ []
-          → [] ≡ (if b then due_blocks dig a.settles.3.facts tree 0 (blocks_in (state_of old) tree) state else [])
+      nothing : (b : Bool) (state : FileState) → due_blocks dig a.settles.3.facts tree 0 (block_count_of_tree (state_of old) tree) state ≡ []
+          → [] ≡ (if b then due_blocks dig a.settles.3.facts tree 0 (block_count_of_tree (state_of old) tree) state else [])
       nothing true state none = sym none
       nothing false state none = refl
 
       same : (f : ℕ) (state : FileState) → slice_get (state_of old).files f ≡ Some state
-          → (if before file i f then due_blocks dig a.settles.3.facts tree 0 (blocks_in (state_of old) tree) state else [])
-          ≡ (if before file j f then due_blocks dig a.settles.3.facts tree 0 (blocks_in (state_of old) tree) state else [])
+          → (if before file i f then due_blocks dig a.settles.3.facts tree 0 (block_count_of_tree (state_of old) tree) state else [])
+          ≡ (if before file j f then due_blocks dig a.settles.3.facts tree 0 (block_count_of_tree (state_of old) tree) state else [])
       same f state at =
-          let due = due_blocks dig a.settles.3.facts tree 0 (blocks_in (state_of old) tree) state in
+          let due = due_blocks dig a.settles.3.facts tree 0 (block_count_of_tree (state_of old) tree) state in
           elim (cases_lt f i) [
             | inl lt ↦ ap (λ b. if b then due else []) (all_before file i f lt ∙ sym (all_before file j f (omega arith)))
             | inr le ↦ ap (λ b. if b then due else []) (none_from file i f le) ∙ elim (cases_lt f j) [
               | inl lt ↦ (
                   let slot = get_map file_of old.slots.items f at in
                   nothing (before file j f) state
-                  (ap (due_blocks dig a.settles.3.facts tree 0 (blocks_in (state_of old) tree)) (sym slot.2)
+                  (ap (due_blocks dig a.settles.3.facts tree 0 (block_count_of_tree (state_of old) tree)) (sym slot.2)
                   ∙ none_due dig old f tree slot.1 a.settles.3.here (λ is. absurd (let off = none f slot.0 le lt slot.1 is.of_tree in let has = is.has in cc)))
                   )
               | inr far ↦ sym (ap (λ b. if b then due else []) (none_from file j f far))
@@ -163,6 +163,6 @@ module _ {D H : Type 0} {history : D → History} {honest : D → Type 0} {fault
     a.settles.0,
     a.settles.1,
     a.settles.2,
-    same_meant dig tree (blocks_in (state_of old) tree)
+    same_meant dig tree (block_count_of_tree (state_of old) tree)
         (λ f lt. all_before file i f (omega (arith, lt, all, length-map old.slots.items file_of))) a.settles.3,
   )

@@ -1,7 +1,8 @@
 -- Lists over numbers that follow each other.
-use Rattle.bt_machine.proofs.Base.{[], ◌≡◌, ◌≢◌, ℕ, zero, suc, ◌+◌, ◌-◌, ◌<◌, ◌≤◌, inl, inr, Bool, true, false, not, cond, ◌&&◌, List, ◌∷◌, ◌++◌, flat_map, filter, refl, sym, ap, ◌∙◌, arith, cases_lt, append-nil, range_with_len, filter-append}
+use Rattle.bt_machine.proofs.Base.{[], ◌≡◌, ◌≢◌, ℕ, zero, suc, ◌+◌, ◌-◌, ◌<◌, ◌≤◌, inl, inr, Bool, true, false, not, cond, ◌&&◌, List, ◌∷◌, ◌++◌, length, take, get_or, flat_map, filter, refl, sym, ap, ◌∙◌, arith, cases_lt, append-nil, range_with_len, filter-append}
 use Rattle.std.proofs.Common.{append_assoc}
 use Rattle.std.proofs.lemmas.Bool.{cases_eq}
+use Rattle.std.proofs.lemmas.List.{take_more}
 use Rattle.bt_store.proofs.Reviews.{range_split}
 
 -- ---- what a filter keeps
@@ -16,6 +17,10 @@ filter_alike p q a zero same = refl
 filter_alike p q a (suc n) same =
     ap (λ b. cond b (a ∷ filter p (range_with_len (a + 1) n)) (filter p (range_with_len (a + 1) n))) (same a (omega arith) (omega arith))
     ∙ ap (λ xs. cond (q a) (a ∷ xs) xs) (filter_alike p q (a + 1) n (λ i low high. same i (omega arith) (omega arith)))
+
+pub keeps_none : {X : Type 0} (xs : List X) → filter (λ x. false) xs ≡ []
+keeps_none [] = refl
+keeps_none (x ∷ xs) = keeps_none xs
 
 filter_nothing : (a n : ℕ) → filter (λ i. false) (range_with_len a n) ≡ []
 filter_nothing a zero = refl
@@ -62,6 +67,13 @@ range_more a n = range_split a n 1
 pub flat_map_more : {X Y : Type 0} (f : X → List Y) (xs ys : List X) → flat_map f (xs ++ ys) ≡ flat_map f xs ++ flat_map f ys
 flat_map_more f [] ys = refl
 flat_map_more f (x ∷ xs) ys = ap (λ zs. f x ++ zs) (flat_map_more f xs ys) ∙ sym (append_assoc (f x) (flat_map f xs) (flat_map f ys))
+
+-- with the lists of one element more
+pub flat_map_take : {X Y : Type 0} (f : X → List Y) (xs : List X) (i : ℕ) {x : X} (d : X) → i < length xs → x ≡ get_or xs i d
+    → flat_map f (take (i + 1) xs) ≡ flat_map f (take i xs) ++ f x
+flat_map_take f xs i {x} d lt is =
+    ap (flat_map f) (take_more xs i d lt ∙ ap (λ y. take i xs ++ y ∷ []) (sym is))
+    ∙ flat_map_more f (take i xs) (x ∷ []) ∙ ap (λ ys. flat_map f (take i xs) ++ ys) (append-nil (f x))
 
 module _ {Y : Type 0} where
   pub flat_map_alike : (f g : ℕ → List Y) (a n : ℕ) → ((i : ℕ) → a ≤ i → i < a + n → f i ≡ g i) → flat_map f (range_with_len a n) ≡ flat_map g (range_with_len a n)

@@ -22,7 +22,7 @@ use Rattle.bt_state.proofs.Lists.{get_mapped}
 use Rattle.bt_state.proofs.DeviceCalls.{have_none}
 use Rattle.bt_state.proofs.SlotChanges.{files_changed, have_changed}
 use Rattle.bt_adoption.specs.GroupsSteps.{file_with}
-use Rattle.bt_adoption.specs.PartsSteps.{blocks_in}
+use Rattle.bt_adoption.specs.PartsSteps.{block_count_of_tree}
 use Rattle.bt_adoption.specs.SettlingSteps.{SettlesFiles, IsDue}
 use Rattle.bt_adoption.proofs.Slots.{calls_are, IsKept}
 use Rattle.bt_adoption.proofs.Ranges.{flat_map_none, flat_map_one, flat_map_then}
@@ -41,7 +41,7 @@ kept_judged {D} {history} {honest} {faults} {dig} {k} {blocks} {store} {after} {
 
 -- ---- reads of no block
 
-judged_none : (dig : List ℕ → List ℕ) (k : Facts) (o : Option FileState) → option_map (judged_file dig k []) o ≡ o
+pub judged_none : (dig : List ℕ → List ℕ) (k : Facts) (o : Option FileState) → option_map (judged_file dig k []) o ≡ o
 judged_none dig k None = refl
 judged_none dig k (Some f) = refl
 
@@ -50,7 +50,7 @@ judged_none dig k (Some f) = refl
 module _ {D H : Type 0} (dig : List ℕ → List ℕ) (old : Parts D H) (file tree : ℕ) {slot : Slot D H} (here : slice_get old.slots.items file ≡ Some slot)
     {k : Facts} (there : slice_get old.trees.items tree ≡ Some k) where
   abbrev count : ℕ
-  count = blocks_in (state_of old) tree
+  count = block_count_of_tree (state_of old) tree
 
   was : slice_get (state_of old).files file ≡ Some (file_of slot)
   was = get_mapped file_of old.slots.items file here

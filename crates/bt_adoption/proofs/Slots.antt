@@ -20,10 +20,10 @@ use Rattle.bt_state.specs.declared.parts.Parts.{Parts}
 use Rattle.bt_state.proofs.Leaves.{still, leaves_by, one_grown, same_names}
 use Rattle.bt_state.proofs.Lists.{get_mapped, get_read}
 use Rattle.bt_state.proofs.SlotChanges.{file_here, files_changed, have_changed, fits_changed, fits_trees, set_again}
-use Rattle.bt_adoption.specs.GroupSteps.{log_in}
+use Rattle.bt_adoption.specs.GroupSteps.{log_in, file_view}
 use Rattle.bt_adoption.specs.GroupsSteps.{all_reads, file_with, AreTaken, TakesGroups, StopsTaking}
 use Rattle.bt_adoption.specs.RecountSteps.{with_marked_file}
-use Rattle.bt_adoption.specs.PartsSteps.{AreFit, ChangesFile, blocks_in}
+use Rattle.bt_adoption.specs.PartsSteps.{AreFit, ChangesFile, block_count_of_tree}
 use Rattle.bt_adoption.specs.AdoptionSteps.{AdoptsIn, StopsIn}
 use Rattle.bt_adoption.proofs.Logs.{logged_same, hints_same}
 use Rattle.bt_adoption.proofs.Takings.{taken_state}
@@ -102,11 +102,11 @@ pub record IsKept {D : Type 0} (k : Facts) (store : StoreView D) (grown : Facts)
   pub still : StillKnows k grown
 
 module _ {D : Type 0} {history : D → History} {honest : D → Type 0} {faults : D → ℕ} {dig : List ℕ → List ℕ} {k : Facts} {store : StoreView D} {grown : Facts} {after : StoreView D} where
-  pub kept_taken : {file : ℕ} {logged : Bool} {pending left : List Hint} {groups : List (List BlockRead)} {total : Adopted}
-      → TakesGroups history honest faults dig file logged k store pending groups total grown after left → IsKept k store grown after
+  pub kept_taken : {file : ℕ} {logged : Bool} {pending left : List Hint} {total : Adopted}
+      → TakesGroups history honest faults dig file logged (file_view k store pending) total (file_view grown after left) → IsKept k store grown after
   kept_taken t = record { file_length = t.same_file; size = t.same_size; still = t.still }
 
-  pub kept_stopped : {file : ℕ} {logged : Bool} {pending left : List Hint} → StopsTaking history honest faults dig file logged k store pending grown after left → IsKept k store grown after
+  pub kept_stopped : {file : ℕ} {logged : Bool} {pending left : List Hint} → StopsTaking history honest faults dig file logged (file_view k store pending) (file_view grown after left) → IsKept k store grown after
   kept_stopped s = record {
     file_length = ap (λ (v : StoreView D). v.file_length) s.others ∙ s.takes.same_file;
     size = ap (λ (v : StoreView D). length v.states) s.others ∙ s.takes.same_size;
@@ -151,12 +151,12 @@ module _ {D H : Type 0} {old : Parts D H} {file : ℕ} {slot : Slot D H} {store 
         | inr was ↦ (g, was, refl)
       ]
 
-  blocks_kept : (tree : ℕ) → option_map_or blocks_of (slice_get trees tree) 0 ≡ blocks_in (state_of old) tree
+  blocks_kept : (tree : ℕ) → option_map_or blocks_of (slice_get trees tree) 0 ≡ block_count_of_tree (state_of old) tree
   unfolding trees
   blocks_kept tree = elim (cases_eq tree slot.tree) [
     | inl own ↦ ap (λ n. option_map_or blocks_of (slice_get (slice_set old.trees.items slot.tree grown) n) 0) own
         ∙ ap (λ o. option_map_or blocks_of o 0) (set_same old.trees.items slot.tree {x = grown} at.there) ∙ ap block_count kept.still.long
-        ∙ ap (λ o. option_map_or blocks_of o 0) (sym at.there) ∙ ap (blocks_in (state_of old)) (sym own)
+        ∙ ap (λ o. option_map_or blocks_of o 0) (sym at.there) ∙ ap (block_count_of_tree (state_of old)) (sym own)
     | inr apart ↦ ap (λ o. option_map_or blocks_of o 0) (set_other old.trees.items slot.tree tree grown apart)
   ]
 
@@ -217,51 +217,51 @@ module _ {D H : Type 0} {old : Parts D H} {file : ℕ} {slot : Slot D H} {store 
       ∙ ap (λ b. record (taken_state (state_of old) file slot.tree states grown (pending_of log)) { logged = b; hints = hints_of log }) (logged_same log old.log same_log)
       ∙ ap (λ hs. record (taken_state (state_of old) file slot.tree states grown (pending_of log)) { hints = hs }) (hints_same log old.log same_log))
 
-  taken_in : (dig : List ℕ → List ℕ) (after : StoreView D) (grown : Facts) (groups : List (List BlockRead)) (total : Adopted) {states : List BlockState}
+  taken_in : (dig : List ℕ → List ℕ) (after : StoreView D) (grown : Facts) (groups : List (List BlockRead)) (total : Adopted) (mid : StoreView D)
       (log : Option (OpenLog D)) → log_in log ≡ log_of old
-      → AreTaken dig file (is_some old.log) k store.states (pending_of old.log) groups total grown states (pending_of log) → after.states ≡ states
+      → AreTaken dig file (is_some old.log) (file_view k store (pending_of old.log)) groups total (file_view grown mid (pending_of log)) → after.states ≡ mid.states
       → AdoptsGroups dig (state_of old) file 0 (map (reads_at file k.file_length) groups) total (state_of (parts_with old file slot after grown log))
-  taken_in dig after grown groups total log same_log taken is =
+  taken_in dig after grown groups total mid log same_log taken is =
       subst (λ (s : EngineState). AdoptsGroups dig (state_of old) file 0 (map (reads_at file k.file_length) groups) total s) (state_is after grown is log same_log)
       (taken (state_of old) slot.tree refl refl
       (record { here = file_here old.slots.items file at.here at.has store; has_tree = at.there }))
 
   module _ {history : D → History} {honest : D → Type 0} {faults : D → ℕ} {dig : List ℕ → List ℕ} {after : StoreView D} {grown : Facts} (log : Option (OpenLog D)) (same_log : log_in log ≡ log_of old) where
-    pub adopts_in : {groups : List (List BlockRead)} {total : Adopted}
-        → TakesGroups history honest faults dig file (is_some old.log) k store (pending_of old.log) groups total grown after (pending_of log)
+    pub adopts_in : {total : Adopted}
+        → TakesGroups history honest faults dig file (is_some old.log) (file_view k store (pending_of old.log)) total (file_view grown after (pending_of log))
         → total.next ≡ length store.states → AdoptsIn history honest faults dig file old total (parts_with old file slot after grown log)
-    adopts_in {groups} {total} takes all = record {
-      groups = map (reads_at file k.file_length) groups;
-      calls = rw (group_calls file k.file_length groups ∙ calls_are file (all_reads groups) at.same)
-          (have_changed old.slots.items file at.here at.has after history honest faults (map (call_of store.file_length) (all_reads groups)) takes.calls);
-      adopts = taken_in dig after grown groups total log same_log takes.taken refl;
+    adopts_in {total} takes all = record {
+      groups = map (reads_at file k.file_length) takes.groups;
+      calls = rw (group_calls file k.file_length takes.groups ∙ calls_are file (all_reads takes.groups) at.same)
+          (have_changed old.slots.items file at.here at.has after history honest faults (map (call_of store.file_length) (all_reads takes.groups)) takes.calls);
+      adopts = taken_in dig after grown takes.groups total after log same_log takes.taken refl;
       all = all ∙ sym (length_is old file at.here at.has);
     }
 
     pub stops_in : CallsCompose history honest faults → 0 < length (states_of (state_of old) file)
-        → StopsTaking history honest faults dig file (is_some old.log) k store (pending_of old.log) grown after (pending_of log)
+        → StopsTaking history honest faults dig file (is_some old.log) (file_view k store (pending_of old.log)) (file_view grown after (pending_of log))
         → StopsIn history honest faults dig file old (parts_with old file slot after grown log)
     stops_in compose some s =
         let call = call_of store.file_length in
         let states = ap (λ (v : StoreView D). v.states) s.others in
         let last = subst (λ m. HasCalls history honest faults s.before.disk (map (call_of m) s.last) after.disk) s.takes.same_file s.calls in
-        let calls : flat_map (λ c. c) (map (reads_at file k.file_length) s.groups) ++ reads_at file grown.file_length s.last
-        ≡ calls_at file (map (call_of store.file_length) (all_reads s.groups) ++ map (call_of store.file_length) s.last) =
-        ap (λ cs. cs ++ reads_at file grown.file_length s.last) (group_calls file k.file_length s.groups ∙ calls_are file (all_reads s.groups) at.same)
-        ∙ ap (λ cs. calls_at file (map (call_of store.file_length) (all_reads s.groups)) ++ cs) (calls_are file s.last (s.takes.still.long ∙ at.same))
-        ∙ sym (map-append (λ call. (file, call)) (map (call_of store.file_length) (all_reads s.groups)) (map (call_of store.file_length) s.last)) in
+        let calls : flat_map (λ c. c) (map (reads_at file k.file_length) s.takes.groups) ++ reads_at file grown.file_length s.last
+        ≡ calls_at file (map (call_of store.file_length) (all_reads s.takes.groups) ++ map (call_of store.file_length) s.last) =
+        ap (λ cs. cs ++ reads_at file grown.file_length s.last) (group_calls file k.file_length s.takes.groups ∙ calls_are file (all_reads s.takes.groups) at.same)
+        ∙ ap (λ cs. calls_at file (map (call_of store.file_length) (all_reads s.takes.groups)) ++ cs) (calls_are file s.last (s.takes.still.long ∙ at.same))
+        ∙ sym (map-append (λ call. (file, call)) (map (call_of store.file_length) (all_reads s.takes.groups)) (map (call_of store.file_length) s.last)) in
         record {
-          made = flat_map (λ c. c) (map (reads_at file k.file_length) s.groups) ++ reads_at file grown.file_length s.last;
-          calls = rw calls (have_changed old.slots.items file at.here at.has after history honest faults (map call (all_reads s.groups) ++ map call s.last)
-              (compose store.disk s.before.disk after.disk (map call (all_reads s.groups)) (map call s.last) s.takes.calls last));
+          made = flat_map (λ c. c) (map (reads_at file k.file_length) s.takes.groups) ++ reads_at file grown.file_length s.last;
+          calls = rw calls (have_changed old.slots.items file at.here at.has after history honest faults (map call (all_reads s.takes.groups) ++ map call s.last)
+              (compose store.disk s.before.disk after.disk (map call (all_reads s.takes.groups)) (map call s.last) s.takes.calls last));
           stops = record {
             state = file_with slot.tree after.states;
             tree = grown;
-            groups = map (reads_at file k.file_length) s.groups;
+            groups = map (reads_at file k.file_length) s.takes.groups;
             done = s.done;
             reads = s.last;
             some = λ none. absurd (omega (arith, ap (λ (xs : List BlockState). length xs) none, ap (λ (xs : List BlockState). length xs) states, s.takes.same_size, some, length_is old file at.here at.has));
-            adopts = taken_in dig after grown s.groups s.done log same_log s.takes.taken states;
+            adopts = taken_in dig after grown s.takes.groups s.done s.before log same_log s.takes.taken states;
             is_file = record {
               here = ap (λ (fs : List FileState). slice_get fs file) (files_changed old.slots.items file at.here at.has after)
                   ∙ set_same (state_of old).files file (file_here old.slots.items file at.here at.has store);

@@ -17,7 +17,7 @@ use Rattle.bt_machine.specs.Request.{IsFile}
 use Rattle.bt_machine.specs.Adopting.{IsProof, proof_keys, AdoptsGroup, AdoptsGroups, nothing_adopted, adopted_together, unread, read}
 use Rattle.bt_state.specs.Ties.{StillKnows}
 use Rattle.bt_state.proofs.Leaves.{still, still_then, still_joined}
-use Rattle.bt_adoption.specs.GroupSteps.{TakesGroup, StopsGroup, not_read, not_taken}
+use Rattle.bt_adoption.specs.GroupSteps.{FileView, TakesGroup, StopsGroup, not_read, not_taken}
 use Rattle.bt_adoption.specs.GroupsSteps.{all_reads, file_with, AreTaken, TakesGroups, StopsTaking}
 use Rattle.bt_adoption.specs.MarksSteps.{newly_marked, marks_in}
 use Rattle.bt_adoption.proofs.Borders.{IsBorder, at_start, behind_group_of}
@@ -98,30 +98,30 @@ module _ {dig : List ℕ → List ℕ} where
         after = ap (λ p. record then_state { pending = p }) hints;
       }
 
-  taken_more : {D : Type 0} {history : D → History} {honest : D → Type 0} {faults : D → ℕ} {file : ℕ} {logged : Bool} (k : Facts) {mid grown : Facts} (old : List BlockState)
-      {before new : StoreView D} {pending waits left : List Hint} (groups : List (List BlockRead)) (total : Adopted) {one : Adopted}
-      → AreTaken dig file logged k old pending groups total mid before.states waits → mid.file_length ≡ k.file_length → total.next < blocks_of mid
-      → (group : TakesGroup history honest faults dig file logged mid total.next before waits one grown new left)
-      → AreTaken dig file logged k old pending (groups ++ group.reads ∷ []) (adopted_together total one) grown new.states left
-  taken_more {file = file} {logged = logged} k {mid} {grown} old {before} {new} {pending} {waits} {left} groups total {one} taken same inside group = λ s tree has_log had is.
-      let first = taken_state s file tree before.states mid waits in
+  taken_more : {D : Type 0} {history : D → History} {honest : D → Type 0} {faults : D → ℕ} {file : ℕ} {logged : Bool} (old : FileView D) {mid new : FileView D}
+      (groups : List (List BlockRead)) (total : Adopted) {one : Adopted}
+      → AreTaken dig file logged old groups total mid → mid.tree.file_length ≡ old.tree.file_length → total.next < blocks_of mid.tree
+      → (group : TakesGroup history honest faults dig file logged total.next mid one new)
+      → AreTaken dig file logged old (groups ++ group.reads ∷ []) (adopted_together total one) new
+  taken_more {file = file} {logged = logged} old {mid} {new} groups total {one} taken same inside group = λ s tree has_log had is.
+      let first = taken_state s file tree mid.store.states mid.tree mid.pending in
       let more = group_in {s = first} group.proofs group.proves group.leaves has_log refl
       (record { here = set_same s.files file is.here; has_tree = set_same s.trees tree is.has_tree }) inside group.adopts.adopts in
-      let after : taken_state first file tree new.states grown left ≡ taken_state s file tree new.states grown left =
-      ap (λ fs. record s { files = fs; trees = slice_set (slice_set s.trees tree mid) tree grown; pending = left }) (set-set s.files file (file_with tree before.states) (file_with tree new.states))
-      ∙ ap (λ ts. record s { files = slice_set s.files file (file_with tree new.states); trees = ts; pending = left }) (set-set s.trees tree mid grown) in
-      let list : map (reads_at file k.file_length) groups ++ reads_at file mid.file_length group.reads ∷ [] ≡ map (reads_at file k.file_length) (groups ++ group.reads ∷ []) =
-      ap (λ n. map (reads_at file k.file_length) groups ++ reads_at file n group.reads ∷ []) same ∙ sym (map-append (reads_at file k.file_length) groups (group.reads ∷ [])) in
-      subst (λ cs. AdoptsGroups dig s file 0 cs (adopted_together total one) (taken_state s file tree new.states grown left)) list
-      (subst (λ (t : EngineState). AdoptsGroups dig s file 0 (map (reads_at file k.file_length) groups ++ reads_at file mid.file_length group.reads ∷ []) (adopted_together total one) t) after
-      (groups_more s file 0 (map (reads_at file k.file_length) groups) total (taken s tree has_log had is) more))
+      let after : taken_state first file tree new.store.states new.tree new.pending ≡ taken_state s file tree new.store.states new.tree new.pending =
+      ap (λ fs. record s { files = fs; trees = slice_set (slice_set s.trees tree mid.tree) tree new.tree; pending = new.pending })
+      (set-set s.files file (file_with tree mid.store.states) (file_with tree new.store.states))
+      ∙ ap (λ ts. record s { files = slice_set s.files file (file_with tree new.store.states); trees = ts; pending = new.pending }) (set-set s.trees tree mid.tree new.tree) in
+      let list : map (reads_at file old.tree.file_length) groups ++ reads_at file mid.tree.file_length group.reads ∷ [] ≡ map (reads_at file old.tree.file_length) (groups ++ group.reads ∷ []) =
+      ap (λ n. map (reads_at file old.tree.file_length) groups ++ reads_at file n group.reads ∷ []) same ∙ sym (map-append (reads_at file old.tree.file_length) groups (group.reads ∷ [])) in
+      subst (λ cs. AdoptsGroups dig s file 0 cs (adopted_together total one) (taken_state s file tree new.store.states new.tree new.pending)) list
+      (subst (λ (t : EngineState). AdoptsGroups dig s file 0 (map (reads_at file old.tree.file_length) groups ++ reads_at file mid.tree.file_length group.reads ∷ []) (adopted_together total one) t) after
+      (groups_more s file 0 (map (reads_at file old.tree.file_length) groups) total (taken s tree has_log had is) more))
 
-taken_none : (dig : List ℕ → List ℕ) (file : ℕ) (logged : Bool) (k : Facts) (states : List BlockState) (pending : List Hint)
-    → AreTaken dig file logged k states pending [] (nothing_adopted 0) k states pending
-taken_none dig file logged k states pending = λ s tree has_log had is. (
+taken_none : {D : Type 0} (dig : List ℕ → List ℕ) (file : ℕ) (logged : Bool) (old : FileView D) → AreTaken dig file logged old [] (nothing_adopted 0) old
+taken_none dig file logged old = λ s tree has_log had is. (
   refl,
-  ap (λ fs. record s { files = fs; trees = slice_set s.trees tree k; pending = pending }) (set_id s.files file is.here)
-      ∙ ap (λ ts. record s { trees = ts; pending = pending }) (set_id s.trees tree is.has_tree) ∙ ap (λ p. record s { pending = p }) (sym had),
+  ap (λ fs. record s { files = fs; trees = slice_set s.trees tree old.tree; pending = old.pending }) (set_id s.files file is.here)
+      ∙ ap (λ ts. record s { trees = ts; pending = old.pending }) (set_id s.trees tree is.has_tree) ∙ ap (λ p. record s { pending = p }) (sym had),
 )
 
 pub if_err_by : {X E : Type 0} {T : Type 0} (r : Result X E) → T → IfErr r (λ e. T)
@@ -130,58 +130,56 @@ if_err_by (Err e) t = t
 
 -- ---- the loop over the groups
 
-module _ {D : Type 0} {history : D → History} {honest : D → Type 0} {faults : D → ℕ} {dig : List ℕ → List ℕ} {file : ℕ} {logged : Bool} {k : Facts} {old : StoreView D} {pending : List Hint} where
-  takes_more : {mid grown : Facts} {before new : StoreView D} {waits left : List Hint} {groups : List (List BlockRead)} {total one : Adopted}
-      → CallsCompose history honest faults → TakesGroups history honest faults dig file logged k old pending groups total mid before waits → total.next < blocks_of mid
-      → (group : TakesGroup history honest faults dig file logged mid total.next before waits one grown new left)
-      → TakesGroups history honest faults dig file logged k old pending (groups ++ group.reads ∷ []) (adopted_together total one) grown new left
-  takes_more {mid} {grown} {before} {new} {waits} {left} {groups} {total} {one} compose takes inside group =
+module _ {D : Type 0} {history : D → History} {honest : D → Type 0} {faults : D → ℕ} {dig : List ℕ → List ℕ} {file : ℕ} {logged : Bool} {old : FileView D} where
+  takes_more : {mid new : FileView D} {total one : Adopted}
+      → CallsCompose history honest faults → TakesGroups history honest faults dig file logged old total mid → total.next < blocks_of mid.tree
+      → TakesGroup history honest faults dig file logged total.next mid one new → TakesGroups history honest faults dig file logged old (adopted_together total one) new
+  takes_more {mid} {new} {total} {one} compose takes inside group =
+      let groups = takes.groups in
       let reads = group.reads in
       let adopted = group.adopts in
-      let call = call_of old.file_length in
-      let list : map (call_of old.file_length) (all_reads (groups ++ group.reads ∷ [])) ≡ map (call_of old.file_length) (all_reads groups) ++ map (call_of old.file_length) group.reads =
-      ap (map (call_of old.file_length)) (flat_map-append (λ rs. rs) groups (group.reads ∷ []) ∙ ap (λ rs. all_reads groups ++ rs) (append-nil group.reads))
-      ∙ map-append (call_of old.file_length) (all_reads groups) group.reads in
+      let call = call_of old.store.file_length in
+      let list : map (call_of old.store.file_length) (all_reads (takes.groups ++ group.reads ∷ [])) ≡ map (call_of old.store.file_length) (all_reads takes.groups) ++ map (call_of old.store.file_length) group.reads =
+      ap (map (call_of old.store.file_length)) (flat_map-append (λ rs. rs) takes.groups (group.reads ∷ []) ∙ ap (λ rs. all_reads takes.groups ++ rs) (append-nil group.reads))
+      ∙ map-append (call_of old.store.file_length) (all_reads takes.groups) group.reads in
       record {
+        groups = takes.groups ++ group.reads ∷ [];
         calls = rw list
-            (compose old.disk before.disk new.disk (map call (all_reads groups)) (map call reads) takes.calls
-            (subst (λ n. HasCalls history honest faults before.disk (map (call_of n) reads) new.disk) takes.same_file adopted.calls));
-        taken = taken_more k old.states groups total takes.taken takes.still.long inside group;
+            (compose old.store.disk mid.store.disk new.store.disk (map call (all_reads groups)) (map call reads) takes.calls
+            (subst (λ n. HasCalls history honest faults mid.store.disk (map (call_of n) reads) new.store.disk) takes.same_file adopted.calls));
+        taken = taken_more old groups total takes.taken takes.still.long inside group;
         same_file = adopted.same_file ∙ takes.same_file;
         same_size = length_adopted adopted.adopts ∙ takes.same_size;
         still = still_then takes.still (still_adopted adopted.adopts);
       }
 
 -- so far groups were taken in, and their sums are within the blocks that they have
-pub record AreTaking {D : Type 0} (history : D → History) (honest : D → Type 0) (faults : D → ℕ) (dig : List ℕ → List ℕ) (file : ℕ) (logged : Bool) (k : Facts) (old : StoreView D)
-    (pending : List Hint) (total : Adopted) (grown : Facts) (new : StoreView D) (left : List Hint) : Type 0 where
-  pub groups : List (List BlockRead)
-  pub takes : TakesGroups history honest faults dig file logged k old pending groups total grown new left
-  pub border : IsBorder grown total.next
+pub record AreTaking {D : Type 0} (history : D → History) (honest : D → Type 0) (faults : D → ℕ) (dig : List ℕ → List ℕ) (file : ℕ) (logged : Bool) (old : FileView D)
+    (total : Adopted) (new : FileView D) : Type 0 where
+  pub takes : TakesGroups history honest faults dig file logged old total new
+  pub border : IsBorder new.tree total.next
   pub marked : total.marked ≤ total.next
   pub faulty : total.faults ≤ total.next
-  pub inside : total.next ≤ blocks_of k
+  pub inside : total.next ≤ blocks_of old.tree
 
-module _ {D : Type 0} {history : D → History} {honest : D → Type 0} {faults : D → ℕ} {dig : List ℕ → List ℕ} {file : ℕ} {logged : Bool} {k : Facts} {old : StoreView D} {pending : List Hint} where
-  pub taking_begun : NoCallsLead history honest faults → AreTaking history honest faults dig file logged k old pending (nothing_adopted 0) k old pending
+module _ {D : Type 0} {history : D → History} {honest : D → Type 0} {faults : D → ℕ} {dig : List ℕ → List ℕ} {file : ℕ} {logged : Bool} {old : FileView D} where
+  pub taking_begun : NoCallsLead history honest faults → AreTaking history honest faults dig file logged old (nothing_adopted 0) old
   taking_begun none = record {
-    groups = [];
-    takes = record { calls = none old.disk; taken = taken_none dig file logged k old.states pending; same_file = refl; same_size = refl; still = still k };
+    takes = record { groups = []; calls = none old.store.disk; taken = taken_none dig file logged old; same_file = refl; same_size = refl; still = still old.tree };
     border = at_start refl;
     marked = omega arith;
     faulty = omega arith;
     inside = omega arith;
   }
 
-  pub taking_more : CallsCompose history honest faults → {mid grown : Facts} {before new : StoreView D} {waits left : List Hint} {total one : Adopted} → IsRooted dig mid
-      → AreTaking history honest faults dig file logged k old pending total mid before waits → total.next < blocks_of k
-      → TakesGroup history honest faults dig file logged mid total.next before waits one grown new left → one.next ≤ blocks_of k
-      → AreTaking history honest faults dig file logged k old pending (adopted_together total one) grown new left
-  taking_more compose {mid} {grown} {before} {new} {waits} {left} {total} {one} rooted a lt group within =
-      let here : total.next < blocks_of mid = subst (λ n. total.next < block_count n) (sym a.takes.still.long) lt in
+  pub taking_more : CallsCompose history honest faults → {mid new : FileView D} {total one : Adopted} → IsRooted dig mid.tree
+      → AreTaking history honest faults dig file logged old total mid → total.next < blocks_of old.tree
+      → TakesGroup history honest faults dig file logged total.next mid one new → one.next ≤ blocks_of old.tree
+      → AreTaking history honest faults dig file logged old (adopted_together total one) new
+  taking_more compose {mid} {new} {total} {one} rooted a lt group within =
+      let here : total.next < blocks_of mid.tree = subst (λ n. total.next < block_count n) (sym a.takes.still.long) lt in
       let more = behind_group_of rooted here a.border group.adopts.adopts in
       record {
-        groups = a.groups ++ group.reads ∷ [];
         takes = takes_more compose a.takes here group;
         border = more.border;
         marked = (let own = more.marked in let ones = a.marked in omega arith);
@@ -190,13 +188,12 @@ module _ {D : Type 0} {history : D → History} {honest : D → Type 0} {faults 
       }
 
   -- the next group was refused memory
-  pub taking_stopped : NoCallsLead history honest faults → {mid : Facts} {before new : StoreView D} {waits : List Hint} {total : Adopted}
-      → AreTaking history honest faults dig file logged k old pending total mid before waits
-      → StopsGroup history honest faults dig mid total.next before new → StopsTaking history honest faults dig file logged k old pending mid new waits
-  taking_stopped none {mid} {before} {new} {waits} {total} a (not_taken reads stop) = record {
-    groups = a.groups;
+  pub taking_stopped : NoCallsLead history honest faults → {mid : FileView D} {new : StoreView D} {total : Adopted}
+      → AreTaking history honest faults dig file logged old total mid
+      → StopsGroup history honest faults dig mid.tree total.next mid.store new → StopsTaking history honest faults dig file logged old (record mid { store = new })
+  taking_stopped none {mid} {new} {total} a (not_taken reads stop) = record {
     done = total;
-    before = before;
+    before = mid.store;
     last = reads;
     takes = a.takes;
     calls = stop.calls;
@@ -206,13 +203,12 @@ module _ {D : Type 0} {history : D → History} {honest : D → Type 0} {faults 
     ];
     others = stop.others;
   }
-  taking_stopped none {mid} {before} {new} {waits} {total} a (not_read same) = record {
-    groups = a.groups;
+  taking_stopped none {mid} {new} {total} a (not_read same) = record {
     done = total;
-    before = before;
+    before = mid.store;
     last = [];
     takes = a.takes;
-    calls = subst (λ (v : StoreView D). HasCalls history honest faults before.disk [] v.disk) (sym same) (none before.disk);
+    calls = subst (λ (v : StoreView D). HasCalls history honest faults mid.store.disk [] v.disk) (sym same) (none mid.store.disk);
     stops = unread refl;
-    others = same ∙ ap (λ (v : StoreView D). record before { disk = v.disk }) (sym same);
+    others = same ∙ ap (λ (v : StoreView D). record mid.store { disk = v.disk }) (sym same);
   }

@@ -18,18 +18,26 @@ use Rattle.bt_adoption.specs.MarksSteps.{newly_marked, marks_in}
 abbrev pub log_in : {D : Type 0} → Option (OpenLog D) → Option (LogView D)
 log_in log = option_map (λ opened. opened.log) log
 
+-- what is taken in changes no more of an engine: a file's tree and its store, and the hints that wait
+pub record FileView (D : Type 0) : Type 0 where
+  pub tree : Facts
+  pub store : StoreView D
+  pub pending : List Hint
+
+abbrev pub file_view : {D : Type 0} → Facts → StoreView D → List Hint → FileView D
+file_view tree store pending = record { tree = tree; store = store; pending = pending }
+
 -- The store took in the group of a block. With a log these are left behind what was pending: its proofs, and
 -- then the marks of its newly marked blocks.
 pub record TakesGroup {D : Type 0} (history : D → History) (honest : D → Type 0) (faults : D → ℕ)
-    (dig : List ℕ → List ℕ) (file : ℕ) (logged : Bool) (k : Facts) (from : ℕ) (old : StoreView D)
-    (pending : List Hint) (adopted : Adopted) (grown : Facts) (new : StoreView D) (left : List Hint)
-    : Type 0 where
+    (dig : List ℕ → List ℕ) (file : ℕ) (logged : Bool) (from : ℕ) (old : FileView D) (adopted : Adopted)
+    (new : FileView D) : Type 0 where
   pub reads : List BlockRead
-  pub adopts : IsAdopted history honest faults dig k from old reads adopted grown new
+  pub adopts : IsAdopted history honest faults dig old.tree from old.store reads adopted new.tree new.store
   pub proofs : List Hint
-  pub proves : AllZip (IsProof dig grown) (proof_keys grown from adopted) proofs
-  pub leaves : left ≡ add_hints pending
-      (if logged then proofs ++ marks_in file (newly_marked old.states new.states) else [])
+  pub proves : AllZip (IsProof dig new.tree) (proof_keys new.tree from adopted) proofs
+  pub leaves : new.pending ≡ add_hints old.pending
+      (if logged then proofs ++ marks_in file (newly_marked old.store.states new.store.states) else [])
 
 -- memory was refused: before the group was read, or to the store
 pub data StopsGroup {D : Type 0} (history : D → History) (honest : D → Type 0) (faults : D → ℕ)

@@ -21,8 +21,8 @@ pub record AreInLine {D H : Type 0} (parts : Parts D H) : Type 0 where
   pub fits : AreFit parts
 
 -- how many blocks a file of this tree has
-abbrev pub blocks_in : EngineState → ℕ → ℕ
-blocks_in s tree = option_map_or blocks_of (slice_get s.trees tree) 0
+abbrev pub block_count_of_tree : EngineState → ℕ → ℕ
+block_count_of_tree s tree = option_map_or blocks_of (slice_get s.trees tree) 0
 
 -- Nothing changed but slots, trees, the book, the counts and what waits for the log. There are as many slots
 -- as before, the trees are of the same roots, lengths and blocks, each leaf that was known is, and the book
@@ -38,7 +38,7 @@ pub record KeepsRest {D H : Type 0} (old new : Parts D H) : Type 0 where
   pub log : log_of new ≡ log_of old
   pub count : length new.slots.items ≡ length old.slots.items
   pub trees : map root_and_length new.trees.items ≡ map root_and_length old.trees.items
-  pub blocks : (tree : ℕ) → blocks_in (state_of new) tree ≡ blocks_in (state_of old) tree
+  pub blocks : (tree : ℕ) → block_count_of_tree (state_of new) tree ≡ block_count_of_tree (state_of old) tree
   pub leaves : LeavesStay (state_of old) (state_of new)
   pub peers : peers_of new.book ≡ peers_of old.book
 
@@ -51,6 +51,6 @@ pub record ChangesFile {D H : Type 0} (file : ℕ) (old new : Parts D H) : Type 
   pub count : length new.slots.items ≡ length old.slots.items
   pub trees : map root_and_length new.trees.items ≡ map root_and_length old.trees.items
   pub alike : (with_marked_file (state_of new) file).files ≡ (with_marked_file (state_of old) file).files
-  pub blocks : (tree : ℕ) → blocks_in (state_of new) tree ≡ blocks_in (state_of old) tree
+  pub blocks : (tree : ℕ) → block_count_of_tree (state_of new) tree ≡ block_count_of_tree (state_of old) tree
   pub leaves : LeavesStay (state_of old) (state_of new)
   pub fits : AreFit new

@@ -13,14 +13,15 @@ use Rattle.bt_machine.specs.Adopting.{is_other}
 use Rattle.bt_state.specs.Parts.{state_of, disks_of}
 use Rattle.bt_state.specs.declared.slot.Slot.{Slot}
 use Rattle.bt_state.specs.declared.parts.Parts.{Parts}
-use Rattle.bt_adoption.specs.PartsSteps.{blocks_in}
+use Rattle.bt_adoption.specs.PartsSteps.{block_count_of_tree}
 
 -- all blocks of the meant files of a tree are settled, by calls of these devices
 abbrev pub SettlesFiles : {D H : Type 0} → (D → History) → (D → Type 0) → (D → ℕ) → (List ℕ → List ℕ)
     → (ℕ → Bool) → ℕ → Parts D H → Parts D H → Type 0
 SettlesFiles history honest faults dig is_meant tree old new = (calls : DeviceCalls) × (notes : List Note)
     × HaveCalls history honest faults (disks_of old) calls (disks_of new)
-    × SettlesIn dig is_meant tree 0 (blocks_in (state_of old) tree) (state_of old) calls notes (state_of new)
+    × SettlesIn dig is_meant tree 0 (block_count_of_tree (state_of old) tree) (state_of old) calls notes
+    (state_of new)
 
 -- the file is of the tree, and has a block that waits
 pub record IsDue {D H : Type 0} (tree : ℕ) (slot : Slot D H) : Type 0 where
@@ -36,6 +37,6 @@ pub record SettlesOthers {D H : Type 0} (history : D → History) (honest : D �
   pub notes : List Note
   pub settled : EngineState
   pub made : HaveCalls history honest faults (disks_of old) calls (disks_of new)
-  pub settles : SettlesIn dig (is_other file) tree 0 (blocks_in (state_of old) tree)
+  pub settles : SettlesIn dig (is_other file) tree 0 (block_count_of_tree (state_of old) tree)
       (state_of old) calls notes settled
   pub after : state_of new ≡ with_pending (state_of old) settled []

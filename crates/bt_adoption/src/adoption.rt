@@ -1,4 +1,4 @@
-ghost use Rattle.std.specs.Prelude.{[], ◌≡◌, ◌<◌, ◌↔◌, List, IsTrue, IfOk, IfErr, flat_map, length, vec_len};
+ghost use Rattle.std.specs.Prelude.{[], ◌≡◌, ◌<◌, ◌↔◌, IsTrue, IfOk, IfErr, length, vec_len};
 ghost use Rattle.bt_machine.specs.Devices.{DeviceCalls, HaveCalls};
 ghost use Rattle.bt_machine.specs.Blocks.{states_of};
 ghost use Rattle.bt_machine.specs.Shape.{IsShaped};
@@ -25,8 +25,8 @@ use std::alloc::{AllocError, Global};
 /// With a log each group leaves its proofs pending, and then the marks of its newly marked blocks; behind all
 /// groups come the marks of the blocks that have become marked in the other files.
 ///
-/// Errors: no such file; a peer is connected; out of memory, after which the groups that were taken in stay
-/// so, with what they left for the log, and no other file has changed.
+/// Errors, the first that is met: `NoFile`; `Busy` where a peer is connected; `OutOfMemory`, after which the
+/// groups that were taken in stay so, with what they left for the log, and no other file has changed.
 pub fn adopt<D: Disk + Drop, H: NodeHash>(
     alloc: Global,
     parts: &mut Parts<D, H>,
@@ -73,7 +73,7 @@ fn has_peer<D: Disk + Drop, H: NodeHash>(parts: &Parts<D, H>) -> bool
     parts.peers.len() > 0
 }
 
-/// Takes in all groups of a file that has a block. No peer is connected.
+/// Takes in all groups of a file that has a block. No peer is connected. Errors: out of memory.
 fn adopt_file<D: Disk + Drop, H: NodeHash>(
     alloc: Global,
     parts: &mut Parts<D, H>,
@@ -96,7 +96,8 @@ fn adopt_file<D: Disk + Drop, H: NodeHash>(
     adopted
 }
 
-/// Takes in all groups of a file that has a block. The book and the counts stay as they were.
+/// Takes in all groups of a file that has a block. The book and the counts stay as they were. Errors: out of
+/// memory.
 fn adopt_slot<D: Disk + Drop, H: NodeHash>(
     alloc: Global,
     parts: &mut Parts<D, H>,

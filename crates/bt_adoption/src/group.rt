@@ -7,9 +7,9 @@ ghost use Rattle.bt_sparse.specs.Anchor.{IsAnchor};
 ghost use Rattle.bt_store.specs.Adoption.{IsUnknownGroup};
 ghost use Rattle.bt_machine.specs.ProofKeys.{ProofKeysAreAnswered};
 ghost use Rattle.bt_state.specs.Parts.{pending_of};
-ghost use Rattle.bt_adoption.specs.GroupSteps.{log_in, TakesGroup, StopsGroup};
+ghost use Rattle.bt_adoption.specs.GroupSteps.{log_in, file_view, TakesGroup, StopsGroup};
 
-use crate::marks::{Run, push_marked, push_runs, unmarked_blocks, unmarked_runs};
+use crate::marks::{KNOWN_LEN, Kind, Run, push_marked, push_runs, runs_of, unmarked_blocks};
 use crate::run_proofs::{proof_rooms, push_proofs};
 use bt_disk::Disk;
 use bt_machine::proof_keys_are_answered;
@@ -19,9 +19,6 @@ use bt_state::OpenLog;
 use bt_store::{Adopted, FileStore};
 use bt_tree::NodeHash;
 use std::alloc::{AllocError, Global};
-
-/// How many blocks a group has at most whose leaves are known.
-const KNOWN_LEN: u32 = 8;
 
 /// Takes in the group of a block. With a log, its proofs and then the marks of its newly marked blocks are
 /// pending behind what was. The one error is out of memory: then the group may have been read.
@@ -36,9 +33,9 @@ pub(crate) fn adopt_group<D: Disk + Drop, H: NodeHash>(
     requires geometry { tree.old.file_length ≡ store.old.file_length }
     requires states { length store.old.states ≡ block_count store.old.file_length }
     requires inside { from < block_count store.old.file_length }
-    ensures ok { IfOk result (λ adopted. TakesGroup D.history D.honest D.faults H.digest file
-        (is_some log.old) tree.old from store.old (pending_of log.old)
-        adopted tree.new store.new (pending_of log.new)) }
+    ensures ok { IfOk result (λ adopted. TakesGroup D.history D.honest D.faults H.digest file (is_some log.old)
+        from (file_view tree.old store.old (pending_of log.old)) adopted
+        (file_view tree.new store.new (pending_of log.new))) }
     ensures onward { IfOk result (λ adopted. from < adopted.next) }
     ensures within { IfOk result (λ adopted. adopted.next ≤ block_count store.old.file_length) }
     ensures stop { IfErr result (λ _. StopsGroup D.history D.honest D.faults H.digest
@@ -54,7 +51,7 @@ pub(crate) fn adopt_group<D: Disk + Drop, H: NodeHash>(
     }
 }
 
-/// Takes in the group of a block, with a log.
+/// Takes in the group of a block, with a log. Errors: out of memory.
 fn adopt_recorded<D: Disk + Drop, H: NodeHash>(
     alloc: Global,
     store: &mut FileStore<D, H>,
@@ -67,8 +64,9 @@ fn adopt_recorded<D: Disk + Drop, H: NodeHash>(
     requires states { length store.old.states ≡ block_count store.old.file_length }
     requires inside { from < block_count store.old.file_length }
     requires answered { ProofKeysAreAnswered H.digest }
-    ensures ok { IfOk result (λ adopted. TakesGroup D.history D.honest D.faults H.digest file
-        true tree.old from store.old pending.old.hints adopted tree.new store.new pending.new.hints) }
+    ensures ok { IfOk result (λ adopted. TakesGroup D.history D.honest D.faults H.digest file true
+        from (file_view tree.old store.old pending.old.hints) adopted
+        (file_view tree.new store.new pending.new.hints)) }
     ensures onward { IfOk result (λ adopted. from < adopted.next) }
     ensures within { IfOk result (λ adopted. adopted.next ≤ block_count store.old.file_length) }
     ensures stop { IfErr result (λ _. StopsGroup D.history D.honest D.faults H.digest
@@ -78,15 +76,14 @@ fn adopt_recorded<D: Disk + Drop, H: NodeHash>(
 {
     let anchor = tree.anchor(from);
     if anchor == 0 {
-        adopt_known(alloc, store, tree, file, from, pending)
+        adopt_known(store, tree, file, from, pending)
     } else {
         adopt_claimed(alloc, store, tree, file, from, anchor, pending)
     }
 }
 
-/// Takes in a group whose leaves are known, which leaves no proof.
+/// Takes in a group whose leaves are known, which leaves no proof. Errors: out of memory.
 fn adopt_known<D: Disk + Drop, H: NodeHash>(
-    alloc: Global,
     store: &mut FileStore<D, H>,
     tree: &mut SparseTree<H>,
     file: u32,
@@ -97,8 +94,9 @@ fn adopt_known<D: Disk + Drop, H: NodeHash>(
     requires states { length store.old.states ≡ block_count store.old.file_length }
     requires inside { from < block_count store.old.file_length }
     requires known { IsAnchor tree.old from 0 }
-    ensures ok { IfOk result (λ adopted. TakesGroup D.history D.honest D.faults H.digest file
-        true tree.old from store.old pending.old.hints adopted tree.new store.new pending.new.hints) }
+    ensures ok { IfOk result (λ adopted. TakesGroup D.history D.honest D.faults H.digest file true
+        from (file_view tree.old store.old pending.old.hints) adopted
+        (file_view tree.new store.new pending.new.hints)) }
     ensures onward { IfOk result (λ adopted. from < adopted.next) }
     ensures within { IfOk result (λ adopted. adopted.next ≤ block_count store.old.file_length) }
     ensures stop { IfErr result (λ _. StopsGroup D.history D.honest D.faults H.digest
@@ -107,14 +105,15 @@ fn adopt_known<D: Disk + Drop, H: NodeHash>(
     ensures pending { IfErr result (λ _. pending.new.hints ≡ pending.old.hints) }
 {
     let group = blocks_ahead(tree, from);
-    let unmarked = unmarked_blocks(alloc, store, group)?;
+    let unmarked = unmarked_blocks(store, group);
     pending.reserve(unmarked.len())?;
     let adopted = store.adopt(tree, from)?;
-    push_marked(store, file, &unmarked, pending);
+    push_marked(store, file, unmarked.as_slice(), pending);
     Ok(adopted)
 }
 
-/// Takes in a group whose blocks are claimed together, below a node of layer `anchor`.
+/// Takes in a group whose blocks are claimed together, below a node of layer `anchor`. All room is made before
+/// the group is read. Errors: out of memory.
 fn adopt_claimed<D: Disk + Drop, H: NodeHash>(
     alloc: Global,
     store: &mut FileStore<D, H>,
@@ -131,8 +130,9 @@ fn adopt_claimed<D: Disk + Drop, H: NodeHash>(
     requires nearest { IsAnchor tree.old from anchor }
     requires above { 0 < anchor }
     requires high { anchor ≤ max_height }
-    ensures ok { IfOk result (λ adopted. TakesGroup D.history D.honest D.faults H.digest file
-        true tree.old from store.old pending.old.hints adopted tree.new store.new pending.new.hints) }
+    ensures ok { IfOk result (λ adopted. TakesGroup D.history D.honest D.faults H.digest file true
+        from (file_view tree.old store.old pending.old.hints) adopted
+        (file_view tree.new store.new pending.new.hints)) }
     ensures onward { IfOk result (λ adopted. from < adopted.next) }
     ensures within { IfOk result (λ adopted. adopted.next ≤ block_count store.old.file_length) }
     ensures stop { IfErr result (λ _. StopsGroup D.history D.honest D.faults H.digest
@@ -142,7 +142,7 @@ fn adopt_claimed<D: Disk + Drop, H: NodeHash>(
 {
     let group = group_below(tree, from, anchor);
     let rooms = proof_rooms(alloc, group, anchor)?;
-    let runs = unmarked_runs(alloc, store, group)?;
+    let runs = runs_of(alloc, store, group, Kind::Unmarked)?;
     pending.reserve(rooms.len() + runs.len())?;
     let adopted = store.adopt(tree, from)?;
     if adopted.marked > 0 {
@@ -162,7 +162,7 @@ fn blocks_ahead<H: NodeHash>(tree: &SparseTree<H>, from: u32) -> Run
     let rest = tree.geometry().blocks() - from;
     Run {
         first: from,
-        count: rest.min(KNOWN_LEN),
+        count: rest.min(KNOWN_LEN as u32),
     }
 }
 

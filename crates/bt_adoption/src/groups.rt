@@ -1,8 +1,7 @@
-ghost use Rattle.std.specs.Prelude.{◌≡◌, ◌+◌, ◌^◌, ◌<◌, List, is_some, IfOk, IfErr, length};
-ghost use Rattle.bt_store.specs.BlockReads.{BlockRead};
+ghost use Rattle.std.specs.Prelude.{◌≡◌, ◌+◌, ◌^◌, ◌<◌, is_some, IfOk, IfErr, length};
 ghost use Rattle.bt_machine.specs.Adopting.{adopted_together};
 ghost use Rattle.bt_state.specs.Parts.{pending_of};
-ghost use Rattle.bt_adoption.specs.GroupSteps.{log_in};
+ghost use Rattle.bt_adoption.specs.GroupSteps.{log_in, file_view};
 ghost use Rattle.bt_adoption.specs.GroupsSteps.{TakesGroups, StopsTaking};
 
 use crate::group::adopt_group;
@@ -23,13 +22,13 @@ pub(crate) fn adopt_groups<D: Disk + Drop, H: NodeHash>(
     log: &mut Option<OpenLog<D>>,
 ) -> Result<Adopted, AllocError>
     requires { tree.old.file_length ≡ store.old.file_length }
-    ensures ok { IfOk result (λ total. (groups : List (List BlockRead))
-        × TakesGroups D.history D.honest D.faults H.digest file (is_some log.old)
-        tree.old store.old (pending_of log.old) groups total tree.new store.new (pending_of log.new)) }
+    ensures ok { IfOk result (λ total. TakesGroups D.history D.honest D.faults H.digest file (is_some log.old)
+        (file_view tree.old store.old (pending_of log.old)) total
+        (file_view tree.new store.new (pending_of log.new))) }
     ensures all { IfOk result (λ total. total.next ≡ length store.old.states) }
-    ensures stop { IfErr result (λ _. StopsTaking D.history D.honest D.faults H.digest
-        file (is_some log.old) tree.old store.old (pending_of log.old)
-        tree.new store.new (pending_of log.new)) }
+    ensures stop { IfErr result (λ _. StopsTaking D.history D.honest D.faults H.digest file (is_some log.old)
+        (file_view tree.old store.old (pending_of log.old))
+        (file_view tree.new store.new (pending_of log.new))) }
     ensures log { log_in log.new ≡ log_in log.old }
 {
     let blocks = store.geometry().blocks();

@@ -46,6 +46,7 @@ pub(crate) fn block_count<D: Disk + Drop, H: NodeHash>(parts: &Parts<D, H>, file
     }
 }
 
+/// How many blocks a slot's file has.
 fn slot_blocks<D: Disk + Drop, H: NodeHash>(slot: &Slot<D, H>) -> u32
     ensures { result ≡ length (file_of slot.now).states }
 {
@@ -71,6 +72,7 @@ fn block_state<D: Disk + Drop, H: NodeHash>(
     slot_state(slot, block)
 }
 
+/// The state of a block of a slot's file.
 fn slot_state<D: Disk + Drop, H: NodeHash>(slot: &Slot<D, H>, block: u32) -> BlockState
     requires { block < length (file_of slot.now).states }
     ensures { slice_get (file_of slot.now).states block ≡ Some result }

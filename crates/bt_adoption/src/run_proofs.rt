@@ -1,6 +1,6 @@
 //! The proofs that are left for a log of blocks that were claimed together: one for each run that begins
 //! among them and is as long as a run of a key may be.
-ghost use Rattle.std.specs.Prelude.{◌≡◌, ℕ, ◌+◌, ◌%◌, ◌^◌, ◌<◌, ◌≤◌, ◌==◌, List, All, Contains, IfOk, min, map, length};
+ghost use Rattle.std.specs.Prelude.{◌≡◌, ◌+◌, ◌%◌, ◌^◌, ◌<◌, ◌≤◌, ◌==◌, List, All, Contains, IfOk, min, length};
 ghost use Rattle.std.specs.List.{AllZip, range_with_len};
 ghost use Rattle.bt_tree.specs.Limits.{max_block_count, max_height};
 ghost use Rattle.bt_sparse.specs.Answer.{HasRoom};
@@ -43,7 +43,7 @@ fn run_key<H: NodeHash>(tree: &SparseTree<H>, block: u32, anchor: u32) -> HashKe
     }
 }
 
-/// Memory for the digests of each proof of a group.
+/// Memory for the digests of each proof of a group. Errors: out of memory.
 pub(crate) fn proof_rooms(
     alloc: Global,
     group: Run,
@@ -65,7 +65,7 @@ pub(crate) fn proof_rooms(
     Ok(rooms)
 }
 
-/// Memory for the digests of a proof.
+/// Memory for the digests of a proof. Errors: out of memory.
 fn proof_room(alloc: Global, anchor: u32) -> Result<Vec<Hash32>, AllocError>
     requires above { 0 < anchor }
     requires high { anchor ≤ max_height }

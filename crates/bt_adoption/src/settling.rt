@@ -5,10 +5,10 @@ ghost use Rattle.bt_state.specs.Parts.{pending_of};
 ghost use Rattle.bt_state.specs.Roots.{LeadThrough};
 ghost use Rattle.bt_adoption.specs.PartsSteps.{AreFit, AreInLine, KeepsRest, ChangesFile};
 ghost use Rattle.bt_adoption.specs.SettlingSteps.{SettlesFiles, SettlesOthers, IsDue};
-ghost use Rattle.bt_adoption.specs.WaitingSteps.{KeepsLog};
+ghost use Rattle.bt_adoption.specs.WaitingSteps.{OnlyPendingChanges};
 
 use crate::recount::{count_in, leave_out};
-use crate::waiting::{leave_marks, plan_marks};
+use crate::waiting::{leave_marks, list_waiting};
 use bt_disk::Disk;
 use bt_state::{Parts, Slot};
 use bt_tree::NodeHash;
@@ -17,7 +17,7 @@ use std::alloc::{AllocError, Global};
 /// Settles all blocks of the other files of a tree, all but this one. With a log the marks of those that have
 /// become marked are pending behind what was. No peer is connected.
 ///
-/// The one error is out of memory: then no block has changed, and nothing more is pending.
+/// Errors: out of memory, and then no block has changed, and nothing more is pending.
 pub(crate) fn settle_recorded<D: Disk + Drop, H: NodeHash>(
     alloc: Global,
     parts: &mut Parts<D, H>,
@@ -30,14 +30,14 @@ pub(crate) fn settle_recorded<D: Disk + Drop, H: NodeHash>(
     requires lead { LeadThrough parts.old.slots.items parts.old.roots tree }
     ensures settles { OnOk result (SettlesOthers D.history D.honest D.faults H.digest file tree
         parts.old parts.new) }
-    ensures refused { OnErr result (KeepsLog parts.old parts.new) }
+    ensures refused { OnErr result (OnlyPendingChanges parts.old parts.new) }
     ensures pending { OnErr result (pending_of parts.new.log ≡ pending_of parts.old.log) }
     ensures rest { KeepsRest parts.old parts.new }
     ensures in_line { AreInLine parts.new }
 {
-    let waiting = plan_marks(alloc, parts, tree, file)?;
+    let listed = list_waiting(alloc, parts, tree, file)?;
     settle_others(parts, tree, file);
-    leave_marks(parts, &waiting);
+    leave_marks(parts, &listed);
     Ok(())
 }
 

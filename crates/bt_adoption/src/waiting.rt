@@ -1,50 +1,55 @@
 //! The blocks that wait in the other files of a tree. Where their marks are to be left for a log, they are
-//! listed before they are settled, and room is made for a mark of each.
-ghost use Rattle.std.specs.Prelude.{[], ◌≡◌, ◌<◌, ◌≤◌, ◌++◌, All, IfOk, OnOk, List, filter, map, length, is_some, true, if◌then◌else◌};
-ghost use Rattle.bt_tree.specs.Limits.{max_block_count};
+//! listed before they are settled, and room is made for all hints that their marks may take.
+ghost use Rattle.std.specs.Prelude.{[], ◌≡◌, ◌<◌, ◌≤◌, ◌+◌, ◌++◌, ◌^◌, IfOk, OnOk, filter, flat_map, map, length, is_some, true, if◌then◌else◌};
+ghost use Rattle.bt_store.specs.Review.{is_marked_at};
 ghost use Rattle.bt_machine.specs.Hints.{mark_of, add_hints};
 ghost use Rattle.bt_machine.specs.Blocks.{block_id};
-ghost use Rattle.bt_store.specs.Review.{is_marked_at, is_waiting_at};
 ghost use Rattle.bt_state.specs.Parts.{state_of, file_of, pending_of};
 ghost use Rattle.bt_state.specs.Roots.{LeadThrough};
 ghost use Rattle.bt_adoption.specs.GroupSteps.{log_in};
-ghost use Rattle.bt_adoption.specs.WaitingSteps.{room_in, KeepsLog, is_marked_of, waiting_in, waiting_others};
+ghost use Rattle.bt_adoption.specs.MarksSteps.{marks_in, run_blocks, AreRuns, most_hints};
+ghost use Rattle.bt_adoption.specs.WaitingSteps.{room_in, OnlyPendingChanges, is_marked_among, waiting_blocks_in, waiting_in_others, listed_in, listed_blocks, AreListed, most_hints_of_all};
 
-use crate::marks::is_marked;
+use crate::marks::{Kind, Run, most_hints, push_marked_in, runs_of};
 use crate::settling::is_due;
-use bt_book::BlockId;
 use bt_disk::Disk;
 use bt_pending::Pending;
 use bt_state::{OpenLog, Parts, Roots, Slot};
-use bt_store::{BlockState, FileStore};
 use bt_tree::NodeHash;
 use std::alloc::{AllocError, Global};
 
-/// The blocks that wait in the other files of a tree, by file and block, with room for a mark of each; none
-/// without a log. The one error is out of memory.
-pub(crate) fn plan_marks<D: Disk + Drop, H: NodeHash>(
+/// Blocks of a file, in runs.
+#[derive(Drop)]
+pub(crate) struct FileRuns {
+    pub(crate) file: u32,
+    pub(crate) runs: Vec<Run>,
+}
+
+/// The blocks that wait in the other files of a tree, by file and block, with room for all hints that their
+/// marks may take; none without a log. Errors: out of memory, and then only the room may have grown.
+pub(crate) fn list_waiting<D: Disk + Drop, H: NodeHash>(
     alloc: Global,
     parts: &mut Parts<D, H>,
     tree: usize,
     file: u32,
-) -> Result<Vec<BlockId>, AllocError>
+) -> Result<Vec<FileRuns>, AllocError>
     requires { LeadThrough parts.old.slots.items parts.old.roots tree }
-    ensures blocks { IfOk result (λ blocks. blocks.items ≡ (if is_some parts.old.log
-        then waiting_others file tree (state_of parts.old).files (length parts.old.slots.items) else [])) }
-    ensures within { IfOk result (λ blocks. All (λ b. b.block < max_block_count) blocks.items) }
-    ensures room { IfOk result (λ blocks. length blocks.items ≤ room_in parts.new.log) }
-    ensures keeps { KeepsLog parts.old parts.new }
+    ensures blocks { IfOk result (λ listed. listed_blocks listed.items ≡ (if is_some parts.old.log
+        then waiting_in_others file tree (state_of parts.old).files else [])) }
+    ensures runs { IfOk result (λ listed. AreListed listed.items) }
+    ensures room { IfOk result (λ listed. most_hints_of_all listed.items ≤ room_in parts.new.log) }
+    ensures keeps { OnlyPendingChanges parts.old parts.new }
     ensures pending { pending_of parts.new.log ≡ pending_of parts.old.log }
 {
     if parts.log.is_none() {
         return Ok(Vec::new(alloc));
     }
-    let blocks = find_waiting(alloc, &parts.slots, &parts.roots, tree, file)?;
-    make_room(&mut parts.log, blocks.len())?;
-    Ok(blocks)
+    let listed = find_waiting(alloc, &parts.slots, &parts.roots, tree, file)?;
+    make_room(&mut parts.log, most_hints_of_all(&listed))?;
+    Ok(listed)
 }
 
-/// Makes room for so many more hints, where there is a log.
+/// Makes room for so many more hints, where there is a log. Errors: out of memory.
 fn make_room<D: Disk + Drop>(log: &mut Option<OpenLog<D>>, count: usize) -> Result<(), AllocError>
     ensures room { is_some log.old ≡ true → OnOk result (count ≤ room_in log.new) }
     ensures log { log_in log.new ≡ log_in log.old }
@@ -56,41 +61,58 @@ fn make_room<D: Disk + Drop>(log: &mut Option<OpenLog<D>>, count: usize) -> Resu
     }
 }
 
-/// The blocks that wait in the other files of a tree. No file of another tree is looked at.
+/// How many hints the marks of listed blocks take at most, whichever of them are marked.
+fn most_hints_of_all(listed: &[FileRuns]) -> usize
+    requires runs { AreListed listed.now }
+    requires few { length listed.now ≤ 2 ^ 32 }
+    ensures { result ≡ most_hints_of_all listed.now }
+{
+    let mut hints = 0;
+    for one in listed {
+        hints += most_hints(&one.runs);
+    }
+    hints
+}
+
+/// The blocks that wait in the other files of a tree. No file of another tree is looked at. Errors: out of
+/// memory.
 fn find_waiting<D: Disk + Drop, H: NodeHash>(
     alloc: Global,
     slots: &[Slot<D, H>],
     roots: &Roots,
     tree: usize,
     file: u32,
-) -> Result<Vec<BlockId>, AllocError>
+) -> Result<Vec<FileRuns>, AllocError>
     requires { LeadThrough slots.now roots.now tree }
-    ensures blocks { IfOk result (λ blocks.
-        blocks.items ≡ waiting_others file tree (map file_of slots.now) (length slots.now)) }
-    ensures within { IfOk result (λ blocks. All (λ b. b.block < max_block_count) blocks.items) }
+    ensures blocks { IfOk result (λ listed.
+        listed_blocks listed.items ≡ waiting_in_others file tree (map file_of slots.now)) }
+    ensures runs { IfOk result (λ listed. AreListed listed.items) }
+    ensures few { IfOk result (λ listed. length listed.items ≤ 2 ^ 32) }
 {
-    let mut blocks = Vec::new(alloc);
+    let mut listed = Vec::new(alloc);
     let mut other = roots.first_files[tree];
     while (other as usize) < slots.len() {
         if other != file {
-            add_waiting(&slots[other as usize], tree, other, &mut blocks)?;
+            add_waiting(alloc, &slots[other as usize], tree, other, &mut listed)?;
         }
         other = roots.next_files[other as usize];
     }
-    Ok(blocks)
+    Ok(listed)
 }
 
-/// Puts the blocks of a file that wait behind others, where it is of the tree.
+/// Puts the blocks of a file that wait behind others, where it is of the tree. Errors: out of memory.
 fn add_waiting<D: Disk + Drop, H: NodeHash>(
+    alloc: Global,
     slot: &Slot<D, H>,
     tree: usize,
     file: u32,
-    blocks: &mut Vec<BlockId>,
+    listed: &mut Vec<FileRuns>,
 ) -> Result<(), AllocError>
-    requires { All (λ b. b.block < max_block_count) blocks.old.items }
-    ensures blocks { OnOk result (blocks.new.items
-        ≡ blocks.old.items ++ map (block_id file) (waiting_in tree (file_of slot.now))) }
-    ensures within { OnOk result (All (λ b. b.block < max_block_count) blocks.new.items) }
+    requires { AreListed listed.old.items }
+    ensures blocks { OnOk result (listed_blocks listed.new.items
+        ≡ listed_blocks listed.old.items ++ map (block_id file) (waiting_blocks_in tree (file_of slot.now))) }
+    ensures runs { OnOk result (AreListed listed.new.items) }
+    ensures few { OnOk result (length listed.new.items ≤ length listed.old.items + 1) }
 {
     if !is_due(slot, tree) {
         return Ok(());
@@ -98,69 +120,76 @@ fn add_waiting<D: Disk + Drop, H: NodeHash>(
     let Some(store) = &slot.store else {
         unreachable!();
     };
-    for block in 0..store.geometry().blocks() {
-        if is_waiting(store, block) {
-            blocks.push(BlockId { file, block })?;
-        }
-    }
+    let blocks = store.geometry().blocks();
+    let whole = Run {
+        first: 0,
+        count: blocks,
+    };
+    let runs = runs_of(alloc, store, whole, Kind::Waits)?;
+    listed.push(FileRuns { file, runs })?;
     Ok(())
 }
 
-/// Whether a block waits.
-fn is_waiting<D: Disk + Drop, H: NodeHash>(store: &FileStore<D, H>, block: u32) -> bool
-    ensures { result ≡ is_waiting_at store.now.states block }
-{
-    match store.state(block) {
-        Some(BlockState::Waiting) => true,
-        Some(BlockState::Marked | BlockState::Missing) | None => false,
-    }
-}
-
-/// Leaves the marks of those of the blocks that are marked now, where there is a log.
-pub(crate) fn leave_marks<D: Disk + Drop, H: NodeHash>(parts: &mut Parts<D, H>, blocks: &[BlockId])
-    requires within { All (λ b. b.block < max_block_count) blocks.now }
-    requires room { length blocks.now ≤ room_in parts.old.log }
-    ensures keeps { KeepsLog parts.old parts.new }
-    ensures pending { pending_of parts.new.log ≡ add_hints (pending_of parts.old.log)
-        (map (λ b. mark_of b) (filter (is_marked_of (state_of parts.old).files) blocks.now)) }
+/// Leaves the marks of those of the listed blocks that are marked now, where there is a log.
+pub(crate) fn leave_marks<D: Disk + Drop, H: NodeHash>(parts: &mut Parts<D, H>, listed: &[FileRuns])
+    requires runs { AreListed listed.now }
+    requires room { most_hints_of_all listed.now ≤ room_in parts.old.log }
+    ensures keeps { OnlyPendingChanges parts.old parts.new }
+    ensures pending { pending_of parts.new.log ≡ add_hints (pending_of parts.old.log) (map (λ b. mark_of b)
+        (filter (is_marked_among (state_of parts.old).files) (listed_blocks listed.now))) }
 {
     if let Some(opened) = &mut parts.log {
-        push_settled(&parts.slots, blocks, &mut opened.pending);
+        push_settled(&parts.slots, listed, &mut opened.pending);
     }
 }
 
+/// Leaves the marks of those of the listed blocks that are marked now.
 fn push_settled<D: Disk + Drop, H: NodeHash>(
     slots: &[Slot<D, H>],
-    blocks: &[BlockId],
+    listed: &[FileRuns],
     pending: &mut Pending,
 )
-    requires within { All (λ b. b.block < max_block_count) blocks.now }
-    requires room { length blocks.now ≤ pending.old.room }
-    ensures { pending.new.hints ≡ add_hints pending.old.hints
-        (map (λ b. mark_of b) (filter (is_marked_of (map file_of slots.now)) blocks.now)) }
+    requires runs { AreListed listed.now }
+    requires room { most_hints_of_all listed.now ≤ pending.old.room }
+    ensures { pending.new.hints ≡ add_hints pending.old.hints (map (λ b. mark_of b)
+        (filter (is_marked_among (map file_of slots.now)) (listed_blocks listed.now))) }
 {
-    for block in blocks {
-        if marks_block(slots, *block) {
-            pending.push_mark(block.file, block.block);
-        }
+    for one in listed {
+        push_settled_in(slots, one, pending);
     }
 }
 
-/// Whether a block is marked.
-fn marks_block<D: Disk + Drop, H: NodeHash>(slots: &[Slot<D, H>], block: BlockId) -> bool
-    ensures { result ≡ is_marked_of (map file_of slots.now) block }
+/// Leaves the marks of those of a file's listed blocks that are marked now.
+fn push_settled_in<D: Disk + Drop, H: NodeHash>(
+    slots: &[Slot<D, H>],
+    listed: &FileRuns,
+    pending: &mut Pending,
+)
+    requires runs { AreRuns listed.now.runs.items }
+    requires room { most_hints listed.now.runs.items ≤ pending.old.room }
+    ensures hints { pending.new.hints ≡ add_hints pending.old.hints (map (λ b. mark_of b)
+        (filter (is_marked_among (map file_of slots.now)) (listed_in listed.now))) }
+    ensures room { pending.old.room ≤ pending.new.room + most_hints listed.now.runs.items }
 {
-    match slots.get(block.file as usize) {
-        Some(slot) => slot_marks(slot, block.block),
-        None => false,
+    if let Some(slot) = slots.get(listed.file as usize) {
+        push_settled_of(slot, listed.file, &listed.runs, pending);
     }
 }
 
-fn slot_marks<D: Disk + Drop, H: NodeHash>(slot: &Slot<D, H>, block: u32) -> bool
-    ensures { result ≡ is_marked_at (file_of slot.now).states block }
+/// Leaves the marks of those blocks of a file's runs that are marked now.
+fn push_settled_of<D: Disk + Drop, H: NodeHash>(
+    slot: &Slot<D, H>,
+    file: u32,
+    runs: &[Run],
+    pending: &mut Pending,
+)
+    requires runs { AreRuns runs.now }
+    requires room { most_hints runs.now ≤ pending.old.room }
+    ensures hints { pending.new.hints ≡ add_hints pending.old.hints
+        (marks_in file (filter (is_marked_at (file_of slot.now).states) (flat_map run_blocks runs.now))) }
+    ensures room { pending.old.room ≤ pending.new.room + most_hints runs.now }
 {
-    match &slot.store {
-        Some(store) => is_marked(store, block),
-        None => false,
+    if let Some(store) = &slot.store {
+        push_marked_in(store, file, runs, pending);
     }
 }

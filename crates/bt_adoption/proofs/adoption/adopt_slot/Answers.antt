@@ -18,7 +18,7 @@ pub returns-clause-ok : goal.returns-clause-ok
 returns-clause-ok g c =
     let here = here_at c.args.parts.now c.requires.inside c.index_mut-slot.ensures.value in
     let at = stands_at c.args.parts.now c.args.file here c.requires.fits c.in-Some.is c.index_mut-tree.ensures.value in
-    if_ok_two c.adopt_groups.result c.adopt_groups.ensures.ok c.adopt_groups.ensures.all (λ total takes all. adopts_in at c.adopt_groups.new.log c.adopt_groups.ensures.log takes.1 all)
+    if_ok_two c.adopt_groups.result c.adopt_groups.ensures.ok c.adopt_groups.ensures.all (λ total takes all. adopts_in at c.adopt_groups.new.log c.adopt_groups.ensures.log takes all)
 
 pub returns-clause-stop : goal.returns-clause-stop
 returns-clause-stop g c =
@@ -30,4 +30,4 @@ pub returns-clause-changes : goal.returns-clause-changes
 returns-clause-changes g c =
     let here = here_at c.args.parts.now c.requires.inside c.index_mut-slot.ensures.value in
     let at = stands_at c.args.parts.now c.args.file here c.requires.fits c.in-Some.is c.index_mut-tree.ensures.value in
-    both_changed at (either_way c.adopt_groups.result c.adopt_groups.ensures.ok c.adopt_groups.ensures.stop (λ total takes. kept_taken takes.1) (λ stops. kept_stopped stops)) c.requires.fits c.adopt_groups.new.log c.adopt_groups.ensures.log
+    both_changed at (either_way c.adopt_groups.result c.adopt_groups.ensures.ok c.adopt_groups.ensures.stop (λ total takes. kept_taken takes) (λ stops. kept_stopped stops)) c.requires.fits c.adopt_groups.new.log c.adopt_groups.ensures.log

@@ -2,7 +2,7 @@ use Rattle.std.proofs.Common.{[], Option, sym, subst}
 use Rattle.std.specs.Prelude.{is_some}
 use Rattle.bt_state.specs.Parts.{pending_of}
 use Rattle.bt_state.specs.declared.open_log.OpenLog.{OpenLog}
-use Rattle.bt_adoption.specs.GroupSteps.{TakesGroup, not_taken}
+use Rattle.bt_adoption.specs.GroupSteps.{file_view, TakesGroup, not_taken}
 use Rattle.bt_adoption.proofs.Slots.{if_ok_then, if_err_then}
 use Rattle.bt_adoption.proofs.GroupMarks.{takes_bare}
 use Rattle.bt_adoption.proofs.group.adopt_group.Goals as goal
@@ -11,7 +11,8 @@ pub returns-in-None-clause-ok : goal.returns-in-None-clause-ok
 returns-in-None-clause-ok g c =
     let d = g.D.Disk in
     if_ok_then c.adopt.result c.adopt.ensures.ok (λ adopted taken.
-    subst (λ (log : Option (OpenLog g.row.D.Denot)). TakesGroup d.history d.honest d.faults g.H.NodeHash.digest c.args.file (is_some log) c.args.tree.now c.args.from c.args.store.now (pending_of log) adopted c.adopt.new.tree c.adopt.new.self (pending_of log))
+    subst (λ (log : Option (OpenLog g.row.D.Denot)). TakesGroup d.history d.honest d.faults g.H.NodeHash.digest c.args.file (is_some log) c.args.from
+    (file_view c.args.tree.now c.args.store.now (pending_of log)) adopted (file_view c.adopt.new.tree c.adopt.new.self (pending_of log)))
     (sym c.in-None.is) (takes_bare c.args.file [] taken.1 c.proof_keys_are_answered.ensures))
 
 pub returns-in-None-clause-stop : goal.returns-in-None-clause-stop

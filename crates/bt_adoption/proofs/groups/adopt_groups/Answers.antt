@@ -3,6 +3,7 @@ use Rattle.std.specs.Prelude.{is_some}
 use Rattle.bt_tree.specs.Blocks.{block_count}
 use Rattle.bt_store.specs.declared.adoption.Adopted.{Adopted}
 use Rattle.bt_state.specs.Parts.{pending_of}
+use Rattle.bt_adoption.specs.GroupSteps.{file_view}
 use Rattle.bt_adoption.proofs.Logs.{logged_same}
 use Rattle.bt_adoption.proofs.Takings.{AreTaking, taking_begun, taking_more, taking_stopped, if_err_by}
 use Rattle.bt_adoption.proofs.groups.adopt_groups.Goals as goal
@@ -55,8 +56,8 @@ loop-total-preserved g c =
     let same = ap block_count (c.geometry.ensures.value ∙ sym c.requires) in
     let group = rw (logged_same c.loop-total.log c.args.log.now c.loop-total.invariant.log) at c.in_ok-group.ensures.ok in
     record {
-      taking = subst (λ (t : Adopted). AreTaking d.history d.honest d.faults g.H.NodeHash.digest c.args.file (is_some c.args.log.now) c.args.tree.now c.args.store.now (pending_of c.args.log.now)
-          t c.adopt_group.new.tree c.adopt_group.new.store (pending_of c.adopt_group.new.log)) (sym c.together-total.ensures)
+      taking = subst (λ (t : Adopted). AreTaking d.history d.honest d.faults g.H.NodeHash.digest c.args.file (is_some c.args.log.now)
+          (file_view c.args.tree.now c.args.store.now (pending_of c.args.log.now)) t (file_view c.adopt_group.new.tree c.adopt_group.new.store (pending_of c.adopt_group.new.log))) (sym c.together-total.ensures)
           (taking_more c.calls_compose.ensures.both c.root.ensures.sound.rooted c.loop-total.invariant.taking (omega (arith, c.loop-total-test.true, c.blocks-blocks.ensures.value, same))
           group
           (omega (arith, c.in_ok-group.ensures.within, ap block_count c.loop-total.invariant.taking.takes.same_file, ap block_count c.requires)));

@@ -1,14 +1,14 @@
 use Rattle.std.proofs.Common.{◌≡◌, ◌-◌}
 use Rattle.std.specs.Prelude.{is_some}
 use Rattle.bt_state.specs.Parts.{pending_of}
-use Rattle.bt_adoption.specs.GroupSteps.{log_in}
+use Rattle.bt_adoption.specs.GroupSteps.{log_in, file_view}
 use Rattle.bt_adoption.proofs.Takings.{AreTaking}
 use Rattle.bt_adoption.proofs.groups.adopt_groups.Given as goal
 
 abbrev pub invariant-loop-total : goal.invariant-loop-total
 invariant-loop-total g l = record {
-  taking : AreTaking g.D.Disk.history g.D.Disk.honest g.D.Disk.faults g.H.NodeHash.digest l.file (is_some l.fn.log) l.fn.tree l.fn.store (pending_of l.fn.log)
-      l.total l.tree l.store (pending_of l.log);
+  taking : AreTaking g.D.Disk.history g.D.Disk.honest g.D.Disk.faults g.H.NodeHash.digest l.file (is_some l.fn.log) (file_view l.fn.tree l.fn.store (pending_of l.fn.log))
+      l.total (file_view l.tree l.store (pending_of l.log));
   log : log_in l.log ≡ log_in l.fn.log;
 }
 

@@ -1,25 +1,30 @@
-use Rattle.std.proofs.Common.{true, false, map, refl, sym, ap, ◌∙◌, arith}
-use Rattle.bt_pending.specs.Pending.{PendingView}
+use Rattle.std.proofs.Common.{map, sym, subst, arith}
 use Rattle.bt_state.specs.Parts.{file_of}
-use Rattle.bt_adoption.specs.WaitingSteps.{is_marked_of}
-use Rattle.bt_adoption.proofs.OtherMarks.{marked_more}
+use Rattle.bt_adoption.specs.declared.waiting.FileRuns.{FileRuns}
+use Rattle.bt_adoption.specs.MarksSteps.{AreRuns, most_hints}
+use Rattle.bt_adoption.specs.WaitingSteps.{is_marked_among}
+use Rattle.bt_adoption.proofs.RunMarks.{room_for_one, room_with_one}
+use Rattle.bt_adoption.proofs.OtherMarks.{settled_more}
 use Rattle.bt_adoption.proofs.waiting.push_settled.Goals as goal
-use Rattle.bt_adoption.proofs.waiting.push_settled.Goals.{then-marks_block, else-marks_block}
 
-pub loop-block-preserved : goal.loop-block-preserved
-loop-block-preserved g c =
-    let l = c.loop-block in
-    let test = is_marked_of (map file_of c.args.slots.now) in
-    elim c.if-marks_block.branch [
-      | then-marks_block w ↦ record {
-        hints = marked_more c.args.blocks.now test l.block-index _ (omega (arith, c.loop-block-test.true)) refl c.args.pending.now.hints l.pending.hints
-            l.invariant.hints true (sym c.marks_block.ensures ∙ w.if-marks_block.true) c.if-marks_block.pending.hints
-            (ap (λ (p : PendingView). p.hints) w.pending-is ∙ w.push_mark.ensures.hints);
-        room = omega (arith, l.invariant.room, w.push_mark.ensures.room, ap (λ (p : PendingView). p.room) w.pending-is);
-      }
-      | else-marks_block w ↦ record {
-        hints = marked_more c.args.blocks.now test l.block-index _ (omega (arith, c.loop-block-test.true)) refl c.args.pending.now.hints l.pending.hints
-            l.invariant.hints false (sym c.marks_block.ensures ∙ w.if-marks_block.false) c.if-marks_block.pending.hints (ap (λ (p : PendingView). p.hints) w.pending-is);
-        room = omega (arith, l.invariant.room, ap (λ (p : PendingView). p.room) w.pending-is);
-      }
-    ]
+pub push_settled_in-requires-clause-runs : goal.push_settled_in-requires-clause-runs
+push_settled_in-requires-clause-runs g c =
+    subst (λ (one : FileRuns). AreRuns one.runs.items) (sym c.one-item.is) (c.requires.runs c.loop-one.one-index c.one-item.result (omega (arith, c.loop-one-test.true)))
+
+pub push_settled_in-requires-clause-room : goal.push_settled_in-requires-clause-room
+push_settled_in-requires-clause-room g c =
+    let l = c.loop-one in
+    room_for_one (λ (one : FileRuns). most_hints one.runs.items) c.args.listed.now l.one-index c.one-item.result (omega (arith, c.loop-one-test.true)) c.one-item.is
+    c.args.pending.now.room l.pending.room c.requires.room l.invariant.room
+
+pub loop-one-preserved : goal.loop-one-preserved
+loop-one-preserved g c =
+    let l = c.loop-one in
+    let listed = c.args.listed.now in
+    let one = c.one-item.result in
+    record {
+      hints = settled_more listed (is_marked_among (map file_of c.args.slots.now)) l.one-index one (omega (arith, c.loop-one-test.true)) c.one-item.is
+          c.args.pending.now.hints l.invariant.hints c.push_settled_in.ensures.hints;
+      room = room_with_one (λ (x : FileRuns). most_hints x.runs.items) listed l.one-index one (omega (arith, c.loop-one-test.true)) c.one-item.is
+          c.args.pending.now.room l.pending.room c.push_settled_in.new.pending.room l.invariant.room c.push_settled_in.ensures.room;
+    }
