@@ -1,5 +1,5 @@
 -- Lemmas on words that name parts.
-use Rattle.std.proofs.Common.{◌≡◌, ◌≢◌, ℕ, ◌+◌, ◌<◌, ◌≤◌, ◌==◌, ◌++◌, take, drop, zero, suc, take-append-drop, List, [], ◌∷◌, length, get_or, refl, sym, ap, subst, ◌∙◌, arith, length-append}
+use Rattle.std.proofs.Common.{◌≡◌, ◌≢◌, ℕ, ◌+◌, ◌<◌, ◌≤◌, ◌==◌, ◌++◌, take, drop, take-append-drop, List, [], ◌∷◌, length, get_or, Option, None, Some, IfNone, refl, sym, ap, subst, ◌∙◌, arith, length-append}
 use Rattle.std.proofs.Math.Seq.{get_or-append_seam}
 use Rattle.std.proofs.lemmas.Str.Parse.{digit_at}
 use Rattle.std.proofs.lemmas.Str.Pattern.{NoCharPasses-char, drop_at_char}
@@ -9,6 +9,10 @@ use Rattle.std.specs.Str.Pattern.{HasCharAt}
 use Rattle.bt_parts.specs.declared.cut.Part.{Part}
 use Rattle.bt_parts.specs.Limits.{max_parts}
 use Rattle.bt_words.specs.Values.{IsNumber, IsPartWord}
+
+pub none_then : {X : Type 0} (o : Option X) (P Q : Type 0) → (P → Q) → IfNone o P → IfNone o Q
+none_then None P Q f given = f given
+none_then (Some x) P Q f given = tt
 
 -- no byte is a slash
 abbrev pub HasNoSlash : List ℕ → Type 0

@@ -1,5 +1,5 @@
 use Rattle.std.proofs.Common.{codes}
-use Rattle.clap.specs.Words.{found_of, rows_of}
+use Rattle.clap.specs.Words.{found_of}
 use Rattle.bt_words.proofs.CommandLineTask.{word_none, word_some}
 use Rattle.bt_words.proofs.command_line.work_by.Goals as goal
 
