@@ -79,7 +79,7 @@ of_a_log is_info usage log (inr (inr refused)) = refused.0
 pub has_log : (task : Task) → IsTaskFault task log_full → task_log task ≢ None
 has_log (make request) cause = absurd (no_folder_fault request.name.now request.piece_length cause.cause)
 has_log (Show torrent) cause = absurd (no_load_fault torrent.is_info cause)
-has_log (Check torrent dir verbose) cause = absurd (no_load_fault torrent.is_info cause)
+has_log (Check task) cause = absurd (no_load_fault task.torrent.is_info cause)
 has_log (Seed task) (inl loading) = of_a_log task.torrent.is_info (seed_use task.service.is_read_only) task.log loading
 has_log (Seed task) (inr full) = full.0
 has_log (Fetch task) (inl loading) = of_a_log task.torrent.is_info for_fetch task.log loading

@@ -72,17 +72,17 @@ pub jobs_done : (source : Source) (summary : Summary) (old new : Option (List �
     → (torrent : Metainfo) × (found : List FileFinding) × HasText source.is_info torrent × IsReportByParts torrent found summary
     × Appends old new (report_text found) → IfOk outcome (Writes (IsJoinedResult source) old new)
 jobs_done source summary old new outcome is r =
-    let sums = by_parts r.0 r.1 summary r.2.1 in
+    let sums = by_parts r.0 r.1 summary r.3 in
     subst (λ o. IfOk o (Writes (IsJoinedResult source) old new)) (sym is)
     (outcome_written summary.faulty summary.complete (Writes (IsJoinedResult source) old new) (λ sound. record {
       text = report_text r.1;
-      written = r.2.2;
+      written = r.4;
       is = record {
         torrent = r.0;
-        loaded = r.2.0;
+        loaded = r.2;
         found = r.1;
         summary = summary;
-        report = r.2.1;
+        report = r.3;
         sound = sym sums.0 ∙ sound;
         lines = refl;
         answer = ap (λ b. if b then 0 else 1) sums.1;

@@ -2,16 +2,20 @@
 use Rattle.std.proofs.Common.{◌≡◌, ◌≢◌, ℕ, Bool, true, false, List, Option, inl, inr, refl, sym, subst, ◌∙◌, arith}
 use Rattle.std.specs.Prelude.{◌⊎◌, if◌then◌else◌}
 use Rattle.std.specs.Io.KnownBytes.{Keeps}
+use Rattle.std.proofs.lemmas.Bool.Decides.{eqb_tells}
 use Rattle.clap.specs.Words.{Text}
 use Rattle.clap.specs.declared.error.kind.ErrorKind.{ErrorKind}
 use Rattle.clap.specs.declared.error.kind.ErrorKind.TheVariants.{DisplayHelp, DisplayVersion, OutOfMemory}
 use Rattle.bt_check.specs.Fault.{log_full, status_of}
 use Rattle.bt_check.specs.declared.fault.Fault.{Fault}
+use Rattle.bt_check.specs.declared.torrent_file.Source.{Source}
 use Rattle.bt_words.specs.CommandLine.{IsTaskOf}
 use Rattle.bt_words.specs.declared.command_line.SeedTask.{SeedTask}
+use Rattle.bt_words.specs.declared.command_line.Work.{Work}
+use Rattle.bt_words.specs.declared.command_line.Work.TheVariants.{Jobs, Part}
 use Rattle.bt_words.specs.declared.command_line.Task.{Task}
 use Rattle.bt_words.specs.declared.command_line.Task.TheVariants.{Make, Show, Check, Seed, Fetch, Replay}
-use Rattle.bt_commands.specs.Program.{FillsLog, IsDone, IsExplanation, IsRun, IsSeedResult, IsTaskEnd, IsTaskFault, no_task, task_end, task_result}
+use Rattle.bt_commands.specs.Program.{FillsLog, IsDone, IsExplanation, IsRun, IsSeedResult, IsTaskEnd, IsTaskFault, IsWorkResult, no_task, task_end, task_result}
 use Rattle.bt_commands.proofs.FullLog.{has_log, is_full}
 
 -- ---- a task that was done
@@ -19,6 +23,13 @@ use Rattle.bt_commands.proofs.FullLog.{has_log, is_full}
 none_of_both : (b : Bool) (status : ℕ) → status ≡ (if b then 0 else 1) → ¬ (status ≡ 2)
 none_of_both true status is two = omega (arith, is, two)
 none_of_both false status is two = omega (arith, is, two)
+
+worked : (source : Source) (dir : List ℕ) (work : Work) (status : ℕ) (text : List ℕ) → IsWorkResult source dir work status text → ¬ (status ≡ 2)
+worked source dir (Jobs n) status text it two = elim (eqb_tells n 1) [
+  | inl one ↦ none_of_both _ status (it.0 one.1).answer two
+  | inr more ↦ none_of_both _ status (it.1 more.1).answer two
+]
+worked source dir (Part part) status text it two = omega (arith, it.answer, two)
 
 seeded : (task : SeedTask) (old new : Option (List ℕ)) (status : ℕ) → IsSeedResult task old new status → ¬ (status ≡ 2)
 seeded task old new status (inl served) two = omega (arith, served.ended.done, two)
@@ -28,7 +39,7 @@ seeded task old new status (inr lacking) two = omega (arith, lacking.answer, two
 done : (task : Task) (given left old new : Option (List ℕ)) (status : ℕ) → IsDone task given left old new status → task ≢ Replay → ¬ (status ≡ 2)
 done (Make request) given left old new status it other two = omega (arith, it.is.answer, two)
 done (Show torrent) given left old new status it other two = omega (arith, it.is.answer, two)
-done (Check torrent dir verbose) given left old new status it other two = none_of_both _ status it.is.answer two
+done (Check task) given left old new status it other two = worked task.torrent task.dir.now task.work status it.text it.is two
 done (Seed task) given left old new status it other two = seeded task old new status it two
 done (Fetch task) given left old new status it other two = none_of_both _ status it.ended.fetched.fetched.end.told two
 done Replay given left old new status it other two = other refl
