@@ -149,6 +149,19 @@ fn give_state(states: &mut BlockStates, block: u32, verdict: Verdict, forgiving:
     }
 }
 
+/// How many blocks a buffer has room for, of one and of eight.
+fn blocks_in(buffer: &[u8]) -> u32
+    requires { full_block_length ≤ length buffer.now }
+    ensures some { 0 < result }
+    ensures few { result ≤ 8 }
+    ensures room { result * full_block_length ≤ length buffer.now }
+{
+    if buffer.len() < BATCH_LEN {
+        return 1;
+    }
+    BATCH_BLOCKS as u32
+}
+
 /// Judges blocks that lie next to each other, from the first on, by what their reads found.
 fn judge_found<H: NodeHash>(
     states: &mut BlockStates,
@@ -241,6 +254,8 @@ impl<D: Disk + Drop, H: NodeHash> FileStore<D, H> {
     }
 
     /// Reads the blocks of a review, from one to before another, and judges each.
+    ///
+    /// The buffer is zeroed once for all of them. One block alone needs a smaller one.
     fn judge_chosen(&mut self, tree: &SparseTree<H>, review: Review, from: u32, end: u32) -> Tally
         requires geometry { tree.now.file_length ≡ self.old.file_length }
         requires upwards { from ≤ end }
@@ -250,14 +265,45 @@ impl<D: Disk + Drop, H: NodeHash> FileStore<D, H> {
             (chosen_blocks H.digest tree.now review self.old.states from (end - from)) self.old reads self.new
             × IsTallyOf H.digest tree.now reads result }
     {
+        let candidates = match review {
+            Review::Waiting => self.waiting(),
+            Review::Marked => self.marked(),
+        };
+        if candidates <= 1 || end - from <= 1 {
+            return self.judge_through(tree, review, from, end, &mut [0; BLOCK_LEN]);
+        }
+        self.judge_through(tree, review, from, end, &mut [0; BATCH_LEN])
+    }
+
+    /// Reads the blocks of a review, from one to before another, into a buffer, eight at a time where it has
+    /// room for them, and judges each.
+    fn judge_through(
+        &mut self,
+        tree: &SparseTree<H>,
+        review: Review,
+        from: u32,
+        end: u32,
+        buffer: &mut [u8],
+    ) -> Tally
+        requires geometry { tree.now.file_length ≡ self.old.file_length }
+        requires upwards { from ≤ end }
+        requires inside { end ≤ block_count self.old.file_length }
+        requires room { full_block_length ≤ length buffer.old }
+        ensures { (reads : List BlockRead)
+            × IsJudged D.history D.honest D.faults H.digest tree.now (forgives review)
+            (chosen_blocks H.digest tree.now review self.old.states from (end - from)) self.old reads self.new
+            × IsTallyOf H.digest tree.now reads result }
+    {
+        let most = blocks_in(buffer);
         let mut tally = Tally::new();
         let mut at = from;
         while at < end {
-            let count = self.chosen_batch(tree, review, at, end);
+            let count = self.chosen_batch(tree, review, at, end, most);
             if count == 0 {
                 at += 1;
             } else {
-                let batch = self.judge_blocks(tree, at, count as usize, review.forgives());
+                let batch =
+                    self.judge_batch(tree, at, count as usize, review.forgives(), buffer);
                 tally = tally.plus(batch);
                 at += count;
             }
@@ -265,22 +311,30 @@ impl<D: Disk + Drop, H: NodeHash> FileStore<D, H> {
         tally
     }
 
-    /// How many blocks of a review lie next to each other from one on, as far as eight and before another.
-    fn chosen_batch(&self, tree: &SparseTree<H>, review: Review, from: u32, end: u32) -> u32
+    /// How many blocks of a review lie next to each other from one on, as far as the most and before another.
+    fn chosen_batch(
+        &self,
+        tree: &SparseTree<H>,
+        review: Review,
+        from: u32,
+        end: u32,
+        most: u32,
+    ) -> u32
         requires upwards { from < end }
         requires inside { end ≤ block_count self.now.file_length }
-        ensures few { result ≤ 8 }
+        requires some { 0 < most }
+        ensures few { result ≤ most }
         ensures inside { from + result ≤ end }
         ensures chosen { (j : ℕ) → j < result
             → is_chosen H.digest tree.now review self.now.states (from + j) ≡ true }
         ensures none { result ≡ 0 → is_chosen H.digest tree.now review self.now.states from ≡ false }
     {
-        for count in 0..8u32 {
+        for count in 0..most {
             if count >= end - from || !self.is_chosen(tree, review, from + count) {
                 return count;
             }
         }
-        8
+        most
     }
 
     /// Whether a review reads a block.

@@ -1,6 +1,6 @@
 use Rattle.std.proofs.Common.{◌-◌, ◌≤◌}
 use Rattle.bt_store.proofs.Reviews.{IsReviewedTo}
-use Rattle.bt_store.proofs.file_store.FileStore.judge_chosen.Given as goal
+use Rattle.bt_store.proofs.file_store.FileStore.judge_through.Given as goal
 
 abbrev pub invariant-loop-at : goal.invariant-loop-at
 invariant-loop-at g l = record {
