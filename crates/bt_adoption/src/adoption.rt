@@ -1,3 +1,5 @@
+//! The adoption of one file: whether it may be taken in now, its groups of blocks, and then the blocks that
+//! wait in the other files of its root.
 ghost use Rattle.std.specs.Prelude.{[], ◌≡◌, ◌<◌, ◌↔◌, IsTrue, IfOk, IfErr, length, vec_len};
 ghost use Rattle.bt_machine.specs.Devices.{DeviceCalls, HaveCalls};
 ghost use Rattle.bt_machine.specs.Blocks.{states_of};

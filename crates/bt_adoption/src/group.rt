@@ -33,8 +33,8 @@ pub(crate) fn adopt_group<D: Disk + Drop, H: NodeHash>(
     requires geometry { tree.old.file_length ≡ store.old.file_length }
     requires states { length store.old.states ≡ block_count store.old.file_length }
     requires inside { from < block_count store.old.file_length }
-    ensures ok { IfOk result (λ adopted. TakesGroup D.history D.honest D.faults H.digest file (is_some log.old)
-        from (file_view tree.old store.old (pending_of log.old)) adopted
+    ensures ok { IfOk result (λ adopted. TakesGroup D.history D.honest D.faults H.digest file
+        (is_some log.old) from (file_view tree.old store.old (pending_of log.old)) adopted
         (file_view tree.new store.new (pending_of log.new))) }
     ensures onward { IfOk result (λ adopted. from < adopted.next) }
     ensures within { IfOk result (λ adopted. adopted.next ≤ block_count store.old.file_length) }

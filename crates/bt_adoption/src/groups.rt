@@ -1,3 +1,4 @@
+//! All groups of a file are taken in, one after the other, and their marked blocks and faults are summed.
 ghost use Rattle.std.specs.Prelude.{◌≡◌, ◌+◌, ◌^◌, ◌<◌, is_some, IfOk, IfErr, length};
 ghost use Rattle.bt_machine.specs.Adopting.{adopted_together};
 ghost use Rattle.bt_state.specs.Parts.{pending_of};

@@ -1,3 +1,5 @@
+//! A piece message (BEP 3): bytes that are all of a block that the peer is asked for are given to the file's
+//! store, and any others are stale.
 ghost use Rattle.std.specs.Prelude.{◌≡◌, ◌<◌, Some, length, map, vec_len};
 ghost use Rattle.bt_machine.specs.Arrival.{HasPutEffect};
 ghost use Rattle.bt_machine.specs.Blocks.{state_at};

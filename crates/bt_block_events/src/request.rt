@@ -1,3 +1,5 @@
+//! Requests for a range of a piece (BEP 3): which are ignored, which close their peer, and which are served.
+//! A block that is found damaged is missing from then on.
 ghost use Rattle.std.specs.Prelude.{◌≡◌, ◌≢◌, ◌<◌, IfErr, IfOk, Some, length, map, vec_len};
 ghost use Rattle.std.specs.Bool.{OnFalse, OnTrue};
 ghost use Rattle.bt_machine.specs.Blocks.{block_id, state_at};

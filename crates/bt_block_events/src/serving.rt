@@ -1,3 +1,5 @@
+//! The one block or the two that a requested range lies in are read from the file's store, and the range's
+//! bytes are cut from them. At the first block that is not right the reading stops.
 ghost use Rattle.std.specs.Prelude.{[], ◌≡◌, ◌≢◌, ◌*◌, ◌≤◌, IfErr, IfOk, Some, drop, length, slice_get, take, vec_capacity};
 ghost use Rattle.bt_tree.specs.Limits.{full_block_length};
 ghost use Rattle.bt_machine.specs.Spans.{first_block, last_block, spanned_blocks};

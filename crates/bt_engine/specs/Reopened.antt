@@ -11,7 +11,8 @@ use Rattle.bt_machine.specs.Start.{AreDevicesOf}
 use Rattle.bt_machine.specs.Backing.{is_backed_after}
 use Rattle.bt_machine.specs.Reopening.{RunsPastFlush, RestartsReadAll, AreLeft, IsLogLeft, NoneFailed}
 
-module _ {D : Type 0} (history : D → History) (honest : D → Type 0) (faults : D → ℕ) (dig : List ℕ → List ℕ) where
+module _ {D : Type 0} (history : D → History) (honest : D → Type 0) (faults : D → ℕ)
+    (dig : List ℕ → List ℕ) where
   -- An engine has begun over these devices and this log. Where they are what a stop has left of those of an
   -- engine of the torrent, at any moment since a flush that answered Ok, and the log was opened, and no read
   -- failed: each block is marked that was marked at the flush. A restart since the flush counts as a

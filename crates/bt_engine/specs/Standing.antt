@@ -47,8 +47,8 @@ module _ {D : Type 0} (history : D → History) (honest : D → Type 0) (faults 
       (stored_block k.file_length (history d).now.bytes i)
 
   -- Where the log, with what is pending, backed the engine before: an honest log has a text that backs it
-  -- alone, since it has each mark and leads a torrent's trees to what is known, and every image of the log from
-  -- now on begins with this text.
+  -- alone, since it has each mark and leads a torrent's trees to what is known, and every image of the log
+  -- from now on begins with this text.
   abbrev pub KeepsHints : (List ℕ → List ℕ) → EngineView D → EngineView D → Type 0
   KeepsHints dig old new = HasBacking history honest faults dig old → (log : LogView D)
       → new.log ≡ Some log → honest log.disk

@@ -1,3 +1,5 @@
+//! The engine of a torrent: its start, one call for each event of the machine of `bt_machine`, and calls that
+//! tell how it stands.
 ghost use Rattle.std.specs.Prelude.{◌≡◌, IfOk, OnOk, option_map, slice_get};
 ghost use Rattle.std.specs.Option.{option_and_then, option_copied};
 ghost use Rattle.sha2.specs.Sha256.{sha256};

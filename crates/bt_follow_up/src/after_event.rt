@@ -1,3 +1,4 @@
+//! All that follows from an event for one peer, in its order: our interest, a hash request, block requests.
 ghost use Rattle.std.specs.Prelude.{◌≡◌, ◌+◌, ◌<◌, ◌≤◌, length, map, vec_len, vec_capacity};
 ghost use Rattle.bt_machine.specs.Shape.{IsShaped};
 ghost use Rattle.bt_state.specs.Parts.{state_of, disks_of};

@@ -1,3 +1,5 @@
+//! Laws of the machine: what holds of its starts, of each event and of lists of events, of marked blocks,
+//! trees, devices and what is sent. The functions do nothing when they run.
 ghost use Rattle.bt_machine.specs.Law.{StartsRooted, StepKeepsRooted, RunsAreChecked, RightIsChecked, RunMarksByBytes, StepMarksByBytes, StartMarksByBytes, RestartMarksByBytes, RunSendsReadBytes};
 ghost use Rattle.bt_machine.specs.Sound.{StartsSound, StepKeepsSound, HonestDevicesWereSo, CompleteFilesStand};
 ghost use Rattle.bt_machine.specs.Writes.{StepWritesMissing};

@@ -1,3 +1,5 @@
+//! What a message of a peer must lead to, but for out of memory and faults of devices: hashes, marked blocks,
+//! cancels, served ranges and notes. The functions do nothing when they run.
 ghost use Rattle.bt_machine_checks.specs.AnswerDue.{NextAnswersHashRequest, NextMarksRightBlock, NextCancelsStoredBlock, NextServesMarkedRange, NextNotesMarkedBlocks, NextSettlesWaitingBlocks, WaitingIsNotComplete};
 
 use bt_meta::block_ranges_are_places;

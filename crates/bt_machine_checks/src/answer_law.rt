@@ -1,3 +1,5 @@
+//! A have is sent exactly where an event made its piece whole, a file is noted as complete exactly where a
+//! message made it so, and a peer is closed only for what it sent. The functions do nothing when they run.
 ghost use Rattle.bt_machine_checks.specs.AnswerLaw.{StepAnnouncesWholePieces, NextNotesCompleteFiles, StepClosesForCause};
 
 use bt_tree::NodeHash;

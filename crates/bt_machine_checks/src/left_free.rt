@@ -1,3 +1,5 @@
+//! But for which blocks are requested and for out of memory, an engine's answers follow from what its devices
+//! and its log answer. The functions do nothing when they run.
 ghost use Rattle.bt_machine_checks.specs.LeftFree.{StepIsDetermined, StepIsForced, RunsAreDetermined};
 
 use bt_meta::block_ranges_are_places;

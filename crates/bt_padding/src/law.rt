@@ -1,3 +1,5 @@
+//! Laws of the padding: which requests are remembered, which pieces are filled with zeros, and what passes as
+//! it is. The functions do nothing when they run.
 ghost use Rattle.bt_padding.specs.Law.{ShortBlocksAreLast, RemembersShortBlocks, ZerosLieBehindTheEnd, PadsWhatWasAsked, PlainPassesThrough, GivenOnCanBeSent};
 ghost use Rattle.bt_padding.specs.TranslationLaw.{GivesStreams};
 

@@ -1,3 +1,4 @@
+//! The tree of a root is found by a map from roots to places in a list of trees.
 ghost use Rattle.std.specs.Prelude.{◌≡◌, ◌≢◌, ◌<◌, IfOk, IfSome, length};
 ghost use Rattle.std.specs.List.{AllPairs};
 ghost use Rattle.bt_recovery.specs.TakingSteps.{roots_of, place_of as place_in, ArePlaces};

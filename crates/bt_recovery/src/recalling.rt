@@ -1,3 +1,5 @@
+//! A run of marks from a log makes those missing blocks wait whose leaves are known: each is to be read
+//! before it is marked.
 ghost use Rattle.std.specs.Prelude.{◌≡◌, length};
 ghost use Rattle.bt_store.specs.Law.{all_recalled};
 ghost use Rattle.bt_recovery.specs.Recalling.{known_in_run};

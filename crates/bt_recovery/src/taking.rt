@@ -1,3 +1,5 @@
+//! The proofs among a log's hints are taken by the trees of their roots, and those that no tree can take are
+//! passed.
 ghost use Rattle.std.specs.Prelude.{◌≡◌, ◌≢◌, List, OnOk, IfErr, map};
 ghost use Rattle.std.specs.List.{AllPairs};
 ghost use Rattle.bt_resume.specs.Law.{Begin};

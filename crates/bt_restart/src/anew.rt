@@ -1,3 +1,5 @@
+//! An engine is begun anew without a log. All that takes memory is made first, so that nothing has changed
+//! where it is refused.
 ghost use Rattle.std.specs.Prelude.{[], ◌≡◌, None, IfOk, IfErr, map};
 ghost use Rattle.sha2.specs.Sha256.{sha256};
 ghost use Rattle.bt_machine.specs.LogCalls.{no_calls};

@@ -1,3 +1,4 @@
+//! The causes for which a session with a peer ends.
 use bt_machine::Why;
 
 /// How a session with a peer ended.

@@ -1,3 +1,5 @@
+//! What is said of all runs of an engine is said of sessions too, and no session loses a mark on an honest
+//! device. The functions do nothing when they run.
 ghost use Rattle.bt_session.specs.LawSteps.{SessionsStand};
 ghost use Rattle.bt_session.specs.Session.{SessionsAreRuns};
 

@@ -1,3 +1,5 @@
+//! The buffers of a session: 16,384 bytes for what it reads at a time, and a list of bytes for what it
+//! writes.
 use std::alloc::Global;
 
 /// A reader is asked for so many bytes at a time.

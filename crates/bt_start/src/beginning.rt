@@ -1,3 +1,4 @@
+//! How an engine begins without a log: all blocks are missing, and on an error the devices are given back.
 ghost use Rattle.std.specs.Prelude.{◌≡◌, None, length, IfOk, OnOk, OnErr};
 ghost use Rattle.sha2.specs.Sha256.{sha256};
 ghost use Rattle.bt_meta.specs.Torrent.{IsLawful};

@@ -1,3 +1,4 @@
+//! How many blocks of 16,384 bytes each file has, the last one perhaps shorter (BEP 52).
 ghost use Rattle.std.specs.Prelude.{◌≡◌, ◌≤◌, All, IfOk, map};
 ghost use Rattle.bt_tree.specs.Limits.{max_file_length};
 ghost use Rattle.bt_tree.specs.Blocks.{block_count};

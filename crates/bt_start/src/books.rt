@@ -1,3 +1,5 @@
+//! What an engine has of its blocks and peers when it begins: a request book that wants all blocks, a count
+//! of unmarked blocks for each piece, no piece whose leaves are known, and no peer.
 ghost use Rattle.std.specs.Prelude.{IfOk};
 ghost use Rattle.bt_start.specs.Books.{AreNewBooks};
 

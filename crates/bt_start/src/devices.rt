@@ -1,3 +1,5 @@
+//! Each file that has a byte gets one of the devices, in the torrent's order. Where memory is refused, all of
+//! them are given back.
 ghost use Rattle.std.specs.Prelude.{◌≡◌, ◌<◌, ◌≤◌, ◌++◌, [], All, length, map, None, OnOk, OnErr, vec_capacity};
 ghost use Rattle.std.specs.Option.{option_to_list};
 ghost use Rattle.bt_tree.specs.Limits.{max_file_length};

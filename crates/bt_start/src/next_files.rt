@@ -1,3 +1,5 @@
+//! Which file comes next of those that have one root, so that the files of a tree are found without a look at
+//! others.
 ghost use Rattle.std.specs.Prelude.{◌≡◌, ◌+◌, ◌<◌, ◌≤◌, length, map, slice_get, Some, OnOk, IfOk};
 ghost use Rattle.bt_meta.specs.Files.{File, file_of};
 ghost use Rattle.bt_meta.specs.Limits.{max_file_count};

@@ -1,3 +1,4 @@
+//! How many blocks each piece has; at the start that is its count of unmarked blocks.
 ghost use Rattle.std.specs.Prelude.{IfOk};
 ghost use Rattle.bt_start.specs.Books.{ArePieceSizes};
 

@@ -1,3 +1,5 @@
+//! One tree for each root: roots get numbers in the order in which they come first among the files, and each
+//! file gets a slot that names its tree.
 ghost use Rattle.std.specs.Prelude.{◌≡◌, ◌≢◌, ◌+◌, ◌<◌, ◌≤◌, length, map, slice_get, Some, OnOk, IfOk};
 ghost use Rattle.std.specs.List.{AllPairs};
 ghost use Rattle.bt_meta.specs.Files.{File, file_of};

@@ -5,10 +5,10 @@ use Rattle.std.specs.Option.{option_map_or}
 use Rattle.std.proofs.lemmas.Simd.{map-map}
 use Rattle.bt_store.specs.FileStore.{StoreView}
 use Rattle.bt_machine.proofs.Lists.{some_is, some_below, get_some, get_map}
-use Rattle.bt_machine.specs.Shape.{IsShaped, HasShapeOf}
+use Rattle.bt_machine.specs.Shape.{IsShaped}
 use Rattle.bt_state.specs.Parts.{state_of, file_of}
 use Rattle.bt_state.specs.Roots.{AreNumbered, number_of, IsFirstFrom, IsOfRoot, IsOfTree, LeadThrough}
-use Rattle.bt_state.specs.Ties.{IsTied, FitsFile, FitsTree, root_and_length, root_and_length_of}
+use Rattle.bt_state.specs.Ties.{IsTied, root_and_length, root_and_length_of}
 use Rattle.bt_state.specs.declared.slot.Slot.{Slot}
 use Rattle.bt_state.specs.declared.parts.Parts.{Parts}
 use Rattle.bt_state.specs.declared.roots.Roots.{Roots}

@@ -1,3 +1,4 @@
+//! The request book and the counts of unmarked blocks follow a block whose state has changed in its store.
 ghost use Rattle.std.specs.Prelude.{◌≡◌, ℕ, ◌+◌, ◌-◌, ◌^◌, ◌<◌, ◌≤◌, Some, length, slice_index, slice_set};
 ghost use Rattle.bt_meta.specs.Torrent.{total_pieces};
 ghost use Rattle.bt_meta.specs.PieceBlocks.{HasBlock};

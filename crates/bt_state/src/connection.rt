@@ -1,3 +1,5 @@
+//! A peer that connects: it gets the next key and joins the request book, unless 64 peers are connected, keys
+//! are spent or memory is refused.
 ghost use Rattle.std.specs.Prelude.{◌≡◌, ◌+◌, ◌^◌, ◌<◌, false, length, replicate};
 ghost use Rattle.bt_meta.specs.Torrent.{total_pieces};
 ghost use Rattle.bt_book.specs.Book.{max_peers};

@@ -1,3 +1,4 @@
+//! The bitfield that a new peer is sent (BEP 3): it has the pieces of which each block is marked.
 ghost use Rattle.std.specs.Prelude.{◌≡◌, ◌-◌, ◌*◌, ◌<◌, ◌==◌, ◌++◌, All, false, length, map, replicate, IfOk};
 ghost use Rattle.std.specs.Int.{div_ceil};
 ghost use Rattle.bt_machine.specs.WireEvents.{bits_in};

@@ -1,3 +1,4 @@
+//! An engine's log, and what the next flush is to write to it.
 use bt_disk::Disk;
 use bt_pending::Pending;
 use bt_resume::ResumeLog;

@@ -1,3 +1,4 @@
+//! All that an engine has, in one struct: its torrent, trees, files, peers, request book and log.
 use crate::open_log::OpenLog;
 use crate::peer::Peer;
 use crate::piece_set::PieceSet;

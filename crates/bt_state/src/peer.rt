@@ -1,3 +1,5 @@
+//! What an engine keeps of a connected peer: bytes of which no event was taken, chokes and interest (BEP 3),
+//! its pieces, how it stands with hash requests, and its traffic.
 use crate::piece_set::PieceSet;
 use bt_book::PeerKey;
 use bt_machine::HashState;

@@ -1,3 +1,4 @@
+//! Peers by their keys: where one stands, bytes that come from it, and its leaving.
 ghost use Rattle.std.specs.Prelude.{◌≡◌, ◌<◌, IfSome, IfNone, length, vec_len};
 ghost use Rattle.bt_machine.specs.Orderly.{IsOrderly};
 ghost use Rattle.bt_machine.specs.Peers.{StepFeed, StepLost};

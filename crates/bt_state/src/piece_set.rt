@@ -1,3 +1,4 @@
+//! A set of pieces in the bytes of a bitfield (BEP 3), in which a search passes 512 pieces at once or eight.
 ghost use Rattle.std.specs.List.{All};
 ghost use Rattle.std.specs.Prelude.{◌≡◌, ◌↔◌, ℕ, ◌+◌, ◌-◌, ◌*◌, ◌<◌, ◌≤◌, true, false, length, replicate, slice_index_or, slice_set, take, IfOk, IfSome, IfNone, IsTrue};
 ghost use Rattle.std.specs.Int.{div_ceil, bit_at};

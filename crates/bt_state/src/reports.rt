@@ -1,3 +1,5 @@
+//! What an engine tells of itself: how far a file is, whether all are complete, how many peers are connected,
+//! and the device of a file.
 ghost use Rattle.std.specs.Prelude.{◌≡◌, slice_get};
 ghost use Rattle.std.specs.Option.{option_and_then, option_copied};
 ghost use Rattle.std.specs.List.{list_all};

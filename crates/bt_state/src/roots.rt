@@ -1,3 +1,4 @@
+//! Which files and which tree belong to a root: files with the same root share one tree.
 ghost use Rattle.std.specs.Prelude.{◌≡◌};
 ghost use Rattle.bt_state.specs.Roots.{number_of};
 

@@ -1,3 +1,4 @@
+//! A file as an engine has it: the number of its tree, and the store of its blocks with its device.
 use bt_disk::Disk;
 use bt_store::FileStore;
 use bt_tree::NodeHash;

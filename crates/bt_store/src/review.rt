@@ -302,8 +302,7 @@ impl<D: Disk + Drop, H: NodeHash> FileStore<D, H> {
             if count == 0 {
                 at += 1;
             } else {
-                let batch =
-                    self.judge_batch(tree, at, count as usize, review.forgives(), buffer);
+                let batch = self.judge_batch(tree, at, count as usize, review.forgives(), buffer);
                 tally = tally.plus(batch);
                 at += count;
             }

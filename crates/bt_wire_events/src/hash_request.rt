@@ -1,3 +1,4 @@
+//! A hash request (BEP 52) is answered with the digests that the tree of its root knows, or with a reject.
 ghost use Rattle.std.specs.Prelude.{[], ◌≡◌, ℕ, IfOk};
 ghost use Rattle.std.specs.List.{concat};
 ghost use Rattle.bt_machine.specs.State.{PeerState};

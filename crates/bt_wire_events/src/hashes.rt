@@ -1,3 +1,5 @@
+//! Hashes that come (BEP 52): the tree of their root learns them, the blocks that waited for them are read
+//! back, and the request book and the counts of unmarked blocks follow.
 ghost use Rattle.std.specs.Prelude.{◌≡◌, ◌+◌, ◌*◌, ◌<◌, ◌≤◌, ℕ, IfOk, IfErr, IfSome, length, map, vec_len};
 ghost use Rattle.bt_meta.specs.Limits.{max_file_count};
 ghost use Rattle.bt_book.specs.Book.{asked_of, peers_of};

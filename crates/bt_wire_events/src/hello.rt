@@ -1,3 +1,5 @@
+//! A handshake that names another torrent closes its peer: it must have the first 20 bytes of the torrent's
+//! infohash (BEP 52).
 ghost use Rattle.std.specs.Prelude.{◌≡◌};
 ghost use Rattle.bt_machine.specs.State.{EngineState};
 ghost use Rattle.bt_machine.specs.WireEvents.{HandlesHello};

@@ -1,3 +1,4 @@
+//! The hint that a log is to keep of hashes that came: their proof, where it added a node to its tree.
 ghost use Rattle.std.specs.Prelude.{◌≡◌, IfOk, IsOk, nat_lt, is_some, if◌then◌else◌};
 ghost use Rattle.bt_hashreq.specs.Claim.{digests_in};
 ghost use Rattle.bt_machine.specs.State.{proof_of};

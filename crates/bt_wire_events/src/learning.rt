@@ -1,3 +1,5 @@
+//! Hashes that come are refused, and close their peer, or the tree of their root takes them and the blocks
+//! that waited for them are settled.
 ghost use Rattle.std.specs.Prelude.{◌≡◌, ◌≢◌, ◌≤◌, ◌<◌, ℕ, IfOk, IfErr, length, map};
 ghost use Rattle.bt_meta.specs.Limits.{max_file_count};
 ghost use Rattle.bt_machine.specs.HashMessages.{settled_count};

@@ -1,3 +1,5 @@
+//! Wire events that change their peer alone, or nothing: handshakes, and messages that neither ask for data
+//! or hashes nor bring them (BEP 3, BEP 52).
 ghost use Rattle.std.specs.Prelude.{◌≡◌, ◌<◌, ℕ, List, Some, length, slice_get, vec_len};
 ghost use Rattle.bt_meta.specs.Torrent.{total_pieces};
 ghost use Rattle.bt_book.specs.Book.{asked_of, peers_of, KeepsOthers};

@@ -1,6 +1,6 @@
-use Rattle.std.proofs.Common.{◌≡◌, ℕ, ◌+◌, ◌-◌, ◌<◌, length, map, sym, ap, ◌∙◌, subst, arith}
+use Rattle.std.proofs.Common.{◌≡◌, ℕ, ◌+◌, ◌-◌, ◌<◌, length, map, sym, ◌∙◌, subst, arith}
 use Rattle.std.proofs.lemmas.List.{length-map, length-set}
-use Rattle.bt_meta.specs.Files.{File, file_of}
+use Rattle.bt_meta.specs.Files.{file_of}
 use Rattle.bt_state.specs.Roots.{IsFirstFrom, IsOfRoot}
 use Rattle.bt_start.specs.TreeSteps.{AreFirstsFrom}
 use Rattle.bt_start.proofs.NextFiles.{firsts_none, AreNextsFrom, nexts_none, nexts_more, nexts_all}
