@@ -1,3 +1,4 @@
+//! The look-up of a key in a dictionary: its first entry's value, or the part of the text that spells it.
 ghost use Rattle.std.specs.Prelude.{◌≡◌, option_copied};
 ghost use Rattle.std.specs.Option.{option_map};
 ghost use Rattle.bt_bencode.specs.Value.{data_of};

@@ -1,3 +1,4 @@
+//! A value that is known to have a canonical spelling (BEP 3), as `parse` gives it.
 ghost use Rattle.std.specs.Prelude.{◌≡◌};
 
 use crate::value::Value;

@@ -1,3 +1,4 @@
+//! The errors B1 to B8 of bencoding: a text's faults with the offset where each shows, and out of memory.
 ghost use Rattle.std.specs.Prelude.{◌≡◌};
 ghost use Rattle.bt_bencode.specs.declared.error.BencodeError.TheVariants.{OutOfMemory as out_of_memory};
 

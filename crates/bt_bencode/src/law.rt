@@ -1,3 +1,5 @@
+//! Laws of bencoding: no spelling is a proper prefix of another, and a text has one first fault at most.
+//! Where it has one, it spells no canonical value.
 ghost use Rattle.bt_bencode.specs.Law.{NoProperPrefix, BeginsOnce, FirstFaultIsOne, FirstFaultRefuses};
 
 /// The law by which a reader knows where a value ends: no spelling is a proper prefix of another,

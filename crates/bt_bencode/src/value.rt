@@ -1,3 +1,5 @@
+//! A bencoded value in memory (BEP 3): an integer of 64 bits, a string of bytes, a list or a dictionary.
+
 /// A bencoded value (BEP 3).
 ///
 /// A dictionary is its keys and values in the order in which they stand: [`crate::write`] spells any

@@ -1,3 +1,5 @@
+//! The request book: which blocks are wanted, which peers are asked for which of them, and which block a peer
+//! is asked for next.
 ghost use Rattle.std.specs.Prelude.{◌≡◌, ◌<◌, ◌≤◌, ◌+◌, ◌↔◌, ◌⊎◌, Bool, true, false, [], ◌∷◌, ◌++◌, ◌==◌, ◌≢◌, not, length, map, filter, All, Contains, count_by, if◌then◌else◌, Option, Some, IsTrue, IfSome, OnSome, IfNone, IfOk};
 ghost use Rattle.std.specs.List.{AllPairs};
 ghost use Rattle.std.specs.Bool.{OnTrue, OnFalse};

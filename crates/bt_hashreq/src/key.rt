@@ -1,3 +1,4 @@
+//! The key of a hash message (BEP 52): which digests of a tree it names, and the 48 bytes that spell it.
 ghost use Rattle.std.specs.Prelude.{◌≡◌, ◌↔◌, length, IsSome, IfSome};
 ghost use Rattle.bt_hashreq.specs.Key.{key_length, key_spelling};
 

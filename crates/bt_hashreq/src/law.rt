@@ -1,3 +1,5 @@
+//! Laws of keys: a key is read back as it was written, and a key that `plan` gives makes its leaf known,
+//! where a whole tree of the blocks answers it and no digest of the answer differs from one that is held.
 ghost use Rattle.bt_hashreq.specs.Law.{SpellsOneKey, PlansAreLawful, PlansTeach};
 
 use bt_tree::NodeHash;

@@ -1,3 +1,4 @@
+//! SHA-256 as the digest of trees, where eight blocks or eight pairs of digests are digested at once.
 ghost use Rattle.std.specs.Prelude.{◌≡◌, ℕ, ◌+◌, ◌*◌, ◌<◌, ◌≤◌, length};
 ghost use Rattle.sha2.specs.Sha256.{sha256};
 ghost use Rattle.bt_tree.specs.Blocks.{block_at};

@@ -1,3 +1,4 @@
+//! SHA-256 of any number of messages, by eights: eight of one length at once, all others one by one.
 ghost use Rattle.std.specs.Prelude.{◌≡◌, ℕ, ◌*◌, ◌/◌, ◌<◌, ◌↔◌, [], length, take, map, slice_index_or, All, IsTrue};
 ghost use Rattle.sha2.specs.Sha256.{sha256};
 ghost use Rattle.bt_lanes.specs.LaneSteps.{message_at};

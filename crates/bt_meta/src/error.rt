@@ -1,3 +1,4 @@
+//! The reasons M1 to M18 to refuse bytes as a torrent, and which of them is given where several apply.
 ghost use Rattle.std.specs.Prelude.{◌≡◌};
 ghost use Rattle.bt_meta.specs.declared.error.MetaError.TheVariants.{OutOfMemory as out_of_memory};
 ghost use Rattle.bt_meta.specs.Error.{refusal_of};

@@ -1,3 +1,5 @@
+//! Laws of torrents: one that was made is read back and tells its files by length and root, unless two inputs
+//! have one digest; and its layers, pieces, blocks and ranges fit together.
 ghost use Rattle.bt_meta.specs.Law.{SpellsOneTorrent, IsRefusedForMemoryAlone, IsMadeFromGivenFiles, DescribesNoOther, IsTreeLayer, LiesInItsPiece, BeginsBehindBlocks, RunHasBlocks, RangeHasPiece, RangeIsPlace, PlaceIsRange};
 
 use bt_tree::{Plain, roots_tell_files};

@@ -1,3 +1,4 @@
+//! Hints that wait to be written to a log; marks of blocks that follow each other are joined to runs.
 ghost use Rattle.std.specs.Prelude.{◌≡◌, ◌+◌, ◌<◌, ◌≤◌, ◌↔◌, [], List, length, IsTrue, IfOk, IfErr, if◌then◌else◌};
 ghost use Rattle.bt_resume.specs.Hint.{CanBeRead};
 ghost use Rattle.bt_tree.specs.Limits.{max_block_count};

@@ -1,3 +1,4 @@
+//! The hints that a log records: digests that came with a key (BEP 52, "hashes"), and runs of marked blocks.
 ghost use Rattle.std.specs.Prelude.{◌↔◌, IsTrue};
 ghost use Rattle.bt_resume.specs.Hint.{IsRun, CanBeRead};
 

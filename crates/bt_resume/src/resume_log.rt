@@ -1,3 +1,4 @@
+//! The log of hints on a device, in this project's own format: opened, read again, appended to, flushed.
 ghost use Rattle.std.specs.Prelude.{◌≡◌, IfOk, IfErr, Err};
 ghost use Rattle.bt_resume.specs.Hint.{CanBeRead};
 ghost use Rattle.bt_resume.specs.ResumeLog.{IsAttached, Opens, IsReloaded, IsAppended, IsFlushed};

@@ -1,3 +1,5 @@
+//! The acceptance of a claim: the tree checks it against what it holds, and takes all of its nodes that cover
+//! a block, or none.
 ghost use Rattle.std.specs.Prelude.{◌≡◌, ◌≢◌, ℕ, ◌+◌, ◌*◌, ◌<◌, ◌≤◌, List, ◌^◌, IfOk, IfErr, IfSome, OnErr, OnOk, MatchOption, length};
 ghost use Rattle.std.specs.List.{All};
 ghost use Rattle.std.specs.FinMap as finite;

@@ -1,3 +1,4 @@
+//! The answer to a hash request (BEP 52): the digests of a run of nodes, and those of the uncles above it.
 ghost use Rattle.std.specs.Prelude.{◌≡◌, ◌≢◌, ◌<◌, ◌≤◌, ◌↔◌, None, IsTrue, IsSome, IfSome, IfOk, OnOk, OnErr};
 ghost use Rattle.std.specs.Bool.{OnTrue, OnFalse};
 ghost use Rattle.bt_tree.specs.Limits.{max_height};

@@ -1,3 +1,4 @@
+//! What a peer claims of a tree (BEP 52, "hashes"), and the reasons P1 to P7 to refuse such a proof.
 ghost use Rattle.std.specs.Prelude.{◌≡◌};
 ghost use Rattle.bt_sparse.specs.declared.claim.ProofError.TheVariants.{OutOfMemory as out_of_memory};
 

@@ -1,3 +1,5 @@
+//! The nodes that a claim names, in pairs of siblings, with the digests that follow from its run and its
+//! uncles; and whether its shape fits the tree.
 ghost use Rattle.std.specs.Prelude.{◌≡◌, ℕ, List, [], ◌*◌, ◌/◌, ◌+◌, ◌%◌, ◌++◌, ◌<◌, ◌≤◌, ◌==◌, ◌↔◌, if◌then◌else◌, IsTrue, IfOk, OnOk, length};
 ghost use Rattle.bt_tree.specs.Limits.{max_block_count, max_height};
 ghost use Rattle.bt_tree.specs.Blocks.{block_count};

@@ -1,3 +1,5 @@
+//! Laws of sparse trees: what is held is checked up to the root, what one tree answers another can take, and
+//! a leaf that is held is the file's, or two different inputs have one digest.
 ghost use Rattle.bt_sparse.specs.Law.{LayersAreSound, RootsAreSound, KeepsRooted, HeldIsChecked, ClaimsOne, MadeClaimsAgree, AnswersAgree, AnswersAreTaken, AnswersReachRoots, LeavesAreFiles};
 
 use bt_tree::NodeHash;

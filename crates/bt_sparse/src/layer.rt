@@ -1,3 +1,5 @@
+//! A tree made from the digests of one layer, as a torrent's `piece layers` have them (BEP 52): all layers
+//! above it are computed.
 ghost use Rattle.std.specs.Prelude.{◌≡◌, ℕ, ◌+◌, ◌-◌, ◌*◌, ◌<◌, ◌≤◌, ◌↔◌, List, IfOk, OnOk, length, slice_index_or, []};
 ghost use Rattle.bt_tree.specs.Limits.{max_height, max_block_count};
 ghost use Rattle.bt_tree.specs.Blocks.{block_count};

@@ -1,3 +1,4 @@
+//! The digests that are held of one layer, in tables of pages that are made when they are needed.
 ghost use Rattle.std.specs.Prelude.{◌≡◌, ◌+◌, ◌%◌, ◌/◌, ◌<◌, ◌≤◌, ◌↔◌, ℕ, [], None, IsTrue, IsSome, OnOk, length, slice_index_or};
 ghost use Rattle.bt_sparse.specs.Page.{page_length};
 ghost use Rattle.bt_sparse.specs.LayerPages.{table_length, entry_at, KeepsTables, IsPutInto};

@@ -1,3 +1,4 @@
+//! The digests that a tree holds, by layer and index.
 ghost use Rattle.std.specs.Prelude.{◌≡◌, ◌+◌, ◌%◌, ◌/◌, ◌<◌, ◌≤◌, ◌↔◌, ℕ, [], None, IsTrue, IsSome, OnOk, length, slice_index_or};
 ghost use Rattle.std.specs.FinMap as finite;
 ghost use Rattle.bt_sparse.specs.Page.{page_length};

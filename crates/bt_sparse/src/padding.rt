@@ -1,3 +1,5 @@
+//! The digests of nodes that cover no block (BEP 52), from a layer upwards, and whether a claim has them
+//! where it names such nodes.
 ghost use Rattle.std.specs.Prelude.{◌≡◌, ◌≤◌, ◌↔◌, IsTrue};
 ghost use Rattle.bt_tree.specs.Limits.{max_height};
 ghost use Rattle.bt_tree.specs.Blocks.{block_count};

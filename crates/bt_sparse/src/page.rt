@@ -1,3 +1,4 @@
+//! A page of up to 512 digests of neighbouring nodes, with a bit for each that says whether it is there.
 ghost use Rattle.std.specs.Prelude.{◌≡◌, ℕ, ◌+◌, ◌<◌, ◌≤◌, ◌↔◌, [], None, true, false, IsTrue, IsSome, OnOk, length, slice_index_or};
 ghost use Rattle.std.specs.Int.{bit_at};
 ghost use Rattle.bt_sparse.specs.Page.{page_length, IsLonger, IsPutAt, is_present};

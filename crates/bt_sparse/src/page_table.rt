@@ -1,3 +1,4 @@
+//! A table of up to 512 pages: the digests of up to 2^18 neighbouring nodes of a layer, by index.
 ghost use Rattle.std.specs.Prelude.{◌≡◌, ◌+◌, ◌%◌, ◌/◌, ◌<◌, ◌≤◌, ◌↔◌, ℕ, [], None, IsTrue, IsSome, OnOk, length, slice_index_or};
 ghost use Rattle.bt_sparse.specs.Page.{page_length};
 ghost use Rattle.bt_sparse.specs.PageTable.{slot_at, KeepsPages, IsPutIn};

@@ -1,3 +1,5 @@
+//! A file's hash tree of which some nodes are held: what is known of a node, and which held node is the
+//! nearest above a leaf.
 ghost use Rattle.std.specs.Prelude.{◌≡◌, ◌<◌, ◌≤◌, IfOk};
 ghost use Rattle.bt_tree.specs.Limits.{max_height};
 ghost use Rattle.bt_sparse.specs.SparseTree.{blocks_of, held_at, value_at, root_facts, IsSound};

@@ -1,3 +1,5 @@
+//! The adoption of what a device already has, a group of blocks a call: leaves that are known judge the
+//! blocks, and where the leaves are unknown, the blocks' digests are claimed of the tree.
 ghost use Rattle.std.specs.Prelude.{◌≡◌, ℕ, ◌+◌, ◌-◌, ◌*◌, ◌/◌, ◌^◌, ◌<◌, ◌≤◌, ◌⊎◌, List, [], true, IfOk, IfErr, IsSome, None, map, length, replicate, slice_get};
 ghost use Rattle.bt_tree.specs.Limits.{full_block_length, max_block_count, max_height};
 ghost use Rattle.bt_tree.specs.Blocks.{block_count};

@@ -1,3 +1,4 @@
+//! Reads of up to eight neighbouring blocks, of which the full ones are digested together from three on.
 ghost use Rattle.std.specs.Prelude.{◌≡◌, ℕ, ◌+◌, ◌*◌, ◌<◌, ◌≤◌, IfSome, None, length, map, slice_index_or};
 ghost use Rattle.bt_tree.specs.Limits.{full_block_length};
 ghost use Rattle.bt_tree.specs.Blocks.{block_count, block_at, block_length};

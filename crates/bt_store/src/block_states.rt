@@ -1,3 +1,4 @@
+//! The state of each block of a file (missing, waiting or marked), and how many wait and are marked.
 ghost use Rattle.std.specs.Prelude.{◌≡◌, ◌<◌, ◌≤◌, IfOk, length, replicate, slice_get, slice_set};
 ghost use Rattle.std.specs.List.{count_by};
 ghost use Rattle.bt_tree.specs.Limits.{max_block_count};

@@ -1,3 +1,5 @@
+//! The errors of a store: a call is refused, a block is not lent, or no memory is left to make the store.
+
 use thiserror::Error;
 
 /// Why a call that names a block, or a range of blocks, is refused.

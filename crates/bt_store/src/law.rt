@@ -1,3 +1,5 @@
+//! Laws of a store: what `read` lends is the file's, or two different inputs have one digest; and what
+//! `adopt`, `settle` and `restore` make of the blocks that they read.
 ghost use Rattle.bt_store.specs.Law.{RightBlocksAreFiles, AdoptMarksByBytes, AcceptedReadsAreRight, AdoptExtends, ReadsDecideEach, WaitingBlocksDiffer, WaitingBlocksLieInside, RecalledAreJudgedAlike, RestoreJudges};
 
 use bt_sparse::leaves_are_files;

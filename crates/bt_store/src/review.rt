@@ -1,3 +1,5 @@
+//! Blocks that are read and judged by their leaves: those that wait, once their leaf is known, and those that
+//! are marked, to see whether they still are right.
 ghost use Rattle.std.specs.Prelude.{◌≡◌, ℕ, ◌+◌, ◌-◌, ◌*◌, ◌^◌, ◌<◌, ◌≤◌, List, IfOk, IfErr, IsTrue, length, nat_lt, true, false};
 ghost use Rattle.std.specs.List.{range_with_len};
 ghost use Rattle.bt_tree.specs.Limits.{full_block_length, max_block_count};

@@ -1,3 +1,5 @@
+//! Reads of one block: a marked one is lent, and a missing one whose leaf is known becomes marked where its
+//! bytes are right.
 ghost use Rattle.std.specs.Prelude.{◌≡◌, ◌≢◌, ◌<◌, ◌≤◌, List, [], ◌∷◌, Some, IfErr, length, drop, slice_get};
 ghost use Rattle.std.specs.Bool.{OnTrue, OnFalse};
 ghost use Rattle.bt_tree.specs.Limits.{full_block_length};

@@ -1,3 +1,5 @@
+//! The adoption of groups of two blocks or of four, as many as lie in eight blocks: they are read and
+//! digested together, and any other group is left to `adopt`.
 ghost use Rattle.std.specs.Prelude.{◌≡◌, ℕ, ◌+◌, ◌%◌, ◌^◌, ◌<◌, ◌≤◌, ◌⊎◌, List, IfOk, IfErr, IfSome, length};
 ghost use Rattle.bt_tree.specs.Limits.{max_block_count, max_height};
 ghost use Rattle.bt_tree.specs.Blocks.{block_count};

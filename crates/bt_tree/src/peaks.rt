@@ -1,3 +1,5 @@
+//! The digest above a row of nodes that come in order. Of those that came, only the digests of the widest
+//! whole nodes over them are kept.
 ghost use Rattle.std.specs.Prelude.{◌≡◌, ℕ, ◌+◌, ◌^◌, ◌<◌, ◌≤◌, List, [], length, slice_index_or};
 ghost use Rattle.arrayvec.specs.ArrayVec.{array_vec_len};
 ghost use Rattle.bt_tree.specs.Limits.{max_block_count, max_height};

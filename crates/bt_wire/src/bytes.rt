@@ -1,3 +1,4 @@
+//! The bytes that a message carries: a bitfield, bytes of a piece, or digests.
 ghost use Rattle.std.specs.Prelude.{◌≡◌};
 
 use std::marker::Model;

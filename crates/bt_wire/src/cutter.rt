@@ -1,3 +1,5 @@
+//! The cutter of a peer's stream: it is fed bytes in parts of any size, and gives the handshake and the
+//! messages, each once it is whole.
 ghost use Rattle.std.specs.Prelude.{◌≡◌, ◌+◌, ◌-◌, ◌≤◌, length, drop, false, IfOk, IfErr, OnOk, OnErr};
 ghost use Rattle.bt_wire.specs.Cutter.{new_stream, fed, IsAnswer, IsRefusal, IsFeedRefusal};
 

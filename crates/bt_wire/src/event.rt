@@ -1,3 +1,4 @@
+//! What a cutter gives: a handshake, a message, or the number of an unknown kind; and its errors W1 to W5.
 ghost use Rattle.std.specs.Prelude.{◌≡◌};
 ghost use Rattle.bt_wire.specs.declared.event.WireError.TheVariants.{OutOfMemory as out_of_memory};
 

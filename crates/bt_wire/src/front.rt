@@ -1,3 +1,4 @@
+//! The handshake or the message with which unread bytes begin (BEP 3), or the fault that they show.
 ghost use Rattle.std.specs.Prelude.{◌≡◌, ◌+◌, ◌≤◌, ◌<◌, ◌↔◌, true, false, length, take, drop, slice_index, IsNone, IsTrue, IfSome, IfNone, IfOk, IfErr};
 ghost use Rattle.std.specs.Bool.{OnTrue, OnFalse};
 ghost use Rattle.std.specs.Int.{w32, to_be_bytes};

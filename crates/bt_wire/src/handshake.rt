@@ -1,3 +1,4 @@
+//! The handshake (BEP 3) and its 68 bytes: the protocol, the infohash's first 20 bytes and the peer's id.
 ghost use Rattle.std.specs.Prelude.{◌≡◌};
 ghost use Rattle.bt_wire.specs.Handshake.{handshake_spelling};
 

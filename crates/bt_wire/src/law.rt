@@ -1,3 +1,5 @@
+//! Laws of streams: a stream has one list of events and one fault at most, however it is cut, and what was
+//! written is read back.
 ghost use Rattle.bt_wire.specs.Law.{FaultsStandAlone, StreamsHaveOneReading, CutsAreStreams, CuttingMakesNoDifference, WritingIsRead};
 
 /// A stream of bytes has one reading: one list of events, and one rest that begins with none.

@@ -1,3 +1,4 @@
+//! The messages of the peer wire (BEP 3, BEP 52), and which of them can be sent.
 ghost use Rattle.std.specs.Prelude.{◌≡◌, IsTrue, ◌↔◌, length};
 ghost use Rattle.bt_hashreq.specs.Key.{key_length, key_spelling};
 ghost use Rattle.bt_wire.specs.Message.{Fits};

@@ -1,3 +1,4 @@
+//! How a message is read from its kind and payload (BEP 3, BEP 52), and which payload lengths fit a kind.
 ghost use Rattle.std.specs.Prelude.{◌≡◌, ◌↔◌, length, IsSome, IsTrue, IfSome, IfNone, IfOk, IfErr};
 ghost use Rattle.bt_hashreq.specs.Key.{key_length, key_spelling, IsKey};
 ghost use Rattle.bt_wire.specs.Message.{ask_spelling, IsAsk, IsKnownKind, CarriesBytes};

@@ -1,3 +1,4 @@
+//! How a message is written: its length field, its kind and its payload (BEP 3, BEP 52).
 ghost use Rattle.std.specs.Prelude.{◌≡◌, ◌+◌, ◌≤◌, ◌++◌, length, take, IfOk};
 ghost use Rattle.bt_wire.specs.Limits.{max_length_field};
 ghost use Rattle.std.specs.Int.{w32, to_be_bytes};
