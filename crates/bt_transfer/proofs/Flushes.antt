@@ -1,8 +1,9 @@
 -- Lemmas on peers in turn, and on the flush that follows on them: where none among them was refused, and where one was.
 use Rattle.std.proofs.Common.{◌≡◌, ℕ, List, Result, Ok, Err, refl}
-use Rattle.std.specs.Prelude.{IfErr, OnErr, OnOk}
+use Rattle.std.specs.Prelude.{IfErr, OnOk}
 use Rattle.bt_disk.specs.History.{History}
 use Rattle.bt_check.specs.declared.fault.Fault.{Fault}
+use Rattle.bt_files.specs.OpenFolder.{IsCallFault}
 use Rattle.bt_files.specs.Store.{flush_fault}
 use Rattle.bt_machine.specs.State.{EngineView}
 use Rattle.bt_machine.specs.View.{StepsTo}
@@ -10,9 +11,9 @@ use Rattle.bt_machine.specs.declared.error.FlushError.{FlushError}
 use Rattle.bt_machine.specs.declared.event.Event.TheVariants.{Flush}
 use Rattle.bt_machine.specs.declared.event.Answer.TheVariants.{Flushed}
 use Rattle.bt_peers.specs.declared.end.PeerEnd.{PeerEnd}
-use Rattle.bt_runs.specs.Leads.{LeadsTo}
 use Rattle.bt_transfer.specs.Fetch.{TriesAndSyncs, Turns, behind, among}
-use Rattle.bt_transfer.specs.FetchSteps.{BreaksOff, FailsToSync, synced}
+use Rattle.bt_transfer.specs.FetchSteps.{BreaksOff, FailsToSync, refused, unwritten}
+use Rattle.bt_transfer.proofs.EndFaults.{of_fault}
 
 module _ {D L : Type 0} (InTurns : Turns D L) (history : D → History) (honest : D → Type 0) (faults : D → ℕ) (dig : List ℕ → List ℕ)
     (old : EngineView D) (links : List L) (ends : List PeerEnd) (rest : List L) where
@@ -35,14 +36,17 @@ module _ {D L : Type 0} (InTurns : Turns D L) (history : D → History) (honest 
       → FailsToSync InTurns history honest faults dig old links ends rest fault new
   fails_among new fault error told turns = record { error = error; told = told; tried = among error turns refl }
 
-  -- whatever the last flush answered, what fails behind it fails so
-  pub broke_off : (kept new : EngineView D) (result : Result (Unit {0}) Fault)
-      → OnOk result (TriesAndSyncs InTurns history honest faults dig old links ends rest (Ok tt) kept)
-      → IfErr result (λ fault. FailsToSync InTurns history honest faults dig old links ends rest fault kept)
-      → LeadsTo history honest faults dig kept new → BreaksOff InTurns history honest faults dig old links rest new
-  broke_off kept new (Ok done) well failed leads = synced ends (Ok tt) kept well leads
-  broke_off kept new (Err fault) well failed leads = synced ends (Err failed.error) kept failed.tried leads
+  -- where that flush is what fails, nothing comes after it
+  pub broke_off : (new : EngineView D) (result : Result (Unit {0}) Fault) (fault : Fault) → result ≡ Err fault
+      → IfErr result (λ told. FailsToSync InTurns history honest faults dig old links ends rest told new)
+      → BreaksOff InTurns history honest faults dig old links rest fault new
+  broke_off new result fault is failed =
+      refused ends (of_fault result fault (λ told. FailsToSync InTurns history honest faults dig old links ends rest told new) is failed)
 
-pub on_err : {T E : Type 0} (result : Result T E) (P : Type 0) → P → OnErr result P
-on_err (Ok x) P holds = tt
-on_err (Err e) P holds = holds
+  -- nor where the peers' lines can't be written, whatever that flush answered
+  pub not_written : (new : EngineView D) (result : Result (Unit {0}) Fault) (fault : Fault)
+      → OnOk result (TriesAndSyncs InTurns history honest faults dig old links ends rest (Ok tt) new)
+      → IfErr result (λ told. FailsToSync InTurns history honest faults dig old links ends rest told new)
+      → IsCallFault fault → BreaksOff InTurns history honest faults dig old links rest fault new
+  not_written new (Ok done) fault well failed call = unwritten ends (Ok tt) well call
+  not_written new (Err told) fault well failed call = unwritten ends (Err failed.error) failed.tried call

@@ -1,7 +1,9 @@
 -- A fetch that fails.
-use Rattle.std.specs.Prelude.{◌≡◌, ℕ, List, Result, Err}
+use Rattle.std.specs.Prelude.{◌≡◌, ℕ, List, Result, Ok, Err}
 use Rattle.bt_disk.specs.History.{History}
+use Rattle.bt_check.specs.Fault.{out_of_memory}
 use Rattle.bt_check.specs.declared.fault.Fault.{Fault}
+use Rattle.bt_files.specs.OpenFolder.{IsCallFault}
 use Rattle.bt_files.specs.Store.{flush_fault}
 use Rattle.bt_machine.specs.declared.error.FlushError.{FlushError}
 use Rattle.bt_machine.specs.State.{EngineView}
@@ -17,13 +19,20 @@ pub record FailsToSync {D L : Type 0} (InTurns : Turns D L) (history : D → His
   pub told : fault ≡ flush_fault error
   pub tried : TriesAndSyncs InTurns history honest faults dig old links ends rest (Err error) new
 
--- A fetch fails before any peer is tried, behind the flush that follows on the last, or behind one among the
--- peers that was refused.
+-- A fetch fails for want of memory, before any peer is tried; by a flush among the peers or behind them that was
+-- refused; or as the peers' lines are written, however that flush was answered: nothing comes behind it. Or it fails
+-- later, behind a flush that was made.
 pub data BreaksOff {D L : Type 0} (InTurns : Turns D L) (history : D → History) (honest : D → Type 0)
-    (faults : D → ℕ) (dig : List ℕ → List ℕ) (old : EngineView D) (links rest : List L) (new : EngineView D)
-    : Type 0 where
-  none_tried : rest ≡ links → new ≡ old → BreaksOff InTurns history honest faults dig old links rest new
-  synced : (ends : List PeerEnd) (answer : Result (Unit {0}) FlushError) (kept : EngineView D)
-      → TriesAndSyncs InTurns history honest faults dig old links ends rest answer kept
+    (faults : D → ℕ) (dig : List ℕ → List ℕ) (old : EngineView D) (links rest : List L) (fault : Fault)
+    (new : EngineView D) : Type 0 where
+  none_tried : fault ≡ out_of_memory → rest ≡ links → new ≡ old
+      → BreaksOff InTurns history honest faults dig old links rest fault new
+  refused : (ends : List PeerEnd) → FailsToSync InTurns history honest faults dig old links ends rest fault new
+      → BreaksOff InTurns history honest faults dig old links rest fault new
+  unwritten : (ends : List PeerEnd) (answer : Result (Unit {0}) FlushError)
+      → TriesAndSyncs InTurns history honest faults dig old links ends rest answer new → IsCallFault fault
+      → BreaksOff InTurns history honest faults dig old links rest fault new
+  later : (ends : List PeerEnd) (kept : EngineView D)
+      → TriesAndSyncs InTurns history honest faults dig old links ends rest (Ok tt) kept
       → LeadsTo history honest faults dig kept new
-      → BreaksOff InTurns history honest faults dig old links rest new
+      → BreaksOff InTurns history honest faults dig old links rest fault new

@@ -1,5 +1,5 @@
 //! The command `fetch`: peers are tried in turn, and what came of it is told.
-ghost use Rattle.std.specs.Prelude.{[], ◌≡◌, ◌≢◌, ◌⊎◌, All, Bool, List, Option, Ok, Err, false, true, length, IfErr, IfOk, OnErr, OnOk};
+ghost use Rattle.std.specs.Prelude.{[], ◌≡◌, ◌≢◌, ◌⊎◌, All, Bool, List, Option, Ok, Err, false, true, length, IfErr, IfOk, OnOk};
 ghost use Rattle.std.specs.Io.KnownBytes.{Keeps};
 ghost use Rattle.bt_check.specs.Fault.{device, log_full, status_of};
 ghost use Rattle.bt_files.specs.Ending.{IsEndFault};
@@ -210,9 +210,9 @@ fn fetch_over<D: Disk + Drop, H: NodeHash, L: Link, W: Write>(
         D.honest D.faults H.digest L.dials L.failures L.gives L.R.remaining L.W.contents flush_every turns))
         D.history D.honest D.faults H.digest peers.now engine.old links.old (W.contents writer.old)
         (W.contents writer.new) status links.new engine.new) }
-    ensures broken_off { OnErr result (BreaksOff (InTurnWithFlushes (IsTriedWithFlushes D.history D.honest
-        D.faults H.digest L.dials L.failures L.gives L.R.remaining L.W.contents flush_every turns)) D.history
-        D.honest D.faults H.digest engine.old links.old links.new engine.new) }
+    ensures broken_off { IfErr result (λ fault. BreaksOff (InTurnWithFlushes (IsTriedWithFlushes D.history
+        D.honest D.faults H.digest L.dials L.failures L.gives L.R.remaining L.W.contents flush_every turns))
+        D.history D.honest D.faults H.digest engine.old links.old links.new fault engine.new) }
     ensures run { LeadsTo D.history D.honest D.faults H.digest engine.old engine.new }
     ensures fault { IfErr result (IsEndFault engine.old.log) }
 {

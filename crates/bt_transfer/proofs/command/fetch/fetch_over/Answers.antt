@@ -1,4 +1,4 @@
-use Rattle.std.proofs.Common.{List, inl, subst, ◌∙◌}
+use Rattle.std.proofs.Common.{List, inl, refl, subst, ◌∙◌}
 use Rattle.std.proofs.lemmas.List.{with_items_is}
 use Rattle.std.specs.Io.KnownBytes.{Appends}
 use Rattle.bt_peers.specs.declared.end.PeerEnd.{PeerEnd}
@@ -7,9 +7,10 @@ use Rattle.bt_files.specs.Ending.{IsEndFault}
 use Rattle.bt_files.proofs.Adoptions.{adoption_fault}
 use Rattle.bt_files.proofs.Faults.{call_ends, err_weaker, ok_weaker, passed_on}
 use Rattle.bt_files.proofs.Unlogged.{end_fault_before}
+use Rattle.bt_transfer.specs.FetchSteps.{none_tried, later}
 use Rattle.bt_transfer.specs.PeerLines.{peer_lines}
 use Rattle.bt_transfer.proofs.EndFaults.{of_fault}
-use Rattle.bt_transfer.proofs.Flushes.{broke_off, on_err}
+use Rattle.bt_transfer.proofs.Flushes.{broke_off, not_written}
 use Rattle.bt_transfer.proofs.command.fetch.fetch_over.Goals as goal
 
 pub returns-clause-fetched : goal.returns-clause-fetched
@@ -30,34 +31,33 @@ returns-clause-fetched g c = ok_weaker c.conclude.result _ _ (λ status ended. r
 pub returns-in_err-ends-clause-run : goal.returns-in_err-ends-clause-run
 returns-in_err-ends-clause-run g c = none c.args.engine.now
 
+pub returns-in_err-ends-clause-broken_off : goal.returns-in_err-ends-clause-broken_off
+returns-in_err-ends-clause-broken_off g c = passed_on c.from_residual.result _ _ c.from_residual.ensures.1 (none_tried refl refl refl)
+
 pub returns-in_err-write_peers-clause-broken_off : goal.returns-in_err-write_peers-clause-broken_off
-returns-in_err-write_peers-clause-broken_off g c = on_err _ _
-    (broke_off _ g.D.Disk.history g.D.Disk.honest g.D.Disk.faults g.H.NodeHash.digest c.args.engine.now c.args.links.now _
-    c.try_and_sync-kept.new.links c.try_and_sync-kept.new.engine c.try_and_sync-kept.new.engine c.try_and_sync-kept.result c.try_and_sync-kept.ensures.kept
-    c.try_and_sync-kept.ensures.failed (none c.try_and_sync-kept.new.engine))
+returns-in_err-write_peers-clause-broken_off g c = passed_on c.from_residual-in_err-write_peers.result _ _ c.from_residual-in_err-write_peers.ensures.1
+    (not_written _ g.D.Disk.history g.D.Disk.honest g.D.Disk.faults g.H.NodeHash.digest c.args.engine.now c.args.links.now _
+    c.try_and_sync-kept.new.links c.try_and_sync-kept.new.engine c.try_and_sync-kept.result _ c.try_and_sync-kept.ensures.kept
+    c.try_and_sync-kept.ensures.failed c.in_err-write_peers.ensures.fault)
 
 pub returns-in_err-kept-clause-broken_off : goal.returns-in_err-kept-clause-broken_off
-returns-in_err-kept-clause-broken_off g c = on_err _ _
+returns-in_err-kept-clause-broken_off g c = passed_on c.from_residual-in_err-kept.result _ _ c.from_residual-in_err-kept.ensures.1
     (broke_off _ g.D.Disk.history g.D.Disk.honest g.D.Disk.faults g.H.NodeHash.digest c.args.engine.now c.args.links.now _
-    c.try_and_sync-kept.new.links c.try_and_sync-kept.new.engine c.try_and_sync-kept.new.engine c.try_and_sync-kept.result c.try_and_sync-kept.ensures.kept
-    c.try_and_sync-kept.ensures.failed (none c.try_and_sync-kept.new.engine))
+    c.try_and_sync-kept.new.links c.try_and_sync-kept.new.engine c.try_and_sync-kept.result _ c.in_err-kept.was c.try_and_sync-kept.ensures.failed)
 
 pub returns-in_err-adopt_waiting-clause-broken_off : goal.returns-in_err-adopt_waiting-clause-broken_off
-returns-in_err-adopt_waiting-clause-broken_off g c = on_err _ _
-    (broke_off _ g.D.Disk.history g.D.Disk.honest g.D.Disk.faults g.H.NodeHash.digest c.args.engine.now c.args.links.now _
-    c.try_and_sync-kept.new.links c.try_and_sync-kept.new.engine c.adopt_waiting.new.engine c.try_and_sync-kept.result c.try_and_sync-kept.ensures.kept
-    c.try_and_sync-kept.ensures.failed c.adopt_waiting.ensures.run)
+returns-in_err-adopt_waiting-clause-broken_off g c = passed_on c.from_residual-in_err-adopt_waiting.result _ _ c.from_residual-in_err-adopt_waiting.ensures.1
+    (later c.try_and_sync-kept.new.ends c.try_and_sync-kept.new.engine c.in_ok-kept.ensures.kept c.adopt_waiting.ensures.run)
 
 pub returns-in_err-adopt_waiting-clause-run : goal.returns-in_err-adopt_waiting-clause-run
 returns-in_err-adopt_waiting-clause-run g c =
     both c.args.engine.now c.try_and_sync-kept.new.engine c.adopt_waiting.new.engine c.try_and_sync-kept.ensures.run c.adopt_waiting.ensures.run
 
 pub returns-clause-broken_off : goal.returns-clause-broken_off
-returns-clause-broken_off g c = on_err c.conclude.result _
-    (broke_off _ g.D.Disk.history g.D.Disk.honest g.D.Disk.faults g.H.NodeHash.digest c.args.engine.now c.args.links.now _
-    c.try_and_sync-kept.new.links c.try_and_sync-kept.new.engine c.conclude.new.engine c.try_and_sync-kept.result c.try_and_sync-kept.ensures.kept
-    c.try_and_sync-kept.ensures.failed
+returns-clause-broken_off g c = err_weaker c.conclude.result _ _
+    (λ fault ended. later c.try_and_sync-kept.new.ends c.try_and_sync-kept.new.engine c.in_ok-kept.ensures.kept
     (both c.try_and_sync-kept.new.engine c.adopt_waiting.new.engine c.conclude.new.engine c.adopt_waiting.ensures.run c.conclude.ensures.run))
+    c.conclude.ensures.fault
 
 pub returns-clause-run : goal.returns-clause-run
 returns-clause-run g c =
