@@ -1,6 +1,7 @@
 pub mod PeerLines
 pub mod OverTcp
 pub mod ConnectionLines
+pub mod Listening
 pub mod Flushes
 pub mod RefusedFlushes
 pub mod EndFaults

@@ -23,7 +23,7 @@ use Rattle.bt_files.specs.Report.{IsCalledComplete}
 use Rattle.bt_transfer.specs.Seed.{EndsSeed, HasListened}
 use Rattle.bt_files.specs.Store.{HasBegun}
 use Rattle.bt_words.specs.declared.peer.Peer.{Peer}
-use Rattle.bt_words.specs.declared.peer.Serving.{Serving}
+use Rattle.bt_words.specs.declared.peer.Service.{Service}
 
 -- ---- complete files
 
@@ -96,6 +96,6 @@ module _ {D : Type 0} (history : D → History) (honest : D → Type 0) (faults 
             (each_complete last.state number (zero_is_complete (all_complete last.state) status fetched.fetched.end.told zero));
       }
 
-  pub ends_seed : (serving : Serving) → HasListened history honest faults dig serving old before after last → status ≡ 0
-      → EndsSeed begun.begins old serving before after status
-  ends_seed serving listened done = record { last = last; listened = listened; whole = whole_run; done = done }
+  pub ends_seed : (service : Service) → HasListened history honest faults dig service old before after last → status ≡ 0
+      → EndsSeed begun.begins old service before after status
+  ends_seed service listened done = record { last = last; listened = listened; whole = whole_run; done = done }

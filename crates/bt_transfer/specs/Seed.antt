@@ -1,5 +1,5 @@
 -- What a seed comes to.
-use Rattle.std.specs.Prelude.{◌≡◌, ℕ, ◌-◌, ◌^◌, ◌++◌, ◌⊎◌, Bool, true, false, List, Ok, Option, codes}
+use Rattle.std.specs.Prelude.{◌≡◌, ◌≢◌, ℕ, ◌-◌, ◌^◌, ◌++◌, ◌⊎◌, Bool, true, false, List, Ok, Option, codes}
 use Rattle.std.specs.Borrow.{Bor}
 use Rattle.std.specs.Fmt.{decimal}
 use Rattle.std.specs.Io.KnownBytes.{Appends}
@@ -45,14 +45,19 @@ HasServedAll history honest faults dig Forever old before after new =
 abbrev pub listening_line : ℕ → List ℕ
 listening_line port = line_text (codes "listening " ++ decimal port)
 
--- the port of a listener was told, and then connections were served
+-- where a listener listens that was asked for a port: there, or with 0 at some port
+abbrev pub IsPortFor : (asked port : ℕ) → Type 0
+IsPortFor asked port = asked ≢ 0 → port ≡ asked
+
+-- the port of a listener was told, as the service asks for one, and then connections were served
 pub record HasListened {D : Type 0} (history : D → History) (honest : D → Type 0) (faults : D → ℕ)
-    (dig : List ℕ → List ℕ) (serving : Serving) (old : EngineView D) (before after : Option (List ℕ))
+    (dig : List ℕ → List ℕ) (service : Service) (old : EngineView D) (before after : Option (List ℕ))
     (new : EngineView D) : Type 0 where
   pub port : ℕ
   pub told : Option (List ℕ)
   pub listening : Appends before told (listening_line port)
-  pub served : HasServedAll history honest faults dig serving old told after new
+  pub served : HasServedAll history honest faults dig service.serving old told after new
+  pub asked : IsPortFor service.port port
 
 -- An engine that began so, with a torrent, and with a log or without, and has come to `old`, served
 -- connections, and the status is 0. The whole, from its start on, is a run as promised: what it sent was cut
@@ -61,9 +66,9 @@ pub record HasListened {D : Type 0} (history : D → History) (honest : D → Ty
 pub record EndsSeed {D : Type 0} {history : D → History} {honest : D → Type 0} {faults : D → ℕ}
     {dig : List ℕ → List ℕ} {torrent : Metainfo} {placed : List (Option D)} {attached : Option (LogView D)}
     {first : EngineView D} (begins : BeginsOn history honest faults dig torrent placed attached first)
-    (old : EngineView D) (serving : Serving) (before after : Option (List ℕ)) (status : ℕ) : Type 0 where
+    (old : EngineView D) (service : Service) (before after : Option (List ℕ)) (status : ℕ) : Type 0 where
   pub last : EngineView D
-  pub listened : HasListened history honest faults dig serving old before after last
+  pub listened : HasListened history honest faults dig service old before after last
   pub whole : HasWholeRun begins last
   pub done : status ≡ 0
 
@@ -79,7 +84,7 @@ pub record HasSeeded (is_info : Bool) (dir : List ℕ) (service : Service) (log 
   pub store : EngineView DeviceView
   pub loaded : IsLoaded is_info (seed_use service.is_read_only) dir log store
   pub complete : service.is_read_only ≡ true → all_complete store.state ≡ true
-  pub ended : EndsSeed loaded.opened.begun.begins store service.serving before after status
+  pub ended : EndsSeed loaded.opened.begun.begins store service before after status
 
 -- The store was opened to be read, not all files are complete, and nothing but this was told; the status is
 -- 1.

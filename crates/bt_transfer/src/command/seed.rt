@@ -10,7 +10,7 @@ ghost use Rattle.bt_padding.specs.ShortBlocks.{short_blocks_of};
 ghost use Rattle.bt_resume.specs.ResumeLog.{LogView};
 ghost use Rattle.bt_runs.specs.Leads.{LeadsTo};
 ghost use Rattle.bt_transfer.specs.Connections.{IsFlushed};
-ghost use Rattle.bt_transfer.specs.Seed.{EndsSeed, HasListened, HasServedAll, IsSeed, listening_line, seed_use};
+ghost use Rattle.bt_transfer.specs.Seed.{EndsSeed, HasListened, HasServedAll, IsPortFor, IsSeed, listening_line, seed_use};
 ghost use Rattle.bt_files.specs.Store.{HasBegun};
 
 use crate::connections::{serve_count, serve_forever};
@@ -140,7 +140,7 @@ fn seed_store<D: Disk + Drop, H: NodeHash, N: Net + Clock, P: Watch, W: Write>(
     ensures listened { (torrent : Metainfo) (given : List D) (attached : Option (LogView D))
         (filled : List Bool)
         (begun : HasBegun D.history D.honest D.faults H.digest torrent given attached filled engine)
-        → IfOk result (λ status. EndsSeed begun.begins engine service.entry.serving
+        → IfOk result (λ status. EndsSeed begun.begins engine service.entry
         (W.contents writer.old) (W.contents writer.new) status) }
     ensures fault { IfErr result (IsEndFault engine.log) }
 {
@@ -181,12 +181,12 @@ fn listen_and_serve<D: Disk + Drop, H: NodeHash, N: Net + Clock, W: Write>(
     requires no_peer { engine.old.state.peers ≡ [] }
     requires own_short_blocks { passage.short_blocks.now ≡ short_blocks_of engine.old.state.torrent }
     ensures run { LeadsTo D.history D.honest D.faults H.digest engine.old engine.new }
-    ensures served { OnOk result (HasListened D.history D.honest D.faults H.digest service.entry.serving
+    ensures served { OnOk result (HasListened D.history D.honest D.faults H.digest service.entry
         engine.old (W.contents writer.old) (W.contents writer.new) engine.new) }
     ensures fault { IfErr result (IsEndFault engine.old.log) }
 {
     let listener = listen(net, service.address, service.port)?;
-    announce(alloc, &listener, writer)?;
+    announce(alloc, &listener, service.port, writer)?;
     let reception = Reception {
         net,
         listener: &listener,
@@ -195,18 +195,32 @@ fn listen_and_serve<D: Disk + Drop, H: NodeHash, N: Net + Clock, W: Write>(
     serve_all(alloc, &reception, engine, service.serving, writer)
 }
 
-/// Writes at which port connections are waited for.
+/// Writes at which port connections are waited for, of a listener that was asked for one.
 fn announce<L: OpenListener, W: Write>(
     alloc: Global,
     listener: &L,
+    asked: u16,
     writer: &mut W,
 ) -> Result<(), Fault>
-    ensures told { OnOk result ((port : ℕ)
+    ensures told { OnOk result ((port : ℕ) × IsPortFor asked port
         × Appends (W.contents writer.old) (W.contents writer.new) (listening_line port)) }
     ensures fault { IfErr result (λ fault. (fault ≡ device) ⊎ (fault ≡ out_of_memory)) }
 {
-    let port = port_of(listener)?;
+    let port = port_for(listener, asked)?;
     tell_port(alloc, port, writer)
+}
+
+/// The port at which a listener listens that was asked for one, or with 0 for any. Errors: the system does not tell it,
+/// or tells another.
+fn port_for<L: OpenListener>(listener: &L, asked: u16) -> Result<u16, Fault>
+    ensures port { IfOk result (IsPortFor asked) }
+    ensures fault { IfErr result (λ fault. fault ≡ device) }
+{
+    let port = port_of(listener)?;
+    if asked != 0 && port != asked {
+        return Err(Fault::Device);
+    }
+    Ok(port)
 }
 
 /// Writes the line of a port.

@@ -1,6 +1,7 @@
 use Rattle.bt_runs.specs.Leads.{none}
 use Rattle.bt_files.specs.Ending.{IsEndFault}
 use Rattle.bt_files.proofs.Faults.{call_ends, passed_on}
+use Rattle.bt_transfer.proofs.Listening.{listened}
 use Rattle.bt_transfer.proofs.command.seed.listen_and_serve.Goals as goal
 
 pub returns-in_err-listener-clause-run : goal.returns-in_err-listener-clause-run
@@ -13,3 +14,9 @@ pub returns-in_err-announce-clause-fault : goal.returns-in_err-announce-clause-f
 returns-in_err-announce-clause-fault g c =
     passed_on c.from_residual-in_err-announce.result _ (IsEndFault c.args.engine.now.log) c.from_residual-in_err-announce.ensures.1
     (call_ends c.args.engine.now.log _ c.in_err-announce.ensures.fault)
+
+pub returns-clause-served : goal.returns-clause-served
+returns-clause-served g c =
+    listened g.D.Disk.history g.D.Disk.honest g.D.Disk.faults g.H.NodeHash.digest c.args.service c.args.engine.now c.serve_all.new.engine
+    (g.W.Write.contents c.args.writer.now) (g.W.Write.contents c.announce.new.writer) (g.W.Write.contents c.serve_all.new.writer) c.serve_all.result
+    c.in_ok-announce.ensures.told c.serve_all.ensures.served
