@@ -1,19 +1,14 @@
 -- A log that is full ends no task but one with a log.
-use Rattle.std.proofs.Common.{◌≡◌, ◌≢◌, ◌⊎◌, ℕ, Bool, List, Option, None, Result, Ok, Err, IfErr, inl, inr, refl, sym, subst}
-use Rattle.std.specs.Borrow.{Bor}
+use Rattle.std.proofs.Common.{◌≡◌, ◌≢◌, ◌⊎◌, ℕ, List, Option, None, Result, Ok, Err, IfErr, inl, inr, refl, sym, subst}
 use Rattle.std.specs.Io.KnownBytes.{Keeps}
-use Rattle.bt_meta.specs.declared.error.MetaError.{MetaError}
-use Rattle.bt_meta.specs.declared.error.MetaError.TheVariants.{OutOfMemory as no_memory}
 use Rattle.bt_meta.specs.declared.writer.MakeError.{MakeError}
 use Rattle.bt_meta.specs.declared.writer.MakeError.TheVariants.{BadPath, PieceLength, OutOfMemory as no_memory_to_make}
-use Rattle.bt_check.specs.Fault.{log_full, make_fault, status_of, torrent_fault}
-use Rattle.bt_check.specs.TorrentFile.{IsLoadFault}
+use Rattle.bt_check.specs.Fault.{log_full, make_fault, status_of}
 use Rattle.bt_check.specs.declared.fault.Fault.{Fault}
 use Rattle.bt_check.specs.declared.fault.Fault.TheVariants.{Words, OutAmongFiles, Torrent, Make, SameFile, LogAmongFiles, OtherTorrent, LogTooLong, LogFull, Device, OutOfMemory}
-use Rattle.bt_files.specs.Loading.{IsStoreFault}
-use Rattle.bt_files.specs.declared.file_use.FileUse.{FileUse}
 use Rattle.bt_files.specs.declared.file_use.FileUse.TheVariants.{Fetch as for_fetch}
 use Rattle.bt_make.specs.Command.{IsFilesFault, IsMakeFault, Paths}
+use Rattle.bt_transfer.proofs.EndFaults.{load_not_full, store_not_full}
 use Rattle.bt_transfer.specs.Seed.{seed_use}
 use Rattle.bt_words.specs.declared.command_line.Task.{Task}
 use Rattle.bt_words.specs.declared.command_line.Task.TheVariants.{Make as make, Show, Check, Seed, Fetch, Replay}
@@ -33,11 +28,7 @@ is_full LogTooLong = inr (λ is. let bad : LogTooLong ≡ LogFull = is in cc)
 is_full Device = inr (λ is. let bad : Device ≡ LogFull = is in cc)
 is_full OutOfMemory = inr (λ is. let bad : OutOfMemory ≡ LogFull = is in cc)
 
--- ---- what a torrent or a folder has
-
-no_torrent_fault : (refusal : MetaError) → ¬ (torrent_fault refusal ≡ LogFull)
-no_torrent_fault no_memory is = let bad : OutOfMemory ≡ LogFull = is in cc
-no_torrent_fault refusal is = let bad : Torrent refusal ≡ LogFull = is in cc
+-- ---- what a folder has
 
 no_make_fault : (refusal : MakeError) → ¬ (make_fault refusal ≡ LogFull)
 no_make_fault no_memory_to_make is = let bad : OutOfMemory ≡ LogFull = is in cc
@@ -48,11 +39,6 @@ not_a_device is = let bad : LogFull ≡ Device = is in cc
 
 not_memory : ¬ (LogFull ≡ OutOfMemory)
 not_memory is = let bad : LogFull ≡ OutOfMemory = is in cc
-
-no_load_fault : (is_info : Bool) → IsLoadFault is_info log_full → ⊥
-no_load_fault is_info (inl at_device) = not_a_device at_device
-no_load_fault is_info (inr (inl short)) = not_memory short
-no_load_fault is_info (inr (inr text)) = no_torrent_fault text.refused.refusal (sym text.refused.told)
 
 no_files_fault : (paths : Paths) (name : List ℕ) (piece_length : ℕ) → IsFilesFault paths name piece_length log_full → ⊥
 no_files_fault paths name piece_length (inl (inl at_device)) = not_a_device at_device
@@ -70,19 +56,15 @@ no_folder_fault name piece_length (inr (inr (inr files))) = no_files_fault files
 
 -- ---- a task
 
-of_a_log : (is_info : Bool) (usage : FileUse) (log : Option (Bor (List ℕ))) → IsStoreFault is_info usage log log_full → log ≢ None
-of_a_log is_info usage log (inl load) = absurd (no_load_fault is_info load)
-of_a_log is_info usage log (inr (inl same)) = absurd (let bad : LogFull ≡ SameFile = same.0 in cc)
-of_a_log is_info usage log (inr (inr refused)) = refused.0
-
 -- a task that it ends has one
 pub has_log : (task : Task) → IsTaskFault task log_full → task_log task ≢ None
 has_log (make request) cause = absurd (no_folder_fault request.name.now request.piece_length cause.cause)
-has_log (Show torrent) cause = absurd (no_load_fault torrent.is_info cause)
-has_log (Check task) cause = absurd (no_load_fault task.torrent.is_info cause)
-has_log (Seed task) (inl loading) = of_a_log task.torrent.is_info (seed_use task.service.is_read_only) task.log loading
+has_log (Show torrent) cause = absurd (load_not_full torrent.is_info log_full cause refl)
+has_log (Check task) cause = absurd (load_not_full task.torrent.is_info log_full cause refl)
+has_log (Seed task) (inl loading) =
+    absurd (store_not_full task.torrent.is_info (seed_use task.service.is_read_only) task.log log_full loading refl)
 has_log (Seed task) (inr full) = full.0
-has_log (Fetch task) (inl loading) = of_a_log task.torrent.is_info for_fetch task.log loading
+has_log (Fetch task) (inl loading) = absurd (store_not_full task.torrent.is_info for_fetch task.log log_full loading refl)
 has_log (Fetch task) (inr full) = full.0
 has_log Replay cause = absurd cause
 

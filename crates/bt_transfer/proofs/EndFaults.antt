@@ -1,13 +1,19 @@
 -- What ends a fetch or a seed behind its store's opening, as its caller is told it.
-use Rattle.std.proofs.Common.{◌≡◌, ◌⊎◌, inl, inr, ℕ, Bool, List, Option, Some, None, Result, Err, IfErr, refl, subst}
+use Rattle.std.proofs.Common.{◌≡◌, ◌≢◌, ◌⊎◌, inl, inr, ℕ, Bool, List, Option, Some, None, Result, Err, IfErr, refl, sym, subst, ◌∙◌}
 use Rattle.std.specs.Borrow.{Bor}
 use Rattle.bt_resume.specs.ResumeLog.{LogView}
 use Rattle.bt_meta.specs.Torrent.{Metainfo}
+use Rattle.bt_meta.specs.declared.error.MetaError.{MetaError}
+use Rattle.bt_meta.specs.declared.error.MetaError.TheVariants.{OutOfMemory as no_memory}
+use Rattle.bt_check.specs.Fault.{log_full, torrent_fault}
+use Rattle.bt_check.specs.TorrentFile.{IsLoadFault}
 use Rattle.bt_check.specs.declared.fault.Fault.{Fault}
+use Rattle.bt_check.specs.declared.fault.Fault.TheVariants.{Torrent, SameFile, LogAmongFiles, OtherTorrent, LogTooLong, LogFull, Device, OutOfMemory}
 use Rattle.bt_machine.specs.State.{EngineView}
 use Rattle.bt_files.specs.DataFiles.{DeviceView}
 use Rattle.bt_files.specs.Ending.{IsEndFault}
-use Rattle.bt_files.specs.Loading.{IsLoaded, IsLogFull, IsStoreFault}
+use Rattle.bt_files.specs.Loading.{IsLoaded, IsLogFull, IsLogRefusal, IsStoreFault}
+use Rattle.bt_files.specs.OpenFolder.{IsCallFault}
 use Rattle.bt_files.specs.StoreLog.{IsLogAt}
 use Rattle.bt_files.specs.declared.file_use.FileUse.{FileUse}
 use Rattle.bt_files.proofs.Faults.{while_loading}
@@ -36,3 +42,29 @@ told_at_end is_info usage dir log store loaded fault (inl (inr full)) = inr (
   full.0,
 )
 told_at_end is_info usage dir log store loaded fault (inr short) = inl (while_loading is_info usage log fault (inr short))
+
+-- ---- a full log is another fault
+
+pub call_not_full : (fault : Fault) → IsCallFault fault → fault ≢ log_full
+call_not_full fault (inl failed) full = let bad : Device ≡ LogFull = sym failed ∙ full in cc
+call_not_full fault (inr short) full = let bad : OutOfMemory ≡ LogFull = sym short ∙ full in cc
+
+torrent_not_full : (refusal : MetaError) → torrent_fault refusal ≢ log_full
+torrent_not_full no_memory full = let bad : OutOfMemory ≡ LogFull = full in cc
+torrent_not_full refusal full = let bad : Torrent refusal ≡ LogFull = full in cc
+
+pub load_not_full : (is_info : Bool) (fault : Fault) → IsLoadFault is_info fault → fault ≢ log_full
+load_not_full is_info fault (inl failed) full = call_not_full fault (inl failed) full
+load_not_full is_info fault (inr (inl short)) full = call_not_full fault (inr short) full
+load_not_full is_info fault (inr (inr text)) full = torrent_not_full text.refused.refusal (sym text.refused.told ∙ full)
+
+refusal_not_full : (fault : Fault) → IsLogRefusal fault → fault ≢ log_full
+refusal_not_full fault (inl among) full = let bad : LogAmongFiles ≡ LogFull = sym among ∙ full in cc
+refusal_not_full fault (inr (inl other)) full = let bad : OtherTorrent ≡ LogFull = sym other ∙ full in cc
+refusal_not_full fault (inr (inr long)) full = let bad : LogTooLong ≡ LogFull = sym long ∙ full in cc
+
+pub store_not_full : (is_info : Bool) (usage : FileUse) (log : Option (Bor (List ℕ))) (fault : Fault) → IsStoreFault is_info usage log fault
+    → fault ≢ log_full
+store_not_full is_info usage log fault (inl load) full = load_not_full is_info fault load full
+store_not_full is_info usage log fault (inr (inl same)) full = let bad : SameFile ≡ LogFull = sym same.0 ∙ full in cc
+store_not_full is_info usage log fault (inr (inr refused)) full = refusal_not_full fault refused.1 full

@@ -5,5 +5,6 @@ pub mod Listening
 pub mod Flushes
 pub mod RefusedFlushes
 pub mod EndFaults
+pub mod FailedServing
 pub mod WholeRuns
 pub mod Uses

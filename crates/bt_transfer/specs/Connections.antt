@@ -1,15 +1,19 @@
 -- Connections that are served one after the other.
-use Rattle.std.specs.Prelude.{[], ◌≡◌, ℕ, ◌∷◌, ◌++◌, List, Ok, Option, codes, length}
+use Rattle.std.specs.Prelude.{[], ◌≡◌, ◌⊎◌, ℕ, ◌∷◌, ◌++◌, List, Ok, Err, Option, Result, codes, length}
 use Rattle.std.specs.Fmt.{decimal}
 use Rattle.std.specs.Io.KnownBytes.{Appends}
 use Rattle.std.specs.List.{enumerate_from, flat_map}
 use Rattle.bt_check.specs.Display.{line_text}
+use Rattle.bt_check.specs.declared.fault.Fault.{Fault}
 use Rattle.bt_disk.specs.History.{History}
+use Rattle.bt_files.specs.OpenFolder.{IsCallFault}
+use Rattle.bt_files.specs.Store.{flush_fault}
+use Rattle.bt_machine.specs.declared.error.FlushError.{FlushError}
 use Rattle.bt_machine.specs.declared.event.Event.TheVariants.{Flush}
-use Rattle.bt_machine.specs.declared.event.Answer.{Answer}
 use Rattle.bt_machine.specs.declared.event.Answer.TheVariants.{Flushed}
 use Rattle.bt_machine.specs.State.{EngineView}
 use Rattle.bt_machine.specs.View.{StepsTo}
+use Rattle.bt_runs.specs.Leads.{LeadsTo}
 use Rattle.bt_peers.specs.End.{end_text}
 use Rattle.bt_peers.specs.declared.end.PeerEnd.{PeerEnd}
 use Rattle.bt_transfer.specs.OverTcp.{Meeting, MeetsOverTcp}
@@ -20,11 +24,20 @@ pub data InSeries {D : Type 0} (Meet : Meeting D) : EngineView D → List PeerEn
   one_more : (old mid new : EngineView D) (ends : List PeerEnd) (end : PeerEnd)
       → InSeries Meet old ends mid → Meet mid end new → InSeries Meet old (ends ++ end ∷ []) new
 
--- the last step was a flush, whatever it answered
-abbrev pub IsFlushed : {D : Type 0} → (D → History) → (D → Type 0) → (D → ℕ) → (List ℕ → List ℕ)
-    → EngineView D → Type 0
-IsFlushed {D} history honest faults dig new =
-    (old : EngineView D) × (answer : Answer) × StepsTo history honest faults dig old Flush answer new
+-- a flush that answered so was refused, which is told as this fault
+abbrev pub IsRefusedAs : Result (Unit {0}) FlushError → Fault → Type 0
+IsRefusedAs (Ok done) fault = ⊥
+IsRefusedAs (Err error) fault = fault ≡ flush_fault error
+
+-- Serving fails: events led on from the old engine, and the last thing was a flush, whatever it answered. The fault is
+-- that of this flush, where it was refused, or of a call before it.
+pub record FailsToServe {D : Type 0} (history : D → History) (honest : D → Type 0) (faults : D → ℕ)
+    (dig : List ℕ → List ℕ) (old : EngineView D) (fault : Fault) (new : EngineView D) : Type 0 where
+  pub mid : EngineView D
+  pub led : LeadsTo history honest faults dig old mid
+  pub answer : Result (Unit {0}) FlushError
+  pub flushed : StepsTo history honest faults dig mid Flush (Flushed answer) new
+  pub cause : IsCallFault fault ⊎ IsRefusedAs answer fault
 
 -- ---- lines
 

@@ -1,24 +1,30 @@
 -- What a seed comes to.
-use Rattle.std.specs.Prelude.{◌≡◌, ◌≢◌, ℕ, ◌-◌, ◌^◌, ◌++◌, ◌⊎◌, Bool, true, false, List, Ok, Option, codes}
+use Rattle.std.specs.Prelude.{◌≡◌, ◌≢◌, ℕ, ◌-◌, ◌^◌, ◌++◌, ◌⊎◌, Bool, true, false, List, Ok, Err, Option, codes}
 use Rattle.std.specs.Borrow.{Bor}
 use Rattle.std.specs.Fmt.{decimal}
 use Rattle.std.specs.Io.KnownBytes.{Appends}
+use Rattle.sha2.specs.Sha256.{sha256}
 use Rattle.bt_check.specs.Display.{line_text}
+use Rattle.bt_check.specs.declared.fault.Fault.{Fault}
 use Rattle.bt_disk.specs.History.{History}
 use Rattle.bt_resume.specs.ResumeLog.{LogView}
+use Rattle.bt_machine.specs.declared.error.FlushError.TheVariants.{LogFull}
 use Rattle.bt_machine.specs.declared.event.Event.TheVariants.{Flush}
 use Rattle.bt_machine.specs.declared.event.Answer.TheVariants.{Flushed}
 use Rattle.bt_machine.specs.Opening.{BeginsOn}
 use Rattle.bt_machine.specs.State.{EngineView}
 use Rattle.bt_machine.specs.View.{StepsTo}
 use Rattle.bt_meta.specs.Torrent.{Metainfo}
+use Rattle.bt_runs.specs.Leads.{LeadsTo}
 use Rattle.bt_runs.specs.WholeRuns.{HasWholeRun}
 use Rattle.bt_files.specs.DataFiles.{DeviceView}
+use Rattle.bt_files.specs.OpenFolder.{IsCallFault}
 use Rattle.bt_files.specs.Report.{engine_report}
+use Rattle.bt_files.specs.Store.{device_faults, device_history, device_honest}
 use Rattle.bt_files.specs.declared.file_use.FileUse.{FileUse}
 use Rattle.bt_files.specs.declared.file_use.FileUse.TheVariants.{ReadOnly, Seed}
 use Rattle.bt_machine.specs.Report.{all_complete}
-use Rattle.bt_transfer.specs.Connections.{HasServed, MeetsAndSyncs}
+use Rattle.bt_transfer.specs.Connections.{FailsToServe, HasServed, MeetsAndSyncs}
 use Rattle.bt_files.specs.Loading.{IsLoaded}
 use Rattle.bt_transfer.specs.OverTcp.{MeetsOverTcp}
 use Rattle.bt_words.specs.declared.peer.Service.{Service}
@@ -58,6 +64,12 @@ pub record HasListened {D : Type 0} (history : D → History) (honest : D → Ty
   pub listening : Appends before told (listening_line port)
   pub served : HasServedAll history honest faults dig service.serving old told after new
   pub asked : IsPortFor service.port port
+
+-- a seed fails: before it serves, by a call, and the engine is as it was; or as it serves
+abbrev pub FailsToSeed : {D : Type 0} → (D → History) → (D → Type 0) → (D → ℕ) → (List ℕ → List ℕ)
+    → EngineView D → Fault → EngineView D → Type 0
+FailsToSeed history honest faults dig old fault new =
+    ((new ≡ old) × IsCallFault fault) ⊎ FailsToServe history honest faults dig old fault new
 
 -- An engine that began so, with a torrent, and with a log or without, and has come to `old`, served
 -- connections, and the status is 0. The whole, from its start on, is a run as promised: what it sent was cut
@@ -103,3 +115,13 @@ abbrev pub IsSeed : Bool → List ℕ → Service → (log : Option (Bor (List �
 IsSeed is_info dir service log before after status =
     HasSeeded is_info dir service log before after status
     ⊎ HasNotSeeded is_info dir service log before after status
+
+-- The store was opened so, events led on from its engine, and the last thing was a flush that found the log full.
+pub record HasFilledLog (is_info : Bool) (dir : List ℕ) (service : Service) (log : Option (Bor (List ℕ)))
+    : Type 0 where
+  pub store : EngineView DeviceView
+  pub loaded : IsLoaded is_info (seed_use service.is_read_only) dir log store
+  pub mid : EngineView DeviceView
+  pub led : LeadsTo device_history device_honest device_faults sha256 store mid
+  pub last : EngineView DeviceView
+  pub full : StepsTo device_history device_honest device_faults sha256 mid Flush (Flushed (Err LogFull)) last

@@ -1,10 +1,10 @@
 //! Connections that are served one after the other, each with its line.
-ghost use Rattle.std.specs.Prelude.{[], ◌≡◌, ◌⊎◌, ◌++◌, ◌-◌, ◌^◌, IfErr, IfOk, OnErr, OnOk, string_bytes};
+ghost use Rattle.std.specs.Prelude.{[], ◌≡◌, ◌⊎◌, ◌++◌, ◌-◌, ◌^◌, IfErr, IfOk, OnOk, string_bytes};
 ghost use Rattle.std.specs.Io.KnownBytes.{Appends};
 ghost use Rattle.bt_check.specs.Fault.{device, out_of_memory};
 ghost use Rattle.bt_files.specs.Ending.{IsEndFault};
 ghost use Rattle.bt_runs.specs.Leads.{LeadsTo};
-ghost use Rattle.bt_transfer.specs.Connections.{HasServed, IsFlushed, MeetsAndSyncs, served_line};
+ghost use Rattle.bt_transfer.specs.Connections.{FailsToServe, HasServed, MeetsAndSyncs, served_line};
 ghost use Rattle.bt_transfer.specs.OverTcp.{MeetsOverTcp};
 
 use crate::reception::Reception;
@@ -52,7 +52,8 @@ pub(crate) fn serve_forever<D: Disk + Drop, H: NodeHash, N: Net + Clock, W: Writ
     requires no_peer { engine.old.state.peers ≡ [] }
     ensures served { OnOk result (HasServed (MeetsAndSyncs D.history D.honest D.faults H.digest) (2 ^ 64 - 1)
         engine.old (W.contents writer.old) (W.contents writer.new) engine.new) }
-    ensures kept { OnErr result (IsFlushed D.history D.honest D.faults H.digest engine.new) }
+    ensures kept { IfErr result
+        (λ fault. FailsToServe D.history D.honest D.faults H.digest engine.old fault engine.new) }
     ensures run { LeadsTo D.history D.honest D.faults H.digest engine.old engine.new }
     ensures fault { IfErr result (IsEndFault engine.old.log) }
 {
@@ -78,7 +79,8 @@ fn serve_and_sync<D: Disk + Drop, H: NodeHash, N: Net + Clock, W: Write>(
     ensures told { IfOk result
         (λ end. Appends (W.contents writer.old) (W.contents writer.new) (served_line number end)) }
     ensures gone { OnOk result (engine.new.state.peers ≡ []) }
-    ensures kept { IsFlushed D.history D.honest D.faults H.digest engine.new }
+    ensures kept { IfErr result
+        (λ fault. FailsToServe D.history D.honest D.faults H.digest engine.old fault engine.new) }
     ensures run { LeadsTo D.history D.honest D.faults H.digest engine.old engine.new }
     ensures fault { IfErr result (IsEndFault engine.old.log) }
 {

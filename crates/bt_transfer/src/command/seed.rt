@@ -1,16 +1,17 @@
 //! The command `seed`: connections are waited for and served, and what came of each is told.
-ghost use Rattle.std.specs.Prelude.{[], ℕ, Bool, List, Option, ◌≡◌, ◌≢◌, ◌⊎◌, ◌++◌, ◌&&◌, not, IfErr, IfOk, OnErr, OnOk, string_bytes};
+ghost use Rattle.std.specs.Prelude.{[], ℕ, Bool, List, Option, ◌≡◌, ◌≢◌, ◌⊎◌, ◌++◌, ◌&&◌, not, IfErr, IfOk, OnOk, string_bytes};
 ghost use Rattle.std.specs.Io.KnownBytes.{Appends, Keeps};
 ghost use Rattle.bt_check.specs.Fault.{device, log_full, out_of_memory, status_of};
 ghost use Rattle.bt_files.specs.Ending.{IsEndFault};
 ghost use Rattle.bt_files.specs.Loading.{IsLogFull, IsStoreFault};
 ghost use Rattle.bt_files.specs.Report.{engine_report};
+ghost use Rattle.bt_machine.specs.State.{EngineView};
 ghost use Rattle.bt_meta.specs.Torrent.{Metainfo};
 ghost use Rattle.bt_padding.specs.ShortBlocks.{short_blocks_of};
 ghost use Rattle.bt_resume.specs.ResumeLog.{LogView};
 ghost use Rattle.bt_runs.specs.Leads.{LeadsTo};
-ghost use Rattle.bt_transfer.specs.Connections.{IsFlushed};
-ghost use Rattle.bt_transfer.specs.Seed.{EndsSeed, HasListened, HasServedAll, IsPortFor, IsSeed, listening_line, seed_use};
+ghost use Rattle.bt_transfer.specs.Connections.{FailsToServe};
+ghost use Rattle.bt_transfer.specs.Seed.{EndsSeed, FailsToSeed, HasFilledLog, HasListened, HasServedAll, IsPortFor, IsSeed, listening_line, seed_use};
 ghost use Rattle.bt_files.specs.Store.{HasBegun};
 
 use crate::connections::{serve_count, serve_forever};
@@ -65,6 +66,8 @@ pub fn seed<R: Files + AllocGlobal + Clone + Drop, N: Net + Clock, P: Watch, W: 
         ⊎ IsLogFull log.entry fault) }
     ensures refused { IfErr result (λ fault. status_of fault ≡ 2 → fault ≢ log_full
         → Keeps (W.contents writer.old) (W.contents writer.new)) }
+    ensures full { IfErr result (λ fault. fault ≡ log_full
+        → HasFilledLog source.entry.is_info dir.now service.entry log.entry) }
 {
     let shared = Shared::new(rt.alloc())?;
     let seal = Seal::new();
@@ -142,6 +145,8 @@ fn seed_store<D: Disk + Drop, H: NodeHash, N: Net + Clock, P: Watch, W: Write>(
         (begun : HasBegun D.history D.honest D.faults H.digest torrent given attached filled engine)
         → IfOk result (λ status. EndsSeed begun.begins engine service.entry
         (W.contents writer.old) (W.contents writer.new) status) }
+    ensures stopped { IfErr result (λ fault. (last : EngineView D)
+        × FailsToSeed D.history D.honest D.faults H.digest engine fault last) }
     ensures fault { IfErr result (IsEndFault engine.log) }
 {
     // These calls say what holds of the engine, and of whatever led to it and leads on from it.
@@ -183,6 +188,8 @@ fn listen_and_serve<D: Disk + Drop, H: NodeHash, N: Net + Clock, W: Write>(
     ensures run { LeadsTo D.history D.honest D.faults H.digest engine.old engine.new }
     ensures served { OnOk result (HasListened D.history D.honest D.faults H.digest service.entry
         engine.old (W.contents writer.old) (W.contents writer.new) engine.new) }
+    ensures stopped { IfErr result
+        (λ fault. FailsToSeed D.history D.honest D.faults H.digest engine.old fault engine.new) }
     ensures fault { IfErr result (IsEndFault engine.old.log) }
 {
     let listener = listen(net, service.address, service.port)?;
@@ -253,7 +260,8 @@ fn serve_all<D: Disk + Drop, H: NodeHash, N: Net + Clock, W: Write>(
     requires no_peer { engine.old.state.peers ≡ [] }
     ensures served { OnOk result (HasServedAll D.history D.honest D.faults H.digest serving
         engine.old (W.contents writer.old) (W.contents writer.new) engine.new) }
-    ensures kept { OnErr result (IsFlushed D.history D.honest D.faults H.digest engine.new) }
+    ensures kept { IfErr result
+        (λ fault. FailsToServe D.history D.honest D.faults H.digest engine.old fault engine.new) }
     ensures run { LeadsTo D.history D.honest D.faults H.digest engine.old engine.new }
     ensures fault { IfErr result (IsEndFault engine.old.log) }
 {

@@ -4,7 +4,9 @@ use Rattle.bt_runs.specs.Leads.{both}
 use Rattle.bt_files.specs.Ending.{IsEndFault}
 use Rattle.bt_files.proofs.Faults.{call_ends, passed_on}
 use Rattle.bt_files.proofs.Unlogged.{flush_fault_before}
+use Rattle.bt_files.specs.OpenFolder.{IsCallFault}
 use Rattle.bt_transfer.proofs.EndFaults.{of_fault}
+use Rattle.bt_transfer.proofs.FailedServing.{fails_as_flushed, fails_by_call}
 use Rattle.bt_transfer.proofs.connections.serve_and_sync.Goals as goal
 
 pub returns-in_err-end-clause-run : goal.returns-in_err-end-clause-run
@@ -32,3 +34,16 @@ returns-clause-gone g c = ap (λ (s : EngineState). s.peers) c.finish-kept.ensur
 pub returns-clause-run : goal.returns-clause-run
 returns-clause-run g c =
     both c.args.engine.now c.serve_next-served.new.engine c.finish-kept.new.engine c.serve_next-served.ensures.run c.finish-kept.ensures.run
+
+pub returns-in_err-end-clause-kept : goal.returns-in_err-end-clause-kept
+returns-in_err-end-clause-kept g c =
+    passed_on c.from_residual.result _ _ c.from_residual.ensures.1
+    (fails_by_call g.D.Disk.history g.D.Disk.honest g.D.Disk.faults g.H.NodeHash.digest c.args.engine.now c.serve_next-served.new.engine
+    c.finish-kept.new.engine c.finish-kept.result _ c.serve_next-served.ensures.run c.finish-kept.ensures.flushed c.finish-kept.ensures.failed
+    (of_fault c.serve_next-served.result _ IsCallFault c.in_err-end.was c.serve_next-served.ensures.fault))
+
+pub returns-in_err-kept-clause-kept : goal.returns-in_err-kept-clause-kept
+returns-in_err-kept-clause-kept g c =
+    passed_on c.from_residual-in_err-kept.result _ _ c.from_residual-in_err-kept.ensures.1
+    (fails_as_flushed g.D.Disk.history g.D.Disk.honest g.D.Disk.faults g.H.NodeHash.digest c.args.engine.now c.serve_next-served.new.engine
+    c.finish-kept.new.engine c.finish-kept.result _ c.serve_next-served.ensures.run c.in_err-kept.was c.finish-kept.ensures.failed)

@@ -1,6 +1,7 @@
 use Rattle.std.proofs.Common.{refl}
 use Rattle.bt_runs.specs.Leads.{none, both}
 use Rattle.bt_transfer.specs.Connections.{MeetsAndSyncs}
+use Rattle.bt_transfer.proofs.FailedServing.{fails_later}
 use Rattle.bt_transfer.proofs.ConnectionLines.{served_more, served_none}
 use Rattle.bt_files.specs.Ending.{IsEndFault}
 use Rattle.bt_files.proofs.Faults.{passed_on}
@@ -28,3 +29,9 @@ pub returns-in_err-serve_and_sync-clause-fault : goal.returns-in_err-serve_and_s
 returns-in_err-serve_and_sync-clause-fault g c =
     passed_on c.from_residual.result _ (IsEndFault c.args.engine.now.log) c.from_residual.ensures.1
     (end_fault_before g.D.Disk.history g.D.Disk.honest g.D.Disk.faults g.H.NodeHash.digest c.loop-number.invariant.2 _ c.in_err-serve_and_sync.ensures.fault)
+
+pub returns-in_err-serve_and_sync-clause-kept : goal.returns-in_err-serve_and_sync-clause-kept
+returns-in_err-serve_and_sync-clause-kept g c =
+    passed_on c.from_residual.result _ _ c.from_residual.ensures.1
+    (fails_later g.D.Disk.history g.D.Disk.honest g.D.Disk.faults g.H.NodeHash.digest c.args.engine.now c.loop-number.engine c.serve_and_sync.new.engine _
+    c.loop-number.invariant.2 c.in_err-serve_and_sync.ensures.kept)

@@ -2,7 +2,8 @@ use Rattle.std.proofs.Common.{◌⊎◌, inl, inr, refl, sym, subst, ◌∙◌}
 use Rattle.bt_files.specs.Loading.{IsLoaded, IsLogFull, IsStoreFault}
 use Rattle.bt_files.proofs.Faults.{ok_weaker, err_weaker, end_not_refused, not_refused, passed_on, while_loading}
 use Rattle.bt_transfer.specs.Seed.{seed_use}
-use Rattle.bt_transfer.proofs.EndFaults.{at_opening, told_at_end}
+use Rattle.bt_transfer.proofs.EndFaults.{at_opening, call_not_full, store_not_full, told_at_end}
+use Rattle.bt_transfer.proofs.FailedServing.{filled_log}
 use Rattle.bt_transfer.proofs.Uses.{complete_where_read_only, lacking_only, lacking_some}
 use Rattle.bt_transfer.proofs.command.seed.seed.Goals as goal
 
@@ -71,3 +72,23 @@ returns-then-is_lacking-clause-fault g c =
 pub returns-then-is_lacking-clause-refused : goal.returns-then-is_lacking-clause-refused
 returns-then-is_lacking-clause-refused g c =
     err_weaker c.report_lack.result _ _ (λ fault holds two other. absurd (not_refused fault holds two)) c.report_lack.ensures.fault
+
+pub returns-in_err-shared-clause-full : goal.returns-in_err-shared-clause-full
+returns-in_err-shared-clause-full g c =
+    passed_on c.from_residual.result _ _ c.from_residual.ensures.1 (λ full. absurd (call_not_full _ (inr refl) full))
+
+pub returns-in_err-engine-clause-full : goal.returns-in_err-engine-clause-full
+returns-in_err-engine-clause-full g c =
+    passed_on c.from_residual-in_err-engine.result _ _ c.from_residual-in_err-engine.ensures.1
+    (λ full. absurd (store_not_full c.args.source.is_info _ c.args.log _ c.in_err-engine.ensures.fault full))
+
+pub returns-then-is_lacking-clause-full : goal.returns-then-is_lacking-clause-full
+returns-then-is_lacking-clause-full g c =
+    err_weaker c.report_lack.result _ _ (λ fault plain full. absurd (call_not_full fault plain full)) c.report_lack.ensures.fault
+
+pub returns-clause-full : goal.returns-clause-full
+returns-clause-full g c =
+    let loaded = subst (λ usage. IsLoaded c.args.source.is_info usage c.args.dir.now c.args.log c.in_ok-engine.engine)
+    (c.device_context-context.ensures ∙ c.seed_use.ensures) c.in_ok-engine.ensures.loaded in
+    err_weaker c.seed_store.result _ _
+    (filled_log c.args.source.is_info c.args.dir.now c.args.service c.args.log c.in_ok-engine.engine loaded) c.seed_store.ensures.stopped

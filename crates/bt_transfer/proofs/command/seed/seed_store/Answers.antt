@@ -1,5 +1,6 @@
-use Rattle.std.proofs.Common.{ap, ◌∙◌, refl}
+use Rattle.std.proofs.Common.{inl, inr, ap, ◌∙◌, refl}
 use Rattle.bt_padding.specs.ShortBlocks.{short_blocks_of}
+use Rattle.bt_files.proofs.Faults.{passed_on}
 use Rattle.bt_transfer.proofs.WholeRuns.{ends_seed}
 use Rattle.bt_transfer.proofs.command.seed.seed_store.Goals as goal
 
@@ -11,3 +12,12 @@ returns-clause-listened g c = λ torrent given attached filled begun.
     ends_seed g.D.Disk.history g.D.Disk.honest g.D.Disk.faults g.H.NodeHash.digest c.whole_runs_keep_promises.ensures.leads
     c.args.engine c.listen_and_serve.new.engine c.keeps_laws.ensures.lawful c.listen_and_serve.ensures.run (g.W.Write.contents c.args.writer.now)
     (g.W.Write.contents c.listen_and_serve.new.writer) 0 torrent given attached filled begun c.args.service c.in_ok-listen_and_serve.ensures.served refl
+
+pub returns-in_err-short_blocks-clause-stopped : goal.returns-in_err-short_blocks-clause-stopped
+returns-in_err-short_blocks-clause-stopped g c =
+    passed_on c.from_residual.result _ _ c.from_residual.ensures.1 (c.args.engine, inl (refl, inr refl))
+
+pub returns-in_err-listen_and_serve-clause-stopped : goal.returns-in_err-listen_and_serve-clause-stopped
+returns-in_err-listen_and_serve-clause-stopped g c =
+    passed_on c.from_residual-in_err-listen_and_serve.result _ _ c.from_residual-in_err-listen_and_serve.ensures.1
+    (c.listen_and_serve.new.engine, c.in_err-listen_and_serve.ensures.stopped)
