@@ -8,7 +8,7 @@ ghost use Rattle.bt_check.specs.Report.{report_text};
 ghost use Rattle.bt_check.specs.TorrentFile.{HasText, IsLoadFault};
 ghost use Rattle.bt_check.specs.declared.report.FileFinding.{FileFinding};
 ghost use Rattle.bt_jobs.specs.Children.{HasEndedWell};
-ghost use Rattle.bt_jobs.specs.JobsSteps.{HearsAll, IsGiven, TakesIn};
+ghost use Rattle.bt_jobs.specs.JobsSteps.{AreHeard, HearsAll, IsGiven};
 ghost use Rattle.bt_jobs.specs.Report.{IsReportByParts};
 ghost use Rattle.bt_jobs.specs.Told.{IsToldBy, TellsEach};
 
@@ -74,7 +74,8 @@ pub fn check_by_parts<R: Files + AllocGlobal + Clone + Drop, S: Processes, P: Wa
     if !has_files(rt, watch, job.dir, files)? {
         return check_torrent(rt, watch, torrent, job.dir, writer);
     }
-    let runs = runs_of_parts(rt, system, watch, job, &loaded)?;
+    let (mut output, input) = io::pipe(rt).map_err(|_| Fault::Device)?;
+    let runs = runs_of_parts(rt.alloc(), system, watch, job, &loaded, &mut output, input)?;
     let heard = of_parts(watch, heard_of(rt.alloc(), files, &runs))?;
     write_report(rt.alloc(), watch, job.dir, files, &heard, writer)
 }
@@ -124,21 +125,33 @@ fn has_file<R: Files + AllocGlobal + Drop, P: Watch>(
     }
 }
 
-/// The runs that the parts tell, in order. When it ends, no part is left.
-fn runs_of_parts<R: Files + AllocGlobal, S: Processes, P: Watch>(
-    rt: &R,
+/// The runs that the parts tell by a pipe, in order. When it ends, no part is left.
+fn runs_of_parts<S: Processes, P: Watch, I: Read>(
+    alloc: Global,
     system: &S,
     watch: &P,
     job: Job<'_>,
     loaded: &Loaded,
+    output: &mut I,
+    input: PipeWriter,
 ) -> Result<Vec<Run>, Fault>
-    ensures told { IfOk result (λ runs. (text : List ℕ) × TellsEach text runs.items) }
+    ensures told { IfOk result
+        (λ runs. AreHeard (I.remaining output.old) (I.remaining output.new) runs.items) }
     ensures fault { IfErr result (λ fault. (fault ≡ device) ⊎ (fault ≡ out_of_memory)) }
 {
-    let alloc = rt.alloc();
+    let commands = part_commands(alloc, job)?;
     let mut children = Vec::with_capacity(alloc, job.count as usize)?;
     let mut told = Told::new(alloc);
-    let outcome = hear_parts(rt, system, watch, job, loaded, &mut children, &mut told);
+    let outcome = hear_parts(
+        system,
+        watch,
+        loaded,
+        commands,
+        output,
+        input,
+        &mut children,
+        &mut told,
+    );
     if outcome.is_err() {
         end_all(&mut children);
     }
@@ -146,24 +159,24 @@ fn runs_of_parts<R: Files + AllocGlobal, S: Processes, P: Watch>(
     of_parts(watch, in_order(told))
 }
 
-/// Starts all parts, and hears them to their ends.
-fn hear_parts<R: Files + AllocGlobal, S: Processes, P: Watch>(
-    rt: &R,
+/// Starts all parts, which tell by a pipe, and hears them to their ends.
+fn hear_parts<S: Processes, P: Watch, I: Read>(
     system: &S,
     watch: &P,
-    job: Job<'_>,
     loaded: &Loaded,
+    commands: Vec<Command>,
+    output: &mut I,
+    input: PipeWriter,
     children: &mut Vec<Child<S::Started>>,
     told: &mut Told,
 ) -> Result<(), Fault>
-    ensures told { OnOk result ((bytes : List ℕ) × TakesIn bytes told.old told.new) }
+    ensures told { OnOk result
+        (HearsAll (I.remaining output.old) (I.remaining output.new) told.old told.new) }
     ensures ended { OnOk result (All HasEndedWell children.new.items) }
     ensures all { OnOk result
-        (length children.new.items ≡ length children.old.items + job.entry.count) }
+        (length children.new.items ≡ length children.old.items + length commands.items) }
     ensures fault { IfErr result (λ fault. (fault ≡ device) ⊎ (fault ≡ out_of_memory)) }
 {
-    let (mut output, input) = io::pipe(rt).map_err(|_| Fault::Device)?;
-    let commands = part_commands(rt.alloc(), job)?;
     let started = start_all(system, commands, &loaded.text, &input, children);
     // Once the parts have ended, nobody is left who may write.
     drop(input);
@@ -172,10 +185,7 @@ fn hear_parts<R: Files + AllocGlobal, S: Processes, P: Watch>(
     }
     started?;
     let files = loaded.torrent.files();
-    of_parts(
-        watch,
-        hear_to_ends(watch, files, &mut output, children, told),
-    )
+    of_parts(watch, hear_to_ends(watch, files, output, children, told))
 }
 
 /// Starts the parts of some commands, which tell by the pipe. The commands' own ends of it are closed then.

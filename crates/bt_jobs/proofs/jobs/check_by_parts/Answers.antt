@@ -41,7 +41,7 @@ returns-clause-report g c =
       loaded.torrent,
       r.0,
       record { text = loaded.text.items; spelled = c.in_ok-loaded.ensures.spelled },
-      inr (joined_report loaded.torrent files told.0 runs.items heard.items r.0 summary c.files-files.ensures.said told.1
+      inr (joined_report loaded.torrent files told.text runs.items heard.items r.0 summary c.files-files.ensures.said told.told
           (subst (λ rs. AreJoined 0 files rs (map finding_of heard.items)) c.deref.ensures.value joined) r.1
           (r.2 ∙ ap (map finding_of) c.deref-2.ensures.value) r.3 r.4),
       r.5,
