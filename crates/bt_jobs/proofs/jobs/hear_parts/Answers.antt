@@ -1,10 +1,11 @@
-use Rattle.std.proofs.Common.{◌≡◌, ◌+◌, OnOk, length, sym, subst, ap, ◌∙◌}
+use Rattle.std.proofs.Common.{◌≡◌, ◌+◌, OnOk, length, map, sym, subst, ap, ◌∙◌}
 use Rattle.std.specs.List.{All}
 use Rattle.std.specs.Vec.{with_items}
 use Rattle.std.proofs.lemmas.List.{with_items_is}
 use Rattle.std.proofs.lemmas.Result.{on_ok_weaker}
 use Rattle.bt_jobs.specs.Children.{HasEndedWell}
 use Rattle.bt_jobs.specs.JobsSteps.{HearsAll}
+use Rattle.bt_jobs.specs.Starts.{AreStarted, start_of}
 use Rattle.bt_jobs.proofs.Hearing.{ok_is, on_ok_any}
 use Rattle.bt_jobs.proofs.jobs.hear_parts.Goals as goal
 
@@ -30,3 +31,12 @@ returns-clause-all g c =
     let all = ok_is c.start_all-started.result _ (λ _. length started.items ≡ length c.args.children.now.items + length commands) c.in_ok-started.was
     c.start_all-started.ensures.all in
     on_ok_any c.of_parts.result _ (ap length items ∙ same ∙ started.ok.0 ∙ all)
+
+pub returns-clause-started : goal.returns-clause-started
+returns-clause-started g c =
+    let starts = g.L.Starter.starts in
+    let new = c.start_all-started.new.starter in
+    let are = map start_of c.args.commands.items in
+    let started = ok_is c.start_all-started.result _ (λ _. AreStarted starts c.deref.result.now c.args.starter.now are new) c.in_ok-started.was
+    c.start_all-started.ensures.started in
+    on_ok_any c.of_parts.result _ (subst (λ text. AreStarted starts text c.args.starter.now are new) c.deref.ensures.value started)
