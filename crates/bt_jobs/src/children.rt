@@ -1,10 +1,10 @@
 //! The parts of a check as processes: by which commands they are started, and how they are waited for.
-ghost use Rattle.std.specs.Prelude.{◌≡◌, ◌⊎◌, ◌↔◌, ◌++◌, [], ◌∷◌, Some, pos, map, codes, string_bytes, IfOk, IfErr, IsTrue, OnOk};
+ghost use Rattle.std.specs.Prelude.{◌≡◌, ◌⊎◌, ◌↔◌, ◌++◌, [], ◌∷◌, Some, pos, map, codes, string_bytes, IfOk, IfErr, IfSome, IsTrue, OnOk};
 ghost use Rattle.std.specs.List.{All, range_with_len};
 ghost use Rattle.std.specs.Fmt.{decimal};
 ghost use Rattle.std.specs.Process.{command_args, command_program, exit_code};
 ghost use Rattle.bt_check.specs.Fault.{device, out_of_memory};
-ghost use Rattle.bt_jobs.specs.Children.{HasEndedWell, IsPartFault, info_words, part_words, program_text};
+ghost use Rattle.bt_jobs.specs.Children.{HasEndedWell, HasNotFailed, IsPartFault, info_words, part_words, program_text};
 
 use crate::jobs::Job;
 use crate::starter::end;
@@ -89,14 +89,35 @@ pub(crate) fn end_all<C: OpenProcess>(children: &mut [Child<C>]) {
 
 /// Looks whether a part has ended that did not do what it was to. Waits for none.
 pub(crate) fn look_at_all<C: OpenProcess>(children: &mut [Child<C>]) -> Result<(), Fault>
+    ensures well { OnOk result (All HasNotFailed children.new) }
     ensures fault { IfErr result (λ fault. (fault ≡ device) ⊎ (fault ≡ out_of_memory)) }
 {
     for child in children.iter_mut() {
-        if let Ok(Some(status)) = child.try_wait() {
-            part_outcome(status)?;
-        }
+        look_at(child)?;
     }
     Ok(())
+}
+
+/// Looks whether a part has ended that did not do what it was to. Does not wait for it.
+fn look_at<C: OpenProcess>(child: &mut Child<C>) -> Result<(), Fault>
+    ensures well { OnOk result (HasNotFailed child.new) }
+    ensures fault { IfErr result (λ fault. (fault ≡ device) ⊎ (fault ≡ out_of_memory)) }
+{
+    match child.try_wait() {
+        Ok(status) => outcome_so_far(status),
+        Err(_) => Err(Fault::Device),
+    }
+}
+
+/// What a part has come to so far, which may not have ended.
+fn outcome_so_far(status: Option<ExitStatus>) -> Result<(), Fault>
+    ensures well { OnOk result (IfSome status (λ status. exit_code status ≡ Some (pos 0))) }
+    ensures fault { IfErr result (λ fault. (fault ≡ device) ⊎ (fault ≡ out_of_memory)) }
+{
+    match status {
+        Some(status) => part_outcome(status),
+        None => Ok(()),
+    }
 }
 
 /// Waits for all parts, each of which has to do what it was to.
