@@ -10,7 +10,7 @@ ghost use Rattle.bt_commands.specs.ProgramSteps.{status_after};
 ghost use Rattle.bt_words.specs.declared.command_line.Task.TheVariants.{Make, Show, Check, Seed, Fetch, Replay};
 
 use bt_check::{BUFFER_LEN, Fault, Source, check_torrent, load, load_watched, show_torrent};
-use bt_jobs::{Job, check_by_parts, check_part};
+use bt_jobs::{Job, ProcessStarter, check_by_parts, check_part};
 use bt_make::{InfohashLine, make, of_device, publish};
 use bt_parts::Part;
 use bt_progress::{Watch, escaped_lines};
@@ -261,7 +261,8 @@ fn perform_jobs<R: Files + AllocGlobal + Clone + Drop, N: Processes, P: Watch, O
         dir: task.dir,
         count,
     };
-    let summary = check_by_parts(rt, system, watch, job, writer)?;
+    let mut starter = ProcessStarter::new(system);
+    let summary = check_by_parts(rt, &mut starter, watch, job, writer)?;
     summary.outcome()
 }
 

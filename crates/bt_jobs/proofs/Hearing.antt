@@ -54,6 +54,10 @@ pub on_ok_any : {T E : Type 0} (r : Result T E) (P : Type 0) → P → OnOk r P
 on_ok_any (Ok x) P holds = holds
 on_ok_any (Err e) P holds = tt
 
+pub if_ok_any : {T E : Type 0} (r : Result T E) (P : Type 0) → P → IfOk r (λ _. P)
+if_ok_any (Ok x) P holds = holds
+if_ok_any (Err e) P holds = tt
+
 -- a result that is known to be Ok
 pub ok_is : {T E : Type 0} (r : Result T E) (x : T) (P : T → Type 0) → r ≡ Ok x → IfOk r P → P x
 ok_is {T} {E} r x P is holds = subst (λ (s : Result T E). IfOk s P) is holds

@@ -1,5 +1,6 @@
 pub mod Unread
 pub mod Sharing
+pub mod Starting
 pub mod PartTrees
 pub mod Plans
 pub mod Lines

@@ -1,14 +1,5 @@
 -- The words of a command, one after the other.
-use Rattle.std.proofs.Common.{◌≡◌, ℕ, List, [], ◌∷◌, ◌++◌, length, map, sym, ap, ◌∙◌, append_assoc}
-use Rattle.std.specs.List.{range_with_len}
-use Rattle.std.proofs.lemmas.List.{length-map}
-use Rattle.std.proofs.lemmas.List.FromFn.{length-range_with_len}
-
--- there is a command for each part
-pub commands_each : {X : Type 0} (words_of : X → List (List ℕ)) (words_at : ℕ → List (List ℕ)) (commands : List X) (count : ℕ)
-    → map words_of commands ≡ map words_at (range_with_len 0 count) → length commands ≡ count
-commands_each words_of words_at commands count same =
-    sym (length-map commands words_of) ∙ ap length same ∙ length-map (range_with_len 0 count) words_at ∙ length-range_with_len 0 count
+use Rattle.std.proofs.Common.{◌≡◌, ℕ, List, [], ◌∷◌, ◌++◌, ap, ◌∙◌, append_assoc}
 
 pub words_joined : (check part which line input dir : List ℕ) (info w0 w1 w2 w3 w4 w5 w6 w7 : List (List ℕ)) → w0 ≡ [] → w1 ≡ w0 ++ check ∷ []
     → w2 ≡ w1 ++ part ∷ [] → w3 ≡ w2 ++ which ∷ [] → w4 ≡ w3 ++ info → w5 ≡ w4 ++ line ∷ [] → w6 ≡ w5 ++ input ∷ [] → w7 ≡ w6 ++ dir ∷ []

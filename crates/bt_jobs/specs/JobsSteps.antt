@@ -1,7 +1,8 @@
 -- What the parts of a check are heard to tell: for private steps.
 use Rattle.std.specs.Prelude.{◌≡◌, ℕ, ◌≤◌, List, ◌++◌, Option, length, take}
 use Rattle.std.specs.Io.KnownBytes.{Consumes, IsAtEnd}
-use Rattle.bt_jobs.specs.Told.{IsToldBy}
+use Rattle.bt_parts.specs.declared.run.Run.{Run}
+use Rattle.bt_jobs.specs.Told.{IsToldBy, TellsEach}
 use Rattle.bt_jobs.specs.declared.told.Told.{Told}
 
 -- one read gave so many bytes, at the front of the buffer: none only where the reader has no more
@@ -20,3 +21,10 @@ pub record HearsAll (old new : Option (List ℕ)) (before after : Told) : Type 0
   pub taken : Consumes old new bytes
   pub ended : IsAtEnd new
   pub told : TakesIn bytes before after
+
+-- all bytes that a reader had are lines that tell these runs, each once
+pub record AreHeard (old new : Option (List ℕ)) (runs : List Run) : Type 0 where
+  pub text : List ℕ
+  pub taken : Consumes old new text
+  pub ended : IsAtEnd new
+  pub told : TellsEach text runs

@@ -6,6 +6,7 @@ pub mod Law
 pub mod Told
 pub mod Report
 pub mod Children
+pub mod Starts
 -- what private steps cite
 pub mod PlanSteps
 pub mod PartSteps

@@ -1,45 +1,22 @@
-//! The parts of a check as processes: how they are started, passed the torrent, and waited for.
-ghost use Rattle.std.specs.Prelude.{◌≡◌, ◌⊎◌, ◌↔◌, ◌++◌, [], ◌∷◌, Some, pos, map, codes, string_bytes, IfOk, IfErr, IsTrue, OnOk};
+//! The parts of a check as processes: by which commands they are started, and how they are waited for.
+ghost use Rattle.std.specs.Prelude.{◌≡◌, ◌⊎◌, ◌↔◌, ◌++◌, [], ◌∷◌, Some, pos, map, codes, string_bytes, IfOk, IfErr, IfSome, IsTrue, OnOk};
 ghost use Rattle.std.specs.List.{All, range_with_len};
 ghost use Rattle.std.specs.Fmt.{decimal};
 ghost use Rattle.std.specs.Process.{command_args, command_program, exit_code};
 ghost use Rattle.bt_check.specs.Fault.{device, out_of_memory};
-ghost use Rattle.bt_jobs.specs.Children.{HasEndedWell, IsPartFault, info_words, part_words, program_text};
+ghost use Rattle.bt_jobs.specs.Children.{HasEndedWell, HasNotFailed, IsPartFault, info_words, part_words, program_text};
 
 use crate::jobs::Job;
+use crate::starter::end;
 use bt_check::Fault;
 use std::alloc::{AllocError, Global};
-use std::io::{PipeWriter, Write};
-use std::process::{Child, Command, ExitStatus, OpenProcess, Processes, Stdio};
+use std::process::{Child, Command, ExitStatus, OpenProcess};
 
 /// The program that this process runs.
 const PROGRAM: &str = "/proc/self/exe";
 
 /// Where a part reads the torrent.
 const STANDARD_INPUT: &str = "/dev/stdin";
-
-/// Starts a part, which tells by the pipe, and passes it the torrent.
-pub(crate) fn start_part<S: Processes>(
-    system: &S,
-    command: &mut Command,
-    text: &[u8],
-    pipe: &PipeWriter,
-) -> Result<Child<S::Started>, Fault>
-    ensures fault { IfErr result (λ fault. (fault ≡ device) ⊎ (fault ≡ out_of_memory)) }
-{
-    let output = pipe.try_clone().map_err(|_| Fault::Device)?;
-    command.stdin(Stdio::piped());
-    command.stdout(output);
-    command.stderr(Stdio::null());
-    let mut child = command.spawn(system).map_err(|_| Fault::Device)?;
-    match pass(&mut child, text) {
-        Ok(()) => Ok(child),
-        Err(fault) => {
-            end(&mut child);
-            Err(fault)
-        }
-    }
-}
 
 /// The commands by which all parts are started, in their order.
 pub(crate) fn part_commands(alloc: Global, job: Job<'_>) -> Result<Vec<Command>, AllocError>
@@ -103,22 +80,6 @@ fn push_info(command: &mut Command, is_info: bool) -> Result<(), AllocError>
     push_word(command, "--info")
 }
 
-/// Writes a torrent's text to the input of a part, and closes it.
-fn pass<C: OpenProcess>(child: &mut Child<C>, text: &[u8]) -> Result<(), Fault>
-    ensures { IfErr result (λ fault. fault ≡ device) }
-{
-    let Some(mut input) = child.stdin.take() else {
-        return Err(Fault::Device);
-    };
-    input.write_all(text).map_err(|_| Fault::Device)
-}
-
-/// Ends a part, and waits for it.
-fn end<C: OpenProcess>(child: &mut Child<C>) {
-    let _ = child.kill();
-    let _ = child.wait();
-}
-
 /// Ends all parts, and waits for them.
 pub(crate) fn end_all<C: OpenProcess>(children: &mut [Child<C>]) {
     for child in children.iter_mut() {
@@ -128,14 +89,35 @@ pub(crate) fn end_all<C: OpenProcess>(children: &mut [Child<C>]) {
 
 /// Looks whether a part has ended that did not do what it was to. Waits for none.
 pub(crate) fn look_at_all<C: OpenProcess>(children: &mut [Child<C>]) -> Result<(), Fault>
+    ensures well { OnOk result (All HasNotFailed children.new) }
     ensures fault { IfErr result (λ fault. (fault ≡ device) ⊎ (fault ≡ out_of_memory)) }
 {
     for child in children.iter_mut() {
-        if let Ok(Some(status)) = child.try_wait() {
-            part_outcome(status)?;
-        }
+        look_at(child)?;
     }
     Ok(())
+}
+
+/// Looks whether a part has ended that did not do what it was to. Does not wait for it.
+fn look_at<C: OpenProcess>(child: &mut Child<C>) -> Result<(), Fault>
+    ensures well { OnOk result (HasNotFailed child.new) }
+    ensures fault { IfErr result (λ fault. (fault ≡ device) ⊎ (fault ≡ out_of_memory)) }
+{
+    match child.try_wait() {
+        Ok(status) => outcome_so_far(status),
+        Err(_) => Err(Fault::Device),
+    }
+}
+
+/// What a part has come to so far, which may not have ended.
+fn outcome_so_far(status: Option<ExitStatus>) -> Result<(), Fault>
+    ensures well { OnOk result (IfSome status (λ status. exit_code status ≡ Some (pos 0))) }
+    ensures fault { IfErr result (λ fault. (fault ≡ device) ⊎ (fault ≡ out_of_memory)) }
+{
+    match status {
+        Some(status) => part_outcome(status),
+        None => Ok(()),
+    }
 }
 
 /// Waits for all parts, each of which has to do what it was to.

@@ -1,21 +1,23 @@
 //! The command `check` with several jobs: the parts are started, and what they tell is joined.
-ghost use Rattle.std.specs.Prelude.{◌≡◌, ◌⊎◌, ◌+◌, ◌<◌, ℕ, List, length, IfOk, IfErr, OnOk};
+ghost use Rattle.std.specs.Prelude.{◌≡◌, ◌⊎◌, ◌+◌, ◌<◌, ℕ, List, length, map, IfOk, IfErr, OnOk};
 ghost use Rattle.std.specs.List.{All};
 ghost use Rattle.std.specs.Io.KnownBytes.{Appends, Keeps};
 ghost use Rattle.bt_meta.specs.Torrent.{Metainfo};
 ghost use Rattle.bt_check.specs.Fault.{device, out_of_memory, status_of};
-ghost use Rattle.bt_check.specs.Report.{report_text};
+ghost use Rattle.bt_check.specs.Report.{IsReportOn, report_text};
 ghost use Rattle.bt_check.specs.TorrentFile.{HasText, IsLoadFault};
 ghost use Rattle.bt_check.specs.declared.report.FileFinding.{FileFinding};
 ghost use Rattle.bt_jobs.specs.Children.{HasEndedWell};
-ghost use Rattle.bt_jobs.specs.JobsSteps.{HearsAll, IsGiven, TakesIn};
-ghost use Rattle.bt_jobs.specs.Report.{IsReportByParts};
+ghost use Rattle.bt_jobs.specs.JobsSteps.{AreHeard, HearsAll, IsGiven};
+ghost use Rattle.bt_jobs.specs.Report.{IsJoinedReport, IsReportByParts};
+ghost use Rattle.bt_jobs.specs.Starts.{AllAreStarted, AreStarted, part_starts, start_of};
 ghost use Rattle.bt_jobs.specs.Told.{IsToldBy, TellsEach};
 
-use crate::children::{end_all, look_at_all, part_commands, start_part, wait_for_all};
+use crate::children::{end_all, look_at_all, part_commands, wait_for_all};
 use crate::part::open_data_file;
 use crate::report::{heard_of, write_report};
 use crate::source::{Loaded, load_text};
+use crate::starter::Starter;
 use crate::told::Told;
 use bt_check::{
     Fault, OPEN_FILES, Source, Summary, check_torrent, data_path, fault_name, is_device_fault,
@@ -27,7 +29,7 @@ use bt_progress::{FileCall, Watch};
 use bt_tree::BLOCK_LEN;
 use std::alloc::Global;
 use std::io::{self, ErrorKind, PipeWriter, Read, Write};
-use std::process::{Child, Command, OpenProcess, Processes};
+use std::process::{Child, Command, OpenProcess};
 use std::rt::Files;
 
 /// What is told where a part can't be started.
@@ -53,9 +55,9 @@ pub struct Job<'a> {
 /// All files are looked at first, and one that can't be opened ends it before anything is started. A part that can't
 /// be started, that ends without having done what it was to, or tells what is no part of a check, is a device that
 /// failed, and nothing is written then.
-pub fn check_by_parts<R: Files + AllocGlobal + Clone + Drop, S: Processes, P: Watch, W: Write>(
+pub fn check_by_parts<R: Files + AllocGlobal + Clone + Drop, L: Starter, P: Watch, W: Write>(
     rt: &R,
-    system: &S,
+    starter: &mut L,
     watch: &P,
     job: Job<'_>,
     writer: &mut W,
@@ -63,6 +65,10 @@ pub fn check_by_parts<R: Files + AllocGlobal + Clone + Drop, S: Processes, P: Wa
     ensures report { IfOk result (λ summary. (torrent : Metainfo) × (found : List FileFinding)
         × HasText job.entry.source.is_info torrent × IsReportByParts torrent found summary
         × Appends (W.contents writer.old) (W.contents writer.new) (report_text found)) }
+    ensures parts { IfOk result (λ summary. (torrent : Metainfo) × (found : List FileFinding)
+        × ((IsReportOn torrent found summary × (starter.new ≡ starter.old))
+        ⊎ (IsJoinedReport torrent found summary × AllAreStarted L.starts job.entry.source.is_info
+        job.entry.dir.now job.entry.count torrent starter.old starter.new))) }
     ensures fault { IfErr result (IsLoadFault job.entry.source.is_info) }
     ensures refused { IfErr result (λ fault. status_of fault ≡ 2
         → Keeps (W.contents writer.old) (W.contents writer.new)) }
@@ -74,7 +80,8 @@ pub fn check_by_parts<R: Files + AllocGlobal + Clone + Drop, S: Processes, P: Wa
     if !has_files(rt, watch, job.dir, files)? {
         return check_torrent(rt, watch, torrent, job.dir, writer);
     }
-    let runs = runs_of_parts(rt, system, watch, job, &loaded)?;
+    let (mut output, input) = io::pipe(rt).map_err(|_| Fault::Device)?;
+    let runs = runs_of_parts(rt.alloc(), starter, watch, job, &loaded, &mut output, input)?;
     let heard = of_parts(watch, heard_of(rt.alloc(), files, &runs))?;
     write_report(rt.alloc(), watch, job.dir, files, &heard, writer)
 }
@@ -124,21 +131,35 @@ fn has_file<R: Files + AllocGlobal + Drop, P: Watch>(
     }
 }
 
-/// The runs that the parts tell, in order. When it ends, no part is left.
-fn runs_of_parts<R: Files + AllocGlobal, S: Processes, P: Watch>(
-    rt: &R,
-    system: &S,
+/// The runs that the parts tell by a pipe, in order. When it ends, no part is left.
+fn runs_of_parts<L: Starter, P: Watch, I: Read>(
+    alloc: Global,
+    starter: &mut L,
     watch: &P,
     job: Job<'_>,
     loaded: &Loaded,
+    output: &mut I,
+    input: PipeWriter,
 ) -> Result<Vec<Run>, Fault>
-    ensures told { IfOk result (λ runs. (text : List ℕ) × TellsEach text runs.items) }
+    ensures told { IfOk result
+        (λ runs. AreHeard (I.remaining output.old) (I.remaining output.new) runs.items) }
+    ensures started { IfOk result (λ _. AreStarted L.starts loaded.now.text.items starter.old
+        (part_starts job.entry.source.is_info job.entry.dir.now job.entry.count) starter.new) }
     ensures fault { IfErr result (λ fault. (fault ≡ device) ⊎ (fault ≡ out_of_memory)) }
 {
-    let alloc = rt.alloc();
+    let commands = part_commands(alloc, job)?;
     let mut children = Vec::with_capacity(alloc, job.count as usize)?;
     let mut told = Told::new(alloc);
-    let outcome = hear_parts(rt, system, watch, job, loaded, &mut children, &mut told);
+    let outcome = hear_parts(
+        starter,
+        watch,
+        loaded,
+        commands,
+        output,
+        input,
+        &mut children,
+        &mut told,
+    );
     if outcome.is_err() {
         end_all(&mut children);
     }
@@ -146,25 +167,27 @@ fn runs_of_parts<R: Files + AllocGlobal, S: Processes, P: Watch>(
     of_parts(watch, in_order(told))
 }
 
-/// Starts all parts, and hears them to their ends.
-fn hear_parts<R: Files + AllocGlobal, S: Processes, P: Watch>(
-    rt: &R,
-    system: &S,
+/// Starts all parts, which tell by a pipe, and hears them to their ends.
+fn hear_parts<L: Starter, P: Watch, I: Read>(
+    starter: &mut L,
     watch: &P,
-    job: Job<'_>,
     loaded: &Loaded,
-    children: &mut Vec<Child<S::Started>>,
+    commands: Vec<Command>,
+    output: &mut I,
+    input: PipeWriter,
+    children: &mut Vec<Child<L::Part>>,
     told: &mut Told,
 ) -> Result<(), Fault>
-    ensures told { OnOk result ((bytes : List ℕ) × TakesIn bytes told.old told.new) }
+    ensures told { OnOk result
+        (HearsAll (I.remaining output.old) (I.remaining output.new) told.old told.new) }
     ensures ended { OnOk result (All HasEndedWell children.new.items) }
     ensures all { OnOk result
-        (length children.new.items ≡ length children.old.items + job.entry.count) }
+        (length children.new.items ≡ length children.old.items + length commands.items) }
+    ensures started { OnOk result (AreStarted L.starts loaded.now.text.items starter.old
+        (map start_of commands.items) starter.new) }
     ensures fault { IfErr result (λ fault. (fault ≡ device) ⊎ (fault ≡ out_of_memory)) }
 {
-    let (mut output, input) = io::pipe(rt).map_err(|_| Fault::Device)?;
-    let commands = part_commands(rt.alloc(), job)?;
-    let started = start_all(system, commands, &loaded.text, &input, children);
+    let started = start_all(starter, commands, &loaded.text, &input, children);
     // Once the parts have ended, nobody is left who may write.
     drop(input);
     if is_device_fault(&started) {
@@ -172,27 +195,28 @@ fn hear_parts<R: Files + AllocGlobal, S: Processes, P: Watch>(
     }
     started?;
     let files = loaded.torrent.files();
-    of_parts(
-        watch,
-        hear_to_ends(watch, files, &mut output, children, told),
-    )
+    of_parts(watch, hear_to_ends(watch, files, output, children, told))
 }
 
 /// Starts the parts of some commands, which tell by the pipe. The commands' own ends of it are closed then.
-fn start_all<S: Processes>(
-    system: &S,
+fn start_all<L: Starter>(
+    starter: &mut L,
     commands: Vec<Command>,
     text: &[u8],
     pipe: &PipeWriter,
-    children: &mut Vec<Child<S::Started>>,
+    children: &mut Vec<Child<L::Part>>,
 ) -> Result<(), Fault>
     ensures all { OnOk result
         (length children.new.items ≡ length children.old.items + length commands.items) }
+    ensures started { OnOk result
+        (AreStarted L.starts text.now starter.old (map start_of commands.items) starter.new) }
     ensures fault { IfErr result (λ fault. (fault ≡ device) ⊎ (fault ≡ out_of_memory)) }
 {
-    let mut commands = commands;
-    for command in commands.iter_mut() {
-        let child = start_part(system, command, text, pipe)?;
+    for given in commands {
+        let mut command = given;
+        let outcome = starter.start(&mut command, text, pipe);
+        drop(command);
+        let child = outcome?;
         children.push(child)?;
     }
     Ok(())

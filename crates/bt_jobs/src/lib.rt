@@ -10,9 +10,11 @@ mod plan;
 mod report;
 mod share;
 mod source;
+mod starter;
 mod told;
 mod trees;
 
 pub use jobs::{Job, check_by_parts};
 pub use law::parts_are_whole;
 pub use part::check_part;
+pub use starter::{ProcessStarter, Starter};

@@ -1,4 +1,4 @@
-use Rattle.std.proofs.Common.{length, map, arith, inl, inr, sym, subst, ap, ◌∙◌}
+use Rattle.std.proofs.Common.{length, map, arith, inl, inr, refl, sym, subst, ap, ◌∙◌}
 use Rattle.std.proofs.lemmas.List.{length-map}
 use Rattle.std.proofs.lemmas.Result.{IfOk-weaker}
 use Rattle.bt_meta.specs.Files.{file_of}
@@ -41,8 +41,31 @@ returns-clause-report g c =
       loaded.torrent,
       r.0,
       record { text = loaded.text.items; spelled = c.in_ok-loaded.ensures.spelled },
-      inr (joined_report loaded.torrent files told.0 runs.items heard.items r.0 summary c.files-files.ensures.said told.1
+      inr (joined_report loaded.torrent files told.text runs.items heard.items r.0 summary c.files-files.ensures.said told.told
           (subst (λ rs. AreJoined 0 files rs (map finding_of heard.items)) c.deref.ensures.value joined) r.1
           (r.2 ∙ ap (map finding_of) c.deref-2.ensures.value) r.3 r.4),
       r.5,
+    )) c.write_report.ensures.report
+
+pub returns-then-not-branch-clause-parts : goal.returns-then-not-branch-clause-parts
+returns-then-not-branch-clause-parts g c =
+    IfOk-weaker c.check_torrent.result _ _ (λ summary r. (c.in_ok-loaded.loaded.torrent, r.0, inl (r.1, refl))) c.check_torrent.ensures.report
+
+pub returns-clause-parts : goal.returns-clause-parts
+returns-clause-parts g c =
+    let loaded = c.in_ok-loaded.loaded in
+    let files = map file_of c.files-files.result.now in
+    let heard = c.in_ok-heard.heard in
+    let runs = c.in_ok-runs.runs in
+    let told = c.in_ok-runs.ensures.told in
+    let joined = ok_is c.heard_of.result heard _ (sym c.of_parts.ensures ∙ c.in_ok-heard.was) c.heard_of.ensures.joined in
+    IfOk-weaker c.write_report.result _ _ (λ summary r. (
+      loaded.torrent,
+      r.0,
+      inr (
+        joined_report loaded.torrent files told.text runs.items heard.items r.0 summary c.files-files.ensures.said told.told
+            (subst (λ rs. AreJoined 0 files rs (map finding_of heard.items)) c.deref.ensures.value joined) r.1
+            (r.2 ∙ ap (map finding_of) c.deref-2.ensures.value) r.3 r.4,
+        record { text = loaded.text.items; spelled = c.in_ok-loaded.ensures.spelled; started = c.in_ok-runs.ensures.started },
+      ),
     )) c.write_report.ensures.report

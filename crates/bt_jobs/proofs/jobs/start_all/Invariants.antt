@@ -1,6 +1,10 @@
--- As many parts were started as there were commands.
-use Rattle.std.proofs.Common.{◌≡◌, ◌+◌, length}
+-- The parts so far are started, one by each command.
+use Rattle.std.proofs.Common.{length}
+use Rattle.std.specs.Vec.Iter.{into_iter_items}
+use Rattle.bt_jobs.proofs.Starting.{IsStarting}
 use Rattle.bt_jobs.proofs.jobs.start_all.Given as goal
 
-abbrev pub invariant-loop-command : goal.invariant-loop-command
-invariant-loop-command g l = length l.children.items ≡ length l.initial.children.items + l.command-index
+abbrev pub invariant-loop-given : goal.invariant-loop-given
+invariant-loop-given g l =
+    IsStarting g.L.Starter.starts l.text l.fn.commands.items (into_iter_items l.given-iterator) (length l.initial.children.items)
+    (length l.children.items) l.initial.starter l.starter

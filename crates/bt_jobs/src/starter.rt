@@ -1,0 +1,93 @@
+//! How a part of a check is started, and passed the torrent.
+ghost use Rattle.std.specs.Prelude.{◌≡◌, ◌⊎◌, ℕ, List, ⊤, IfErr, OnOk};
+ghost use Rattle.std.specs.Io.KnownBytes.{Appends};
+ghost use Rattle.bt_check.specs.Fault.{device, out_of_memory};
+ghost use Rattle.bt_jobs.specs.Starts.{Start, start_of};
+
+use bt_check::Fault;
+use std::io::{PipeWriter, Write};
+use std::process::{Child, Command, OpenProcess, Processes, Stdio};
+
+/// A way to start parts of a check.
+pub trait Starter {
+    /// A part that was started.
+    type Part: OpenProcess + Drop;
+
+    /// That a part was started so, and passed this text.
+    ghost starts: { Self → Start → List ℕ → Self → Type 0 };
+
+    /// Starts a part, which tells by the pipe, and passes it a text.
+    fn start(
+        &mut self,
+        command: &mut Command,
+        text: &[u8],
+        pipe: &PipeWriter,
+    ) -> Result<Child<Self::Part>, Fault>
+        ensures started { OnOk result (starts self.old (start_of command.old) text.now self.new) }
+        ensures fault { IfErr result (λ fault. (fault ≡ device) ⊎ (fault ≡ out_of_memory)) };
+}
+
+/// A starter of processes of the system.
+#[derive(Drop)]
+pub struct ProcessStarter<'a, S> {
+    system: &'a S,
+}
+
+impl<'a, S> ProcessStarter<'a, S> {
+    /// One that starts processes there.
+    pub fn new(system: &'a S) -> Self {
+        ProcessStarter { system }
+    }
+}
+
+// The kit says nothing of which process a system starts.
+impl<'a, S: Processes> Starter for ProcessStarter<'a, S> {
+    type Part = S::Started;
+
+    ghost starts = { λ _ _ _ _. ⊤ };
+
+    fn start(
+        &mut self,
+        command: &mut Command,
+        text: &[u8],
+        pipe: &PipeWriter,
+    ) -> Result<Child<S::Started>, Fault> {
+        let output = pipe.try_clone().map_err(|_| Fault::Device)?;
+        command.stdin(Stdio::piped());
+        command.stdout(output);
+        command.stderr(Stdio::null());
+        let mut child = command.spawn(self.system).map_err(|_| Fault::Device)?;
+        match pass(&mut child, text) {
+            Ok(()) => Ok(child),
+            Err(fault) => {
+                end(&mut child);
+                Err(fault)
+            }
+        }
+    }
+}
+
+/// Writes a torrent's text to the input of a part, and closes it.
+fn pass<C: OpenProcess>(child: &mut Child<C>, text: &[u8]) -> Result<(), Fault>
+    ensures { IfErr result (λ fault. fault ≡ device) }
+{
+    let Some(mut input) = child.stdin.take() else {
+        return Err(Fault::Device);
+    };
+    write_whole(&mut input, text)
+}
+
+/// Writes a text whole.
+fn write_whole<W: Write>(writer: &mut W, text: &[u8]) -> Result<(), Fault>
+    ensures written { OnOk result
+        (Appends (W.contents writer.old) (W.contents writer.new) text.now) }
+    ensures fault { IfErr result (λ fault. fault ≡ device) }
+{
+    writer.write_all(text).map_err(|_| Fault::Device)
+}
+
+/// Ends a part, and waits for it.
+pub(crate) fn end<C: OpenProcess>(child: &mut Child<C>) {
+    let _ = child.kill();
+    let _ = child.wait();
+}
