@@ -109,8 +109,7 @@ fn open_files<R: Files + AllocGlobal + Clone + Drop, P: Watch>(
 
 /// Whether a part found no file where one was opened.
 fn misses_a_file(opened: &[bool], runs: &[Run]) -> bool {
-    runs.iter()
-        .any(|run| run.met == Met::Absent && opened.get(run.file as usize) == Some(&true))
+    runs.iter().any(|run| run.met == Met::Absent && opened.get(run.file as usize) == Some(&true))
 }
 
 /// Whether there is a data file, which is opened. A fault is told of.
