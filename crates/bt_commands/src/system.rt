@@ -4,7 +4,7 @@ ghost use Rattle.bt_commands.specs.System.{IsLaunch};
 
 use crate::program::start;
 use bt_progress::{Console, Watched};
-use std::fs::OpenOptions;
+use std::fs::{File, OpenOptions};
 use std::io::IsTerminal;
 use std::os::fd::{AsRawFd, IntoRawFd, RawFd};
 use std::process::ExitCode;
@@ -43,13 +43,17 @@ fn occupy_streams(rt: &HostRuntime) {
 
 /// Occupies the descriptor of a standard stream, where it is the least that is free: the system gives a file that is
 /// opened the least. The stream is a device that is opened the wrong way round, to write what is read and to read what
-/// is written, so each call on it fails, as on a stream that is closed.
+/// is written, so each call on it fails, as on a stream that is closed. Where there is no such device, a folder does.
 fn occupy(rt: &HostRuntime, stream: RawFd) {
     let is_input = stream == 0;
-    let opened = OpenOptions::new()
+    let device = OpenOptions::new()
         .read(!is_input)
         .write(is_input)
         .open(rt, "/dev/null");
+    let opened = match device {
+        Ok(file) => Ok(file),
+        Err(_) => File::open(rt, "/"),
+    };
     if let Ok(file) = opened {
         if file.as_raw_fd() == stream {
             // it stays open

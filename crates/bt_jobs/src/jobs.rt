@@ -38,6 +38,10 @@ const NOT_STARTED: &str = "a part of the check could not be started, by /proc/se
 /// What is told where a part ended without having done what it was to, or told what is no part of the check.
 const FAILED: &str = "a part of the check failed";
 
+/// What is told where a part did not find a file that this process had opened: one that it reaches by a descriptor of its
+/// own, say, which no part has.
+const MISSED: &str = "a part of the check did not find a file that was opened before";
+
 /// How many bytes of what the parts tell are read at a time.
 const PIPE_LEN: usize = 4096;
 
@@ -53,8 +57,8 @@ pub struct Job<'a> {
 /// find: what a check by one writes, once all are done.
 ///
 /// All files are looked at first, and one that can't be opened ends it before anything is started. A part that can't
-/// be started, that ends without having done what it was to, or tells what is no part of a check, is a device that
-/// failed, and nothing is written then.
+/// be started, that ends without having done what it was to, tells what is no part of a check, or finds no file where
+/// one was opened before, is a device that failed, and nothing is written then.
 pub fn check_by_parts<R: Files + AllocGlobal + Clone + Drop, L: Starter, P: Watch, W: Write>(
     rt: &R,
     starter: &mut L,
@@ -77,31 +81,42 @@ pub fn check_by_parts<R: Files + AllocGlobal + Clone + Drop, L: Starter, P: Watc
     let torrent = &loaded.torrent;
     let files = torrent.files();
     watch.begin(FileCall::Read);
-    if !has_files(rt, watch, job.dir, files)? {
+    let opened = open_files(rt, watch, job.dir, files)?;
+    if !opened.contains(&true) {
         return check_torrent(rt, watch, torrent, job.dir, writer);
     }
     let (mut output, input) = io::pipe(rt).map_err(|_| Fault::Device)?;
     let runs = runs_of_parts(rt.alloc(), starter, watch, job, &loaded, &mut output, input)?;
+    if misses_a_file(&opened, &runs) {
+        watch.tell(MISSED);
+        return Err(Fault::Device);
+    }
     let heard = of_parts(watch, heard_of(rt.alloc(), files, &runs))?;
     write_report(rt.alloc(), watch, job.dir, files, &heard, writer)
 }
 
-/// Looks at the data files of some entries, in turn, and opens each; the bytes of those that are there are to be read.
-/// Whether there is any.
-fn has_files<R: Files + AllocGlobal + Clone + Drop, P: Watch>(
+/// Opens the data files of some entries, in turn; the bytes of those that are there are to be read. Of each whether it
+/// is there.
+fn open_files<R: Files + AllocGlobal + Clone + Drop, P: Watch>(
     rt: &R,
     watch: &P,
     dir: &str,
     entries: &[FileEntry],
-) -> Result<bool, Fault>
+) -> Result<Vec<bool>, Fault>
     ensures fault { IfErr result (λ fault. (fault ≡ device) ⊎ (fault ≡ out_of_memory)) }
 {
     let mut pool = HandlePool::new(rt.alloc(), rt.clone()?, OPEN_FILES)?;
-    let mut any = false;
+    let mut opened = Vec::new(rt.alloc());
     for file in entries {
-        any |= has_file(rt, watch, &mut pool, dir, file)?;
+        let is_there = has_file(rt, watch, &mut pool, dir, file)?;
+        opened.push(is_there)?;
     }
-    Ok(any)
+    Ok(opened)
+}
+
+/// Whether a part found no file where one was opened.
+fn misses_a_file(opened: &[bool], runs: &[Run]) -> bool {
+    runs.iter().any(|run| run.met == Met::Absent && opened.get(run.file as usize) == Some(&true))
 }
 
 /// Whether there is a data file, which is opened. A fault is told of.

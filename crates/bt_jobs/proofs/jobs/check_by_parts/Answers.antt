@@ -7,8 +7,8 @@ use Rattle.bt_jobs.proofs.Hearing.{ok_is}
 use Rattle.bt_jobs.proofs.Reports.{joined_each, joined_report}
 use Rattle.bt_jobs.proofs.jobs.check_by_parts.Goals as goal
 
-pub returns-then-not-branch-clause-report : goal.returns-then-not-branch-clause-report
-returns-then-not-branch-clause-report g c =
+pub returns-then-not-contains-clause-report : goal.returns-then-not-contains-clause-report
+returns-then-not-contains-clause-report g c =
     let loaded = c.in_ok-loaded.loaded in
     IfOk-weaker c.check_torrent.result _ _ (λ summary r. (
       loaded.torrent,
@@ -27,7 +27,7 @@ write_report-requires g c =
     let heard = c.in_ok-heard.heard in
     let joined = ok_is c.heard_of.result heard _ (sym c.of_parts.ensures ∙ c.in_ok-heard.was) c.heard_of.ensures.joined in
     let each = joined_each 0 (map file_of files) _ (map finding_of heard.items) joined in
-    omega (arith, each, length-map files file_of, length-map heard.items finding_of, ap length c.deref-2.ensures.value)
+    omega (arith, each, length-map files file_of, length-map heard.items finding_of, ap length c.deref-5.ensures.value)
 
 pub returns-clause-report : goal.returns-clause-report
 returns-clause-report g c =
@@ -42,13 +42,13 @@ returns-clause-report g c =
       r.0,
       record { text = loaded.text.items; spelled = c.in_ok-loaded.ensures.spelled },
       inr (joined_report loaded.torrent files told.text runs.items heard.items r.0 summary c.files-files.ensures.said told.told
-          (subst (λ rs. AreJoined 0 files rs (map finding_of heard.items)) c.deref.ensures.value joined) r.1
-          (r.2 ∙ ap (map finding_of) c.deref-2.ensures.value) r.3 r.4),
+          (subst (λ rs. AreJoined 0 files rs (map finding_of heard.items)) c.deref-4.ensures.value joined) r.1
+          (r.2 ∙ ap (map finding_of) c.deref-5.ensures.value) r.3 r.4),
       r.5,
     )) c.write_report.ensures.report
 
-pub returns-then-not-branch-clause-parts : goal.returns-then-not-branch-clause-parts
-returns-then-not-branch-clause-parts g c =
+pub returns-then-not-contains-clause-parts : goal.returns-then-not-contains-clause-parts
+returns-then-not-contains-clause-parts g c =
     IfOk-weaker c.check_torrent.result _ _ (λ summary r. (c.in_ok-loaded.loaded.torrent, r.0, inl (r.1, refl))) c.check_torrent.ensures.report
 
 pub returns-clause-parts : goal.returns-clause-parts
@@ -64,8 +64,8 @@ returns-clause-parts g c =
       r.0,
       inr (
         joined_report loaded.torrent files told.text runs.items heard.items r.0 summary c.files-files.ensures.said told.told
-            (subst (λ rs. AreJoined 0 files rs (map finding_of heard.items)) c.deref.ensures.value joined) r.1
-            (r.2 ∙ ap (map finding_of) c.deref-2.ensures.value) r.3 r.4,
+            (subst (λ rs. AreJoined 0 files rs (map finding_of heard.items)) c.deref-4.ensures.value joined) r.1
+            (r.2 ∙ ap (map finding_of) c.deref-5.ensures.value) r.3 r.4,
         record { text = loaded.text.items; spelled = c.in_ok-loaded.ensures.spelled; started = c.in_ok-runs.ensures.started },
       ),
     )) c.write_report.ensures.report
