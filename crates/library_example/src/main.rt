@@ -1,4 +1,4 @@
-//! A store of a torrent's two files, in memory: the one that is there is served, and a block of the other is taken once it is right.
+//! A store of a torrent's two files, in memory: the one that is there is served, and of the other no wrong block is taken.
 #![tactic(auto)]
 
 ghost use Rattle.std.specs.Prelude.{[], ◌≡◌, OnOk};
@@ -12,38 +12,35 @@ use burdockpump::{
 use std::alloc::Global;
 use std::io::Read;
 
-/// The next line of the input, which spells bytes in hexadecimal.
+/// The next line of the input: bytes in hexadecimal.
 fn read_bytes(rt: &HostRuntime) -> Result<Vec<u8>> {
     let mut line = String::new(rt.alloc());
     rt.read_line(&mut line)?;
     Ok(hex::decode(rt.alloc(), line.trim_end())?)
 }
 
-/// The devices of the two files: on the first lie its bytes, on the second none.
+/// A device that has the bytes of the first file, and one that has none of the second.
 fn disks_of(alloc: Global) -> Result<Vec<MemoryDisk>> {
     let mut disks = Vec::new(alloc);
-    let good = Vec::from_slice(alloc, b"one\n")?;
-    disks.push(MemoryDisk::new(alloc, good))?;
+    let bytes = Vec::from_slice(alloc, b"one\n")?;
+    disks.push(MemoryDisk::new(alloc, bytes))?;
     disks.push(MemoryDisk::new(alloc, Vec::new(alloc)))?;
     Ok(disks)
 }
 
-/// An engine of a torrent over these devices, which has taken in what they have.
-fn load<D: Disk + Drop>(alloc: Global, text: &[u8], disks: Vec<D>) -> Result<Engine<D, Lanes>> {
+/// An engine of the torrent, which has taken in what the devices have.
+fn load(alloc: Global, text: &[u8], disks: Vec<MemoryDisk>) -> Result<Engine<MemoryDisk, Lanes>> {
     let torrent = read_torrent(alloc, text)?;
-    let files = torrent.files().len() as u32;
-    let mut store = match Engine::start(alloc, torrent, Lanes, disks, None) {
-        Ok(store) => store,
-        Err(refused) => bail!("{}", refused.cause),
+    let Ok(mut store) = Engine::start(alloc, torrent, Lanes, disks, None) else {
+        bail!("no engine is started");
     };
-    for file in 0..files {
-        store.adopt(file)?;
-    }
+    store.adopt(0)?;
+    store.adopt(1)?;
     Ok(store)
 }
 
-/// A session with a peer, of which first and then these bytes come, until all files are complete: how it ended, and what the peer
-/// was sent. Whatever the bytes are, what is marked then on honest devices is right, and nothing is lost that stood.
+/// A session with a peer that sends these bytes, in two parts: how it ended, and what was sent to the peer. Whatever the bytes
+/// are, the marked blocks of honest devices are right, and stay marked.
 fn meet<D: Disk + Drop, H: NodeHash>(
     alloc: Global,
     store: &mut Engine<D, H>,
@@ -62,33 +59,17 @@ fn meet<D: Disk + Drop, H: NodeHash>(
     Ok((end, sent))
 }
 
-/// Prints how far each file is.
-fn report<D: Disk + Drop, H: NodeHash>(rt: &HostRuntime, store: &Engine<D, H>) -> Result<()> {
-    for file in 0..u32::MAX {
-        let Some(report) = store.report(file) else {
-            break;
-        };
-        println!(rt;
-            "file {file}: {} of {} blocks are right",
-            report.marked, report.blocks
-        )?;
-    }
-    Ok(())
-}
-
 fn main(rt: HostRuntime) -> Result<()> {
     let alloc = rt.alloc();
-    let text = read_bytes(&rt)?;
-    let mut store = load(alloc, &text, disks_of(alloc)?)?;
-    report(&rt, &store)?;
+    let mut store = load(alloc, &read_bytes(&rt)?, disks_of(alloc)?)?;
     for _ in 0..2 {
-        let (first, then) = (read_bytes(&rt)?, read_bytes(&rt)?);
-        let (end, sent) = meet(alloc, &mut store, &first, &then)?;
+        let (end, sent) = meet(alloc, &mut store, &read_bytes(&rt)?, &read_bytes(&rt)?)?;
         println!(rt;
-            "{end:?}, it was sent the first file: {}",
+            "{end:?}, was sent the first file: {}",
             sent.ends_with(b"one\n")
         )?;
-        report(&rt, &store)?;
+        println!(rt; "{:?}", store.report(0))?;
+        println!(rt; "{:?}", store.report(1))?;
     }
     Ok(())
 }
