@@ -5,7 +5,8 @@
 
 Of each page the lines behind the prompt `$ ` are run, in their order, by a shell in a folder of their own, which has a copy of `examples`
 and the program as `./btseed`: the one that is named, or else what `./btseed` runs at the top. What two machines do (`one$`, `two$`) is left
-out. The status is 0 where all is as printed.
+out. Then it compares the program that `docs/LIBRARY.md` shows with that of the crate `library_example`. The status is 0 where all is as
+printed.
 """
 
 import pathlib
@@ -53,9 +54,17 @@ def differing(page, program):
     return count
 
 
+def is_library_stale():
+    """Whether the program that LIBRARY.md shows is another than that of its crate."""
+    program = (TOP / "crates/library_example/src/main.rt").read_text()
+    is_stale = f"```rust\n{program}```" not in (TOP / "docs/LIBRARY.md").read_text()
+    print("docs/LIBRARY.md:", "another program than that of" if is_stale else "the program of", "library_example")
+    return is_stale
+
+
 def main(words):
     program = pathlib.Path(words[0]).resolve() if words else TOP / "btseed"
-    return min(1, sum(differing(page, program) for page in PAGES))
+    return min(1, sum(differing(page, program) for page in PAGES) + is_library_stale())
 
 
 if __name__ == "__main__":
