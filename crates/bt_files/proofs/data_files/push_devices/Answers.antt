@@ -12,7 +12,7 @@ loop-entry-preserved g c = record {
       opened_more c.args.context.usage c.args.dir.now c.args.entries.now c.loop-entry.entry-index c.entry-item.result c.loop-entry.files.disks.items
       c.push.new.self.disks.items c.loop-entry.files.filled.items c.push.new.self.filled.items _ c.loop-entry.pool.made c.open_entry.new.pool.made
       c.in_ok-file.file.disk c.loop-entry-test.true c.entry-item.is c.loop-entry.invariant.opened c.in_ok-file.ensures.opened
-      c.in_ok-push.ensures.disks c.in_ok-push.ensures.filled c.in_ok-file.ensures.empty;
+      c.in_ok-push.ensures.disks c.in_ok-push.ensures.filled;
   first = λ none. absurd (omega arith);
   known = λ writes some. knows_more c.go_to.new.self c.add.new.self _ c.loop-entry.entry-index
       (knows_before c.args.context.usage c.loop-entry.folder c.go_to.new.self c.loop-entry.entry-index c.go_to.ensures.files

@@ -2,7 +2,7 @@ use Rattle.std.proofs.Common.{List, length, map, inl, inr, sym, ap, subst, ◌�
 use Rattle.std.proofs.lemmas.List.{length-map}
 use Rattle.bt_meta.specs.Files.{File, file_of}
 use Rattle.bt_machine.specs.Start.{device_count}
-use Rattle.bt_files.specs.DataFiles.{AreFilled, AreNewDevices}
+use Rattle.bt_files.specs.DataFiles.{AreNewDevices}
 use Rattle.bt_files.specs.OpenFolder.{IsOpeningFault}
 use Rattle.bt_files.specs.Store.{IsOpenFault}
 use Rattle.bt_files.proofs.Devices.{device_count_is}
@@ -47,7 +47,6 @@ returns-clause-opened g c = ok_weaker c.begin_store.result _ _ (λ engine begun.
   attached = c.in_ok-attached.attached;
   of_log = c.in_ok-attached.ensures.log;
   begun = begun;
-  are_filled = subst (λ (files : List File). AreFilled files c.in_ok-files.files.filled.items) c.files.ensures.said c.in_ok-files.ensures.filled;
 }) c.begin_store.ensures.begun
 
 pub returns-clause-fault : goal.returns-clause-fault
