@@ -90,4 +90,4 @@ pub record IsOpened (usage : FileUse) (dir : List ℕ) (log : Option (Bor (List 
 -- is not.
 abbrev pub IsOpenFault : FileUse → Metainfo → Option (Bor (List ℕ)) → Fault → Type 0
 IsOpenFault usage torrent log fault =
-    IsLookFault log fault ⊎ IsOpeningFault usage torrent.files fault ⊎ IsLogFaultAt torrent log fault
+    IsLookFault log fault ⊎ IsOpeningFault usage (length torrent.files) fault ⊎ IsLogFaultAt torrent log fault

@@ -86,7 +86,7 @@ pub(crate) fn open_devices<'a, R: Files + AllocGlobal + Clone + Drop, P: Watch>(
     ensures devices { IfOk result (λ files.
         AreNewDevices context.entry.usage dir.now (map file_of entries.now) files.disks.items) }
     ensures each { IfOk result (λ files. length files.filled.items ≡ length entries.now) }
-    ensures fault { IfErr result (IsOpeningFault context.entry.usage (map file_of entries.now)) }
+    ensures fault { IfErr result (IsOpeningFault context.entry.usage (length entries.now)) }
 {
     let mut pool = HandlePool::new(rt.alloc(), rt.clone()?, OPEN_FILES)?;
     let mut files = OpenFiles::new(rt.alloc());
@@ -110,7 +110,7 @@ fn push_devices<'a, R: Files + AllocGlobal + Clone + Drop, P: Watch>(
     ensures devices { OnOk result
         (AreNewDevices context.entry.usage dir.now (map file_of entries.now) files.new.disks.items) }
     ensures each { OnOk result (length files.new.filled.items ≡ length entries.now) }
-    ensures fault { IfErr result (IsOpeningFault context.entry.usage (map file_of entries.now)) }
+    ensures fault { IfErr result (IsOpeningFault context.entry.usage (length entries.now)) }
 {
     let mut folder = OpenFolder::new(rt.alloc());
     for entry in entries {

@@ -31,7 +31,8 @@ pub returns-in_err-files-clause-fault : goal.returns-in_err-files-clause-fault
 returns-in_err-files-clause-fault g c =
     passed_on c.from_residual-in_err-files.result c.in_err-files.field-0.0 (IsOpenFault c.args.context.usage c.args.torrent c.args.log)
     c.from_residual-in_err-files.ensures.1
-    (inr (inl (subst (λ (files : List File). IsOpeningFault c.args.context.usage files c.in_err-files.field-0.0) c.files.ensures.said c.in_err-files.ensures.fault)))
+    (inr (inl (subst (λ count. IsOpeningFault c.args.context.usage count c.in_err-files.field-0.0)
+    (sym (length-map c.files.result.now file_of) ∙ ap length c.files.ensures.said) c.in_err-files.ensures.fault)))
 
 pub returns-in_err-attached-clause-fault : goal.returns-in_err-attached-clause-fault
 returns-in_err-attached-clause-fault g c =
