@@ -16,7 +16,7 @@ use Rattle.bt_make.specs.Command.{IsMakeFault, IsMakeTorrent}
 use Rattle.bt_commands.specs.Program.{IsDone, IsJoinedResult, IsMakeResult, IsWholeResult, IsTaskEnd, IsRun, IsStart, Writes, no_words, on_words, task_result, task_end}
 use Rattle.bt_commands.specs.ProgramSteps.{status_after}
 use Rattle.bt_check.specs.Fault.{device, make_fault, out_of_memory, status_of, words_fault}
-use Rattle.bt_make.specs.declared.command.NewTorrent.{NewTorrent}
+use Rattle.bt_make.specs.declared.new_torrent.NewTorrent.{NewTorrent}
 use Rattle.bt_check.specs.declared.report.FileFinding.{FileFinding}
 use Rattle.bt_check.specs.declared.report.Summary.{Summary}
 use Rattle.bt_words.specs.declared.command_line.MakeTask.{MakeTask}
@@ -94,11 +94,14 @@ pub performed : (words : List Text) (task : Task) (given left old new : Option (
 performed words task given left old new (Ok status) asked written ended = task_result task asked written
 performed words task given left old new (Err fault) asked written ended = task_end task fault asked ended refl
 
-pub made : (request : MakeTask) (new : NewTorrent) (old now : Option (List ℕ)) (infohash : List ℕ)
-    → IsMakeTorrent request.name.now request.piece_length new → infohash ≡ new.infohash → Appends old now (infohash_line infohash)
+pub made : (request : MakeTask) (new : NewTorrent) (old now : Option (List ℕ)) (told : NewTorrent)
+    → IsMakeTorrent request.name.now request.piece_length new → told ≡ new → Appends old now (infohash_line told.infohash)
     → Writes (IsMakeResult request) old now 0
-made request new old now infohash is same put =
-    record { text = infohash_line infohash; written = put; is = record { new = new; made = is; line = ap infohash_line same; answer = refl } }
+made request new old now told is same put = record {
+  text = infohash_line told.infohash;
+  written = put;
+  is = record { new = new; made = is; line = ap (λ (t : NewTorrent). infohash_line t.infohash) same; answer = refl };
+}
 
 pub start_on_words : (given left rest old new ran : Option (List ℕ)) (status run_status exit : ℕ) (words : List Text) → left ≡ rest → new ≡ ran
     → status ≡ run_status → exit ≡ status → IsRun words given rest old ran run_status → IsStart given left old new exit

@@ -35,7 +35,7 @@ use Rattle.bt_check.specs.declared.torrent_file.Source.{Source}
 use Rattle.bt_words.specs.declared.command_line.Task.{Task}
 use Rattle.bt_words.specs.declared.command_line.Task.TheVariants.{Make, Show, Check, Seed, Fetch, Replay}
 use Rattle.bt_check.specs.declared.fault.Fault.{Fault}
-use Rattle.bt_make.specs.declared.command.NewTorrent.{NewTorrent}
+use Rattle.bt_make.specs.declared.new_torrent.NewTorrent.{NewTorrent}
 use Rattle.bt_check.specs.declared.report.FileFinding.{FileFinding}
 use Rattle.bt_check.specs.declared.report.Summary.{Summary}
 

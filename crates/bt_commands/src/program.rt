@@ -11,7 +11,7 @@ ghost use Rattle.bt_words.specs.declared.command_line.Task.TheVariants.{Make, Sh
 
 use bt_check::{BUFFER_LEN, Fault, Source, check_torrent, load, load_watched, show_torrent};
 use bt_jobs::{Job, ProcessStarter, check_by_parts, check_part};
-use bt_make::{InfohashLine, make, of_device, publish};
+use bt_make::{ReadyTorrent, make, of_device, publish};
 use bt_parts::Part;
 use bt_progress::{Watch, escaped_lines};
 use bt_replay::replay;
@@ -183,8 +183,8 @@ fn perform_make<R: Files + AllocGlobal + Clone + Drop, P: Watch, O: Write>(
 {
     watch.set_verbose(request.verbose);
     let torrent = make(rt, watch, request)?;
-    let line = InfohashLine::new(rt.alloc(), torrent.infohash)?;
-    publish(rt, watch, request.out, &torrent.text, &line, writer)?;
+    let ready = ReadyTorrent::new(rt.alloc(), torrent)?;
+    publish(rt, watch, request.out, &ready, writer)?;
     Ok(0)
 }
 

@@ -13,7 +13,7 @@ use Rattle.bt_meta.proofs.LawReadBack.{refused_for_memory}
 use Rattle.bt_make.specs.Command.{HasContent, IsFilesFault, IsMakeFault, IsMakeTorrent, IsTorrentOf, Paths, paths_of}
 use Rattle.bt_check.specs.Fault.{torrent_fault, make_fault}
 use Rattle.bt_check.specs.declared.fault.Fault.{Fault}
-use Rattle.bt_make.specs.declared.command.NewTorrent.{NewTorrent}
+use Rattle.bt_make.specs.declared.new_torrent.NewTorrent.{NewTorrent}
 
 pub files_refused : (paths : Paths) (name : List ℕ) (piece_length layer : ℕ) (files given : List Made) (text : List ℕ) (e : MakeError)
     → paths_of files ≡ paths → All (HasContent layer) files → text ≡ name → given ≡ files → IsNotMade text piece_length (map given_of given) e

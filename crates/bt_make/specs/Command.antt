@@ -21,7 +21,7 @@ use Rattle.bt_make.specs.Folder.{IsListingFault}
 use Rattle.bt_make.specs.Limits.{count_refusal}
 use Rattle.bt_check.specs.declared.fault.Fault.{Fault}
 use Rattle.bt_make.specs.declared.command.FolderFile.{FolderFile}
-use Rattle.bt_make.specs.declared.command.NewTorrent.{NewTorrent}
+use Rattle.bt_make.specs.declared.new_torrent.NewTorrent.{NewTorrent}
 
 -- ---- what is made
 

@@ -3,13 +3,14 @@ ghost use Rattle.std.specs.Prelude.{◌≡◌, ℕ, ◌⊎◌, string_bytes, IfO
 ghost use Rattle.std.specs.Io.KnownBytes.{Appends, Keeps};
 ghost use Rattle.std.specs.List.{list_all};
 ghost use Rattle.bt_make.specs.AtomicFileSteps.{IsLinkTarget, IsSibling, is_digit, is_part_name, part_name};
+ghost use Rattle.bt_meta.specs.Writer.{IsInfohashOf};
 ghost use Rattle.bt_check.specs.Fault.{device, out_of_memory};
 ghost use Rattle.bt_make.specs.AtomicFile.{infohash_line};
 
 use crate::device_call::of_device;
+use crate::new_torrent::NewTorrent;
 use bt_check::{Fault, print, system_fault, told};
 use bt_progress::{FileCall, Watch};
-use bt_tree::Hash32;
 use std::alloc::{AllocError, Global};
 use std::fs::{self, File, Metadata, OpenFile, Permissions};
 use std::io::{self, ErrorKind, Write};
@@ -18,22 +19,22 @@ use std::rt::Files;
 /// How many symbolic links are followed from a path to its file, as many as Linux follows.
 const MAX_LINKS: u32 = 40;
 
-/// The line that tells the infohash of a torrent.
+/// A torrent that is ready to be published: with it is the line that tells its infohash.
 #[derive(Drop)]
-pub struct InfohashLine {
-    pub infohash: Hash32,
-    pub text: String,
-    ghost spelled: { string_bytes text ≡ infohash_line infohash },
+pub struct ReadyTorrent {
+    pub torrent: NewTorrent,
+    pub line: String,
+    ghost spelled: { string_bytes line ≡ infohash_line torrent.infohash },
 }
 
-impl InfohashLine {
-    /// The line of an infohash.
-    pub fn new(alloc: Global, infohash: Hash32) -> Result<InfohashLine, AllocError>
-        ensures { IfOk result (λ line. line.infohash ≡ infohash) }
+impl ReadyTorrent {
+    /// A torrent, and its line.
+    pub fn new(alloc: Global, torrent: NewTorrent) -> Result<ReadyTorrent, AllocError>
+        ensures { IfOk result (λ ready. ready.torrent ≡ torrent) }
     {
-        let digits = hex::encode(alloc, &infohash)?;
-        let text = format!(in alloc; "infohash {digits}\n")?;
-        Ok(InfohashLine { infohash, text })
+        let digits = hex::encode(alloc, &torrent.infohash)?;
+        let line = format!(in alloc; "infohash {digits}\n")?;
+        Ok(ReadyTorrent { torrent, line })
     }
 }
 
@@ -43,20 +44,20 @@ pub fn publish<R: Files + AllocGlobal, P: Watch, O: Write>(
     rt: &R,
     watch: &P,
     path: &str,
-    text: &[u8],
-    line: &InfohashLine,
+    ready: &ReadyTorrent,
     writer: &mut O,
 ) -> Result<(), Fault>
     ensures line { OnOk result
-        (Appends (O.contents writer.old) (O.contents writer.new) (infohash_line line.now.infohash)) }
+        (Appends (O.contents writer.old) (O.contents writer.new) (infohash_line ready.now.torrent.infohash)) }
+    ensures infohash { IsInfohashOf ready.now.torrent.text.items ready.now.torrent.infohash }
 
     // the file comes first: nothing is told where memory is short
     ensures unsaid { IfErr result
         (λ fault. fault ≡ out_of_memory → Keeps (O.contents writer.old) (O.contents writer.new)) }
     ensures fault { IfErr result (λ fault. (fault ≡ device) ⊎ (fault ≡ out_of_memory)) }
 {
-    replace_file(rt, watch, path, text)?;
-    print(writer, line.text.as_str())
+    replace_file(rt, watch, path, &ready.torrent.text)?;
+    print(writer, ready.line.as_str())
 }
 
 /// Writes a file: wholly, or it stays as it was. The bytes go into a new file beside it, which then takes its

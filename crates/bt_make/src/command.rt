@@ -14,26 +14,19 @@ ghost use Rattle.bt_make.specs.CommandSteps.{AddsFile, AreOfSomeBytes, IsFileRef
 use crate::device_call::of_device;
 use crate::folder::{EntryKind, FolderEntry, files_in, follow};
 use crate::limits::Counts;
+use crate::new_torrent::NewTorrent;
 use bt_check::{
     BUFFER_LEN, Digests, Fault, PieceSize, digest_reader, fault_name, found_path, is_device_fault,
     told,
 };
 use bt_meta::{Made, MakeError, make_torrent, torrents_are_made_from_files};
 use bt_progress::{FileCall, Watch, Watched};
-use bt_tree::Hash32;
 use bt_words::MakeTask;
 use std::alloc::{AllocError, Global};
 use std::fs::{self, Metadata};
 use std::os::unix::fs::MetadataExt;
 use std::path::Path;
 use std::rt::Files;
-
-/// A torrent that was made: its bytes, and its infohash.
-#[derive(Drop)]
-pub struct NewTorrent {
-    pub text: Vec<u8>,
-    pub infohash: Hash32,
-}
 
 /// Makes the torrent of a folder. The first fault ends it, and is looked for in the piece length, then in the
 /// folder, then in the file that the torrent is written to, which is to be none of the folder's, and then in

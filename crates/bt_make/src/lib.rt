@@ -6,7 +6,9 @@ mod command;
 mod device_call;
 mod folder;
 mod limits;
+mod new_torrent;
 
-pub use atomic_file::{InfohashLine, publish};
-pub use command::{FolderFile, NewTorrent, make};
+pub use atomic_file::{ReadyTorrent, publish};
+pub use command::{FolderFile, make};
 pub use device_call::of_device;
+pub use new_torrent::NewTorrent;

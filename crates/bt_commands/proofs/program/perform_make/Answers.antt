@@ -7,4 +7,5 @@ returns-in_err-torrent-clause-ended g c =
 
 pub returns-clause-done : goal.returns-clause-done
 returns-clause-done g c =
-    made c.args.request c.in_ok-torrent.torrent _ _ _ c.in_ok-torrent.ensures.torrent c.in_ok-line.ensures c.in_ok-publish.ensures.line
+    made c.args.request c.in_ok-torrent.torrent _ _ c.in_ok-ready.ready.torrent c.in_ok-torrent.ensures.torrent c.in_ok-ready.ensures
+    c.in_ok-publish.ensures.line
