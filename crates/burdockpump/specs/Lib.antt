@@ -31,11 +31,12 @@ pub use Rattle.bt_engine.specs.Standing
 -- a log, and an engine that begins with it
 pub use Rattle.bt_resume.specs.ResumeLog
 pub use Rattle.bt_runs.specs.Reopening
--- lists of events
+-- lists of events, and the messages that they send
 pub use Rattle.bt_runs.specs.Flushes
 pub use Rattle.bt_runs.specs.Leads
 pub use Rattle.bt_runs.specs.Promises
 pub use Rattle.bt_runs.specs.WholeRuns
+pub use Rattle.bt_wire.specs.Message
 -- sessions and peers
 pub use Rattle.bt_session.specs.Ends
 pub use Rattle.bt_session.specs.Progress

@@ -41,7 +41,7 @@ pub use bt_peers::{
 pub use bt_book::BlockId;
 pub use bt_engine::{Answer, EngineError, Event, Frame, Note, Output, PeerKey, run_events};
 pub use bt_runs::run_as_promised;
-pub use bt_wire::{Bytes, Handshake, Message, write_handshake, write_message};
+pub use bt_wire::{Bytes, Handshake, Message, fits, write_handshake, write_message};
 
 // Laws, for proofs: functions that do nothing, whose contracts say what is promised of all runs.
 pub use bt_machine::events_send_what_fits;
