@@ -11,7 +11,7 @@ use Rattle.bt_meta.specs.Files.{File, file_of}
 use Rattle.bt_meta.specs.declared.torrent.FileEntry.{FileEntry}
 use Rattle.bt_machine.specs.Start.{device_count}
 use Rattle.bt_check.specs.Paths.{path_below}
-use Rattle.bt_files.specs.DataFiles.{AreNewDevices, DeviceView, IsNewDevice, device_paths, files_with_bytes}
+use Rattle.bt_files.specs.DataFiles.{AreFilled, AreNewDevices, DeviceView, IsNewDevice, device_paths, files_with_bytes}
 use Rattle.bt_files.specs.DataFilesSteps.{IsOpenedFor, IsPushed}
 use Rattle.bt_files.specs.declared.file_use.FileUse.{FileUse}
 
@@ -107,6 +107,7 @@ pub record AreOpened (usage : FileUse) (dir : List ℕ) (entries : List FileEntr
   pub devices : AreNewDevices usage dir (map file_of (take count entries)) disks
   pub made : total ≡ length disks
   pub each : length filled ≡ count
+  pub are_filled : AreFilled (map file_of (take count entries)) filled
 
 -- An entry was passed: an empty one has no device, and that of another was put behind those before.
 devices_more : (usage : FileUse) (dir : List ℕ) (files : List File) (file : File) (disks after : List DeviceView) (made now : ℕ) (found : Option DeviceView)
@@ -129,11 +130,15 @@ pub opened_more : (usage : FileUse) (dir : List ℕ) (entries : List FileEntry) 
     (filled more : List Bool) (is_filled : Bool) (made now : ℕ) (found : Option DeviceView)
     → i < length entries → entry ≡ get_or entries i entry
     → AreOpened usage dir entries i disks filled made → IsOpenedFor usage dir (file_of entry) made found now → IsPushed disks found after
-    → more ≡ filled ++ is_filled ∷ [] → AreOpened usage dir entries (i + 1) after more now
-opened_more usage dir entries i entry disks after filled more is_filled made now found lt at before opened pushed flagged =
+    → more ≡ filled ++ is_filled ∷ [] → (entry.length ≡ 0 → is_filled ≡ false) → AreOpened usage dir entries (i + 1) after more now
+opened_more usage dir entries i entry disks after filled more is_filled made now found lt at before opened pushed flagged empty =
     let known = devices_more usage dir (map file_of (take i entries)) (file_of entry) disks after made now found before.devices before.made opened pushed in
     record {
       devices = subst (λ files. AreNewDevices usage dir files after) (sym (files_more entries i entry lt at)) known.0;
       made = known.1;
       each = ap length flagged ∙ length-append filled (is_filled ∷ []) ∙ ap (λ n. n + 1) before.each;
+      are_filled = subst (λ files. AreFilled files more) (sym (files_more entries i entry lt at))
+          (subst (AreFilled (map file_of (take i entries) ++ file_of entry ∷ [])) (sym flagged)
+          (all_zip_push (λ (file : File) (is : Bool). file.length ≡ 0 → is ≡ false) (map file_of (take i entries)) filled (file_of entry) is_filled
+          before.are_filled empty));
     }

@@ -7,6 +7,7 @@ use Rattle.bt_resume.specs.ResumeLog.{LogView}
 use Rattle.bt_resume.specs.declared.error.LogError.{LogError}
 use Rattle.bt_resume.specs.declared.error.LogError.TheVariants.{OtherTorrent, TooLong, Device as NoDevice, OutOfMemory as NoMemory}
 use Rattle.bt_check.specs.Fault.{device, log_full, out_of_memory, status_of}
+use Rattle.bt_check.specs.TorrentFile.{HasText}
 use Rattle.bt_log_file.specs.Attaching.{log_fault}
 use Rattle.bt_files.specs.Ending.{IsEndFault}
 use Rattle.bt_files.specs.Loading.{IsStoreFault}
@@ -56,10 +57,11 @@ while_loading is_info usage log fault (inl at_device) = inl (inl at_device)
 while_loading is_info usage log fault (inr short) = inl (inr (inl short))
 
 -- as its files are opened, and before
-while_files : (is_info : Bool) (usage : FileUse) (log : Option (Bor (List ℕ))) (count : ℕ) (fault : Fault) → IsOpeningFault usage count fault
-    → IsStoreFault is_info usage log fault
-while_files is_info usage log count fault (inl call) = while_loading is_info usage log fault call
-while_files is_info usage log count fault (inr same) = inr (inl (same.0, same.1.0))
+while_files : (is_info : Bool) (usage : FileUse) (torrent : Metainfo) (log : Option (Bor (List ℕ))) (fault : Fault) → HasText is_info torrent
+    → IsOpeningFault usage torrent.files fault → IsStoreFault is_info usage log fault
+while_files is_info usage torrent log fault read (inl call) = while_loading is_info usage log fault call
+while_files is_info usage torrent log fault read (inr same) =
+    inr (inl (same.0, same.1.0, record { torrent = torrent; read = read; same = same.1.1 }))
 
 -- as its log is read
 while_reading : (is_info : Bool) (usage : FileUse) (log : Option (Bor (List ℕ))) (cause : LogError) (fault : Fault) → log ≢ None → fault ≡ log_fault cause
@@ -78,9 +80,9 @@ while_attaching is_info usage torrent (Some path) fault (known, inr (inl among))
 while_attaching is_info usage torrent (Some path) fault (known, inr (inr attach)) =
     while_reading is_info usage (Some path) attach.cause fault (some_path path) attach.told
 
-pub while_opening : (is_info : Bool) (usage : FileUse) (torrent : Metainfo) (log : Option (Bor (List ℕ))) (fault : Fault) → IsOpenFault usage torrent log fault
-    → IsStoreFault is_info usage log fault
-while_opening is_info usage torrent log fault (inl (some, inl among)) = inr (inr (some, inl among))
-while_opening is_info usage torrent log fault (inl (some, inr short)) = while_loading is_info usage log fault (inr short)
-while_opening is_info usage torrent log fault (inr (inl files)) = while_files is_info usage log _ fault files
-while_opening is_info usage torrent log fault (inr (inr attach)) = while_attaching is_info usage torrent log fault attach
+pub while_opening : (is_info : Bool) (usage : FileUse) (torrent : Metainfo) (log : Option (Bor (List ℕ))) → HasText is_info torrent → (fault : Fault)
+    → IsOpenFault usage torrent log fault → IsStoreFault is_info usage log fault
+while_opening is_info usage torrent log read fault (inl (some, inl among)) = inr (inr (some, inl among))
+while_opening is_info usage torrent log read fault (inl (some, inr short)) = while_loading is_info usage log fault (inr short)
+while_opening is_info usage torrent log read fault (inr (inl files)) = while_files is_info usage torrent log fault read files
+while_opening is_info usage torrent log read fault (inr (inr attach)) = while_attaching is_info usage torrent log fault attach

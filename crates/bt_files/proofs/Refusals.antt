@@ -1,16 +1,21 @@
 -- Which files are refused, since they are those of other paths.
-use Rattle.std.proofs.Common.{◌≡◌, ◌↔◌, ◌⊎◌, inl, inr, ℕ, zero, suc, ◌<◌, Bool, true, false, List, Option, Some, None, Result, Ok, Err, IfOk, refl, sym, ap, subst, arith}
-use Rattle.std.specs.Prelude.{IsTrue, MatchBool, OnOk}
+use Rattle.std.proofs.Common.{◌≡◌, ◌↔◌, ◌⊎◌, inl, inr, ℕ, zero, suc, ◌+◌, ◌<◌, Bool, true, false, List, [], ◌∷◌, ◌++◌, length, length-append, map, get_or, Option, Some, None, Result, Ok, Err, IfOk, refl, sym, ap, subst, ◌∙◌, arith}
+use Rattle.std.specs.Prelude.{Contains, IsTrue, MatchBool, OnOk, option_map}
 use Rattle.std.specs.Bool.{OnFalse}
 use Rattle.std.specs.declared.alloc.AllocError.{AllocError}
-use Rattle.std.proofs.lemmas.Option.{none-some, same_Some}
+use Rattle.std.proofs.lemmas.Option.{none-some, same_Some, slice_get-map, slice_get_read}
+use Rattle.std.proofs.lemmas.List.Elements.{Contains-append_cases, Contains-append_left, Contains-append_right}
 use Rattle.bt_disk.specs.declared.opening.FileIdentity.{FileIdentity}
 use Rattle.bt_folder.specs.CasePaths.{HasNoPath}
 use Rattle.bt_folder.specs.KnownFiles.{IsKnown}
 use Rattle.bt_folder.specs.declared.known_files.KnownFiles.{KnownFiles}
 use Rattle.bt_folder.proofs.Twins.{none_yet}
+use Rattle.bt_machine.proofs.Lists.{contains_cases, contains_none, here}
+use Rattle.bt_meta.specs.Files.{file_of}
+use Rattle.bt_meta.specs.declared.torrent.FileEntry.{FileEntry}
 use Rattle.bt_check.specs.declared.fault.Fault.{Fault}
-use Rattle.bt_files.specs.OpenFolder.{IsAdded, IsOfAnotherPath, IsCallFaultOr, IsFileFault, IsOpeningFault, IsUnused}
+use Rattle.bt_files.specs.FileUse.{is_read_only}
+use Rattle.bt_files.specs.OpenFolder.{IsAdded, IsOfAnotherPath, IsCallFaultOr, IsFileFault, IsOpeningFault, IsUnused, KnowsFiles}
 use Rattle.bt_files.specs.declared.file_use.FileUse.{FileUse}
 use Rattle.bt_files.specs.declared.open_folder.OpenFolder.{OpenFolder}
 
@@ -47,15 +52,80 @@ not_another old new path None unused (inl known) = known
 not_another old new path (Some file) unused (inl known) = unused.0 file known
 not_another old new path identity unused (inr named) = none_yet old.paths new.paths path unused.1 named
 
-pub of_two : (usage : FileUse) (old new : OpenFolder) (path : List (List ℕ)) (identity : Option FileIdentity) (count i : ℕ) (fault : Fault)
-    → i < count → (i ≡ 0 → IsUnused old) → IsFileFault usage old new path identity fault → IsOpeningFault usage count fault
-of_two usage old new path identity count i fault lt unused (inl call) = inl call
-of_two usage old new path identity count zero fault lt unused (inr same) = absurd (not_another old new path identity (unused refl) same.1.1)
-of_two usage old new path identity count (suc i) fault lt unused (inr same) = inr (same.0, (same.1.0, omega arith))
-
 -- no file is opened on the way to the next one
-pub still_unused : (old new : OpenFolder) → new.files ≡ old.files → new.paths ≡ old.paths → IsUnused old → IsUnused new
+still_unused : (old new : OpenFolder) → new.files ≡ old.files → new.paths ≡ old.paths → IsUnused old → IsUnused new
 still_unused old new files paths unused = (
   λ file known. unused.0 file (subst (λ (them : KnownFiles). IsKnown them file) files known),
   subst HasNoPath (sym paths) unused.1,
 )
+
+-- ---- what is known of the files before
+
+-- at first nothing
+knows_none : (folder : OpenFolder) → IsUnused folder → KnowsFiles folder 0
+knows_none folder unused = record {
+  identities = [];
+  each = refl;
+  known = λ file. (λ was. absurd (unused.0 file was), λ listed. absurd (contains_none listed));
+}
+
+still_knows : (old new : OpenFolder) (count : ℕ) → new.files ≡ old.files → KnowsFiles old count → KnowsFiles new count
+still_knows old new count files knows = record {
+  identities = knows.identities;
+  each = knows.each;
+  known = λ file.
+      subst (λ (them : KnownFiles). IsKnown them file ↔ Contains knows.identities (Some file)) (sym files) (knows.known file);
+}
+
+pub knows_before : (usage : FileUse) (folder went : OpenFolder) (count : ℕ) → went.files ≡ folder.files → (count ≡ 0 → IsUnused folder)
+    → (is_read_only usage ≡ false → 0 < count → KnowsFiles folder count) → is_read_only usage ≡ false → KnowsFiles went count
+knows_before usage folder went zero files unused knows writes = still_knows folder went zero files (knows_none folder (unused refl))
+knows_before usage folder went (suc i) files unused knows writes = still_knows folder went (suc i) files (knows writes (omega arith))
+
+only : (identity : Option FileIdentity) (file : FileIdentity) → Contains (identity ∷ []) (Some file) → identity ≡ Some file
+only identity file listed = elim (contains_cases [] listed) [ inl same ↦ same | inr none ↦ absurd (contains_none none) ]
+
+-- one more
+pub knows_more : (before after : OpenFolder) (identity : Option FileIdentity) (count : ℕ) → KnowsFiles before count
+    → IsAdded before.files identity after.files → KnowsFiles after (count + 1)
+knows_more before after identity count knows added = record {
+  identities = knows.identities ++ identity ∷ [];
+  each = length-append knows.identities (identity ∷ []) ∙ ap (λ n. n + 1) knows.each;
+  known = λ file. (
+    λ now. elim ((added file).0 now) [
+      | inl was ↦ Contains-append_left knows.identities (identity ∷ []) (Some file) ((knows.known file).0 was)
+      | inr same ↦ Contains-append_right knows.identities (identity ∷ []) (Some file) (here [] same)
+    ],
+    λ listed. elim (Contains-append_cases knows.identities (identity ∷ []) (Some file) listed) [
+      | inl was ↦ (added file).1 (inl ((knows.known file).1 was))
+      | inr last ↦ (added file).1 (inr (only identity file last))
+    ],
+  );
+}
+
+-- a further file may be of another path
+pub of_another_file : (usage : FileUse) (folder old new : OpenFolder) (entries : List FileEntry) (i : ℕ) (entry : FileEntry)
+    (identity : Option FileIdentity) (fault : Fault) → i < length entries → entry ≡ get_or entries i entry → old.files ≡ folder.files
+    → old.paths ≡ folder.paths → (i ≡ 0 → IsUnused folder) → (is_read_only usage ≡ false → 0 < i → KnowsFiles folder i)
+    → IsFileFault usage old new entry.path identity fault → IsOpeningFault usage (map file_of entries) fault
+of_another_file usage folder old new entries i entry identity fault lt at files paths unused knows (inl call) = inl call
+of_another_file usage folder old new entries zero entry identity fault lt at files paths unused knows (inr same) =
+    absurd (not_another old new entry.path identity (still_unused folder old files paths (unused refl)) same.1.1)
+of_another_file usage folder old new entries (suc i) entry identity fault lt at files paths unused knows (inr same) =
+    inr (
+      same.0,
+      (
+        same.1.0,
+        record {
+          number = suc i;
+          further = omega arith;
+          file = file_of entry;
+          listed = slice_get-map file_of entries (suc i) ∙ ap (option_map file_of) (slice_get_read entries (length entries) (suc i) entry refl lt at);
+          old = old;
+          before = knows_before usage folder old (suc i) files unused knows same.1.0;
+          new = new;
+          identity = identity;
+          of_another = same.1.1;
+        },
+      ),
+    )

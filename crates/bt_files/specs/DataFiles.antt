@@ -1,5 +1,5 @@
 -- The data files of a torrent, as devices that are read ahead, and closed to writes with their seal.
-use Rattle.std.specs.Prelude.{◌≡◌, ℕ, List, false, map, filter, nat_lt}
+use Rattle.std.specs.Prelude.{◌≡◌, ℕ, Bool, List, false, map, filter, nat_lt}
 use Rattle.std.specs.List.{AllZip, enumerate_from}
 use Rattle.bt_disk.specs.Pool.{PooledView}
 use Rattle.bt_folder.specs.SealedDisk.{SealedView}
@@ -16,6 +16,10 @@ files_with_bytes files = filter (λ file. nat_lt 0 file.length) files
 -- where these lie, below a folder
 abbrev pub device_paths : List ℕ → List File → List (List ℕ)
 device_paths dir files = map (λ file. path_below dir file.path) (files_with_bytes files)
+
+-- Of each file it is said whether bytes of it are there: of an empty one there are none, whatever lies at its path.
+abbrev pub AreFilled : List File → List Bool → Type 0
+AreFilled files filled = AllZip (λ (file : File) is_filled. file.length ≡ 0 → is_filled ≡ false) files filled
 
 -- a device of a pool, which is read ahead, and may be closed to writes
 abbrev pub DeviceView : Type 0

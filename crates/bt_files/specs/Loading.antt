@@ -8,6 +8,7 @@ use Rattle.bt_check.specs.TorrentFile.{HasText, IsLoadFault}
 use Rattle.bt_check.specs.declared.fault.Fault.{Fault}
 use Rattle.bt_files.specs.DataFiles.{DeviceView}
 use Rattle.bt_files.specs.FileUse.{is_read_only}
+use Rattle.bt_files.specs.OpenFolder.{HasFileOfAnotherPath}
 use Rattle.bt_files.specs.Store.{IsOpened}
 use Rattle.bt_files.specs.declared.file_use.FileUse.{FileUse}
 
@@ -23,12 +24,18 @@ pub record IsLoaded (is_info : Bool) (usage : FileUse) (dir : List ℕ) (log : O
 abbrev pub IsLogRefusal : Fault → Type 0
 IsLogRefusal fault = (fault ≡ log_among_files) ⊎ (fault ≡ other_torrent) ⊎ (fault ≡ log_too_long)
 
+-- a torrent of some text was read, and one of its files is of another path
+pub record HasPathsOfOneFile (is_info : Bool) : Type 0 where
+  pub torrent : Metainfo
+  pub read : HasText is_info torrent
+  pub same : HasFileOfAnotherPath torrent.files
+
 -- why none was: no torrent was read; two of its paths are one file, which is no fault where both are only read; or
 -- the log is refused, where one is asked for
 abbrev pub IsStoreFault : Bool → FileUse → Option (Bor (List ℕ)) → Fault → Type 0
 IsStoreFault is_info usage log fault =
     IsLoadFault is_info fault
-    ⊎ ((fault ≡ same_file) × (is_read_only usage ≡ false))
+    ⊎ ((fault ≡ same_file) × (is_read_only usage ≡ false) × HasPathsOfOneFile is_info)
     ⊎ ((log ≢ None) × IsLogRefusal fault)
 
 -- the log is full, where one is asked for: that shows as what is known is written to it, behind the work

@@ -1,9 +1,10 @@
 -- Why a torrent's data files are not opened.
-use Rattle.std.specs.Prelude.{◌≡◌, ◌⊎◌, ◌↔◌, ℕ, ◌<◌, false, List, Option, Some, IsSomeAnd}
+use Rattle.std.specs.Prelude.{◌≡◌, ◌⊎◌, ◌↔◌, ℕ, ◌<◌, false, List, length, slice_get, Contains, Option, Some, IsSomeAnd}
 use Rattle.bt_disk.specs.declared.opening.FileIdentity.{FileIdentity}
 use Rattle.bt_folder.specs.CasePaths.{HasNameOfAnother, HasNoPath}
 use Rattle.bt_folder.specs.KnownFiles.{IsKnown}
 use Rattle.bt_folder.specs.declared.known_files.KnownFiles.{KnownFiles}
+use Rattle.bt_meta.specs.Files.{File}
 use Rattle.bt_check.specs.Fault.{device, out_of_memory, same_file}
 use Rattle.bt_check.specs.declared.fault.Fault.{Fault}
 use Rattle.bt_files.specs.FileUse.{is_read_only}
@@ -39,6 +40,24 @@ abbrev pub IsFileFault : FileUse → OpenFolder → OpenFolder → List (List �
 IsFileFault usage old new path identity =
     IsCallFaultOr ((is_read_only usage ≡ false) × IsOfAnotherPath old new path identity)
 
--- why so many files are not opened: one alone is never of another path
-abbrev pub IsOpeningFault : FileUse → ℕ → Fault → Type 0
-IsOpeningFault usage count = IsCallFaultOr ((is_read_only usage ≡ false) × (1 < count))
+-- what a folder knows of files is what the system told of so many of them
+pub record KnowsFiles (folder : OpenFolder) (count : ℕ) : Type 0 where
+  pub identities : List (Option FileIdentity)
+  pub each : length identities ≡ count
+  pub known : (file : FileIdentity) → IsKnown folder.files file ↔ Contains identities (Some file)
+
+-- One of some files is of another path, by what the folder knew of those before it. So it is not the first.
+pub record HasFileOfAnotherPath (files : List File) : Type 0 where
+  pub number : ℕ
+  pub further : 0 < number
+  pub file : File
+  pub listed : slice_get files number ≡ Some file
+  pub old : OpenFolder
+  pub before : KnowsFiles old number
+  pub new : OpenFolder
+  pub identity : Option FileIdentity
+  pub of_another : IsOfAnotherPath old new file.path identity
+
+-- why these files are not opened
+abbrev pub IsOpeningFault : FileUse → List File → Fault → Type 0
+IsOpeningFault usage files = IsCallFaultOr ((is_read_only usage ≡ false) × HasFileOfAnotherPath files)

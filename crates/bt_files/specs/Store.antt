@@ -17,7 +17,7 @@ use Rattle.bt_runs.specs.Leads.{LeadsTo}
 use Rattle.bt_folder.specs.SealedDisk.{fault_count}
 use Rattle.bt_check.specs.Fault.{device, log_full}
 use Rattle.bt_check.specs.declared.fault.Fault.{Fault}
-use Rattle.bt_files.specs.DataFiles.{AreNewDevices, DeviceView}
+use Rattle.bt_files.specs.DataFiles.{AreFilled, AreNewDevices, DeviceView}
 use Rattle.bt_files.specs.OpenFolder.{IsOpeningFault}
 use Rattle.bt_files.specs.StoreLog.{IsLogAt, IsLogFaultAt, IsLookFault}
 use Rattle.bt_files.specs.declared.file_use.FileUse.{FileUse}
@@ -74,7 +74,7 @@ device_faults disk = fault_count (λ (ahead : AheadView PooledView). ahead.faile
 
 -- An engine of the torrent, which began with the devices of its files, opened for a use, and with the log at this path
 -- or without one, and has taken in what is there where there is none. Of which files bytes are there the system
--- tells.
+-- tells; of an empty file there are none.
 pub record IsOpened (usage : FileUse) (dir : List ℕ) (log : Option (Bor (List ℕ))) (torrent : Metainfo)
     (engine : EngineView DeviceView) : Type 0 where
   pub devices : List DeviceView
@@ -85,9 +85,10 @@ pub record IsOpened (usage : FileUse) (dir : List ℕ) (log : Option (Bor (List 
   pub of_log : IsLogAt torrent log attached
   pub begun : HasBegun device_history device_honest device_faults sha256 torrent devices attached filled
       engine
+  pub are_filled : AreFilled torrent.files filled
 
 -- Why none is opened: a look at the path of the log refuses it; the files are not opened, or a call failed; or the log
 -- is not.
 abbrev pub IsOpenFault : FileUse → Metainfo → Option (Bor (List ℕ)) → Fault → Type 0
 IsOpenFault usage torrent log fault =
-    IsLookFault log fault ⊎ IsOpeningFault usage (length torrent.files) fault ⊎ IsLogFaultAt torrent log fault
+    IsLookFault log fault ⊎ IsOpeningFault usage torrent.files fault ⊎ IsLogFaultAt torrent log fault

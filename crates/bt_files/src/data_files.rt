@@ -1,11 +1,11 @@
 //! The data files of a torrent, opened for a use.
-ghost use Rattle.std.specs.Prelude.{[], ◌≡◌, ◌⊎◌, ◌+◌, ◌++◌, ◌∷◌, map, length, nat_lt, string_bytes, IfOk, IfErr, IfSome, IsSome, OnOk};
+ghost use Rattle.std.specs.Prelude.{[], ◌≡◌, ◌≢◌, ◌⊎◌, ◌+◌, ◌++◌, ◌∷◌, false, map, length, nat_lt, string_bytes, IfOk, IfErr, IfSome, IsSome, OnOk};
 ghost use Rattle.std.specs.Path.{path_buf_bytes};
 ghost use Rattle.bt_ahead.specs.Disk.{new_ahead};
 ghost use Rattle.bt_disk.specs.Pool.{new_pool};
 ghost use Rattle.bt_meta.specs.Files.{file_of};
 ghost use Rattle.bt_check.specs.Fault.{device};
-ghost use Rattle.bt_files.specs.DataFiles.{AreNewDevices, IsNewDevice, IsNewFile};
+ghost use Rattle.bt_files.specs.DataFiles.{AreFilled, AreNewDevices, IsNewDevice, IsNewFile};
 ghost use Rattle.bt_files.specs.DataFilesSteps.{IsOpenedFor, IsPushed};
 ghost use Rattle.bt_files.specs.FileUse.{is_read_only};
 ghost use Rattle.bt_files.specs.OpenFolder.{IsCallFault, IsOpeningFault};
@@ -56,18 +56,20 @@ impl<D: Drop> OpenFiles<D> {
     fn push(&mut self, file: OpenFile<D>) -> Result<(), AllocError>
         ensures disks { OnOk result (IsPushed self.old.disks.items file.disk self.new.disks.items) }
         ensures filled { OnOk result
-            (self.new.filled.items ≡ self.old.filled.items ++ nat_lt 0 file.opening.len ∷ []) }
+            (self.new.filled.items ≡ self.old.filled.items ++ file.is_filled ∷ []) }
     {
-        self.filled.push(file.opening.len > 0)?;
+        self.filled.push(file.is_filled)?;
         push_some(&mut self.disks, file.disk)
     }
 }
 
-/// A file of a torrent that was opened: its device, which an empty one has not, and what the system told of it.
+/// A file of a torrent that was opened: its device, which an empty one has not, what the system told of it, and whether
+/// bytes of it are there. Of an empty one there are none, whatever lies at its path.
 #[derive(Drop)]
 struct OpenFile<D> {
     disk: Option<D>,
     opening: Opening,
+    is_filled: bool,
 }
 
 /// Opens the data files of some entries, in turn, and gives the devices of those that have a byte. They share a few
@@ -86,7 +88,8 @@ pub(crate) fn open_devices<'a, R: Files + AllocGlobal + Clone + Drop, P: Watch>(
     ensures devices { IfOk result (λ files.
         AreNewDevices context.entry.usage dir.now (map file_of entries.now) files.disks.items) }
     ensures each { IfOk result (λ files. length files.filled.items ≡ length entries.now) }
-    ensures fault { IfErr result (IsOpeningFault context.entry.usage (length entries.now)) }
+    ensures filled { IfOk result (λ files. AreFilled (map file_of entries.now) files.filled.items) }
+    ensures fault { IfErr result (IsOpeningFault context.entry.usage (map file_of entries.now)) }
 {
     let mut pool = HandlePool::new(rt.alloc(), rt.clone()?, OPEN_FILES)?;
     let mut files = OpenFiles::new(rt.alloc());
@@ -110,7 +113,8 @@ fn push_devices<'a, R: Files + AllocGlobal + Clone + Drop, P: Watch>(
     ensures devices { OnOk result
         (AreNewDevices context.entry.usage dir.now (map file_of entries.now) files.new.disks.items) }
     ensures each { OnOk result (length files.new.filled.items ≡ length entries.now) }
-    ensures fault { IfErr result (IsOpeningFault context.entry.usage (length entries.now)) }
+    ensures filled { OnOk result (AreFilled (map file_of entries.now) files.new.filled.items) }
+    ensures fault { IfErr result (IsOpeningFault context.entry.usage (map file_of entries.now)) }
 {
     let mut folder = OpenFolder::new(rt.alloc());
     for entry in entries {
@@ -149,6 +153,9 @@ fn open_entry<'a, R: Files + AllocGlobal + Drop, P: Watch>(
 ) -> Result<OpenFile<DataDisk<'a, R, P>>, Fault>
     ensures opened { IfOk result (λ file.
         IsOpenedFor context.entry.usage dir.now (file_of entry.now) pool.old.made file.disk pool.new.made) }
+    ensures empty { IfOk result (λ file. entry.now.length ≡ 0 → file.is_filled ≡ false) }
+    ensures filled { IfOk result
+        (λ file. entry.now.length ≢ 0 → file.is_filled ≡ nat_lt 0 file.opening.len) }
     ensures fault { IfErr result IsCallFault }
 {
     let path = data_path(rt.alloc(), dir, &entry.path)?;
@@ -157,6 +164,7 @@ fn open_entry<'a, R: Files + AllocGlobal + Drop, P: Watch>(
         return Ok(OpenFile {
             disk: None,
             opening,
+            is_filled: false,
         });
     }
     open_device(rt.alloc(), watch, context, pool, path)
@@ -174,6 +182,7 @@ fn open_device<'a, R: Files + Drop, P: Watch>(
     ensures device { IfOk result (λ file.
         IfSome file.disk (IsNewDevice context.entry.usage pool.new.made (path_buf_bytes path))) }
     ensures one_more { OnOk result (pool.new.made ≡ pool.old.made + 1) }
+    ensures filled { IfOk result (λ file. file.is_filled ≡ nat_lt 0 file.opening.len) }
     ensures fault { IfErr result IsCallFault }
 {
     let name = fault_name(alloc, watch, path.as_path().as_str())?;
@@ -188,6 +197,7 @@ fn open_device<'a, R: Files + Drop, P: Watch>(
             Ok(OpenFile {
                 disk: Some(disk),
                 opening,
+                is_filled: opening.len > 0,
             })
         }
         Err(_) => Err(opening_fault(watch, name)),

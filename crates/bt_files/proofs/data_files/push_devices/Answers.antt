@@ -1,7 +1,8 @@
-use Rattle.std.proofs.Common.{length, arith}
+use Rattle.std.proofs.Common.{map, arith}
+use Rattle.bt_meta.specs.Files.{file_of}
 use Rattle.bt_files.proofs.Devices.{opened_more}
 use Rattle.bt_files.proofs.Faults.{passed_on}
-use Rattle.bt_files.proofs.Refusals.{of_two, still_unused}
+use Rattle.bt_files.proofs.Refusals.{knows_before, knows_more, of_another_file}
 use Rattle.bt_files.specs.OpenFolder.{IsOpeningFault}
 use Rattle.bt_files.proofs.data_files.push_devices.Goals as goal
 
@@ -11,15 +12,18 @@ loop-entry-preserved g c = record {
       opened_more c.args.context.usage c.args.dir.now c.args.entries.now c.loop-entry.entry-index c.entry-item.result c.loop-entry.files.disks.items
       c.push.new.self.disks.items c.loop-entry.files.filled.items c.push.new.self.filled.items _ c.loop-entry.pool.made c.open_entry.new.pool.made
       c.in_ok-file.file.disk c.loop-entry-test.true c.entry-item.is c.loop-entry.invariant.opened c.in_ok-file.ensures.opened
-      c.in_ok-push.ensures.disks c.in_ok-push.ensures.filled;
+      c.in_ok-push.ensures.disks c.in_ok-push.ensures.filled c.in_ok-file.ensures.empty;
   first = λ none. absurd (omega arith);
+  known = λ writes some. knows_more c.go_to.new.self c.add.new.self _ c.loop-entry.entry-index
+      (knows_before c.args.context.usage c.loop-entry.folder c.go_to.new.self c.loop-entry.entry-index c.go_to.ensures.files
+      c.loop-entry.invariant.first c.loop-entry.invariant.known writes)
+      (c.in_ok-add.ensures.added writes);
 }
 
 pub returns-in_err-add-clause-fault : goal.returns-in_err-add-clause-fault
 returns-in_err-add-clause-fault g c =
-    passed_on c.from_residual-in_err-add.result c.in_err-add.field-0.0 (IsOpeningFault c.args.context.usage (length c.args.entries.now))
+    passed_on c.from_residual-in_err-add.result c.in_err-add.field-0.0 (IsOpeningFault c.args.context.usage (map file_of c.args.entries.now))
     c.from_residual-in_err-add.ensures.1
-    (of_two c.args.context.usage c.go_to.new.self c.add.new.self _ _ (length c.args.entries.now) c.loop-entry.entry-index c.in_err-add.field-0.0
-    c.loop-entry-test.true
-    (λ none. still_unused c.loop-entry.folder c.go_to.new.self c.go_to.ensures.files c.go_to.ensures.paths (c.loop-entry.invariant.first none))
-    c.in_err-add.ensures.fault)
+    (of_another_file c.args.context.usage c.loop-entry.folder c.go_to.new.self c.add.new.self c.args.entries.now c.loop-entry.entry-index
+    c.entry-item.result _ c.in_err-add.field-0.0 c.loop-entry-test.true c.entry-item.is c.go_to.ensures.files c.go_to.ensures.paths
+    c.loop-entry.invariant.first c.loop-entry.invariant.known c.in_err-add.ensures.fault)

@@ -1,7 +1,8 @@
 -- The devices so far are those of the entries so far, and there are no others of the pool. Before the first no file was
--- opened.
-use Rattle.std.proofs.Common.{◌≡◌}
-use Rattle.bt_files.specs.OpenFolder.{IsUnused}
+-- opened; behind it those so far are known, but for a read-only use.
+use Rattle.std.proofs.Common.{◌≡◌, ◌<◌, false}
+use Rattle.bt_files.specs.FileUse.{is_read_only}
+use Rattle.bt_files.specs.OpenFolder.{IsUnused, KnowsFiles}
 use Rattle.bt_files.proofs.Devices.{AreOpened}
 use Rattle.bt_files.proofs.data_files.push_devices.Given as goal
 
@@ -9,4 +10,5 @@ abbrev pub invariant-loop-entry : goal.invariant-loop-entry
 invariant-loop-entry g l = record {
   opened : AreOpened l.context.usage l.dir l.entries l.entry-index l.files.disks.items l.files.filled.items l.pool.made;
   first : l.entry-index ≡ 0 → IsUnused l.folder;
+  known : is_read_only l.context.usage ≡ false → 0 < l.entry-index → KnowsFiles l.folder l.entry-index;
 }

@@ -9,4 +9,5 @@ returns-clause-loaded g c = ok_weaker c.open_store.result _ _ (λ engine opened.
 }) c.open_store.ensures.opened
 
 pub returns-clause-fault : goal.returns-clause-fault
-returns-clause-fault g c = err_weaker c.open_store.result _ _ (while_opening c.args.source.is_info c.args.context.usage c.in_ok-torrent.torrent c.args.log) c.open_store.ensures.fault
+returns-clause-fault g c = err_weaker c.open_store.result _ _
+    (while_opening c.args.source.is_info c.args.context.usage c.in_ok-torrent.torrent c.args.log c.in_ok-torrent.ensures.torrent) c.open_store.ensures.fault

@@ -2,7 +2,7 @@ use Rattle.std.proofs.Common.{List, length, map, inl, inr, sym, ap, subst, ◌�
 use Rattle.std.proofs.lemmas.List.{length-map}
 use Rattle.bt_meta.specs.Files.{File, file_of}
 use Rattle.bt_machine.specs.Start.{device_count}
-use Rattle.bt_files.specs.DataFiles.{AreNewDevices}
+use Rattle.bt_files.specs.DataFiles.{AreFilled, AreNewDevices}
 use Rattle.bt_files.specs.OpenFolder.{IsOpeningFault}
 use Rattle.bt_files.specs.Store.{IsOpenFault}
 use Rattle.bt_files.proofs.Devices.{device_count_is}
@@ -31,8 +31,7 @@ pub returns-in_err-files-clause-fault : goal.returns-in_err-files-clause-fault
 returns-in_err-files-clause-fault g c =
     passed_on c.from_residual-in_err-files.result c.in_err-files.field-0.0 (IsOpenFault c.args.context.usage c.args.torrent c.args.log)
     c.from_residual-in_err-files.ensures.1
-    (inr (inl (subst (λ count. IsOpeningFault c.args.context.usage count c.in_err-files.field-0.0)
-    (sym (length-map c.files.result.now file_of) ∙ ap length c.files.ensures.said) c.in_err-files.ensures.fault)))
+    (inr (inl (subst (λ (files : List File). IsOpeningFault c.args.context.usage files c.in_err-files.field-0.0) c.files.ensures.said c.in_err-files.ensures.fault)))
 
 pub returns-in_err-attached-clause-fault : goal.returns-in_err-attached-clause-fault
 returns-in_err-attached-clause-fault g c =
@@ -48,6 +47,7 @@ returns-clause-opened g c = ok_weaker c.begin_store.result _ _ (λ engine begun.
   attached = c.in_ok-attached.attached;
   of_log = c.in_ok-attached.ensures.log;
   begun = begun;
+  are_filled = subst (λ (files : List File). AreFilled files c.in_ok-files.files.filled.items) c.files.ensures.said c.in_ok-files.ensures.filled;
 }) c.begin_store.ensures.begun
 
 pub returns-clause-fault : goal.returns-clause-fault
