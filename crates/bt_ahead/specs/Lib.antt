@@ -1,9 +1,3 @@
 pub mod Cache
 pub mod CacheSteps
 pub mod Disk
-pub mod Messages
-pub mod MessageSteps
-pub mod Room
-pub mod RoomSteps
-pub mod Reader
-pub mod ReaderSteps

@@ -64,7 +64,7 @@ impl DigestCache {
 
     /// Whether blocks are to be taken: a digest was wanted since this was asked last. Where none is, as blocks
     /// are digested by eights already or wait for their hashes, it is work for nothing.
-    pub(crate) fn is_due(&mut self) -> bool
+    pub fn is_due(&mut self) -> bool
         ensures { self.new ≡ self.old }
     {
         let due = self.is_wanted;

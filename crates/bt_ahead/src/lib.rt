@@ -1,5 +1,5 @@
-//! Digests that are made ahead, eight blocks at a time, as a device is read and as a peer sends, and are looked up where a block is to
-//! be digested. Beside these wrappers of devices and readers stand those by which a session ends where a write failed.
+//! Digests that are made ahead, eight blocks at a time, and are looked up where a block is to be digested; a device that is read
+//! ahead for that, and one that rings an alarm where a write fails.
 #![tactic(auto)]
 
 mod alarm;
@@ -7,13 +7,8 @@ mod cache;
 mod comparison;
 mod disk;
 mod hash;
-mod messages;
-mod reader;
-mod room;
 
-pub use alarm::{Alarm, AlarmDisk, AlarmReader};
+pub use alarm::{Alarm, AlarmDisk};
 pub use cache::DigestCache;
 pub use disk::ReadAheadDisk;
 pub use hash::CachedLanes;
-pub use reader::ReadAhead;
-pub use room::Room;

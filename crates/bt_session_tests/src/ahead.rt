@@ -2,7 +2,8 @@
 
 use crate::bytes::tell_given;
 use crate::words::{RowError, Words, tell_answer};
-use bt_ahead::{DigestCache, ReadAhead, ReadAheadDisk, Room};
+use bt_ahead::{DigestCache, ReadAheadDisk};
+use bt_connection::{AheadRoom, ReadAhead};
 use bt_disk::{Disk, FaultDisk, MemoryDisk};
 use bt_tree::BLOCK_LEN;
 use std::alloc::{AllocError, Global};
@@ -63,7 +64,7 @@ fn told_read(
     if wanted {
         let _ = is_found(&digests, &[]);
     }
-    let lent = RefCell::new(Room::new(alloc)?);
+    let lent = RefCell::new(AheadRoom::new(alloc)?);
     let mut given = Vec::new(alloc);
     read_all(
         &digests,
@@ -81,7 +82,7 @@ fn told_read(
 /// Reads all, by reads of so many bytes at most.
 fn read_all<'a>(
     digests: &'a RefCell<DigestCache>,
-    lent: &'a RefCell<Room>,
+    lent: &'a RefCell<AheadRoom>,
     parts: Parts<'a>,
     room: usize,
     given: &mut Vec<u8>,

@@ -5,8 +5,8 @@ use crate::engine::TestEngine;
 use crate::names::is_name_reached;
 use crate::plays::play_row;
 use crate::sessions::tell_end;
+use bt_connection::ShortBlocks;
 use bt_meta::Torrent;
-use bt_padding::ShortBlocks;
 use bt_peers::{Link, PeerEnd, end_text};
 use bt_sockets::{
     IDLE_SECONDS, Passage, Shared, StreamReader, StreamWriter, TcpLink, listen, port_of, serve,

@@ -3,8 +3,8 @@
 use crate::bytes::tell_given;
 use crate::ends::{Queue, Sink, Source};
 use crate::words::{RowError, Words};
+use bt_connection::{FrameRoom, Padded, Padding, ShortBlocks, Side};
 use bt_meta::Torrent;
-use bt_padding::{FrameRoom, Padded, Padding, ShortBlocks, Side};
 use std::alloc::{AllocError, Global};
 use std::cell::RefCell;
 use std::collections::VecDeque;

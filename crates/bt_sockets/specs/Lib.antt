@@ -3,4 +3,4 @@ pub mod Stream
 pub mod StreamSteps
 pub mod Listener
 pub mod ListenerSteps
-pub mod Requests
+pub mod TimingSteps

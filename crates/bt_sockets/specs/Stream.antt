@@ -1,9 +1,9 @@
 -- What is read from a connection, and what is written to it.
 use Rattle.std.specs.Prelude.{◌≡◌, List}
 use Rattle.bt_wire.specs.declared.message.Ask.{Ask}
-use Rattle.bt_ahead.specs.Reader.{new_reader as read_ahead, ReaderState as AheadState}
-use Rattle.bt_padding.specs.Padded.{new_padded, PaddedState}
-use Rattle.bt_padding.specs.declared.translation.Side.TheVariants.{Peer, Engine}
+use Rattle.bt_connection.specs.ReadAhead.{new_reader as read_ahead, ReaderState as AheadState}
+use Rattle.bt_connection.specs.Padded.{new_padded, PaddedState}
+use Rattle.bt_connection.specs.declared.translation.Side.TheVariants.{Peer, Engine}
 
 -- A reader and a writer are those of a connection's begin: the reader reads this socket, and of it nothing has
 -- come, waits or was translated; the writer writes to a socket, and has got nothing. Both know these short

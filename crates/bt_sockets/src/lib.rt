@@ -4,11 +4,13 @@
 mod link;
 mod listener;
 mod passage;
-mod requests;
+mod passing;
 mod stream;
+mod timed_stream;
+mod timing;
 
 pub use link::TcpLink;
 pub use listener::{ACCEPT_TRIES, SESSION_TURNS, listen, port_of, serve};
 pub use passage::{Passage, Shared};
-pub use requests::{HoldingWriter, SendingReader};
 pub use stream::{CONNECT_SECONDS, IDLE_SECONDS, StreamReader, StreamWriter};
+pub use timed_stream::TimedStream;

@@ -7,8 +7,8 @@ ghost use Rattle.bt_sockets.specs.StreamSteps.{IsAddressOf};
 
 use crate::passage::Passage;
 use crate::stream::{StreamReader, StreamWriter, Terms, both_ways, connected};
+use crate::timing::Role;
 use bt_peers::Link;
-use bt_waiting::Role;
 use std::io;
 use std::marker::Model;
 use std::net::{Net, SocketAddr};

@@ -9,11 +9,11 @@ ghost use Rattle.bt_sockets.specs.Stream.{AreNew};
 
 use crate::passage::Passage;
 use crate::stream::{StreamReader, StreamWriter, Terms, both_ways};
+use crate::timing::Role;
 use bt_check::Fault;
 use bt_disk::Disk;
 use bt_peers::{Engine, PeerEnd, meet_peer};
 use bt_tree::NodeHash;
-use bt_waiting::Role;
 use std::alloc::Global;
 use std::io::{self, ErrorKind, Read, Write};
 use std::net::{Net, OpenListener, TcpListener};

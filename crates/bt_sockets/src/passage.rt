@@ -1,9 +1,9 @@
 //! What stands between a connection and its engine.
 
-use crate::requests::Requests;
-use bt_ahead::{Alarm, DigestCache, Room};
-use bt_padding::{FrameRoom, Padding, ShortBlocks};
-use bt_waiting::{EARLY_LEN, Room as EarlyRoom, Timing};
+use crate::timed_stream::EARLY_LEN;
+use crate::timing::Timing;
+use bt_ahead::{Alarm, DigestCache};
+use bt_connection::{AheadRoom, FrameRoom, Padding, Requests, Room, ShortBlocks};
 use std::alloc::{AllocError, Global};
 use std::cell::RefCell;
 
@@ -17,12 +17,12 @@ pub struct Shared {
     /// What is sent right before the connection is read.
     pub(crate) requests: RefCell<Requests>,
     /// Where what is read ahead waits. A connection borrows it, and the two below, for as long as it is there.
-    pub(crate) room: RefCell<Room>,
+    pub(crate) room: RefCell<AheadRoom>,
     /// Where what came of a message of a peer waits, and of one to it.
     pub(crate) incoming: RefCell<FrameRoom>,
     pub(crate) outgoing: RefCell<FrameRoom>,
     /// What came of a peer that takes nothing.
-    pub(crate) early: RefCell<EarlyRoom<EARLY_LEN>>,
+    pub(crate) early: RefCell<Room<EARLY_LEN>>,
     /// How long the peer took for what it owes.
     pub(crate) timing: Timing,
     /// Rung where a device refuses a write.
@@ -36,10 +36,10 @@ impl Shared {
         let digests = RefCell::new(DigestCache::new(alloc)?);
         let padding = RefCell::new(Padding::new(alloc)?);
         let requests = RefCell::new(Requests::new(alloc)?);
-        let room = RefCell::new(Room::new(alloc)?);
+        let room = RefCell::new(AheadRoom::new(alloc)?);
         let incoming = RefCell::new(FrameRoom::new(alloc)?);
         let outgoing = RefCell::new(FrameRoom::new(alloc)?);
-        let early = RefCell::new(EarlyRoom::new(alloc)?);
+        let early = RefCell::new(Room::new(alloc)?);
         Ok(Shared {
             digests,
             padding,

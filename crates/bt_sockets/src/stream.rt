@@ -4,10 +4,11 @@ ghost use Rattle.bt_sockets.specs.Stream.{AreNewWays};
 ghost use Rattle.bt_sockets.specs.StreamSteps.{IsAddressOf, IsTextOf, bracketed};
 
 use crate::passage::{Passage, Shared};
-use crate::requests::{HoldingWriter, Requests, SendingReader};
-use bt_ahead::{AlarmReader, ReadAhead};
-use bt_padding::{Padded, Padding, Side};
-use bt_waiting::{EARLY_LEN, Role, Room, TimedStream, set_turns};
+use crate::timed_stream::{EARLY_LEN, TimedStream, set_turns};
+use crate::timing::Role;
+use bt_connection::{
+    AlarmReader, HoldingWriter, Padded, Padding, ReadAhead, Requests, Room, SendingReader, Side,
+};
 use std::cell::RefCell;
 use std::io;
 use std::io::{ErrorKind, Read, Write};

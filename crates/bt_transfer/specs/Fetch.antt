@@ -13,7 +13,7 @@ use Rattle.bt_machine.specs.declared.event.Answer.TheVariants.{Flushed}
 use Rattle.bt_machine.specs.Opening.{BeginsOn}
 use Rattle.bt_machine.specs.State.{EngineView}
 use Rattle.bt_machine.specs.View.{StepsTo}
-use Rattle.bt_padding.specs.ShortBlocks.{short_blocks_of}
+use Rattle.bt_connection.specs.ShortBlocks.{short_blocks_of}
 use Rattle.bt_peers.specs.Peers.{InTurn, InTurnWithFlushes}
 use Rattle.bt_peers.specs.declared.end.PeerEnd.{PeerEnd}
 use Rattle.bt_wire.specs.declared.message.Ask.{Ask}

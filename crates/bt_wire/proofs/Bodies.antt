@@ -8,7 +8,7 @@ use Rattle.bt_wire.specs.declared.message.Ask.{Ask}
 use Rattle.bt_wire.specs.declared.message.Message.{Message}
 use Rattle.bt_wire.specs.declared.message.Message.TheVariants.{KeepAlive, Choke, Unchoke, Interested, NotInterested, Have, Bitfield, Request, Piece, Cancel, HashRequest, Hashes, HashReject}
 use Rattle.bt_wire.specs.Message.{Body, body_of, ask_spelling, IsAsk, IsMessage}
-use Rattle.bt_wire.proofs.Frames.{first_number, number_at_front}
+use Rattle.bt_wire.proofs.SameFrames.{first_number, number_at_front}
 
 ask_of : ℕ → ℕ → ℕ → Ask
 ask_of piece begin length = record { piece = piece; begin = begin; length = length }

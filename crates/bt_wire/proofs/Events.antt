@@ -8,7 +8,7 @@ use Rattle.bt_wire.specs.Handshake.{protocol, handshake_with, IsHandshake}
 use Rattle.bt_wire.specs.Limits.{max_length_field}
 use Rattle.bt_wire.specs.Message.{Body, body, body_of, length_field, frame_spelling}
 use Rattle.bt_wire.specs.Event.{IsEvent}
-use Rattle.bt_wire.proofs.Frames.{parts, same_frame, SameFrame}
+use Rattle.bt_wire.proofs.SameFrames.{parts, same_frame, SameFrame}
 use Rattle.bt_wire.proofs.Bodies.{same_message}
 
 -- two events at the front of one list

@@ -10,7 +10,7 @@ use Rattle.bt_wire.specs.Handshake.{protocol}
 use Rattle.bt_wire.specs.Limits.{max_length_field}
 use Rattle.bt_wire.specs.Message.{Body, body, body_of, length_field, frame_spelling}
 use Rattle.bt_wire.specs.Event.{IsEvent, HasNoEvent, ShowsFault, ShowsBadProtocol, ShowsTooLong, ShowsBadLength}
-use Rattle.bt_wire.proofs.Frames.{same_number}
+use Rattle.bt_wire.proofs.SameFrames.{same_number}
 use Rattle.bt_wire.proofs.Events.{event_frame, fits_number, same_kind}
 
 -- more bytes behind take no fault away

@@ -6,7 +6,7 @@ use Rattle.bt_wire.specs.Limits.{max_length_field}
 use Rattle.bt_wire.specs.declared.message.Message.{Message as Sent}
 use Rattle.bt_wire.specs.Message.{Body, body, length_field, frame_spelling, CarriesBytes}
 use Rattle.bt_wire.specs.Event.{IsSent, ShowsBadLength}
-use Rattle.bt_wire.specs.FrontSteps.{FitsKind, IsMisfit, FitsBody, IsLawfulFrame, BeginsFrame, HasFrame}
+use Rattle.bt_wire.specs.FrontSteps.{FitsKind, IsMisfit, FitsBody, IsLawfulFrame, BeginsLawfulFrame, HasFrame}
 use Rattle.bt_wire.specs.ReaderSteps.{HasSize, IsMessageOf}
 use Rattle.bt_wire.proofs.Sizes.{fitting_size}
 
@@ -39,7 +39,7 @@ body_front unread size number inside =
     ap (λ n. take n unread) count ∙ ap (λ xs. take (suc (suc (suc (suc (suc size))))) xs) (kind_is unread (1 + size) number (omega arith))
 
 pub begins_body : (unread : List ℕ) (size : ℕ) → to_be_bytes w32 (1 + size) ≡ take 4 unread → 1 + size ≤ max_length_field
-    → 5 + size ≤ length unread → FitsKind (slice_index unread 4) size → BeginsFrame unread (5 + size)
+    → 5 + size ≤ length unread → FitsKind (slice_index unread 4) size → BeginsLawfulFrame unread (5 + size)
 begins_body unread size number limit inside fits =
     let payload : List ℕ = take size (drop 5 unread) in
     let long : length payload ≡ size = length-take-le size (drop 5 unread) (omega (arith, length-drop 5 unread)) in

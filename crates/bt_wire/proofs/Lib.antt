@@ -1,5 +1,5 @@
 -- events
-pub mod Frames
+pub mod SameFrames
 pub mod Bodies
 pub mod Events
 pub mod Faults
@@ -9,3 +9,5 @@ pub mod Sizes
 pub mod Fronts
 pub mod Hellos
 pub mod Takings
+-- frames by their first bytes
+pub mod FrameLengths

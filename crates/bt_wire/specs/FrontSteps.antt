@@ -30,7 +30,7 @@ pub record IsLawfulFrame (bytes : List ℕ) : Type 0 where
   pub spelled : bytes ≡ frame_spelling body
 
 -- the first so many bytes are a frame that shows no fault
-pub record BeginsFrame (unread : List ℕ) (n : ℕ) : Type 0 where
+pub record BeginsLawfulFrame (unread : List ℕ) (n : ℕ) : Type 0 where
   pub inside : n ≤ length unread
   pub frame : IsLawfulFrame (take n unread)
 

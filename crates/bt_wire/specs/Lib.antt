@@ -2,6 +2,7 @@ pub mod Limits
 pub mod Handshake
 pub mod Message
 pub mod Event
+pub mod Frames
 pub mod Cutter
 pub mod Law
 pub mod ReaderSteps

@@ -3,7 +3,7 @@ use Rattle.std.specs.Prelude.{◌≡◌, ℕ, ◌+◌, ◌%◌, ◌^◌, ◌<◌
 use Rattle.std.specs.Int.{w32, to_be_bytes}
 use Rattle.bt_tree.specs.Limits.{digest_length}
 use Rattle.bt_hashreq.specs.Key.{key_spelling, IsKey}
-use Rattle.bt_wire.specs.Limits.{max_length_field}
+use Rattle.bt_wire.specs.Limits.{max_length_field, request_kind, piece_kind}
 use Rattle.bt_wire.specs.declared.message.Ask.{Ask}
 use Rattle.bt_wire.specs.declared.message.Message.{Message}
 use Rattle.bt_wire.specs.declared.message.Message.TheVariants.{KeepAlive, Choke, Unchoke, Interested, NotInterested, Have, Bitfield, Request, Piece, Cancel, HashRequest, Hashes, HashReject}
@@ -29,8 +29,8 @@ body_of Interested = body 2 []
 body_of NotInterested = body 3 []
 body_of (Have piece) = body 4 (to_be_bytes w32 piece)
 body_of (Bitfield bits) = body 5 bits
-body_of (Request ask) = body 6 (ask_spelling ask)
-body_of (Piece piece begin bytes) = body 7 (to_be_bytes w32 piece ++ to_be_bytes w32 begin ++ bytes)
+body_of (Request ask) = body request_kind (ask_spelling ask)
+body_of (Piece piece begin bytes) = body piece_kind (to_be_bytes w32 piece ++ to_be_bytes w32 begin ++ bytes)
 body_of (Cancel ask) = body 8 (ask_spelling ask)
 body_of (HashRequest key) = body 21 (key_spelling key)
 body_of (Hashes key digests) = body 22 (key_spelling key ++ digests)

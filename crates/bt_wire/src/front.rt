@@ -3,9 +3,10 @@ ghost use Rattle.std.specs.Prelude.{◌≡◌, ◌+◌, ◌≤◌, ◌<◌, ◌�
 ghost use Rattle.std.specs.Bool.{OnTrue, OnFalse};
 ghost use Rattle.std.specs.Int.{w32, to_be_bytes};
 ghost use Rattle.bt_wire.specs.Event.{IsEvent, ShowsBadProtocol, ShowsFault};
-ghost use Rattle.bt_wire.specs.FrontSteps.{FitsKind, IsMisfit, IsLawfulFrame, BeginsFrame, BeginsHandshake, BeginsWith, HasFrame, IsPartial, IsFrontRefusal};
+ghost use Rattle.bt_wire.specs.FrontSteps.{FitsKind, IsMisfit, IsLawfulFrame, BeginsLawfulFrame, BeginsHandshake, BeginsWith, HasFrame, IsPartial, IsFrontRefusal};
 
 use crate::event::{WireError, WireEvent};
+use crate::frames::{HEAD_LEN, LENGTH_LEN};
 use crate::handshake::{HANDSHAKE_LEN, Handshake, PROTOCOL};
 use crate::message::{MAX_LENGTH_FIELD, Message};
 use crate::reader::{payload_fits, read_message};
@@ -70,11 +71,11 @@ fn shows_bad_protocol(unread: &[u8]) -> bool
 
 /// How many bytes the first message has, its length field among them; None where they end within it.
 fn frame_len(unread: &[u8]) -> Result<Option<usize>, WireError>
-    ensures whole { IfOk result (λ found. IfSome found (BeginsFrame unread.now)) }
+    ensures whole { IfOk result (λ found. IfSome found (BeginsLawfulFrame unread.now)) }
     ensures part { IfOk result (λ found. IfNone found (IsPartial true unread.now)) }
     ensures fault { IfErr result (ShowsFault true unread.now) }
 {
-    if unread.len() < 4 {
+    if unread.len() < LENGTH_LEN {
         return Ok(None);
     }
     let field = number_at(unread, 0) as usize;
@@ -82,18 +83,18 @@ fn frame_len(unread: &[u8]) -> Result<Option<usize>, WireError>
         return Err(WireError::TooLong);
     }
     if field == 0 {
-        return Ok(Some(4));
+        return Ok(Some(LENGTH_LEN));
     }
-    if unread.len() == 4 {
+    if unread.len() == LENGTH_LEN {
         return Ok(None);
     }
-    if !fits_kind(unread[4], field - 1) {
+    if !fits_kind(unread[LENGTH_LEN], field - 1) {
         return Err(WireError::BadLength);
     }
-    if unread.len() < 4 + field {
+    if unread.len() < LENGTH_LEN + field {
         return Ok(None);
     }
-    Ok(Some(4 + field))
+    Ok(Some(LENGTH_LEN + field))
 }
 
 /// Whether a payload of `len` bytes fits the kind; every payload fits an unknown kind.
@@ -113,11 +114,11 @@ fn read_frame(alloc: Global, frame: &[u8]) -> Result<WireEvent, AllocError>
     ensures event { IfOk result (λ event. IsEvent true event frame.now) }
     ensures refused { IfErr result (λ _. HasFrame frame.now) }
 {
-    if frame.len() <= 4 {
+    if frame.len() <= LENGTH_LEN {
         return Ok(WireEvent::Message(Message::KeepAlive));
     }
-    let kind = frame[4];
-    match read_message(alloc, kind, &frame[5..])? {
+    let kind = frame[LENGTH_LEN];
+    match read_message(alloc, kind, &frame[HEAD_LEN..])? {
         Some(message) => Ok(WireEvent::Message(message)),
         None => Ok(WireEvent::Skipped(kind)),
     }

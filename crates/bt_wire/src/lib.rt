@@ -5,9 +5,9 @@
 mod bytes;
 mod cutter;
 mod event;
+pub mod frames;
 mod front;
 mod handshake;
-mod kind;
 mod law;
 mod message;
 mod reader;

@@ -5,7 +5,7 @@ ghost use Rattle.bt_wire.specs.Message.{ask_spelling, IsAsk, IsKnownKind, Carrie
 ghost use Rattle.bt_wire.specs.ReaderSteps.{HasSize, IsListed, IsMessageOf};
 
 use crate::bytes::Bytes;
-use crate::kind;
+use crate::frames;
 use crate::message::{Ask, Message};
 use bt_hashreq::{HashKey, KEY_LEN, number_at, read_key};
 use std::alloc::{AllocError, Global};
@@ -16,13 +16,13 @@ pub(crate) fn payload_fits(kind: u8, len: usize) -> Option<bool>
     ensures fits { IfSome result (λ fits. IsTrue fits ↔ HasSize kind len) }
 {
     match kind {
-        kind::CHOKE..=kind::NOT_INTERESTED => Some(len == 0),
-        kind::HAVE => Some(len == 4),
-        kind::BITFIELD => Some(true),
-        kind::REQUEST | kind::CANCEL => Some(len == 12),
-        kind::PIECE => Some(len >= 8),
-        kind::HASH_REQUEST | kind::HASH_REJECT => Some(len == KEY_LEN),
-        kind::HASHES => Some(len >= KEY_LEN && (len - KEY_LEN) % 32 == 0),
+        frames::CHOKE..=frames::NOT_INTERESTED => Some(len == 0),
+        frames::HAVE => Some(len == 4),
+        frames::BITFIELD => Some(true),
+        frames::REQUEST | frames::CANCEL => Some(len == 12),
+        frames::PIECE => Some(len >= 8),
+        frames::HASH_REQUEST | frames::HASH_REJECT => Some(len == KEY_LEN),
+        frames::HASHES => Some(len >= KEY_LEN && (len - KEY_LEN) % 32 == 0),
         _ => None,
     }
 }
@@ -39,25 +39,25 @@ pub(crate) fn read_message(
     ensures refused { IfErr result (λ _. (m : Message) × IsMessageOf kind payload.now m × CarriesBytes m) }
 {
     match kind {
-        kind::CHOKE => Ok(Some(Message::Choke)),
-        kind::UNCHOKE => Ok(Some(Message::Unchoke)),
-        kind::INTERESTED => Ok(Some(Message::Interested)),
-        kind::NOT_INTERESTED => Ok(Some(Message::NotInterested)),
-        kind::HAVE => Ok(Some(Message::Have(number_at(payload, 0)))),
-        kind::BITFIELD => Ok(Some(Message::Bitfield(copied(alloc, payload)?))),
-        kind::REQUEST => Ok(Some(Message::Request(read_ask(payload)))),
-        kind::PIECE => Ok(Some(Message::Piece {
+        frames::CHOKE => Ok(Some(Message::Choke)),
+        frames::UNCHOKE => Ok(Some(Message::Unchoke)),
+        frames::INTERESTED => Ok(Some(Message::Interested)),
+        frames::NOT_INTERESTED => Ok(Some(Message::NotInterested)),
+        frames::HAVE => Ok(Some(Message::Have(number_at(payload, 0)))),
+        frames::BITFIELD => Ok(Some(Message::Bitfield(copied(alloc, payload)?))),
+        frames::REQUEST => Ok(Some(Message::Request(read_ask(payload)))),
+        frames::PIECE => Ok(Some(Message::Piece {
             piece: number_at(payload, 0),
             begin: number_at(payload, 4),
             bytes: copied(alloc, &payload[8..])?,
         })),
-        kind::CANCEL => Ok(Some(Message::Cancel(read_ask(payload)))),
-        kind::HASH_REQUEST => Ok(Some(Message::HashRequest(whole_key(payload)))),
-        kind::HASHES => {
+        frames::CANCEL => Ok(Some(Message::Cancel(read_ask(payload)))),
+        frames::HASH_REQUEST => Ok(Some(Message::HashRequest(whole_key(payload)))),
+        frames::HASHES => {
             let (key, digests) = payload.split_at(KEY_LEN);
             Ok(Some(Message::Hashes(whole_key(key), copied(alloc, digests)?)))
         }
-        kind::HASH_REJECT => Ok(Some(Message::HashReject(whole_key(payload)))),
+        frames::HASH_REJECT => Ok(Some(Message::HashReject(whole_key(payload)))),
         _ => Ok(None),
     }
 }

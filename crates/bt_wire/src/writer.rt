@@ -4,7 +4,7 @@ ghost use Rattle.bt_wire.specs.Limits.{max_length_field};
 ghost use Rattle.std.specs.Int.{w32, to_be_bytes};
 ghost use Rattle.bt_wire.specs.Message.{Fits, ask_spelling, body, frame_spelling, message_spelling};
 
-use crate::kind;
+use crate::frames;
 use crate::message::{Ask, Message};
 use bt_hashreq::write_key;
 use std::alloc::{AllocError, Global};
@@ -20,27 +20,27 @@ pub fn write_message(alloc: Global, message: &Message) -> Result<Vec<u8>, AllocE
 {
     match message {
         Message::KeepAlive => Vec::from_slice(alloc, &[0; 4]),
-        Message::Choke => frame(alloc, kind::CHOKE, &[], &[]),
-        Message::Unchoke => frame(alloc, kind::UNCHOKE, &[], &[]),
-        Message::Interested => frame(alloc, kind::INTERESTED, &[], &[]),
-        Message::NotInterested => frame(alloc, kind::NOT_INTERESTED, &[], &[]),
-        Message::Have(piece) => frame(alloc, kind::HAVE, &piece.to_be_bytes(), &[]),
-        Message::Bitfield(bits) => frame(alloc, kind::BITFIELD, &[], bits.as_slice()),
-        Message::Request(ask) => frame(alloc, kind::REQUEST, &ask_bytes(ask), &[]),
+        Message::Choke => frame(alloc, frames::CHOKE, &[], &[]),
+        Message::Unchoke => frame(alloc, frames::UNCHOKE, &[], &[]),
+        Message::Interested => frame(alloc, frames::INTERESTED, &[], &[]),
+        Message::NotInterested => frame(alloc, frames::NOT_INTERESTED, &[], &[]),
+        Message::Have(piece) => frame(alloc, frames::HAVE, &piece.to_be_bytes(), &[]),
+        Message::Bitfield(bits) => frame(alloc, frames::BITFIELD, &[], bits.as_slice()),
+        Message::Request(ask) => frame(alloc, frames::REQUEST, &ask_bytes(ask), &[]),
         Message::Piece {
             piece,
             begin,
             bytes,
         } => {
             let numbers = two_numbers(*piece, *begin);
-            frame(alloc, kind::PIECE, &numbers, bytes.as_slice())
+            frame(alloc, frames::PIECE, &numbers, bytes.as_slice())
         }
-        Message::Cancel(ask) => frame(alloc, kind::CANCEL, &ask_bytes(ask), &[]),
-        Message::HashRequest(key) => frame(alloc, kind::HASH_REQUEST, &write_key(key), &[]),
+        Message::Cancel(ask) => frame(alloc, frames::CANCEL, &ask_bytes(ask), &[]),
+        Message::HashRequest(key) => frame(alloc, frames::HASH_REQUEST, &write_key(key), &[]),
         Message::Hashes(key, digests) => {
-            frame(alloc, kind::HASHES, &write_key(key), digests.as_slice())
+            frame(alloc, frames::HASHES, &write_key(key), digests.as_slice())
         }
-        Message::HashReject(key) => frame(alloc, kind::HASH_REJECT, &write_key(key), &[]),
+        Message::HashReject(key) => frame(alloc, frames::HASH_REJECT, &write_key(key), &[]),
     }
 }
 

@@ -1,6 +1,6 @@
 use Rattle.std.proofs.Common.{◌≡◌, ℕ, ◌+◌, ◌-◌, ◌<◌, ◌∙◌, ap, length, subst, arith}
 use Rattle.std.specs.Int.{w32, to_be_bytes}
-use Rattle.bt_wire.specs.FrontSteps.{BeginsFrame}
+use Rattle.bt_wire.specs.FrontSteps.{BeginsLawfulFrame}
 use Rattle.bt_wire.proofs.Fronts.{shows_bad_length, begins_body}
 use Rattle.bt_wire.proofs.front.frame_len.Goals as goal
 
@@ -17,6 +17,6 @@ returns-clause-whole c =
     let size = c.number_at-field.result - 1 in
     let field : 1 + size ≡ c.number_at-field.result = omega arith in
     let all : 5 + size ≡ 4 + c.number_at-field.result = omega arith in
-    subst (λ (n : ℕ). BeginsFrame c.args.unread.now n) all
+    subst (λ (n : ℕ). BeginsLawfulFrame c.args.unread.now n) all
     (begins_body c.args.unread.now size (ap (λ n. to_be_bytes w32 n) field ∙ c.number_at-field.ensures) (omega arith) (omega arith)
     c.if-not-fits_kind.ensures.yes)

@@ -1,5 +1,5 @@
 use Rattle.std.proofs.Common.{ap, ◌∙◌}
-use Rattle.bt_padding.specs.ShortBlocks.{short_blocks_of}
+use Rattle.bt_connection.specs.ShortBlocks.{short_blocks_of}
 use Rattle.bt_files.proofs.Faults.{ok_weaker}
 use Rattle.bt_transfer.proofs.WholeRuns.{ends_fetch}
 use Rattle.bt_transfer.proofs.command.fetch.fetch_store.Goals as goal

@@ -1,5 +1,5 @@
 use Rattle.std.proofs.Common.{inl, inr, ap, ◌∙◌, refl}
-use Rattle.bt_padding.specs.ShortBlocks.{short_blocks_of}
+use Rattle.bt_connection.specs.ShortBlocks.{short_blocks_of}
 use Rattle.bt_files.proofs.Faults.{passed_on}
 use Rattle.bt_transfer.proofs.WholeRuns.{ends_seed}
 use Rattle.bt_transfer.proofs.command.seed.seed_store.Goals as goal

@@ -1,0 +1,20 @@
+-- clients that pad short blocks
+pub mod LastBlocks
+pub mod MessageParts
+pub mod Sendable
+pub mod Frames
+pub mod Rooms
+pub mod Directions
+pub mod Parts
+pub mod Streams
+pub mod Giving
+pub mod Passages
+pub mod Readers
+-- reading ahead
+pub mod Ranges
+pub mod Orders
+pub mod Leading
+pub mod ReadsAhead
+-- room, and requests that are held
+pub mod RoomReads
+pub mod WholeRequests

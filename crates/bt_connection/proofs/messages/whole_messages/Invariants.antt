@@ -1,0 +1,12 @@
+use Rattle.std.proofs.Common.{◌-◌, ◌≤◌, length, take}
+use Rattle.bt_connection.specs.Messages.{AreMessages}
+use Rattle.bt_connection.proofs.messages.whole_messages.Given as goal
+
+abbrev pub invariant-messages : goal.invariant-messages
+invariant-messages l = record {
+  within : l.at ≤ length l.bytes;
+  messages : AreMessages (take l.at l.bytes);
+}
+
+abbrev pub decreases-messages : goal.decreases-messages
+decreases-messages l = length l.bytes - l.at

@@ -1,0 +1,39 @@
+//! A reader that gives nothing more once a device of its engine has refused a write.
+ghost use Rattle.std.specs.Prelude.{◌≡◌};
+
+use bt_ahead::Alarm;
+use std::io::{self, ErrorKind, Read};
+use std::marker::Model;
+
+/// A reader that gives nothing more while an alarm rings: each read fails then. Else it is what it has inside.
+#[derive(Drop)]
+pub struct AlarmReader<'a, R> {
+    inner: R,
+    alarm: &'a Alarm,
+}
+
+impl<'a, R> Model for AlarmReader<'a, R> {
+    ghost Value = { R };
+
+    ghost view = { λ r. r.inner };
+}
+
+impl<'a, R> AlarmReader<'a, R> {
+    pub fn new(inner: R, alarm: &'a Alarm) -> Self
+        ensures { result ≡ inner }
+    {
+        AlarmReader { inner, alarm }
+    }
+}
+
+impl<'a, R: Read> Read for AlarmReader<'a, R> {
+    ghost remaining = { λ r. R.remaining r };
+
+    /// Errors: those of the reader inside, and `Other` while the alarm rings, where nothing is read.
+    fn read(&mut self, buffer: &mut [u8]) -> io::Result<usize> {
+        if self.alarm.is_ringing() {
+            return Err(io::Error::from(ErrorKind::Other));
+        }
+        self.inner.read(buffer)
+    }
+}

@@ -1,0 +1,43 @@
+//! Laws of the padding: which requests are remembered, which pieces are filled with zeros, and what passes as
+//! it is. The functions do nothing when they run.
+ghost use Rattle.bt_connection.specs.Law.{ShortBlocksAreLast, RemembersShortBlocks, ZerosLieBehindTheEnd, PadsWhatWasAsked, PlainPassesThrough, GivenOnCanBeSent};
+ghost use Rattle.bt_connection.specs.TranslationLaw.{GivesStreams};
+
+use bt_wire::streams_have_one_reading;
+
+/// The short blocks of a torrent are just the last blocks of its files that are short.
+pub fn short_blocks_are_last()
+    ensures { ShortBlocksAreLast }
+{}
+
+/// What is remembered of a peer are requests for short blocks.
+pub fn remembers_short_blocks()
+    ensures { RemembersShortBlocks }
+{}
+
+/// A piece goes out as the engine cut it, or with zeros where its file has ended.
+pub fn zeros_lie_behind_the_end()
+    ensures { ZerosLieBehindTheEnd }
+{}
+
+/// From no place of a piece on are pieces filled more often than the peer has asked for a whole block there.
+pub fn pads_what_was_asked()
+    ensures { PadsWhatWasAsked }
+{}
+
+/// What a peer sends that asks for no padding passes as it is, and so does all that goes to it.
+pub fn plain_passes_through()
+    ensures { PlainPassesThrough }
+{}
+
+/// What is given on in place of a message can be sent where the message could be.
+pub fn given_on_can_be_sent()
+    ensures { GivenOnCanBeSent }
+{}
+
+/// Where whole events came, as many whole events are given on, and nothing else.
+pub fn gives_streams()
+    ensures { GivesStreams }
+{
+    streams_have_one_reading();
+}

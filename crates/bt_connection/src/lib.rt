@@ -1,0 +1,30 @@
+//! The way of a peer's bytes between its socket and its engine: readers one above the other, and writers, each over any
+//! reader or writer.
+#![tactic(auto)]
+
+mod ahead_room;
+mod alarm_reader;
+mod frame;
+mod law;
+mod messages;
+mod padded;
+mod padding;
+mod read_ahead;
+mod requests;
+mod room;
+mod short_blocks;
+mod translation;
+
+pub use ahead_room::AheadRoom;
+pub use alarm_reader::AlarmReader;
+pub use law::{
+    given_on_can_be_sent, gives_streams, pads_what_was_asked, plain_passes_through,
+    remembers_short_blocks, short_blocks_are_last, zeros_lie_behind_the_end,
+};
+pub use padded::Padded;
+pub use padding::Padding;
+pub use read_ahead::ReadAhead;
+pub use requests::{HoldingWriter, Requests, SendingReader};
+pub use room::Room;
+pub use short_blocks::ShortBlocks;
+pub use translation::{FrameRoom, Side};

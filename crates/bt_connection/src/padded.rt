@@ -1,0 +1,119 @@
+//! The reader and the writer of a connection, as its engine has them.
+ghost use Rattle.std.specs.Prelude.{◌≡◌, ◌≢◌, [], None, IfOk, IfErr};
+ghost use Rattle.std.specs.Io.{ReadsAtMost, WritesAtMost};
+ghost use Rattle.std.specs.Io.KnownBytes.{Keeps, ReadConsumes, WriteAppends};
+ghost use Rattle.std.specs.IoError.{error_kind};
+ghost use Rattle.bt_connection.specs.Padded.{new_padded, IsRead, IsInterrupted, IsWritten, IsFlushed};
+
+use crate::padding::Padding;
+use crate::short_blocks::ShortBlocks;
+use crate::translation::{Direction, FrameRoom, Side};
+use bt_wire::HANDSHAKE_LEN;
+use std::cell::{RefCell, RefMut};
+use std::io::{self, ErrorKind, Read, Write};
+use std::marker::Model;
+
+/// Over a reader of what a peer sends (`Side::Peer`), a reader of what its engine is to get of it; over a writer to
+/// that peer (`Side::Engine`), a writer of what the engine sends. The two share what is remembered of the peer.
+///
+/// A message that may be translated is given on once it is whole, or not at all; any other as it comes, but for its
+/// first bytes. No memory is taken: what waits has its room.
+#[derive(Drop)]
+pub struct Padded<'a, T> {
+    inner: T,
+    direction: Direction<'a>,
+}
+
+impl<'a, T> Model for Padded<'a, T> {
+    ghost use Rattle.bt_connection.specs.Padded.{PaddedState, padded_state};
+
+    ghost Value = { PaddedState T };
+
+    ghost view = { λ p. padded_state p.inner p.direction };
+}
+
+impl<'a, T> Padded<'a, T> {
+    /// One at a connection's begin. What is in the room is forgotten.
+    pub fn new(
+        side: Side,
+        inner: T,
+        blocks: &'a ShortBlocks,
+        padding: &'a RefCell<Padding>,
+        mut room: RefMut<'a, FrameRoom>,
+    ) -> Self
+        ensures { result ≡ new_padded side inner blocks.now }
+    {
+        room.clear();
+        let direction = Direction {
+            side,
+            blocks,
+            padding,
+            room,
+            ready: 0,
+            passing: HANDSHAKE_LEN,
+        };
+        Padded { inner, direction }
+    }
+}
+
+// What is to come depends on what is remembered by then, so it is not known.
+impl<'a, R: Read> Read for Padded<'a, R> {
+    /// Reads until something waits to be given, or to the end. Errors: those of the reader behind. After each the read
+    /// may be made again, and nothing is lost.
+    fn read(&mut self, buffer: &mut [u8]) -> io::Result<usize>
+        ensures bound { ReadsAtMost result buffer.new }
+        ensures bytes { ReadConsumes None None result buffer.new }
+        ensures given { IfOk result (λ count. IsRead R.remaining self.old count buffer.new self.new) }
+        ensures again { IfErr result (λ error. error_kind error ≡ ErrorKind.Interrupted
+            → IsInterrupted R.remaining self.old self.new) }
+    {
+        // A bound, so that it ends whatever the system gives.
+        for _ in 0..u64::MAX {
+            if self.direction.is_ready() || self.direction.collect(&mut self.inner)? == 0 {
+                return Ok(self.direction.give(buffer));
+            }
+        }
+        Err(io::Error::from(ErrorKind::TimedOut))
+    }
+}
+
+impl<'a, W: Write> Padded<'a, W> {
+    /// Takes some of the bytes, and writes what is given on. Errors: those of `write`, of any kind.
+    fn give_on(&mut self, bytes: &[u8]) -> io::Result<usize>
+        ensures { IfOk result (λ count. IsWritten W.contents self.old bytes.now count self.new) }
+    {
+        if self.direction.is_ready() {
+            // Only where it is a reader.
+            return Err(io::Error::from(ErrorKind::BrokenPipe));
+        }
+        let mut rest = bytes;
+        let count = self.direction.collect(&mut rest)?;
+        self.direction.send(&mut self.inner)?;
+        Ok(count)
+    }
+}
+
+// What the writer behind holds depends on what is remembered, so it is not known of this one.
+impl<'a, W: Write> Write for Padded<'a, W> {
+    /// Takes some of the bytes, to the end of a message at most, and writes what is given on. Errors: the writer
+    /// behind failed. A part of the bytes may have been taken then, so the error is none after which a caller tries
+    /// again.
+    fn write(&mut self, bytes: &[u8]) -> io::Result<usize>
+        ensures bound { WritesAtMost result bytes.now }
+        ensures bytes { WriteAppends None None result bytes.now }
+        ensures written { IfOk result (λ count. IsWritten W.contents self.old bytes.now count self.new) }
+        ensures not_again { IfErr result (λ error. error_kind error ≢ ErrorKind.Interrupted) }
+    {
+        match self.give_on(bytes) {
+            Ok(count) => Ok(count),
+            Err(_) => Err(io::Error::from(ErrorKind::BrokenPipe)),
+        }
+    }
+
+    fn flush(&mut self) -> io::Result<()>
+        ensures bytes { Keeps None None }
+        ensures flushed { IsFlushed W.contents self.old self.new }
+    {
+        self.inner.flush()
+    }
+}

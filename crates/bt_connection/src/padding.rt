@@ -1,0 +1,113 @@
+//! What is remembered of a peer that counts each block as 16,384 bytes, and what stands for its messages.
+ghost use Rattle.std.specs.Prelude.{◌≡◌, IfOk, IfSome, IfNone, Contains};
+ghost use Rattle.bt_wire.specs.Frames.{IsFrame};
+ghost use Rattle.bt_connection.specs.Padding.{new_memory, with_asked};
+ghost use Rattle.bt_connection.specs.PaddingSteps.{IsFirstAt};
+ghost use Rattle.bt_connection.specs.Translation.{Gives};
+ghost use Rattle.bt_connection.specs.declared.translation.Side.TheVariants.{Peer, Engine};
+
+use crate::frame::BLOCK_FIELD;
+use crate::short_blocks::ShortBlocks;
+use crate::translation::FrameRoom;
+use bt_tree::BLOCK_LEN;
+use bt_wire::frames::{PIECE_HEAD_LEN, read_piece, read_request};
+use bt_wire::{Ask, streams_have_one_reading};
+use std::alloc::{AllocError, Global};
+use std::marker::Model;
+
+/// How many requests are remembered at most.
+const MAX_REMEMBERED: usize = 1024;
+
+/// The requests of a peer for padded blocks, shortened as they were given on, that are not answered yet.
+#[derive(Drop)]
+pub struct Padding {
+    /// From the oldest on.
+    asked: Vec<Ask>,
+}
+
+impl Model for Padding {
+    ghost use Rattle.std.specs.Prelude.{◌≤◌, length, vec_capacity};
+    ghost use Rattle.bt_connection.specs.Padding.{Memory, max_remembered};
+
+    ghost Value = { Memory };
+
+    ghost view = { λ p. p.asked.items };
+
+    ghost invariant = { λ p.
+        (length p.asked.items ≤ max_remembered) × (max_remembered ≤ vec_capacity p.asked) };
+}
+
+impl Padding {
+    /// Nothing is remembered. All the memory that is ever taken for it is taken here. Errors: out of memory.
+    pub fn new(alloc: Global) -> Result<Self, AllocError>
+        ensures { IfOk result (λ padding. padding ≡ new_memory) }
+    {
+        let asked = Vec::with_capacity(alloc, MAX_REMEMBERED)?;
+        Ok(Padding { asked })
+    }
+
+    /// Forgets everything, as for a connection that begins. It takes no memory.
+    pub fn forget(&mut self)
+        ensures { self.new ≡ new_memory }
+    {
+        self.asked.clear();
+    }
+
+    /// Puts what an engine gets of a frame of its peer in its place.
+    pub(crate) fn incoming(&mut self, blocks: &ShortBlocks, frame: &mut FrameRoom)
+        ensures { Gives blocks.now Peer self.old frame.old frame.new self.new }
+    {
+        streams_have_one_reading();
+        let Some(ask) = read_request(frame.as_slice()) else {
+            return;
+        };
+        if ask.length != BLOCK_LEN as u32 {
+            return;
+        }
+        if let Some(short) = blocks.at(ask.piece, ask.begin) {
+            self.remember(short);
+            frame.put(PIECE_HEAD_LEN, &short.length.to_be_bytes());
+        }
+    }
+
+    /// Puts what a peer gets of a frame of its engine in its place.
+    pub(crate) fn outgoing(&mut self, blocks: &ShortBlocks, frame: &mut FrameRoom)
+        requires { IsFrame frame.old }
+        ensures { Gives blocks.now Engine self.old frame.old frame.new self.new }
+    {
+        streams_have_one_reading();
+        let Some(ask) = read_piece(frame.as_slice()) else {
+            return;
+        };
+        if let Some(index) = self.answered(blocks, ask) {
+            self.asked.remove(index);
+            frame.fill();
+            frame.put(0, &(BLOCK_FIELD as u32).to_be_bytes());
+        }
+    }
+
+    /// Where the request for a short block stands first that a piece with this range answers.
+    fn answered(&self, blocks: &ShortBlocks, ask: Ask) -> Option<usize>
+        ensures first { IfSome result (IsFirstAt self.now ask) }
+        ensures short { IfSome result (λ _. Contains blocks.now ask) }
+        ensures none { IfNone result (Contains self.now ask → ¬ Contains blocks.now ask) }
+    {
+        // No other is remembered, but the contract does not lean on that.
+        let short = blocks.at(ask.piece, ask.begin)?;
+        if short.length != ask.length {
+            return None;
+        }
+        self.asked.iter().position(|other| *other == ask)
+    }
+
+    /// Remembers a request; beyond the limit the oldest is forgotten.
+    fn remember(&mut self, ask: Ask)
+        ensures { self.new ≡ with_asked self.old ask }
+    {
+        if self.asked.len() >= MAX_REMEMBERED {
+            self.asked.remove(0);
+        }
+        // There is room.
+        let _ = self.asked.push(ask);
+    }
+}

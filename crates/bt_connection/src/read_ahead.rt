@@ -1,0 +1,144 @@
+//! What a peer sends, read ahead of its engine.
+ghost use Rattle.std.specs.Prelude.{◌≡◌, ◌↔◌, ◌<◌, IsTrue, IfOk, OnOk, OnErr};
+ghost use Rattle.std.specs.Io.{ReadsAtMost};
+ghost use Rattle.std.specs.Io.KnownBytes.{ReadConsumes};
+ghost use Rattle.bt_connection.specs.ReadAhead.{new_reader, reader_remaining, HoldsBlockAlone, IsFilled, IsGiven, IsRead, LosesNothing};
+ghost use Rattle.bt_connection.specs.ReadAheadSteps.{IsRefilled, KeepsAll};
+
+use crate::ahead_room::AheadRoom;
+use crate::messages::{cut_behind, fill_from};
+use bt_ahead::DigestCache;
+use bt_wire::HANDSHAKE_LEN;
+use std::cell::{RefCell, RefMut};
+use std::io;
+use std::io::Read;
+use std::marker::Model;
+
+/// A reader of what a peer sends, which reads ahead of its engine, and has the blocks in it digested eight at
+/// a time, before the engine asks for their digests one by one.
+///
+/// It gives just the bytes of the reader behind, in order, whatever they are. Those of a message that may carry
+/// a whole block wait until it is whole or the reader behind has ended; all others may be given as they come,
+/// since they may show a fault. While something may be given, that reader is not asked, since it could wait for
+/// ever.
+#[derive(Drop)]
+pub struct ReadAhead<'a, R> {
+    inner: R,
+    cache: &'a RefCell<DigestCache>,
+    room: RefMut<'a, AheadRoom>,
+    /// So many of the bytes in the room may be given.
+    ready: usize,
+    /// So many bytes are to come of a message that is given as it comes; then all in the room may be given.
+    owed: usize,
+}
+
+impl<'a, R> Model for ReadAhead<'a, R> {
+    ghost use Rattle.std.specs.RefCell.{ref_mut_value};
+    ghost use Rattle.bt_connection.specs.ReadAhead.{ReaderState, IsOrderly};
+
+    ghost Value = { ReaderState R };
+
+    ghost view = { λ r. record {
+      inner = r.inner;
+      waiting = ref_mut_value r.room;
+      ready = r.ready;
+      owed = r.owed;
+    } };
+
+    ghost invariant = { λ r. IsOrderly (ref_mut_value r.room) r.ready };
+}
+
+impl<'a, R: Drop> ReadAhead<'a, R> {
+    /// A reader at a connection's begin. What is in the room is forgotten. It takes no memory.
+    pub fn new(inner: R, cache: &'a RefCell<DigestCache>, mut room: RefMut<'a, AheadRoom>) -> Self
+        ensures { result ≡ new_reader inner }
+    {
+        room.clear();
+        ReadAhead {
+            inner,
+            cache,
+            room,
+            ready: 0,
+            // The handshake is given as it comes.
+            owed: HANDSHAKE_LEN,
+        }
+    }
+}
+
+impl<'a, R> ReadAhead<'a, R> {
+    /// Whether something may be given.
+    fn is_ready(&self) -> bool
+        ensures { IsTrue result ↔ (0 < self.now.ready) }
+    {
+        self.ready > 0
+    }
+
+    /// Gives the first of the bytes that may be given, as many as there is room for, and says how many.
+    fn give(&mut self, buffer: &mut [u8]) -> usize
+        ensures given { IsGiven self.old result buffer.new self.new }
+        ensures held { HoldsBlockAlone self.new }
+    {
+        let count = self.room.give(self.ready, buffer);
+        self.ready -= count;
+        count
+    }
+}
+
+impl<'a, R: Read> ReadAhead<'a, R> {
+    /// Reads once, and looks what may be given now: how many bytes came, none at the end. The blocks among
+    /// them are digested. Errors: those of the reader behind.
+    fn refill(&mut self) -> io::Result<usize>
+        requires { self.old.ready ≡ 0 }
+        ensures refilled { IfOk result (λ count. IsRefilled R.remaining self.old count self.new) }
+        ensures kept { OnErr result (KeepsAll R.remaining self.old self.new) }
+        ensures held { HoldsBlockAlone self.new }
+    {
+        let count = self.room.read_from(&mut self.inner)?;
+        let waiting = self.room.as_slice();
+        let cut = cut_behind(count, self.owed, waiting);
+        digest_ahead(self.cache, &waiting[cut.begin..cut.ready]);
+        self.ready = cut.ready;
+        self.owed = cut.owed;
+        Ok(count)
+    }
+
+    /// Reads until something may be given, or to the end. Errors: those of `refill`.
+    fn fill(&mut self) -> io::Result<()>
+        ensures filled { OnOk result (IsFilled R.remaining self.old self.new) }
+        ensures kept { OnErr result (LosesNothing R.remaining self.old self.new) }
+        ensures held { OnErr result (HoldsBlockAlone self.new) }
+    {
+        'reading: while !self.is_ready() {
+            if self.refill()? == 0 {
+                return Ok(());
+            }
+        }
+        Ok(())
+    }
+}
+
+impl<'a, R: Read> Read for ReadAhead<'a, R> {
+    ghost remaining = { reader_remaining R.remaining };
+
+    /// Errors: those of the reader behind. After each of them, Interrupted too, the read may be made again,
+    /// and nothing is lost.
+    fn read(&mut self, buffer: &mut [u8]) -> io::Result<usize>
+        ensures bound { ReadsAtMost result buffer.new }
+        ensures bytes { ReadConsumes (reader_remaining R.remaining self.old)
+            (reader_remaining R.remaining self.new) result buffer.new }
+        ensures given { IfOk result (λ count. IsRead R.remaining self.old count buffer.new self.new) }
+        ensures kept { OnErr result (LosesNothing R.remaining self.old self.new) }
+        ensures held { HoldsBlockAlone self.new }
+    {
+        self.fill()?;
+        Ok(self.give(buffer))
+    }
+}
+
+/// Has whole blocks in these messages digested, where there are enough of them. Where the cache is in use
+/// nothing is done.
+fn digest_ahead(cache: &RefCell<DigestCache>, messages: &[u8]) {
+    if let Ok(mut guard) = cache.try_borrow_mut() {
+        fill_from(&mut *guard, messages);
+    }
+}

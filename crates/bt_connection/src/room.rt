@@ -1,0 +1,151 @@
+//! Room for bytes that came and are not given on yet.
+ghost use Rattle.std.specs.Prelude.{◌≡◌, ◌+◌, ◌-◌, ◌<◌, ◌≤◌, [], ◌++◌, min, length, take, drop, replicate, slice_range, IfOk, OnErr};
+ghost use Rattle.std.specs.Io.KnownBytes.{Consumes, Keeps, IsAtEnd};
+ghost use Rattle.bt_connection.specs.Room.{IsTakenIn};
+
+use std::alloc::{AllocError, Global};
+use std::io::{self, Read};
+use std::marker::Model;
+
+/// Room for so many bytes, and those that are in it. A reader or a writer may borrow it for as long as it is there.
+#[derive(Drop)]
+pub struct Room<const LEN: usize> {
+    bytes: Vec<u8>,
+    /// The first so many of these are in it.
+    len: usize,
+}
+
+impl<const LEN: usize> Model for Room<LEN> {
+    ghost use Rattle.std.specs.Prelude.{◌≡◌, ◌≤◌, ℕ, List, length, take};
+
+    ghost Value = { List ℕ };
+
+    ghost view = { λ r. take r.len r.bytes.items };
+
+    ghost invariant = { λ r. (r.len ≤ LEN) × (length r.bytes.items ≡ LEN) };
+}
+
+impl<const LEN: usize> Room<LEN> {
+    /// Room with no bytes in it. All the memory that it ever takes is taken here. Errors: out of memory.
+    pub fn new(alloc: Global) -> Result<Self, AllocError>
+        ensures { IfOk result (λ room. room ≡ []) }
+    {
+        let bytes = vec![in alloc; 0; LEN]?;
+        Ok(Room { bytes, len: 0 })
+    }
+
+    /// Forgets the bytes, as for a connection that begins.
+    pub fn clear(&mut self)
+        ensures { self.new ≡ [] }
+    {
+        self.len = 0;
+    }
+
+    /// The bytes, lent.
+    pub fn as_slice(&self) -> &[u8]
+        ensures value { result.now ≡ self.now }
+        ensures few { length self.now ≤ LEN }
+    {
+        &self.bytes[..self.len]
+    }
+
+    /// Reads once, so many bytes at most, and says how many came. Errors: those of the reader.
+    pub fn read_from<R: Read>(&mut self, from: &mut R, most: usize) -> io::Result<usize>
+        requires { length self.old + most ≤ LEN }
+        ensures came { IfOk result (λ count.
+            IsTakenIn (R.remaining from.old) (R.remaining from.new) self.old count self.new) }
+        ensures few { IfOk result (λ count. count ≤ most) }
+        ensures ended { IfOk result (λ count. count ≡ 0 → 0 < most → IsAtEnd (R.remaining from.new)) }
+        ensures kept { OnErr result (Keeps (R.remaining from.old) (R.remaining from.new)) }
+        ensures same { OnErr result (self.new ≡ self.old) }
+    {
+        let held = self.len;
+        let count = read_behind(from, self.bytes.as_mut_slice(), held, most)?;
+        self.len = held + count;
+        Ok(count)
+    }
+
+    /// Writes these bytes over those from `at` on.
+    pub fn put(&mut self, at: usize, part: &[u8])
+        requires { at + length part.now ≤ length self.old }
+        ensures { self.new ≡ take at self.old ++ part.now ++ drop (at + length part.now) self.old }
+    {
+        put_over(self.bytes.as_mut_slice(), at, part);
+    }
+
+    /// Fills the room with zeros behind the bytes.
+    pub fn fill(&mut self)
+        ensures { self.new ≡ self.old ++ replicate (LEN - length self.old) 0 }
+    {
+        fill_behind(self.bytes.as_mut_slice(), self.len);
+        self.len = LEN;
+    }
+
+    /// Gives the first of them, at most `most`, as many as the buffer has room for, and says how many.
+    pub fn give(&mut self, most: usize, buffer: &mut [u8]) -> usize
+        requires { most ≤ length self.old }
+        ensures count { result ≡ min most (length buffer.old) }
+        ensures given { self.old ≡ take result buffer.new ++ self.new }
+    {
+        let count = most.min(buffer.len());
+        buffer[..count].copy_from_slice(&self.as_slice()[..count]);
+        self.drop_front(count);
+        count
+    }
+
+    /// Drops so many bytes in front.
+    pub fn drop_front(&mut self, count: usize)
+        requires { count ≤ length self.old }
+        ensures { self.new ≡ drop count self.old }
+    {
+        move_to_front(self.bytes.as_mut_slice(), count, self.len);
+        self.len -= count;
+    }
+}
+
+/// Reads once into so many bytes from `held` on, and says how many came. Those before stay.
+fn read_behind<R: Read>(
+    from: &mut R,
+    bytes: &mut [u8],
+    held: usize,
+    most: usize,
+) -> io::Result<usize>
+    requires { held + most ≤ length bytes.old }
+    ensures front { take held bytes.new ≡ take held bytes.old }
+    ensures few { IfOk result (λ count. count ≤ most) }
+    ensures came { IfOk result (λ count. Consumes (R.remaining from.old) (R.remaining from.new)
+        (take count (drop held bytes.new))) }
+    ensures ended { IfOk result (λ count. count ≡ 0 → 0 < most → IsAtEnd (R.remaining from.new)) }
+    ensures kept { OnErr result (Keeps (R.remaining from.old) (R.remaining from.new)) }
+    ensures size { length bytes.new ≡ length bytes.old }
+{
+    from.read(&mut bytes[held..held + most])
+}
+
+/// Writes a part over the bytes from `at` on.
+fn put_over(bytes: &mut [u8], at: usize, part: &[u8])
+    requires { at + length part.now ≤ length bytes.old }
+    ensures { bytes.new ≡ take at bytes.old ++ part.now ++ drop (at + length part.now) bytes.old }
+{
+    bytes[at..at + part.len()].copy_from_slice(part);
+}
+
+/// Puts zeros over the bytes from `held` on.
+fn fill_behind(bytes: &mut [u8], held: usize)
+    requires { held ≤ length bytes.old }
+    ensures { bytes.new ≡ take held bytes.old ++ replicate (length bytes.old - held) 0 }
+{
+    bytes[held..].fill(0);
+}
+
+/// Moves the bytes from `start` to `end` to the front.
+fn move_to_front(bytes: &mut [u8], start: usize, end: usize)
+    requires order { start ≤ end }
+    requires within { end ≤ length bytes.old }
+    ensures moved { take (end - start) bytes.new ≡ slice_range bytes.old start end }
+    ensures size { length bytes.new ≡ length bytes.old }
+{
+    if start > 0 {
+        bytes.copy_within(start..end, 0);
+    }
+}

@@ -1,0 +1,140 @@
+//! Bytes between a peer and an engine, in any parts.
+ghost use Rattle.std.specs.Prelude.{◌≡◌, ◌≢◌, [], ◌++◌, min, length, take, IfOk, OnOk, OnErr};
+ghost use Rattle.std.specs.Bool.{OnTrue, OnFalse};
+ghost use Rattle.std.specs.Io.KnownBytes.{Appends, Keeps};
+ghost use Rattle.bt_connection.specs.TranslationSteps.{EndsWithFrame, IsCollected, IsWanted, SettlesBy};
+
+use crate::frame::{Front, front_of, missing_of};
+use crate::padding::Padding;
+use crate::room::Room;
+use crate::short_blocks::ShortBlocks;
+use bt_wire::frames::BLOCK_MESSAGE_LEN;
+use std::cell::{RefCell, RefMut};
+use std::io::{self, Read, Write};
+use std::marker::Model;
+
+/// For so many bytes of a direction there is room (`frame_room_length`): those of a piece with a whole block.
+const ROOM_LEN: usize = BLOCK_MESSAGE_LEN;
+
+/// Room for what has come of one direction of a connection, and is not given on yet.
+pub type FrameRoom = Room<ROOM_LEN>;
+
+/// Where bytes come from.
+#[derive(Clone, Copy, Debug, PartialEq, Eq)]
+pub enum Side {
+    /// The peer's, on their way to the engine.
+    Peer,
+    /// The engine's, on their way to the peer.
+    Engine,
+}
+
+/// One direction of a connection. It shares what is remembered of the peer with the other.
+#[derive(Drop)]
+pub(crate) struct Direction<'a> {
+    pub(crate) side: Side,
+    pub(crate) blocks: &'a ShortBlocks,
+    pub(crate) padding: &'a RefCell<Padding>,
+    pub(crate) room: RefMut<'a, FrameRoom>,
+    /// So many of the bytes in the room are to be given on. Those behind came of a frame that is not whole.
+    pub(crate) ready: usize,
+    /// How many bytes still pass as they come.
+    pub(crate) passing: usize,
+}
+
+impl<'a> Model for Direction<'a> {
+    ghost use Rattle.std.specs.RefCell.{ref_mut_value};
+    ghost use Rattle.bt_connection.specs.Padded.{DirectionState, direction_state};
+    ghost use Rattle.bt_connection.specs.TranslationSteps.{IsOrderly};
+
+    ghost Value = { DirectionState };
+
+    ghost view = { λ d. direction_state d.side d.blocks.now d.passing (ref_mut_value d.room) d.ready };
+
+    ghost invariant = { λ d. IsOrderly d.passing (ref_mut_value d.room) d.ready };
+}
+
+impl<'a> Direction<'a> {
+    /// Whether something waits to be given on.
+    pub(crate) fn is_ready(&self) -> bool
+        ensures waits { OnTrue result (self.now.waiting ≢ []) }
+        ensures none { OnFalse result (self.now.waiting ≡ []) }
+    {
+        self.ready > 0
+    }
+
+    /// Reads once, of what passes or is missing of a frame, and says how many bytes came; what is given on waits then.
+    /// Errors: those of the reader; what is remembered is in use, which no call of this crate brings about.
+    pub(crate) fn collect<R: Read>(&mut self, from: &mut R) -> io::Result<usize>
+        requires { self.old.waiting ≡ [] }
+        ensures came { IfOk result (λ count.
+            IsCollected (R.remaining from.old) (R.remaining from.new) self.old count self.new) }
+        ensures kept { OnErr result (Keeps (R.remaining from.old) (R.remaining from.new)) }
+        ensures same { OnErr result (self.new ≡ self.old) }
+    {
+        let mut guard = self.padding.try_borrow_mut()?;
+        let most = self.wanted();
+        let count = self.room.read_from(from, most)?;
+        if self.passing > 0 {
+            self.ready = count;
+            self.passing -= count;
+        } else if let Some(behind) = settle(self.side, self.blocks, &mut *guard, &mut *self.room) {
+            self.ready = self.room.as_slice().len();
+            self.passing = behind;
+        }
+        Ok(count)
+    }
+
+    /// How many bytes are taken next at most: of those that pass, or what is missing of a frame.
+    fn wanted(&self) -> usize
+        requires { self.now.waiting ≡ [] }
+        ensures { IsWanted self.now result }
+    {
+        if self.passing > 0 {
+            self.passing.min(ROOM_LEN)
+        } else {
+            missing_of(self.room.as_slice())
+        }
+    }
+
+    /// Gives the first of the bytes that wait, as many as there is room for, and says how many.
+    pub(crate) fn give(&mut self, buffer: &mut [u8]) -> usize
+        ensures count { result ≡ min (length self.old.waiting) (length buffer.old) }
+        ensures given { self.old.waiting ≡ take result buffer.new ++ self.new.waiting }
+        ensures others { self.new ≡ record self.old { waiting = self.new.waiting } }
+    {
+        let count = self.room.give(self.ready, buffer);
+        self.ready -= count;
+        count
+    }
+
+    /// Writes all bytes that wait. None waits then, whatever came of it. Errors: those of the writer.
+    pub(crate) fn send<W: Write>(&mut self, to: &mut W) -> io::Result<()>
+        ensures sent { OnOk result (Appends (W.contents to.old) (W.contents to.new) self.old.waiting) }
+        ensures none { self.new ≡ record self.old { waiting = [] } }
+    {
+        let answer = to.write_all(&self.room.as_slice()[..self.ready]);
+        self.room.drop_front(self.ready);
+        self.ready = 0;
+        answer
+    }
+}
+
+/// What comes of the bytes in a room, which end no later than with a frame. None: they wait. Else what is in the
+/// room then is given on, and so many bytes behind it pass as they come.
+fn settle(
+    side: Side,
+    blocks: &ShortBlocks,
+    padding: &mut Padding,
+    room: &mut FrameRoom,
+) -> Option<usize>
+    requires { EndsWithFrame room.old }
+    ensures { SettlesBy blocks.now side room.old result room.new }
+{
+    match (front_of(room.as_slice()), side) {
+        (Front::Part, _) => return None,
+        (Front::Other(missing), _) => return Some(missing),
+        (Front::Frame, Side::Peer) => padding.incoming(blocks, room),
+        (Front::Frame, Side::Engine) => padding.outgoing(blocks, room),
+    }
+    Some(0)
+}

@@ -1,5 +1,0 @@
-use Rattle.bt_padding.proofs.LastBlocks.{short_blocks_are}
-use Rattle.bt_padding.proofs.law.short_blocks_are_last.Goals as goal
-
-pub returns : goal.returns
-returns c = short_blocks_are

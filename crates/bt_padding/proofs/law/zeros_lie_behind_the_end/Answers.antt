@@ -1,5 +1,0 @@
-use Rattle.bt_padding.proofs.Passages.{zeros_behind}
-use Rattle.bt_padding.proofs.law.zeros_lie_behind_the_end.Goals as goal
-
-pub returns : goal.returns
-returns c = zeros_behind

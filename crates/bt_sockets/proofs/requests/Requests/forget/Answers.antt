@@ -1,5 +1,0 @@
-use Rattle.bt_sockets.proofs.WholeRequests.{none}
-use Rattle.bt_sockets.proofs.requests.Requests.forget.Goals as goal
-
-pub invariant_of-self : goal.invariant_of-self
-invariant_of-self c = none _ c.clear.ensures.items

@@ -1,5 +1,0 @@
-use Rattle.bt_sockets.proofs.WholeRequests.{none}
-use Rattle.bt_sockets.proofs.requests.Requests.new.Goals as goal
-
-pub invariant_of-result : goal.invariant_of-result
-invariant_of-result c = none _ c.in_ok-with_capacity.ensures.items

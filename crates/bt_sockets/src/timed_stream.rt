@@ -1,0 +1,240 @@
+//! A socket at which nobody waits for ever.
+ghost use Rattle.std.specs.Prelude.{◌≡◌, ◌↔◌, ◌⊎◌, ◌≤◌, ◌++◌, min, IsTrue, length, take};
+ghost use Rattle.std.specs.Io.{ReadsAtMost};
+ghost use Rattle.std.specs.Io.KnownBytes.{ReadConsumes};
+ghost use Rattle.bt_connection.specs.Room.{IsTakenIn};
+
+use crate::timing::{Timing, Way};
+use bt_connection::Room;
+use bt_wire::frames::BLOCK_MESSAGE_LEN;
+use std::cell::RefCell;
+use std::io::{self, ErrorKind, Read, Write};
+use std::marker::Model;
+use std::net::OpenStream;
+use std::time::{Clock, Duration, Instant};
+
+/// A read waits for so many milliseconds at a time, before it is looked whether the peer has taken too long,
+const READ_TURN_MILLIS: u64 = 1000;
+
+/// and a write for so many, before what has come meanwhile is taken in,
+const WRITE_TURN_MILLIS: u64 = 50;
+
+/// for which so many are waited.
+const LOOK_MILLIS: u64 = 1;
+
+/// For so many bytes that came early there is room: sixteen messages of a whole block, as many as an engine asks one
+/// peer for.
+pub const EARLY_LEN: usize = 16 * BLOCK_MESSAGE_LEN;
+
+/// So many of them are taken in at a time.
+const PART_LEN: usize = 16_384;
+
+/// A handle of a connection's socket. It waits for the peer in turns, as long as the socket's time-outs are, and
+/// looks in between whether the peer has taken too long. While the peer takes nothing, what comes of it is taken
+/// in, as far as there is room, since it may wait for that to be taken. It is at its end where the peer has nothing
+/// more to give (`Timing`).
+#[derive(Drop)]
+pub struct TimedStream<'a, S, C> {
+    inner: S,
+    clock: &'a C,
+    /// So long may a peer send nothing, or neither take nor send anything.
+    idle: Duration,
+    timing: &'a Timing,
+    early: &'a RefCell<Room<EARLY_LEN>>,
+}
+
+impl<'a, S, C> Model for TimedStream<'a, S, C> {
+    ghost Value = { S };
+
+    ghost view = { λ s. s.inner };
+}
+
+impl<'a, S, C> TimedStream<'a, S, C> {
+    /// A handle of the socket of the connection whose times are told, beside which what comes early waits.
+    pub fn new(
+        inner: S,
+        clock: &'a C,
+        idle: Duration,
+        timing: &'a Timing,
+        early: &'a RefCell<Room<EARLY_LEN>>,
+    ) -> Self
+        ensures { result ≡ inner }
+    {
+        TimedStream {
+            inner,
+            clock,
+            idle,
+            timing,
+            early,
+        }
+    }
+}
+
+impl<'a, S, C: Clock> TimedStream<'a, S, C> {
+    /// Begins to wait. Errors: TimedOut where the peer has taken too long already; the clock fails.
+    fn begin(&self) -> io::Result<Instant> {
+        let now = Instant::now(self.clock)?;
+        if self.timing.is_late(now) {
+            return Err(io::Error::from(ErrorKind::TimedOut));
+        }
+        Ok(now)
+    }
+
+    /// Whether it may be waited on, since then.
+    fn may_wait(&self, begun: Instant) -> bool {
+        match self.begin() {
+            Ok(now) => now.duration_since(begun) < self.idle,
+            Err(_) => false,
+        }
+    }
+
+    /// Notes bytes that have passed.
+    fn note(&self, way: Way, bytes: &[u8]) {
+        if let Ok(now) = Instant::now(self.clock) {
+            self.timing.pass(way, bytes, now);
+        }
+    }
+}
+
+impl<'a, S: Read + OpenStream, C: Clock> TimedStream<'a, S, C> {
+    /// Takes in what has come while the peer took nothing. Says since when is waited: since now, where something
+    /// came, or else since then.
+    fn take_in(&mut self, begun: Instant) -> Instant {
+        let look = Duration::from_millis(LOOK_MILLIS);
+        let _ = self.inner.set_read_timeout(Some(look));
+        let count = take_early(self.early, &mut self.inner);
+        let _ = self.inner.set_read_timeout(Some(read_turn(self.idle)));
+        match Instant::now(self.clock) {
+            Ok(now) if count > 0 => now,
+            _ => begun,
+        }
+    }
+}
+
+/// How long a read waits at a time.
+fn read_turn(idle: Duration) -> Duration {
+    idle.min(Duration::from_millis(READ_TURN_MILLIS))
+}
+
+/// Has a socket's calls wait for a turn at a time. Errors: the system refuses this, also where no time at all is
+/// to be waited.
+pub fn set_turns<S: OpenStream>(stream: &S, idle: Duration) -> io::Result<()> {
+    let write_turn = idle.min(Duration::from_millis(WRITE_TURN_MILLIS));
+    stream.set_read_timeout(Some(read_turn(idle)))?;
+    stream.set_write_timeout(Some(write_turn))
+}
+
+/// Takes in what has come, as far as there is room, and says how many bytes: none too where the reader fails. Where
+/// they are in use, which no call of this crate brings about, it is none.
+fn take_early<S: Read>(early: &RefCell<Room<EARLY_LEN>>, from: &mut S) -> usize {
+    match early.try_borrow_mut() {
+        Ok(mut guard) => take_into(&mut *guard, from),
+        Err(_) => 0,
+    }
+}
+
+/// Reads once, as far as there is room, and says how many bytes came: none too where the reader fails.
+fn take_into<S: Read>(early: &mut Room<EARLY_LEN>, from: &mut S) -> usize
+    ensures { IsTakenIn (S.remaining from.old) (S.remaining from.new) early.old result early.new }
+{
+    let most = EARLY_LEN - early.as_slice().len();
+    match early.read_from(from, most.min(PART_LEN)) {
+        Ok(count) => count,
+        Err(_) => 0,
+    }
+}
+
+/// Gives of what came early, and says how many bytes.
+fn give_early(early: &RefCell<Room<EARLY_LEN>>, buffer: &mut [u8]) -> usize
+    ensures { result ≤ length buffer.new }
+{
+    match early.try_borrow_mut() {
+        Ok(mut guard) => give_from(&mut *guard, buffer),
+        Err(_) => 0,
+    }
+}
+
+/// Gives the first of them, as many as the buffer has room for, and says how many.
+fn give_from(early: &mut Room<EARLY_LEN>, buffer: &mut [u8]) -> usize
+    ensures count { result ≡ min (length early.old) (length buffer.old) }
+    ensures given { early.old ≡ take result buffer.new ++ early.new }
+{
+    let len = early.as_slice().len();
+    early.give(len, buffer)
+}
+
+/// Whether a call of a socket is to be made again after this error: it was interrupted, or the socket's
+/// time-out came.
+fn is_again(kind: ErrorKind) -> bool
+    ensures { IsTrue result ↔ ((kind ≡ ErrorKind.Interrupted)
+        ⊎ (kind ≡ ErrorKind.WouldBlock) ⊎ (kind ≡ ErrorKind.TimedOut)) }
+{
+    matches!(
+        kind,
+        ErrorKind::Interrupted | ErrorKind::WouldBlock | ErrorKind::TimedOut
+    )
+}
+
+// What comes early lies in a cell, so it is not known what is left to be read.
+impl<'a, S: Read, C: Clock> Read for TimedStream<'a, S, C> {
+    /// None is given, too, where the peer has nothing more to give. Errors, which come before that: those of the
+    /// socket; the peer sent nothing for too long, or has taken too long otherwise; the clock fails.
+    fn read(&mut self, buffer: &mut [u8]) -> io::Result<usize> {
+        let begun = self.begin()?;
+        if self.timing.is_spent() {
+            return Ok(0);
+        }
+        let count = give_early(self.early, buffer);
+        if count > 0 {
+            self.note(Way::In, &buffer[..count]);
+            return Ok(count);
+        }
+        self.wait_for_bytes(buffer, begun)
+    }
+}
+
+impl<'a, S: Read, C: Clock> TimedStream<'a, S, C> {
+    /// Reads once something has come. Errors: as `read`.
+    fn wait_for_bytes(&mut self, buffer: &mut [u8], begun: Instant) -> io::Result<usize>
+        ensures bound { ReadsAtMost result buffer.new }
+        ensures bytes { ReadConsumes (S.remaining self.old) (S.remaining self.new) result buffer.new }
+    {
+        // A bound, so that it ends whatever the system gives.
+        'waiting: for _ in 0..u64::MAX {
+            match self.inner.read(buffer) {
+                Ok(count) => {
+                    self.note(Way::In, &buffer[..count]);
+                    return Ok(count);
+                }
+                Err(error) if is_again(error.kind()) && self.may_wait(begun) => {}
+                Err(error) => return Err(error),
+            }
+        }
+        Err(io::Error::from(ErrorKind::TimedOut))
+    }
+}
+
+impl<'a, S: Read + Write + OpenStream, C: Clock> Write for TimedStream<'a, S, C> {
+    /// Errors: those of the socket; the peer took and sent nothing for too long, or has taken too long
+    /// otherwise; the clock fails.
+    fn write(&mut self, bytes: &[u8]) -> io::Result<usize> {
+        let mut begun = self.begin()?;
+        // A bound, so that it ends whatever the system gives.
+        'waiting: for _ in 0..u64::MAX {
+            match self.inner.write(bytes) {
+                Ok(count) => {
+                    self.note(Way::Out, &bytes[..count]);
+                    return Ok(count);
+                }
+                Err(error) if is_again(error.kind()) && self.may_wait(begun) => {}
+                Err(error) => return Err(error),
+            }
+            begun = self.take_in(begun);
+        }
+        Err(io::Error::from(ErrorKind::TimedOut))
+    }
+
+    fn flush(&mut self) -> io::Result<()> {
+        self.inner.flush()
+    }
+}

@@ -1,5 +1,0 @@
-use Rattle.std.proofs.Common.{length}
-use Rattle.bt_waiting.proofs.timing.Times.pass.Given as goal
-
-abbrev pub decreases-passing : goal.decreases-passing
-decreases-passing l = length l.rest
