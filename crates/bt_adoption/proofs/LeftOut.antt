@@ -18,7 +18,7 @@ use Rattle.bt_adoption.specs.SettlingSteps.{SettlesFiles}
 use Rattle.bt_adoption.specs.AdoptionSteps.{AdoptsIn, StopsIn}
 
 -- the book and the counts alone differ
-module _ {D H : Type 0} (old new : Parts D H) (others : new ≡ record old { book = new.book; unmarked = new.unmarked }) where
+module _ {D H : Type 0} (old new : Parts D H) (others : new ≡ record old { book = new.book; counts = new.counts }) where
   no_peers : (peers : List Peer) → peers ≡ [] → (b c : BookState) → map (peer_of b) peers ≡ map (peer_of c) peers
   no_peers peers none b c = ap (map (peer_of b)) none ∙ ap (map (peer_of c)) (sym none)
 
@@ -59,10 +59,10 @@ module _ {D H : Type 0} {file : ℕ} {old left : Parts D H} (out : LeavesOut fil
       }
 
       -- so it stays with the parts what stays with these three
-      through : {X : Type 0} (f : Parts D H → X) → f (record mid { book = new.book; unmarked = new.unmarked }) ≡ f (record left { book = new.book; unmarked = new.unmarked })
-          → f (record old { book = new.book; unmarked = new.unmarked }) ≡ f old → f new ≡ f old
+      through : {X : Type 0} (f : Parts D H → X) → f (record mid { book = new.book; counts = new.counts }) ≡ f (record left { book = new.book; counts = new.counts })
+          → f (record old { book = new.book; counts = new.counts }) ≡ f old → f new ≡ f old
       through f one two =
-          ap f back.others ∙ one ∙ ap (λ (p : Parts D H). f (record p { book = new.book; unmarked = new.unmarked })) out.others ∙ two
+          ap f back.others ∙ one ∙ ap (λ (p : Parts D H). f (record p { book = new.book; counts = new.counts })) out.others ∙ two
 
       pub log_again : mid.log ≡ left.log → new.log ≡ old.log
       log_again same = through (λ p. p.log) same refl
@@ -70,9 +70,9 @@ module _ {D H : Type 0} {file : ℕ} {old left : Parts D H} (out : LeavesOut fil
       pub rest_again : KeepsRest old new
       rest_again = record {
         others =
-            back.others ∙ ap (λ (p : Parts D H). record p { book = new.book; unmarked = new.unmarked }) changes.others
-            ∙ ap (λ (p : Parts D H). record p { slots = mid.slots; trees = mid.trees; book = new.book; unmarked = new.unmarked; log = mid.log }) out.others
-            ∙ sym (ap (λ (p : Parts D H). record old { slots = p.slots; trees = p.trees; book = new.book; unmarked = new.unmarked; log = p.log }) back.others);
+            back.others ∙ ap (λ (p : Parts D H). record p { book = new.book; counts = new.counts }) changes.others
+            ∙ ap (λ (p : Parts D H). record p { slots = mid.slots; trees = mid.trees; book = new.book; counts = new.counts; log = mid.log }) out.others
+            ∙ sym (ap (λ (p : Parts D H). record old { slots = p.slots; trees = p.trees; book = new.book; counts = new.counts; log = p.log }) back.others);
         log = through (λ p. log_of p) changes.log refl;
         count = through (λ p. length p.slots.items) changes.count refl;
         trees = through (λ p. map root_and_length p.trees.items) changes.trees refl;

@@ -12,5 +12,6 @@ pub mod Slots
 pub mod LeftOut
 pub mod Settlements
 pub mod OtherFiles
+pub mod NoneWaiting
 pub mod OtherMarks
 pub mod Adoptions

@@ -47,7 +47,7 @@ module _ {D H : Type 0} {old new : Parts D H} (keeps : OnlyPendingChanges old ne
 
   pub rest_of_log : KeepsRest old new
   rest_of_log = record {
-    others = keeps.others ∙ ap (λ (p : Parts D H). record old { slots = p.slots; trees = p.trees; book = p.book; unmarked = p.unmarked; log = new.log }) (sym keeps.others);
+    others = keeps.others ∙ ap (λ (p : Parts D H). record old { slots = p.slots; trees = p.trees; book = p.book; counts = p.counts; log = new.log }) (sym keeps.others);
     log = keeps.log;
     count = ap (λ (p : Parts D H). length p.slots.items) keeps.others;
     trees = ap (λ (p : Parts D H). map root_and_length p.trees.items) keeps.others;

@@ -27,7 +27,7 @@ module _ {D H : Type 0} where
 
   pub rest_then : {old mid new : Parts D H} → KeepsRest old mid → KeepsRest mid new → KeepsRest old new
   rest_then {old} {mid} {new} one two = record {
-    others = two.others ∙ ap (λ (p : Parts D H). record p { slots = new.slots; trees = new.trees; book = new.book; unmarked = new.unmarked; log = new.log }) one.others;
+    others = two.others ∙ ap (λ (p : Parts D H). record p { slots = new.slots; trees = new.trees; book = new.book; counts = new.counts; log = new.log }) one.others;
     log = two.log ∙ one.log;
     count = two.count ∙ one.count;
     trees = two.trees ∙ one.trees;

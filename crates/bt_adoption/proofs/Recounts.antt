@@ -58,7 +58,7 @@ pub record IsBetween {D H : Type 0} (old : Parts D H) (file : ℕ) (was now : Li
   pub whole : length was ≡ length (states_of (state_of old) file)
   pub followed : Follows parts (with_states (state_of old) file (states_up_to was now block))
   pub peers : peers_of parts.book ≡ peers_of old.book
-  pub others : parts ≡ record old { book = parts.book; unmarked = parts.unmarked }
+  pub others : parts ≡ record old { book = parts.book; counts = parts.counts }
 
 pub between_begun : {D H : Type 0} {old : Parts D H} {file : ℕ} {was now : List BlockState} → length now ≡ length was → length was ≡ length (states_of (state_of old) file)
     → Follows old (with_states (state_of old) file was) → IsBetween old file was now 0 old
@@ -94,18 +94,18 @@ module _ {D H : Type 0} {old : Parts D H} {file : ℕ} {was now : List BlockStat
     unfolding first
     same_torrent = sym (ap (λ (p : Parts D H). p.torrent) b.others)
 
-    pub between_changes : HasChanged parts.torrent parts.book.wanted parts.unmarked.items (block_id file block) x y
+    pub between_changes : HasChanged parts.torrent parts.book.wanted parts.counts (block_id file block) x y
     unfolding first
     between_changes = record { first = first; last = last; same_torrent = same_torrent; followed = b.followed; changed = changed }
 
-    pub between_more : {new : Parts D H} → ((s t : EngineState) → s.torrent ≡ parts.torrent → AreFollowed s parts.book.wanted parts.unmarked.items
-        → OneChanged s t (block_id file block) x y → AreFollowed t new.book.wanted new.unmarked.items)
-        → peers_of new.book ≡ peers_of parts.book → new ≡ record parts { book = new.book; unmarked = new.unmarked } → IsBetween old file was now (block + 1) new
+    pub between_more : {new : Parts D H} → ((s t : EngineState) → s.torrent ≡ parts.torrent → AreFollowed s parts.book.wanted parts.counts
+        → OneChanged s t (block_id file block) x y → AreFollowed t new.book.wanted new.counts)
+        → peers_of new.book ≡ peers_of parts.book → new ≡ record parts { book = new.book; counts = new.counts } → IsBetween old file was now (block + 1) new
     unfolding first last
     between_more {new} follows peers others = record {
       same = b.same;
       whole = b.whole;
       followed = follows first last same_torrent b.followed changed;
       peers = peers ∙ b.peers;
-      others = others ∙ ap (λ (p : Parts D H). record p { book = new.book; unmarked = new.unmarked }) b.others;
+      others = others ∙ ap (λ (p : Parts D H). record p { book = new.book; counts = new.counts }) b.others;
     }

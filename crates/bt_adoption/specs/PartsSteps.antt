@@ -32,7 +32,7 @@ pub record KeepsRest {D H : Type 0} (old new : Parts D H) : Type 0 where
     slots = new.slots;
     trees = new.trees;
     book = new.book;
-    unmarked = new.unmarked;
+    counts = new.counts;
     log = new.log;
   }
   pub log : log_of new ≡ log_of old

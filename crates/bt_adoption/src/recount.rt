@@ -1,5 +1,5 @@
-//! A file of which many blocks change at once is left out of the request book and of the counts of unmarked
-//! blocks, and counted in again when it has changed. So nothing has to keep the states that its blocks had.
+//! A file of which many blocks change at once is left out of the request book and of the counts, and counted
+//! in again when it has changed. So nothing has to keep the states that its blocks had.
 ghost use Rattle.std.specs.Prelude.{◌≡◌, ◌<◌, Some, length, slice_get};
 ghost use Rattle.bt_machine.specs.Blocks.{block_id, state_at, states_of};
 ghost use Rattle.bt_state.specs.Parts.{state_of, file_of};
@@ -41,17 +41,7 @@ pub(crate) fn block_count<D: Disk + Drop, H: NodeHash>(parts: &Parts<D, H>, file
 {
     let slots = parts.slots.as_slice();
     match slots.get(file as usize) {
-        Some(slot) => slot_blocks(slot),
-        None => 0,
-    }
-}
-
-/// How many blocks a slot's file has.
-fn slot_blocks<D: Disk + Drop, H: NodeHash>(slot: &Slot<D, H>) -> u32
-    ensures { result ≡ length (file_of slot.now).states }
-{
-    match &slot.store {
-        Some(store) => store.geometry().blocks(),
+        Some(slot) => slot.blocks(),
         None => 0,
     }
 }
@@ -77,10 +67,7 @@ fn slot_state<D: Disk + Drop, H: NodeHash>(slot: &Slot<D, H>, block: u32) -> Blo
     requires { block < length (file_of slot.now).states }
     ensures { slice_get (file_of slot.now).states block ≡ Some result }
 {
-    let Some(store) = &slot.store else {
-        unreachable!();
-    };
-    let Some(state) = store.state(block) else {
+    let Some(state) = slot.state(block) else {
         unreachable!();
     };
     state

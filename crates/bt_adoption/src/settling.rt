@@ -15,7 +15,8 @@ use bt_tree::NodeHash;
 use std::alloc::{AllocError, Global};
 
 /// Settles all blocks of the other files of a tree, all but this one. With a log the marks of those that have
-/// become marked are pending behind what was. No peer is connected.
+/// become marked are pending behind what was. No peer is connected. Where no block of any file waits, no other
+/// file is looked at.
 ///
 /// Errors: out of memory, and then no block has changed, and nothing more is pending.
 pub(crate) fn settle_recorded<D: Disk + Drop, H: NodeHash>(
@@ -35,6 +36,10 @@ pub(crate) fn settle_recorded<D: Disk + Drop, H: NodeHash>(
     ensures rest { KeepsRest parts.old parts.new }
     ensures in_line { AreInLine parts.new }
 {
+    let waiting = parts.counts.waiting;
+    if waiting == 0 {
+        return Ok(());
+    }
     let listed = list_waiting(alloc, parts, tree, file)?;
     settle_others(parts, tree, file);
     leave_marks(parts, &listed);

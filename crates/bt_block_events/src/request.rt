@@ -133,10 +133,7 @@ fn is_marked<D: Disk + Drop, H: NodeHash>(parts: &Parts<D, H>, file: u32, block:
     let Some(slot) = slots.get(file as usize) else {
         return false;
     };
-    let Some(store) = &slot.store else {
-        return false;
-    };
-    store.state(block) == Some(BlockState::Marked)
+    slot.state(block) == Some(BlockState::Marked)
 }
 
 /// Reads the blocks that a span lies in, all of them marked, and gives the bytes of the span. At the first

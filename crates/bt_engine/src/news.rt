@@ -64,7 +64,7 @@ fn announce_piece<D: Disk + Drop, H: NodeHash>(
     ensures few { vec_len send.new ≤ vec_len send.old + length parts.now.peers.items }
     ensures capacity { vec_capacity send.old ≤ vec_capacity send.new }
 {
-    let unmarked = parts.unmarked.as_slice();
+    let unmarked = parts.counts.unmarked.as_slice();
     let left = unmarked[piece as usize];
     if left > 0 {
         return;

@@ -122,11 +122,8 @@ fn is_marked<D: Disk + Drop, H: NodeHash>(parts: &Parts<D, H>, block: BlockId) -
     ensures { result ≡ is_marked_in (state_of parts.now) block }
 {
     let slots = parts.slots.as_slice();
-    let Some(slot) = slots.get(block.file as usize) else {
-        return false;
-    };
-    match &slot.store {
-        Some(store) => store.state(block.block) == Some(BlockState::Marked),
+    match slots.get(block.file as usize) {
+        Some(slot) => slot.state(block.block) == Some(BlockState::Marked),
         None => false,
     }
 }

@@ -51,9 +51,9 @@ module _ {D H : Type 0} (old : Parts D H) (file : ℕ) (f : FileState) where
 
   pub record IsBetween (block : ℕ) (parts : Parts D H) : Type 0 where
     pub here : slice_get (state_of old).files file ≡ Some f
-    pub followed : AreFollowed (midst block) parts.book.wanted parts.unmarked.items
+    pub followed : AreFollowed (midst block) parts.book.wanted parts.counts
     pub peers : peers_of parts.book ≡ peers_of old.book
-    pub others : parts ≡ record old { book = parts.book; unmarked = parts.unmarked }
+    pub others : parts ≡ record old { book = parts.book; counts = parts.counts }
 
   same_size : length f.states ≡ length absent
   same_size = sym (length-replicate (length f.states) Missing)
@@ -104,24 +104,24 @@ module _ {D H : Type 0} (old : Parts D H) (file : ℕ) (f : FileState) where
           ∙ sym (set_again before.files file (record f { states = states_up_to absent f.states block })
           (record f { states = slice_set (states_up_to absent f.states block) block x })))
 
-      pub between_changes : HasChanged parts.torrent parts.book.wanted parts.unmarked.items (block_id file block) Missing x
+      pub between_changes : HasChanged parts.torrent parts.book.wanted parts.counts (block_id file block) Missing x
       between_changes = record { first = midst block; last = midst (block + 1); same_torrent = same_torrent; followed = b.followed; changed = changed }
 
-      pub between_more : {new : Parts D H} → ((s t : EngineState) → s.torrent ≡ parts.torrent → AreFollowed s parts.book.wanted parts.unmarked.items
-          → OneChanged s t (block_id file block) Missing x → AreFollowed t new.book.wanted new.unmarked.items)
-          → peers_of new.book ≡ peers_of parts.book → new ≡ record parts { book = new.book; unmarked = new.unmarked } → IsBetween (block + 1) new
+      pub between_more : {new : Parts D H} → ((s t : EngineState) → s.torrent ≡ parts.torrent → AreFollowed s parts.book.wanted parts.counts
+          → OneChanged s t (block_id file block) Missing x → AreFollowed t new.book.wanted new.counts)
+          → peers_of new.book ≡ peers_of parts.book → new ≡ record parts { book = new.book; counts = new.counts } → IsBetween (block + 1) new
       between_more {new} follows peers others = record {
         here = b.here;
         followed = follows (midst block) (midst (block + 1)) same_torrent b.followed changed;
         peers = peers ∙ b.peers;
-        others = others ∙ ap (λ (p : Parts D H). record p { book = new.book; unmarked = new.unmarked }) b.others;
+        others = others ∙ ap (λ (p : Parts D H). record p { book = new.book; counts = new.counts }) b.others;
       }
 
     -- a block that is missing still
     pub between_passed : slice_get f.states block ≡ Some Missing → IsBetween (block + 1) parts
     between_passed at = record {
       here = b.here;
-      followed = subst (λ (xs : List BlockState). AreFollowed (with_file before file (record f { states = xs })) parts.book.wanted parts.unmarked.items)
+      followed = subst (λ (xs : List BlockState). AreFollowed (with_file before file (record f { states = xs })) parts.book.wanted parts.counts)
           (sym (next_new absent f.states block same_size at ∙ set_id (states_up_to absent f.states block) block (had at))) b.followed;
       peers = b.peers;
       others = b.others;
@@ -143,21 +143,21 @@ module _ {D H : Type 0} (old : Parts D H) where
   pub record AreBetween (file : ℕ) (parts : Parts D H) : Type 0 where
     pub follows : FollowsTo file parts
     pub peers : peers_of parts.book ≡ peers_of old.book
-    pub others : parts ≡ record old { book = parts.book; unmarked = parts.unmarked }
+    pub others : parts ≡ record old { book = parts.book; counts = parts.counts }
 
   pub files_begun : FollowsTo 0 old → AreBetween 0 old
   files_begun follows = record { follows = follows; peers = refl; others = refl }
 
   module _ {file : ℕ} {parts : Parts D H} (b : AreBetween file parts) where
     pub files_more : {new : Parts D H} → FollowsTo (file + 1) new → peers_of new.book ≡ peers_of parts.book
-        → new ≡ record parts { book = new.book; unmarked = new.unmarked } → AreBetween (file + 1) new
+        → new ≡ record parts { book = new.book; counts = new.counts } → AreBetween (file + 1) new
     files_more {new} follows peers others = record {
       follows = follows;
       peers = peers ∙ b.peers;
-      others = others ∙ ap (λ (p : Parts D H). record p { book = new.book; unmarked = new.unmarked }) b.others;
+      others = others ∙ ap (λ (p : Parts D H). record p { book = new.book; counts = new.counts }) b.others;
     }
 
-    pub files_done : length old.slots.items ≡ file → AreFollowed (state_of old) parts.book.wanted parts.unmarked.items
+    pub files_done : length old.slots.items ≡ file → AreFollowed (state_of old) parts.book.wanted parts.counts
     files_done all =
         let files = (state_of old).files in
         let last : length files ≡ file = length-map old.slots.items file_of ∙ all in

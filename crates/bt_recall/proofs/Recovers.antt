@@ -134,7 +134,7 @@ module _ {D H : Type 0} (old : Parts D H) (slots : Vec (Slot D H)) (named : map 
       none_before None e = refl
       none_before (Some store) e = absurd cc
 
-  module _ (new : Parts D H) (others : new ≡ record mid { book = new.book; unmarked = new.unmarked }) where
+  module _ (new : Parts D H) (others : new ≡ record mid { book = new.book; counts = new.counts }) where
     leaves_then : LeavesStay (state_of old) (state_of new)
     leaves_then = leaves_by (state_of old) (state_of new)
         (λ file g at. (
@@ -144,7 +144,7 @@ module _ {D H : Type 0} (old : Parts D H) (slots : Vec (Slot D H)) (named : map 
         ))
         (λ tree j at. (j, sym (ap (λ (p : Parts D H). slice_get p.trees.items tree) others) ∙ at, still j))
 
-    pub tied_then : IsTied old → peers_of new.book ≡ peers_of old.book → AreFollowed (state_of mid) new.book.wanted new.unmarked.items → IsTied new
+    pub tied_then : IsTied old → peers_of new.book ≡ peers_of old.book → AreFollowed (state_of mid) new.book.wanted new.counts → IsTied new
     tied_then tied peers follows =
         tied_followed old new tied (ap (λ (p : Parts D H). p.torrent) others) (ap (λ (p : Parts D H). map (λ q. q.key) p.peers.items) others)
         (subst (λ (p : Parts D H). max_peers ≤ vec_capacity p.peers) (sym others) tied.room) peers (ap (λ (p : Parts D H). length p.slots.items) others ∙ as_many)

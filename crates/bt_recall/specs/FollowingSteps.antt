@@ -15,4 +15,4 @@ missing_from file s = record s { files = take file s.files ++ map missing_file (
 
 -- the book and the counts are right for it
 abbrev pub FollowsTo : {D H : Type 0} → ℕ → Parts D H → Type 0
-FollowsTo file parts = AreFollowed (missing_from file (state_of parts)) parts.book.wanted parts.unmarked.items
+FollowsTo file parts = AreFollowed (missing_from file (state_of parts)) parts.book.wanted parts.counts

@@ -1,4 +1,4 @@
-//! The request book and the counts of unmarked blocks follow files of which all blocks were missing.
+//! The request book and the counts follow files of which all blocks were missing.
 ghost use Rattle.std.specs.Prelude.{◌≡◌, ◌+◌, ◌<◌, Some, length, slice_get, vec_len};
 ghost use Rattle.bt_book.specs.Book.{peers_of};
 ghost use Rattle.bt_state.specs.BlockChange.{AreFollowed};
@@ -15,9 +15,9 @@ use bt_tree::NodeHash;
 pub(crate) fn follow_files<D: Disk + Drop, H: NodeHash>(parts: &mut Parts<D, H>)
     requires follows { FollowsTo 0 parts.old }
     requires count { length parts.old.slots.items ≡ length parts.old.torrent.files }
-    ensures follows { AreFollowed (state_of parts.old) parts.new.book.wanted parts.new.unmarked.items }
+    ensures follows { AreFollowed (state_of parts.old) parts.new.book.wanted parts.new.counts }
     ensures peers { peers_of parts.new.book ≡ peers_of parts.old.book }
-    ensures others { parts.new ≡ record parts.old { book = parts.new.book; unmarked = parts.new.unmarked } }
+    ensures others { parts.new ≡ record parts.old { book = parts.new.book; counts = parts.new.counts } }
 {
     let count = parts.torrent.files().len() as u32;
     for file in 0..count {
@@ -31,7 +31,7 @@ fn follow_file<D: Disk + Drop, H: NodeHash>(parts: &mut Parts<D, H>, file: u32)
     requires inside { file < vec_len parts.old.slots }
     ensures follows { FollowsTo (file + 1) parts.new }
     ensures peers { peers_of parts.new.book ≡ peers_of parts.old.book }
-    ensures others { parts.new ≡ record parts.old { book = parts.new.book; unmarked = parts.new.unmarked } }
+    ensures others { parts.new ≡ record parts.old { book = parts.new.book; counts = parts.new.counts } }
 {
     let count = slot_blocks(&parts.slots[file as usize]);
     for block in 0..count {

@@ -73,7 +73,7 @@ module _ {D H : Type 0} (parts : Parts D H) (log : Option (OpenLog D)) where
     count = tied.count;
     each = tied.each;
     roots = tied.roots;
-    unmarked = record { size = tied.unmarked.size; each = tied.unmarked.each };
+    counted = record { unmarked = record { size = tied.counted.unmarked.size; each = tied.counted.unmarked.each }; waiting = tied.counted.waiting };
     known = record { size = tied.known.size; each = tied.known.each };
   }
 
@@ -86,7 +86,7 @@ module _ {D H : Type 0} {dig : List ℕ → List ℕ} (old : Parts D H) (slots :
     (tied : IsTied old) (shaped : IsShaped old.torrent (state_of old)) (lawful : IsLawful old.torrent.piece_length old.torrent.files)
     (are : slots.items ≡ map cleared old.slots.items) (from : AreTreesFrom dig old trees.items) (fresh : AreNewBooks old.torrent books) where
   abbrev pub next : Parts D H
-  next = record old { slots = slots; trees = trees; unmarked = books.unmarked; known = books.known; peers = books.peers; book = books.book; log = log }
+  next = record old { slots = slots; trees = trees; counts = books.counts; known = books.known; peers = books.peers; book = books.book; log = log }
 
   -- the same without a log, and with the trees as the torrent has them
   abbrev bare : Parts D H

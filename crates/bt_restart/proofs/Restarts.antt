@@ -129,7 +129,7 @@ module _ {D H : Type 0} {dig : List ℕ → List ℕ} (old : Parts D H) (slots :
     (are : slots.items ≡ map cleared old.slots.items) (made : AreTreesOf dig old.torrent old.roots.first_files.items trees.items)
     (fresh : AreNewBooks old.torrent books) (none : old.log ≡ None) where
   abbrev pub next : Parts D H
-  next = record old { slots = slots; trees = trees; unmarked = books.unmarked; known = books.known; peers = books.peers; book = books.book }
+  next = record old { slots = slots; trees = trees; counts = books.counts; known = books.known; peers = books.peers; book = books.book }
 
   names : map root_and_length trees.items ≡ map root_and_length old.trees.items
   names = names_of_trees made ∙ sym tied.roots.firsts.same

@@ -112,7 +112,7 @@ fn begin_with_log<D: Disk + Drop, H: NodeHash>(
     parts.torrent.keeps_laws();
     clear_slots(&mut parts.slots);
     parts.trees = trees;
-    parts.unmarked = books.unmarked;
+    parts.counts = books.counts;
     parts.known = books.known;
     parts.peers = books.peers;
     parts.book = books.book;

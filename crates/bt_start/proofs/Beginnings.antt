@@ -4,7 +4,7 @@ use Rattle.std.specs.Prelude.{◌↔◌, slice_index_or, Result, Ok, Err, OnOk}
 use Rattle.std.specs.Vec.{with_items}
 use Rattle.std.proofs.lemmas.List.{get_or_past, with_items_is}
 use Rattle.std.proofs.lemmas.Option.{slice_get_past, get_or_from_slice_get}
-use Rattle.bt_store.specs.BlockStates.{is_marked}
+use Rattle.bt_store.specs.BlockStates.{is_marked, is_waiting}
 use Rattle.bt_store.specs.FileStore.{StoreView, new_states}
 use Rattle.bt_store.specs.declared.block_states.BlockState.{BlockState}
 use Rattle.bt_book.specs.Blocks.{Blocks, IsInRange, member, of_file}
@@ -19,8 +19,9 @@ use Rattle.bt_machine.specs.Blocks.{state_at, piece_of, is_marked_in}
 use Rattle.bt_machine.specs.Start.{Starts, AreDevicesOf, IsNewFile, IsNew}
 use Rattle.bt_state.proofs.Lists.{get_mapped}
 use Rattle.bt_state.specs.Parts.{state_of, disks_of, file_of, disk_of, peer_of, pending_of, hints_of}
-use Rattle.bt_state.specs.Ties.{FitsTree, IsTied, root_and_length}
+use Rattle.bt_state.specs.Ties.{FitsTree, is_waiting_in, IsTied, root_and_length}
 use Rattle.bt_state.proofs.BlockChanges.{EachFits}
+use Rattle.bt_state.proofs.WaitingBlocks.{none_counted}
 use Rattle.bt_state.specs.declared.peer.Peer.{Peer}
 use Rattle.bt_state.specs.declared.open_log.OpenLog.{OpenLog}
 use Rattle.bt_state.specs.declared.slot.Slot.{Slot}
@@ -54,6 +55,12 @@ none_marked zero zero = refl
 none_marked zero (suc i) = refl
 none_marked (suc n) zero = refl
 none_marked (suc n) (suc i) = none_marked n i
+
+none_waiting : (n i : ℕ) → option_map_or is_waiting (slice_get (replicate n Missing) i) false ≡ false
+none_waiting zero zero = refl
+none_waiting zero (suc i) = refl
+none_waiting (suc n) zero = refl
+none_waiting (suc n) (suc i) = none_waiting n i
 
 module _ (s : EngineState) (wanted : Blocks) (files : List File) (is : wanted ≡ map (λ file. replicate (block_count file.length) true) files)
     (count : length s.files ≡ length files)
@@ -109,6 +116,12 @@ module _ (s : EngineState) (wanted : Blocks) (files : List File) (is : wanted �
   not_marked = elim (cases_lt b.file (length files)) [
     | inl lt ↦ (let own = block_in lt in ap (λ (o : Option BlockState). option_map_or is_marked o false) own.2 ∙ none_marked own.0 b.block)
     | inr past ↦ ap (λ (o : Option BlockState). option_map_or is_marked o false) (state_past past)
+  ]
+
+  not_waiting : is_waiting_in s b ≡ false
+  not_waiting = elim (cases_lt b.file (length files)) [
+    | inl lt ↦ (let own = block_in lt in ap (λ (o : Option BlockState). option_map_or is_waiting o false) own.2 ∙ none_waiting own.0 b.block)
+    | inr past ↦ ap (λ (o : Option BlockState). option_map_or is_waiting o false) (state_past past)
   ]
 
 -- ---- a slot that has its device
@@ -212,8 +225,12 @@ module _ {D H : Type 0} {dig : List ℕ → List ℕ} (parts : Parts D H) (is : 
           absurd (none_among (total_pieces parts.torrent) (piece_of parts.torrent b)
           (ap (λ (bs : List Bool). option_and_then (λ q. slice_get bs q) (piece_of parts.torrent b)) (sym is.books.known) ∙ among));
     };
-    unmarked = sizes_unmarked lies (state_of parts) in_shape is.lawful.piece is.lawful.laid_out
-        (not_marked (state_of parts) parts.book.wanted parts.torrent.files is.books.wanted are_new.count missing) is.books.sizes;
+    counted = record {
+      unmarked = sizes_unmarked lies (state_of parts) in_shape is.lawful.piece is.lawful.laid_out
+          (not_marked (state_of parts) parts.book.wanted parts.torrent.files is.books.wanted are_new.count missing) is.books.sizes;
+      waiting = is.books.waiting
+          ∙ sym (none_counted (state_of parts) (not_waiting (state_of parts) parts.book.wanted parts.torrent.files is.books.wanted are_new.count missing));
+    };
   }
 
 -- ---- the parts, once devices were handed out

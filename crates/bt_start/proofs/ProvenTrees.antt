@@ -90,7 +90,7 @@ module _ {D H : Type 0} {dig : List ℕ → List ℕ} {hints : List Hint} (base 
         count = t.count;
         each = λ i slot at. fits_then i slot (t.each i slot at);
         roots = subst (λ (ps : List (List ℕ × ℕ)). FitRoots base.torrent.files ps base.roots) (sym names) t.roots;
-        unmarked = record { size = t.unmarked.size; each = t.unmarked.each };
+        counted = record { unmarked = record { size = t.counted.unmarked.size; each = t.counted.unmarked.each }; waiting = t.counted.waiting };
         known = knows_still refl leaves t.known;
       }
 

@@ -13,7 +13,7 @@ use Rattle.bt_start.specs.TreeSteps.{AreTorrentTrees, AreBareSlots}
 -- the parts that are made anew each time that all begins
 abbrev pub books_of : {D H : Type 0} → Parts D H → Books
 books_of parts = record {
-  unmarked = parts.unmarked;
+  counts = parts.counts;
   known = parts.known;
   peers = parts.peers;
   book = parts.book;

@@ -17,10 +17,11 @@ pub record ArePieceSizes (torrent : Metainfo) (sizes : List ℕ) : Type 0 where
   pub size : length sizes ≡ total_pieces torrent
   pub each : AreRunSizes torrent sizes
 
--- all blocks are unmarked and wanted, of no piece the leaves are known, and there is room for all peers that
--- may come
+-- all blocks are unmarked and wanted and none waits, of no piece the leaves are known, and there is room for
+-- all peers that may come
 pub record AreNewBooks (torrent : Metainfo) (books : Books) : Type 0 where
-  pub sizes : ArePieceSizes torrent books.unmarked.items
+  pub sizes : ArePieceSizes torrent books.counts.unmarked.items
+  pub waiting : books.counts.waiting ≡ 0
   pub known : books.known ≡ replicate (total_pieces torrent) false
   pub wanted : books.book.wanted ≡ map (λ file. replicate (block_count file.length) true) torrent.files
   pub unasked : books.book.peers ≡ []

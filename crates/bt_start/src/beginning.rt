@@ -95,7 +95,7 @@ pub(crate) fn bare_parts<D: Disk + Drop, H: NodeHash>(
         trees,
         roots,
         slots,
-        unmarked: books.unmarked,
+        counts: books.counts,
         known: books.known,
         peers: books.peers,
         book: books.book,

@@ -1,5 +1,5 @@
 //! What an engine has of its blocks and peers when it begins: a request book that wants all blocks, a count
-//! of unmarked blocks for each piece, no piece whose leaves are known, and no peer.
+//! of unmarked blocks for each piece, none that waits, no piece whose leaves are known, and no peer.
 ghost use Rattle.std.specs.Prelude.{IfOk};
 ghost use Rattle.bt_start.specs.Books.{AreNewBooks};
 
@@ -8,14 +8,14 @@ use crate::new_book::new_book;
 use crate::piece_sizes::piece_sizes;
 use bt_book::Book;
 use bt_meta::Torrent;
-use bt_state::{MAX_PEERS, Peer, PieceSet};
+use bt_state::{Counts, MAX_PEERS, Peer, PieceSet};
 use std::alloc::{AllocError, Global};
 
 /// What an engine keeps of its blocks and peers, beside its trees and files.
 #[derive(Drop)]
 pub struct Books {
-    /// For each piece how many of its blocks are not marked.
-    pub unmarked: Vec<u32>,
+    /// How many blocks are not marked, and how many wait.
+    pub counts: Counts,
     /// Pieces of whose blocks each leaf is known.
     pub known: PieceSet,
     pub peers: Vec<Peer>,
@@ -27,11 +27,14 @@ pub struct Books {
 pub fn new_books(alloc: Global, torrent: &Torrent) -> Result<Books, AllocError>
     ensures { IfOk result (λ books. AreNewBooks torrent.now books) }
 {
-    let counts = block_counts(alloc, torrent.files())?;
+    let blocks = block_counts(alloc, torrent.files())?;
     Ok(Books {
-        unmarked: piece_sizes(alloc, torrent)?,
+        counts: Counts {
+            unmarked: piece_sizes(alloc, torrent)?,
+            waiting: 0,
+        },
         known: PieceSet::new(alloc, torrent.pieces())?,
         peers: Vec::with_capacity(alloc, MAX_PEERS)?,
-        book: new_book(alloc, &counts)?,
+        book: new_book(alloc, &blocks)?,
     })
 }

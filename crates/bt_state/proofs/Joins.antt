@@ -73,7 +73,7 @@ module _ {D H : Type 0} (old : Parts D H) (key : PeerKey) (tied : IsTied old) (o
         ∙ ap {A = List BlockId} {B = List PeerState} (λ asked. (state_of old).peers ++ record (peer_of new.book newcomer) { asked = asked } ∷ []) none
 
     pub tied_joined : new.torrent ≡ old.torrent → new.trees.items ≡ old.trees.items → new.roots ≡ old.roots → new.slots.items ≡ old.slots.items
-        → new.unmarked.items ≡ old.unmarked.items → new.known ≡ old.known → new.book ≡ with_peer old.book key → max_peers ≤ vec_capacity new.peers → IsTied new
+        → new.counts ≡ old.counts → new.known ≡ old.known → new.book ≡ with_peer old.book key → max_peers ≤ vec_capacity new.peers → IsTied new
     tied_joined torrent trees roots slots counts known book room =
         tied_again old new tied torrent trees roots slots counts known (ap (λ (b : BookState). b.wanted) book)
         (ap (λ (ps : List Peer). map (λ p. p.key) ps) peers ∙ map-append (λ (p : Peer). p.key) old.peers.items (newcomer ∷ [])

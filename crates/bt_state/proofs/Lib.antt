@@ -18,8 +18,9 @@ pub mod Joins
 pub mod Completeness
 -- devices
 pub mod DeviceCalls
--- the counts of unmarked blocks
+-- the counts of unmarked blocks, and of those that wait
 pub mod Unmarked
+pub mod WaitingBlocks
 -- a block that has another state
 pub mod BlockChanges
 pub mod SlotChanges

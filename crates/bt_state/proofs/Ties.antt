@@ -13,7 +13,8 @@ use Rattle.bt_machine.specs.Next.{IsPeer, HasNoPeer}
 use Rattle.bt_book.specs.Book.{PeerRequests, is_of}
 use Rattle.bt_book.proofs.Once.{filter_one}
 use Rattle.bt_state.specs.Parts.{state_of, peer_of, file_of, IsPeerAt, LacksPeer}
-use Rattle.bt_state.specs.Ties.{AreUnmarked, KnowsLeaves, IsTied}
+use Rattle.bt_state.specs.Ties.{AreCounted, KnowsLeaves, IsTied}
+use Rattle.bt_state.specs.declared.counts.Counts.{Counts}
 use Rattle.bt_state.specs.declared.peer.Peer.{Peer}
 use Rattle.bt_state.specs.declared.open_log.OpenLog.{OpenLog}
 use Rattle.bt_state.specs.declared.slot.Slot.{Slot}
@@ -50,7 +51,7 @@ module _ {D H : Type 0} (parts : Parts D H) where
       count = tied.count;
       each = tied.each;
       roots = tied.roots;
-      unmarked = record { size = tied.unmarked.size; each = tied.unmarked.each };
+      counted = record { unmarked = record { size = tied.counted.unmarked.size; each = tied.counted.unmarked.each }; waiting = tied.counted.waiting };
       known = record { size = tied.known.size; each = tied.known.each };
     }
 
@@ -70,7 +71,7 @@ tied_known parts pieces tied knows = record {
   count = tied.count;
   each = tied.each;
   roots = tied.roots;
-  unmarked = record { size = tied.unmarked.size; each = tied.unmarked.each };
+  counted = record { unmarked = record { size = tied.counted.unmarked.size; each = tied.counted.unmarked.each }; waiting = tied.counted.waiting };
   known = record { size = knows.size; each = knows.each };
 }
 
@@ -85,7 +86,7 @@ tied_logged parts log tied = record {
   count = tied.count;
   each = tied.each;
   roots = tied.roots;
-  unmarked = record { size = tied.unmarked.size; each = tied.unmarked.each };
+  counted = record { unmarked = record { size = tied.counted.unmarked.size; each = tied.counted.unmarked.each }; waiting = tied.counted.waiting };
   known = record { size = tied.known.size; each = tied.known.each };
 }
 
@@ -96,17 +97,18 @@ found_at {peers} {key} {i} p at read =
     let here = get_read peers i p (some_below peers i at.here) read in
     (here, ap (λ (x : Peer). x.key) (some_is (sym here ∙ at.here)) ∙ at.same_key)
 
--- what a count of unmarked blocks speaks of
-pub same_counts : (s t : EngineState) (counts : List ℕ) → t.torrent ≡ s.torrent → t.files ≡ s.files → AreUnmarked s counts → AreUnmarked t counts
+-- what the counts speak of
+pub same_counts : (s t : EngineState) (counts : Counts) → t.torrent ≡ s.torrent → t.files ≡ s.files → AreCounted s counts → AreCounted t counts
 same_counts s t counts torrent files has =
-    let at : AreUnmarked (record t { torrent = s.torrent; files = s.files }) counts = record { size = has.size; each = has.each } in
-    subst (λ (fs : List FileState). AreUnmarked (record t { files = fs }) counts) (sym files)
-    (subst (λ (m : Metainfo). AreUnmarked (record t { torrent = m; files = s.files }) counts) (sym torrent) at)
+    let at : AreCounted (record t { torrent = s.torrent; files = s.files }) counts =
+    record { unmarked = record { size = has.unmarked.size; each = has.unmarked.each }; waiting = has.waiting } in
+    subst (λ (fs : List FileState). AreCounted (record t { files = fs }) counts) (sym files)
+    (subst (λ (m : Metainfo). AreCounted (record t { torrent = m; files = s.files }) counts) (sym torrent) at)
 
 -- peers come and go, and what they are asked for changes, but which blocks are missing and wanted stays
 pub tied_again : {D H : Type 0} (old new : Parts D H) → IsTied old → new.torrent ≡ old.torrent → new.trees.items ≡ old.trees.items
     → new.roots ≡ old.roots
-    → new.slots.items ≡ old.slots.items → new.unmarked.items ≡ old.unmarked.items → new.known ≡ old.known → new.book.wanted ≡ old.book.wanted
+    → new.slots.items ≡ old.slots.items → new.counts ≡ old.counts → new.known ≡ old.known → new.book.wanted ≡ old.book.wanted
     → map (λ p. p.key) new.peers.items ≡ map (λ r. r.peer) new.book.peers → AreInOrder new.peers.items
     → max_peers ≤ vec_capacity new.peers → IsTied new
 tied_again {D} {H} old new tied torrent trees roots slots counts known wanted joined in_order room = record {
@@ -118,7 +120,7 @@ tied_again {D} {H} old new tied torrent trees roots slots counts known wanted jo
   count = ap (λ xs. length xs) slots ∙ tied.count ∙ ap (λ (t : Metainfo). length t.files) (sym torrent);
   each = λ i slot at. rw torrent (rw trees (tied.each i slot (ap (λ xs. slice_get xs i) (sym slots) ∙ at)));
   roots = rw torrent (rw trees (rw roots tied.roots));
-  unmarked = rw counts (same_counts (state_of old) (state_of new) old.unmarked.items torrent (ap (λ (xs : List (Slot D H)). map file_of xs) slots) tied.unmarked);
+  counted = rw counts (same_counts (state_of old) (state_of new) old.counts torrent (ap (λ (xs : List (Slot D H)). map file_of xs) slots) tied.counted);
   known = rw known (knows_still torrent (leaves_alike (state_of old) (state_of new) trees (ap (λ (xs : List (Slot D H)). map file_of xs) slots)) tied.known);
 }
   where

@@ -51,7 +51,7 @@ one_of true = refl
 one_of false = refl
 
 -- of blocks in order all but one are counted alike
-count_but_one : (f g : BlockId → Bool) (b : BlockId) (xs : List BlockId) → Pairs IsBefore xs → Contains xs b → ((c : BlockId) → c ≢ b → f c ≡ g c)
+pub count_but_one : (f g : BlockId → Bool) (b : BlockId) (xs : List BlockId) → Pairs IsBefore xs → Contains xs b → ((c : BlockId) → c ≢ b → f c ≡ g c)
     → count_by f xs + one_if (g b) ≡ count_by g xs + one_if (f b)
 count_but_one f g b [] p c same = absurd (contains_none c)
 count_but_one f g b (x ∷ xs) p c same = elim (contains_cases xs c) [
@@ -116,7 +116,7 @@ flat_map_same : {X Y : Type 0} (f g : X → List Y) (xs : List X) → ((x : X) �
 flat_map_same f g [] same = refl
 flat_map_same f g (x ∷ xs) same = rw (same x, flat_map_same f g xs same) refl
 
-same_blocks : {blocks : List BlockId} {old new : EngineState} → DifferAt blocks old new → all_blocks new ≡ all_blocks old
+pub same_blocks : {blocks : List BlockId} {old new : EngineState} → DifferAt blocks old new → all_blocks new ≡ all_blocks old
 same_blocks {blocks} {old} {new} d =
     ap (λ n. flat_map (λ file. map (block_id file) (range_with_len 0 (length (states_of new file)))) (range_with_len 0 n)) d.files
     ∙ flat_map_same _ _ (file_numbers old) (λ file. ap (λ n. map (block_id file) (range_with_len 0 n)) (d.sizes file))

@@ -1,5 +1,5 @@
--- The request book and the counts of unmarked blocks, where one block has another state.
-use Rattle.std.specs.Prelude.{[], ◌≡◌, ℕ, ◌↔◌, true, List, ◌∷◌, Some}
+-- The request book and the counts, where one block has another state.
+use Rattle.std.specs.Prelude.{[], ◌≡◌, ◌↔◌, true, List, ◌∷◌, Some}
 use Rattle.bt_meta.specs.Torrent.{Metainfo}
 use Rattle.bt_meta.specs.PieceBlocks.{HasBlock}
 use Rattle.bt_book.specs.Blocks.{Blocks, IsInRange, member}
@@ -10,15 +10,16 @@ use Rattle.bt_store.specs.declared.block_states.BlockState.TheVariants.{Missing,
 use Rattle.bt_machine.specs.State.{EngineState}
 use Rattle.bt_machine.specs.Blocks.{state_at}
 use Rattle.bt_machine.specs.Changes.{DifferAt}
-use Rattle.bt_state.specs.Ties.{AreUnmarked}
+use Rattle.bt_state.specs.Ties.{AreCounted}
+use Rattle.bt_state.specs.declared.counts.Counts.{Counts}
 
 -- The members are the missing blocks, and the counts are right. Each block that has a state is one of the
 -- torrent's, and may be a member.
-pub record AreFollowed (s : EngineState) (blocks : Blocks) (counts : List ℕ) : Type 0 where
+pub record AreFollowed (s : EngineState) (blocks : Blocks) (counts : Counts) : Type 0 where
   pub wanted : (b : BlockId) → (member blocks b ≡ true) ↔ (state_at s b ≡ Some Missing)
   pub ranged : (b : BlockId) (x : BlockState) → state_at s b ≡ Some x → IsInRange blocks b
   pub listed : (b : BlockId) (x : BlockState) → state_at s b ≡ Some x → HasBlock s.torrent b.file b.block
-  pub unmarked : AreUnmarked s counts
+  pub counted : AreCounted s counts
 
 -- the block's state was this and is that, and no other block has another state
 pub record OneChanged (s t : EngineState) (b : BlockId) (was now : BlockState) : Type 0 where
@@ -27,7 +28,7 @@ pub record OneChanged (s t : EngineState) (b : BlockId) (was now : BlockState) :
   pub after : state_at t b ≡ Some now
 
 -- a state of the machine was followed, and the block has changed since
-pub record HasChanged (torrent : Metainfo) (blocks : Blocks) (counts : List ℕ) (b : BlockId)
+pub record HasChanged (torrent : Metainfo) (blocks : Blocks) (counts : Counts) (b : BlockId)
     (was now : BlockState) : Type 0 where
   pub first : EngineState
   pub last : EngineState

@@ -1,5 +1,5 @@
 -- What ties the parts of an engine together, between its events.
-use Rattle.std.specs.Prelude.{[], ◌≡◌, ℕ, ◌<◌, ◌≤◌, ◌↔◌, Bool, true, not, List, length, map, filter, count_by, Some, None, IsSome, slice_get, vec_capacity}
+use Rattle.std.specs.Prelude.{[], ◌≡◌, ℕ, ◌<◌, ◌≤◌, ◌↔◌, Bool, true, false, not, List, length, map, filter, count_by, Some, None, IsSome, slice_get, vec_capacity}
 use Rattle.std.specs.Option.{option_and_then, option_map_or}
 use Rattle.std.specs.List.{AllPairs}
 use Rattle.bt_tree.specs.Blocks.{block_count}
@@ -11,12 +11,14 @@ use Rattle.bt_book.specs.Blocks.{IsInRange, member}
 use Rattle.bt_book.specs.declared.names.BlockId.{BlockId}
 use Rattle.bt_sparse.specs.SparseTree.{Facts, held_at}
 use Rattle.bt_store.specs.FileStore.{StoreView}
+use Rattle.bt_store.specs.BlockStates.{is_waiting}
 use Rattle.bt_store.specs.declared.block_states.BlockState.{BlockState}
 use Rattle.bt_store.specs.declared.block_states.BlockState.TheVariants.{Missing}
-use Rattle.bt_machine.specs.State.{EngineState}
+use Rattle.bt_machine.specs.State.{EngineState, FileState}
 use Rattle.bt_machine.specs.Blocks.{state_at, tree_of, piece_of, is_marked_in, is_in_piece, all_blocks}
 use Rattle.bt_state.specs.Parts.{state_of}
 use Rattle.bt_state.specs.Roots.{AreNumbered, AreNextFiles}
+use Rattle.bt_state.specs.declared.counts.Counts.{Counts}
 use Rattle.bt_state.specs.declared.roots.Roots.{Roots}
 use Rattle.bt_state.specs.declared.slot.Slot.{Slot}
 use Rattle.bt_state.specs.declared.parts.Parts.{Parts}
@@ -52,6 +54,22 @@ pub record AreUnmarked (s : EngineState) (counts : List ℕ) : Type 0 where
   pub size : length counts ≡ total_pieces s.torrent
   pub each : (piece : ℕ) → piece < total_pieces s.torrent
       → slice_get counts piece ≡ Some (unmarked_in s piece)
+
+abbrev pub is_waiting_in : EngineState → BlockId → Bool
+is_waiting_in s b = option_map_or is_waiting (state_at s b) false
+
+-- how many blocks of all files wait
+abbrev pub waiting_count : EngineState → ℕ
+waiting_count s = count_by (is_waiting_in s) (all_blocks s)
+
+-- so many blocks are not marked, piece by piece, and so many wait
+pub record AreCounted (s : EngineState) (counts : Counts) : Type 0 where
+  pub unmarked : AreUnmarked s counts.unmarked.items
+  pub waiting : counts.waiting ≡ waiting_count s
+
+-- no block of these files waits
+abbrev pub NoneWaits : List FileState → Type 0
+NoneWaits files = (i : ℕ) (f : FileState) → slice_get files i ≡ Some f → count_by is_waiting f.states ≡ 0
 
 -- ---- leaves that are known
 
@@ -114,8 +132,8 @@ HaveRoots parts = FitRoots parts.torrent.files (map root_and_length parts.trees.
 -- ---- all
 
 -- The peers are the book's, in its order, which is that of their keys, and there is room for all that may be.
--- A block is wanted exactly while it is missing. There is a slot for each file, and a count for each piece,
--- and each root leads to its tree and its files. The leaves of the blocks in the pieces of the set are known.
+-- A block is wanted exactly while it is missing. There is a slot for each file, the counts are right, and
+-- each root leads to its tree and its files. The leaves of the blocks in the pieces of the set are known.
 pub record IsTied {D H : Type 0} (parts : Parts D H) : Type 0 where
   pub joined : map (λ p. p.key) parts.peers.items ≡ map (λ r. r.peer) parts.book.peers
   pub in_order : AllPairs (λ p q. p.key.0 < q.key.0) parts.peers.items
@@ -128,5 +146,5 @@ pub record IsTied {D H : Type 0} (parts : Parts D H) : Type 0 where
   pub each : (i : ℕ) (slot : Slot D H) → slice_get parts.slots.items i ≡ Some slot
       → FitsFile parts.torrent.files parts.trees.items i slot
   pub roots : HaveRoots parts
-  pub unmarked : AreUnmarked (state_of parts) parts.unmarked.items
+  pub counted : AreCounted (state_of parts) parts.counts
   pub known : KnowsLeaves (state_of parts) parts.known

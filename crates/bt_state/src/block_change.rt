@@ -1,13 +1,13 @@
-//! The request book and the counts of unmarked blocks follow a block whose state has changed in its store.
-ghost use Rattle.std.specs.Prelude.{◌≡◌, ℕ, ◌+◌, ◌-◌, ◌^◌, ◌<◌, ◌≤◌, Some, length, slice_index, slice_set};
+//! The request book and the counts follow a block whose state has changed in its store.
+ghost use Rattle.std.specs.Prelude.{◌≡◌, ◌<◌, Some};
 ghost use Rattle.bt_meta.specs.Torrent.{total_pieces};
 ghost use Rattle.bt_meta.specs.PieceBlocks.{HasBlock};
 ghost use Rattle.bt_book.specs.Book.{asked_of, peers_of};
 ghost use Rattle.bt_machine.specs.State.{EngineState};
 ghost use Rattle.bt_machine.specs.Blocks.{piece_of as piece_in};
 ghost use Rattle.bt_state.specs.BlockChange.{AreFollowed, OneChanged, HasChanged, asked_after};
-ghost use Rattle.bt_state.specs.BlockChangeSteps.{mark_count};
 
+use crate::counts::count_block;
 use crate::parts::Parts;
 use bt_book::{BlockId, PeerKey};
 use bt_disk::Disk;
@@ -15,27 +15,27 @@ use bt_meta::Torrent;
 use bt_store::BlockState;
 use bt_tree::NodeHash;
 
-/// Brings the request book and the counts of unmarked blocks in line with one block: in its store, its state
-/// was `was` and is `now`. Nobody is asked any longer for a block that is missing no more.
+/// Brings the request book and the counts in line with one block: in its store, its state was `was` and is
+/// `now`. Nobody is asked any longer for a block that is missing no more.
 pub fn follow_block<D: Disk + Drop, H: NodeHash>(
     parts: &mut Parts<D, H>,
     block: BlockId,
     was: BlockState,
     now: BlockState,
 )
-    requires { HasChanged parts.old.torrent parts.old.book.wanted parts.old.unmarked.items block was now }
+    requires { HasChanged parts.old.torrent parts.old.book.wanted parts.old.counts block was now }
     ensures followed { (s t : EngineState) → s.torrent ≡ parts.old.torrent
-        → AreFollowed s parts.old.book.wanted parts.old.unmarked.items → OneChanged s t block was now
-        → AreFollowed t parts.new.book.wanted parts.new.unmarked.items }
+        → AreFollowed s parts.old.book.wanted parts.old.counts → OneChanged s t block was now
+        → AreFollowed t parts.new.book.wanted parts.new.counts }
     ensures asked { (key : PeerKey)
         → asked_of parts.new.book key ≡ asked_after block was now (asked_of parts.old.book key) }
     ensures peers { peers_of parts.new.book ≡ peers_of parts.old.book }
-    ensures others { parts.new ≡ record parts.old { book = parts.new.book; unmarked = parts.new.unmarked } }
+    ensures others { parts.new ≡ record parts.old { book = parts.new.book; counts = parts.new.counts } }
 {
     parts.torrent.keeps_laws();
     parts.book.keeps_laws();
     let piece = piece_of(&parts.torrent, block);
-    count_block(&mut parts.unmarked, piece, was, now);
+    count_block(&mut parts.counts, piece, was, now);
     match now {
         BlockState::Missing => parts.book.want(block),
         BlockState::Waiting | BlockState::Marked => parts.book.done(block),
@@ -53,21 +53,4 @@ fn piece_of(torrent: &Torrent, block: BlockId) -> u32
         unreachable!();
     };
     range.piece
-}
-
-/// Takes a block of a piece out of the count of those that are not marked, or into it.
-fn count_block(unmarked: &mut [u32], piece: u32, was: BlockState, now: BlockState)
-    requires inside { piece < length unmarked.old }
-    requires room { slice_index unmarked.old piece + mark_count was < 2 ^ 32 }
-    requires some { mark_count now ≤ slice_index unmarked.old piece + mark_count was }
-    ensures { unmarked.new ≡ slice_set unmarked.old piece
-        (slice_index unmarked.old piece + mark_count was - mark_count now) }
-{
-    let count = &mut unmarked[piece as usize];
-    if was == BlockState::Marked {
-        *count += 1;
-    }
-    if now == BlockState::Marked {
-        *count -= 1;
-    }
 }

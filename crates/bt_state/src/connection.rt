@@ -43,7 +43,7 @@ pub fn connect<D: Disk + Drop, H: NodeHash>(
     if parts.last_key == u64::MAX {
         return Err(ConnectError::SerialsSpent);
     }
-    let Ok(bits) = bitfield(alloc, &parts.unmarked) else {
+    let Ok(bits) = bitfield(alloc, &parts.counts.unmarked) else {
         return Err(ConnectError::OutOfMemory);
     };
     let Ok(has) = PieceSet::new(alloc, parts.torrent.pieces()) else {

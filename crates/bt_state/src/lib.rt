@@ -6,6 +6,7 @@
 mod block_change;
 mod comparison;
 mod connection;
+mod counts;
 mod greeting;
 mod open_log;
 mod parts;
@@ -18,6 +19,7 @@ mod slot;
 
 pub use block_change::follow_block;
 pub use connection::{MAX_PEERS, connect};
+pub use counts::Counts;
 pub use open_log::OpenLog;
 pub use parts::Parts;
 pub use peer::Peer;

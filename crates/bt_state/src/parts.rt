@@ -1,4 +1,5 @@
 //! All that an engine has, in one struct: its torrent, trees, files, peers, request book and log.
+use crate::counts::Counts;
 use crate::open_log::OpenLog;
 use crate::peer::Peer;
 use crate::piece_set::PieceSet;
@@ -20,8 +21,8 @@ pub struct Parts<D: Disk + Drop, H: NodeHash> {
     pub roots: Roots,
     /// One for each file, in the torrent's order.
     pub slots: Vec<Slot<D, H>>,
-    /// For each piece how many of its blocks are not marked.
-    pub unmarked: Vec<u32>,
+    /// How many blocks are not marked, and how many wait.
+    pub counts: Counts,
     /// Pieces of whose blocks each leaf is known, so that no hash is needed of them. There may be others.
     pub known: PieceSet,
     /// In the order of their keys.

@@ -8,7 +8,7 @@ use Rattle.bt_machine.specs.State.{EngineState, FileState}
 use Rattle.bt_machine.specs.Blocks.{state_at}
 use Rattle.bt_machine.specs.declared.error.FlushError.{FlushError}
 use Rattle.bt_state.specs.Parts.{state_of, file_of}
-use Rattle.bt_state.specs.Ties.{IsTied, FitsFile, AreUnmarked, KnowsLeaves}
+use Rattle.bt_state.specs.Ties.{IsTied, FitsFile, AreCounted, KnowsLeaves}
 use Rattle.bt_state.specs.declared.slot.Slot.{Slot}
 use Rattle.bt_state.specs.declared.open_log.OpenLog.{OpenLog}
 use Rattle.bt_state.specs.declared.parts.Parts.{Parts}
@@ -87,7 +87,7 @@ module _ {D H : Type 0} where
       count = sym (length-map new.slots.items without_disk) ∙ ap (λ ks. length ks) kept ∙ length-map old.slots.items without_disk ∙ tied.count;
       each = fits_still tied;
       roots = tied.roots;
-      unmarked = subst (λ (s : EngineState). AreUnmarked s old.unmarked.items) (sym state_kept) tied.unmarked;
+      counted = subst (λ (s : EngineState). AreCounted s old.counts) (sym state_kept) tied.counted;
       known = subst (λ (s : EngineState). KnowsLeaves s old.known) (sym state_kept) tied.known;
     }
 

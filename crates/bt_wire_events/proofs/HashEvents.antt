@@ -1,6 +1,7 @@
 -- Hashes that come, over the parts of an engine.
-use Rattle.bt_machine.proofs.Base.{[], ◌≡◌, ◌≢◌, ℕ, ◌<◌, inl, inr, AllPairs, cases_lt, sum_by, List, length, map, is_some, Option, Some, None, refl, sym, ap, ◌∙◌, subst, arith, slice_get, option_map, PeerKey, Facts, History, HashKey}
+use Rattle.bt_machine.proofs.Base.{[], ◌≡◌, ◌≢◌, ℕ, ◌<◌, inl, inr, AllPairs, cases_lt, lt-ltb, false, sum_by, List, length, map, is_some, Option, Some, None, refl, sym, ap, ◌∙◌, subst, arith, slice_get, option_map, PeerKey, Facts, History, HashKey}
 use Rattle.std.specs.Global.{Vec}
+use Rattle.std.specs.Prelude.{nat_lt}
 use Rattle.std.specs.Vec.{with_item, with_items, vec_len}
 use Rattle.bt_book.specs.Book.{asked_of, peers_of}
 use Rattle.bt_store.specs.FileStore.{StoreView}
@@ -21,7 +22,7 @@ use Rattle.bt_machine.specs.Output.{no_effect}
 use Rattle.bt_state.specs.BlockChange.{AreFollowed}
 use Rattle.bt_state.specs.Parts.{state_of, disks_of, peer_of, file_of, disk_of}
 use Rattle.bt_state.specs.Roots.{AreNumbered, LeadThrough}
-use Rattle.bt_state.specs.Ties.{IsTied, LeavesStay}
+use Rattle.bt_state.specs.Ties.{NoneWaits, IsTied, LeavesStay}
 use Rattle.bt_state.specs.declared.peer.Peer.{Peer}
 use Rattle.bt_state.specs.declared.slot.Slot.{Slot}
 use Rattle.bt_state.specs.declared.parts.Parts.{Parts}
@@ -31,6 +32,7 @@ use Rattle.bt_state.proofs.Leaves.{leaves_by, one_grown, same_names, still_joine
 use Rattle.bt_state.proofs.SlotChanges.{fits_trees}
 use Rattle.bt_state.proofs.Lists.{get_mapped}
 use Rattle.bt_state.proofs.Ties.{state_set}
+use Rattle.bt_state.proofs.WaitingBlocks.{none_waits}
 use Rattle.bt_wire_events.specs.Hashes.{TakesHashes, IsNoteRoom}
 use Rattle.bt_wire_events.specs.NoteRooms.{slot_room, run_room}
 use Rattle.bt_wire_events.specs.HashesSteps.{AreNotesOf, IsBehind}
@@ -117,9 +119,9 @@ module _ {D H : Type 0} (history : D → History) (honest : D → Type 0) (fault
 
     -- and then
     abbrev new_parts : Parts D H
-    new_parts = record old { trees = next.trees; slots = next.slots; peers = with_item old.peers i q; book = next.book; unmarked = next.unmarked }
+    new_parts = record old { trees = next.trees; slots = next.slots; peers = with_item old.peers i q; book = next.book; counts = next.counts }
 
-    pub notes_behind : IsShaped old.torrent (state_of old) → IsBehind old.book.wanted old.unmarked.items notes.items (state_of learnt_parts)
+    pub notes_behind : IsShaped old.torrent (state_of old) → IsBehind old.book.wanted old.counts notes.items (state_of learnt_parts)
     notes_behind shaped =
         let first : EngineState = record (state_of learnt_parts) { files = map file_of old.slots.items } in
         record {
@@ -144,7 +146,7 @@ module _ {D H : Type 0} (history : D → History) (honest : D → Type 0) (fault
         one_grown old.trees.items l.tree l.here.here (still_joined l.accepts.joins) tree j
         (ap (λ (ts : List Facts). slice_get ts tree) (sym (trees ∙ l.grows)) ∙ at))
 
-    pub tied_learnt : peers_of next.book ≡ peers_of old.book → AreFollowed (state_of learnt_parts) next.book.wanted next.unmarked.items → IsTied new_parts
+    pub tied_learnt : peers_of next.book ≡ peers_of old.book → AreFollowed (state_of learnt_parts) next.book.wanted next.counts → IsTied new_parts
     tied_learnt joined followed =
         tied_followed old new_parts tied refl keys_kept tied.room joined
         (ap (λ (ss : List (Slot D H)). length ss) slots ∙ l.settles.size)
@@ -207,6 +209,15 @@ pub leads_lent : {D H : Type 0} (old : Parts D H) (trees : List Facts) (slots : 
 leads_lent {D} {H} old trees slots same_trees same_slots tied shaped tree lt =
     let k = get_some old.trees.items tree (omega (arith, lt, ap (λ (ts : List Facts). length ts) same_trees)) in
     subst (λ (ss : List (Slot D H)). LeadThrough ss old.roots tree) (sym same_slots) (tree_leads tied shaped tree k.1)
+
+-- nor does a block of the slots that were lent wait, where none is counted
+pub idle_lent : {D H : Type 0} (old : Parts D H) (slots : List (Slot D H)) → slots ≡ old.slots.items → IsTied old → nat_lt 0 old.counts.waiting ≡ false
+    → NoneWaits (map file_of slots)
+idle_lent {D} {H} old slots same tied none =
+    subst (λ (ss : List (Slot D H)). NoneWaits (map file_of ss)) (sym same) (none_waits tied.counted (elim (cases_lt 0 old.counts.waiting) [
+      | inl some ↦ absurd (let yes = lt-ltb 0 old.counts.waiting some in cc)
+      | inr zero ↦ omega (arith, zero)
+    ]))
 
 -- ---- the room for notes
 

@@ -1,20 +1,23 @@
 -- The blocks of a run, settled file by file.
-use Rattle.bt_machine.proofs.Base.{◌≡◌, ◌≢◌, ℕ, zero, suc, ◌+◌, ◌-◌, ◌<◌, ◌≤◌, min, ◌⊎◌, inl, inr, Bool, true, false, cond, ◌&&◌, List, [], ◌∷◌, ◌++◌, length, map, filter, flat_map, take, drop, Option, Some, None, is_some, refl, sym, ap, ◌∙◌, subst, arith, ◌==◌, eq-eqb, eqb-true, slice_get, slice_set, option_map_or, range_with_len, filter-append, append-nil, length-set, Facts, value_at, History, BlockRead, call_of, judged, waiting_blocks, is_waiting_at, BlockState, cases_lt, option_map, get_or, All, sum_by}
+use Rattle.bt_machine.proofs.Base.{◌≡◌, ◌≢◌, ℕ, zero, suc, ◌+◌, ◌-◌, ◌<◌, ◌≤◌, min, ◌⊎◌, inl, inr, Bool, true, false, cond, ◌&&◌, List, [], ◌∷◌, ◌++◌, length, map, filter, flat_map, take, drop, Option, Some, None, is_some, refl, sym, ap, ◌∙◌, subst, arith, ◌==◌, eq-eqb, eqb-true, slice_get, slice_set, option_map_or, if◌then◌else◌, is_waiting, range_with_len, filter-append, append-nil, length-set, Facts, value_at, History, BlockRead, call_of, judged, waiting_blocks, is_waiting_at, BlockState, cases_lt, option_map, get_or, All, sum_by}
 use Rattle.std.proofs.Common.{append_assoc}
 use Rattle.std.proofs.lemmas.Grind.{flat_map-append}
 use Rattle.std.proofs.lemmas.Bool.{cases_eq}
-use Rattle.std.proofs.lemmas.List.Sums.{sum_by_more, sum_by-drop_more}
+use Rattle.std.specs.List.{count_by}
+use Rattle.std.proofs.lemmas.List.Sums.{sum_by-cons, sum_by_more, sum_by-drop_more}
 use Rattle.std.proofs.lemmas.Option.{slice_get-get_or, get_or_from_slice_get}
 use Rattle.bt_disk.specs.Calls.{HasCalls}
 use Rattle.bt_disk.proofs.CallLists.{has_none}
 use Rattle.bt_store.specs.FileStore.{StoreView}
-use Rattle.bt_store.proofs.Reviews.{range_split}
+use Rattle.bt_store.proofs.Reviews.{range_split, nothing_waits}
 use Rattle.bt_machine.proofs.Lists.{some_is, some_below, get_some, set_id, set_same, set_other}
 use Rattle.bt_machine.specs.declared.answer.Note.{Note}
 use Rattle.bt_machine.specs.Settling.{settling_notes, due_blocks}
 use Rattle.bt_wire_events.specs.SettlingSteps.{SettlesBlocks, is_due}
 use Rattle.bt_state.specs.Parts.{file_of, disk_of}
+use Rattle.bt_state.specs.Ties.{NoneWaits}
 use Rattle.bt_state.proofs.Chains.{NoneOfTree}
+use Rattle.bt_state.proofs.Lists.{get_mapped}
 use Rattle.bt_wire_events.specs.NoteRooms.{note_room, slot_room}
 use Rattle.bt_wire_events.specs.RunSteps.{HasCallsIfAny, SettlesSlot, SettlesSlots}
 use Rattle.bt_state.specs.declared.slot.Slot.{Slot}
@@ -158,6 +161,21 @@ module _ {D H : Type 0} (slots : List (Slot D H)) (tree count i j : ℕ) (low : 
   pub room_left : sum_by (slot_room tree count) (drop j slots) ≡ sum_by (slot_room tree count) (drop i slots)
   room_left = ap (λ n. sum_by (slot_room tree count) (drop n slots)) (sym whole) ∙ drop_by (slot_room tree count) slots (j - i) i (omega (arith, low, inside)) off_between
 
+-- no block waits
+sum_nought : {X : Type 0} (f : X → ℕ) (xs : List X) → ((i : ℕ) (x : X) → slice_get xs i ≡ Some x → f x ≡ 0) → sum_by f xs ≡ 0
+sum_nought f [] none = refl
+sum_nought f (x ∷ xs) none = omega (arith, sum_by-cons f x xs, none 0 x refl, sum_nought f xs (λ i y at. none (suc i) y at))
+
+pub idle_room : {D H : Type 0} (slots : List (Slot D H)) (tree count : ℕ) → NoneWaits (map file_of slots) → sum_by (slot_room tree count) slots ≡ 0
+idle_room {D} {H} slots tree count none =
+    sum_nought (slot_room tree count) slots (λ i slot at. by (slot.tree == tree) slot.store (none i (file_of slot) (get_mapped file_of slots i at)))
+  where
+    by : (b : Bool) (o : Option (StoreView D)) → count_by is_waiting (option_map_or (λ store. store.states) o []) ≡ 0
+        → cond b (option_map_or (λ store. note_room count store.states) o 0) 0 ≡ 0
+    by true None none = refl
+    by true (Some store) none = omega (arith, none)
+    by false o none = refl
+
 -- ---- all files
 
 flat_map_alike : {Y : Type 0} (f g : ℕ → List Y) (a n : ℕ) → ((j : ℕ) → a ≤ j → j < a + n → f j ≡ g j) → flat_map f (range_with_len a n) ≡ flat_map g (range_with_len a n)
@@ -258,6 +276,29 @@ module _ {D H : Type 0} (history : D → History) (honest : D → Type 0) (fault
       subst (λ n. AreSettledTo n notes now) (omega arith)
       (past gap (i + 1) notes now (subst (λ (ss : List (Slot D H)). AreSettledTo (i + 1) notes ss) (set_id now i at) one) (omega (arith, inside))
       (λ j s low lt. none j s (omega arith) (omega (arith, lt))))
+
+  no_notes : (a n : ℕ) → flat_map (λ file. settling_notes dig k file []) (range_with_len a n) ≡ []
+  no_notes a zero = refl
+  no_notes a (suc n) = no_notes (a + 1) n
+
+  -- no block waits
+  pub settled_idle : NoneWaits (map file_of old) → SettlesSlots history honest faults dig k tree from count old before before old
+  settled_idle none = record {
+    reads = λ file. [];
+    each = λ file slot at. (
+      slot,
+      at,
+      slot_kept history honest faults dig k tree from count slot
+          (idle_due slot (none file (file_of slot) (get_mapped file_of old file at)) (slot.tree == tree)),
+    );
+    size = refl;
+    noted = sym (append-nil before) ∙ ap (λ ns. before ++ ns) (sym (no_notes 0 (length old)));
+  }
+    where
+      idle_due : (slot : Slot D H) → count_by is_waiting (file_of slot).states ≡ 0 → (b : Bool)
+          → (if b then waiting_blocks dig k (file_of slot).states from count else []) ≡ []
+      idle_due slot none true = nothing_waits dig k (file_of slot).states from count none
+      idle_due slot none false = refl
 
   -- files that are not of the tree are passed
   pub settled_past : (i j : ℕ) (notes : List Note) (now : List (Slot D H)) → i ≤ j → j ≤ length old → NoneOfTree old tree i j → AreSettledTo i notes now

@@ -1,5 +1,5 @@
 -- Notes of blocks that were settled, and the engines that they lead to.
-use Rattle.std.specs.Prelude.{[], ◌≡◌, ℕ, List, ◌∷◌}
+use Rattle.std.specs.Prelude.{[], ◌≡◌, List, ◌∷◌}
 use Rattle.bt_meta.specs.Torrent.{Metainfo}
 use Rattle.bt_book.specs.Blocks.{Blocks}
 use Rattle.bt_store.specs.declared.block_states.BlockState.TheVariants.{Missing, Waiting, Marked}
@@ -7,6 +7,7 @@ use Rattle.bt_machine.specs.declared.answer.Note.{Note}
 use Rattle.bt_machine.specs.declared.answer.Note.TheVariants.{Marked as now_marked, Freed}
 use Rattle.bt_machine.specs.State.{EngineState}
 use Rattle.bt_state.specs.BlockChange.{AreFollowed, OneChanged}
+use Rattle.bt_state.specs.declared.counts.Counts.{Counts}
 
 -- the note says what became of a block that waited, and no other block has another state
 abbrev pub IsNoteOf : EngineState → Note → EngineState → Type 0
@@ -20,7 +21,7 @@ AreNotesOf s [] t = t ≡ s
 AreNotesOf s (note ∷ notes) t = (next : EngineState) × IsNoteOf s note next × AreNotesOf next notes t
 
 -- a state of the machine was followed, and the note came since
-pub record HasNoted (torrent : Metainfo) (blocks : Blocks) (counts : List ℕ) (note : Note) : Type 0 where
+pub record HasNoted (torrent : Metainfo) (blocks : Blocks) (counts : Counts) (note : Note) : Type 0 where
   pub first : EngineState
   pub last : EngineState
   pub same_torrent : first.torrent ≡ torrent
@@ -28,7 +29,7 @@ pub record HasNoted (torrent : Metainfo) (blocks : Blocks) (counts : List ℕ) (
   pub noted : IsNoteOf first note last
 
 -- a state of the machine was followed, and these notes lead from it to that one
-pub record IsBehind (blocks : Blocks) (counts : List ℕ) (notes : List Note) (last : EngineState)
+pub record IsBehind (blocks : Blocks) (counts : Counts) (notes : List Note) (last : EngineState)
     : Type 0 where
   pub first : EngineState
   pub same_torrent : first.torrent ≡ last.torrent

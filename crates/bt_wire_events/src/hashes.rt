@@ -1,5 +1,5 @@
 //! Hashes that come (BEP 52): the tree of their root learns them, the blocks that waited for them are read
-//! back, and the request book and the counts of unmarked blocks follow.
+//! back, and the request book and the counts follow.
 ghost use Rattle.std.specs.Prelude.{◌≡◌, ◌+◌, ◌*◌, ◌<◌, ◌≤◌, ℕ, IfOk, IfErr, IfSome, length, map, vec_len};
 ghost use Rattle.bt_meta.specs.Limits.{max_file_count};
 ghost use Rattle.bt_book.specs.Book.{asked_of, peers_of};
@@ -58,6 +58,7 @@ pub fn take_hashes<D: Disk + Drop, H: NodeHash>(
     // A clause of this call says how many files there are at most.
     let _ = parts.torrent.files();
     let hint = hint_for(alloc, &parts.log, key, digests)?;
+    let waits = parts.counts.waiting > 0;
     match learn_hashes(
         alloc,
         &mut parts.slots,
@@ -66,6 +67,7 @@ pub fn take_hashes<D: Disk + Drop, H: NodeHash>(
         key,
         digests,
         hint,
+        waits,
     )? {
         Learnt::Refused(why) => Ok(Learnt::Refused(why)),
         Learnt::Settled(notes, kept) => {
@@ -92,18 +94,19 @@ pub fn room_for_notes<D: Disk + Drop, H: NodeHash>(parts: &Parts<D, H>, key: &Ha
             &parts.roots,
             index as usize,
             settled_count(key).min(MAX_RUN_LENGTH),
+            parts.counts.waiting > 0,
         ),
         None => 0,
     }
 }
 
-/// Brings the request book and the counts of unmarked blocks in line with the blocks that these notes name.
+/// Brings the request book and the counts in line with the blocks that these notes name.
 fn follow_notes<D: Disk + Drop, H: NodeHash>(parts: &mut Parts<D, H>, notes: &[Note])
-    requires { IsBehind parts.old.book.wanted parts.old.unmarked.items notes.now (state_of parts.old) }
-    ensures followed { AreFollowed (state_of parts.old) parts.new.book.wanted parts.new.unmarked.items }
+    requires { IsBehind parts.old.book.wanted parts.old.counts notes.now (state_of parts.old) }
+    ensures followed { AreFollowed (state_of parts.old) parts.new.book.wanted parts.new.counts }
     ensures asked { (key : PeerKey) → asked_of parts.new.book key ≡ asked_of parts.old.book key }
     ensures peers { peers_of parts.new.book ≡ peers_of parts.old.book }
-    ensures others { parts.new ≡ record parts.old { book = parts.new.book; unmarked = parts.new.unmarked } }
+    ensures others { parts.new ≡ record parts.old { book = parts.new.book; counts = parts.new.counts } }
 {
     for note in notes {
         follow_note(parts, note);
@@ -112,13 +115,13 @@ fn follow_notes<D: Disk + Drop, H: NodeHash>(parts: &mut Parts<D, H>, notes: &[N
 
 /// The same of one note.
 fn follow_note<D: Disk + Drop, H: NodeHash>(parts: &mut Parts<D, H>, note: &Note)
-    requires { HasNoted parts.old.torrent parts.old.book.wanted parts.old.unmarked.items note.now }
+    requires { HasNoted parts.old.torrent parts.old.book.wanted parts.old.counts note.now }
     ensures followed { (s t : EngineState) → s.torrent ≡ parts.old.torrent
-        → AreFollowed s parts.old.book.wanted parts.old.unmarked.items → IsNoteOf s note.now t
-        → AreFollowed t parts.new.book.wanted parts.new.unmarked.items }
+        → AreFollowed s parts.old.book.wanted parts.old.counts → IsNoteOf s note.now t
+        → AreFollowed t parts.new.book.wanted parts.new.counts }
     ensures asked { (key : PeerKey) → asked_of parts.new.book key ≡ asked_of parts.old.book key }
     ensures peers { peers_of parts.new.book ≡ peers_of parts.old.book }
-    ensures others { parts.new ≡ record parts.old { book = parts.new.book; unmarked = parts.new.unmarked } }
+    ensures others { parts.new ≡ record parts.old { book = parts.new.book; counts = parts.new.counts } }
 {
     match note {
         Note::Marked(block) => follow_block(parts, *block, BlockState::Waiting, BlockState::Marked),

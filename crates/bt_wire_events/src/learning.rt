@@ -1,9 +1,11 @@
 //! Hashes that come are refused, and close their peer, or the tree of their root takes them and the blocks
 //! that waited for them are settled.
-ghost use Rattle.std.specs.Prelude.{◌≡◌, ◌≢◌, ◌≤◌, ◌<◌, ℕ, IfOk, IfErr, length, map};
+ghost use Rattle.std.specs.Prelude.{◌≡◌, ◌≢◌, ◌≤◌, ◌<◌, ℕ, IfOk, IfErr, false, length, map};
 ghost use Rattle.bt_meta.specs.Limits.{max_file_count};
 ghost use Rattle.bt_machine.specs.HashMessages.{settled_count};
+ghost use Rattle.bt_state.specs.Parts.{file_of};
 ghost use Rattle.bt_state.specs.Roots.{AreNumbered, LeadThrough};
+ghost use Rattle.bt_state.specs.Ties.{NoneWaits};
 ghost use Rattle.bt_wire_events.specs.NoteRooms.{note_count};
 ghost use Rattle.bt_wire_events.specs.LearningSteps.{FitLengths, IsRoomFor, ChangesByHashes};
 
@@ -29,8 +31,8 @@ pub enum Learnt {
 }
 
 /// The tree of their root learns hashes that come, and then the blocks of their run are settled in every file
-/// of the root. Where they added a node to the tree, their hint is given back, if there is one. All room is
-/// made first. Errors: out of memory, and nothing changes then.
+/// of the root, if any block waits (`waits`). Where they added a node to the tree, their hint is given back, if
+/// there is one. All room is made first. Errors: out of memory, and nothing changes then.
 pub(crate) fn learn_hashes<D: Disk + Drop, H: NodeHash>(
     alloc: Global,
     slots: &mut [Slot<D, H>],
@@ -39,9 +41,11 @@ pub(crate) fn learn_hashes<D: Disk + Drop, H: NodeHash>(
     key: &HashKey,
     digests: &[u8],
     hint: Option<Hint>,
+    waits: bool,
 ) -> Result<Learnt, AllocError>
     requires numbered { AreNumbered (map (λ k. k.root) trees.old) roots.now.trees }
     requires lead { (tree : ℕ) → tree < length trees.old → LeadThrough slots.old roots.now tree }
+    requires idle { waits ≡ false → NoneWaits (map file_of slots.old) }
     requires fit { FitLengths trees.old slots.old }
     requires files { length slots.old ≤ max_file_count }
     ensures changes { IfOk result (λ learnt. ChangesByHashes D.history D.honest D.faults H.digest
@@ -60,13 +64,15 @@ pub(crate) fn learn_hashes<D: Disk + Drop, H: NodeHash>(
         Err(fault) => return refusal(fault),
     };
     let count = settled_count(key);
-    let mut notes = Vec::with_capacity(alloc, room_for(slots, roots, index, count))?;
+    let mut notes = Vec::with_capacity(alloc, room_for(slots, roots, index, count, waits))?;
     let tree = &mut trees[index];
     let added = match tree.accept(&claim) {
         Ok(added) => added,
         Err(fault) => return refusal(fault),
     };
-    settle_slots(&mut notes, slots, roots, tree, index, key.index, count);
+    settle_slots(
+        &mut notes, slots, roots, tree, index, key.index, count, waits,
+    );
     Ok(Learnt::Settled(notes, hint_if_added(hint, added)))
 }
 

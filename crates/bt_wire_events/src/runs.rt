@@ -1,12 +1,14 @@
 //! The blocks of a run are settled in every file of a tree; how many notes that can make is counted before.
-ghost use Rattle.std.specs.Prelude.{◌≡◌, ◌+◌, ◌*◌, ◌<◌, ◌≤◌, ◌++◌, List, length, sum_by};
+ghost use Rattle.std.specs.Prelude.{◌≡◌, ◌+◌, ◌*◌, ◌<◌, ◌≤◌, ◌++◌, false, List, length, map, sum_by};
 ghost use Rattle.std.specs.List.{All};
 ghost use Rattle.std.specs.Vec.{vec_len, vec_capacity};
 ghost use Rattle.bt_meta.specs.Limits.{max_file_count};
 ghost use Rattle.bt_sparse.specs.Answer.{max_run_length};
 ghost use Rattle.bt_store.specs.BlockReads.{BlockRead};
 ghost use Rattle.bt_machine.specs.Settling.{settling_notes};
+ghost use Rattle.bt_state.specs.Parts.{file_of};
 ghost use Rattle.bt_state.specs.Roots.{LeadThrough};
+ghost use Rattle.bt_state.specs.Ties.{NoneWaits};
 ghost use Rattle.bt_wire_events.specs.NoteRooms.{slot_room};
 ghost use Rattle.bt_wire_events.specs.RunSteps.{SettlesSlot, SettlesSlots, FitsLength};
 
@@ -18,7 +20,7 @@ use bt_state::{Roots, Slot};
 use bt_tree::NodeHash;
 
 /// Settles the blocks of a run in every file of a tree, in the order of files, and adds the notes of each,
-/// for which there is room. No other file is looked at.
+/// for which there is room. No other file is looked at, and none where no block waits in any (`waits`).
 pub(crate) fn settle_slots<D: Disk + Drop, H: NodeHash>(
     notes: &mut Vec<Note>,
     slots: &mut [Slot<D, H>],
@@ -27,8 +29,10 @@ pub(crate) fn settle_slots<D: Disk + Drop, H: NodeHash>(
     index: usize,
     from: u32,
     count: u32,
+    waits: bool,
 )
     requires lead { LeadThrough slots.old roots.now index }
+    requires idle { waits ≡ false → NoneWaits (map file_of slots.old) }
     requires fits { All (FitsLength tree.now index) slots.old }
     requires files { length slots.old ≤ max_file_count }
     requires few { count ≤ max_run_length }
@@ -37,6 +41,9 @@ pub(crate) fn settle_slots<D: Disk + Drop, H: NodeHash>(
         notes.old.items notes.new.items slots.new }
     ensures few { vec_len notes.new ≤ vec_len notes.old + sum_by (slot_room index count) slots.old }
 {
+    if !waits {
+        return;
+    }
     let mut file = roots.first_files[index] as usize;
     while file < slots.len() {
         settle_slot(
@@ -83,19 +90,25 @@ fn settle_slot<D: Disk + Drop, H: NodeHash>(
     }
 }
 
-/// How many notes there are at most of the files of a tree. No other file is looked at.
+/// How many notes there are at most of the files of a tree. No other file is looked at, and none where no block
+/// waits in any (`waits`).
 pub(crate) fn room_for<D: Disk + Drop, H: NodeHash>(
     slots: &[Slot<D, H>],
     roots: &Roots,
     index: usize,
     count: u32,
+    waits: bool,
 ) -> usize
     requires lead { LeadThrough slots.now roots.now index }
+    requires idle { waits ≡ false → NoneWaits (map file_of slots.now) }
     requires files { length slots.now ≤ max_file_count }
     requires few { count ≤ max_run_length }
     ensures value { result ≡ sum_by (slot_room index count) slots.now }
     ensures small { result ≤ (max_run_length + 1) * length slots.now }
 {
+    if !waits {
+        return 0;
+    }
     let mut room = 0;
     let mut file = roots.first_files[index] as usize;
     while file < slots.len() {

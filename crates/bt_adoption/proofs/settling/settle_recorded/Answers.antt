@@ -8,10 +8,19 @@ use Rattle.bt_adoption.specs.MarksSteps.{AreRuns}
 use Rattle.bt_adoption.specs.WaitingSteps.{room_in, is_marked_among, listed_blocks, most_hints_of_all}
 use Rattle.bt_adoption.specs.declared.waiting.FileRuns.{FileRuns}
 use Rattle.bt_state.specs.declared.parts.Parts.{Parts}
-use Rattle.bt_adoption.proofs.OtherFiles.{rest_then}
+use Rattle.bt_state.proofs.WaitingBlocks.{none_waits}
+use Rattle.bt_adoption.proofs.OtherFiles.{rest_none, rest_then}
 use Rattle.bt_adoption.proofs.Logs.{rest_of_log, in_line_of_log}
+use Rattle.bt_adoption.proofs.NoneWaiting.{settles_idle}
 use Rattle.bt_adoption.proofs.OtherMarks.{settles_all}
 use Rattle.bt_adoption.proofs.settling.settle_recorded.Goals as goal
+
+pub returns-then-waiting-eq0-clause-settles : goal.returns-then-waiting-eq0-clause-settles
+returns-then-waiting-eq0-clause-settles g c =
+    settles_idle c.args.parts.now c.args.file c.requires.here (none_waits c.requires.in_line.follows.counted c.if-waiting-eq0.true)
+
+pub returns-then-waiting-eq0-clause-rest : goal.returns-then-waiting-eq0-clause-rest
+returns-then-waiting-eq0-clause-rest g c = rest_none c.args.parts.now
 
 pub list_waiting-requires : goal.list_waiting-requires
 list_waiting-requires g c = c.requires.lead

@@ -13,9 +13,9 @@ use Rattle.bt_engine.proofs.news.announce_piece.Goals as goal
 pub returns-then-left-gt0-clause-sent : goal.returns-then-left-gt0-clause-sent
 returns-then-left-gt0-clause-sent g c =
     let parts = c.args.parts.now in
-    let some : 0 < get_or parts.unmarked.items c.args.piece 0 = rw (← c.as_slice-unmarked.ensures.value) c.if-left-gt0.true in
-    let below : c.args.piece < length parts.unmarked.items = omega (arith, c.requires.tied.unmarked.size, c.requires.inside) in
-    let whole = whole_is (state_of parts) parts.unmarked.items c.args.piece c.requires.tied.unmarked c.requires.inside (get_at parts.unmarked.items c.args.piece 0 below) in
+    let some : 0 < get_or parts.counts.unmarked.items c.args.piece 0 = rw (← c.as_slice-unmarked.ensures.value) c.if-left-gt0.true in
+    let below : c.args.piece < length parts.counts.unmarked.items = omega (arith, c.requires.tied.counted.unmarked.size, c.requires.inside) in
+    let whole = whole_is (state_of parts) parts.counts.unmarked.items c.args.piece c.requires.tied.counted.unmarked c.requires.inside (get_at parts.counts.unmarked.items c.args.piece 0 below) in
     let part : is_whole (state_of parts) c.args.piece ≡ false = whole ∙ ne_eqb _ 0 (λ e. absurd (omega (arith, some, e))) in
     sym (append-nil c.args.send.now.items)
     ∙ ap (λ t. c.args.send.now.items ++ (if t then map (λ p. sent_to p (Have c.args.piece)) (state_of parts).peers else [])) (sym part)
@@ -52,9 +52,9 @@ loop-peer-preserved g c =
 pub returns-clause-sent : goal.returns-clause-sent
 returns-clause-sent g c =
     let parts = c.args.parts.now in
-    let none : get_or parts.unmarked.items c.args.piece 0 ≤ 0 = rw (← c.as_slice-unmarked.ensures.value) c.if-left-gt0.false in
-    let below : c.args.piece < length parts.unmarked.items = omega (arith, c.requires.tied.unmarked.size, c.requires.inside) in
-    let whole = whole_is (state_of parts) parts.unmarked.items c.args.piece c.requires.tied.unmarked c.requires.inside (get_at parts.unmarked.items c.args.piece 0 below) in
+    let none : get_or parts.counts.unmarked.items c.args.piece 0 ≤ 0 = rw (← c.as_slice-unmarked.ensures.value) c.if-left-gt0.false in
+    let below : c.args.piece < length parts.counts.unmarked.items = omega (arith, c.requires.tied.counted.unmarked.size, c.requires.inside) in
+    let whole = whole_is (state_of parts) parts.counts.unmarked.items c.args.piece c.requires.tied.counted.unmarked c.requires.inside (get_at parts.counts.unmarked.items c.args.piece 0 below) in
     let all : is_whole (state_of parts) c.args.piece ≡ true = whole ∙ eq-eqb _ 0 (omega (arith, none)) in
     let past = c.loop-peer-test.false in
     c.loop-peer.invariant.0

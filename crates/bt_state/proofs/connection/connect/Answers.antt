@@ -10,6 +10,6 @@ returns-clause-step g c =
     let has = c.join-key.ensures.joined in
     let size = rw c.deref.ensures.value at c.in-Ok.ensures.size in
     let bits = rw c.deref.ensures.value at c.in-Ok.ensures.bits in
-    let ours = our_bitfield (state_of old) old.unmarked.items c.in-Ok.bits.items c.requires.tied.unmarked size bits c.in-Ok.ensures.fits in
+    let ours = our_bitfield (state_of old) old.counts.unmarked.items c.in-Ok.bits.items c.requires.tied.counted.unmarked size bits c.in-Ok.ensures.fits in
     joins c.join-key.result c.new-2.result has.room has.left has.next
     (subst (λ (bytes : List ℕ). IsOurBitfield (state_of old) bytes) (sym c.new-2.ensures) ours) refl has.after

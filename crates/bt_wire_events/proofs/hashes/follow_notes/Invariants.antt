@@ -7,8 +7,8 @@ use Rattle.bt_wire_events.proofs.hashes.follow_notes.Given as goal
 
 abbrev pub invariant-loop-note : goal.invariant-loop-note
 invariant-loop-note g l = record {
-  behind : IsBehind l.parts.book.wanted l.parts.unmarked.items (drop l.note-index l.notes) (state_of l.fn.parts);
+  behind : IsBehind l.parts.book.wanted l.parts.counts (drop l.note-index l.notes) (state_of l.fn.parts);
   asked : (key : PeerKey) → asked_of l.parts.book key ≡ asked_of l.fn.parts.book key;
   peers : peers_of l.parts.book ≡ peers_of l.fn.parts.book;
-  others : l.parts ≡ record l.fn.parts { book = l.parts.book; unmarked = l.parts.unmarked };
+  others : l.parts ≡ record l.fn.parts { book = l.parts.book; counts = l.parts.counts };
 }

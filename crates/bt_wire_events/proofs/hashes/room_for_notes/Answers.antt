@@ -3,7 +3,7 @@ use Rattle.std.specs.Prelude.{min}
 use Rattle.bt_sparse.specs.Answer.{max_run_length}
 use Rattle.bt_machine.proofs.Lists.{some_below}
 use Rattle.bt_state.proofs.Chains.{roots_numbered}
-use Rattle.bt_wire_events.proofs.HashEvents.{leads_lent, room_found}
+use Rattle.bt_wire_events.proofs.HashEvents.{leads_lent, idle_lent, room_found}
 use Rattle.bt_wire_events.proofs.Learnings.{root_found, root_lacks}
 use Rattle.bt_wire_events.proofs.hashes.room_for_notes.Goals as goal
 
@@ -21,6 +21,9 @@ returns-in-None-clause-room g c = record {
       tree k (record { here = of.here; same_root = of.same_root }));
   unknown = λ none. refl;
 }
+
+pub room_for-requires-clause-idle : goal.room_for-requires-clause-idle
+room_for-requires-clause-idle g c = λ none. idle_lent c.args.parts.now c.deref.result.now c.deref.ensures.value c.requires.tied none
 
 pub room_for-requires-clause-lead : goal.room_for-requires-clause-lead
 room_for-requires-clause-lead g c =

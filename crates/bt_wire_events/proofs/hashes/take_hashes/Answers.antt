@@ -16,7 +16,7 @@ use Rattle.bt_wire_events.proofs.Learnings.{if_err_by}
 use Rattle.bt_wire_events.specs.NoteRooms.{note_count}
 use Rattle.bt_wire_events.specs.declared.learning.Learnt.{Learnt}
 use Rattle.bt_wire_events.specs.declared.learning.Learnt.TheVariants.{Refused, Settled}
-use Rattle.bt_wire_events.proofs.HashEvents.{fits_lent, numbered_lent, leads_lent, changes_of, parts_kept, takes_refused, room_of, notes_behind, tied_learnt, takes_learnt}
+use Rattle.bt_wire_events.proofs.HashEvents.{fits_lent, numbered_lent, leads_lent, idle_lent, changes_of, parts_kept, takes_refused, room_of, notes_behind, tied_learnt, takes_learnt}
 use Rattle.bt_wire_events.proofs.hashes.take_hashes.Goals as goal
 
 pub learn_hashes-requires-clause-fit : goal.learn_hashes-requires-clause-fit
@@ -29,6 +29,9 @@ learn_hashes-requires-clause-numbered g c = numbered_lent c.args.parts.now c.der
 pub learn_hashes-requires-clause-lead : goal.learn_hashes-requires-clause-lead
 learn_hashes-requires-clause-lead g c =
     leads_lent c.args.parts.now c.deref_mut-2.result.now c.deref_mut.result.now c.deref_mut-2.ensures.value c.deref_mut.ensures.value c.requires.tied c.requires.shaped
+
+pub learn_hashes-requires-clause-idle : goal.learn_hashes-requires-clause-idle
+learn_hashes-requires-clause-idle g c = λ none. idle_lent c.args.parts.now c.deref_mut.result.now c.deref_mut.ensures.value c.requires.tied none
 
 pub returns-in_err-why-clause-kept : goal.returns-in_err-why-clause-kept
 returns-in_err-why-clause-kept g c =
@@ -85,7 +88,7 @@ follow_notes-requires g c =
     let next : Parts g.row.D.Denot g.row.H.Denot = record old { trees = with_items old.trees n.trees; slots = with_items old.slots n.slots } in
     let p = c.index_mut-peer.result.now in
     let q : Peer = record p { hash = c.resolved_hash_state-peer.result } in
-    subst (λ (ns : List Note). IsBehind old.book.wanted old.unmarked.items ns (state_of (record next { peers = with_item old.peers c.args.index q }))) (sym c.deref.ensures.value)
+    subst (λ (ns : List Note). IsBehind old.book.wanted old.counts ns (state_of (record next { peers = with_item old.peers c.args.index q }))) (sym c.deref.ensures.value)
     (notes_behind d.history d.honest d.faults dig key digests old c.requires.tied notes n.trees n.slots l next c.args.index q
     (get_read old.peers.items c.args.index p c.requires.there c.index_mut-peer.ensures.value) refl
     (with_items_is old.trees n.trees (c.learn_hashes.auto.trees ∙ c.deref_mut-2.ensures.len))
@@ -105,7 +108,7 @@ returns-in-Settled-clause-takes g c =
     c.in_ok-why.field-0 (Settled notes c.in-Settled.kept) n.trees n.slots c.deref_mut-2.ensures.value c.deref_mut.ensures.value c.in-Settled.is c.in_ok-why.ensures.changes in
     let l = changes.0 in
     let next : Parts g.row.D.Denot g.row.H.Denot =
-    record old { trees = with_items old.trees n.trees; slots = with_items old.slots n.slots; book = new.book; unmarked = new.unmarked } in
+    record old { trees = with_items old.trees n.trees; slots = with_items old.slots n.slots; book = new.book; counts = new.counts } in
     let p = c.index_mut-peer.result.now in
     let q : Peer = record p { hash = c.resolved_hash_state-peer.result } in
     subst (λ (x : Parts g.row.D.Denot g.row.H.Denot). TakesHashes d.history d.honest d.faults dig old c.args.index key digests (Settled notes c.in-Settled.kept) x) (sym c.follow_notes.ensures.others)
@@ -157,7 +160,7 @@ returns-in-Settled-clause-tied g c =
     c.in_ok-why.field-0 (Settled notes c.in-Settled.kept) n.trees n.slots c.deref_mut-2.ensures.value c.deref_mut.ensures.value c.in-Settled.is c.in_ok-why.ensures.changes in
     let l = changes.0 in
     let next : Parts g.row.D.Denot g.row.H.Denot =
-    record old { trees = with_items old.trees n.trees; slots = with_items old.slots n.slots; book = new.book; unmarked = new.unmarked } in
+    record old { trees = with_items old.trees n.trees; slots = with_items old.slots n.slots; book = new.book; counts = new.counts } in
     let p = c.index_mut-peer.result.now in
     let q : Peer = record p { hash = c.resolved_hash_state-peer.result } in
     subst (λ (x : Parts g.row.D.Denot g.row.H.Denot). IsTied x) (sym c.follow_notes.ensures.others)

@@ -101,6 +101,12 @@ room_for-requires-clause-lead g c =
     let has = root_found c.args.trees.now c.args.roots.now.trees c.requires.numbered c.args.key.now.root c.in-Some.index (sym c.in-Some.ensures) in
     c.requires.lead c.in-Some.index (some_below c.args.trees.now c.in-Some.index has.1.here)
 
+pub room_for-requires-clause-idle : goal.room_for-requires-clause-idle
+room_for-requires-clause-idle g c = c.requires.idle
+
+pub settle_slots-requires-clause-idle : goal.settle_slots-requires-clause-idle
+settle_slots-requires-clause-idle g c = c.requires.idle
+
 pub settle_slots-requires-clause-lead : goal.settle_slots-requires-clause-lead
 settle_slots-requires-clause-lead g c =
     let has = root_found c.args.trees.now c.args.roots.now.trees c.requires.numbered c.args.key.now.root c.in-Some.index (sym c.in-Some.ensures) in

@@ -1,11 +1,14 @@
-use Rattle.std.proofs.Common.{◌+◌, ap, ◌∙◌, arith}
+use Rattle.std.proofs.Common.{◌+◌, sym, ap, ◌∙◌, arith}
 use Rattle.std.proofs.lemmas.List.{take_all}
 use Rattle.std.proofs.lemmas.List.Sums.{sum_by_more}
 use Rattle.std.specs.Prelude.{sum_by}
 use Rattle.bt_state.proofs.Chains.{stands_there, none_passed, walk_begins, walk_goes_on}
 use Rattle.bt_wire_events.specs.NoteRooms.{slot_room}
-use Rattle.bt_wire_events.proofs.RunSettlings.{room_taken}
+use Rattle.bt_wire_events.proofs.RunSettlings.{idle_room, room_taken}
 use Rattle.bt_wire_events.proofs.runs.room_for.Goals as goal
+
+pub returns-then-not-waits-clause-value : goal.returns-then-not-waits-clause-value
+returns-then-not-waits-clause-value g c = sym (idle_room c.args.slots.now c.args.index c.args.count (c.requires.idle c.if-not-waits.true))
 
 pub loop-file-init : goal.loop-file-init
 loop-file-init g c =

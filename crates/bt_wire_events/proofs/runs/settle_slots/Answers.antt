@@ -3,9 +3,15 @@ use Rattle.std.specs.Prelude.{slice_set}
 use Rattle.bt_state.proofs.Chains.{stands_there, none_passed, walk_begins, walk_goes_on}
 use Rattle.bt_wire_events.specs.RunSteps.{FitsLength}
 use Rattle.bt_wire_events.specs.NoteRooms.{slot_room}
-use Rattle.bt_wire_events.proofs.RunSettlings.{settled_none, settled_more, settled_past, settled_all, room_left, stays_at, all_at, room_at}
+use Rattle.bt_wire_events.proofs.RunSettlings.{settled_idle, settled_none, settled_more, settled_past, settled_all, room_left, stays_at, all_at, room_at}
 use Rattle.std.proofs.lemmas.Option.{slice_get-get_or}
 use Rattle.bt_wire_events.proofs.runs.settle_slots.Goals as goal
+
+pub returns-then-not-waits-clause-settles : goal.returns-then-not-waits-clause-settles
+returns-then-not-waits-clause-settles g c =
+    let d = g.D.Disk in
+    settled_idle d.history d.honest d.faults g.H.NodeHash.digest c.args.tree.now c.args.index c.args.from c.args.count c.args.slots.now c.args.notes.now.items
+    (c.requires.idle c.if-not-waits.true)
 
 pub loop-file-init : goal.loop-file-init
 loop-file-init g c =
