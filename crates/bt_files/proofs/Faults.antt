@@ -9,6 +9,7 @@ use Rattle.bt_resume.specs.declared.error.LogError.TheVariants.{OtherTorrent, To
 use Rattle.bt_check.specs.Fault.{device, log_full, out_of_memory, status_of}
 use Rattle.bt_check.specs.TorrentFile.{HasText}
 use Rattle.bt_log_file.specs.Attaching.{log_fault}
+use Rattle.bt_folder.specs.declared.known_files.KnownFiles.{KnownFiles}
 use Rattle.bt_files.specs.Ending.{IsEndFault}
 use Rattle.bt_files.specs.Loading.{IsStoreFault}
 use Rattle.bt_files.specs.OpenFolder.{IsOpeningFault}
@@ -72,12 +73,12 @@ while_reading is_info usage log NoDevice fault some told = while_loading is_info
 while_reading is_info usage log NoMemory fault some told = while_loading is_info usage log fault (inr told)
 
 -- as it is opened
-while_attaching : (is_info : Bool) (usage : FileUse) (torrent : Metainfo) (log : Option (Bor (List ℕ))) (fault : Fault) → IsLogFaultAt torrent log fault
-    → IsStoreFault is_info usage log fault
-while_attaching is_info usage torrent None fault at = absurd at
-while_attaching is_info usage torrent (Some path) fault (known, inl call) = while_loading is_info usage (Some path) fault call
-while_attaching is_info usage torrent (Some path) fault (known, inr (inl among)) = inr (inr (some_path path, inl among.0))
-while_attaching is_info usage torrent (Some path) fault (known, inr (inr attach)) =
+while_attaching : (is_info : Bool) (usage : FileUse) (known : KnownFiles) (torrent : Metainfo) (log : Option (Bor (List ℕ))) (fault : Fault)
+    → IsLogFaultAt known torrent log fault → IsStoreFault is_info usage log fault
+while_attaching is_info usage known torrent None fault at = absurd at
+while_attaching is_info usage known torrent (Some path) fault (identity, inl call) = while_loading is_info usage (Some path) fault call
+while_attaching is_info usage known torrent (Some path) fault (identity, inr (inl among)) = inr (inr (some_path path, inl among.0))
+while_attaching is_info usage known torrent (Some path) fault (identity, inr (inr attach)) =
     while_reading is_info usage (Some path) attach.cause fault (some_path path) attach.told
 
 pub while_opening : (is_info : Bool) (usage : FileUse) (torrent : Metainfo) (log : Option (Bor (List ℕ))) → HasText is_info torrent → (fault : Fault)
@@ -85,4 +86,4 @@ pub while_opening : (is_info : Bool) (usage : FileUse) (torrent : Metainfo) (log
 while_opening is_info usage torrent log read fault (inl (some, inl among)) = inr (inr (some, inl among))
 while_opening is_info usage torrent log read fault (inl (some, inr short)) = while_loading is_info usage log fault (inr short)
 while_opening is_info usage torrent log read fault (inr (inl files)) = while_files is_info usage torrent log fault read files
-while_opening is_info usage torrent log read fault (inr (inr attach)) = while_attaching is_info usage torrent log fault attach
+while_opening is_info usage torrent log read fault (inr (inr attach)) = while_attaching is_info usage attach.0 torrent log fault attach.1.1

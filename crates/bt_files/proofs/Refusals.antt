@@ -4,6 +4,7 @@ use Rattle.std.specs.Prelude.{Contains, IsTrue, MatchBool, OnOk, option_map}
 use Rattle.std.specs.Bool.{OnFalse}
 use Rattle.std.specs.declared.alloc.AllocError.{AllocError}
 use Rattle.std.proofs.lemmas.Option.{none-some, same_Some, slice_get-map, slice_get_read}
+use Rattle.std.proofs.lemmas.List.{length-map}
 use Rattle.std.proofs.lemmas.List.Elements.{Contains-append_cases, Contains-append_left, Contains-append_right}
 use Rattle.bt_disk.specs.declared.opening.FileIdentity.{FileIdentity}
 use Rattle.bt_folder.specs.CasePaths.{HasNoPath}
@@ -15,8 +16,9 @@ use Rattle.bt_meta.specs.Files.{file_of}
 use Rattle.bt_meta.specs.declared.torrent.FileEntry.{FileEntry}
 use Rattle.bt_check.specs.declared.fault.Fault.{Fault}
 use Rattle.bt_files.specs.FileUse.{is_read_only}
-use Rattle.bt_files.specs.OpenFolder.{IsAdded, IsOfAnotherPath, IsCallFaultOr, IsFileFault, IsOpeningFault, IsUnused, KnowsFiles}
+use Rattle.bt_files.specs.OpenFolder.{IsAdded, IsOfAnotherPath, IsCallFaultOr, IsFileFault, IsOpeningFault, IsUnused, KnowsFiles, KnowsOpened}
 use Rattle.bt_files.specs.declared.file_use.FileUse.{FileUse}
+use Rattle.bt_files.specs.declared.file_use.FileUse.TheVariants.{Fetch, Seed, ReadOnly}
 use Rattle.bt_files.specs.declared.open_folder.OpenFolder.{OpenFolder}
 
 -- ---- files by what the system tells of them
@@ -53,7 +55,7 @@ not_another old new path (Some file) unused (inl known) = unused.0 file known
 not_another old new path identity unused (inr named) = none_yet old.paths new.paths path unused.1 named
 
 -- no file is opened on the way to the next one
-still_unused : (old new : OpenFolder) → new.files ≡ old.files → new.paths ≡ old.paths → IsUnused old → IsUnused new
+pub still_unused : (old new : OpenFolder) → new.files ≡ old.files → new.paths ≡ old.paths → IsUnused old → IsUnused new
 still_unused old new files paths unused = (
   λ file known. unused.0 file (subst (λ (them : KnownFiles). IsKnown them file) files known),
   subst HasNoPath (sym paths) unused.1,
@@ -62,32 +64,30 @@ still_unused old new files paths unused = (
 -- ---- what is known of the files before
 
 -- at first nothing
-knows_none : (folder : OpenFolder) → IsUnused folder → KnowsFiles folder 0
-knows_none folder unused = record {
+knows_none : (files : KnownFiles) → ((file : FileIdentity) → ¬ IsKnown files file) → KnowsFiles files 0
+knows_none files none = record {
   identities = [];
   each = refl;
-  known = λ file. (λ was. absurd (unused.0 file was), λ listed. absurd (contains_none listed));
+  known = λ file. (λ was. absurd (none file was), λ listed. absurd (contains_none listed));
 }
 
-still_knows : (old new : OpenFolder) (count : ℕ) → new.files ≡ old.files → KnowsFiles old count → KnowsFiles new count
-still_knows old new count files knows = record {
-  identities = knows.identities;
-  each = knows.each;
-  known = λ file.
-      subst (λ (them : KnownFiles). IsKnown them file ↔ Contains knows.identities (Some file)) (sym files) (knows.known file);
-}
+-- then those so far
+knows_so_far : (folder : OpenFolder) (count : ℕ) → (count ≡ 0 → IsUnused folder) → (0 < count → KnowsFiles folder.files count)
+    → KnowsFiles folder.files count
+knows_so_far folder zero unused knows = knows_none folder.files (unused refl).0
+knows_so_far folder (suc i) unused knows = knows (omega arith)
 
 pub knows_before : (usage : FileUse) (folder went : OpenFolder) (count : ℕ) → went.files ≡ folder.files → (count ≡ 0 → IsUnused folder)
-    → (is_read_only usage ≡ false → 0 < count → KnowsFiles folder count) → is_read_only usage ≡ false → KnowsFiles went count
-knows_before usage folder went zero files unused knows writes = still_knows folder went zero files (knows_none folder (unused refl))
-knows_before usage folder went (suc i) files unused knows writes = still_knows folder went (suc i) files (knows writes (omega arith))
+    → (is_read_only usage ≡ false → 0 < count → KnowsFiles folder.files count) → is_read_only usage ≡ false → KnowsFiles went.files count
+knows_before usage folder went count files unused knows writes =
+    subst (λ (them : KnownFiles). KnowsFiles them count) (sym files) (knows_so_far folder count unused (knows writes))
 
 only : (identity : Option FileIdentity) (file : FileIdentity) → Contains (identity ∷ []) (Some file) → identity ≡ Some file
 only identity file listed = elim (contains_cases [] listed) [ inl same ↦ same | inr none ↦ absurd (contains_none none) ]
 
 -- one more
-pub knows_more : (before after : OpenFolder) (identity : Option FileIdentity) (count : ℕ) → KnowsFiles before count
-    → IsAdded before.files identity after.files → KnowsFiles after (count + 1)
+pub knows_more : (before after : KnownFiles) (identity : Option FileIdentity) (count : ℕ) → KnowsFiles before count
+    → IsAdded before identity after → KnowsFiles after (count + 1)
 knows_more before after identity count knows added = record {
   identities = knows.identities ++ identity ∷ [];
   each = length-append knows.identities (identity ∷ []) ∙ ap (λ n. n + 1) knows.each;
@@ -103,10 +103,20 @@ knows_more before after identity count knows added = record {
   );
 }
 
+-- behind the last file all are known, but for a read-only use
+pub knows_opened : (usage : FileUse) (folder : OpenFolder) (entries : List FileEntry) (count : ℕ) → count ≡ length entries
+    → (count ≡ 0 → IsUnused folder) → (is_read_only usage ≡ false → 0 < count → KnowsFiles folder.files count)
+    → (is_read_only usage ≡ true → IsUnused folder) → KnowsOpened usage (map file_of entries) folder.files
+knows_opened ReadOnly folder entries count all unused knows unread = knows_none folder.files (unread refl).0
+knows_opened Fetch folder entries count all unused knows unread =
+    subst (KnowsFiles folder.files) (all ∙ sym (length-map entries file_of)) (knows_so_far folder count unused (knows refl))
+knows_opened Seed folder entries count all unused knows unread =
+    subst (KnowsFiles folder.files) (all ∙ sym (length-map entries file_of)) (knows_so_far folder count unused (knows refl))
+
 -- a further file may be of another path
 pub of_another_file : (usage : FileUse) (folder old new : OpenFolder) (entries : List FileEntry) (i : ℕ) (entry : FileEntry)
     (identity : Option FileIdentity) (fault : Fault) → i < length entries → entry ≡ get_or entries i entry → old.files ≡ folder.files
-    → old.paths ≡ folder.paths → (i ≡ 0 → IsUnused folder) → (is_read_only usage ≡ false → 0 < i → KnowsFiles folder i)
+    → old.paths ≡ folder.paths → (i ≡ 0 → IsUnused folder) → (is_read_only usage ≡ false → 0 < i → KnowsFiles folder.files i)
     → IsFileFault usage old new entry.path identity fault → IsOpeningFault usage (map file_of entries) fault
 of_another_file usage folder old new entries i entry identity fault lt at files paths unused knows (inl call) = inl call
 of_another_file usage folder old new entries zero entry identity fault lt at files paths unused knows (inr same) =

@@ -1,5 +1,5 @@
 -- What a start comes to, with a log or without.
-use Rattle.std.proofs.Common.{[], ◌≡◌, ◌≢◌, ℕ, List, Option, Some, None, Result, Ok, Err, length, ap, sym, subst, ◌∙◌}
+use Rattle.std.proofs.Common.{[], ◌≡◌, ℕ, List, Option, Some, None, Ok, Err, length, ap, sym, subst, ◌∙◌}
 use Rattle.bt_disk.specs.History.{History}
 use Rattle.bt_meta.specs.Torrent.{Metainfo}
 use Rattle.bt_resume.specs.ResumeLog.{LogView}

@@ -1,5 +1,5 @@
 -- Lemmas on an engine that has no log, and on flushes. It gets none.
-use Rattle.std.proofs.Common.{[], ◌≡◌, inl, inr, ℕ, List, ◌∷◌, ◌++◌, Option, Some, None, Result, Ok, Err, refl, ap, sym, ◌∙◌}
+use Rattle.std.proofs.Common.{[], ◌≡◌, inl, inr, ℕ, List, ◌∷◌, ◌++◌, Option, Some, None, Result, Err, refl, ap, sym, ◌∙◌}
 use Rattle.bt_disk.specs.History.{History}
 use Rattle.bt_machine.specs.declared.error.FlushError.{FlushError}
 use Rattle.bt_machine.specs.declared.error.FlushError.TheVariants.{Device, LogFull}

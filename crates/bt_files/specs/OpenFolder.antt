@@ -1,5 +1,5 @@
 -- Why a torrent's data files are not opened.
-use Rattle.std.specs.Prelude.{◌≡◌, ◌⊎◌, ◌↔◌, ℕ, ◌<◌, false, List, length, slice_get, Contains, Option, Some, IsSomeAnd}
+use Rattle.std.specs.Prelude.{◌≡◌, ◌⊎◌, ◌↔◌, ℕ, ◌<◌, if◌then◌else◌, false, List, length, slice_get, Contains, Option, Some, IsSomeAnd}
 use Rattle.bt_disk.specs.declared.opening.FileIdentity.{FileIdentity}
 use Rattle.bt_folder.specs.CasePaths.{HasNameOfAnother, HasNoPath}
 use Rattle.bt_folder.specs.KnownFiles.{IsKnown}
@@ -40,11 +40,15 @@ abbrev pub IsFileFault : FileUse → OpenFolder → OpenFolder → List (List �
 IsFileFault usage old new path identity =
     IsCallFaultOr ((is_read_only usage ≡ false) × IsOfAnotherPath old new path identity)
 
--- what a folder knows of files is what the system told of so many of them
-pub record KnowsFiles (folder : OpenFolder) (count : ℕ) : Type 0 where
+-- what is known of files is what the system told of so many of them
+pub record KnowsFiles (files : KnownFiles) (count : ℕ) : Type 0 where
   pub identities : List (Option FileIdentity)
   pub each : length identities ≡ count
-  pub known : (file : FileIdentity) → IsKnown folder.files file ↔ Contains identities (Some file)
+  pub known : (file : FileIdentity) → IsKnown files file ↔ Contains identities (Some file)
+
+-- what is known once these files were opened for a use: of a read-only one nothing
+abbrev pub KnowsOpened : FileUse → List File → KnownFiles → Type 0
+KnowsOpened usage files known = KnowsFiles known (if is_read_only usage then 0 else length files)
 
 -- One of some files is of another path, by what the folder knew of those before it. So it is not the first.
 pub record HasFileOfAnotherPath (files : List File) : Type 0 where
@@ -53,7 +57,7 @@ pub record HasFileOfAnotherPath (files : List File) : Type 0 where
   pub file : File
   pub listed : slice_get files number ≡ Some file
   pub old : OpenFolder
-  pub before : KnowsFiles old number
+  pub before : KnowsFiles old.files number
   pub new : OpenFolder
   pub identity : Option FileIdentity
   pub of_another : IsOfAnotherPath old new file.path identity

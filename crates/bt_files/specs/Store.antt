@@ -15,10 +15,11 @@ use Rattle.bt_machine.specs.State.{EngineState, EngineView}
 use Rattle.bt_files.specs.Adoption.{TakesIn}
 use Rattle.bt_runs.specs.Leads.{LeadsTo}
 use Rattle.bt_folder.specs.SealedDisk.{fault_count}
+use Rattle.bt_folder.specs.declared.known_files.KnownFiles.{KnownFiles}
 use Rattle.bt_check.specs.Fault.{device, log_full}
 use Rattle.bt_check.specs.declared.fault.Fault.{Fault}
 use Rattle.bt_files.specs.DataFiles.{AreFilled, AreNewDevices, DeviceView}
-use Rattle.bt_files.specs.OpenFolder.{IsOpeningFault}
+use Rattle.bt_files.specs.OpenFolder.{IsOpeningFault, KnowsOpened}
 use Rattle.bt_files.specs.StoreLog.{IsLogAt, IsLogFaultAt, IsLookFault}
 use Rattle.bt_files.specs.declared.file_use.FileUse.{FileUse}
 
@@ -88,7 +89,8 @@ pub record IsOpened (usage : FileUse) (dir : List ℕ) (log : Option (Bor (List 
   pub are_filled : AreFilled torrent.files filled
 
 -- Why none is opened: a look at the path of the log refuses it; the files are not opened, or a call failed; or the log
--- is not.
+-- is not, where it is known what the system told of the files.
 abbrev pub IsOpenFault : FileUse → Metainfo → Option (Bor (List ℕ)) → Fault → Type 0
 IsOpenFault usage torrent log fault =
-    IsLookFault log fault ⊎ IsOpeningFault usage torrent.files fault ⊎ IsLogFaultAt torrent log fault
+    IsLookFault log fault ⊎ IsOpeningFault usage torrent.files fault
+    ⊎ ((known : KnownFiles) × KnowsOpened usage torrent.files known × IsLogFaultAt known torrent log fault)

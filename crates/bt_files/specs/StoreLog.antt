@@ -16,10 +16,10 @@ IsLogAt torrent (Some path) (Some log) =
     IsAttached device_history device_honest device_faults torrent.infohash (new_log_device path.now) log
 IsLogAt torrent _ _ = ⊥
 
--- why none is opened in this file, whatever files are known
-abbrev pub IsLogFaultAt : Metainfo → Option (Bor (List ℕ)) → Fault → Type 0
-IsLogFaultAt torrent None fault = ⊥
-IsLogFaultAt torrent (Some path) fault = (known : KnownFiles) × IsLogFault known torrent path.now fault
+-- why none is opened in this file, where these files are known
+abbrev pub IsLogFaultAt : KnownFiles → Metainfo → Option (Bor (List ℕ)) → Fault → Type 0
+IsLogFaultAt known torrent None fault = ⊥
+IsLogFaultAt known torrent (Some path) fault = IsLogFault known torrent path.now fault
 
 -- A look shows that the file is one of the torrent's, or memory was refused.
 abbrev pub IsLookFault : Option (Bor (List ℕ)) → Fault → Type 0

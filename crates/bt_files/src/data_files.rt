@@ -1,5 +1,5 @@
 //! The data files of a torrent, opened for a use.
-ghost use Rattle.std.specs.Prelude.{[], ◌≡◌, ◌≢◌, ◌⊎◌, ◌+◌, ◌++◌, ◌∷◌, false, map, length, nat_lt, string_bytes, IfOk, IfErr, IfSome, IsSome, OnOk};
+ghost use Rattle.std.specs.Prelude.{[], ◌≡◌, ◌≢◌, ◌+◌, ◌++◌, ◌∷◌, false, map, length, nat_lt, string_bytes, IfOk, IfErr, IfSome, IsSome, OnOk};
 ghost use Rattle.std.specs.Path.{path_buf_bytes};
 ghost use Rattle.bt_ahead.specs.Disk.{new_ahead};
 ghost use Rattle.bt_disk.specs.Pool.{new_pool};
@@ -8,7 +8,7 @@ ghost use Rattle.bt_check.specs.Fault.{device};
 ghost use Rattle.bt_files.specs.DataFiles.{AreFilled, AreNewDevices, IsNewDevice, IsNewFile};
 ghost use Rattle.bt_files.specs.DataFilesSteps.{IsOpenedFor, IsPushed};
 ghost use Rattle.bt_files.specs.FileUse.{is_read_only};
-ghost use Rattle.bt_files.specs.OpenFolder.{IsCallFault, IsOpeningFault};
+ghost use Rattle.bt_files.specs.OpenFolder.{IsCallFault, IsOpeningFault, KnowsOpened};
 
 use crate::device_context::DeviceContext;
 use crate::file_use::FileUse;
@@ -89,6 +89,8 @@ pub(crate) fn open_devices<'a, R: Files + AllocGlobal + Clone + Drop, P: Watch>(
         AreNewDevices context.entry.usage dir.now (map file_of entries.now) files.disks.items) }
     ensures each { IfOk result (λ files. length files.filled.items ≡ length entries.now) }
     ensures filled { IfOk result (λ files. AreFilled (map file_of entries.now) files.filled.items) }
+    ensures known { IfOk result
+        (λ files. KnowsOpened context.entry.usage (map file_of entries.now) files.known) }
     ensures fault { IfErr result (IsOpeningFault context.entry.usage (map file_of entries.now)) }
 {
     let mut pool = HandlePool::new(rt.alloc(), rt.clone()?, OPEN_FILES)?;
@@ -114,6 +116,8 @@ fn push_devices<'a, R: Files + AllocGlobal + Clone + Drop, P: Watch>(
         (AreNewDevices context.entry.usage dir.now (map file_of entries.now) files.new.disks.items) }
     ensures each { OnOk result (length files.new.filled.items ≡ length entries.now) }
     ensures filled { OnOk result (AreFilled (map file_of entries.now) files.new.filled.items) }
+    ensures known { OnOk result
+        (KnowsOpened context.entry.usage (map file_of entries.now) files.new.known) }
     ensures fault { IfErr result (IsOpeningFault context.entry.usage (map file_of entries.now)) }
 {
     let mut folder = OpenFolder::new(rt.alloc());

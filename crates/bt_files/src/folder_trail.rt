@@ -6,7 +6,7 @@ use bt_check::{Fault, found_path, told};
 use bt_folder::{make_folders, sync_folder};
 use bt_meta::FilePath;
 use bt_progress::{FileCall, Watch};
-use std::alloc::{AllocError, Global};
+use std::alloc::Global;
 use std::path::Path;
 use std::rt::Files;
 

@@ -1,5 +1,5 @@
 //! A folder whose files are opened, one after the other.
-ghost use Rattle.std.specs.Prelude.{◌≡◌, false, IfErr, IfOk, IfSome, IsSomeAnd, MatchBool, OnOk};
+ghost use Rattle.std.specs.Prelude.{◌≡◌, false, true, IfErr, IfOk, IfSome, IsSomeAnd, MatchBool, OnOk};
 ghost use Rattle.std.specs.Bool.{OnFalse};
 ghost use Rattle.bt_folder.specs.CasePaths.{HasNameOfAnother};
 ghost use Rattle.bt_folder.specs.KnownFiles.{IsKnown};
@@ -71,6 +71,7 @@ impl OpenFolder {
             → IfSome opening.identity (λ file. ¬ IsKnown self.old.files file)) }
         ensures added { OnOk result (is_read_only usage ≡ false
             → IsAdded self.old.files opening.identity self.new.files) }
+        ensures kept { OnOk result (is_read_only usage ≡ true → self.new ≡ self.old) }
         ensures fault { IfErr result (IsFileFault usage self.old self.new path.now opening.identity) }
     {
         if usage.is_read_only() {
@@ -90,7 +91,8 @@ impl OpenFolder {
         usage: FileUse,
         dir: &str,
     ) -> Result<(), Fault>
-        ensures { IfErr result IsCallFault }
+        ensures files { self.new.files ≡ self.old.files }
+        ensures fault { IfErr result IsCallFault }
     {
         if usage.is_read_only() {
             return Ok(());

@@ -42,7 +42,7 @@ pub(crate) fn open_log_at<'a, R: Files + AllocGlobal + Clone + Drop, P: Watch>(
     log: Option<&str>,
 ) -> Result<Option<ResumeLog<LogDisk<'a, R, P>>>, Fault>
     ensures log { IfOk result (IsLogAt torrent.now log.entry) }
-    ensures fault { IfErr result (IsLogFaultAt torrent.now log.entry) }
+    ensures fault { IfErr result (IsLogFaultAt known.old torrent.now log.entry) }
 {
     match log {
         Some(path) => {

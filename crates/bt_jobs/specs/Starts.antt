@@ -1,11 +1,31 @@
 -- How the parts of a check are started.
-use Rattle.std.specs.Prelude.{ℕ, Bool, List, [], ◌∷◌, ◌++◌, map}
+use Rattle.std.specs.Prelude.{◌≡◌, ◌≢◌, ◌⊎◌, ℕ, ℤ, pos, Bool, List, [], ◌∷◌, ◌++◌, map, Option, Some}
 use Rattle.std.specs.List.{range_with_len}
 use Rattle.std.specs.Process.{command_args, command_program}
 use Rattle.std.specs.declared.process.command.Command.{Command}
 use Rattle.bt_meta.specs.Torrent.{Metainfo}
+use Rattle.bt_check.specs.Fault.{device, out_of_memory}
 use Rattle.bt_check.specs.TorrentFile.{IsTorrentOfText}
+use Rattle.bt_check.specs.declared.fault.Fault.{Fault}
 use Rattle.bt_jobs.specs.Children.{part_words, program_text}
+use Rattle.bt_jobs.specs.declared.start_fault.StartFault.{StartFault}
+use Rattle.bt_jobs.specs.declared.start_fault.StartFault.TheVariants.{NotStarted, Failed, OutOfMemory}
+
+-- ---- faults
+
+-- the fault of the program that it comes to where no part runs that has the torrent
+abbrev pub start_fault : StartFault → Fault
+start_fault NotStarted = device
+start_fault Failed = device
+start_fault OutOfMemory = out_of_memory
+
+-- Why a part did not take the whole torrent, by its end, of which the code is none where a signal ended it: memory
+-- was short where the code says so, and else it failed.
+abbrev pub IsEarlyEnd : Option ℤ → StartFault → Type 0
+IsEarlyEnd code fault =
+    ((code ≡ Some (pos 4)) × (fault ≡ OutOfMemory)) ⊎ ((code ≢ Some (pos 4)) × (fault ≡ Failed))
+
+-- ---- starts
 
 -- a program, and the words behind its name
 pub record Start : Type 0 where

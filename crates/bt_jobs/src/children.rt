@@ -83,7 +83,7 @@ fn push_info(command: &mut Command, is_info: bool) -> Result<(), AllocError>
 /// Ends all parts, and waits for them.
 pub(crate) fn end_all<C: OpenProcess>(children: &mut [Child<C>]) {
     for child in children.iter_mut() {
-        end(child);
+        let _ = end(child);
     }
 }
 
@@ -158,7 +158,7 @@ fn part_outcome(status: ExitStatus) -> Result<(), Fault>
 }
 
 /// Whether a part ended since memory was short.
-fn was_short_of_memory(status: ExitStatus) -> bool
+pub(crate) fn was_short_of_memory(status: ExitStatus) -> bool
     ensures { IsTrue result ↔ (exit_code status ≡ Some (pos 4)) }
 {
     status.code() == Some(4)

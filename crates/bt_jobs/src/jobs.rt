@@ -1,5 +1,5 @@
 //! The command `check` with several jobs: the parts are started, and what they tell is joined.
-ghost use Rattle.std.specs.Prelude.{◌≡◌, ◌⊎◌, ◌+◌, ◌<◌, ℕ, List, length, map, IfOk, IfErr, OnOk};
+ghost use Rattle.std.specs.Prelude.{◌≡◌, ◌⊎◌, ◌+◌, ◌<◌, ℕ, List, length, map, Ok, IfOk, IfErr, IsErrAnd, OnOk};
 ghost use Rattle.std.specs.List.{All};
 ghost use Rattle.std.specs.Io.KnownBytes.{Appends, Keeps};
 ghost use Rattle.bt_meta.specs.Torrent.{Metainfo};
@@ -10,13 +10,14 @@ ghost use Rattle.bt_check.specs.declared.report.FileFinding.{FileFinding};
 ghost use Rattle.bt_jobs.specs.Children.{HasEndedWell};
 ghost use Rattle.bt_jobs.specs.JobsSteps.{AreHeard, HearsAll, IsGiven};
 ghost use Rattle.bt_jobs.specs.Report.{IsJoinedReport, IsReportByParts};
-ghost use Rattle.bt_jobs.specs.Starts.{AllAreStarted, AreStarted, part_starts, start_of};
+ghost use Rattle.bt_jobs.specs.Starts.{AllAreStarted, AreStarted, part_starts, start_fault, start_of};
 ghost use Rattle.bt_jobs.specs.Told.{IsToldBy, TellsEach};
 
 use crate::children::{end_all, look_at_all, part_commands, wait_for_all};
 use crate::part::open_data_file;
 use crate::report::{heard_of, write_report};
 use crate::source::{Loaded, load_text};
+use crate::start_fault::StartFault;
 use crate::starter::Starter;
 use crate::told::Told;
 use bt_check::{
@@ -202,20 +203,18 @@ fn hear_parts<L: Starter, P: Watch, I: Read>(
         (map start_of commands.items) starter.new) }
     ensures fault { IfErr result (λ fault. (fault ≡ device) ⊎ (fault ≡ out_of_memory)) }
 {
-    let started = start_all(starter, commands, &loaded.text, &input, children);
+    let started = start_all(starter, watch, commands, &loaded.text, &input, children);
     // Once the parts have ended, nobody is left who may write.
     drop(input);
-    if is_device_fault(&started) {
-        watch.tell(NOT_STARTED);
-    }
     started?;
     let files = loaded.torrent.files();
     of_parts(watch, hear_to_ends(watch, files, output, children, told))
 }
 
 /// Starts the parts of some commands, which tell by the pipe. The commands' own ends of it are closed then.
-fn start_all<L: Starter>(
+fn start_all<L: Starter, P: Watch>(
     starter: &mut L,
+    watch: &P,
     commands: Vec<Command>,
     text: &[u8],
     pipe: &PipeWriter,
@@ -231,10 +230,34 @@ fn start_all<L: Starter>(
         let mut command = given;
         let outcome = starter.start(&mut command, text, pipe);
         drop(command);
-        let child = outcome?;
+        let child = of_start(watch, outcome)?;
         children.push(child)?;
     }
     Ok(())
+}
+
+/// What came of a start. Where it is a fault of a device, it is told what failed.
+fn of_start<T, P: Watch>(watch: &P, outcome: Result<T, StartFault>) -> Result<T, Fault>
+    ensures part { IfOk result (λ part. outcome ≡ Ok part) }
+    ensures cause { IfErr result (λ fault. IsErrAnd outcome (λ cause. fault ≡ start_fault cause)) }
+    ensures fault { IfErr result (λ fault. (fault ≡ device) ⊎ (fault ≡ out_of_memory)) }
+{
+    match outcome {
+        Ok(part) => Ok(part),
+        Err(cause) => {
+            tell_start(watch, cause);
+            Err(cause.fault())
+        }
+    }
+}
+
+/// Tells that a part could not be started, or that it failed.
+fn tell_start<P: Watch>(watch: &P, cause: StartFault) {
+    match cause {
+        StartFault::NotStarted => watch.tell(NOT_STARTED),
+        StartFault::Failed => watch.tell(FAILED),
+        StartFault::OutOfMemory => {}
+    }
 }
 
 /// The outcome of what parts did or told, which is told of where it is a fault of theirs.

@@ -1,12 +1,13 @@
 //! How a part of a check is started, and passed the torrent.
-ghost use Rattle.std.specs.Prelude.{◌≡◌, ◌⊎◌, ℕ, List, ⊤, IfErr, OnOk};
+ghost use Rattle.std.specs.Prelude.{◌≡◌, ℕ, List, ⊤, IfErr, OnOk};
 ghost use Rattle.std.specs.Io.KnownBytes.{Appends};
-ghost use Rattle.bt_check.specs.Fault.{device, out_of_memory};
+ghost use Rattle.bt_check.specs.Fault.{device};
 ghost use Rattle.bt_jobs.specs.Starts.{Start, start_of};
 
+use crate::start_fault::{StartFault, early_end};
 use bt_check::Fault;
-use std::io::{PipeWriter, Write};
-use std::process::{Child, Command, OpenProcess, Processes, Stdio};
+use std::io::{self, PipeWriter, Write};
+use std::process::{Child, Command, ExitStatus, OpenProcess, Processes, Stdio};
 
 /// A way to start parts of a check.
 pub trait Starter {
@@ -16,15 +17,15 @@ pub trait Starter {
     /// That a part was started so, and passed this text.
     ghost starts: { Self → Start → List ℕ → Self → Type 0 };
 
-    /// Starts a part, which tells by the pipe, and passes it a text.
+    /// Starts a part, which tells by the pipe, and passes it a text. One that does not take it all is ended, and waited
+    /// for.
     fn start(
         &mut self,
         command: &mut Command,
         text: &[u8],
         pipe: &PipeWriter,
-    ) -> Result<Child<Self::Part>, Fault>
-        ensures started { OnOk result (starts self.old (start_of command.old) text.now self.new) }
-        ensures fault { IfErr result (λ fault. (fault ≡ device) ⊎ (fault ≡ out_of_memory)) };
+    ) -> Result<Child<Self::Part>, StartFault>
+        ensures { OnOk result (starts self.old (start_of command.old) text.now self.new) };
 }
 
 /// A starter of processes of the system.
@@ -51,18 +52,17 @@ impl<'a, S: Processes> Starter for ProcessStarter<'a, S> {
         command: &mut Command,
         text: &[u8],
         pipe: &PipeWriter,
-    ) -> Result<Child<S::Started>, Fault> {
-        let output = pipe.try_clone().map_err(|_| Fault::Device)?;
+    ) -> Result<Child<S::Started>, StartFault> {
+        let output = pipe.try_clone().map_err(|_| StartFault::NotStarted)?;
         command.stdin(Stdio::piped());
         command.stdout(output);
         command.stderr(Stdio::null());
-        let mut child = command.spawn(self.system).map_err(|_| Fault::Device)?;
+        let mut child = command
+            .spawn(self.system)
+            .map_err(|_| StartFault::NotStarted)?;
         match pass(&mut child, text) {
             Ok(()) => Ok(child),
-            Err(fault) => {
-                end(&mut child);
-                Err(fault)
-            }
+            Err(_) => Err(early_end(end(&mut child))),
         }
     }
 }
@@ -86,8 +86,8 @@ fn write_whole<W: Write>(writer: &mut W, text: &[u8]) -> Result<(), Fault>
     writer.write_all(text).map_err(|_| Fault::Device)
 }
 
-/// Ends a part, and waits for it.
-pub(crate) fn end<C: OpenProcess>(child: &mut Child<C>) {
+/// Ends a part, and waits for it: how it ended, which may have been before.
+pub(crate) fn end<C: OpenProcess>(child: &mut Child<C>) -> io::Result<ExitStatus> {
     let _ = child.kill();
-    let _ = child.wait();
+    child.wait()
 }

@@ -1,5 +1,5 @@
 -- Why a file is none for a log, since it is one of others.
-use Rattle.std.proofs.Common.{◌≡◌, ◌↔◌, ◌⊎◌, inl, inr, ℕ, ◌<◌, Bool, true, false, List, length, map, get_or, Option, Some, None, Result, Ok, Err, IfOk, refl, sym, ap, subst, ◌∙◌}
+use Rattle.std.proofs.Common.{◌≡◌, ◌↔◌, ◌⊎◌, inl, inr, ℕ, ◌<◌, Bool, true, false, List, length, map, get_or, Some, None, Result, Ok, Err, IfOk, refl, sym, ap, ◌∙◌}
 use Rattle.std.specs.Prelude.{IsTrue, MatchBool, OnOk, slice_get}
 use Rattle.std.specs.Bool.{OnFalse, OnTrue}
 use Rattle.std.specs.declared.alloc.AllocError.{AllocError}

@@ -13,6 +13,10 @@ pub record AreAlike (file : List (List ℕ)) (path name other : List ℕ) : Type
   pub differ : name ≢ other
   pub alike : str_to_uppercase name ≡ str_to_uppercase other
 
+-- no names are the last of both and alike
+abbrev pub AreNoneAlike : (file : List (List ℕ)) (path : List ℕ) → Type 0
+AreNoneAlike file path = (name other : List ℕ) → ¬ AreAlike file path name other
+
 -- so it is with these two, and a folder's listing, as it was read, lacks one of them
 pub record IsNameOf (file : List (List ℕ)) (path : List ℕ) : Type 0 where
   pub name : List ℕ

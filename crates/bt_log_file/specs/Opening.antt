@@ -8,7 +8,7 @@ use Rattle.bt_meta.specs.Torrent.{Metainfo}
 use Rattle.bt_check.specs.Fault.{device, log_among_files, out_of_memory}
 use Rattle.bt_check.specs.declared.fault.Fault.{Fault}
 use Rattle.bt_log_file.specs.Attaching.{IsAttachFault}
-use Rattle.bt_log_file.specs.Device.{device_faults, device_history, device_honest, new_log_device}
+use Rattle.bt_log_file.specs.Device.{LogDiskView, device_faults, device_history, device_honest, new_log_device}
 use Rattle.bt_log_file.specs.Names.{HasNameOfFile}
 
 -- a call failed, or memory was refused
@@ -20,11 +20,14 @@ abbrev pub IsAdded : KnownFiles → Option FileIdentity → KnownFiles → Type 
 IsAdded before identity after =
     (file : FileIdentity) → IsKnown after file ↔ (IsKnown before file ⊎ (identity ≡ Some file))
 
--- a file was added that was none of those before, where the system tells them apart
-pub record AddsFurther (before after : KnownFiles) : Type 0 where
-  pub identity : Option FileIdentity
+-- a file of which the system tells this was added, and was none of those before
+pub record AddsFile (before : KnownFiles) (identity : Option FileIdentity) (after : KnownFiles) : Type 0 where
   pub further : IfSome identity (λ file. ¬ IsKnown before file)
   pub added : IsAdded before identity after
+
+-- a file was added that was none of those before, where the system tells them apart
+abbrev pub AddsFurther : KnownFiles → KnownFiles → Type 0
+AddsFurther before after = (identity : Option FileIdentity) × AddsFile before identity after
 
 -- memory was refused, or the file is one of those before
 abbrev pub IsFileFault : KnownFiles → Option FileIdentity → Fault → Type 0
@@ -36,14 +39,20 @@ abbrev pub IsNameFault : List File → List ℕ → Fault → Type 0
 IsNameFault files path fault =
     IsCallFault fault ⊎ ((fault ≡ log_among_files) × HasNameOfFile files path)
 
--- The file at a path is one of a torrent's: it is known, or has the name of one but for case.
-abbrev pub IsAmongFiles : KnownFiles → List File → List ℕ → Type 0
-IsAmongFiles known files path = ((file : FileIdentity) × IsKnown known file) ⊎ HasNameOfFile files path
+-- The file at a path, of which the system tells this, is one of a torrent's: it is known, or has the name of one but
+-- for case.
+abbrev pub IsAmongFiles : KnownFiles → Option FileIdentity → List File → List ℕ → Type 0
+IsAmongFiles known identity files path = IsSomeAnd identity (IsKnown known) ⊎ HasNameOfFile files path
 
--- Why a log is not opened: a call failed, or memory was refused; the file is one of the torrent's; or it is one that
--- a log is not opened on.
+-- Why no log is in a file that was opened, of which the system tells this: a call failed, or memory was refused; the
+-- file is one of the torrent's; or its device is one that a log is not opened on.
+abbrev pub IsLogFaultOf : KnownFiles → Option FileIdentity → Metainfo → List ℕ → LogDiskView → Fault → Type 0
+IsLogFaultOf known identity torrent path disk fault =
+    IsCallFault fault
+    ⊎ ((fault ≡ log_among_files) × IsAmongFiles known identity torrent.files path)
+    ⊎ IsAttachFault device_history device_honest device_faults torrent.infohash disk fault
+
+-- why a log is not opened in the file at a path, whatever the system tells of it
 abbrev pub IsLogFault : KnownFiles → Metainfo → List ℕ → Fault → Type 0
 IsLogFault known torrent path fault =
-    IsCallFault fault
-    ⊎ ((fault ≡ log_among_files) × IsAmongFiles known torrent.files path)
-    ⊎ IsAttachFault device_history device_honest device_faults torrent.infohash (new_log_device path) fault
+    (identity : Option FileIdentity) × IsLogFaultOf known identity torrent path (new_log_device path) fault

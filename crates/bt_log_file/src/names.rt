@@ -1,10 +1,10 @@
 //! Names of a torrent's files that are one with the name of a log's file but for case.
-ghost use Rattle.std.specs.Prelude.{◌≡◌, ◌-◌, ◌↔◌, ◌&&◌, false, length, map, option_copied, slice_get, IfOk, IfSome, IsTrue};
+ghost use Rattle.std.specs.Prelude.{◌≡◌, ◌-◌, ◌↔◌, ◌&&◌, false, length, map, option_copied, slice_get, IfNone, IfOk, IfSome, IsTrue};
 ghost use Rattle.std.specs.Bool.{OnFalse, OnTrue};
 ghost use Rattle.std.specs.StrCase.Upper.{str_to_uppercase};
 ghost use Rattle.bt_folder.specs.FolderNames.{has_name};
 ghost use Rattle.bt_meta.specs.Files.{file_of};
-ghost use Rattle.bt_log_file.specs.Names.{AreAlike, HasNameOfFile, IsNameOf};
+ghost use Rattle.bt_log_file.specs.Names.{AreAlike, AreNoneAlike, HasNameOfFile, IsNameOf};
 
 use crate::folder::folder_of;
 use bt_check::data_path;
@@ -63,7 +63,9 @@ fn alike_names<'a>(
     file: &'a FilePath,
     path: &'a str,
 ) -> Result<Option<(&'a str, &'a str)>, AllocError>
-    ensures { IfOk result (λ names. IfSome names (λ p. AreAlike file.now path.now p.0.now p.1.now)) }
+    ensures names { IfOk result
+        (λ names. IfSome names (λ p. AreAlike file.now path.now p.0.now p.1.now)) }
+    ensures none { IfOk result (λ names. IfNone names (AreNoneAlike file.now path.now)) }
 {
     let Some(name) = Path::new(path).file_name() else {
         return Ok(None);

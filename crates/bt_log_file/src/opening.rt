@@ -1,12 +1,12 @@
 //! The log of a torrent, opened in its file.
-ghost use Rattle.std.specs.Prelude.{◌≡◌, IfErr, IfOk, IfSome, OnOk, MatchBool, IsSomeAnd, map};
+ghost use Rattle.std.specs.Prelude.{IfErr, IfOk, IfSome, OnOk, MatchBool, IsSomeAnd, map};
 ghost use Rattle.std.specs.Bool.{OnFalse};
 ghost use Rattle.bt_folder.specs.KnownFiles.{IsKnown};
 ghost use Rattle.bt_meta.specs.Files.{file_of};
 ghost use Rattle.bt_resume.specs.ResumeLog.{IsAttached};
 ghost use Rattle.bt_log_file.specs.Device.{device_faults, device_history, device_honest, new_log_device};
 ghost use Rattle.bt_log_file.specs.Names.{HasNameOfFile};
-ghost use Rattle.bt_log_file.specs.Opening.{AddsFurther, IsAdded, IsCallFault, IsFileFault, IsLogFault, IsNameFault};
+ghost use Rattle.bt_log_file.specs.Opening.{AddsFile, AddsFurther, IsAdded, IsCallFault, IsFileFault, IsLogFault, IsLogFaultOf, IsNameFault};
 
 use crate::attaching::attach_log;
 use crate::device::{LogContext, LogDisk, OpenedLog, open_device};
@@ -44,7 +44,28 @@ pub fn open_log<'a, R: Files + AllocGlobal + Clone + Drop, P: Watch>(
     ensures further { OnOk result (AddsFurther known.old known.new) }
     ensures fault { IfErr result (IsLogFault known.old torrent.now path.now) }
 {
-    let OpenedLog { disk, opening } = open_device(rt, watch, context, path)?;
+    let opened = open_device(rt, watch, context, path)?;
+    open_in_file(rt, watch, known, dir, torrent, path, opened)
+}
+
+/// Opens the log of a torrent in the file at a path that was opened, on its device. Errors: the file is one of the
+/// torrent's; it is not kept; and those of [`ResumeLog::attach`].
+fn open_in_file<'a, R: Files + AllocGlobal + Clone + Drop, P: Watch>(
+    rt: &R,
+    watch: &P,
+    known: &mut KnownFiles,
+    dir: &str,
+    torrent: &Torrent,
+    path: &str,
+    opened: OpenedLog<LogDisk<'a, R, P>>,
+) -> Result<ResumeLog<LogDisk<'a, R, P>>, Fault>
+    ensures log { IfOk result
+        (IsAttached device_history device_honest device_faults torrent.now.infohash opened.entry.disk) }
+    ensures further { OnOk result (AddsFile known.old opened.entry.opening.identity known.new) }
+    ensures fault { IfErr result
+        (IsLogFaultOf known.old opened.entry.opening.identity torrent.now path.now opened.entry.disk) }
+{
+    let OpenedLog { disk, opening } = opened;
     refuse_known(known, opening.identity)?;
     refuse_other_name(rt, watch, dir, torrent.files(), path, opening)?;
     if opening.len == 0 {

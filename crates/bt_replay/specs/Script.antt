@@ -14,11 +14,12 @@ use Rattle.bt_machine.specs.Opening.{AnswersStart}
 use Rattle.bt_machine.specs.State.{EngineView}
 use Rattle.bt_replay.specs.Devices.{Device, SetsFront, first_device, zero_device}
 use Rattle.bt_replay.specs.Event.{peer_handshake}
+use Rattle.bt_replay.specs.Fault.{torrent_fault}
 use Rattle.bt_replay.specs.Field.{parts_of}
 use Rattle.bt_replay.specs.Line.{Spells, SpellsNone}
 use Rattle.bt_replay.specs.Run.{EndsEarly, HasRun}
 use Rattle.bt_replay.specs.declared.fault.ReplayFault.{ReplayFault}
-use Rattle.bt_replay.specs.declared.fault.ReplayFault.TheVariants.{Line as bad_line_at, Torrent as refused_torrent, OutOfMemory}
+use Rattle.bt_replay.specs.declared.fault.ReplayFault.TheVariants.{Line as bad_line_at, OutOfMemory}
 use Rattle.bt_replay.specs.declared.line.Line.{Line}
 use Rattle.bt_replay.specs.declared.line.Line.TheVariants.{Torrent}
 
@@ -48,14 +49,14 @@ pub record NamesTorrent (text : List ℕ) (torrent : Metainfo) : Type 0 where
   pub has : torrent_bytes line ≡ Some bytes
   pub is_torrent : IsTorrent bytes torrent
 
--- a text names none: it spells no such line, the torrent is refused, or memory was
+-- a text names none: it spells no such line; the torrent is refused, which want of memory is not; or memory was
 pub data NamesNone (text : List ℕ) (fault : ReplayFault) : Type 0 where
   no_line : SpellsNone text → fault ≡ bad_line_at 1 → NamesNone text fault
   other_line : (line : Line) → Spells text line → torrent_bytes line ≡ None → fault ≡ bad_line_at 1
       → NamesNone text fault
   refused : (line : Line) (bytes : List ℕ) (refusal : MetaError) → Spells text line
       → torrent_bytes line ≡ Some bytes → IsRefused first_fault bytes refusal
-      → fault ≡ refused_torrent refusal → NamesNone text fault
+      → fault ≡ torrent_fault refusal → NamesNone text fault
   no_memory : fault ≡ OutOfMemory → NamesNone text fault
 
 -- ---- the engine

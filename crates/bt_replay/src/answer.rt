@@ -2,7 +2,7 @@
 ghost use Rattle.std.specs.Prelude.{◌≡◌, ◌++◌, OnOk, IfErr, Ok, Some, string_bytes};
 ghost use Rattle.bt_machine.specs.Law.{sent_by};
 ghost use Rattle.bt_machine.specs.declared.event.Answer.TheVariants.{Connected, Fed, Stepped, Lost, Rechoked, Adopted as AdoptedAnswer, Flushed, Restarted};
-ghost use Rattle.bt_replay.specs.Answer.{AllFit, answer_text, refused_text, connect_refusal, event_refusal, adopt_refusal, flush_refusal, restart_refusal, report_text, file_line, line_text};
+ghost use Rattle.bt_replay.specs.Answer.{AllFit, answer_text, refused_text, connect_refusal, event_refusal, adopt_refusal, flush_refusal, restart_refusal, file_line, line_text};
 
 use crate::output::push_output;
 use bt_book::PeerKey;

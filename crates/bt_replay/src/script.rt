@@ -1,6 +1,7 @@
 //! A script, from its torrent to its last line.
 ghost use Rattle.std.specs.Prelude.{◌≡◌, ◌^◌, ◌<◌, ◌≤◌, IfOk, IfErr, filter_map, length};
 ghost use Rattle.bt_replay.specs.Event.{peer_handshake};
+ghost use Rattle.bt_replay.specs.Fault.{torrent_fault};
 ghost use Rattle.bt_replay.specs.Script.{BeginsOn, IsNewLog, NamesNone, NamesTorrent, Replays, torrent_bytes, without_last_feed};
 ghost use Rattle.bt_replay.specs.Run.{lines_in};
 
@@ -63,8 +64,17 @@ fn torrent_in(alloc: Global, text: &[u8]) -> Result<Torrent, ReplayFault>
     };
     match read_torrent(alloc, bytes.as_slice()) {
         Ok(torrent) => Ok(torrent),
-        Err(MetaError::OutOfMemory) => Err(ReplayFault::OutOfMemory),
-        Err(refusal) => Err(ReplayFault::Torrent(refusal)),
+        Err(refusal) => Err(torrent_fault(refusal)),
+    }
+}
+
+/// Why no torrent is read: where it is want of memory, the torrent is not refused.
+fn torrent_fault(refusal: MetaError) -> ReplayFault
+    ensures { result ≡ torrent_fault refusal }
+{
+    match refusal {
+        MetaError::OutOfMemory => ReplayFault::OutOfMemory,
+        _ => ReplayFault::Torrent(refusal),
     }
 }
 

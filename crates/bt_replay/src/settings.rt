@@ -1,5 +1,5 @@
 //! The settings at the front of a script's lines.
-ghost use Rattle.std.specs.Prelude.{◌≡◌, ◌^◌, ◌<◌, IfOk, OnErr, length};
+ghost use Rattle.std.specs.Prelude.{◌≡◌, ◌^◌, ◌<◌, IfOk, length};
 ghost use Rattle.std.specs.Bool.{OnTrue, OnFalse};
 ghost use Rattle.bt_replay.specs.Devices.{SetsFront, SetsNone};
 ghost use Rattle.bt_replay.specs.DevicesSteps.{SetsBy};

@@ -27,7 +27,8 @@ pub data BreaksOff {D L : Type 0} (InTurns : Turns D L) (history : D → History
     (new : EngineView D) : Type 0 where
   none_tried : fault ≡ out_of_memory → rest ≡ links → new ≡ old
       → BreaksOff InTurns history honest faults dig old links rest fault new
-  refused : (ends : List PeerEnd) → FailsToSync InTurns history honest faults dig old links ends rest fault new
+  refused : (ends : List PeerEnd)
+      → FailsToSync InTurns history honest faults dig old links ends rest fault new
       → BreaksOff InTurns history honest faults dig old links rest fault new
   unwritten : (ends : List PeerEnd) (answer : Result (Unit {0}) FlushError)
       → TriesAndSyncs InTurns history honest faults dig old links ends rest answer new → IsCallFault fault

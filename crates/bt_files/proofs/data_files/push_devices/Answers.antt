@@ -1,9 +1,9 @@
-use Rattle.std.proofs.Common.{map, arith}
+use Rattle.std.proofs.Common.{map, sym, subst, ◌∙◌, arith}
 use Rattle.bt_meta.specs.Files.{file_of}
 use Rattle.bt_files.proofs.Devices.{opened_more}
 use Rattle.bt_files.proofs.Faults.{passed_on}
-use Rattle.bt_files.proofs.Refusals.{knows_before, knows_more, of_another_file}
-use Rattle.bt_files.specs.OpenFolder.{IsOpeningFault}
+use Rattle.bt_files.proofs.Refusals.{knows_before, knows_more, knows_opened, of_another_file, still_unused}
+use Rattle.bt_files.specs.OpenFolder.{IsOpeningFault, IsUnused, KnowsOpened}
 use Rattle.bt_files.proofs.data_files.push_devices.Goals as goal
 
 pub loop-entry-preserved : goal.loop-entry-preserved
@@ -14,10 +14,12 @@ loop-entry-preserved g c = record {
       c.in_ok-file.file.disk c.loop-entry-test.true c.entry-item.is c.loop-entry.invariant.opened c.in_ok-file.ensures.opened
       c.in_ok-push.ensures.disks c.in_ok-push.ensures.filled c.in_ok-file.ensures.empty;
   first = λ none. absurd (omega arith);
-  known = λ writes some. knows_more c.go_to.new.self c.add.new.self _ c.loop-entry.entry-index
+  known = λ writes some. knows_more c.go_to.new.self.files c.add.new.self.files _ c.loop-entry.entry-index
       (knows_before c.args.context.usage c.loop-entry.folder c.go_to.new.self c.loop-entry.entry-index c.go_to.ensures.files
       c.loop-entry.invariant.first c.loop-entry.invariant.known writes)
       (c.in_ok-add.ensures.added writes);
+  unread = λ only_read. subst IsUnused (sym (c.in_ok-add.ensures.kept only_read))
+      (still_unused c.loop-entry.folder c.go_to.new.self c.go_to.ensures.files c.go_to.ensures.paths (c.loop-entry.invariant.unread only_read));
 }
 
 pub returns-in_err-add-clause-fault : goal.returns-in_err-add-clause-fault
@@ -27,3 +29,10 @@ returns-in_err-add-clause-fault g c =
     (of_another_file c.args.context.usage c.loop-entry.folder c.go_to.new.self c.add.new.self c.args.entries.now c.loop-entry.entry-index
     c.entry-item.result _ c.in_err-add.field-0.0 c.loop-entry-test.true c.entry-item.is c.go_to.ensures.files c.go_to.ensures.paths
     c.loop-entry.invariant.first c.loop-entry.invariant.known c.in_err-add.ensures.fault)
+
+pub returns-clause-known : goal.returns-clause-known
+returns-clause-known g c =
+    subst (KnowsOpened c.args.context.usage (map file_of c.args.entries.now)) (sym (c.into_files.ensures ∙ c.end.ensures.files))
+    (knows_opened c.args.context.usage c.loop-entry.folder c.args.entries.now c.loop-entry.entry-index
+    (omega (arith, c.loop-entry-test.false, c.loop-entry.auto.entry-index-end)) c.loop-entry.invariant.first c.loop-entry.invariant.known
+    c.loop-entry.invariant.unread)

@@ -1,6 +1,6 @@
 -- The devices so far are those of the entries so far, and there are no others of the pool. Before the first no file was
--- opened; behind it those so far are known, but for a read-only use.
-use Rattle.std.proofs.Common.{◌≡◌, ◌<◌, false}
+-- opened; behind it those so far are known, but for a read-only use, of which none is.
+use Rattle.std.proofs.Common.{◌≡◌, ◌<◌, true, false}
 use Rattle.bt_files.specs.FileUse.{is_read_only}
 use Rattle.bt_files.specs.OpenFolder.{IsUnused, KnowsFiles}
 use Rattle.bt_files.proofs.Devices.{AreOpened}
@@ -10,5 +10,6 @@ abbrev pub invariant-loop-entry : goal.invariant-loop-entry
 invariant-loop-entry g l = record {
   opened : AreOpened l.context.usage l.dir l.entries l.entry-index l.files.disks.items l.files.filled.items l.pool.made;
   first : l.entry-index ≡ 0 → IsUnused l.folder;
-  known : is_read_only l.context.usage ≡ false → 0 < l.entry-index → KnowsFiles l.folder l.entry-index;
+  known : is_read_only l.context.usage ≡ false → 0 < l.entry-index → KnowsFiles l.folder.files l.entry-index;
+  unread : is_read_only l.context.usage ≡ true → IsUnused l.folder;
 }

@@ -1,4 +1,4 @@
-use Rattle.std.proofs.Common.{◌≡◌, Some, None, IfOk, inr, sym, subst}
+use Rattle.std.proofs.Common.{◌≡◌, IfOk, inr, sym, subst}
 use Rattle.std.specs.Prelude.{IfSome}
 use Rattle.sha2.specs.Sha256.{sha256}
 use Rattle.bt_files.specs.Store.{HasBegun}

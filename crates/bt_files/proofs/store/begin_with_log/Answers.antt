@@ -1,4 +1,4 @@
-use Rattle.std.proofs.Common.{[], refl}
+use Rattle.std.proofs.Common.{refl}
 use Rattle.sha2.specs.Sha256.{sha256}
 use Rattle.bt_runs.specs.Leads.{none}
 use Rattle.bt_files.proofs.Adoptions.{takes_none}

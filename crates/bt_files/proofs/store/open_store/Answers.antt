@@ -3,7 +3,7 @@ use Rattle.std.proofs.lemmas.List.{length-map}
 use Rattle.bt_meta.specs.Files.{File, file_of}
 use Rattle.bt_machine.specs.Start.{device_count}
 use Rattle.bt_files.specs.DataFiles.{AreFilled, AreNewDevices}
-use Rattle.bt_files.specs.OpenFolder.{IsOpeningFault}
+use Rattle.bt_files.specs.OpenFolder.{IsOpeningFault, KnowsOpened}
 use Rattle.bt_files.specs.Store.{IsOpenFault}
 use Rattle.bt_files.proofs.Devices.{device_count_is}
 use Rattle.bt_files.proofs.Faults.{err_weaker, ok_weaker, passed_on}
@@ -36,7 +36,12 @@ returns-in_err-files-clause-fault g c =
 pub returns-in_err-attached-clause-fault : goal.returns-in_err-attached-clause-fault
 returns-in_err-attached-clause-fault g c =
     passed_on c.from_residual-in_err-attached.result c.in_err-attached.field-0.0 (IsOpenFault c.args.context.usage c.args.torrent c.args.log)
-    c.from_residual-in_err-attached.ensures.1 (inr (inr c.in_err-attached.ensures.fault))
+    c.from_residual-in_err-attached.ensures.1
+    (inr (inr (
+      c.in_ok-files.files.known,
+      subst (λ (files : List File). KnowsOpened c.args.context.usage files c.in_ok-files.files.known) c.files.ensures.said c.in_ok-files.ensures.known,
+      c.in_err-attached.ensures.fault,
+    )))
 
 pub returns-clause-opened : goal.returns-clause-opened
 returns-clause-opened g c = ok_weaker c.begin_store.result _ _ (λ engine begun. record {

@@ -1,4 +1,4 @@
-use Rattle.std.proofs.Common.{Some, IfErr, sym, subst}
+use Rattle.std.proofs.Common.{IfErr, sym, subst}
 use Rattle.bt_files.specs.StoreLog.{IsLookFault}
 use Rattle.bt_files.proofs.Faults.{err_weaker, some_path}
 use Rattle.bt_files.proofs.store_log.look_at_log.Goals as goal

@@ -9,9 +9,9 @@ returns-in_ok-opened-in-Some-clause-log g c =
 
 pub returns-in_err-opened-in-Some-clause-fault : goal.returns-in_err-opened-in-Some-clause-fault
 returns-in_err-opened-in-Some-clause-fault g c =
-    passed_on c.from_residual.result c.in_err-opened-in-Some.field-0.0 (IsLogFaultAt c.args.torrent.now c.args.log) c.from_residual.ensures.1
-    (subst (λ log. IsLogFaultAt c.args.torrent.now log c.in_err-opened-in-Some.field-0.0) (sym c.in-Some.is)
-    (c.args.known.now, c.in_err-opened-in-Some.ensures.fault))
+    passed_on c.from_residual.result c.in_err-opened-in-Some.field-0.0 (IsLogFaultAt c.args.known.now c.args.torrent.now c.args.log) c.from_residual.ensures.1
+    (subst (λ log. IsLogFaultAt c.args.known.now c.args.torrent.now log c.in_err-opened-in-Some.field-0.0) (sym c.in-Some.is)
+    c.in_err-opened-in-Some.ensures.fault)
 
 pub returns-in-None-clause-log : goal.returns-in-None-clause-log
 returns-in-None-clause-log g c = subst (λ log. IsLogAt c.args.torrent.now log None) (sym c.in-None.is) tt

@@ -20,7 +20,7 @@ loop-given-preserved g c =
     let text = c.args.text.now in
     let mid = c.loop-given.starter in
     let new = c.start-outcome.new.self in
-    let started = ok_is c.start-outcome.result _ (λ _. starts mid (start_of c.in-Some.given) text new) c.in_ok-child.was c.start-outcome.ensures.started in
+    let started = ok_is c.start-outcome.result _ (λ _. starts mid (start_of c.in-Some.given) text new) c.in_ok-child.ensures.part c.start-outcome.ensures in
     starting_more starts text _ _ _ c.in-Some.given _ _ _ _ mid new c.loop-given.invariant c.in-Some.ensures.steps.0
     (ap length c.in_ok-push.ensures.items ∙ length-append _ _) started
 

@@ -1,0 +1,44 @@
+use Rattle.std.proofs.Common.{List, IfOk, map, subst}
+use Rattle.std.specs.Prelude.{ℕ}
+use Rattle.bt_meta.specs.Files.{file_of}
+use Rattle.bt_resume.specs.ResumeLog.{IsAttached}
+use Rattle.bt_log_file.specs.Attaching.{IsAttachFault}
+use Rattle.bt_log_file.specs.Device.{device_faults, device_history, device_honest}
+use Rattle.bt_log_file.specs.Opening.{AddsFile, IsLogFaultOf}
+use Rattle.bt_log_file.proofs.LogFaults.{of_device, of_known, of_name, passed_on, where_err, where_ok}
+use Rattle.bt_log_file.proofs.opening.open_in_file.Goals as goal
+
+pub returns-in_err-refuse_known-clause-fault : goal.returns-in_err-refuse_known-clause-fault
+returns-in_err-refuse_known-clause-fault g c =
+    let identity = c.args.opened.opening.identity in
+    passed_on c.from_residual.result c.in_err-refuse_known.field-0.0
+    (IsLogFaultOf c.args.known.now identity c.args.torrent.now c.args.path.now c.args.opened.disk) c.from_residual.ensures.1
+    (of_known c.args.known.now identity c.args.torrent.now c.args.path.now c.args.opened.disk _ c.in_err-refuse_known.ensures.fault)
+
+pub returns-in_err-refuse_other_name-clause-fault : goal.returns-in_err-refuse_other_name-clause-fault
+returns-in_err-refuse_other_name-clause-fault g c =
+    let identity = c.args.opened.opening.identity in
+    passed_on c.from_residual-in_err-refuse_other_name.result c.in_err-refuse_other_name.field-0.0
+    (IsLogFaultOf c.args.known.now identity c.args.torrent.now c.args.path.now c.args.opened.disk) c.from_residual-in_err-refuse_other_name.ensures.1
+    (of_name c.args.known.now identity c.args.torrent.now c.args.path.now c.args.opened.disk _ (map file_of c.files.result.now) c.files.ensures.said
+    c.in_err-refuse_other_name.ensures)
+
+pub returns-clause-log : goal.returns-clause-log
+returns-clause-log g c =
+    subst (λ (h : List ℕ). IfOk c.attach_log.result (IsAttached device_history device_honest device_faults h c.args.opened.disk)) c.infohash.ensures
+    c.attach_log.ensures.log
+
+pub returns-clause-further : goal.returns-clause-further
+returns-clause-further g c =
+    where_ok c.attach_log.result (AddsFile c.args.known.now c.args.opened.opening.identity c.refuse_known.new.known) (record {
+      further = c.in_ok-refuse_known.ensures.further;
+      added = c.in_ok-refuse_known.ensures.added;
+    })
+
+pub returns-clause-fault : goal.returns-clause-fault
+returns-clause-fault g c =
+    let identity = c.args.opened.opening.identity in
+    where_err c.attach_log.result (IsAttachFault device_history device_honest device_faults c.infohash.result c.args.opened.disk)
+    (IsLogFaultOf c.args.known.now identity c.args.torrent.now c.args.path.now c.args.opened.disk)
+    (λ fault is. of_device c.args.known.now identity c.args.torrent.now c.args.path.now c.args.opened.disk fault c.infohash.result c.infohash.ensures is)
+    c.attach_log.ensures.fault
