@@ -1,6 +1,7 @@
 //! The command `check` with several jobs: the parts are started, and what they tell is joined.
 ghost use Rattle.std.specs.Prelude.{◌≡◌, ◌⊎◌, ◌+◌, ◌<◌, ℕ, List, length, map, Ok, IfOk, IfErr, IsErrAnd, OnOk};
 ghost use Rattle.std.specs.List.{All};
+ghost use Rattle.std.specs.List.Sorted.{IsSorted};
 ghost use Rattle.std.specs.Io.KnownBytes.{Appends, Keeps};
 ghost use Rattle.bt_meta.specs.Torrent.{Metainfo};
 ghost use Rattle.bt_check.specs.Fault.{device, out_of_memory, status_of};
@@ -273,6 +274,7 @@ fn of_parts<T, P: Watch>(watch: &P, outcome: Result<T, Fault>) -> Result<T, Faul
 /// The runs that were told, in the order of their files, and in each of its blocks.
 fn in_order(told: Told) -> Result<Vec<Run>, Fault>
     ensures told { IfOk result (λ runs. (text : List ℕ) → IsToldBy text told → TellsEach text runs.items) }
+    ensures order { IfOk result (λ runs. IsSorted ⟦<Run as Ord>⟧.cmp runs.items) }
     ensures fault { IfErr result (λ fault. (fault ≡ device) ⊎ (fault ≡ out_of_memory)) }
 {
     let Some(mut runs) = told.into_runs() else {

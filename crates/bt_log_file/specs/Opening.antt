@@ -2,6 +2,8 @@
 use Rattle.std.specs.Prelude.{◌≡◌, ◌⊎◌, ◌↔◌, ℕ, List, Option, Some, IfSome, IsSomeAnd}
 use Rattle.bt_disk.specs.declared.opening.FileIdentity.{FileIdentity}
 use Rattle.bt_folder.specs.KnownFiles.{IsKnown}
+use Rattle.bt_folder.specs.declared.folder_names.ListingError.{ListingError}
+use Rattle.bt_folder.specs.declared.folder_names.ListingError.TheVariants.{Device as CallFailed, OutOfMemory as NoMemory}
 use Rattle.bt_folder.specs.declared.known_files.KnownFiles.{KnownFiles}
 use Rattle.bt_meta.specs.Files.{File}
 use Rattle.bt_meta.specs.Torrent.{Metainfo}
@@ -14,6 +16,11 @@ use Rattle.bt_log_file.specs.Names.{HasNameOfFile}
 -- a call failed, or memory was refused
 abbrev pub IsCallFault : Fault → Type 0
 IsCallFault fault = (fault ≡ device) ⊎ (fault ≡ out_of_memory)
+
+-- why the program ends where a folder can't be listed
+abbrev pub listing_fault : ListingError → Fault
+listing_fault CallFailed = device
+listing_fault NoMemory = out_of_memory
 
 -- what the system tells of one more file is added
 abbrev pub IsAdded : KnownFiles → Option FileIdentity → KnownFiles → Type 0

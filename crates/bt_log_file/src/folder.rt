@@ -1,12 +1,15 @@
 //! The folder that a log's file lies in.
-ghost use Rattle.std.specs.Prelude.{◌≡◌, IfErr};
+ghost use Rattle.std.specs.Prelude.{◌≡◌, Ok, IfErr, IfOk, IsErr};
+ghost use Rattle.std.specs.IoError.{error_kind};
+ghost use Rattle.std.specs.Path.{path_buf_bytes};
 ghost use Rattle.bt_check.specs.Fault.{out_of_memory};
 ghost use Rattle.bt_log_file.specs.Opening.{IsCallFault};
 
 use bt_check::{Fault, told};
 use bt_folder::sync_folder;
 use bt_progress::{FileCall, Watch};
-use std::io::ErrorKind;
+use std::alloc::Global;
+use std::io::{self, ErrorKind};
 use std::path::{Path, PathBuf};
 use std::rt::Files;
 
@@ -36,9 +39,19 @@ pub(crate) fn keep_name<R: Files + AllocGlobal, P: Watch>(
 fn real_path<R: Files + AllocGlobal>(rt: &R, path: &str) -> Result<PathBuf, Fault>
     ensures { IfErr result (λ fault. fault ≡ out_of_memory) }
 {
-    match rt.canonicalize(rt.alloc(), path) {
-        Ok(real) => Ok(real),
+    real_or_given(rt.alloc(), rt.canonicalize(rt.alloc(), path), path)
+}
+
+/// The path that the system told, or, where it told none, the one given; but not where memory was refused for it.
+fn real_or_given(alloc: Global, real: io::Result<PathBuf>, path: &str) -> Result<PathBuf, Fault>
+    ensures real { IfOk real (λ told. result ≡ Ok told) }
+    ensures given { IfErr real (λ _. IfOk result (λ given. path_buf_bytes given ≡ path.now)) }
+    ensures memory { IfErr real (λ error. error_kind error ≡ ErrorKind.OutOfMemory → IsErr result) }
+    ensures fault { IfErr result (λ fault. fault ≡ out_of_memory) }
+{
+    match real {
+        Ok(told) => Ok(told),
         Err(error) if error.kind() == ErrorKind::OutOfMemory => Err(Fault::OutOfMemory),
-        Err(_) => Ok(PathBuf::from_str(rt.alloc(), path)?),
+        Err(_) => Ok(PathBuf::from_str(alloc, path)?),
     }
 }

@@ -1,12 +1,12 @@
 //! The log of a torrent, opened in its file.
-ghost use Rattle.std.specs.Prelude.{IfErr, IfOk, IfSome, OnOk, MatchBool, IsSomeAnd, map};
+ghost use Rattle.std.specs.Prelude.{◌≡◌, IfErr, IfOk, IfSome, OnOk, MatchBool, IsSomeAnd, map};
 ghost use Rattle.std.specs.Bool.{OnFalse};
 ghost use Rattle.bt_folder.specs.KnownFiles.{IsKnown};
 ghost use Rattle.bt_meta.specs.Files.{file_of};
 ghost use Rattle.bt_resume.specs.ResumeLog.{IsAttached};
 ghost use Rattle.bt_log_file.specs.Device.{device_faults, device_history, device_honest, new_log_device};
 ghost use Rattle.bt_log_file.specs.Names.{HasNameOfFile};
-ghost use Rattle.bt_log_file.specs.Opening.{AddsFile, AddsFurther, IsAdded, IsCallFault, IsFileFault, IsLogFault, IsLogFaultOf, IsNameFault};
+ghost use Rattle.bt_log_file.specs.Opening.{AddsFile, AddsFurther, IsAdded, IsCallFault, IsFileFault, IsLogFault, IsLogFaultOf, IsNameFault, listing_fault};
 
 use crate::attaching::attach_log;
 use crate::device::{LogContext, LogDisk, OpenedLog, open_device};
@@ -135,8 +135,18 @@ fn has_own_name<R: Files + AllocGlobal + Clone + Drop, P: Watch>(
 {
     let is_own = match is_own_name(rt, dir, files, path) {
         Ok(is_own) => Ok(is_own),
-        Err(ListingError::Device) => Err(Fault::Device),
-        Err(ListingError::OutOfMemory) => Err(Fault::OutOfMemory),
+        Err(error) => Err(listing_fault(error)),
     };
     told(rt.alloc(), watch, FileCall::List, folder_of(path), is_own)
+}
+
+/// Why the program ends where a folder can't be listed.
+fn listing_fault(error: ListingError) -> Fault
+    ensures fault { result ≡ listing_fault error }
+    ensures call { IsCallFault result }
+{
+    match error {
+        ListingError::Device => Fault::Device,
+        ListingError::OutOfMemory => Fault::OutOfMemory,
+    }
 }
