@@ -1,6 +1,5 @@
 -- Where no block waits, there is nothing to settle in other files.
-use Rattle.bt_machine.proofs.Base.{[], ◌≡◌, ℕ, ◌<◌, Bool, true, false, not, ◌&&◌, ◌==◌, if◌then◌else◌, List, ◌++◌, map, flat_map, refl, sym, ap, ◌∙◌, arith, Facts, History, waiting_blocks, is_waiting}
-use Rattle.std.specs.List.{count_by}
+use Rattle.bt_machine.proofs.Base.{[], ◌≡◌, ℕ, ◌<◌, Bool, true, false, not, ◌&&◌, ◌==◌, if◌then◌else◌, List, ◌++◌, map, flat_map, Some, refl, sym, ap, ◌∙◌, arith, slice_get, Facts, History, waiting_blocks}
 use Rattle.std.proofs.lemmas.List.Elements.{filter_agree}
 use Rattle.bt_store.proofs.Reviews.{nothing_waits}
 use Rattle.bt_machine.proofs.Lists.{get_some}
@@ -31,15 +30,16 @@ no_marks : (s : EngineState) (logged : Bool) → (if logged then [] ++ map (λ b
 no_marks s true = ap (map (λ b. mark_of b)) (no_news s)
 no_marks s false = refl
 
-nothing_due : (dig : List ℕ → List ℕ) (k : Facts) (state : FileState) → count_by is_waiting state.states ≡ 0 → (count : ℕ) (meant same_tree : Bool)
+nothing_due : (dig : List ℕ → List ℕ) (s : EngineState) (count : ℕ) → NoneWaits s.files → (k : Facts) (f : ℕ) (state : FileState)
+    → slice_get s.files f ≡ Some state → (meant same_tree : Bool)
     → (if meant then (if same_tree then waiting_blocks dig k state.states 0 count else []) else []) ≡ []
-nothing_due dig k state none count true true = nothing_waits dig k state.states 0 count none
-nothing_due dig k state none count true false = refl
-nothing_due dig k state none count false same_tree = refl
+nothing_due dig s count none k f state at true true = nothing_waits dig k state.states 0 count (none f state at)
+nothing_due dig s count none k f state at true false = refl
+nothing_due dig s count none k f state at false same_tree = refl
 
-pub settles_idle : {D H : Type 0} {history : D → History} {honest : D → Type 0} {faults : D → ℕ} {dig : List ℕ → List ℕ} (old : Parts D H) (file : ℕ) {tree : ℕ}
-    → tree < old.trees.len → NoneWaits (state_of old).files → SettlesOthers history honest faults dig file tree old old
-settles_idle {D} {H} {history} {honest} {faults} {dig} old file {tree} here none =
+pub settles_idle : {D H : Type 0} {history : D → History} {honest : D → Type 0} {faults : D → ℕ} {dig : List ℕ → List ℕ} (old : Parts D H)
+    (file : ℕ) {tree : ℕ} → tree < old.trees.len → NoneWaits (state_of old).files → SettlesOthers history honest faults dig file tree old old
+settles_idle {history = history} {honest = honest} {faults = faults} {dig = dig} old file {tree} here none =
     let s = state_of old in
     let count = block_count_of_tree s tree in
     let k = get_some old.trees.items tree (omega (arith, here, old.trees.ok.0)) in
@@ -52,6 +52,6 @@ settles_idle {D} {H} {history} {honest} {faults} {dig} old file {tree} here none
       settled = s;
       made = have_none history honest faults (disks_of old);
       settles = alike_meant dig tree count nobody
-          (λ f state at. sym (nothing_due dig nobody.facts state (none f state at) count (is_other file f) (state.tree == tree)));
+          (λ f state at. sym (nothing_due dig s count none nobody.facts f state at (is_other file f) (state.tree == tree)));
       after = sym (ap (λ hs. record s { pending = add_hints s.pending hs }) (no_marks s s.logged));
     }

@@ -66,6 +66,10 @@ fn push_eight(alloc: Global, out: &mut String, digests: &[Hash32]) -> Result<(),
 /// The digests of eight pairs of digests, of 64 bytes each.
 fn pairs_row(alloc: Global, words: &mut Words, out: &mut String) -> Result<(), AllocError> {
     let bytes = words.bytes(alloc)?;
+    push_pairs(alloc, out, &bytes)
+}
+
+fn push_pairs(alloc: Global, out: &mut String, bytes: &[u8]) -> Result<(), AllocError> {
     if bytes.len() != 512 {
         return out.push_str("no eight pairs");
     }
@@ -91,13 +95,18 @@ fn many_row(alloc: Global, words: &mut Words, out: &mut String) -> Result<(), Al
 }
 
 fn push_many(alloc: Global, out: &mut String, messages: &[Vec<u8>]) -> Result<(), AllocError> {
+    let lent = lent_of(alloc, messages)?;
+    let mut digests = vec![in alloc; [0; 32]; messages.len()]?;
+    fill(&lent, &mut digests);
+    push_eight(alloc, out, &digests)
+}
+
+fn lent_of(alloc: Global, messages: &[Vec<u8>]) -> Result<Vec<&[u8]>, AllocError> {
     let mut lent = Vec::new(alloc);
     for message in messages {
         lent.push(message.as_slice())?;
     }
-    let mut digests = vec![in alloc; [0; 32]; messages.len()]?;
-    fill(&lent, &mut digests);
-    push_eight(alloc, out, &digests)
+    Ok(lent)
 }
 
 /// Writes the digest of each message to its place.

@@ -28,8 +28,13 @@ fn main(rt: HostRuntime) -> io::Result<()> {
 fn print_answers(rt: &HostRuntime, stage: &mut Stage) -> io::Result<()> {
     for line in rt.lines(rt.alloc()) {
         let line = line?;
-        let answer = stage.answer(rt.alloc(), line.as_str())?;
-        println!(rt; "{answer}")?;
+        print_answer(rt, stage, line.as_str())?;
     }
     Ok(())
+}
+
+fn print_answer(rt: &HostRuntime, stage: &mut Stage, row: &str) -> io::Result<()> {
+    let mut out = String::new(rt.alloc());
+    stage.answer(rt.alloc(), row, &mut out)?;
+    println!(rt; "{out}")
 }

@@ -40,10 +40,23 @@ fn files_row(
     let Ok(path) = str::from_utf8(&path) else {
         return out.push_str("no path");
     };
-    for _ in 0..count {
-        files.push(file_of(alloc, path, length, root, &layer)?)?;
-    }
+    push_files(alloc, files, count, path, length, root, &layer)?;
     write!(out, "{} files", files.len())
+}
+
+fn push_files(
+    alloc: Global,
+    files: &mut Vec<Made>,
+    count: u32,
+    path: &str,
+    length: u64,
+    root: Hash32,
+    layer: &[u8],
+) -> Result<(), AllocError> {
+    for _ in 0..count {
+        files.push(file_of(alloc, path, length, root, layer)?)?;
+    }
+    Ok(())
 }
 
 fn file_of(

@@ -44,17 +44,15 @@ impl Stage {
         }
     }
 
-    /// What a row answers. One that begins with `#` is told as it is, and what is no row says so.
-    pub fn answer(&mut self, alloc: Global, row: &str) -> Result<String, AllocError> {
-        let mut out = String::new(alloc);
+    /// Adds what a row answers. One that begins with `#` is told as it is, and what is no row says so.
+    pub fn answer(&mut self, alloc: Global, row: &str, out: &mut String) -> Result<(), AllocError> {
         if row.is_empty() || row.starts_with('#') {
-            out.push_str(row)?;
-        } else if let Some(rest) = row.strip_prefix("let ") {
-            let_row(alloc, &mut self.names, rest, &mut out)?;
-        } else {
-            call_row(alloc, &self.names, &mut self.objects, row, &mut out)?;
+            return out.push_str(row);
         }
-        Ok(out)
+        match row.strip_prefix("let ") {
+            Some(rest) => let_row(alloc, &mut self.names, rest, out),
+            None => call_row(alloc, &self.names, &mut self.objects, row, out),
+        }
     }
 }
 
@@ -66,12 +64,26 @@ fn let_row(
     out: &mut String,
 ) -> Result<(), AllocError> {
     let (name, word) = row.split_once(' ').unwrap_or((row, ""));
-    let mut bytes = Vec::new(alloc);
-    if !push_word(alloc, names, &mut bytes, word)? {
-        return write!(out, "not understood: let {row}");
+    match bytes_of(alloc, names, word)? {
+        Some(bytes) => {
+            push_count(out, bytes.len())?;
+            names.add(alloc, name, bytes)
+        }
+        None => write!(out, "not understood: let {row}"),
     }
-    write!(out, "{} bytes", bytes.len())?;
-    names.add(alloc, name, bytes)
+}
+
+fn push_count(out: &mut String, count: usize) -> Result<(), AllocError> {
+    write!(out, "{count} bytes")
+}
+
+/// The bytes that a word spells. None where it spells none.
+fn bytes_of(alloc: Global, names: &Names, word: &str) -> Result<Option<Vec<u8>>, AllocError> {
+    let mut bytes = Vec::new(alloc);
+    if push_word(alloc, names, &mut bytes, word)? {
+        return Ok(Some(bytes));
+    }
+    Ok(None)
 }
 
 fn call_row(
@@ -99,11 +111,24 @@ fn named_row(
     match words.word() {
         "bencode" => bencode_row(alloc, words, out),
         "tree" => tree_row(alloc, words, out),
-        "builder" => builder_row(alloc, &mut objects.builder, words, out),
         "digest" => digest_row(alloc, words, out),
+        "part" => part_row(alloc, words, out),
+        name => object_row(alloc, objects, name, words, out),
+    }
+}
+
+/// The rows of what is kept for later calls, and those without a word. One match for all rows costs more proof.
+fn object_row(
+    alloc: Global,
+    objects: &mut Objects,
+    name: &str,
+    words: &mut Words,
+    out: &mut String,
+) -> Result<(), AllocError> {
+    match name {
+        "builder" => builder_row(alloc, &mut objects.builder, words, out),
         "torrent" => torrent_row(alloc, &mut objects.torrent, words, out),
         "make" => make_row(alloc, objects, words, out),
-        "part" => part_row(alloc, words, out),
         "texts" => texts_row(out),
         "laws" => laws_row(out),
         _ => {

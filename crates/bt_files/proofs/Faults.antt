@@ -86,4 +86,4 @@ pub while_opening : (is_info : Bool) (usage : FileUse) (torrent : Metainfo) (log
 while_opening is_info usage torrent log read fault (inl (some, inl among)) = inr (inr (some, inl among))
 while_opening is_info usage torrent log read fault (inl (some, inr short)) = while_loading is_info usage log fault (inr short)
 while_opening is_info usage torrent log read fault (inr (inl files)) = while_files is_info usage torrent log fault read files
-while_opening is_info usage torrent log read fault (inr (inr attach)) = while_attaching is_info usage attach.0 torrent log fault attach.1.1
+while_opening is_info usage torrent log read fault (inr (inr attach)) = while_attaching is_info usage attach.0 torrent log fault attach.2

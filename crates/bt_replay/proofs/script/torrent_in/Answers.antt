@@ -8,7 +8,9 @@ returns-in_default-torrent_bytes-clause-fault c =
     other_line c.in-Some.line (some_holds _ _ _ c.in_ok-line.ensures.some c.in-Some.is)
     (sym c.torrent_bytes.ensures ∙ c.in_default-torrent_bytes.is) refl
 
-pub returns-in-Err-clause-fault : goal.returns-in-Err-clause-fault
-returns-in-Err-clause-fault c =
-    refused c.in-Some.line c.as_slice.result.now c.in-Err.refusal (some_holds _ _ _ c.in_ok-line.ensures.some c.in-Some.is)
-    (sym c.in-Some-torrent_bytes.ensures ∙ ap (λ bytes. Some bytes) (sym c.as_slice.ensures)) c.in-Err.ensures.refused c.torrent_fault.ensures
+pub returns : goal.returns
+returns c = record {
+  torrent = tt;
+  fault = refused c.in-Some.line c.as_slice.result.now c.in-Err.refusal (some_holds _ _ _ c.in_ok-line.ensures.some c.in-Some.is)
+      (sym c.in-Some-torrent_bytes.ensures ∙ ap (λ bytes. Some bytes) (sym c.as_slice.ensures)) c.in-Err.ensures.refused c.torrent_fault.ensures;
+}
