@@ -31,6 +31,7 @@ use Rattle.bt_adoption.specs.PartsSteps.{AreFit, AreInLine, KeepsRest, block_cou
 use Rattle.bt_adoption.specs.WaitingSteps.{OnlyPendingChanges}
 use Rattle.bt_adoption.specs.SettlingSteps.{SettlesOthers}
 use Rattle.bt_adoption.specs.AdoptionSteps.{AdoptsIn, StopsIn}
+use Rattle.bt_disk.specs.Conduct.{Conduct}
 
 no_items : {X : Type 0} (xs : List X) → length xs ≤ 0 → xs ≡ []
 no_items [] none = refl
@@ -99,29 +100,29 @@ module _ {D H : Type 0} (parts : Parts D H) (file : ℕ) {slot : Slot D H} (here
 -- ---- the answers
 
 -- in this event calls of these devices were made
-abbrev pub Steps : {D H : Type 0} → (D → History) → (D → Type 0) → (D → ℕ) → (List ℕ → List ℕ) → Parts D H → ℕ → Result Adopted AdoptError → Parts D H → Type 0
-Steps history honest faults dig old file answer new = (calls : DeviceCalls) × HaveCalls history honest faults (disks_of old) calls (disks_of new)
+abbrev pub Steps : {D H : Type 0} → Conduct D → (List ℕ → List ℕ) → Parts D H → ℕ → Result Adopted AdoptError → Parts D H → Type 0
+Steps conduct dig old file answer new = (calls : DeviceCalls) × HaveCalls conduct (disks_of old) calls (disks_of new)
     × StepAdopt dig (state_of old) file calls answer (state_of new)
 
-module _ {D H : Type 0} {history : D → History} {honest : D → Type 0} {faults : D → ℕ} {dig : List ℕ → List ℕ} (old : Parts D H) (file : ℕ) where
-  nothing : {answer : Result Adopted AdoptError} → StepAdopt dig (state_of old) file [] answer (state_of old) → Steps history honest faults dig old file answer old
-  nothing step = ([], have_none history honest faults (disks_of old), step)
+module _ {D H : Type 0} {conduct : Conduct D} {dig : List ℕ → List ℕ} (old : Parts D H) (file : ℕ) where
+  nothing : {answer : Result Adopted AdoptError} → StepAdopt dig (state_of old) file [] answer (state_of old) → Steps conduct dig old file answer old
+  nothing step = ([], have_none conduct (disks_of old), step)
 
-  pub steps_no_file : old.slots.len ≤ file → Steps history honest faults dig old file (Err NoFile) old
+  pub steps_no_file : old.slots.len ≤ file → Steps conduct dig old file (Err NoFile) old
   steps_no_file past = nothing (no_file (omega (arith, past, length-map old.slots.items file_of, old.slots.ok.0)) refl refl refl)
 
-  pub steps_busy : file < old.slots.len → 0 < length old.peers.items → Steps history honest faults dig old file (Err Busy) old
+  pub steps_busy : file < old.slots.len → 0 < length old.peers.items → Steps conduct dig old file (Err Busy) old
   steps_busy lt some =
       nothing (busy (omega (arith, lt, length-map old.slots.items file_of, old.slots.ok.0))
       (λ none. absurd (omega (arith, some, ap (λ xs. length xs) none, length-map old.peers.items (peer_of old.book)))) refl refl refl)
 
-  pub steps_empty : old.peers.items ≡ [] → file < old.slots.len → length (states_of (state_of old) file) ≡ 0 → Steps history honest faults dig old file (Ok (nothing_adopted 0)) old
+  pub steps_empty : old.peers.items ≡ [] → file < old.slots.len → length (states_of (state_of old) file) ≡ 0 → Steps conduct dig old file (Ok (nothing_adopted 0)) old
   steps_empty alone lt none =
       let slot = get_some old.slots.items file (omega (arith, lt, old.slots.ok.0)) in
       nothing (empty (file_of slot.0) (ap (map (peer_of old.book)) alone) (get_mapped file_of old.slots.items file slot.1)
       (no_items (file_of slot.0).states (omega (arith, none, ap (λ (xs : List BlockState). length xs) (states_are old file slot.1)))) refl refl refl)
 
-  pub steps_stopped : {new : Parts D H} → old.peers.items ≡ [] → StopsIn history honest faults dig file old new → Steps history honest faults dig old file (Err OutOfMemory) new
+  pub steps_stopped : {new : Parts D H} → old.peers.items ≡ [] → StopsIn conduct dig file old new → Steps conduct dig old file (Err OutOfMemory) new
   steps_stopped alone s = (s.made, s.calls, no_memory (ap (map (peer_of old.book)) alone) s.stops refl)
 
 module _ {D H : Type 0} (old : Parts D H) (file : ℕ) {slot : Slot D H} (here : slice_get old.slots.items file ≡ Some slot) (some : 0 < length (states_of (state_of old) file)) where
@@ -136,13 +137,13 @@ module _ {D H : Type 0} (old : Parts D H) (file : ℕ) {slot : Slot D H} (here :
       ap (λ o. option_map_or blocks_of o 0) fits.stands ∙ ap block_count fits.same ∙ sym (states_all old tied shaped file slot here store.0 store.1)
       ∙ sym (length_is old file here store.1)
 
-  pub steps_adopted : {history : D → History} {honest : D → Type 0} {faults : D → ℕ} {dig : List ℕ → List ℕ} {mid : Parts D H} {total : Adopted} (new : Parts D H) → old.peers.items ≡ [] → IsTied old → IsShaped old.torrent (state_of old)
-      → AdoptsIn history honest faults dig file old total mid → KeepsRest old mid → SettlesOthers history honest faults dig file slot.tree mid new → Steps history honest faults dig old file (Ok total) new
-  steps_adopted {history} {honest} {faults} {dig} {mid} {total} new alone tied shaped a rest s =
+  pub steps_adopted : {conduct : Conduct D} {dig : List ℕ → List ℕ} {mid : Parts D H} {total : Adopted} (new : Parts D H) → old.peers.items ≡ [] → IsTied old → IsShaped old.torrent (state_of old)
+      → AdoptsIn conduct dig file old total mid → KeepsRest old mid → SettlesOthers conduct dig file slot.tree mid new → Steps conduct dig old file (Ok total) new
+  steps_adopted {conduct} {dig} {mid} {total} new alone tied shaped a rest s =
       let states = ap (λ (xs : List BlockState). length xs) (states_are old file here) in
       let count : block_count_of_tree (state_of mid) slot.tree ≡ length (file_of slot).states = rest.blocks slot.tree ∙ blocks_are tied shaped ∙ states in (
         flat_map (λ c. c) a.groups ++ s.calls,
-        have_then history honest faults (disks_of old) (disks_of mid) (disks_of new) (flat_map (λ c. c) a.groups) s.calls a.calls s.made,
+        have_then conduct (disks_of old) (disks_of mid) (disks_of new) (flat_map (λ c. c) a.groups) s.calls a.calls s.made,
         adopts total (ap (map (peer_of old.book)) alone) (record {
           state = file_of slot;
           groups = a.groups;
@@ -161,17 +162,17 @@ module _ {D H : Type 0} (old : Parts D H) (file : ℕ) {slot : Slot D H} (here :
       )
 
   -- all groups were taken in, and there was no room for what comes behind them
-  pub steps_unsettled : {history : D → History} {honest : D → Type 0} {faults : D → ℕ} {dig : List ℕ → List ℕ} {mid : Parts D H} {total : Adopted} (new : Parts D H) → old.peers.items ≡ []
-      → AdoptsIn history honest faults dig file old total mid → KeepsRest old mid → AreInLine mid → OnlyPendingChanges mid new → pending_of new.log ≡ pending_of mid.log
-      → Steps history honest faults dig old file (Err OutOfMemory) new
-  steps_unsettled {history} {honest} {faults} {dig} {mid} {total} new alone a rest in_line keeps pending =
+  pub steps_unsettled : {conduct : Conduct D} {dig : List ℕ → List ℕ} {mid : Parts D H} {total : Adopted} (new : Parts D H) → old.peers.items ≡ []
+      → AdoptsIn conduct dig file old total mid → KeepsRest old mid → AreInLine mid → OnlyPendingChanges mid new → pending_of new.log ≡ pending_of mid.log
+      → Steps conduct dig old file (Err OutOfMemory) new
+  steps_unsettled {conduct} {dig} {mid} {total} new alone a rest in_line keeps pending =
       let same : state_of new ≡ state_of mid = state_same keeps pending in
       let there = get_some mid.slots.items file (omega (arith, some_below old.slots.items file here, rest.count)) in
       let stands = file_stands mid file there.1 (omega (arith, some, groups_size dig file (state_of old) (state_of mid) 0 a.groups total a.adopts)) in_line.fits in
       let made = flat_map (λ c. c) a.groups ++ [] in (
         made,
-        subst (λ ds. HaveCalls history honest faults (disks_of old) made ds) (sym (same_disks keeps))
-            (subst (λ cs. HaveCalls history honest faults (disks_of old) cs (disks_of mid)) (sym (append-nil (flat_map (λ c. c) a.groups))) a.calls),
+        subst (λ ds. HaveCalls conduct (disks_of old) made ds) (sym (same_disks keeps))
+            (subst (λ cs. HaveCalls conduct (disks_of old) cs (disks_of mid)) (sym (append-nil (flat_map (λ c. c) a.groups))) a.calls),
         no_memory (ap (map (peer_of old.book)) alone) (record {
           state = stands.state;
           tree = stands.tree;
@@ -187,8 +188,8 @@ module _ {D H : Type 0} (old : Parts D H) (file : ℕ) {slot : Slot D H} (here :
       )
 
   -- so the engine that has taken in the groups is of its torrent's shape
-  pub shaped_behind : {history : D → History} {honest : D → Type 0} {faults : D → ℕ} {dig : List ℕ → List ℕ} {mid : Parts D H} {total : Adopted} → old.peers.items ≡ []
-      → AdoptsIn history honest faults dig file old total mid → KeepsRest old mid → AreInLine mid → IsShaped old.torrent (state_of old)
+  pub shaped_behind : {conduct : Conduct D} {dig : List ℕ → List ℕ} {mid : Parts D H} {total : Adopted} → old.peers.items ≡ []
+      → AdoptsIn conduct dig file old total mid → KeepsRest old mid → AreInLine mid → IsShaped old.torrent (state_of old)
       → IsShaped mid.torrent (state_of mid)
   shaped_behind {dig = dig} {mid = mid} alone a rest in_line shaped =
       let steps = steps_unsettled mid alone a rest in_line (record { others = refl; log = refl }) refl in

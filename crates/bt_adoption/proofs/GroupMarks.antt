@@ -19,6 +19,7 @@ use Rattle.bt_adoption.specs.MarksSteps.{unmarked_blocks, newly_marked, marks_in
 use Rattle.bt_adoption.specs.RunProofsSteps.{run_keys}
 use Rattle.bt_adoption.proofs.Hints.{add_more}
 use Rattle.bt_adoption.proofs.NewMarks.{newly_none, newly_in_group, newly_known}
+use Rattle.bt_disk.specs.Conduct.{Conduct}
 
 -- ---- proofs by keys that are answered
 
@@ -160,10 +161,10 @@ module _ {dig : List ℕ → List ℕ} {k grown : Facts} {from : ℕ} {old new :
   pub keys_answered : ProofKeysAreAnswered dig → 0 < adopted.marked → (key : HashKey) → Contains (run_keys grown a (range_with_len f n)) key → HasAnswer dig grown key
   keys_answered answered some key c = answered k grown from old new reads adopted key adopts (subst (λ keys. Contains keys key) (sym (found_both some).keys) c)
 
-module _ {D : Type 0} {history : D → History} {honest : D → Type 0} {faults : D → ℕ} {dig : List ℕ → List ℕ} (file : ℕ) {k grown : Facts} {from : ℕ} {old new : StoreView D}
-    (pending : List Hint) {adopted : Adopted} {reads : List BlockRead} (is : IsAdopted history honest faults dig k from old reads adopted grown new) where
+module _ {D : Type 0} {conduct : Conduct D} {dig : List ℕ → List ℕ} (file : ℕ) {k grown : Facts} {from : ℕ} {old new : StoreView D}
+    (pending : List Hint) {adopted : Adopted} {reads : List BlockRead} (is : IsAdopted conduct dig k from old reads adopted grown new) where
   -- without a log
-  pub takes_bare : ProofKeysAreAnswered dig → TakesGroup history honest faults dig file false from (file_view k old pending) adopted (file_view grown new pending)
+  pub takes_bare : ProofKeysAreAnswered dig → TakesGroup conduct dig file false from (file_view k old pending) adopted (file_view grown new pending)
   takes_bare answered =
       let some = some_proofs answered is.adopts in
       record { reads = reads; adopts = is; proofs = some.0; proves = some.1; leaves = refl }
@@ -171,7 +172,7 @@ module _ {D : Type 0} {history : D → History} {honest : D → Type 0} {faults 
   module _ (left : List Hint) (size : length old.states ≡ blocks_of k) where
     pub takes_known : from < blocks_of k → IsAnchor k from 0
         → left ≡ add_hints pending (marks_in file (filter (is_marked_at new.states) (unmarked_blocks old.states from (min 8 (blocks_of k - from)))))
-        → TakesGroup history honest faults dig file true from (file_view k old pending) adopted (file_view grown new left)
+        → TakesGroup conduct dig file true from (file_view k old pending) adopted (file_view grown new left)
     takes_known inside zeroth left_is =
         let leaves = of_known inside size zeroth is.adopts in
         record {
@@ -186,7 +187,7 @@ module _ {D : Type 0} {history : D → History} {honest : D → Type 0} {faults 
       pub takes_found : (runs : List Run) (waits : List Hint) → 0 < adopted.marked
           → (proofs : List Hint) × AllZip (IsProof dig grown) (run_keys grown a (range_with_len f n)) proofs × (waits ≡ add_hints pending proofs)
           → flat_map run_blocks runs ≡ unmarked_blocks old.states f n → left ≡ add_hints waits (marks_in file (flat_map run_blocks runs))
-          → TakesGroup history honest faults dig file true from (file_view k old pending) adopted (file_view grown new left)
+          → TakesGroup conduct dig file true from (file_view k old pending) adopted (file_view grown new left)
       takes_found runs waits some (proofs, zip, waits_is) runs_are left_is =
           let both = found_both is.adopts size at some in
           record {
@@ -199,7 +200,7 @@ module _ {D : Type 0} {history : D → History} {honest : D → Type 0} {faults 
                 ∙ ap (λ blocks. add_hints pending (proofs ++ marks_in file blocks)) (runs_are ∙ sym both.marks);
           }
 
-      pub takes_unfound : adopted.marked ≤ 0 → left ≡ pending → TakesGroup history honest faults dig file true from (file_view k old pending) adopted (file_view grown new left)
+      pub takes_unfound : adopted.marked ≤ 0 → left ≡ pending → TakesGroup conduct dig file true from (file_view k old pending) adopted (file_view grown new left)
       takes_unfound few left_is =
           let nothing = found_nothing is.adopts size at few in
           record {

@@ -16,6 +16,7 @@ use Rattle.bt_adoption.specs.RecountSteps.{with_marked_file, Follows, LeavesOut,
 use Rattle.bt_adoption.specs.PartsSteps.{AreFit, AreInLine, KeepsRest, ChangesFile, block_count_of_tree}
 use Rattle.bt_adoption.specs.SettlingSteps.{SettlesFiles}
 use Rattle.bt_adoption.specs.AdoptionSteps.{AdoptsIn, StopsIn}
+use Rattle.bt_disk.specs.Conduct.{Conduct}
 
 -- the book and the counts alone differ
 module _ {D H : Type 0} (old new : Parts D H) (others : new ≡ record old { book = new.book; counts = new.counts }) where
@@ -86,14 +87,14 @@ module _ {D H : Type 0} {file : ℕ} {old left : Parts D H} (out : LeavesOut fil
       said : (P : EngineState → EngineState → Type 0) → P (state_of left) (state_of mid) → P (state_of old) (state_of new)
       said P p = subst (λ s. P s (state_of new)) (same_state old left out.others alone) (subst (λ s. P (state_of left) s) (sym last) p)
 
-      made : {history : D → History} {honest : D → Type 0} {faults : D → ℕ} {calls : DeviceCalls} → HaveCalls history honest faults (disks_of left) calls (disks_of mid)
-          → HaveCalls history honest faults (disks_of old) calls (disks_of new)
-      made {history} {honest} {faults} {calls} have =
-          subst (λ ds. HaveCalls history honest faults ds calls (disks_of new)) (same_disks old left out.others)
-          (subst (λ ds. HaveCalls history honest faults (disks_of left) calls ds) (sym (same_disks mid new back.others)) have)
+      made : {conduct : Conduct D} {calls : DeviceCalls} → HaveCalls conduct (disks_of left) calls (disks_of mid)
+          → HaveCalls conduct (disks_of old) calls (disks_of new)
+      made {conduct} {calls} have =
+          subst (λ ds. HaveCalls conduct ds calls (disks_of new)) (same_disks old left out.others)
+          (subst (λ ds. HaveCalls conduct (disks_of left) calls ds) (sym (same_disks mid new back.others)) have)
 
-      module _ {history : D → History} {honest : D → Type 0} {faults : D → ℕ} {dig : List ℕ → List ℕ} where
-        pub adopts_again : {total : Adopted} → AdoptsIn history honest faults dig file left total mid → AdoptsIn history honest faults dig file old total new
+      module _ {conduct : Conduct D} {dig : List ℕ → List ℕ} where
+        pub adopts_again : {total : Adopted} → AdoptsIn conduct dig file left total mid → AdoptsIn conduct dig file old total new
         adopts_again {total} a = record {
           groups = a.groups;
           calls = made a.calls;
@@ -101,10 +102,10 @@ module _ {D H : Type 0} {file : ℕ} {old left : Parts D H} (out : LeavesOut fil
           all = a.all ∙ same_blocks;
         }
 
-        pub stops_again : StopsIn history honest faults dig file left mid → StopsIn history honest faults dig file old new
+        pub stops_again : StopsIn conduct dig file left mid → StopsIn conduct dig file old new
         stops_again a = record { made = a.made; calls = made a.calls; stops = said (λ s t. StopsAdopting dig s file a.made t) a.stops }
 
-        pub settles_again : {is_meant : ℕ → Bool} {tree : ℕ} → SettlesFiles history honest faults dig is_meant tree left mid
-            → SettlesFiles history honest faults dig is_meant tree old new
+        pub settles_again : {is_meant : ℕ → Bool} {tree : ℕ} → SettlesFiles conduct dig is_meant tree left mid
+            → SettlesFiles conduct dig is_meant tree old new
         settles_again {is_meant} {tree} (calls, notes, have, settles) =
             (calls, notes, made have, said (λ s t. SettlesIn dig is_meant tree 0 (block_count_of_tree s tree) s calls notes t) settles)

@@ -16,6 +16,7 @@ use Rattle.bt_adoption.specs.PartsSteps.{block_count_of_tree}
 use Rattle.bt_adoption.specs.SettlingSteps.{SettlesOthers}
 use Rattle.bt_adoption.proofs.Ranges.{keeps_none}
 use Rattle.bt_adoption.proofs.Settlements.{alike_meant, settles_none}
+use Rattle.bt_disk.specs.Conduct.{Conduct}
 
 -- nothing has become marked since
 no_news : (s : EngineState) → new_marked_blocks s s ≡ []
@@ -37,9 +38,9 @@ nothing_due dig s count none k f state at true true = nothing_waits dig k state.
 nothing_due dig s count none k f state at true false = refl
 nothing_due dig s count none k f state at false same_tree = refl
 
-pub settles_idle : {D H : Type 0} {history : D → History} {honest : D → Type 0} {faults : D → ℕ} {dig : List ℕ → List ℕ} (old : Parts D H)
-    (file : ℕ) {tree : ℕ} → tree < old.trees.len → NoneWaits (state_of old).files → SettlesOthers history honest faults dig file tree old old
-settles_idle {history = history} {honest = honest} {faults = faults} {dig = dig} old file {tree} here none =
+pub settles_idle : {D H : Type 0} {conduct : Conduct D} {dig : List ℕ → List ℕ} (old : Parts D H)
+    (file : ℕ) {tree : ℕ} → tree < old.trees.len → NoneWaits (state_of old).files → SettlesOthers conduct dig file tree old old
+settles_idle {conduct = conduct} {dig = dig} old file {tree} here none =
     let s = state_of old in
     let count = block_count_of_tree s tree in
     let k = get_some old.trees.items tree (omega (arith, here, old.trees.ok.0)) in
@@ -50,7 +51,7 @@ settles_idle {history = history} {honest = honest} {faults = faults} {dig = dig}
       calls = [];
       notes = notes;
       settled = s;
-      made = have_none history honest faults (disks_of old);
+      made = have_none conduct (disks_of old);
       settles = alike_meant dig tree count nobody
           (λ f state at. sym (nothing_due dig s count none nobody.facts f state at (is_other file f) (state.tree == tree)));
       after = sym (ap (λ hs. record s { pending = add_hints s.pending hs }) (no_marks s s.logged));

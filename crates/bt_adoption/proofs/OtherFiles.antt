@@ -14,6 +14,7 @@ use Rattle.bt_state.proofs.Leaves.{leaves_alike, leaves_then}
 use Rattle.bt_adoption.specs.PartsSteps.{AreInLine, KeepsRest, block_count_of_tree}
 use Rattle.bt_adoption.specs.SettlingSteps.{SettlesFiles}
 use Rattle.bt_adoption.proofs.Settlements.{before, alike_meant, same_meant, none_due, settles_none, settles_then}
+use Rattle.bt_disk.specs.Conduct.{Conduct}
 
 -- ---- what stays
 
@@ -74,20 +75,20 @@ module _ (file i : ℕ) where
 -- ---- the loop over the files
 
 -- those before one are settled
-pub record AreSettled {D H : Type 0} (history : D → History) (honest : D → Type 0) (faults : D → ℕ) (dig : List ℕ → List ℕ) (file tree : ℕ) (old : Parts D H)
+pub record AreSettled {D H : Type 0} (conduct : Conduct D) (dig : List ℕ → List ℕ) (file tree : ℕ) (old : Parts D H)
     (i : ℕ) (parts : Parts D H) : Type 0 where
-  pub settles : SettlesFiles history honest faults dig (before file i) tree old parts
+  pub settles : SettlesFiles conduct dig (before file i) tree old parts
   pub log : parts.log ≡ old.log
   pub rest : KeepsRest old parts
   pub in_line : AreInLine parts
 
-module _ {D H : Type 0} {history : D → History} {honest : D → Type 0} {faults : D → ℕ} {dig : List ℕ → List ℕ} {file tree : ℕ} {old : Parts D H} where
-  pub settled_begun : tree < old.trees.len → AreInLine old → AreSettled history honest faults dig file tree old 0 old
+module _ {D H : Type 0} {conduct : Conduct D} {dig : List ℕ → List ℕ} {file tree : ℕ} {old : Parts D H} where
+  pub settled_begun : tree < old.trees.len → AreInLine old → AreSettled conduct dig file tree old 0 old
   settled_begun lt in_line = record {
     settles = (
       [],
       _,
-      have_none history honest faults (disks_of old),
+      have_none conduct (disks_of old),
       settles_none dig tree (block_count_of_tree (state_of old) tree) (before file 0) (state_of old)
           (get_some old.trees.items tree (omega (arith, lt, old.trees.ok.0))).1 (λ f. none_from file 0 f (omega arith)),
     );
@@ -96,8 +97,8 @@ module _ {D H : Type 0} {history : D → History} {honest : D → Type 0} {fault
     in_line = in_line;
   }
 
-  pub settled_more : {i : ℕ} {parts new : Parts D H} → AreSettled history honest faults dig file tree old i parts → i ≢ file
-      → SettlesFiles history honest faults dig (λ other. other == i) tree parts new → new.log ≡ parts.log → KeepsRest parts new → AreInLine new → AreSettled history honest faults dig file tree old (i + 1) new
+  pub settled_more : {i : ℕ} {parts new : Parts D H} → AreSettled conduct dig file tree old i parts → i ≢ file
+      → SettlesFiles conduct dig (λ other. other == i) tree parts new → new.log ≡ parts.log → KeepsRest parts new → AreInLine new → AreSettled conduct dig file tree old (i + 1) new
   settled_more {i} {parts} {new} a apart (calls, notes, have, two) log rest in_line =
       let size : length (state_of parts).files ≡ length (state_of old).files =
       length-map parts.slots.items file_of ∙ a.rest.count ∙ sym (length-map old.slots.items file_of) in
@@ -108,7 +109,7 @@ module _ {D H : Type 0} {history : D → History} {honest : D → Type 0} {fault
         settles = (
           a.settles.0 ++ calls,
           both.0,
-          have_then history honest faults (disks_of old) (disks_of parts) (disks_of new) a.settles.0 calls a.settles.2 have,
+          have_then conduct (disks_of old) (disks_of parts) (disks_of new) a.settles.0 calls a.settles.2 have,
           both.1,
         );
         log = log ∙ a.log;
@@ -116,7 +117,7 @@ module _ {D H : Type 0} {history : D → History} {honest : D → Type 0} {fault
         in_line = in_line;
       }
 
-  pub settled_skipped : {i : ℕ} {parts : Parts D H} → AreSettled history honest faults dig file tree old i parts → i ≡ file → AreSettled history honest faults dig file tree old (i + 1) parts
+  pub settled_skipped : {i : ℕ} {parts : Parts D H} → AreSettled conduct dig file tree old i parts → i ≡ file → AreSettled conduct dig file tree old (i + 1) parts
   settled_skipped {i} a own = record {
     settles = (a.settles.0, a.settles.1, a.settles.2, same_meant dig tree (block_count_of_tree (state_of old) tree) (λ f lt. skipped file i own f) a.settles.3);
     log = a.log;
@@ -125,8 +126,8 @@ module _ {D H : Type 0} {history : D → History} {honest : D → Type 0} {fault
   }
 
   -- files that are not of the tree are passed
-  pub settled_past : {i : ℕ} (j : ℕ) {parts : Parts D H} → AreSettled history honest faults dig file tree old i parts → i ≤ j → NoneOfTree old.slots.items tree i j
-      → AreSettled history honest faults dig file tree old j parts
+  pub settled_past : {i : ℕ} (j : ℕ) {parts : Parts D H} → AreSettled conduct dig file tree old i parts → i ≤ j → NoneOfTree old.slots.items tree i j
+      → AreSettled conduct dig file tree old j parts
   settled_past {i} j a low none = record {
     settles = (a.settles.0, a.settles.1, a.settles.2, alike_meant dig tree (block_count_of_tree (state_of old) tree) a.settles.3 same);
     log = a.log;
@@ -157,8 +158,8 @@ module _ {D H : Type 0} {history : D → History} {honest : D → Type 0} {fault
             ]
           ]
 
-  pub settled_done : {i : ℕ} {parts : Parts D H} → AreSettled history honest faults dig file tree old i parts → length old.slots.items ≡ i
-      → SettlesFiles history honest faults dig (is_other file) tree old parts
+  pub settled_done : {i : ℕ} {parts : Parts D H} → AreSettled conduct dig file tree old i parts → length old.slots.items ≡ i
+      → SettlesFiles conduct dig (is_other file) tree old parts
   settled_done {i} a all = (
     a.settles.0,
     a.settles.1,

@@ -34,6 +34,7 @@ use Rattle.bt_adoption.proofs.Hints.{add_more}
 use Rattle.bt_adoption.proofs.RunMarks.{few_hints, no_hints}
 use Rattle.bt_adoption.proofs.News.{all_listed, marked_of, map_both}
 use Rattle.bt_adoption.proofs.Logs.{logged_same, state_with, state_same, same_disks}
+use Rattle.bt_disk.specs.Conduct.{Conduct}
 
 -- ---- listing
 
@@ -239,19 +240,19 @@ module _ {D H : Type 0} {old planned settled new : Parts D H} (first : OnlyPendi
           (listed ∙ ap (λ t. if t then waiting_in_others file tree (state_of old).files else []) e)
           ∙ ap (λ t. if t then map (λ b. mark_of b) (new_marked_blocks (state_of old) (state_of settled)) else []) (sym (has ∙ e))
 
-  pub settles_all : {history : D → History} {honest : D → Type 0} {faults : D → ℕ} {dig : List ℕ → List ℕ} (file : ℕ) {tree : ℕ} {ids : List BlockId}
-      → SettlesFiles history honest faults dig (is_other file) tree planned settled
+  pub settles_all : {conduct : Conduct D} {dig : List ℕ → List ℕ} (file : ℕ) {tree : ℕ} {ids : List BlockId}
+      → SettlesFiles conduct dig (is_other file) tree planned settled
       → ids ≡ (if is_some old.log then waiting_in_others file tree (state_of old).files else [])
       → pending_of new.log ≡ add_hints (pending_of settled.log) (map (λ b. mark_of b) (filter (is_marked_among (state_of settled).files) ids))
-      → SettlesOthers history honest faults dig file tree old new
-  settles_all {history} {honest} {faults} {dig} file {tree} {ids} (calls, notes, have, settles) listed left =
+      → SettlesOthers conduct dig file tree old new
+  settles_all {conduct} {dig} file {tree} {ids} (calls, notes, have, settles) listed left =
       let settles_old = subst (λ (s : EngineState). SettlesIn dig (is_other file) tree 0 (block_count_of_tree s tree) s calls notes (state_of settled)) (state_same first same_pending) settles in
       record {
         calls = calls;
         notes = notes;
         settled = state_of settled;
-        made = subst (λ ds. HaveCalls history honest faults ds calls (disks_of new)) (same_disks first)
-            (subst (λ ds. HaveCalls history honest faults (disks_of planned) calls ds) (sym (same_disks last)) have);
+        made = subst (λ ds. HaveCalls conduct ds calls (disks_of new)) (same_disks first)
+            (subst (λ ds. HaveCalls conduct (disks_of planned) calls ds) (sym (same_disks last)) have);
         settles = settles_old;
         after = left_is file settles_old listed left;
       }

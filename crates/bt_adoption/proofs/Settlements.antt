@@ -28,12 +28,13 @@ use Rattle.bt_adoption.proofs.Slots.{calls_are, IsKept}
 use Rattle.bt_adoption.proofs.Ranges.{flat_map_none, flat_map_one, flat_map_then}
 use Rattle.bt_adoption.proofs.NewMarks.{length_judged}
 use Rattle.bt_adoption.proofs.News.{no_reads}
+use Rattle.bt_disk.specs.Conduct.{Conduct}
 
 -- ---- a store whose blocks were judged
 
-pub kept_judged : {D : Type 0} {history : D → History} {honest : D → Type 0} {faults : D → ℕ} {dig : List ℕ → List ℕ} {k : Facts} {blocks : List ℕ} {store after : StoreView D}
-    {reads : List BlockRead} → IsJudged history honest faults dig k false blocks store reads after → IsKept k store k after
-kept_judged {D} {history} {honest} {faults} {dig} {k} {blocks} {store} {after} {reads} is_judged = record {
+pub kept_judged : {D : Type 0} {conduct : Conduct D} {dig : List ℕ → List ℕ} {k : Facts} {blocks : List ℕ} {store after : StoreView D}
+    {reads : List BlockRead} → IsJudged conduct dig k false blocks store reads after → IsKept k store k after
+kept_judged {D} {conduct} {dig} {k} {blocks} {store} {after} {reads} is_judged = record {
   file_length = is_judged.same_file;
   size = ap (λ (xs : List BlockState). length xs) is_judged.states ∙ length_judged dig k false reads store.states;
   still = still k;
@@ -103,10 +104,10 @@ module _ {D H : Type 0} (dig : List ℕ → List ℕ) (old : Parts D H) (file tr
       },
     )
 
-  pub settles_one : {history : D → History} {honest : D → Type 0} {faults : D → ℕ} {store after : StoreView D} {reads : List BlockRead} (has : slot.store ≡ Some store) → slot.tree ≡ tree
-      → k.file_length ≡ store.file_length → IsJudged history honest faults dig k false (waiting_blocks dig k store.states 0 (block_count store.file_length)) store reads after
-      → SettlesFiles history honest faults dig (λ other. other == file) tree old (record old { slots = with_item old.slots file (record slot { store = Some after }) })
-  settles_one {history} {honest} {faults} {store} {after} {reads} has of_tree same is_judged =
+  pub settles_one : {conduct : Conduct D} {store after : StoreView D} {reads : List BlockRead} (has : slot.store ≡ Some store) → slot.tree ≡ tree
+      → k.file_length ≡ store.file_length → IsJudged conduct dig k false (waiting_blocks dig k store.states 0 (block_count store.file_length)) store reads after
+      → SettlesFiles conduct dig (λ other. other == file) tree old (record old { slots = with_item old.slots file (record slot { store = Some after }) })
+  settles_one {conduct} {store} {after} {reads} has of_tree same is_judged =
       let files = files_changed old.slots.items file here has after in
       let blocks : block_count store.file_length ≡ count = sym (ap (λ o. option_map_or blocks_of o 0) there ∙ ap block_count same) in
       let states : store.states ≡ (file_of slot).states = sym (ap (λ (o : Option (StoreView D)). option_map_or (λ st. st.states) o []) has) in
@@ -120,7 +121,7 @@ module _ {D H : Type 0} (dig : List ℕ → List ℕ) (old : Parts D H) (file tr
       ∙ ap (λ (xs : List BlockState). Some (file_with slot.tree xs)) (is_judged.states ∙ ap (λ (xs : List BlockState). judged dig k false reads xs) states)) refl in (
         reads_at file k.file_length reads,
         settles.0,
-        rw (calls_are file reads same) (have_changed old.slots.items file here has after history honest faults (map (call_of store.file_length) reads) is_judged.device.calls),
+        rw (calls_are file reads same) (have_changed old.slots.items file here has after conduct (map (call_of store.file_length) reads) is_judged.device.calls),
         settles.1,
       )
 
@@ -140,10 +141,10 @@ module _ {D H : Type 0} (dig : List ℕ → List ℕ) (old : Parts D H) (file tr
       by true e = nothing_waits dig k (file_of slot).states 0 count (waits slot.store refl (eqb-true slot.tree tree e))
       by false e = refl
 
-  pub settles_not : {history : D → History} {honest : D → Type 0} {faults : D → ℕ} (is_due : IsDue tree slot → ⊥) → SettlesFiles history honest faults dig (λ other. other == file) tree old old
-  settles_not {history} {honest} {faults} is_due =
+  pub settles_not : {conduct : Conduct D} (is_due : IsDue tree slot → ⊥) → SettlesFiles conduct dig (λ other. other == file) tree old old
+  settles_not {conduct} is_due =
       let settles = settles_so [] old (sym (none_due is_due)) (λ other apart. refl) was refl in
-      (reads_at file k.file_length [], settles.0, have_none history honest faults (disks_of old), settles.1)
+      (reads_at file k.file_length [], settles.0, have_none conduct (disks_of old), settles.1)
 
 -- ---- files in turn
 

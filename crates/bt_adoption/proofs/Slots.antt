@@ -28,6 +28,7 @@ use Rattle.bt_adoption.specs.AdoptionSteps.{AdoptsIn, StopsIn}
 use Rattle.bt_adoption.proofs.Logs.{logged_same, hints_same}
 use Rattle.bt_adoption.proofs.Takings.{taken_state}
 use Rattle.bt_adoption.proofs.Recounts.{files_with}
+use Rattle.bt_disk.specs.Conduct.{Conduct}
 
 -- ---- what is known of a slot with a store
 
@@ -101,12 +102,12 @@ pub record IsKept {D : Type 0} (k : Facts) (store : StoreView D) (grown : Facts)
   pub size : length after.states ≡ length store.states
   pub still : StillKnows k grown
 
-module _ {D : Type 0} {history : D → History} {honest : D → Type 0} {faults : D → ℕ} {dig : List ℕ → List ℕ} {k : Facts} {store : StoreView D} {grown : Facts} {after : StoreView D} where
+module _ {D : Type 0} {conduct : Conduct D} {dig : List ℕ → List ℕ} {k : Facts} {store : StoreView D} {grown : Facts} {after : StoreView D} where
   pub kept_taken : {file : ℕ} {logged : Bool} {pending left : List Hint} {total : Adopted}
-      → TakesGroups history honest faults dig file logged (file_view k store pending) total (file_view grown after left) → IsKept k store grown after
+      → TakesGroups conduct dig file logged (file_view k store pending) total (file_view grown after left) → IsKept k store grown after
   kept_taken t = record { file_length = t.same_file; size = t.same_size; still = t.still }
 
-  pub kept_stopped : {file : ℕ} {logged : Bool} {pending left : List Hint} → StopsTaking history honest faults dig file logged (file_view k store pending) (file_view grown after left) → IsKept k store grown after
+  pub kept_stopped : {file : ℕ} {logged : Bool} {pending left : List Hint} → StopsTaking conduct dig file logged (file_view k store pending) (file_view grown after left) → IsKept k store grown after
   kept_stopped s = record {
     file_length = ap (λ (v : StoreView D). v.file_length) s.others ∙ s.takes.same_file;
     size = ap (λ (v : StoreView D). length v.states) s.others ∙ s.takes.same_size;
@@ -226,25 +227,25 @@ module _ {D H : Type 0} {old : Parts D H} {file : ℕ} {slot : Slot D H} {store 
       (taken (state_of old) slot.tree refl refl
       (record { here = file_here old.slots.items file at.here at.has store; has_tree = at.there }))
 
-  module _ {history : D → History} {honest : D → Type 0} {faults : D → ℕ} {dig : List ℕ → List ℕ} {after : StoreView D} {grown : Facts} (log : Option (OpenLog D)) (same_log : log_in log ≡ log_of old) where
+  module _ {conduct : Conduct D} {dig : List ℕ → List ℕ} {after : StoreView D} {grown : Facts} (log : Option (OpenLog D)) (same_log : log_in log ≡ log_of old) where
     pub adopts_in : {total : Adopted}
-        → TakesGroups history honest faults dig file (is_some old.log) (file_view k store (pending_of old.log)) total (file_view grown after (pending_of log))
-        → total.next ≡ length store.states → AdoptsIn history honest faults dig file old total (parts_with old file slot after grown log)
+        → TakesGroups conduct dig file (is_some old.log) (file_view k store (pending_of old.log)) total (file_view grown after (pending_of log))
+        → total.next ≡ length store.states → AdoptsIn conduct dig file old total (parts_with old file slot after grown log)
     adopts_in {total} takes all = record {
       groups = map (reads_at file k.file_length) takes.groups;
       calls = rw (group_calls file k.file_length takes.groups ∙ calls_are file (all_reads takes.groups) at.same)
-          (have_changed old.slots.items file at.here at.has after history honest faults (map (call_of store.file_length) (all_reads takes.groups)) takes.calls);
+          (have_changed old.slots.items file at.here at.has after conduct (map (call_of store.file_length) (all_reads takes.groups)) takes.calls);
       adopts = taken_in dig after grown takes.groups total after log same_log takes.taken refl;
       all = all ∙ sym (length_is old file at.here at.has);
     }
 
-    pub stops_in : CallsCompose history honest faults → 0 < length (states_of (state_of old) file)
-        → StopsTaking history honest faults dig file (is_some old.log) (file_view k store (pending_of old.log)) (file_view grown after (pending_of log))
-        → StopsIn history honest faults dig file old (parts_with old file slot after grown log)
+    pub stops_in : CallsCompose conduct → 0 < length (states_of (state_of old) file)
+        → StopsTaking conduct dig file (is_some old.log) (file_view k store (pending_of old.log)) (file_view grown after (pending_of log))
+        → StopsIn conduct dig file old (parts_with old file slot after grown log)
     stops_in compose some s =
         let call = call_of store.file_length in
         let states = ap (λ (v : StoreView D). v.states) s.others in
-        let last = subst (λ m. HasCalls history honest faults s.before.disk (map (call_of m) s.last) after.disk) s.takes.same_file s.calls in
+        let last = subst (λ m. HasCalls conduct s.before.disk (map (call_of m) s.last) after.disk) s.takes.same_file s.calls in
         let calls : flat_map (λ c. c) (map (reads_at file k.file_length) s.takes.groups) ++ reads_at file grown.file_length s.last
         ≡ calls_at file (map (call_of store.file_length) (all_reads s.takes.groups) ++ map (call_of store.file_length) s.last) =
         ap (λ cs. cs ++ reads_at file grown.file_length s.last) (group_calls file k.file_length s.takes.groups ∙ calls_are file (all_reads s.takes.groups) at.same)
@@ -252,7 +253,7 @@ module _ {D H : Type 0} {old : Parts D H} {file : ℕ} {slot : Slot D H} {store 
         ∙ sym (map-append (λ call. (file, call)) (map (call_of store.file_length) (all_reads s.takes.groups)) (map (call_of store.file_length) s.last)) in
         record {
           made = flat_map (λ c. c) (map (reads_at file k.file_length) s.takes.groups) ++ reads_at file grown.file_length s.last;
-          calls = rw calls (have_changed old.slots.items file at.here at.has after history honest faults (map call (all_reads s.takes.groups) ++ map call s.last)
+          calls = rw calls (have_changed old.slots.items file at.here at.has after conduct (map call (all_reads s.takes.groups) ++ map call s.last)
               (compose store.disk s.before.disk after.disk (map call (all_reads s.takes.groups)) (map call s.last) s.takes.calls last));
           stops = record {
             state = file_with slot.tree after.states;

@@ -23,6 +23,7 @@ use Rattle.bt_adoption.specs.MarksSteps.{newly_marked, marks_in}
 use Rattle.bt_adoption.proofs.Borders.{IsBorder, at_start, behind_group_of}
 use Rattle.bt_adoption.proofs.NewMarks.{length_judged, length_marked}
 use Rattle.bt_adoption.proofs.News.{group_news}
+use Rattle.bt_disk.specs.Conduct.{Conduct}
 
 -- ---- a group leaves as many states as there were
 
@@ -98,10 +99,10 @@ module _ {dig : List ℕ → List ℕ} where
         after = ap (λ p. record then_state { pending = p }) hints;
       }
 
-  taken_more : {D : Type 0} {history : D → History} {honest : D → Type 0} {faults : D → ℕ} {file : ℕ} {logged : Bool} (old : FileView D) {mid new : FileView D}
+  taken_more : {D : Type 0} {conduct : Conduct D} {file : ℕ} {logged : Bool} (old : FileView D) {mid new : FileView D}
       (groups : List (List BlockRead)) (total : Adopted) {one : Adopted}
       → AreTaken dig file logged old groups total mid → mid.tree.file_length ≡ old.tree.file_length → total.next < blocks_of mid.tree
-      → (group : TakesGroup history honest faults dig file logged total.next mid one new)
+      → (group : TakesGroup conduct dig file logged total.next mid one new)
       → AreTaken dig file logged old (groups ++ group.reads ∷ []) (adopted_together total one) new
   taken_more {file = file} {logged = logged} old {mid} {new} groups total {one} taken same inside group = λ s tree has_log had is.
       let first = taken_state s file tree mid.store.states mid.tree mid.pending in
@@ -130,10 +131,10 @@ if_err_by (Err e) t = t
 
 -- ---- the loop over the groups
 
-module _ {D : Type 0} {history : D → History} {honest : D → Type 0} {faults : D → ℕ} {dig : List ℕ → List ℕ} {file : ℕ} {logged : Bool} {old : FileView D} where
+module _ {D : Type 0} {conduct : Conduct D} {dig : List ℕ → List ℕ} {file : ℕ} {logged : Bool} {old : FileView D} where
   takes_more : {mid new : FileView D} {total one : Adopted}
-      → CallsCompose history honest faults → TakesGroups history honest faults dig file logged old total mid → total.next < blocks_of mid.tree
-      → TakesGroup history honest faults dig file logged total.next mid one new → TakesGroups history honest faults dig file logged old (adopted_together total one) new
+      → CallsCompose conduct → TakesGroups conduct dig file logged old total mid → total.next < blocks_of mid.tree
+      → TakesGroup conduct dig file logged total.next mid one new → TakesGroups conduct dig file logged old (adopted_together total one) new
   takes_more {mid} {new} {total} {one} compose takes inside group =
       let groups = takes.groups in
       let reads = group.reads in
@@ -146,7 +147,7 @@ module _ {D : Type 0} {history : D → History} {honest : D → Type 0} {faults 
         groups = takes.groups ++ group.reads ∷ [];
         calls = rw list
             (compose old.store.disk mid.store.disk new.store.disk (map call (all_reads groups)) (map call reads) takes.calls
-            (subst (λ n. HasCalls history honest faults mid.store.disk (map (call_of n) reads) new.store.disk) takes.same_file adopted.calls));
+            (subst (λ n. HasCalls conduct mid.store.disk (map (call_of n) reads) new.store.disk) takes.same_file adopted.calls));
         taken = taken_more old groups total takes.taken takes.still.long inside group;
         same_file = adopted.same_file ∙ takes.same_file;
         same_size = length_adopted adopted.adopts ∙ takes.same_size;
@@ -154,16 +155,16 @@ module _ {D : Type 0} {history : D → History} {honest : D → Type 0} {faults 
       }
 
 -- so far groups were taken in, and their sums are within the blocks that they have
-pub record AreTaking {D : Type 0} (history : D → History) (honest : D → Type 0) (faults : D → ℕ) (dig : List ℕ → List ℕ) (file : ℕ) (logged : Bool) (old : FileView D)
+pub record AreTaking {D : Type 0} (conduct : Conduct D) (dig : List ℕ → List ℕ) (file : ℕ) (logged : Bool) (old : FileView D)
     (total : Adopted) (new : FileView D) : Type 0 where
-  pub takes : TakesGroups history honest faults dig file logged old total new
+  pub takes : TakesGroups conduct dig file logged old total new
   pub border : IsBorder new.tree total.next
   pub marked : total.marked ≤ total.next
   pub faulty : total.faults ≤ total.next
   pub inside : total.next ≤ blocks_of old.tree
 
-module _ {D : Type 0} {history : D → History} {honest : D → Type 0} {faults : D → ℕ} {dig : List ℕ → List ℕ} {file : ℕ} {logged : Bool} {old : FileView D} where
-  pub taking_begun : NoCallsLead history honest faults → AreTaking history honest faults dig file logged old (nothing_adopted 0) old
+module _ {D : Type 0} {conduct : Conduct D} {dig : List ℕ → List ℕ} {file : ℕ} {logged : Bool} {old : FileView D} where
+  pub taking_begun : NoCallsLead conduct → AreTaking conduct dig file logged old (nothing_adopted 0) old
   taking_begun none = record {
     takes = record { groups = []; calls = none old.store.disk; taken = taken_none dig file logged old; same_file = refl; same_size = refl; still = still old.tree };
     border = at_start refl;
@@ -172,10 +173,10 @@ module _ {D : Type 0} {history : D → History} {honest : D → Type 0} {faults 
     inside = omega arith;
   }
 
-  pub taking_more : CallsCompose history honest faults → {mid new : FileView D} {total one : Adopted} → IsRooted dig mid.tree
-      → AreTaking history honest faults dig file logged old total mid → total.next < blocks_of old.tree
-      → TakesGroup history honest faults dig file logged total.next mid one new → one.next ≤ blocks_of old.tree
-      → AreTaking history honest faults dig file logged old (adopted_together total one) new
+  pub taking_more : CallsCompose conduct → {mid new : FileView D} {total one : Adopted} → IsRooted dig mid.tree
+      → AreTaking conduct dig file logged old total mid → total.next < blocks_of old.tree
+      → TakesGroup conduct dig file logged total.next mid one new → one.next ≤ blocks_of old.tree
+      → AreTaking conduct dig file logged old (adopted_together total one) new
   taking_more compose {mid} {new} {total} {one} rooted a lt group within =
       let here : total.next < blocks_of mid.tree = subst (λ n. total.next < block_count n) (sym a.takes.still.long) lt in
       let more = behind_group_of rooted here a.border group.adopts.adopts in
@@ -188,9 +189,9 @@ module _ {D : Type 0} {history : D → History} {honest : D → Type 0} {faults 
       }
 
   -- the next group was refused memory
-  pub taking_stopped : NoCallsLead history honest faults → {mid : FileView D} {new : StoreView D} {total : Adopted}
-      → AreTaking history honest faults dig file logged old total mid
-      → StopsGroup history honest faults dig mid.tree total.next mid.store new → StopsTaking history honest faults dig file logged old (record mid { store = new })
+  pub taking_stopped : NoCallsLead conduct → {mid : FileView D} {new : StoreView D} {total : Adopted}
+      → AreTaking conduct dig file logged old total mid
+      → StopsGroup conduct dig mid.tree total.next mid.store new → StopsTaking conduct dig file logged old (record mid { store = new })
   taking_stopped none {mid} {new} {total} a (not_taken reads stop) = record {
     done = total;
     before = mid.store;
@@ -208,7 +209,7 @@ module _ {D : Type 0} {history : D → History} {honest : D → Type 0} {faults 
     before = mid.store;
     last = [];
     takes = a.takes;
-    calls = subst (λ (v : StoreView D). HasCalls history honest faults mid.store.disk [] v.disk) (sym same) (none mid.store.disk);
+    calls = subst (λ (v : StoreView D). HasCalls conduct mid.store.disk [] v.disk) (sym same) (none mid.store.disk);
     stops = unread refl;
     others = same ∙ ap (λ (v : StoreView D). record mid.store { disk = v.disk }) (sym same);
   }

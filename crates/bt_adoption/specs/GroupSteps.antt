@@ -1,7 +1,7 @@
 -- A group of a file's blocks, and what it leaves for a log.
 use Rattle.std.specs.Prelude.{[], ◌≡◌, ℕ, Bool, if◌then◌else◌, List, ◌++◌, Option, option_map}
 use Rattle.std.specs.List.{AllZip}
-use Rattle.bt_disk.specs.History.{History}
+use Rattle.bt_disk.specs.Conduct.{Conduct}
 use Rattle.bt_sparse.specs.SparseTree.{Facts}
 use Rattle.bt_resume.specs.ResumeLog.{LogView}
 use Rattle.bt_resume.specs.declared.hint.Hint.{Hint}
@@ -29,19 +29,19 @@ file_view tree store pending = record { tree = tree; store = store; pending = pe
 
 -- The store took in the group of a block. With a log these are left behind what was pending: its proofs, and
 -- then the marks of its newly marked blocks.
-pub record TakesGroup {D : Type 0} (history : D → History) (honest : D → Type 0) (faults : D → ℕ)
+pub record TakesGroup {D : Type 0} (conduct : Conduct D)
     (dig : List ℕ → List ℕ) (file : ℕ) (logged : Bool) (from : ℕ) (old : FileView D) (adopted : Adopted)
     (new : FileView D) : Type 0 where
   pub reads : List BlockRead
-  pub adopts : IsAdopted history honest faults dig old.tree from old.store reads adopted new.tree new.store
+  pub adopts : IsAdopted conduct dig old.tree from old.store reads adopted new.tree new.store
   pub proofs : List Hint
   pub proves : AllZip (IsProof dig new.tree) (proof_keys new.tree from adopted) proofs
   pub leaves : new.pending ≡ add_hints old.pending
       (if logged then proofs ++ marks_in file (newly_marked old.store.states new.store.states) else [])
 
 -- memory was refused: before the group was read, or to the store
-pub data StopsGroup {D : Type 0} (history : D → History) (honest : D → Type 0) (faults : D → ℕ)
+pub data StopsGroup {D : Type 0} (conduct : Conduct D)
     (dig : List ℕ → List ℕ) (k : Facts) (from : ℕ) (old new : StoreView D) : Type 0 where
-  not_read : new ≡ old → StopsGroup history honest faults dig k from old new
-  not_taken : (reads : List BlockRead) → StopsAdopting history honest faults dig k from old reads new
-      → StopsGroup history honest faults dig k from old new
+  not_read : new ≡ old → StopsGroup conduct dig k from old new
+  not_taken : (reads : List BlockRead) → StopsAdopting conduct dig k from old reads new
+      → StopsGroup conduct dig k from old new

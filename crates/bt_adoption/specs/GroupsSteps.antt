@@ -1,6 +1,6 @@
 -- The groups of a file, taken in one after the other by its store.
 use Rattle.std.specs.Prelude.{◌≡◌, ℕ, Bool, List, length, map, flat_map}
-use Rattle.bt_disk.specs.History.{History}
+use Rattle.bt_disk.specs.Conduct.{Conduct}
 use Rattle.bt_disk.specs.Calls.{HasCalls}
 use Rattle.bt_store.specs.FileStore.{StoreView}
 use Rattle.bt_store.specs.BlockReads.{BlockRead, call_of}
@@ -32,11 +32,11 @@ AreTaken dig file logged old groups total new = (s : EngineState) (tree : ℕ)
     { pending = new.pending })
 
 -- the groups are taken in by some reads, and no other call failed or changed an honest device
-pub record TakesGroups {D : Type 0} (history : D → History) (honest : D → Type 0) (faults : D → ℕ)
+pub record TakesGroups {D : Type 0} (conduct : Conduct D)
     (dig : List ℕ → List ℕ) (file : ℕ) (logged : Bool) (old : FileView D) (total : Adopted)
     (new : FileView D) : Type 0 where
   pub groups : List (List BlockRead)
-  pub calls : HasCalls history honest faults
+  pub calls : HasCalls conduct
       old.store.disk (map (call_of old.store.file_length) (all_reads groups)) new.store.disk
   pub taken : AreTaken dig file logged old groups total new
   pub same_file : new.store.file_length ≡ old.store.file_length
@@ -44,13 +44,13 @@ pub record TakesGroups {D : Type 0} (history : D → History) (honest : D → Ty
   pub still : StillKnows old.tree new.tree
 
 -- Memory was refused: some groups were taken in; the next one was read or was not, and changed nothing.
-pub record StopsTaking {D : Type 0} (history : D → History) (honest : D → Type 0) (faults : D → ℕ)
+pub record StopsTaking {D : Type 0} (conduct : Conduct D)
     (dig : List ℕ → List ℕ) (file : ℕ) (logged : Bool) (old new : FileView D) : Type 0 where
   pub done : Adopted
   pub before : StoreView D
   pub last : List BlockRead
-  pub takes : TakesGroups history honest faults dig file logged old done (record new { store = before })
-  pub calls : HasCalls history honest faults
+  pub takes : TakesGroups conduct dig file logged old done (record new { store = before })
+  pub calls : HasCalls conduct
       before.disk (map (call_of before.file_length) last) new.store.disk
   pub stops : StopsAt new.tree done.next last
   pub others : new.store ≡ record before { disk = new.store.disk }

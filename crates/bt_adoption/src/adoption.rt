@@ -37,7 +37,7 @@ pub fn adopt<D: Disk + Drop, H: NodeHash>(
     requires tied { IsTied parts.old }
     requires shaped { IsShaped parts.old.torrent (state_of parts.old) }
     ensures step { (calls : DeviceCalls)
-        × HaveCalls D.history D.honest D.faults (disks_of parts.old) calls (disks_of parts.new)
+        × HaveCalls D.conduct (disks_of parts.old) calls (disks_of parts.new)
         × StepAdopt H.digest (state_of parts.old) file calls result (state_of parts.new) }
     ensures torrent { parts.new.torrent ≡ parts.old.torrent }
     ensures peers { parts.new.peers ≡ parts.old.peers }
@@ -85,9 +85,9 @@ fn adopt_file<D: Disk + Drop, H: NodeHash>(
     requires in_line { AreInLine parts.old }
     requires inside { file < vec_len parts.old.slots }
     requires some { 0 < length (states_of (state_of parts.old) file) }
-    ensures ok { IfOk result (λ total. AdoptsIn D.history D.honest D.faults H.digest file
+    ensures ok { IfOk result (λ total. AdoptsIn D.conduct H.digest file
         parts.old total parts.new) }
-    ensures stop { IfErr result (λ _. StopsIn D.history D.honest D.faults H.digest file
+    ensures stop { IfErr result (λ _. StopsIn D.conduct H.digest file
         parts.old parts.new) }
     ensures rest { KeepsRest parts.old parts.new }
     ensures in_line { AreInLine parts.new }
@@ -108,9 +108,9 @@ fn adopt_slot<D: Disk + Drop, H: NodeHash>(
     requires fits { AreFit parts.old }
     requires inside { file < vec_len parts.old.slots }
     requires some { 0 < length (states_of (state_of parts.old) file) }
-    ensures ok { IfOk result (λ total. AdoptsIn D.history D.honest D.faults H.digest file
+    ensures ok { IfOk result (λ total. AdoptsIn D.conduct H.digest file
         parts.old total parts.new) }
-    ensures stop { IfErr result (λ _. StopsIn D.history D.honest D.faults H.digest file
+    ensures stop { IfErr result (λ _. StopsIn D.conduct H.digest file
         parts.old parts.new) }
     ensures changes { ChangesFile file parts.old parts.new }
 {

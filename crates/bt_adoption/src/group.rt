@@ -33,12 +33,12 @@ pub(crate) fn adopt_group<D: Disk + Drop, H: NodeHash>(
     requires geometry { tree.old.file_length ≡ store.old.file_length }
     requires states { length store.old.states ≡ block_count store.old.file_length }
     requires inside { from < block_count store.old.file_length }
-    ensures ok { IfOk result (λ adopted. TakesGroup D.history D.honest D.faults H.digest file
+    ensures ok { IfOk result (λ adopted. TakesGroup D.conduct H.digest file
         (is_some log.old) from (file_view tree.old store.old (pending_of log.old)) adopted
         (file_view tree.new store.new (pending_of log.new))) }
     ensures onward { IfOk result (λ adopted. from < adopted.next) }
     ensures within { IfOk result (λ adopted. adopted.next ≤ block_count store.old.file_length) }
-    ensures stop { IfErr result (λ _. StopsGroup D.history D.honest D.faults H.digest
+    ensures stop { IfErr result (λ _. StopsGroup D.conduct H.digest
         tree.old from store.old store.new) }
     ensures tree { IfErr result (λ _. tree.new ≡ tree.old) }
     ensures pending { IfErr result (λ _. pending_of log.new ≡ pending_of log.old) }
@@ -64,12 +64,12 @@ fn adopt_recorded<D: Disk + Drop, H: NodeHash>(
     requires states { length store.old.states ≡ block_count store.old.file_length }
     requires inside { from < block_count store.old.file_length }
     requires answered { ProofKeysAreAnswered H.digest }
-    ensures ok { IfOk result (λ adopted. TakesGroup D.history D.honest D.faults H.digest file true
+    ensures ok { IfOk result (λ adopted. TakesGroup D.conduct H.digest file true
         from (file_view tree.old store.old pending.old.hints) adopted
         (file_view tree.new store.new pending.new.hints)) }
     ensures onward { IfOk result (λ adopted. from < adopted.next) }
     ensures within { IfOk result (λ adopted. adopted.next ≤ block_count store.old.file_length) }
-    ensures stop { IfErr result (λ _. StopsGroup D.history D.honest D.faults H.digest
+    ensures stop { IfErr result (λ _. StopsGroup D.conduct H.digest
         tree.old from store.old store.new) }
     ensures tree { IfErr result (λ _. tree.new ≡ tree.old) }
     ensures pending { IfErr result (λ _. pending.new.hints ≡ pending.old.hints) }
@@ -94,12 +94,12 @@ fn adopt_known<D: Disk + Drop, H: NodeHash>(
     requires states { length store.old.states ≡ block_count store.old.file_length }
     requires inside { from < block_count store.old.file_length }
     requires known { IsAnchor tree.old from 0 }
-    ensures ok { IfOk result (λ adopted. TakesGroup D.history D.honest D.faults H.digest file true
+    ensures ok { IfOk result (λ adopted. TakesGroup D.conduct H.digest file true
         from (file_view tree.old store.old pending.old.hints) adopted
         (file_view tree.new store.new pending.new.hints)) }
     ensures onward { IfOk result (λ adopted. from < adopted.next) }
     ensures within { IfOk result (λ adopted. adopted.next ≤ block_count store.old.file_length) }
-    ensures stop { IfErr result (λ _. StopsGroup D.history D.honest D.faults H.digest
+    ensures stop { IfErr result (λ _. StopsGroup D.conduct H.digest
         tree.old from store.old store.new) }
     ensures tree { IfErr result (λ _. tree.new ≡ tree.old) }
     ensures pending { IfErr result (λ _. pending.new.hints ≡ pending.old.hints) }
@@ -130,12 +130,12 @@ fn adopt_claimed<D: Disk + Drop, H: NodeHash>(
     requires nearest { IsAnchor tree.old from anchor }
     requires above { 0 < anchor }
     requires high { anchor ≤ max_height }
-    ensures ok { IfOk result (λ adopted. TakesGroup D.history D.honest D.faults H.digest file true
+    ensures ok { IfOk result (λ adopted. TakesGroup D.conduct H.digest file true
         from (file_view tree.old store.old pending.old.hints) adopted
         (file_view tree.new store.new pending.new.hints)) }
     ensures onward { IfOk result (λ adopted. from < adopted.next) }
     ensures within { IfOk result (λ adopted. adopted.next ≤ block_count store.old.file_length) }
-    ensures stop { IfErr result (λ _. StopsGroup D.history D.honest D.faults H.digest
+    ensures stop { IfErr result (λ _. StopsGroup D.conduct H.digest
         tree.old from store.old store.new) }
     ensures tree { IfErr result (λ _. tree.new ≡ tree.old) }
     ensures pending { IfErr result (λ _. pending.new.hints ≡ pending.old.hints) }

@@ -23,11 +23,11 @@ pub(crate) fn adopt_groups<D: Disk + Drop, H: NodeHash>(
     log: &mut Option<OpenLog<D>>,
 ) -> Result<Adopted, AllocError>
     requires { tree.old.file_length ≡ store.old.file_length }
-    ensures ok { IfOk result (λ total. TakesGroups D.history D.honest D.faults H.digest file (is_some log.old)
+    ensures ok { IfOk result (λ total. TakesGroups D.conduct H.digest file (is_some log.old)
         (file_view tree.old store.old (pending_of log.old)) total
         (file_view tree.new store.new (pending_of log.new))) }
     ensures all { IfOk result (λ total. total.next ≡ length store.old.states) }
-    ensures stop { IfErr result (λ _. StopsTaking D.history D.honest D.faults H.digest file (is_some log.old)
+    ensures stop { IfErr result (λ _. StopsTaking D.conduct H.digest file (is_some log.old)
         (file_view tree.old store.old (pending_of log.old))
         (file_view tree.new store.new (pending_of log.new))) }
     ensures log { log_in log.new ≡ log_in log.old }

@@ -29,7 +29,7 @@ pub(crate) fn settle_recorded<D: Disk + Drop, H: NodeHash>(
     requires in_line { AreInLine parts.old }
     requires here { tree < vec_len parts.old.trees }
     requires lead { LeadThrough parts.old.slots.items parts.old.roots tree }
-    ensures settles { OnOk result (SettlesOthers D.history D.honest D.faults H.digest file tree
+    ensures settles { OnOk result (SettlesOthers D.conduct H.digest file tree
         parts.old parts.new) }
     ensures refused { OnErr result (OnlyPendingChanges parts.old parts.new) }
     ensures pending { OnErr result (pending_of parts.new.log ≡ pending_of parts.old.log) }
@@ -53,7 +53,7 @@ fn settle_others<D: Disk + Drop, H: NodeHash>(parts: &mut Parts<D, H>, tree: usi
     requires in_line { AreInLine parts.old }
     requires here { tree < vec_len parts.old.trees }
     requires lead { LeadThrough parts.old.slots.items parts.old.roots tree }
-    ensures settles { SettlesFiles D.history D.honest D.faults H.digest (is_other file) tree
+    ensures settles { SettlesFiles D.conduct H.digest (is_other file) tree
         parts.old parts.new }
     ensures log { parts.new.log ≡ parts.old.log }
     ensures rest { KeepsRest parts.old parts.new }
@@ -74,7 +74,7 @@ fn settle_file<D: Disk + Drop, H: NodeHash>(parts: &mut Parts<D, H>, tree: usize
     requires in_line { AreInLine parts.old }
     requires inside { file < vec_len parts.old.slots }
     requires here { tree < vec_len parts.old.trees }
-    ensures settles { SettlesFiles D.history D.honest D.faults H.digest (λ other. other == file) tree
+    ensures settles { SettlesFiles D.conduct H.digest (λ other. other == file) tree
         parts.old parts.new }
     ensures log { parts.new.log ≡ parts.old.log }
     ensures rest { KeepsRest parts.old parts.new }
@@ -104,7 +104,7 @@ fn settle_slot<D: Disk + Drop, H: NodeHash>(parts: &mut Parts<D, H>, tree: usize
     requires inside { file < vec_len parts.old.slots }
     requires here { tree < vec_len parts.old.trees }
     requires due { (slot : Slot D H) → slice_get parts.old.slots.items file ≡ Some slot → IsDue tree slot }
-    ensures settles { SettlesFiles D.history D.honest D.faults H.digest (λ other. other == file) tree
+    ensures settles { SettlesFiles D.conduct H.digest (λ other. other == file) tree
         parts.old parts.new }
     ensures log { parts.new.log ≡ parts.old.log }
     ensures changes { ChangesFile file parts.old parts.new }

@@ -2,7 +2,7 @@
 use Rattle.std.specs.Prelude.{◌≡◌, ℕ, ◌*◌, Bool, true, false, nat_eq, List, [], ◌∷◌, length}
 use Rattle.bt_tree.specs.Limits.{full_block_length}
 use Rattle.bt_tree.specs.Blocks.{block_at}
-use Rattle.bt_disk.specs.History.{History}
+use Rattle.bt_disk.specs.Conduct.{Conduct}
 use Rattle.bt_disk.specs.Calls.{Call, bytes_given, read_fault, HasCalls}
 
 -- how many bytes eight whole blocks have
@@ -33,9 +33,9 @@ blocks_after _ = []
 
 -- One call was made, a read of eight blocks from byte `at` on, and the blocks known are what came of it.
 pub record TakesRun
-    {D : Type 0} (history : D → History) (honest : D → Type 0) (faults : D → ℕ)
+    {D : Type 0} (conduct : Conduct D)
     (old : D) (at : ℕ) (blocks : List (List ℕ)) (new : D) : Type 0 where
   pub call : Call
   pub run_read : IsRunRead at call
   pub known : blocks ≡ blocks_after call
-  pub made : HasCalls history honest faults old (call ∷ []) new
+  pub made : HasCalls conduct old (call ∷ []) new

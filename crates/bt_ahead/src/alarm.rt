@@ -66,11 +66,7 @@ impl<'a, D> AlarmDisk<'a, D> {
 }
 
 impl<'a, D: Disk> Disk for AlarmDisk<'a, D> {
-    ghost history = { λ d. D.history d };
-
-    ghost honest = { λ d. D.honest d };
-
-    ghost faults = { λ d. D.faults d };
+    ghost conduct = { D.conduct };
 
     ghost reads_image = { λ d honest. D.reads_image d honest };
 

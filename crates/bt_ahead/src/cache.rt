@@ -99,7 +99,7 @@ impl DigestCache {
     /// Takes the eight blocks that lie on a device from a byte on, by one read, and makes their digests. It
     /// has no block where the read fails or not all of them are there.
     pub(crate) fn take_run<D: Disk>(&mut self, disk: &mut D, at: u64)
-        ensures { TakesRun D.history D.honest D.faults disk.old at self.new disk.new }
+        ensures { TakesRun D.conduct disk.old at self.new disk.new }
     {
         self.is_full = false;
         let Ok(count) = disk.read_at(at, self.run.as_mut_slice()) else {

@@ -61,7 +61,7 @@ impl<'a, D: Disk> ReadAheadDisk<'a, D> {
     /// Reads eight blocks ahead, where the read of a block goes on from the last call and no blocks were read
     /// ahead from there on.
     fn read_ahead(&mut self, at: u64, len: usize)
-        ensures run { MayReadRun D.history D.honest D.faults self.old.inner at self.new.inner }
+        ensures run { MayReadRun D.conduct self.old.inner at self.new.inner }
         ensures failed { self.new.failed ≡ self.old.failed }
     {
         if self.next != Some(at) {
@@ -79,7 +79,7 @@ impl<'a, D: Disk> ReadAheadDisk<'a, D> {
 
 /// Has eight blocks of a device digested ahead, from a byte on, where the cache is not in use.
 fn take_shared<D: Disk>(cache: &RefCell<DigestCache>, disk: &mut D, at: u64)
-    ensures { MayReadRun D.history D.honest D.faults disk.old at disk.new }
+    ensures { MayReadRun D.conduct disk.old at disk.new }
 {
     let Ok(mut guard) = cache.try_borrow_mut() else {
         return;
@@ -102,25 +102,21 @@ impl<'a, D: Disk> Disk for ReadAheadDisk<'a, D> {
     ghost use Rattle.std.specs.Prelude.{◌≡◌, ◌↔◌, ◌≤◌, ◌∷◌, [], length, IfOk};
     ghost use Rattle.bt_disk.specs.Limits.{count_after};
     ghost use Rattle.bt_disk.specs.Calls.{IsAnswered, HasCalls, len_call, read_call, write_call, set_len_call, sync_call};
-    ghost use Rattle.bt_ahead.specs.Disk.{IsReadAfterRun};
+    ghost use Rattle.bt_ahead.specs.Disk.{ahead_conduct, IsReadAfterRun};
 
-    ghost history = { λ d. D.history d.inner };
-
-    ghost honest = { λ d. D.honest d.inner };
-
-    ghost faults = { λ d. d.failed };
+    ghost conduct = { ahead_conduct D.conduct };
 
     ghost reads_image = { λ d honest. D.reads_image d.inner honest };
 
     fn len(&mut self) -> Result<u64, DeviceFault>
-        ensures passed { HasCalls D.history D.honest D.faults
+        ensures passed { HasCalls D.conduct
             self.old.inner (len_call result ∷ []) self.new.inner }
 
         // as every device
         ensures counted { self.new.failed ≡ count_after self.old.failed result }
-        ensures as_honest { D.honest self.old.inner ↔ D.honest self.new.inner }
-        ensures answered { D.honest self.old.inner
-            → IsAnswered (D.history self.old.inner) (len_call result) (D.history self.new.inner) }
+        ensures as_honest { D.conduct.honest self.old.inner ↔ D.conduct.honest self.new.inner }
+        ensures answered { D.conduct.honest self.old.inner
+            → IsAnswered (D.conduct.history self.old.inner) (len_call result) (D.conduct.history self.new.inner) }
     {
         let answer = self.inner.len();
         self.count(&answer);
@@ -128,15 +124,15 @@ impl<'a, D: Disk> Disk for ReadAheadDisk<'a, D> {
     }
 
     fn read_at(&mut self, at: u64, out: &mut [u8]) -> Result<usize, DeviceFault>
-        ensures passed { IsReadAfterRun D.history D.honest D.faults
+        ensures passed { IsReadAfterRun D.conduct
             self.old.inner at out.new result self.new.inner }
 
         // as every device
         ensures within { IfOk result (λ count. count ≤ length out.new) }
         ensures counted { self.new.failed ≡ count_after self.old.failed result }
-        ensures as_honest { D.honest self.old.inner ↔ D.honest self.new.inner }
-        ensures answered { D.honest self.old.inner
-            → IsAnswered (D.history self.old.inner) (read_call at out.new result) (D.history self.new.inner) }
+        ensures as_honest { D.conduct.honest self.old.inner ↔ D.conduct.honest self.new.inner }
+        ensures answered { D.conduct.honest self.old.inner
+            → IsAnswered (D.conduct.history self.old.inner) (read_call at out.new result) (D.conduct.history self.new.inner) }
     {
         self.read_ahead(at, out.len());
         let answer = self.inner.read_at(at, out);
@@ -146,15 +142,15 @@ impl<'a, D: Disk> Disk for ReadAheadDisk<'a, D> {
     }
 
     fn write_at(&mut self, at: u64, bytes: &[u8]) -> Result<(), DeviceFault>
-        ensures passed { HasCalls D.history D.honest D.faults
+        ensures passed { HasCalls D.conduct
             self.old.inner (write_call at bytes.now result ∷ []) self.new.inner }
 
         // as every device
         ensures counted { self.new.failed ≡ count_after self.old.failed result }
-        ensures as_honest { D.honest self.old.inner ↔ D.honest self.new.inner }
-        ensures answered { D.honest self.old.inner
+        ensures as_honest { D.conduct.honest self.old.inner ↔ D.conduct.honest self.new.inner }
+        ensures answered { D.conduct.honest self.old.inner
             → IsAnswered
-            (D.history self.old.inner) (write_call at bytes.now result) (D.history self.new.inner) }
+            (D.conduct.history self.old.inner) (write_call at bytes.now result) (D.conduct.history self.new.inner) }
     {
         // Nothing is read ahead behind a write.
         self.next = None;
@@ -164,14 +160,14 @@ impl<'a, D: Disk> Disk for ReadAheadDisk<'a, D> {
     }
 
     fn set_len(&mut self, len: u64) -> Result<(), DeviceFault>
-        ensures passed { HasCalls D.history D.honest D.faults
+        ensures passed { HasCalls D.conduct
             self.old.inner (set_len_call len result ∷ []) self.new.inner }
 
         // as every device
         ensures counted { self.new.failed ≡ count_after self.old.failed result }
-        ensures as_honest { D.honest self.old.inner ↔ D.honest self.new.inner }
-        ensures answered { D.honest self.old.inner
-            → IsAnswered (D.history self.old.inner) (set_len_call len result) (D.history self.new.inner) }
+        ensures as_honest { D.conduct.honest self.old.inner ↔ D.conduct.honest self.new.inner }
+        ensures answered { D.conduct.honest self.old.inner
+            → IsAnswered (D.conduct.history self.old.inner) (set_len_call len result) (D.conduct.history self.new.inner) }
     {
         self.next = None;
         let answer = self.inner.set_len(len);
@@ -180,14 +176,14 @@ impl<'a, D: Disk> Disk for ReadAheadDisk<'a, D> {
     }
 
     fn sync(&mut self) -> Result<(), DeviceFault>
-        ensures passed { HasCalls D.history D.honest D.faults
+        ensures passed { HasCalls D.conduct
             self.old.inner (sync_call result ∷ []) self.new.inner }
 
         // as every device
         ensures counted { self.new.failed ≡ count_after self.old.failed result }
-        ensures as_honest { D.honest self.old.inner ↔ D.honest self.new.inner }
-        ensures answered { D.honest self.old.inner
-            → IsAnswered (D.history self.old.inner) (sync_call result) (D.history self.new.inner) }
+        ensures as_honest { D.conduct.honest self.old.inner ↔ D.conduct.honest self.new.inner }
+        ensures answered { D.conduct.honest self.old.inner
+            → IsAnswered (D.conduct.history self.old.inner) (sync_call result) (D.conduct.history self.new.inner) }
     {
         self.next = None;
         let answer = self.inner.sync();

@@ -17,6 +17,7 @@ use Rattle.bt_block_events.specs.declared.serving.ReadFault.{ReadFault}
 use Rattle.bt_machine.specs.Spans.{spanned_blocks}
 use Rattle.bt_block_events.specs.RequestSteps.{CanRead, SendsFromSlot, StopsInSlot}
 use Rattle.bt_block_events.specs.ServingSteps.{IsMarkedSpan, SendsSpan, StopAtFault}
+use Rattle.bt_disk.specs.Conduct.{Conduct}
 
 module _ {D H : Type 0} {slots : List (Slot D H)} {trees : List Facts} {file : ℕ} {slot : Slot D H} {store : StoreView D} {tree : Facts}
     (at : HasStore slots trees file slot store tree) where
@@ -76,12 +77,12 @@ of_missing dig k i bytes states (Err DeviceFault) missing whole due = tt
 
 module _ {D H : Type 0} {slots : List (Slot D H)} {trees : List Facts} {b : BlockId} {bytes : List ℕ} (can : CanPut slots trees b bytes) (r : Slot D H)
     (s : StoreView D) (is : (slice_index_or slots b.file r).store ≡ Some s) (k : Facts) (read : k ≡ slice_index_or trees (slice_index_or slots b.file r).tree k) where
-  pub puts_in_slot : (history : D → History) (honest : D → Type 0) (faults : D → ℕ) (dig : List ℕ → List ℕ) (after : StoreView D) (answer : Result Put StoreError)
+  pub puts_in_slot : (conduct : Conduct D) (dig : List ℕ → List ℕ) (after : StoreView D) (answer : Result Put StoreError)
       → PutIsDue dig k b.block bytes s.states answer → after.states ≡ states_after_put b.block answer s.states
-      → HasCalls history honest faults s.disk (calls_of_put b.block bytes answer) after.disk → after.file_length ≡ s.file_length
-      → PutsInSlot history honest faults dig slots trees b bytes answer
+      → HasCalls conduct s.disk (calls_of_put b.block bytes answer) after.disk → after.file_length ≡ s.file_length
+      → PutsInSlot conduct dig slots trees b bytes answer
       (slice_set slots b.file (record { tree = (slice_index_or slots b.file r).tree; store = Some after }))
-  puts_in_slot history honest faults dig after answer due states made same =
+  puts_in_slot conduct dig after answer due states made same =
       let same_store = store_is can.has_store r s is in
       let missing = ap (λ (s : StoreView D). slice_get s.states b.block) same_store ∙ can.missing in
       let whole = subst (λ (s : StoreView D). IsBlock s.file_length b.block bytes) (sym same_store) can.whole in
@@ -98,10 +99,10 @@ module _ {D H : Type 0} {slots : List (Slot D H)} {trees : List Facts} {b : Bloc
       }
 
 -- the same, of the slots and trees of parts that were lent
-pub puts_of : {D H : Type 0} {history : D → History} {honest : D → Type 0} {faults : D → ℕ} {dig : List ℕ → List ℕ} {xs : List (Slot D H)} {ks : List Facts}
+pub puts_of : {D H : Type 0} {conduct : Conduct D} {dig : List ℕ → List ℕ} {xs : List (Slot D H)} {ks : List Facts}
     {b : BlockId} {bytes : List ℕ} {answer : Result Put StoreError} {ys : List (Slot D H)} (old : Vec (Slot D H)) (trees : Vec Facts)
-    → PutsInSlot history honest faults dig xs ks b bytes answer ys → xs ≡ old.items → ks ≡ trees.items → length ys ≡ old.len
-    → PutsInSlot history honest faults dig old.items trees.items b bytes answer (with_items old ys).items
+    → PutsInSlot conduct dig xs ks b bytes answer ys → xs ≡ old.items → ks ≡ trees.items → length ys ≡ old.len
+    → PutsInSlot conduct dig old.items trees.items b bytes answer (with_items old ys).items
 puts_of {ys = ys} old trees p e f size = rw (with_items_is old ys size, ← e, ← f) p
 
 -- ---- a span that is read there
@@ -113,12 +114,12 @@ span_marked {span = span} can r s is =
 
 module _ {D H : Type 0} {slots : List (Slot D H)} {trees : List Facts} {span : Span} (can : CanRead slots trees span) (r : Slot D H) (s : StoreView D)
     (is : (slice_index_or slots span.file r).store ≡ Some s) (k : Facts) (read : k ≡ slice_index_or trees (slice_index_or slots span.file r).tree k)
-    (history : D → History) (honest : D → Type 0) (faults : D → ℕ) (dig : List ℕ → List ℕ) (after : StoreView D) (same : after.file_length ≡ s.file_length) where
+    (conduct : Conduct D) (dig : List ℕ → List ℕ) (after : StoreView D) (same : after.file_length ≡ s.file_length) where
   abbrev then_slots : List (Slot D H)
   then_slots = slice_set slots span.file (record { tree = (slice_index_or slots span.file r).tree; store = Some after })
 
-  pub sends_from_slot : (answer : Result (Vec ℕ) ReadFault) → IfOk answer (λ bytes. SendsSpan history honest faults dig k span bytes.items s after)
-      → IfOk answer (λ bytes. SendsFromSlot history honest faults dig slots trees span bytes.items then_slots)
+  pub sends_from_slot : (answer : Result (Vec ℕ) ReadFault) → IfOk answer (λ bytes. SendsSpan conduct dig k span bytes.items s after)
+      → IfOk answer (λ bytes. SendsFromSlot conduct dig slots trees span bytes.items then_slots)
   sends_from_slot (Ok bytes) sends = record {
     before = s;
     after = after;
@@ -129,8 +130,8 @@ module _ {D H : Type 0} {slots : List (Slot D H)} {trees : List Facts} {span : S
   }
   sends_from_slot (Err found) sends = tt
 
-  pub stops_in_slot : (answer : Result (Vec ℕ) ReadFault) → IfErr answer (λ found. StopAtFault history honest faults dig k (spanned_blocks span) found s after)
-      → IfErr answer (λ found. StopsInSlot history honest faults dig slots trees span found then_slots)
+  pub stops_in_slot : (answer : Result (Vec ℕ) ReadFault) → IfErr answer (λ found. StopAtFault conduct dig k (spanned_blocks span) found s after)
+      → IfErr answer (λ found. StopsInSlot conduct dig slots trees span found then_slots)
   stops_in_slot (Ok bytes) stops = tt
   stops_in_slot (Err found) stops = record {
     before = s;
@@ -142,14 +143,14 @@ module _ {D H : Type 0} {slots : List (Slot D H)} {trees : List Facts} {span : S
   }
 
 -- the same, of the slots and trees of parts that were lent
-pub sends_of : {D H : Type 0} {history : D → History} {honest : D → Type 0} {faults : D → ℕ} {dig : List ℕ → List ℕ} {xs : List (Slot D H)} {ks : List Facts}
+pub sends_of : {D H : Type 0} {conduct : Conduct D} {dig : List ℕ → List ℕ} {xs : List (Slot D H)} {ks : List Facts}
     {span : Span} {bytes : List ℕ} {ys : List (Slot D H)} (old : Vec (Slot D H)) (trees : Vec Facts)
-    → SendsFromSlot history honest faults dig xs ks span bytes ys → xs ≡ old.items → ks ≡ trees.items → length ys ≡ old.len
-    → SendsFromSlot history honest faults dig old.items trees.items span bytes (with_items old ys).items
+    → SendsFromSlot conduct dig xs ks span bytes ys → xs ≡ old.items → ks ≡ trees.items → length ys ≡ old.len
+    → SendsFromSlot conduct dig old.items trees.items span bytes (with_items old ys).items
 sends_of {ys = ys} old trees p e f size = rw (with_items_is old ys size, ← e, ← f) p
 
-pub stops_of : {D H : Type 0} {history : D → History} {honest : D → Type 0} {faults : D → ℕ} {dig : List ℕ → List ℕ} {xs : List (Slot D H)} {ks : List Facts}
+pub stops_of : {D H : Type 0} {conduct : Conduct D} {dig : List ℕ → List ℕ} {xs : List (Slot D H)} {ks : List Facts}
     {span : Span} {found : ReadFault} {ys : List (Slot D H)} (old : Vec (Slot D H)) (trees : Vec Facts)
-    → StopsInSlot history honest faults dig xs ks span found ys → xs ≡ old.items → ks ≡ trees.items → length ys ≡ old.len
-    → StopsInSlot history honest faults dig old.items trees.items span found (with_items old ys).items
+    → StopsInSlot conduct dig xs ks span found ys → xs ≡ old.items → ks ≡ trees.items → length ys ≡ old.len
+    → StopsInSlot conduct dig old.items trees.items span found (with_items old ys).items
 stops_of {ys = ys} old trees p e f size = rw (with_items_is old ys size, ← e, ← f) p

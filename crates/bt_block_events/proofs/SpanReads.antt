@@ -17,6 +17,7 @@ use Rattle.bt_block_events.specs.declared.serving.ReadFault.TheVariants.{Damaged
 use Rattle.bt_machine.specs.Spans.{spanned_blocks, first_block, last_block}
 use Rattle.bt_block_events.specs.SpansSteps.{IsShortSpan}
 use Rattle.bt_block_events.specs.ServingSteps.{one_or_two, IsReadRight, IsReadWrong, AreReadRight, StopAtFault, Finds, damaged, fault, SendsSpan}
+use Rattle.bt_disk.specs.Conduct.{Conduct}
 
 -- ---- what a read of a marked block comes to
 
@@ -55,17 +56,17 @@ one_element P a x i c = elim (contains_cases [] c) [ inl same ↦ subst P same x
 abbrev either : ℕ → List ℕ → List ℕ → ℕ → List ℕ
 either a x y i = cond (nat_eq i a) x y
 
-same_calls : {D : Type 0} {history : D → History} {honest : D → Type 0} {faults : D → ℕ} (n : ℕ) (old new : StoreView D) {reads : List BlockRead} (read : BlockRead)
-    → n ≡ old.file_length → reads ≡ read ∷ [] → HasCalls history honest faults old.disk (map (call_of old.file_length) reads) new.disk
-    → HasCalls history honest faults old.disk (call_of n read ∷ []) new.disk
-same_calls {history = history} {honest = honest} {faults = faults} n old new read size e calls =
-    subst (λ n. HasCalls history honest faults old.disk (call_of n read ∷ []) new.disk) (sym size)
-    (subst (λ rs. HasCalls history honest faults old.disk (map (call_of old.file_length) rs) new.disk) e calls)
+same_calls : {D : Type 0} {conduct : Conduct D} (n : ℕ) (old new : StoreView D) {reads : List BlockRead} (read : BlockRead)
+    → n ≡ old.file_length → reads ≡ read ∷ [] → HasCalls conduct old.disk (map (call_of old.file_length) reads) new.disk
+    → HasCalls conduct old.disk (call_of n read ∷ []) new.disk
+same_calls {conduct = conduct} n old new read size e calls =
+    subst (λ n. HasCalls conduct old.disk (call_of n read ∷ []) new.disk) (sym size)
+    (subst (λ rs. HasCalls conduct old.disk (map (call_of old.file_length) rs) new.disk) e calls)
 
-module _ {D : Type 0} {history : D → History} {honest : D → Type 0} {faults : D → ℕ} {dig : List ℕ → List ℕ} {k : Facts} where
+module _ {D : Type 0} {conduct : Conduct D} {dig : List ℕ → List ℕ} {k : Facts} where
   pub read_right : {i n : ℕ} {out : List ℕ} {old new : StoreView D} → k.file_length ≡ old.file_length
-      → (reads : List BlockRead) × IsLent history honest faults dig k i out old reads (Ok n) new
-      → IsReadRight history honest faults dig k i (take n out) old new
+      → (reads : List BlockRead) × IsLent conduct dig k i out old reads (Ok n) new
+      → IsReadRight conduct dig k i (take n out) old new
   read_right {i} {n} {out} {old} {new} size l =
       let a = lends_right l.1.answer in
       record {
@@ -75,8 +76,8 @@ module _ {D : Type 0} {history : D → History} {honest : D → Type 0} {faults 
       }
 
   pub read_damaged : {i : ℕ} {out : List ℕ} {old new : StoreView D} → k.file_length ≡ old.file_length
-      → (reads : List BlockRead) × IsLent history honest faults dig k i out old reads (Err ReadDamaged) new
-      → IsReadWrong history honest faults dig k i (Damaged i) old new
+      → (reads : List BlockRead) × IsLent conduct dig k i out old reads (Err ReadDamaged) new
+      → IsReadWrong conduct dig k i (Damaged i) old new
   read_damaged {i} {out} {old} {new} size l =
       let a = lends_damaged l.1.answer in
       record {
@@ -87,8 +88,8 @@ module _ {D : Type 0} {history : D → History} {honest : D → Type 0} {faults 
       }
 
   pub read_failed : {i : ℕ} {out : List ℕ} {old new : StoreView D} → k.file_length ≡ old.file_length
-      → (reads : List BlockRead) × IsLent history honest faults dig k i out old reads (Err ReadDevice) new
-      → IsReadWrong history honest faults dig k i Device old new
+      → (reads : List BlockRead) × IsLent conduct dig k i out old reads (Err ReadDevice) new
+      → IsReadWrong conduct dig k i Device old new
   read_failed {i} {out} {old} {new} size l =
       let a = lends_fault l.1.answer in
       record {
@@ -100,9 +101,9 @@ module _ {D : Type 0} {history : D → History} {honest : D → Type 0} {faults 
 
   -- ---- the one block or the two that stand between a first and a last
 
-  pub one_block : {a : ℕ} {bytes : List ℕ} {old new : StoreView D} (b : ℕ) → a ≡ b → IsReadRight history honest faults dig k a bytes old new
-      → AreReadRight history honest faults dig k (one_or_two a b) bytes old new
-  one_block {a} {bytes} {old} {new} b same r = subst (λ l. AreReadRight history honest faults dig k l bytes old new) (sym (one_is a b same)) (record {
+  pub one_block : {a : ℕ} {bytes : List ℕ} {old new : StoreView D} (b : ℕ) → a ≡ b → IsReadRight conduct dig k a bytes old new
+      → AreReadRight conduct dig k (one_or_two a b) bytes old new
+  one_block {a} {bytes} {old} {new} b same r = subst (λ l. AreReadRight conduct dig k l bytes old new) (sym (one_is a b same)) (record {
     bytes = λ _. bytes;
     reads = given a bytes ∷ [];
     calls = r.calls;
@@ -112,15 +113,15 @@ module _ {D : Type 0} {history : D → History} {honest : D → Type 0} {faults 
   })
 
   pub two_blocks : {a b : ℕ} {x y : List ℕ} {old mid new : StoreView D} → a ≢ b
-      → IsReadRight history honest faults dig k a x old mid → IsReadRight history honest faults dig k b y mid new
-      → AreReadRight history honest faults dig k (one_or_two a b) (x ++ y) old new
+      → IsReadRight conduct dig k a x old mid → IsReadRight conduct dig k b y mid new
+      → AreReadRight conduct dig k (one_or_two a b) (x ++ y) old new
   two_blocks {a} {b} {x} {y} {old} {mid} {new} apart r s =
       let on_a : either a x y a ≡ x = ap (λ t. cond t x y) (eq-eqb a a refl) in
       let on_b : either a x y b ≡ y = ap (λ t. cond t x y) (ne_eqb b a (λ e. apart (sym e))) in
-      subst (λ l. AreReadRight history honest faults dig k l (x ++ y) old new) (sym (two_is a b apart)) (record {
+      subst (λ l. AreReadRight conduct dig k l (x ++ y) old new) (sym (two_is a b apart)) (record {
         bytes = either a x y;
         reads = given a x ∷ given b y ∷ [];
-        calls = has_then history honest faults old.disk mid.disk new.disk (call_of k.file_length (given a x) ∷ []) (call_of k.file_length (given b y) ∷ []) r.calls s.calls;
+        calls = has_then conduct old.disk mid.disk new.disk (call_of k.file_length (given a x) ∷ []) (call_of k.file_length (given b y) ∷ []) r.calls s.calls;
         right = record {
           made = ap (λ l. given a l ∷ given b y ∷ []) (sym on_a) ∙ ap (λ l. given a (either a x y a) ∷ given b l ∷ []) (sym on_b);
           right = λ i c. elim (contains_cases (b ∷ []) c) [
@@ -132,14 +133,14 @@ module _ {D : Type 0} {history : D → History} {honest : D → Type 0} {faults 
         others = s.others ∙ ap (λ (v : StoreView D). view_of v.file_length new.disk v.states) r.others;
       })
 
-  pub first_fails : {a : ℕ} {found : ReadFault} {old new : StoreView D} (b : ℕ) → IsReadWrong history honest faults dig k a found old new
-      → StopAtFault history honest faults dig k (one_or_two a b) found old new
+  pub first_fails : {a : ℕ} {found : ReadFault} {old new : StoreView D} (b : ℕ) → IsReadWrong conduct dig k a found old new
+      → StopAtFault conduct dig k (one_or_two a b) found old new
   first_fails {a} {found} {old} {new} b r = elim (cases_eq a b) [
-    | inl same ↦ subst (λ l. StopAtFault history honest faults dig k l found old new) (sym (one_is a b same)) (wrong [])
-    | inr apart ↦ subst (λ l. StopAtFault history honest faults dig k l found old new) (sym (two_is a b apart)) (wrong (b ∷ []))
+    | inl same ↦ subst (λ l. StopAtFault conduct dig k l found old new) (sym (one_is a b same)) (wrong [])
+    | inr apart ↦ subst (λ l. StopAtFault conduct dig k l found old new) (sym (two_is a b apart)) (wrong (b ∷ []))
   ]
     where
-      wrong : (rest : List ℕ) → StopAtFault history honest faults dig k (a ∷ rest) found old new
+      wrong : (rest : List ℕ) → StopAtFault conduct dig k (a ∷ rest) found old new
       wrong rest = record {
         before = [];
         block = a;
@@ -155,10 +156,10 @@ module _ {D : Type 0} {history : D → History} {honest : D → Type 0} {faults 
       }
 
   pub second_fails : {a b : ℕ} {x : List ℕ} {found : ReadFault} {old mid new : StoreView D} → a ≢ b
-      → IsReadRight history honest faults dig k a x old mid → IsReadWrong history honest faults dig k b found mid new
-      → StopAtFault history honest faults dig k (one_or_two a b) found old new
+      → IsReadRight conduct dig k a x old mid → IsReadWrong conduct dig k b found mid new
+      → StopAtFault conduct dig k (one_or_two a b) found old new
   second_fails {a} {b} {x} {found} {old} {mid} {new} apart r s =
-      subst (λ l. StopAtFault history honest faults dig k l found old new) (sym (two_is a b apart)) (record {
+      subst (λ l. StopAtFault conduct dig k l found old new) (sym (two_is a b apart)) (record {
         before = a ∷ [];
         block = b;
         after = [];
@@ -167,7 +168,7 @@ module _ {D : Type 0} {history : D → History} {honest : D → Type 0} {faults 
         read = s.read;
         parts = refl;
         right = record { made = refl; right = one_element (λ i. IsRight dig k i x) a r.right };
-        calls = has_then history honest faults old.disk mid.disk new.disk (call_of k.file_length (given a x) ∷ []) (call_of k.file_length s.read ∷ []) r.calls s.calls;
+        calls = has_then conduct old.disk mid.disk new.disk (call_of k.file_length (given a x) ∷ []) (call_of k.file_length s.read ∷ []) r.calls s.calls;
         finds = subst (λ states. Finds dig k b s.read found states new.states) (ap (λ (v : StoreView D). v.states) r.others) s.finds;
         same_file = s.same_file ∙ ap (λ (v : StoreView D). v.file_length) r.others;
       })
@@ -231,15 +232,15 @@ module _ {span : Span} (short : IsShortSpan span) where
     spanned_by : one_or_two first last ≡ spanned_blocks span
     spanned_by = ap (λ i. one_or_two i last) is_first ∙ ap (λ i. one_or_two (first_block span) i) is_last ∙ sym spanned_is
 
-    module _ {D : Type 0} {history : D → History} {honest : D → Type 0} {faults : D → ℕ} {dig : List ℕ → List ℕ} {k : Facts} {old new : StoreView D} where
-      pub stops_span : {found : ReadFault} → StopAtFault history honest faults dig k (one_or_two first last) found old new
-          → StopAtFault history honest faults dig k (spanned_blocks span) found old new
-      stops_span {found} r = subst (λ l. StopAtFault history honest faults dig k l found old new) spanned_by r
+    module _ {D : Type 0} {conduct : Conduct D} {dig : List ℕ → List ℕ} {k : Facts} {old new : StoreView D} where
+      pub stops_span : {found : ReadFault} → StopAtFault conduct dig k (one_or_two first last) found old new
+          → StopAtFault conduct dig k (spanned_blocks span) found old new
+      stops_span {found} r = subst (λ l. StopAtFault conduct dig k l found old new) spanned_by r
 
-      pub sends_span : {all sent : List ℕ} → AreReadRight history honest faults dig k (one_or_two first last) all old new
-          → sent ≡ take span.length (drop (span.start % 16384) all) → SendsSpan history honest faults dig k span sent old new
+      pub sends_span : {all sent : List ℕ} → AreReadRight conduct dig k (one_or_two first last) all old new
+          → sent ≡ take span.length (drop (span.start % 16384) all) → SendsSpan conduct dig k span sent old new
       sends_span {all} r cut =
-          let whole = subst (λ l. AreReadRight history honest faults dig k l all old new) spanned_by r in
+          let whole = subst (λ l. AreReadRight conduct dig k l all old new) spanned_by r in
           let offset : span.start % 16384 ≡ span.start - 16384 * (span.start / 16384) = omega arith in
           record {
             bytes = whole.bytes;

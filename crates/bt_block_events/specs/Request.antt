@@ -1,6 +1,6 @@
 -- What a request for a range of a piece does to the parts of an engine.
 use Rattle.std.specs.Prelude.{◌≡◌, ℕ, false, List, Some, slice_get}
-use Rattle.bt_disk.specs.History.{History}
+use Rattle.bt_disk.specs.Conduct.{Conduct}
 use Rattle.bt_meta.specs.Place.{IsPlace}
 use Rattle.bt_meta.specs.declared.torrent.Span.{Span}
 use Rattle.bt_wire.specs.declared.message.Ask.{Ask}
@@ -24,10 +24,10 @@ effect_of p ask (Found note) = noting note
 
 -- these calls of the devices were made, and by them the machine takes the request of the peer at i, does this
 -- and comes to the new parts
-abbrev pub TakesRequest : {D H : Type 0} → (D → History) → (D → Type 0) → (D → ℕ) → (List ℕ → List ℕ)
+abbrev pub TakesRequest : {D H : Type 0} → Conduct D → (List ℕ → List ℕ)
     → Parts D H → ℕ → Ask → Served → Parts D H → Type 0
-TakesRequest history honest faults dig old i ask served new =
-    (calls : DeviceCalls) × HaveCalls history honest faults (disks_of old) calls (disks_of new)
+TakesRequest conduct dig old i ask served new =
+    (calls : DeviceCalls) × HaveCalls conduct (disks_of old) calls (disks_of new)
     × ((p : PeerState) → slice_get (state_of old).peers i ≡ Some p
     → HandlesMessage dig (state_of old) i p (Request ask) calls (effect_of p ask served) (state_of new))
 

@@ -1,6 +1,6 @@
 -- How a span is read from the store of its file.
 use Rattle.std.specs.Prelude.{◌≡◌, ℕ, false, List, Some, slice_get}
-use Rattle.bt_disk.specs.History.{History}
+use Rattle.bt_disk.specs.Conduct.{Conduct}
 use Rattle.bt_meta.specs.Place.{IsPlace}
 use Rattle.bt_meta.specs.declared.torrent.Span.{Span}
 use Rattle.bt_sparse.specs.SparseTree.{Facts}
@@ -37,7 +37,7 @@ pub record CanRead {D H : Type 0} (slots : List (Slot D H)) (trees : List Facts)
   pub marked : IsMarkedSpan store.states span
 
 -- they were read there and are right, and these bytes are cut from them
-pub record SendsFromSlot {D H : Type 0} (history : D → History) (honest : D → Type 0) (faults : D → ℕ)
+pub record SendsFromSlot {D H : Type 0} (conduct : Conduct D)
     (dig : List ℕ → List ℕ) (old : List (Slot D H)) (trees : List Facts) (span : Span) (bytes : List ℕ)
     (new : List (Slot D H)) : Type 0 where
   pub before : StoreView D
@@ -45,10 +45,10 @@ pub record SendsFromSlot {D H : Type 0} (history : D → History) (honest : D �
   pub tree : Facts
   pub changes : ChangesStore trees span.file old before after tree new
   pub marked : IsMarkedSpan before.states span
-  pub sends : SendsSpan history honest faults dig tree span bytes before after
+  pub sends : SendsSpan conduct dig tree span bytes before after
 
 -- they were read there up to the first that is not right
-pub record StopsInSlot {D H : Type 0} (history : D → History) (honest : D → Type 0) (faults : D → ℕ)
+pub record StopsInSlot {D H : Type 0} (conduct : Conduct D)
     (dig : List ℕ → List ℕ) (old : List (Slot D H)) (trees : List Facts) (span : Span) (found : ReadFault)
     (new : List (Slot D H)) : Type 0 where
   pub before : StoreView D
@@ -56,4 +56,4 @@ pub record StopsInSlot {D H : Type 0} (history : D → History) (honest : D → 
   pub tree : Facts
   pub changes : ChangesStore trees span.file old before after tree new
   pub marked : IsMarkedSpan before.states span
-  pub stops : StopAtFault history honest faults dig tree (spanned_blocks span) found before after
+  pub stops : StopAtFault conduct dig tree (spanned_blocks span) found before after

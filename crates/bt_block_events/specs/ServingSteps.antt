@@ -1,7 +1,7 @@
 -- How the blocks that a range of a file lies in are read.
 use Rattle.std.specs.Prelude.{◌≡◌, ◌≢◌, ℕ, ◌*◌, ◌≤◌, ◌==◌, if◌then◌else◌, List, [], ◌∷◌, ◌++◌, length, map, flat_map, Some, slice_get, slice_set, Contains, vec_capacity}
 use Rattle.bt_tree.specs.Limits.{full_block_length}
-use Rattle.bt_disk.specs.History.{History}
+use Rattle.bt_disk.specs.Conduct.{Conduct}
 use Rattle.bt_disk.specs.Calls.{HasCalls}
 use Rattle.bt_meta.specs.declared.torrent.Span.{Span}
 use Rattle.bt_sparse.specs.SparseTree.{Facts}
@@ -20,9 +20,9 @@ abbrev pub one_or_two : (first last : ℕ) → List ℕ
 one_or_two first last = if first == last then first ∷ [] else first ∷ last ∷ []
 
 -- the block was read and is right
-pub record IsReadRight {D : Type 0} (history : D → History) (honest : D → Type 0) (faults : D → ℕ)
+pub record IsReadRight {D : Type 0} (conduct : Conduct D)
     (dig : List ℕ → List ℕ) (k : Facts) (block : ℕ) (bytes : List ℕ) (old new : StoreView D) : Type 0 where
-  pub calls : HasCalls history honest faults
+  pub calls : HasCalls conduct
       old.disk (call_of k.file_length (given block bytes) ∷ []) new.disk
   pub right : IsRight dig k block bytes
   pub others : new ≡ record old { disk = new.disk }
@@ -35,25 +35,25 @@ pub data Finds (dig : List ℕ → List ℕ) (k : Facts) (block : ℕ) (read : B
   fault : read ≡ failed block → found ≡ Device → new ≡ old → Finds dig k block read found old new
 
 -- the block was read and is not right
-pub record IsReadWrong {D : Type 0} (history : D → History) (honest : D → Type 0) (faults : D → ℕ)
+pub record IsReadWrong {D : Type 0} (conduct : Conduct D)
     (dig : List ℕ → List ℕ) (k : Facts) (block : ℕ) (found : ReadFault) (old new : StoreView D) : Type 0 where
   pub read : BlockRead
-  pub calls : HasCalls history honest faults old.disk (call_of k.file_length read ∷ []) new.disk
+  pub calls : HasCalls conduct old.disk (call_of k.file_length read ∷ []) new.disk
   pub finds : Finds dig k block read found old.states new.states
   pub same_file : new.file_length ≡ old.file_length
 
 -- all blocks were read and are right, and these are their bytes, one block's after the other's
-pub record AreReadRight {D : Type 0} (history : D → History) (honest : D → Type 0) (faults : D → ℕ)
+pub record AreReadRight {D : Type 0} (conduct : Conduct D)
     (dig : List ℕ → List ℕ) (k : Facts) (blocks all : List ℕ) (old new : StoreView D) : Type 0 where
   pub bytes : ℕ → List ℕ
   pub reads : List BlockRead
-  pub calls : HasCalls history honest faults old.disk (map (call_of k.file_length) reads) new.disk
+  pub calls : HasCalls conduct old.disk (map (call_of k.file_length) reads) new.disk
   pub right : ReadsRight dig k blocks bytes reads
   pub together : all ≡ flat_map bytes blocks
   pub others : new ≡ record old { disk = new.disk }
 
 -- blocks were read up to the first that is not right
-pub record StopAtFault {D : Type 0} (history : D → History) (honest : D → Type 0) (faults : D → ℕ)
+pub record StopAtFault {D : Type 0} (conduct : Conduct D)
     (dig : List ℕ → List ℕ) (k : Facts) (blocks : List ℕ) (found : ReadFault) (old new : StoreView D)
     : Type 0 where
   pub before : List ℕ
@@ -64,7 +64,7 @@ pub record StopAtFault {D : Type 0} (history : D → History) (honest : D → Ty
   pub read : BlockRead
   pub parts : blocks ≡ before ++ block ∷ after
   pub right : ReadsRight dig k before bytes reads
-  pub calls : HasCalls history honest faults
+  pub calls : HasCalls conduct
       old.disk (map (call_of k.file_length) (reads ++ read ∷ [])) new.disk
   pub finds : Finds dig k block read found old.states new.states
   pub same_file : new.file_length ≡ old.file_length
@@ -81,11 +81,11 @@ pub record IsMarkedSpan (states : List BlockState) (span : Span) : Type 0 where
   pub marked : (i : ℕ) → Contains (spanned_blocks span) i → slice_get states i ≡ Some Marked
 
 -- all blocks of the span were read and are right, and these bytes are cut from them
-pub record SendsSpan {D : Type 0} (history : D → History) (honest : D → Type 0) (faults : D → ℕ)
+pub record SendsSpan {D : Type 0} (conduct : Conduct D)
     (dig : List ℕ → List ℕ) (k : Facts) (span : Span) (sent : List ℕ) (old new : StoreView D) : Type 0 where
   pub bytes : ℕ → List ℕ
   pub reads : List BlockRead
-  pub calls : HasCalls history honest faults old.disk (map (call_of k.file_length) reads) new.disk
+  pub calls : HasCalls conduct old.disk (map (call_of k.file_length) reads) new.disk
   pub right : ReadsRight dig k (spanned_blocks span) bytes reads
   pub cut : sent ≡ cut_from span bytes
   pub others : new ≡ record old { disk = new.disk }

@@ -46,7 +46,7 @@ pub fn take_piece<D: Disk + Drop, H: NodeHash>(
     requires shaped { IsShaped parts.old.torrent (state_of parts.old) }
     requires inside { index < vec_len parts.old.peers }
     requires there { index < length parts.old.peers.items }
-    ensures takes { TakesPiece D.history D.honest D.faults H.digest parts.old index piece begin bytes.now
+    ensures takes { TakesPiece D.conduct H.digest parts.old index piece begin bytes.now
         result parts.new }
     ensures torrent { parts.new.torrent ≡ parts.old.torrent }
     ensures log { parts.new.log ≡ parts.old.log }
@@ -83,7 +83,7 @@ fn put_block<D: Disk + Drop, H: NodeHash>(
     requires shaped { IsShaped parts.old.torrent (state_of parts.old) }
     requires missing { state_at (state_of parts.old) block ≡ Some BlockState.Missing }
     requires whole { IsBlockOf parts.old.torrent block bytes.now }
-    ensures puts { PutsBlock D.history D.honest D.faults H.digest parts.old block ask bytes.now result
+    ensures puts { PutsBlock D.conduct H.digest parts.old block ask bytes.now result
         parts.new }
     ensures torrent { parts.new.torrent ≡ parts.old.torrent }
     ensures log { parts.new.log ≡ parts.old.log }
@@ -105,7 +105,7 @@ fn put_in_slot<D: Disk + Drop, H: NodeHash>(
 ) -> Result<Put, StoreError>
     requires inside { block.file < length slots.old }
     requires can { CanPut slots.old trees.now block bytes.now }
-    ensures { PutsInSlot D.history D.honest D.faults H.digest slots.old trees.now block bytes.now result
+    ensures { PutsInSlot D.conduct H.digest slots.old trees.now block bytes.now result
         slots.new }
 {
     let slot = &mut slots[block.file as usize];

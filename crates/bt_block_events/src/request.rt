@@ -52,7 +52,7 @@ pub fn take_request<D: Disk + Drop, H: NodeHash>(
     requires inside { index < vec_len parts.old.peers }
     requires there { index < length parts.old.peers.items }
     ensures takes { IfOk result (λ served.
-        TakesRequest D.history D.honest D.faults H.digest parts.old index ask served parts.new) }
+        TakesRequest D.conduct H.digest parts.old index ask served parts.new) }
     ensures kept { IfErr result (λ _. parts.new ≡ parts.old) }
     ensures needed { IfErr result (λ _. IsToServe (state_of parts.old) index ask) }
     ensures torrent { parts.new.torrent ≡ parts.old.torrent }
@@ -88,7 +88,7 @@ fn serve<D: Disk + Drop, H: NodeHash>(
     requires there { index < length parts.old.peers.items }
     requires short { IsShortSpan span }
     requires room { IsRoomFor span room }
-    ensures takes { TakesRequest D.history D.honest D.faults H.digest parts.old index ask result parts.new }
+    ensures takes { TakesRequest D.conduct H.digest parts.old index ask result parts.new }
     ensures torrent { parts.new.torrent ≡ parts.old.torrent }
     ensures log { parts.new.log ≡ parts.old.log }
     ensures peers { map (λ p. p.key) parts.new.peers.items ≡ map (λ p. p.key) parts.old.peers.items }
@@ -148,9 +148,9 @@ fn read_slot<D: Disk + Drop, H: NodeHash>(
     requires short { IsShortSpan span }
     requires marked { CanRead slots.old trees.now span }
     requires room { IsRoomFor span room }
-    ensures right { IfOk result (λ bytes. SendsFromSlot D.history D.honest D.faults H.digest slots.old
+    ensures right { IfOk result (λ bytes. SendsFromSlot D.conduct H.digest slots.old
         trees.now span bytes.items slots.new) }
-    ensures wrong { IfErr result (λ fault. StopsInSlot D.history D.honest D.faults H.digest slots.old
+    ensures wrong { IfErr result (λ fault. StopsInSlot D.conduct H.digest slots.old
         trees.now span fault slots.new) }
 {
     let slot = &mut slots[span.file as usize];

@@ -60,9 +60,9 @@ pub(crate) fn read_span<D: Disk + Drop, H: NodeHash>(
     requires short { IsShortSpan span }
     requires marked { IsMarkedSpan store.old.states span }
     requires room { IsRoomFor span room }
-    ensures right { IfOk result (λ bytes. SendsSpan D.history D.honest D.faults H.digest tree.now span
+    ensures right { IfOk result (λ bytes. SendsSpan D.conduct H.digest tree.now span
         bytes.items store.old store.new) }
-    ensures wrong { IfErr result (λ fault. StopAtFault D.history D.honest D.faults H.digest tree.now
+    ensures wrong { IfErr result (λ fault. StopAtFault D.conduct H.digest tree.now
         (spanned_blocks span) fault store.old store.new) }
     ensures same_file { store.new.file_length ≡ store.old.file_length }
 {
@@ -96,9 +96,9 @@ fn read_blocks<D: Disk + Drop, H: NodeHash>(
     requires two { first ≢ last → 2 * full_block_length ≤ length out.old }
     requires first { slice_get store.old.states first ≡ Some BlockState.Marked }
     requires last { slice_get store.old.states last ≡ Some BlockState.Marked }
-    ensures right { IfOk result (λ count. AreReadRight D.history D.honest D.faults H.digest tree.now
+    ensures right { IfOk result (λ count. AreReadRight D.conduct H.digest tree.now
         (one_or_two first last) (take count out.new) store.old store.new) }
-    ensures wrong { IfErr result (λ fault. StopAtFault D.history D.honest D.faults H.digest tree.now
+    ensures wrong { IfErr result (λ fault. StopAtFault D.conduct H.digest tree.now
         (one_or_two first last) fault store.old store.new) }
 {
     let count = read_block(store, tree, first, out)?;
@@ -119,10 +119,10 @@ fn read_block<D: Disk + Drop, H: NodeHash>(
     requires geometry { tree.now.file_length ≡ store.old.file_length }
     requires room { full_block_length ≤ length out.old }
     requires marked { slice_get store.old.states block ≡ Some BlockState.Marked }
-    ensures right { IfOk result (λ count. IsReadRight D.history D.honest D.faults H.digest tree.now
+    ensures right { IfOk result (λ count. IsReadRight D.conduct H.digest tree.now
         block (take count out.new) store.old store.new) }
     ensures within { IfOk result (λ count. count ≤ full_block_length) }
-    ensures wrong { IfErr result (λ fault. IsReadWrong D.history D.honest D.faults H.digest tree.now
+    ensures wrong { IfErr result (λ fault. IsReadWrong D.conduct H.digest tree.now
         block fault store.old store.new) }
 {
     match store.read(tree, block, out) {

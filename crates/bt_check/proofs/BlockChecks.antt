@@ -8,7 +8,7 @@ use Rattle.std.proofs.lemmas.List.{length-map, map-append}
 use Rattle.std.proofs.lemmas.List.FromFn.{length-range_with_len}
 use Rattle.std.proofs.lemmas.List.Sums.{sum_by-append}
 use Rattle.bt_tree.specs.Blocks.{block_count}
-use Rattle.bt_disk.specs.History.{History}
+use Rattle.bt_disk.specs.Conduct.{Conduct}
 use Rattle.bt_disk.specs.Calls.{HasCalls}
 use Rattle.bt_disk.proofs.CallLists.{has_none, has_then}
 use Rattle.bt_sparse.specs.SparseTree.{Facts, blocks_of}
@@ -29,10 +29,10 @@ use Rattle.bt_check.proofs.AdoptedGroups.{IsLearned, IsGroupDone, group_done, ri
 use Rattle.sha2.specs.Sha256.{sha256}
 
 -- The blocks before this one were read, and so many of them are right.
-pub record IsChecking {D : Type 0} (history : D → History) (honest : D → Type 0) (faults : D → ℕ) (n : ℕ) (known : KnownLayer)
+pub record IsChecking {D : Type 0} (conduct : Conduct D) (n : ℕ) (known : KnownLayer)
     (leaves : ℕ → Option (List ℕ)) (disk : D) (from marked : ℕ) (faulty : Bool) (k : Facts) (store : StoreView D) : Type 0 where
   pub reads : List BlockRead
-  pub calls : HasCalls history honest faults disk (map (call_of n) reads) store.disk
+  pub calls : HasCalls conduct disk (map (call_of n) reads) store.disk
   pub each : map block_of reads ≡ range_with_len 0 from
   pub within : from ≤ block_count n
   pub marks : marked ≡ count_by (is_right_block (is_node_read reads n) known leaves) (range_with_len 0 from)
@@ -89,12 +89,12 @@ module _ (n : ℕ) (known : KnownLayer) (leaves : ℕ → Option (List ℕ)) whe
         omega (arith, sum.1, next.1, sum_by-append (λ r. cond (is_fault r) 1 0) reads last),
       )
 
-module _ {D : Type 0} (history : D → History) (honest : D → Type 0) (faults : D → ℕ) (n : ℕ) (known : KnownLayer) (leaves : ℕ → Option (List ℕ)) (disk : D) where
+module _ {D : Type 0} (conduct : Conduct D) (n : ℕ) (known : KnownLayer) (leaves : ℕ → Option (List ℕ)) (disk : D) where
   pub checking_begun : (k : Facts) (store : StoreView D) → HoldsLeaves n known leaves k → store.file_length ≡ n → store.disk ≡ disk
-      → IsChecking history honest faults n known leaves disk 0 0 false k store
+      → IsChecking conduct n known leaves disk 0 0 false k store
   checking_begun k store holds same on = record {
     reads = [];
-    calls = subst (HasCalls history honest faults disk []) (sym on) (has_none history honest faults disk);
+    calls = subst (HasCalls conduct disk []) (sym on) (has_none conduct disk);
     each = refl;
     within = omega arith;
     marks = refl;
@@ -115,21 +115,21 @@ module _ {D : Type 0} (history : D → History) (honest : D → Type 0) (faults 
   ]
 
   module _ (from marked : ℕ) (faulty : Bool) (k grown : Facts) (store after : StoreView D) (adopted : AdoptedGroups) (reads : List BlockRead)
-      (c : IsChecking history honest faults n known leaves disk from marked faulty k store)
-      (step : AreAdopted history honest faults sha256 k from store reads adopted grown after) where
+      (c : IsChecking conduct n known leaves disk from marked faulty k store)
+      (step : AreAdopted conduct sha256 k from store reads adopted grown after) where
     counted : IsCounted n known leaves (c.reads ++ reads) adopted.next (marked + adopted.marked) grown × (adopted.faults ≡ fault_count reads)
     counted =
         counted_turn n known leaves from marked k c.reads (record { each = c.each; within = c.within; marks = c.marks; learned = c.learned })
         store.states reads adopted grown after.states step.adopts
 
-    pub checking_more : IsChecking history honest faults n known leaves disk adopted.next (marked + adopted.marked) (faulty || nat_lt 0 adopted.faults) grown after
+    pub checking_more : IsChecking conduct n known leaves disk adopted.next (marked + adopted.marked) (faulty || nat_lt 0 adopted.faults) grown after
     checking_more =
         let counted_faults : fault_count (c.reads ++ reads) ≡ fault_count c.reads + fault_count reads = sum_by-append (λ r. cond (is_fault r) 1 0) c.reads reads in
-        let made = has_then history honest faults disk store.disk after.disk (map (call_of n) c.reads) (map (call_of n) reads) c.calls
-        (subst (λ m. HasCalls history honest faults store.disk (map (call_of m) reads) after.disk) c.same_file step.calls) in
+        let made = has_then conduct disk store.disk after.disk (map (call_of n) c.reads) (map (call_of n) reads) c.calls
+        (subst (λ m. HasCalls conduct store.disk (map (call_of m) reads) after.disk) c.same_file step.calls) in
         record {
           reads = c.reads ++ reads;
-          calls = subst (λ l. HasCalls history honest faults disk l after.disk) (sym (map-append (call_of n) c.reads reads)) made;
+          calls = subst (λ l. HasCalls conduct disk l after.disk) (sym (map-append (call_of n) c.reads reads)) made;
           each = counted.0.each;
           within = counted.0.within;
           marks = counted.0.marks;
@@ -147,14 +147,14 @@ module _ {D : Type 0} (history : D → History) (honest : D → Type 0) (faults 
         omega (arith, counted.0.marks, count_few (is_right_block (is_node_read (c.reads ++ reads) n) known leaves) 0 adopted.next, counted.0.within)
 
   pub all_checked : (from marked : ℕ) (faulty : Bool) (k : Facts) (store : StoreView D) (check : BlockCheck D)
-      → IsChecking history honest faults n known leaves disk from marked faulty k store → block_count n ≤ from → check.disk ≡ store.disk → check.marked ≡ marked
-      → check.faulty ≡ faulty → (reads : List BlockRead) × IsBlockCheck history honest faults n known leaves disk reads check
+      → IsChecking conduct n known leaves disk from marked faulty k store → block_count n ≤ from → check.disk ≡ store.disk → check.marked ≡ marked
+      → check.faulty ≡ faulty → (reads : List BlockRead) × IsBlockCheck conduct n known leaves disk reads check
       × HoldsLeaves n known (leaves_after leaves reads n known) k
   all_checked from marked faulty k store check c end on marked_is faulty_is =
       let last : from ≡ block_count n = omega (arith, end, c.within) in (
         c.reads,
         record {
-          calls = subst (HasCalls history honest faults disk (map (call_of n) c.reads)) (sym on) c.calls;
+          calls = subst (HasCalls conduct disk (map (call_of n) c.reads)) (sym on) c.calls;
           each = c.each ∙ ap (range_with_len 0) last;
           marked = marked_is ∙ c.marks ∙ ap (λ m. count_by (is_right_block (is_node_read c.reads n) known leaves) (range_with_len 0 m)) last;
           faulty = subst (λ b. IsTrue b ↔ (0 < fault_count c.reads)) (sym faulty_is) c.fault;

@@ -13,6 +13,7 @@ use Rattle.bt_tree.specs.Blocks.{block_count, block_at, block_length}
 use Rattle.bt_tree.specs.Layers.{fold_of}
 use Rattle.bt_tree.specs.Tree.{padding_digest, node_digest}
 use Rattle.bt_tree.proofs.TreeNodes.{fold_is, row_node_same, node_digest_below, leaf_is, leaf_past}
+use Rattle.bt_disk.specs.Conduct.{Conduct}
 use Rattle.bt_disk.specs.History.{History}
 use Rattle.bt_disk.specs.Calls.{AreAnswered, HasCalls, IsAnswered}
 use Rattle.bt_store.specs.BlockReads.{BlockRead, given, failed, block_of, call_of, fault_count, is_fault}
@@ -219,7 +220,7 @@ module _ (n : ℕ) (bytes : List ℕ) (layer j : ℕ) (digest : List ℕ) (real 
 
 -- ---- the whole file
 
-module _ {D : Type 0} (history : D → History) (honest : D → Type 0) (faults : D → ℕ) (n : ℕ) (known : KnownLayer) (leaves : ℕ → Option (List ℕ)) where
+module _ {D : Type 0} (conduct : Conduct D) (n : ℕ) (known : KnownLayer) (leaves : ℕ → Option (List ℕ)) where
   -- the reads tell of a block what the bytes do
   block_same : (bytes : List ℕ) (reads : List BlockRead) → reads ≡ map (read_from n bytes) (range_with_len 0 (block_count n)) → (i : ℕ) → i < block_count n
       → is_right_block (is_node_read reads n) known leaves i ≡ is_right_block (has_piece bytes n) known leaves i
@@ -258,15 +259,15 @@ module _ {D : Type 0} (history : D → History) (honest : D → Type 0) (faults 
         );
       }
 
-  pub honest_finding : (old new : D) (answers : Answers) (finding : Finding) → honest old → HasCalls history honest faults old (calls_of n answers) new
-      → IsFindingBy answers n known leaves finding → finding.faulty ≡ false → IsFindingOf (history old).now.bytes n known leaves finding
+  pub honest_finding : (old new : D) (answers : Answers) (finding : Finding) → conduct.honest old → HasCalls conduct old (calls_of n answers) new
+      → IsFindingBy answers n known leaves finding → finding.faulty ≡ false → IsFindingOf (conduct.history old).now.bytes n known leaves finding
   honest_finding old new answers finding is calls found sound = go answers.len refl (calls.answered is)
     where
-      go : (o : Option ℕ) → answers.len ≡ o → AreAnswered (history old) (len_call_of answers.len ∷ map (call_of n) answers.reads) (history new)
-          → IsFindingOf (history old).now.bytes n known leaves finding
+      go : (o : Option ℕ) → answers.len ≡ o → AreAnswered (conduct.history old) (len_call_of answers.len ∷ map (call_of n) answers.reads) (conduct.history new)
+          → IsFindingOf (conduct.history old).now.bytes n known leaves finding
       go None none answered = absurd (true≢false (sym (found.faulty.1 (inl none)) ∙ sound))
       go (Some len) asked answered =
-          let first : IsAnswered (history old) (len_call_of (Some len)) answered.0 = subst (λ l. IsAnswered (history old) (len_call_of l) answered.0) asked answered.1 in
-          let rest : AreAnswered (history old) (map (call_of n) answers.reads) (history new) =
-          subst (λ h. AreAnswered h (map (call_of n) answers.reads) (history new)) first.1 answered.2 in
-          found_of_reads answers finding (history old) (history new) len found sound asked first.0 rest
+          let first : IsAnswered (conduct.history old) (len_call_of (Some len)) answered.0 = subst (λ l. IsAnswered (conduct.history old) (len_call_of l) answered.0) asked answered.1 in
+          let rest : AreAnswered (conduct.history old) (map (call_of n) answers.reads) (conduct.history new) =
+          subst (λ h. AreAnswered h (map (call_of n) answers.reads) (conduct.history new)) first.1 answered.2 in
+          found_of_reads answers finding (conduct.history old) (conduct.history new) len found sound asked first.0 rest

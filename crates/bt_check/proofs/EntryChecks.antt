@@ -3,7 +3,7 @@ use Rattle.std.proofs.Common.{◌≡◌, ℕ, ◌+◌, ◌<◌, ◌≤◌, ◌�
 use Rattle.std.proofs.lemmas.Bool.{cases_lt, false≢true}
 use Rattle.bt_tree.specs.Blocks.{IsFileLength, block_count}
 use Rattle.bt_tree.specs.Limits.{max_file_length}
-use Rattle.bt_disk.specs.History.{History}
+use Rattle.bt_disk.specs.Conduct.{Conduct}
 use Rattle.bt_disk.specs.Calls.{HasCalls}
 use Rattle.bt_disk.proofs.CallLists.{has_then}
 use Rattle.bt_store.specs.BlockReads.{BlockRead, call_of, fault_count}
@@ -40,14 +40,14 @@ is_unknown None false e = absurd (true≢false (sym e))
 is_unknown (Some l) true e = absurd (true≢false e)
 is_unknown (Some l) false e = (λ t. absurd (true≢false (sym t)), λ none. absurd (none_some l (sym none)))
 
-module _ {D : Type 0} (history : D → History) (honest : D → Type 0) (faults : D → ℕ) (n : ℕ) (known : KnownLayer) (leaves : ℕ → Option (List ℕ)) (old mid : D)
-    (len : Option ℕ) (longer unknown : Bool) (asked : HasCalls history honest faults old (len_call_of len ∷ []) mid)
+module _ {D : Type 0} (conduct : Conduct D) (n : ℕ) (known : KnownLayer) (leaves : ℕ → Option (List ℕ)) (old mid : D)
+    (len : Option ℕ) (longer unknown : Bool) (asked : HasCalls conduct old (len_call_of len ∷ []) mid)
     (is_longer : IsTrue longer ↔ IsSomeAnd len (λ l. n < l)) (unknown_is : is_some len ≡ not unknown) where
-  pub blocks_found : (blocks : ℕ) (reads : List BlockRead) (check : BlockCheck D) → IsBlockCheck history honest faults n known leaves mid reads check
-      → blocks ≡ block_count n → IsEntryCheck history honest faults n known leaves old (record { len = len; reads = reads }) check.disk
+  pub blocks_found : (blocks : ℕ) (reads : List BlockRead) (check : BlockCheck D) → IsBlockCheck conduct n known leaves mid reads check
+      → blocks ≡ block_count n → IsEntryCheck conduct n known leaves old (record { len = len; reads = reads }) check.disk
       (record { blocks = blocks; marked = check.marked; longer = longer; faulty = unknown || check.faulty })
   blocks_found blocks reads check is blocks_are = record {
-    calls = has_then history honest faults old mid check.disk (len_call_of len ∷ []) (map (call_of n) reads) asked is.calls;
+    calls = has_then conduct old mid check.disk (len_call_of len ∷ []) (map (call_of n) reads) asked is.calls;
     found = record {
       each = is.each;
       marks = record { blocks = blocks_are; marked = is.marked };
@@ -56,7 +56,7 @@ module _ {D : Type 0} (history : D → History) (honest : D → Type 0) (faults 
     };
   }
 
-  pub nothing_found : n ≡ 0 → IsEntryCheck history honest faults n known leaves old (record { len = len; reads = [] }) mid
+  pub nothing_found : n ≡ 0 → IsEntryCheck conduct n known leaves old (record { len = len; reads = [] }) mid
       (record { blocks = 0; marked = 0; longer = longer; faulty = unknown })
   nothing_found empty =
       let none : block_count n ≡ 0 = omega (arith, empty) in
@@ -75,12 +75,12 @@ module _ {D : Type 0} (history : D → History) (honest : D → Type 0) (faults 
 pub is_known : {n : ℕ} {known : KnownLayer} {leaves : ℕ → Option (List ℕ)} {k : Facts} → HoldsLeaves n known leaves k → IsKnownTree k
 is_known {known = known} {leaves} {k} holds = (known, leaves, subst (λ m. HoldsLeaves m known leaves k) (sym holds.length_is) holds)
 
-pub checked_at : {D : Type 0} {history : D → History} {honest : D → Type 0} {faults : D → ℕ} {n : ℕ} {known : KnownLayer} {leaves : ℕ → Option (List ℕ)}
-    {k grown : Facts} {old : D} {check : EntryCheck D} → ChecksTree history honest faults k old check grown → HoldsLeaves n known leaves k
-    → (answers : Answers) × IsEntryCheck history honest faults n known leaves old answers check.disk check.finding
+pub checked_at : {D : Type 0} {conduct : Conduct D} {n : ℕ} {known : KnownLayer} {leaves : ℕ → Option (List ℕ)}
+    {k grown : Facts} {old : D} {check : EntryCheck D} → ChecksTree conduct k old check grown → HoldsLeaves n known leaves k
+    → (answers : Answers) × IsEntryCheck conduct n known leaves old answers check.disk check.finding
     × HoldsLeaves n known (leaves_after leaves answers.reads n known) grown
-checked_at {D} {history} {honest} {faults} {n} {known} {leaves} {k} {grown} {old} {check} checks holds =
-    subst (λ m. HoldsLeaves m known leaves k → (answers : Answers) × IsEntryCheck history honest faults m known leaves old answers check.disk check.finding
+checked_at {D} {conduct} {n} {known} {leaves} {k} {grown} {old} {check} checks holds =
+    subst (λ m. HoldsLeaves m known leaves k → (answers : Answers) × IsEntryCheck conduct m known leaves old answers check.disk check.finding
     × HoldsLeaves m known (leaves_after leaves answers.reads m known) grown) holds.length_is (checks known leaves) holds
 
 -- there is no data file

@@ -4,7 +4,7 @@ use Rattle.std.specs.List.{count_by, range_with_len}
 use Rattle.std.specs.Option.{option_or}
 use Rattle.bt_tree.specs.Blocks.{block_count}
 use Rattle.bt_tree.specs.TreeShape.{height_of, real_width}
-use Rattle.bt_disk.specs.History.{History}
+use Rattle.bt_disk.specs.Conduct.{Conduct}
 use Rattle.bt_disk.specs.Calls.{HasCalls}
 use Rattle.bt_sparse.specs.SparseTree.{Facts, held_at}
 use Rattle.bt_store.specs.BlockReads.{BlockRead, block_of, call_of, fault_count}
@@ -35,32 +35,32 @@ leaves_after leaves reads n known block = option_or (leaves block) (leaf_read re
 
 -- there is a read for each block of a file of n bytes, in turn, and no other call failed, or changed an
 -- honest device; and so many blocks are right
-pub record IsBlockCheck {D : Type 0} (history : D → History) (honest : D → Type 0) (faults : D → ℕ)
+pub record IsBlockCheck {D : Type 0} (conduct : Conduct D)
     (n : ℕ) (known : KnownLayer) (leaves : ℕ → Option (List ℕ)) (old : D) (reads : List BlockRead)
     (check : BlockCheck D) : Type 0 where
-  pub calls : HasCalls history honest faults old (map (call_of n) reads) check.disk
+  pub calls : HasCalls conduct old (map (call_of n) reads) check.disk
   pub each : map block_of reads ≡ range_with_len 0 (block_count n)
   pub marked : check.marked ≡
       count_by (is_right_block (is_node_read reads n) known leaves) (range_with_len 0 (block_count n))
   pub faulty : IsTrue check.faulty ↔ (0 < fault_count reads)
 
 -- the same in a tree that holds what is known, and learns the leaves of the pieces that are right
-abbrev pub ChecksBlocks : {D : Type 0} → (D → History) → (D → Type 0) → (D → ℕ) → Facts → D → BlockCheck D
+abbrev pub ChecksBlocks : {D : Type 0} → Conduct D → Facts → D → BlockCheck D
     → Facts → Type 0
-ChecksBlocks history honest faults tree disk check grown =
+ChecksBlocks conduct tree disk check grown =
     let n = tree.file_length in
     (known : KnownLayer) (leaves : ℕ → Option (List ℕ)) → HoldsLeaves n known leaves tree
-    → (reads : List BlockRead) × IsBlockCheck history honest faults n known leaves disk reads check
+    → (reads : List BlockRead) × IsBlockCheck conduct n known leaves disk reads check
     × HoldsLeaves n known (leaves_after leaves reads n known) grown
 
 -- and so of a whole check of a file that has a block
-abbrev pub ChecksTree : {D : Type 0} → (D → History) → (D → Type 0) → (D → ℕ) → Facts → D → EntryCheck D
+abbrev pub ChecksTree : {D : Type 0} → Conduct D → Facts → D → EntryCheck D
     → Facts → Type 0
-ChecksTree history honest faults tree disk check grown =
+ChecksTree conduct tree disk check grown =
     let n = tree.file_length in
     (known : KnownLayer) (leaves : ℕ → Option (List ℕ)) → HoldsLeaves n known leaves tree
     → (answers : Answers)
-    × IsEntryCheck history honest faults n known leaves disk answers check.disk check.finding
+    × IsEntryCheck conduct n known leaves disk answers check.disk check.finding
     × HoldsLeaves n known (leaves_after leaves answers.reads n known) grown
 
 -- and what is found of the bytes of a device that gives what was written

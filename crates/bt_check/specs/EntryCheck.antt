@@ -7,7 +7,7 @@ use Rattle.bt_tree.specs.Blocks.{block_count}
 use Rattle.bt_tree.specs.Layers.{IsLayer, fold_of}
 use Rattle.bt_tree.specs.Limits.{max_file_length}
 use Rattle.bt_tree.specs.Tree.{padding_digest}
-use Rattle.bt_disk.specs.History.{History}
+use Rattle.bt_disk.specs.Conduct.{Conduct}
 use Rattle.bt_disk.specs.Calls.{Call, HasCalls, length_given, length_fault}
 use Rattle.bt_store.specs.BlockReads.{BlockRead, failed, block_of, call_of, fault_count}
 use Rattle.bt_store.specs.Adoption.{is_whole, claimed_digest}
@@ -58,10 +58,10 @@ pub record IsFindingBy (answers : Answers) (n : ℕ) (known : KnownLayer) (leave
   pub faulty : IsTrue finding.faulty ↔ ((answers.len ≡ None) ⊎ (0 < fault_count answers.reads))
 
 -- these calls lead from the old device to the new one, and this is what a check finds by their answers
-pub record IsEntryCheck {D : Type 0} (history : D → History) (honest : D → Type 0) (faults : D → ℕ)
+pub record IsEntryCheck {D : Type 0} (conduct : Conduct D)
     (n : ℕ) (known : KnownLayer) (leaves : ℕ → Option (List ℕ))
     (old : D) (answers : Answers) (new : D) (finding : Finding) : Type 0 where
-  pub calls : HasCalls history honest faults old (calls_of n answers) new
+  pub calls : HasCalls conduct old (calls_of n answers) new
   pub found : IsFindingBy answers n known leaves finding
 
 -- the leaf that reads give of a block: its digest, where its piece is right

@@ -57,13 +57,13 @@ pub fn check_entry<D: Disk + Drop>(
     requires { IsCheckable size.layer (file_of entry.now) }
 
     // of what the device answered, at every device
-    ensures answered { IfOk result (λ check. (answers : Answers) × IsEntryCheck D.history D.honest D.faults
+    ensures answered { IfOk result (λ check. (answers : Answers) × IsEntryCheck D.conduct
         entry.now.length (known_layer size.layer (file_of entry.now)) no_leaves
         disk answers check.disk check.finding) }
 
     // of the device's bytes, where it gives what was written
-    ensures honest { D.honest disk → IfOk result (λ check. check.finding.faulty ≡ false
-        → IsFindingOf (D.history disk).now.bytes
+    ensures honest { D.conduct.honest disk → IfOk result (λ check. check.finding.faulty ≡ false
+        → IsFindingOf (D.conduct.history disk).now.bytes
         entry.now.length (known_layer size.layer (file_of entry.now)) no_leaves check.finding) }
 {
     let Some(geometry) = Geometry::new(entry.length) else {
@@ -76,7 +76,7 @@ pub fn check_entry<D: Disk + Drop>(
 /// Checks the device of an empty file, which has no tree.
 pub fn check_empty<D: Disk + Drop>(disk: D) -> EntryCheck<D>
     ensures { (len : Option ℕ) × ((known : KnownLayer) (leaves : ℕ → Option (List ℕ))
-        → IsEntryCheck D.history D.honest D.faults
+        → IsEntryCheck D.conduct
         0 known leaves disk (record { len = len; reads = [] }) result.disk result.finding) }
 {
     let mut disk = disk;
@@ -102,9 +102,9 @@ pub fn check_tree<D: Disk + Drop>(
 ) -> Result<EntryCheck<D>, AllocError>
     requires { IsKnownTree tree.old }
     ensures answered { IfOk result
-        (λ check. ChecksTree D.history D.honest D.faults tree.old disk check tree.new) }
-    ensures honest { D.honest disk
-        → IfOk result (λ check. FindsBytes (D.history disk).now.bytes tree.old check.finding) }
+        (λ check. ChecksTree D.conduct tree.old disk check tree.new) }
+    ensures honest { D.conduct.honest disk
+        → IfOk result (λ check. FindsBytes (D.conduct.history disk).now.bytes tree.old check.finding) }
 {
     let mut disk = disk;
     let length = length_of(&mut disk);
@@ -126,7 +126,7 @@ pub fn check_tree<D: Disk + Drop>(
 
 /// How many bytes a device has; none where the call failed.
 fn length_of<D: Disk>(disk: &mut D) -> Option<u64>
-    ensures { HasCalls D.history D.honest D.faults disk.old (len_call_of result ∷ []) disk.new }
+    ensures { HasCalls D.conduct disk.old (len_call_of result ∷ []) disk.new }
 {
     match disk.len() {
         Ok(length) => Some(length),
@@ -160,7 +160,7 @@ fn check_blocks<D: Disk + Drop>(
 ) -> Result<BlockCheck<D>, AllocError>
     requires { IsKnownTree tree.old }
     ensures { IfOk result
-        (λ check. ChecksBlocks D.history D.honest D.faults tree.old disk check tree.new) }
+        (λ check. ChecksBlocks D.conduct tree.old disk check tree.new) }
 {
     let geometry = tree.geometry();
     let Ok(mut store) = FileStore::create(alloc, disk, FileHash, geometry) else {

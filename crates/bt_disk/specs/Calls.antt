@@ -2,6 +2,7 @@
 use Rattle.std.specs.Prelude.{◌≡◌, ℕ, ◌+◌, ◌<◌, ◌≤◌, ◌⊎◌, ◌↔◌, List, [], ◌∷◌, length, take, drop, Result, Ok, Err, ⊤}
 use Rattle.bt_disk.specs.Limits.{one_more}
 use Rattle.bt_disk.specs.State.{State, IsTornWrite, IsTornResize}
+use Rattle.bt_disk.specs.Conduct.{Conduct}
 use Rattle.bt_disk.specs.History.{History, then, after_write, after_set_len, after_sync}
 
 -- A call and its answer. A read has its place and how many bytes were wanted, and the bytes that it gave.
@@ -97,11 +98,11 @@ count_after_calls count (call ∷ calls) = count_after_calls (count_after_call c
 -- device by the count of its failed calls. So no other call failed, or changed an honest device. A read or a
 -- length that was given leaves no trace: their number and order are not told.
 pub record HasCalls
-    {D : Type 0} (history : D → History) (honest : D → Type 0) (faults : D → ℕ)
+    {D : Type 0} (conduct : Conduct D)
     (old : D) (calls : List Call) (new : D) : Type 0 where
-  pub counted : faults new ≡ count_after_calls (faults old) calls
-  pub as_honest : honest old ↔ honest new
-  pub answered : honest old → AreAnswered (history old) calls (history new)
+  pub counted : conduct.faults new ≡ count_after_calls (conduct.faults old) calls
+  pub as_honest : conduct.honest old ↔ conduct.honest new
+  pub answered : conduct.honest old → AreAnswered (conduct.history old) calls (conduct.history new)
 
 -- the call changes nothing
 abbrev pub IsRead : Call → Type 0

@@ -3,7 +3,7 @@
 use Rattle.std.specs.Prelude.{◌≡◌, ℕ, ◌+◌, ◌-◌, Bool, false, ◌&&◌, ◌||◌, if◌then◌else◌, nat_eq, nat_le, nat_lt, min, bit_xor, Option, Some, None, List, [], ◌∷◌, length, slice_index, slice_set, take, Result, IfOk}
 use Rattle.std.specs.Option.{option_map_or}
 use Rattle.bt_disk.specs.Limits.{max_count, one_more}
-use Rattle.bt_disk.specs.History.{History}
+use Rattle.bt_disk.specs.Conduct.{Conduct}
 use Rattle.bt_disk.specs.Calls.{Call, HasCalls, read_call}
 
 -- The device inside, how many calls were made, the settings (a flip has its first call and its byte), and how
@@ -32,12 +32,20 @@ abbrev pub setting_after : ℕ → ℕ → Option ℕ → Option ℕ
 setting_after calls k old = if nat_lt calls k then Some k else old
 
 -- how many calls failed, by a setting or inside
-abbrev pub fault_count : {D : Type 0} → (D → ℕ) → FaultView D → ℕ
-fault_count faults disk = min max_count (disk.failed + faults disk.inner)
+abbrev pub fault_count : {D : Type 0} → Conduct D → FaultView D → ℕ
+fault_count conduct disk = min max_count (disk.failed + conduct.faults disk.inner)
 
 -- honest is what has an honest device inside and no flip
-abbrev pub IsHonest : {D : Type 0} → (D → Type 0) → FaultView D → Type 0
-IsHonest honest disk = honest disk.inner × (disk.flipping ≡ None)
+abbrev pub IsHonest : {D : Type 0} → Conduct D → FaultView D → Type 0
+IsHonest conduct disk = conduct.honest disk.inner × (disk.flipping ≡ None)
+
+-- it holds what the device inside does
+abbrev pub fault_conduct : {D : Type 0} → Conduct D → Conduct (FaultView D)
+fault_conduct conduct = record {
+  history = λ disk. conduct.history disk.inner;
+  honest = IsHonest conduct;
+  faults = fault_count conduct;
+}
 
 -- the number of the call that comes next
 abbrev pub next_call : {D : Type 0} → FaultView D → ℕ
@@ -55,10 +63,10 @@ after_failure disk = record disk { calls = next_call disk; failed = one_more dis
 
 -- the call was made of the device inside, and no other
 pub record PassesOn
-    {D : Type 0} (history : D → History) (honest : D → Type 0) (faults : D → ℕ)
+    {D : Type 0} (conduct : Conduct D)
     (old : FaultView D) (call : Call) (new : FaultView D) : Type 0 where
   pub settings : new ≡ record old { inner = new.inner; calls = next_call old }
-  pub passed : HasCalls history honest faults old.inner (call ∷ []) new.inner
+  pub passed : HasCalls conduct old.inner (call ∷ []) new.inner
 
 -- bytes that lie at a place, as a flip alters them: from its first call on, the low bit of its byte is the
 -- other one
@@ -72,10 +80,10 @@ flipped (Some flip) number at bytes =
 -- A read was passed on: the device inside was asked for as many bytes, and what it gave comes but for the
 -- flip.
 pub record PassesRead
-    {D E : Type 0} (history : D → History) (honest : D → Type 0) (faults : D → ℕ)
+    {D E : Type 0} (conduct : Conduct D)
     (old : FaultView D) (at : ℕ) (out : List ℕ) (result : Result ℕ E) (new : FaultView D) : Type 0 where
   pub given : List ℕ
   pub as_many : length given ≡ length out
-  pub passed : PassesOn history honest faults old (read_call at given result) new
+  pub passed : PassesOn conduct old (read_call at given result) new
   pub altered :
       IfOk result (λ count. take count out ≡ flipped old.flipping (next_call old) at (take count given))

@@ -1,6 +1,7 @@
 -- What calls of an honest device leave in the images of a crash.
 use Rattle.std.specs.Prelude.{◌≡◌, ℕ, ◌↔◌, List, [], ◌∷◌, ◌++◌, slice_get, Some, All}
 use Rattle.bt_disk.specs.State.{State, IsImage, IsKept, IsWithin}
+use Rattle.bt_disk.specs.Conduct.{Conduct}
 use Rattle.bt_disk.specs.History.{History, moment_of, IsKeptSince, IsWithinSince}
 use Rattle.bt_disk.specs.declared.loss.Loss.{Loss}
 use Rattle.bt_disk.specs.MemoryDisk.{IsLeftBy}
@@ -55,19 +56,19 @@ WithinFromNow = (h : History) (n : ℕ) → IsWithin h.now n → IsWithinSince h
 -- Of a kind of device: its history, which of them are honest, and the count of failed calls.
 
 -- no call leads from a device to itself
-abbrev pub NoCallsLead : {D : Type 0} → (D → History) → (D → Type 0) → (D → ℕ) → Type 0
-NoCallsLead {D} history honest faults = (disk : D) → HasCalls history honest faults disk [] disk
+abbrev pub NoCallsLead : {D : Type 0} → Conduct D → Type 0
+NoCallsLead {D} conduct = (disk : D) → HasCalls conduct disk [] disk
 
 -- One call leads to what it leaves: it is counted where it failed, keeps the device honest or not, and is
 -- answered as an honest device does.
-abbrev pub OneCallLeads : {D : Type 0} → (D → History) → (D → Type 0) → (D → ℕ) → Type 0
-OneCallLeads {D} history honest faults = (old : D) (call : Call) (new : D)
-    → faults new ≡ count_after_call (faults old) call
-    → honest old ↔ honest new → (honest old → IsAnswered (history old) call (history new))
-    → HasCalls history honest faults old (call ∷ []) new
+abbrev pub OneCallLeads : {D : Type 0} → Conduct D → Type 0
+OneCallLeads {D} conduct = (old : D) (call : Call) (new : D)
+    → conduct.faults new ≡ count_after_call (conduct.faults old) call
+    → conduct.honest old ↔ conduct.honest new → (conduct.honest old → IsAnswered (conduct.history old) call (conduct.history new))
+    → HasCalls conduct old (call ∷ []) new
 
 -- calls and then others are these calls one after the other
-abbrev pub CallsCompose : {D : Type 0} → (D → History) → (D → Type 0) → (D → ℕ) → Type 0
-CallsCompose {D} history honest faults = (a b c : D) (xs ys : List Call)
-    → HasCalls history honest faults a xs b → HasCalls history honest faults b ys c
-    → HasCalls history honest faults a (xs ++ ys) c
+abbrev pub CallsCompose : {D : Type 0} → Conduct D → Type 0
+CallsCompose {D} conduct = (a b c : D) (xs ys : List Call)
+    → HasCalls conduct a xs b → HasCalls conduct b ys c
+    → HasCalls conduct a (xs ++ ys) c

@@ -1,6 +1,7 @@
 pub mod Limits
 pub mod State
 pub mod History
+pub mod Conduct
 pub mod Calls
 pub mod MemoryDisk
 pub mod RecordSteps

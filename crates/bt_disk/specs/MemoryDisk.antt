@@ -1,6 +1,7 @@
 -- What a device in memory keeps, and what a crash makes of it.
-use Rattle.std.specs.Prelude.{◌≡◌, ℕ, ◌+◌, ◌<◌, ◌≤◌, List, [], ◌∷◌, length, slice_index, All}
+use Rattle.std.specs.Prelude.{◌≡◌, ℕ, ◌+◌, ◌<◌, ◌≤◌, List, [], ◌∷◌, length, slice_index, All, ⊤}
 use Rattle.bt_disk.specs.State.{State, IsOutside}
+use Rattle.bt_disk.specs.Conduct.{Conduct}
 use Rattle.bt_disk.specs.History.{History, new_history}
 use Rattle.bt_disk.specs.Calls.{Call, after_call}
 use Rattle.bt_disk.specs.declared.loss.Loss.{Loss}
@@ -31,6 +32,10 @@ new_record bytes = record { first = bytes; calls = [] }
 abbrev pub HasOnly : ℕ → List ℕ → ℕ × ℕ → Type 0
 HasOnly byte image range =
     (i : ℕ) → i < length image → range.0 ≤ i → i < range.0 + range.1 → slice_index image i ≡ byte
+
+-- it is honest
+abbrev pub memory_conduct : Conduct MemoryView
+memory_conduct = record { history = λ disk. history_of disk.kept; honest = λ _. ⊤; faults = λ disk. disk.failed }
 
 -- the bytes as a read gives them, but for this byte wherever a crash may leave any
 pub record IsFilled (s : State) (byte : ℕ) (image : List ℕ) : Type 0 where

@@ -1,8 +1,10 @@
 -- A pool, and how a device of it uses its file.
 use Rattle.std.specs.Prelude.{ℕ, Bool, List}
+use Rattle.bt_disk.specs.Conduct.{Conduct, untrusted}
 use Rattle.bt_disk.specs.FileDisk.{Access, absent, reading, writing}
 use Rattle.bt_disk.specs.declared.pool.Use.{Use}
 use Rattle.bt_disk.specs.declared.pool.Use.TheVariants.{Absent, Reading, Writing}
+use Rattle.bt_disk.specs.Conduct.{Conduct}
 
 abbrev pub access_of_use : Use → Access
 access_of_use Absent = absent
@@ -26,3 +28,7 @@ pub record PooledView : Type 0 where
   pub is_synced : Bool
   pub is_written : Bool
   pub failed : ℕ
+
+-- of what a file of the system holds nothing is known
+abbrev pub pooled_conduct : Conduct PooledView
+pooled_conduct = untrusted (λ disk. disk.failed)

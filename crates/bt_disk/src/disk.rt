@@ -1,8 +1,8 @@
 //! What every device promises.
-ghost use Rattle.std.specs.Prelude.{◌≡◌, ℕ, ◌↔◌, ◌≤◌, IfOk, length};
+ghost use Rattle.std.specs.Prelude.{◌≡◌, ◌↔◌, ◌≤◌, IfOk, length};
 ghost use Rattle.bt_disk.specs.Limits.{count_after, one_more};
 ghost use Rattle.bt_disk.specs.State.{IsImage};
-ghost use Rattle.bt_disk.specs.History.{History};
+ghost use Rattle.bt_disk.specs.Conduct.{Conduct};
 ghost use Rattle.bt_disk.specs.Calls.{IsAnswered, len_call, read_call, write_call, set_len_call, sync_call};
 
 use thiserror::Error;
@@ -19,56 +19,51 @@ pub struct DeviceFault;
 /// where they succeed and perhaps in part where they fail. A crash may lose or spoil what was written, and
 /// any change of the length, since the last sync that succeeded; other bytes it leaves as they are.
 pub trait Disk {
-    /// What the device held, from its making on.
-    ghost history: { Self → History };
-
-    /// It gives what was written. No call changes this.
-    ghost honest: { Self → Type 0 };
-
-    /// How many of its calls failed: a count that stays at 2^64 - 1 once it is there.
-    ghost faults: { Self → ℕ };
+    /// What the device held, from its making on; whether it gives what was written, which no call changes; and
+    /// how many of its calls failed, a count that stays at 2^64 - 1 once it is there.
+    ghost conduct: { Conduct Self };
 
     /// How many bytes there are.
     fn len(&mut self) -> Result<u64, DeviceFault>
-        ensures counted { faults self.new ≡ count_after (faults self.old) result }
-        ensures as_honest { honest self.old ↔ honest self.new }
-        ensures answered { honest self.old
-            → IsAnswered (history self.old) (len_call result) (history self.new) };
+        ensures counted { conduct.faults self.new ≡ count_after (conduct.faults self.old) result }
+        ensures as_honest { conduct.honest self.old ↔ conduct.honest self.new }
+        ensures answered { conduct.honest self.old
+            → IsAnswered (conduct.history self.old) (len_call result) (conduct.history self.new) };
 
     /// Reads bytes from byte `at` on into the front of `out`, as many as there are and as it holds, and says
     /// how many these are. After an error nothing is said of `out`.
     fn read_at(&mut self, at: u64, out: &mut [u8]) -> Result<usize, DeviceFault>
         ensures within { IfOk result (λ count. count ≤ length out.new) }
-        ensures counted { faults self.new ≡ count_after (faults self.old) result }
-        ensures as_honest { honest self.old ↔ honest self.new }
-        ensures answered { honest self.old
-            → IsAnswered (history self.old) (read_call at out.new result) (history self.new) };
+        ensures counted { conduct.faults self.new ≡ count_after (conduct.faults self.old) result }
+        ensures as_honest { conduct.honest self.old ↔ conduct.honest self.new }
+        ensures answered { conduct.honest self.old
+            → IsAnswered (conduct.history self.old) (read_call at out.new result) (conduct.history self.new) };
 
     /// Writes bytes from byte `at` on, past the end too: a gap before them is filled with zeros. A write of
     /// no bytes changes nothing. After an error any part of it may have been made.
     fn write_at(&mut self, at: u64, bytes: &[u8]) -> Result<(), DeviceFault>
-        ensures counted { faults self.new ≡ count_after (faults self.old) result }
-        ensures as_honest { honest self.old ↔ honest self.new }
-        ensures answered { honest self.old
-            → IsAnswered (history self.old) (write_call at bytes.now result) (history self.new) };
+        ensures counted { conduct.faults self.new ≡ count_after (conduct.faults self.old) result }
+        ensures as_honest { conduct.honest self.old ↔ conduct.honest self.new }
+        ensures answered { conduct.honest self.old
+            → IsAnswered (conduct.history self.old) (write_call at bytes.now result) (conduct.history self.new) };
 
     /// Cuts the bytes to a length, or fills them up to it with zeros. After an error any part of it may have
     /// been made.
     fn set_len(&mut self, len: u64) -> Result<(), DeviceFault>
-        ensures counted { faults self.new ≡ count_after (faults self.old) result }
-        ensures as_honest { honest self.old ↔ honest self.new }
-        ensures answered { honest self.old
-            → IsAnswered (history self.old) (set_len_call len result) (history self.new) };
+        ensures counted { conduct.faults self.new ≡ count_after (conduct.faults self.old) result }
+        ensures as_honest { conduct.honest self.old ↔ conduct.honest self.new }
+        ensures answered { conduct.honest self.old
+            → IsAnswered (conduct.history self.old) (set_len_call len result) (conduct.history self.new) };
 
     /// Makes sure of all that was written: from then on a crash leaves what a read gives.
     fn sync(&mut self) -> Result<(), DeviceFault>
-        ensures counted { faults self.new ≡ count_after (faults self.old) result }
-        ensures as_honest { honest self.old ↔ honest self.new }
-        ensures answered { honest self.old
-            → IsAnswered (history self.old) (sync_call result) (history self.new) };
+        ensures counted { conduct.faults self.new ≡ count_after (conduct.faults self.old) result }
+        ensures as_honest { conduct.honest self.old ↔ conduct.honest self.new }
+        ensures answered { conduct.honest self.old
+            → IsAnswered (conduct.history self.old) (sync_call result) (conduct.history self.new) };
 
     /// What a read gives is one of the images that a crash now may leave.
-    ghost reads_image: { (disk : Self) → honest disk → IsImage (history disk).now (history disk).now.bytes };
+    ghost reads_image: { (disk : Self) → conduct.honest disk → IsImage (conduct.history disk).now (conduct.history disk).now.bytes };
 }
 
 /// Counts a call that failed, and gives its error.

@@ -117,13 +117,9 @@ impl<D: Disk + Drop> Disk for FaultDisk<D> {
     ghost use Rattle.std.specs.Bool.{OnTrue, OnFalse};
     ghost use Rattle.bt_disk.specs.Limits.{count_after};
     ghost use Rattle.bt_disk.specs.Calls.{IsAnswered, len_call, read_call, write_call, set_len_call, sync_call};
-    ghost use Rattle.bt_disk.specs.FaultDisk.{fault_count, IsHonest, fails_next, after_failure, PassesOn, PassesRead};
+    ghost use Rattle.bt_disk.specs.FaultDisk.{fault_conduct, fault_count, IsHonest, fails_next, after_failure, PassesOn, PassesRead};
 
-    ghost history = { λ d. D.history d.inner };
-
-    ghost honest = { λ d. IsHonest D.honest d };
-
-    ghost faults = { λ d. fault_count D.faults d };
+    ghost conduct = { fault_conduct D.conduct };
 
     ghost reads_image = { λ d honest. D.reads_image d.inner honest.0 };
 
@@ -131,13 +127,13 @@ impl<D: Disk + Drop> Disk for FaultDisk<D> {
         // by its settings
         ensures fails { OnTrue (fails_next self.old) (IsErr result × (self.new ≡ after_failure self.old)) }
         ensures passes { OnFalse (fails_next self.old)
-            (PassesOn D.history D.honest D.faults self.old (len_call result) self.new) }
+            (PassesOn D.conduct self.old (len_call result) self.new) }
 
         // as every device
-        ensures counted { fault_count D.faults self.new ≡ count_after (fault_count D.faults self.old) result }
-        ensures as_honest { IsHonest D.honest self.old ↔ IsHonest D.honest self.new }
-        ensures answered { IsHonest D.honest self.old
-            → IsAnswered (D.history self.old.inner) (len_call result) (D.history self.new.inner) }
+        ensures counted { fault_count D.conduct self.new ≡ count_after (fault_count D.conduct self.old) result }
+        ensures as_honest { IsHonest D.conduct self.old ↔ IsHonest D.conduct self.new }
+        ensures answered { IsHonest D.conduct self.old
+            → IsAnswered (D.conduct.history self.old.inner) (len_call result) (D.conduct.history self.new.inner) }
     {
         if self.fails() {
             return Err(DeviceFault);
@@ -149,14 +145,14 @@ impl<D: Disk + Drop> Disk for FaultDisk<D> {
         // by its settings
         ensures fails { OnTrue (fails_next self.old) (IsErr result × (self.new ≡ after_failure self.old)) }
         ensures passes { OnFalse (fails_next self.old)
-            (PassesRead D.history D.honest D.faults self.old at out.new result self.new) }
+            (PassesRead D.conduct self.old at out.new result self.new) }
 
         // as every device
         ensures within { IfOk result (λ count. count ≤ length out.new) }
-        ensures counted { fault_count D.faults self.new ≡ count_after (fault_count D.faults self.old) result }
-        ensures as_honest { IsHonest D.honest self.old ↔ IsHonest D.honest self.new }
-        ensures answered { IsHonest D.honest self.old
-            → IsAnswered (D.history self.old.inner) (read_call at out.new result) (D.history self.new.inner) }
+        ensures counted { fault_count D.conduct self.new ≡ count_after (fault_count D.conduct self.old) result }
+        ensures as_honest { IsHonest D.conduct self.old ↔ IsHonest D.conduct self.new }
+        ensures answered { IsHonest D.conduct self.old
+            → IsAnswered (D.conduct.history self.old.inner) (read_call at out.new result) (D.conduct.history self.new.inner) }
     {
         if self.fails() {
             return Err(DeviceFault);
@@ -171,14 +167,14 @@ impl<D: Disk + Drop> Disk for FaultDisk<D> {
         // by its settings
         ensures fails { OnTrue (fails_next self.old) (IsErr result × (self.new ≡ after_failure self.old)) }
         ensures passes { OnFalse (fails_next self.old)
-            (PassesOn D.history D.honest D.faults self.old (write_call at bytes.now result) self.new) }
+            (PassesOn D.conduct self.old (write_call at bytes.now result) self.new) }
 
         // as every device
-        ensures counted { fault_count D.faults self.new ≡ count_after (fault_count D.faults self.old) result }
-        ensures as_honest { IsHonest D.honest self.old ↔ IsHonest D.honest self.new }
-        ensures answered { IsHonest D.honest self.old
+        ensures counted { fault_count D.conduct self.new ≡ count_after (fault_count D.conduct self.old) result }
+        ensures as_honest { IsHonest D.conduct self.old ↔ IsHonest D.conduct self.new }
+        ensures answered { IsHonest D.conduct self.old
             → IsAnswered
-            (D.history self.old.inner) (write_call at bytes.now result) (D.history self.new.inner) }
+            (D.conduct.history self.old.inner) (write_call at bytes.now result) (D.conduct.history self.new.inner) }
     {
         if self.fails() {
             // The device inside is not reached.
@@ -191,13 +187,13 @@ impl<D: Disk + Drop> Disk for FaultDisk<D> {
         // by its settings
         ensures fails { OnTrue (fails_next self.old) (IsErr result × (self.new ≡ after_failure self.old)) }
         ensures passes { OnFalse (fails_next self.old)
-            (PassesOn D.history D.honest D.faults self.old (set_len_call len result) self.new) }
+            (PassesOn D.conduct self.old (set_len_call len result) self.new) }
 
         // as every device
-        ensures counted { fault_count D.faults self.new ≡ count_after (fault_count D.faults self.old) result }
-        ensures as_honest { IsHonest D.honest self.old ↔ IsHonest D.honest self.new }
-        ensures answered { IsHonest D.honest self.old
-            → IsAnswered (D.history self.old.inner) (set_len_call len result) (D.history self.new.inner) }
+        ensures counted { fault_count D.conduct self.new ≡ count_after (fault_count D.conduct self.old) result }
+        ensures as_honest { IsHonest D.conduct self.old ↔ IsHonest D.conduct self.new }
+        ensures answered { IsHonest D.conduct self.old
+            → IsAnswered (D.conduct.history self.old.inner) (set_len_call len result) (D.conduct.history self.new.inner) }
     {
         if self.fails() {
             return Err(DeviceFault);
@@ -209,13 +205,13 @@ impl<D: Disk + Drop> Disk for FaultDisk<D> {
         // by its settings
         ensures fails { OnTrue (fails_next self.old) (IsErr result × (self.new ≡ after_failure self.old)) }
         ensures passes { OnFalse (fails_next self.old)
-            (PassesOn D.history D.honest D.faults self.old (sync_call result) self.new) }
+            (PassesOn D.conduct self.old (sync_call result) self.new) }
 
         // as every device
-        ensures counted { fault_count D.faults self.new ≡ count_after (fault_count D.faults self.old) result }
-        ensures as_honest { IsHonest D.honest self.old ↔ IsHonest D.honest self.new }
-        ensures answered { IsHonest D.honest self.old
-            → IsAnswered (D.history self.old.inner) (sync_call result) (D.history self.new.inner) }
+        ensures counted { fault_count D.conduct self.new ≡ count_after (fault_count D.conduct self.old) result }
+        ensures as_honest { IsHonest D.conduct self.old ↔ IsHonest D.conduct self.new }
+        ensures answered { IsHonest D.conduct self.old
+            → IsAnswered (D.conduct.history self.old.inner) (sync_call result) (D.conduct.history self.new.inner) }
     {
         if self.fails() {
             return Err(DeviceFault);

@@ -81,13 +81,10 @@ impl<F: Read + Write + Seek + OpenFile + Drop> Disk for FileDisk<F> {
     ghost use Rattle.bt_disk.specs.Calls.{IsAnswered, len_call, read_call, write_call, set_len_call, sync_call};
     ghost use Rattle.bt_disk.specs.FileDisk.{absent, writing};
     ghost use Rattle.bt_disk.specs.Handle.{IsReadOfFile, IsWrittenToFile};
+    ghost use Rattle.bt_disk.specs.Conduct.{untrusted};
     ghost use Rattle.bt_disk.specs.History.{new_history};
 
-    ghost history = { λ _. new_history [] };
-
-    ghost honest = { λ _. ⊥ };
-
-    ghost faults = { λ d. d.failed };
+    ghost conduct = { untrusted (λ d. d.failed) };
 
     ghost reads_image = { λ _ honest. absurd honest };
 

@@ -45,23 +45,23 @@ pub fn a_loss_leaves_one_image()
 /// No call leads from a device to itself, one call that was answered is a list of one, and calls of a device
 /// and then others are these calls one after the other.
 pub fn calls_compose<D: Disk>()
-    ensures none { NoCallsLead D.history D.honest D.faults }
-    ensures one { OneCallLeads D.history D.honest D.faults }
-    ensures both { CallsCompose D.history D.honest D.faults }
+    ensures none { NoCallsLead D.conduct }
+    ensures one { OneCallLeads D.conduct }
+    ensures both { CallsCompose D.conduct }
 {}
 
 /// Of an honest device, a byte that every image since a moment has, and that no call reaches, is in every
 /// image since.
 pub fn devices_keep_bytes<D: Disk>()
-    ensures { (old new : D) (calls : List Call) (t i byte : ℕ) → D.honest old
-        → HasCalls D.history D.honest D.faults old calls new → All (Spares i) calls
-        → IsKeptSince (D.history old) t i byte → IsKeptSince (D.history new) t i byte }
+    ensures { (old new : D) (calls : List Call) (t i byte : ℕ) → D.conduct.honest old
+        → HasCalls D.conduct old calls new → All (Spares i) calls
+        → IsKeptSince (D.conduct.history old) t i byte → IsKeptSince (D.conduct.history new) t i byte }
 {}
 
 /// Of an honest device, where every image since a moment has at most so many bytes, and no call goes further,
 /// every image since has at most so many.
 pub fn devices_keep_lengths<D: Disk>()
-    ensures { (old new : D) (calls : List Call) (t n : ℕ) → D.honest old
-        → HasCalls D.history D.honest D.faults old calls new → All (EndsWithin n) calls
-        → IsWithinSince (D.history old) t n → IsWithinSince (D.history new) t n }
+    ensures { (old new : D) (calls : List Call) (t n : ℕ) → D.conduct.honest old
+        → HasCalls D.conduct old calls new → All (EndsWithin n) calls
+        → IsWithinSince (D.conduct.history old) t n → IsWithinSince (D.conduct.history new) t n }
 {}

@@ -71,14 +71,10 @@ impl Disk for MemoryDisk {
     ghost use Rattle.std.specs.Prelude.{⊤};
     ghost use Rattle.bt_disk.specs.Limits.{count_after};
     ghost use Rattle.bt_disk.specs.Calls.{IsAnswered, len_call, read_call, write_call, set_len_call, sync_call};
-    ghost use Rattle.bt_disk.specs.MemoryDisk.{history_of};
+    ghost use Rattle.bt_disk.specs.MemoryDisk.{history_of, memory_conduct};
     ghost use Rattle.bt_disk.specs.ReadsImage.{reads_image};
 
-    ghost history = { λ d. history_of d.kept };
-
-    ghost honest = { λ _. ⊤ };
-
-    ghost faults = { λ d. d.failed };
+    ghost conduct = { memory_conduct };
 
     ghost reads_image = { λ d _. reads_image d.kept };
 

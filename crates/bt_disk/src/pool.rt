@@ -276,15 +276,12 @@ impl<R: Files + Drop> Disk for PooledDisk<R> {
     ghost use Rattle.std.specs.Prelude.{◌≡◌, ◌≢◌, ◌↔◌, ◌≤◌, [], IsErr, IsOk, IfOk, IfErr, OnOk, true, false, length, take};
     ghost use Rattle.bt_disk.specs.Limits.{count_after};
     ghost use Rattle.bt_disk.specs.History.{new_history};
+    ghost use Rattle.bt_disk.specs.Pool.{pooled_conduct};
     ghost use Rattle.bt_disk.specs.Calls.{IsAnswered, len_call, read_call, write_call, set_len_call, sync_call};
     ghost use Rattle.bt_disk.specs.FileDisk.{absent, writing};
     ghost use Rattle.bt_disk.specs.Handle.{IsReadOfFile, IsWrittenToFile};
 
-    ghost history = { λ _. new_history [] };
-
-    ghost honest = { λ _. ⊥ };
-
-    ghost faults = { λ d. d.failed };
+    ghost conduct = { pooled_conduct };
 
     ghost reads_image = { λ _ honest. absurd honest };
 

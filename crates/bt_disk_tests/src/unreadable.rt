@@ -29,13 +29,9 @@ impl Unreadable {
 }
 
 impl Disk for Unreadable {
-    ghost use Rattle.bt_disk.specs.History.{new_history};
+    ghost use Rattle.bt_disk.specs.Conduct.{untrusted};
 
-    ghost history = { λ _. new_history [] };
-
-    ghost honest = { λ _. ⊥ };
-
-    ghost faults = { λ d. d.faults };
+    ghost conduct = { untrusted (λ d. d.faults) };
 
     ghost reads_image = { λ d h. absurd h };
 

@@ -24,6 +24,7 @@ use Rattle.bt_state.specs.declared.open_log.OpenLog.{OpenLog}
 use Rattle.bt_wire.specs.declared.event.WireEvent.TheVariants.{Message}
 use Rattle.bt_wire.specs.declared.message.Message.{Message as PeerMessage}
 use Rattle.bt_wire.specs.declared.message.Message.TheVariants.{Hashes}
+use Rattle.bt_disk.specs.Conduct.{Conduct}
 
 pub if_ok : {A E : Type 0} (P Q : A → Type 0) (r : Result A E) → IfOk r P → ((x : A) → P x → Q x) → IfOk r Q
 if_ok P Q (Ok x) p f = f x p
@@ -33,18 +34,18 @@ pub if_err : {A E : Type 0} (P Q : E → Type 0) (r : Result A E) → IfErr r P 
 if_err P Q (Ok x) p f = p
 if_err P Q (Err e) p f = f e p
 
-module _ {D H : Type 0} (history : D → History) (honest : D → Type 0) (faults : D → ℕ) (dig : List ℕ → List ℕ) (old mid : Parts D H) where
+module _ {D H : Type 0} (conduct : Conduct D) (dig : List ℕ → List ℕ) (old mid : Parts D H) where
   -- no device was called
-  pub no_calls : disks_of mid ≡ disks_of old → HaveCalls history honest faults (disks_of old) [] (disks_of mid)
+  pub no_calls : disks_of mid ≡ disks_of old → HaveCalls conduct (disks_of old) [] (disks_of mid)
   no_calls same =
-      subst (λ (ds : List (Option D)). HaveCalls history honest faults (disks_of old) [] ds) (sym same) (have_none history honest faults (disks_of old))
+      subst (λ (ds : List (Option D)). HaveCalls conduct (disks_of old) [] ds) (sym same) (have_none conduct (disks_of old))
 
   pub handled_by : (i : ℕ) (event : WireEvent) (handled : Handled) (calls : DeviceCalls) (proofs : List Hint)
       → ((state_of old).logged ≡ true → proofs ≡ option_to_list (proof_in handled)) → i < length old.peers.items
-      → HaveCalls history honest faults (disks_of old) calls (disks_of mid)
+      → HaveCalls conduct (disks_of old) calls (disks_of mid)
       → ((p : PeerState) → slice_get (state_of old).peers i ≡ Some p
       → Handles dig (state_of old) i p event calls (effect_of p handled proofs) (state_of mid))
-      → IsHandled history honest faults dig old i event handled mid
+      → IsHandled conduct dig old i event handled mid
   handled_by i event handled calls proofs kept lt made handles =
       let p = get_some (state_of old).peers i (omega (arith, length-map old.peers.items (peer_of old.book))) in
       record { peer = p.0; calls = calls; proofs = proofs; here = p.1; kept = kept; made = made; handles = handles p.0 p.1 }

@@ -1,6 +1,6 @@
 -- What holds of the parts of an engine holds after an event.
 use Rattle.std.proofs.Common.{[], ◌≡◌, List, ℕ, Option, Some, None, refl, subst, sym}
-use Rattle.bt_disk.specs.History.{History}
+use Rattle.bt_disk.specs.Conduct.{Conduct}
 use Rattle.bt_meta.specs.Torrent.{Metainfo, IsLawful}
 use Rattle.bt_machine.specs.declared.event.Event.{Event}
 use Rattle.bt_machine.specs.declared.event.Answer.{Answer}
@@ -20,10 +20,10 @@ use Rattle.bt_state.specs.declared.parts.Parts.{Parts}
 use Rattle.bt_state.proofs.DeviceCalls.{have_none}
 use Rattle.bt_engine.specs.Kept.{view_of, IsKept}
 
-module _ {D H : Type 0} (history : D → History) (honest : D → Type 0) (faults : D → ℕ) (dig : List ℕ → List ℕ)
+module _ {D H : Type 0} (conduct : Conduct D) (dig : List ℕ → List ℕ)
     (old new : Parts D H) (event : Event) (answer : Answer) where
   abbrev logs_by : Option (LogView D) → List LogCall → Option (LogView D) → Type 0
-  logs_by before calls after = HaveLogCalls history honest faults before calls after
+  logs_by before calls after = HaveLogCalls conduct before calls after
 
   -- the log was not called
   not_called : (log : Option (LogView D)) → logs_by log [] log
@@ -35,23 +35,23 @@ module _ {D H : Type 0} (history : D → History) (honest : D → Type 0) (fault
 
   -- an event that calls no device
   pub steps_without : Step dig (state_of old) event no_calls answer (state_of new) → disks_of new ≡ disks_of old → log_of new ≡ log_of old
-      → StepsTo history honest faults dig (view_of old) event answer (view_of new)
+      → StepsTo conduct dig (view_of old) event answer (view_of new)
   steps_without step devices log = record {
     calls = no_calls;
     step = step;
-    made = subst (λ (ds : List (Option D)). HaveCalls history honest faults (disks_of old) [] ds) (sym devices) (have_none history honest faults (disks_of old));
+    made = subst (λ (ds : List (Option D)). HaveCalls conduct (disks_of old) [] ds) (sym devices) (have_none conduct (disks_of old));
     logged = log_same log;
   }
 
   -- an event that calls devices alone
   pub steps_with : (calls : DeviceCalls) → Step dig (state_of old) event (on_devices calls) answer (state_of new)
-      → HaveCalls history honest faults (disks_of old) calls (disks_of new) → log_of new ≡ log_of old
-      → StepsTo history honest faults dig (view_of old) event answer (view_of new)
+      → HaveCalls conduct (disks_of old) calls (disks_of new) → log_of new ≡ log_of old
+      → StepsTo conduct dig (view_of old) event answer (view_of new)
   steps_with calls step made log = record { calls = on_devices calls; step = step; made = made; logged = log_same log }
 
-  pub kept_after : StepKeepsShape dig → StepKeepsOrder dig → StepKeepsSparse dig → StepKeepsRooted dig → StepKeepsSound history honest faults dig
-      → IsKept history honest dig old → StepsTo history honest faults dig (view_of old) event answer (view_of new)
-      → new.torrent ≡ old.torrent → IsTied new → IsKept history honest dig new
+  pub kept_after : StepKeepsShape dig → StepKeepsOrder dig → StepKeepsSparse dig → StepKeepsRooted dig → StepKeepsSound conduct dig
+      → IsKept conduct dig old → StepsTo conduct dig (view_of old) event answer (view_of new)
+      → new.torrent ≡ old.torrent → IsTied new → IsKept conduct dig new
   kept_after shape order sparse rooted sound kept s same tied = record {
     digest = kept.digest;
     lawful = subst (λ (t : Metainfo). IsLawful t.piece_length t.files) (sym same) kept.lawful;

@@ -1,6 +1,6 @@
 -- What a start marks again.
 use Rattle.std.proofs.Common.{◌≡◌, ℕ, List, Option, Some, Ok, subst}
-use Rattle.bt_disk.specs.History.{History}
+use Rattle.bt_disk.specs.Conduct.{Conduct}
 use Rattle.bt_meta.specs.Torrent.{Metainfo}
 use Rattle.bt_resume.specs.ResumeLog.{LogView}
 use Rattle.bt_machine.specs.Opening.{AnswersStart, BeginsOn, starts, other_count, other_log, no_memory}
@@ -8,17 +8,17 @@ use Rattle.bt_machine.specs.Reopening.{FlushedBlocksAreMarkedAgain}
 use Rattle.bt_machine.specs.State.{EngineView}
 use Rattle.bt_engine.specs.Reopened.{IsReopened}
 
-module _ {D : Type 0} (history : D → History) (honest : D → Type 0) (faults : D → ℕ) (dig : List ℕ → List ℕ) where
-  pub reopened : FlushedBlocksAreMarkedAgain history honest faults dig → {torrent : Metainfo} {given : List D} {log : Option (LogView D)} {answer : _} (engine : EngineView D)
-      → AnswersStart history honest faults dig torrent given log answer → answer ≡ Ok engine → IsReopened history honest faults dig torrent given log engine
+module _ {D : Type 0} (conduct : Conduct D) (dig : List ℕ → List ℕ) where
+  pub reopened : FlushedBlocksAreMarkedAgain conduct dig → {torrent : Metainfo} {given : List D} {log : Option (LogView D)} {answer : _} (engine : EngineView D)
+      → AnswersStart conduct dig torrent given log answer → answer ≡ Ok engine → IsReopened conduct dig torrent given log engine
   reopened law {torrent} {given} {log} engine (starts first placed are begun is) ok =
       let one : first ≡ engine = cc in record {
         placed = placed;
         devices = are;
         marks = λ opened has flushed last synced stopped log_left b r backed reads left log_is attached none marked.
             law torrent flushed last synced stopped placed log_left opened engine b r backed reads left log_is attached
-            (subst (λ (e : EngineView D). BeginsOn history honest faults dig torrent placed (Some opened) e) one
-            (subst (λ (l : Option (LogView D)). BeginsOn history honest faults dig torrent placed l first) has begun)) none marked;
+            (subst (λ (e : EngineView D). BeginsOn conduct dig torrent placed (Some opened) e) one
+            (subst (λ (l : Option (LogView D)). BeginsOn conduct dig torrent placed l first) has begun)) none marked;
       }
   reopened law engine (other_count other back) ok = let is = back.is in absurd cc
   reopened law engine (other_log l so_many some other back) ok = let is = back.is in absurd cc

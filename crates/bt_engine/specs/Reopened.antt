@@ -1,6 +1,6 @@
 -- What is marked again where a stop after a flush has left devices and a log.
 use Rattle.std.specs.Prelude.{◌≡◌, ℕ, true, List, Option, Some}
-use Rattle.bt_disk.specs.History.{History}
+use Rattle.bt_disk.specs.Conduct.{Conduct}
 use Rattle.bt_meta.specs.Torrent.{Metainfo}
 use Rattle.bt_resume.specs.ResumeLog.{LogView, IsAttached}
 use Rattle.bt_store.specs.declared.block_states.BlockState.TheVariants.{Marked}
@@ -11,7 +11,7 @@ use Rattle.bt_machine.specs.Start.{AreDevicesOf}
 use Rattle.bt_machine.specs.Backing.{is_backed_after}
 use Rattle.bt_machine.specs.Reopening.{RunsPastFlush, RestartsReadAll, AreLeft, IsLogLeft, NoneFailed}
 
-module _ {D : Type 0} (history : D → History) (honest : D → Type 0) (faults : D → ℕ)
+module _ {D : Type 0} (conduct : Conduct D)
     (dig : List ℕ → List ℕ) where
   -- An engine has begun over these devices and this log. Where they are what a stop has left of those of an
   -- engine of the torrent, at any moment since a flush that answered Ok, and the log was opened, and no read
@@ -21,11 +21,11 @@ module _ {D : Type 0} (history : D → History) (honest : D → Type 0) (faults 
   abbrev pub MarksAgain : Metainfo → (left : List (Option D)) → (opened : LogView D) → EngineView D → Type 0
   MarksAgain torrent left opened again = (flushed last : EngineView D) (synced stopped : LogView D)
       (log_left : D) (b : BlockId)
-      → (r : RunsPastFlush history honest faults dig torrent flushed last synced stopped)
+      → (r : RunsPastFlush conduct dig torrent flushed last synced stopped)
       → is_backed_after true r.answers ≡ true → RestartsReadAll r.later r.goes_on.calls
-      → AreLeft history honest flushed.disks last.disks left
-      → IsLogLeft history honest synced stopped log_left
-      → IsAttached history honest faults torrent.infohash log_left opened → NoneFailed faults left again.disks
+      → AreLeft conduct flushed.disks last.disks left
+      → IsLogLeft conduct synced stopped log_left
+      → IsAttached conduct torrent.infohash log_left opened → NoneFailed conduct left again.disks
       → state_at flushed.state b ≡ Some Marked → state_at again.state b ≡ Some Marked
 
   -- so it is with the devices of the torrent's files, and a log, where there is one

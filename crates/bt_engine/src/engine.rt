@@ -55,7 +55,7 @@ impl<D: Disk + Drop, H: NodeHash> Model for Engine<D, H> {
 
     ghost view = { λ a. view_of a.parts };
 
-    ghost invariant = { λ a. IsKept D.history D.honest H.digest a.parts };
+    ghost invariant = { λ a. IsKept D.conduct H.digest a.parts };
 }
 
 impl<D: Disk + Drop, H: NodeHash> Engine<D, H> {
@@ -75,8 +75,8 @@ impl<D: Disk + Drop, H: NodeHash> Engine<D, H> {
         log: Option<ResumeLog<D>>,
     ) -> Result<Self, StartRefused<D, ResumeLog<D>>>
         requires { H.digest ≡ sha256 }
-        ensures answer { AnswersStart D.history D.honest D.faults H.digest torrent disks.items log result }
-        ensures again { IfOk result (IsReopened D.history D.honest D.faults H.digest
+        ensures answer { AnswersStart D.conduct H.digest torrent disks.items log result }
+        ensures again { IfOk result (IsReopened D.conduct H.digest
             torrent disks.items log) }
     {
         flushed_blocks_are_marked_again::<D, H>(hash);
@@ -89,9 +89,9 @@ impl<D: Disk + Drop, H: NodeHash> Engine<D, H> {
     /// Connects a peer: gives the key by which it is called from then on, and what it is to be sent, our
     /// handshake and our bitfield. A refusal leaves the engine as it was.
     pub fn connect(&mut self) -> Result<(PeerKey, Output), ConnectError>
-        ensures step { StepsTo D.history D.honest D.faults H.digest
+        ensures step { StepsTo D.conduct H.digest
             self.old Event.Connect (Answer.Connected result) self.new }
-        ensures stands { Stands D.history D.honest D.faults self.old self.new }
+        ensures stands { Stands D.conduct self.old self.new }
         ensures devices { self.new.disks ≡ self.old.disks }
     {
         steps_keep_laws::<D, H>(self.hash);
@@ -101,9 +101,9 @@ impl<D: Disk + Drop, H: NodeHash> Engine<D, H> {
 
     /// Puts bytes behind those of a peer that no event was taken from, all or none.
     pub fn feed(&mut self, peer: PeerKey, bytes: &[u8]) -> Result<(), EngineError>
-        ensures step { StepsTo D.history D.honest D.faults H.digest
+        ensures step { StepsTo D.conduct H.digest
             self.old (Event.Feed peer bytes.now) (Answer.Fed result) self.new }
-        ensures stands { Stands D.history D.honest D.faults self.old self.new }
+        ensures stands { Stands D.conduct self.old self.new }
         ensures devices { self.new.disks ≡ self.old.disks }
     {
         steps_keep_laws::<D, H>(self.hash);
@@ -117,9 +117,9 @@ impl<D: Disk + Drop, H: NodeHash> Engine<D, H> {
     /// Errors: no peer has the key; out of memory, by which the event is lost and the peer with it, and
     /// nothing else changes.
     pub fn next(&mut self, peer: PeerKey) -> Result<Option<Output>, EngineError>
-        ensures step { StepsTo D.history D.honest D.faults H.digest
+        ensures step { StepsTo D.conduct H.digest
             self.old (Event.Next peer) (Answer.Stepped result) self.new }
-        ensures stands { Stands D.history D.honest D.faults self.old self.new }
+        ensures stands { Stands D.conduct self.old self.new }
     {
         steps_keep_laws::<D, H>(self.hash);
         events_stand::<D, H>(self.hash);
@@ -128,9 +128,9 @@ impl<D: Disk + Drop, H: NodeHash> Engine<D, H> {
 
     /// Lets a peer go. What it was asked for may be asked of others.
     pub fn lost(&mut self, peer: PeerKey) -> Result<(), EngineError>
-        ensures step { StepsTo D.history D.honest D.faults H.digest
+        ensures step { StepsTo D.conduct H.digest
             self.old (Event.Lost peer) (Answer.Lost result) self.new }
-        ensures stands { Stands D.history D.honest D.faults self.old self.new }
+        ensures stands { Stands D.conduct self.old self.new }
         ensures devices { self.new.disks ≡ self.old.disks }
     {
         steps_keep_laws::<D, H>(self.hash);
@@ -141,9 +141,9 @@ impl<D: Disk + Drop, H: NodeHash> Engine<D, H> {
     /// Chooses the peers to serve anew, and gives what is to be sent. Errors: out of memory; nothing changed
     /// then.
     pub fn rechoke(&mut self) -> Result<Output, AllocError>
-        ensures step { StepsTo D.history D.honest D.faults H.digest
+        ensures step { StepsTo D.conduct H.digest
             self.old Event.Rechoke (Answer.Rechoked result) self.new }
-        ensures stands { Stands D.history D.honest D.faults self.old self.new }
+        ensures stands { Stands D.conduct self.old self.new }
         ensures devices { self.new.disks ≡ self.old.disks }
     {
         steps_keep_laws::<D, H>(self.hash);
@@ -156,9 +156,9 @@ impl<D: Disk + Drop, H: NodeHash> Engine<D, H> {
     ///
     /// Errors: no such file; a peer is connected; out of memory, after which what was taken in stays so.
     pub fn adopt(&mut self, file: u32) -> Result<Adopted, AdoptError>
-        ensures step { StepsTo D.history D.honest D.faults H.digest
+        ensures step { StepsTo D.conduct H.digest
             self.old (Event.Adopt file) (Answer.Adopted result) self.new }
-        ensures stands { Stands D.history D.honest D.faults self.old self.new }
+        ensures stands { Stands D.conduct self.old self.new }
     {
         steps_keep_laws::<D, H>(self.hash);
         events_stand::<D, H>(self.hash);
@@ -170,11 +170,11 @@ impl<D: Disk + Drop, H: NodeHash> Engine<D, H> {
     ///
     /// Errors: a device of a file failed, or the log's; the log would have more than 2^40 bytes.
     pub fn flush(&mut self) -> Result<(), FlushError>
-        ensures step { StepsTo D.history D.honest D.faults H.digest
+        ensures step { StepsTo D.conduct H.digest
             self.old Event.Flush (Answer.Flushed result) self.new }
-        ensures stands { Stands D.history D.honest D.faults self.old self.new }
-        ensures blocks { OnOk result (KeepsBlocks D.history D.honest D.faults self.new) }
-        ensures hints { OnOk result (KeepsHints D.history D.honest D.faults H.digest self.old self.new) }
+        ensures stands { Stands D.conduct self.old self.new }
+        ensures blocks { OnOk result (KeepsBlocks D.conduct self.new) }
+        ensures hints { OnOk result (KeepsHints D.conduct H.digest self.old self.new) }
     {
         steps_keep_laws::<D, H>(self.hash);
         events_stand::<D, H>(self.hash);
@@ -189,7 +189,7 @@ impl<D: Disk + Drop, H: NodeHash> Engine<D, H> {
     /// Errors: `Log` where the log could not be read, and then nothing has changed; out of memory, and then a
     /// log was read again, and nothing else has changed. No device of a file is called then.
     pub fn restart(&mut self) -> Result<(), RestartError>
-        ensures { StepsTo D.history D.honest D.faults H.digest
+        ensures { StepsTo D.conduct H.digest
             self.old Event.Restart (Answer.Restarted result) self.new }
     {
         steps_keep_laws::<D, H>(self.hash);
@@ -255,7 +255,7 @@ impl<D: Disk + Drop, H: NodeHash> Engine<D, H> {
         ensures orderly { IsOrderly self.now.state }
         ensures rooted { AreRooted H.digest self.now.state }
         ensures sparse { AreSparseTrees H.digest self.now.state }
-        ensures sound { IsSound D.history D.honest H.digest self.now.state self.now.disks }
+        ensures sound { IsSound D.conduct H.digest self.now.state self.now.disks }
     {
         // A proof knows what holds of an engine only from a step that looks at its parts.
         let _ = &self.parts;

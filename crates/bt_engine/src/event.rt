@@ -72,7 +72,7 @@ pub(crate) fn take_event<D: Disk + Drop, H: NodeHash>(
     requires inside { index < vec_len parts.old.peers }
     requires there { index < length parts.old.peers.items }
     ensures step { IfOk result (λ out. (calls : DeviceCalls)
-        × HaveCalls D.history D.honest D.faults (disks_of parts.old) calls (disks_of parts.new)
+        × HaveCalls D.conduct (disks_of parts.old) calls (disks_of parts.new)
         × GoesOn H.digest index event.now calls out (state_of parts.old) (state_of parts.new)) }
     ensures state { IfErr result (λ _. state_of parts.new ≡ state_of parts.old) }
     ensures devices { IfErr result (λ _. disks_of parts.new ≡ disks_of parts.old) }
@@ -101,7 +101,7 @@ fn take_in_room<D: Disk + Drop, H: NodeHash>(
     requires there { index < length parts.old.peers.items }
     requires room { HasRoomFor parts.old event.now room }
     ensures step { IfOk result (λ out. (calls : DeviceCalls)
-        × HaveCalls D.history D.honest D.faults (disks_of parts.old) calls (disks_of parts.new)
+        × HaveCalls D.conduct (disks_of parts.old) calls (disks_of parts.new)
         × GoesOn H.digest index event.now calls out (state_of parts.old) (state_of parts.new)) }
     ensures kept { IfErr result (λ _. parts.new ≡ parts.old) }
     ensures log { log_of parts.new ≡ log_of parts.old }
@@ -246,7 +246,7 @@ fn handle<D: Disk + Drop, H: NodeHash>(
     requires orderly { IsOrderly (state_of parts.old) }
     requires inside { index < vec_len parts.old.peers }
     requires there { index < length parts.old.peers.items }
-    ensures handled { IfOk result (λ handled. IsHandled D.history D.honest D.faults H.digest
+    ensures handled { IfOk result (λ handled. IsHandled D.conduct H.digest
         parts.old index event.now handled parts.new) }
     ensures few { IfOk result (λ handled. (bound : ℕ) → IsNoteBound parts.old event.now bound
         → note_count handled ≤ bound) }
@@ -286,7 +286,7 @@ fn handle_own<D: Disk + Drop, H: NodeHash>(
     requires inside { index < vec_len parts.old.peers }
     requires there { index < length parts.old.peers.items }
     requires own { IsPeerEvent event.now }
-    ensures handled { IsHandled D.history D.honest D.faults H.digest parts.old index event.now result
+    ensures handled { IsHandled D.conduct H.digest parts.old index event.now result
         parts.new }
     ensures few { note_count result ≡ 0 }
     ensures readable { IsReadable result }
@@ -312,7 +312,7 @@ fn handle_piece<D: Disk + Drop, H: NodeHash>(
     requires shaped { IsShaped parts.old.torrent (state_of parts.old) }
     requires inside { index < vec_len parts.old.peers }
     requires there { index < length parts.old.peers.items }
-    ensures handled { IsHandled D.history D.honest D.faults H.digest parts.old index
+    ensures handled { IsHandled D.conduct H.digest parts.old index
         (WireEvent.Message (Message.Piece piece begin bytes.now)) result parts.new }
     ensures few { note_count result ≤ 1 }
     ensures readable { IsReadable result }
@@ -338,7 +338,7 @@ fn handle_request<D: Disk + Drop, H: NodeHash>(
     requires shaped { IsShaped parts.old.torrent (state_of parts.old) }
     requires inside { index < vec_len parts.old.peers }
     requires there { index < length parts.old.peers.items }
-    ensures handled { IfOk result (λ handled. IsHandled D.history D.honest D.faults H.digest parts.old index
+    ensures handled { IfOk result (λ handled. IsHandled D.conduct H.digest parts.old index
         (WireEvent.Message (Message.Request ask)) handled parts.new) }
     ensures few { IfOk result (λ handled. note_count handled ≤ 1) }
     ensures readable { IfOk result IsReadable }
@@ -374,7 +374,7 @@ fn handle_hashes<D: Disk + Drop, H: NodeHash>(
     requires shaped { IsShaped parts.old.torrent (state_of parts.old) }
     requires inside { index < vec_len parts.old.peers }
     requires there { index < length parts.old.peers.items }
-    ensures handled { IfOk result (λ handled. IsHandled D.history D.honest D.faults H.digest parts.old index
+    ensures handled { IfOk result (λ handled. IsHandled D.conduct H.digest parts.old index
         (WireEvent.Message (Message.Hashes key.now digests.now)) handled parts.new) }
     ensures few { IfOk result (λ handled. (bound : ℕ) → IsNoteRoom parts.old key.now bound
         → note_count handled ≤ bound) }

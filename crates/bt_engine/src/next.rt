@@ -29,7 +29,7 @@ pub(crate) fn next<D: Disk + Drop, H: NodeHash>(
     requires shaped { IsShaped parts.old.torrent (state_of parts.old) }
     requires orderly { IsOrderly (state_of parts.old) }
     ensures step { (calls : DeviceCalls)
-        × HaveCalls D.history D.honest D.faults (disks_of parts.old) calls (disks_of parts.new)
+        × HaveCalls D.conduct (disks_of parts.old) calls (disks_of parts.new)
         × StepNext H.digest (state_of parts.old) key calls result (state_of parts.new) }
     ensures torrent { parts.new.torrent ≡ parts.old.torrent }
     ensures log { log_of parts.new ≡ log_of parts.old }

@@ -19,12 +19,12 @@ pub fn run_events<D: Disk + Drop, H: NodeHash>(
     events: &[Event],
     answers: &mut Vec<Answer>,
 ) -> Result<(), AllocError>
-    ensures runs { OnOk result (RunsEvents D.history D.honest D.faults H.digest engine.old events.now
+    ensures runs { OnOk result (RunsEvents D.conduct H.digest engine.old events.now
         answers.old.items answers.new.items engine.new) }
     ensures kept { OnErr result (engine.new ≡ engine.old) }
     ensures unanswered { OnErr result (answers.new.items ≡ answers.old.items) }
     ensures stands { HasNoRestart events.now
-        → Stands D.history D.honest D.faults engine.old engine.new }
+        → Stands D.conduct engine.old engine.new }
 {
     runs_compose::<D, H>();
     events_stand::<D, H>(engine.hash());
@@ -38,7 +38,7 @@ pub fn run_events<D: Disk + Drop, H: NodeHash>(
 
 /// Runs one event.
 fn run_event<D: Disk + Drop, H: NodeHash>(engine: &mut Engine<D, H>, event: &Event) -> Answer
-    ensures { StepsTo D.history D.honest D.faults H.digest engine.old event.now result engine.new }
+    ensures { StepsTo D.conduct H.digest engine.old event.now result engine.new }
 {
     match event {
         Event::Connect => Answer::Connected(engine.connect()),

@@ -10,8 +10,8 @@ use bt_tree::NodeHash;
 /// a moment has of a marked block, and nothing of the text that every image of the log begins with. It does
 /// nothing when it runs.
 pub(crate) fn events_stand<D: Disk, H: NodeHash>(hash: H)
-    ensures runs { RunsStand D.history D.honest D.faults H.digest }
-    ensures steps { StepsStand D.history D.honest D.faults H.digest }
+    ensures runs { RunsStand D.conduct H.digest }
+    ensures steps { StepsStand D.conduct H.digest }
 {
     run_keeps_marks::<D, H>(hash);
     run_keeps_images::<D, H>(hash);

@@ -5,7 +5,7 @@ use Rattle.std.specs.Prelude.{slice_get}
 use Rattle.std.proofs.lemmas.List.{length-take-le, map-append, take_all, take_more}
 use Rattle.std.proofs.lemmas.List.Elements.{All-nil, All-push, filter-append}
 use Rattle.std.proofs.lemmas.Option.{get_or_from_slice_get, slice_get-get_or}
-use Rattle.bt_disk.specs.History.{History}
+use Rattle.bt_disk.specs.Conduct.{Conduct}
 use Rattle.bt_machine.specs.declared.event.Event.{Event}
 use Rattle.bt_machine.specs.declared.event.Event.TheVariants.{Adopt}
 use Rattle.bt_machine.specs.declared.event.Answer.{Answer}
@@ -91,16 +91,16 @@ module _ (dig : List ℕ → List ℕ) where
       ap (λ z. z.peers) a.after ∙ ap (λ z. z.peers) a.settles.others ∙ groups_peers s a.taken_in file 0 _ total a.adopts
   adoption_keeps_peers {s} {new} {file} (no_memory none a y) = groups_peers s new file 0 _ _ a.adopts
 
-module _ {D : Type 0} (history : D → History) (honest : D → Type 0) (faults : D → ℕ) (dig : List ℕ → List ℕ) where
+module _ {D : Type 0} (conduct : Conduct D) (dig : List ℕ → List ℕ) where
   -- so many files were seen to, and no peer is connected
   pub record IsTaking (first : EngineView D) (filled : List Bool) (count : ℕ) (now : EngineView D) : Type 0 where
-    pub taken : TakesIn history honest faults dig first (take count filled) now
+    pub taken : TakesIn conduct dig first (take count filled) now
     pub shaped : IsShaped first.state.torrent now.state
     pub no_peer : now.state.peers ≡ []
 
   -- none of no files
-  pub takes_none : (first : EngineView D) → TakesIn history honest faults dig first [] first
-  takes_none first = record { answers = []; runs = none_run history honest faults dig first; faultless = All-nil IsTakenIn }
+  pub takes_none : (first : EngineView D) → TakesIn conduct dig first [] first
+  takes_none first = record { answers = []; runs = none_run conduct dig first; faultless = All-nil IsTakenIn }
 
   pub taking_none : (first : EngineView D) (filled : List Bool) → IsShaped first.state.torrent first.state → first.state.peers ≡ []
       → IsTaking first filled 0 first
@@ -112,14 +112,14 @@ module _ {D : Type 0} (history : D → History) (honest : D → Type 0) (faults 
 
   pub taking_more : (first mid new : EngineView D) (filled : List Bool) (count : ℕ) (answer : Answer) → IsTaking first filled count mid
       → count < length filled → slice_get filled count ≡ Some true
-      → StepsTo history honest faults dig mid (Adopt count) answer new → IsTakenIn answer → new.state.peers ≡ []
+      → StepsTo conduct dig mid (Adopt count) answer new → IsTakenIn answer → new.state.peers ≡ []
       → IsTaking first filled (count + 1) new
   taking_more first mid new filled count answer taking inside chosen step good none = record {
     taken = record {
       answers = taking.taken.answers ++ answer ∷ [];
-      runs = subst (λ events. RunsTo history honest faults dig first events (taking.taken.answers ++ answer ∷ []) new)
+      runs = subst (λ events. RunsTo conduct dig first events (taking.taken.answers ++ answer ∷ []) new)
           (sym (events_chosen filled count inside chosen))
-          (one_more_runs history honest faults dig first mid new _ _ (Adopt count) answer taking.taken.runs step);
+          (one_more_runs conduct dig first mid new _ _ (Adopt count) answer taking.taken.runs step);
       faultless = All-push IsTakenIn taking.taken.answers answer taking.taken.faultless good;
     };
     shaped = step_shape dig (Adopt count) step.calls answer taking.shaped step.step;
@@ -131,7 +131,7 @@ module _ {D : Type 0} (history : D → History) (honest : D → Type 0) (faults 
   taking_passed first now filled count taking inside other = record {
     taken = record {
       answers = taking.taken.answers;
-      runs = subst (λ events. RunsTo history honest faults dig first events taking.taken.answers now)
+      runs = subst (λ events. RunsTo conduct dig first events taking.taken.answers now)
           (sym (events_passed filled count inside other)) taking.taken.runs;
       faultless = taking.taken.faultless;
     };
@@ -141,12 +141,12 @@ module _ {D : Type 0} (history : D → History) (honest : D → Type 0) (faults 
 
   -- all of them
   pub taken_all : (first now : EngineView D) (filled : List Bool) (count : ℕ) → length filled ≤ count → IsTaking first filled count now
-      → TakesIn history honest faults dig first filled now
+      → TakesIn conduct dig first filled now
   taken_all first now filled count all taking =
-      subst (λ seen. TakesIn history honest faults dig first seen now) (take_all count filled all) taking.taken
+      subst (λ seen. TakesIn conduct dig first seen now) (take_all count filled all) taking.taken
 
   -- the torrent stays, also with the next file
   pub keeps_torrent : (first mid new : EngineView D) (filled : List Bool) (count : ℕ) (answer : Answer) → IsTaking first filled count mid
-      → StepsTo history honest faults dig mid (Adopt count) answer new → new.state.torrent ≡ first.state.torrent
+      → StepsTo conduct dig mid (Adopt count) answer new → new.state.torrent ≡ first.state.torrent
   keeps_torrent first mid new filled count answer taking step =
       (step_shape dig (Adopt count) step.calls answer taking.shaped step.step).same

@@ -1,6 +1,6 @@
 -- What a start comes to, with a log or without.
 use Rattle.std.proofs.Common.{[], ◌≡◌, ℕ, List, Option, Some, None, Ok, Err, length, ap, sym, subst, ◌∙◌}
-use Rattle.bt_disk.specs.History.{History}
+use Rattle.bt_disk.specs.Conduct.{Conduct}
 use Rattle.bt_meta.specs.Torrent.{Metainfo}
 use Rattle.bt_resume.specs.ResumeLog.{LogView}
 use Rattle.bt_machine.specs.declared.error.StartError.TheVariants.{OutOfMemory}
@@ -10,18 +10,18 @@ use Rattle.bt_machine.specs.Start.{AreDevicesOf, device_count}
 use Rattle.bt_machine.specs.State.{EngineState, EngineView}
 use Rattle.bt_machine.proofs.Restarts.{recovered}
 
-module _ {D : Type 0} (history : D → History) (honest : D → Type 0) (faults : D → ℕ) (dig : List ℕ → List ℕ) (torrent : Metainfo) (given : List D)
+module _ {D : Type 0} (conduct : Conduct D) (dig : List ℕ → List ℕ) (torrent : Metainfo) (given : List D)
     (log : Option (LogView D)) where
   -- an engine that was started so
   pub record IsStarted (engine : EngineView D) : Type 0 where
     pub placed : List (Option D)
     pub devices : AreDevicesOf torrent.files given placed
-    pub begins : BeginsOn history honest faults dig torrent placed log engine
+    pub begins : BeginsOn conduct dig torrent placed log engine
     pub unlogged : log ≡ None → engine.log ≡ None
     pub same_torrent : engine.state.torrent ≡ torrent
     pub no_peer : engine.state.peers ≡ []
 
-  begun_so : (engine : EngineView D) (placed : List (Option D)) → AreDevicesOf torrent.files given placed → BeginsOn history honest faults dig torrent placed log engine
+  begun_so : (engine : EngineView D) (placed : List (Option D)) → AreDevicesOf torrent.files given placed → BeginsOn conduct dig torrent placed log engine
       → IsStarted engine
   begun_so engine placed are (bare none begun same unlogged) = record {
     placed = placed;
@@ -40,7 +40,7 @@ module _ {D : Type 0} (history : D → History) (honest : D → Type 0) (faults 
     no_peer = ap (λ (s : EngineState). s.peers) (recovered dig begun).is;
   }
 
-  pub started : {answer : _} (engine : EngineView D) → AnswersStart history honest faults dig torrent given log answer → answer ≡ Ok engine → IsStarted engine
+  pub started : {answer : _} (engine : EngineView D) → AnswersStart conduct dig torrent given log answer → answer ≡ Ok engine → IsStarted engine
   started engine (starts first placed are begun is) ok =
       let one : first ≡ engine = cc in subst IsStarted one (begun_so first placed are begun)
   started engine (other_count other back) ok = let is = back.is in absurd cc
@@ -48,7 +48,7 @@ module _ {D : Type 0} (history : D → History) (honest : D → Type 0) (faults 
   started engine (no_memory so_many own back) ok = let is = back.is in absurd cc
 
   -- it is refused for want of memory alone, where the log is of the torrent
-  pub not_started : {answer : _} {refused : _} → AnswersStart history honest faults dig torrent given log answer → answer ≡ Err refused
+  pub not_started : {answer : _} {refused : _} → AnswersStart conduct dig torrent given log answer → answer ≡ Err refused
       → length given ≡ device_count torrent.files → ((l : LogView D) → log ≡ Some l → l.infohash ≡ torrent.infohash) → refused.cause ≡ OutOfMemory
   not_started (starts first placed are begun is) err so_many own = absurd cc
   not_started (other_count other back) err so_many own = absurd (other so_many)

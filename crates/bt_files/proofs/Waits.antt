@@ -1,6 +1,6 @@
 -- Lemmas on files that are taken in where their blocks wait, one after the other.
 use Rattle.std.proofs.Common.{[], ◌≡◌, ℕ, ◌+◌, List}
-use Rattle.bt_disk.specs.History.{History}
+use Rattle.bt_disk.specs.Conduct.{Conduct}
 use Rattle.bt_machine.specs.declared.event.Event.TheVariants.{Adopt}
 use Rattle.bt_machine.specs.declared.event.Answer.{Answer}
 use Rattle.bt_machine.specs.State.{EngineView}
@@ -10,10 +10,10 @@ use Rattle.bt_machine.proofs.Shape.{step_shape}
 use Rattle.bt_files.specs.Adoption.{IsTakenIn}
 use Rattle.bt_files.specs.Waiting.{IsWholeWaiting, TakesInWaiting, none_yet, passed, taken}
 
-module _ {D : Type 0} (history : D → History) (honest : D → Type 0) (faults : D → ℕ) (dig : List ℕ → List ℕ) where
+module _ {D : Type 0} (conduct : Conduct D) (dig : List ℕ → List ℕ) where
   -- so many files were seen to, and no peer is connected
   pub record IsSeeing (first : EngineView D) (count : ℕ) (now : EngineView D) : Type 0 where
-    pub seen : TakesInWaiting history honest faults dig first count now
+    pub seen : TakesInWaiting conduct dig first count now
     pub shaped : IsShaped first.state.torrent now.state
     pub no_peer : now.state.peers ≡ []
 
@@ -30,7 +30,7 @@ module _ {D : Type 0} (history : D → History) (honest : D → Type 0) (faults 
   }
 
   pub seeing_taken : (first mid new : EngineView D) (count : ℕ) (answer : Answer) → IsSeeing first count mid
-      → IsWholeWaiting mid.state count → StepsTo history honest faults dig mid (Adopt count) answer new → IsTakenIn answer
+      → IsWholeWaiting mid.state count → StepsTo conduct dig mid (Adopt count) answer new → IsTakenIn answer
       → new.state.peers ≡ [] → IsSeeing first (count + 1) new
   seeing_taken first mid new count answer seeing waits step good none = record {
     seen = taken count mid new answer seeing.seen waits step good;
@@ -40,6 +40,6 @@ module _ {D : Type 0} (history : D → History) (honest : D → Type 0) (faults 
 
   -- the torrent stays, also with the next file
   pub seeing_torrent : (first mid new : EngineView D) (count : ℕ) (answer : Answer) → IsSeeing first count mid
-      → StepsTo history honest faults dig mid (Adopt count) answer new → new.state.torrent ≡ first.state.torrent
+      → StepsTo conduct dig mid (Adopt count) answer new → new.state.torrent ≡ first.state.torrent
   seeing_torrent first mid new count answer seeing step =
       (step_shape dig (Adopt count) step.calls answer seeing.shaped step.step).same

@@ -1,7 +1,7 @@
 -- What the devices of an engine's files have already is taken in, file after file, where bytes are there.
 use Rattle.std.specs.Prelude.{◌≡◌, ℕ, ◌<◌, Bool, true, List, filter, map, slice_get, take, Ok, Err, Some}
 use Rattle.std.specs.List.{All, enumerate_from}
-use Rattle.bt_disk.specs.History.{History}
+use Rattle.bt_disk.specs.Conduct.{Conduct}
 use Rattle.bt_machine.specs.declared.error.AdoptError.TheVariants.{OutOfMemory}
 use Rattle.bt_machine.specs.declared.event.Event.{Event}
 use Rattle.bt_machine.specs.declared.event.Event.TheVariants.{Adopt}
@@ -29,20 +29,20 @@ IsAdoptionFault _ fault = ⊥
 
 -- From the old engine on these files were taken in, one after the other, and no read of them failed. Of the others
 -- nothing changed, and no device was called: nothing but these events happened.
-pub record TakesIn {D : Type 0} (history : D → History) (honest : D → Type 0) (faults : D → ℕ)
+pub record TakesIn {D : Type 0} (conduct : Conduct D)
     (dig : List ℕ → List ℕ) (old : EngineView D) (filled : List Bool) (new : EngineView D) : Type 0 where
   pub answers : List Answer
-  pub runs : RunsTo history honest faults dig old (adoptions filled) answers new
+  pub runs : RunsTo conduct dig old (adoptions filled) answers new
   pub faultless : All IsTakenIn answers
 
 -- one of these files is not taken in without a fault; those before it are
-pub record StopsAtFile {D : Type 0} (history : D → History) (honest : D → Type 0) (faults : D → ℕ)
+pub record StopsAtFile {D : Type 0} (conduct : Conduct D)
     (dig : List ℕ → List ℕ) (old : EngineView D) (filled : List Bool) (fault : Fault) (new : EngineView D)
     : Type 0 where
   pub file : ℕ
   pub chosen : slice_get filled file ≡ Some true
   pub before : EngineView D
-  pub taken : TakesIn history honest faults dig old (take file filled) before
+  pub taken : TakesIn conduct dig old (take file filled) before
   pub answer : Answer
-  pub last : StepsTo history honest faults dig before (Adopt file) answer new
+  pub last : StepsTo conduct dig before (Adopt file) answer new
   pub cause : IsAdoptionFault answer fault

@@ -1,7 +1,7 @@
 -- The end of a fetch: all is put on the devices, and the report is written.
 use Rattle.std.specs.Prelude.{◌≡◌, ◌⊎◌, ℕ, if◌then◌else◌, List, Option, Ok}
 use Rattle.std.specs.Io.KnownBytes.{Appends}
-use Rattle.bt_disk.specs.History.{History}
+use Rattle.bt_disk.specs.Conduct.{Conduct}
 use Rattle.bt_resume.specs.ResumeLog.{LogView}
 use Rattle.bt_machine.specs.declared.event.Event.TheVariants.{Flush}
 use Rattle.bt_machine.specs.declared.event.Answer.TheVariants.{Flushed}
@@ -14,10 +14,10 @@ use Rattle.bt_files.specs.Report.{engine_report}
 use Rattle.bt_files.specs.Store.{IsFlushFault}
 
 -- all devices were synced, then the report was written; status 0 where all files are complete, else 1
-pub record IsConcluded {D : Type 0} (history : D → History) (honest : D → Type 0) (faults : D → ℕ)
+pub record IsConcluded {D : Type 0} (conduct : Conduct D)
     (dig : List ℕ → List ℕ) (old : EngineView D) (before after : Option (List ℕ)) (status : ℕ)
     (new : EngineView D) : Type 0 where
-  pub flushed : StepsTo history honest faults dig old Flush (Flushed (Ok tt)) new
+  pub flushed : StepsTo conduct dig old Flush (Flushed (Ok tt)) new
   pub written : Appends before after (engine_report new.state)
   pub told : status ≡ (if all_complete new.state then 0 else 1)
 

@@ -1,7 +1,7 @@
 -- What an engine reports on the files of its torrent, in the words of a check.
 use Rattle.std.specs.Prelude.{◌≡◌, ℕ, ◌++◌, true, false, List, length, Option, Some, slice_get}
 use Rattle.std.specs.List.{count_by, flat_map, zip}
-use Rattle.bt_disk.specs.History.{History}
+use Rattle.bt_disk.specs.Conduct.{Conduct}
 use Rattle.bt_store.specs.BlockStates.{is_marked}
 use Rattle.bt_meta.specs.Files.{File}
 use Rattle.bt_meta.specs.Torrent.{Metainfo}
@@ -51,17 +51,17 @@ pub record IsCalledComplete (torrent : Metainfo) (s : EngineState) (number : ℕ
 
 -- Each block of such a file is marked since a run or its start, by bytes whose digest lies at its leaf, on a checked
 -- path to the file's root.
-abbrev pub ReportsMarked : {D : Type 0} {history : D → History} {honest : D → Type 0} {faults : D → ℕ}
+abbrev pub ReportsMarked : {D : Type 0} {conduct : Conduct D}
     {dig : List ℕ → List ℕ} {torrent : Metainfo} {placed : List (Option D)} {log : Option (LogView D)}
     {first : EngineView D} {events : List Event} {answers : List Answer} {last : EngineView D}
-    → BeginsOn history honest faults dig torrent placed log first
-    → RunsTo history honest faults dig first events answers last → Type 0
+    → BeginsOn conduct dig torrent placed log first
+    → RunsTo conduct dig first events answers last → Type 0
 ReportsMarked {torrent = torrent} {last = last} begins runs = (number : ℕ) (file : File)
     → IsCalledComplete torrent last.state number file → IsFileMarkedOnPath begins runs number file
 
 -- Such a file is the published one on its device, where that is honest. An empty file has no device and no byte.
-abbrev pub ReportsPublished : {D : Type 0} → (D → History) → (D → Type 0) → (List ℕ → List ℕ) → Metainfo
+abbrev pub ReportsPublished : {D : Type 0} → Conduct D → (List ℕ → List ℕ) → Metainfo
     → EngineView D → Type 0
-ReportsPublished {D} history honest dig torrent last = (number : ℕ) (file : File) (disk : Option D)
+ReportsPublished {D} conduct dig torrent last = (number : ℕ) (file : File) (disk : Option D)
     → IsCalledComplete torrent last.state number file → slice_get last.disks number ≡ Some disk
-    → IsPublishedOn history honest dig file disk
+    → IsPublishedOn conduct dig file disk

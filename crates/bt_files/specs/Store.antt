@@ -2,9 +2,9 @@
 use Rattle.std.specs.Prelude.{[], ◌≡◌, ◌≢◌, ◌⊎◌, ℕ, Bool, List, length, Option, None, Some}
 use Rattle.std.specs.Borrow.{Bor}
 use Rattle.sha2.specs.Sha256.{sha256}
-use Rattle.bt_ahead.specs.Disk.{AheadView}
-use Rattle.bt_disk.specs.History.{History, new_history}
-use Rattle.bt_disk.specs.Pool.{PooledView}
+use Rattle.bt_ahead.specs.Disk.{ahead_conduct}
+use Rattle.bt_disk.specs.Conduct.{Conduct}
+use Rattle.bt_disk.specs.Pool.{pooled_conduct}
 use Rattle.bt_meta.specs.Torrent.{Metainfo}
 use Rattle.bt_resume.specs.ResumeLog.{LogView}
 use Rattle.bt_machine.specs.declared.error.FlushError.{FlushError}
@@ -14,7 +14,7 @@ use Rattle.bt_machine.specs.Start.{AreDevicesOf}
 use Rattle.bt_machine.specs.State.{EngineState, EngineView}
 use Rattle.bt_files.specs.Adoption.{TakesIn}
 use Rattle.bt_runs.specs.Leads.{LeadsTo}
-use Rattle.bt_folder.specs.SealedDisk.{fault_count}
+use Rattle.bt_folder.specs.SealedDisk.{sealed_conduct}
 use Rattle.bt_folder.specs.declared.known_files.KnownFiles.{KnownFiles}
 use Rattle.bt_check.specs.Fault.{device, log_full}
 use Rattle.bt_check.specs.declared.fault.Fault.{Fault}
@@ -31,15 +31,15 @@ adopted (Some log) filled = []
 -- An engine of the torrent, which began with these devices, each with its file, and with this log or without one. In
 -- the latter case it has taken in what those files have of which bytes are there, by events of the machine: no read
 -- of them failed; and it has no log. No peer is connected.
-pub record HasBegun {D : Type 0} (history : D → History) (honest : D → Type 0) (faults : D → ℕ)
+pub record HasBegun {D : Type 0} (conduct : Conduct D)
     (dig : List ℕ → List ℕ) (torrent : Metainfo) (given : List D) (log : Option (LogView D))
     (filled : List Bool) (engine : EngineView D) : Type 0 where
   pub first : EngineView D
   pub placed : List (Option D)
   pub devices : AreDevicesOf torrent.files given placed
-  pub begins : BeginsOn history honest faults dig torrent placed log first
-  pub taken_in : TakesIn history honest faults dig first (adopted log filled) engine
-  pub run : LeadsTo history honest faults dig first engine
+  pub begins : BeginsOn conduct dig torrent placed log first
+  pub taken_in : TakesIn conduct dig first (adopted log filled) engine
+  pub run : LeadsTo conduct dig first engine
   pub same : engine.state.torrent ≡ torrent
   pub no_peer : engine.state.peers ≡ []
   pub unlogged : log ≡ None → engine.log ≡ None
@@ -61,15 +61,8 @@ IsFlushFault log fault = (fault ≡ device) ⊎ ((fault ≡ log_full) × (log �
 
 -- ---- the devices of data files, as `Disk` has them
 
--- of what a file of the system holds nothing is known
-abbrev pub device_history : DeviceView → History
-device_history disk = new_history []
-
-abbrev pub device_honest : DeviceView → Type 0
-device_honest disk = ⊥
-
-abbrev pub device_faults : DeviceView → ℕ
-device_faults disk = fault_count (λ (ahead : AheadView PooledView). ahead.failed) disk
+abbrev pub device_conduct : Conduct DeviceView
+device_conduct = sealed_conduct (ahead_conduct pooled_conduct)
 
 -- ---- the store of a torrent's files in a folder
 
@@ -84,7 +77,7 @@ pub record IsOpened (usage : FileUse) (dir : List ℕ) (log : Option (Bor (List 
   pub each : length filled ≡ length torrent.files
   pub attached : Option (LogView DeviceView)
   pub of_log : IsLogAt torrent log attached
-  pub begun : HasBegun device_history device_honest device_faults sha256 torrent devices attached filled
+  pub begun : HasBegun device_conduct sha256 torrent devices attached filled
       engine
   pub are_filled : AreFilled torrent.files filled
 

@@ -6,14 +6,14 @@ use Rattle.bt_meta.specs.Torrent.{Metainfo}
 use Rattle.bt_resume.specs.ResumeLog.{LogView, IsAttached}
 use Rattle.bt_check.specs.Fault.{log_among_files, out_of_memory}
 use Rattle.bt_check.specs.declared.fault.Fault.{Fault}
-use Rattle.bt_log_file.specs.Device.{LogDiskView, device_faults, device_history, device_honest, new_log_device}
+use Rattle.bt_log_file.specs.Device.{LogDiskView, device_conduct, new_log_device}
 use Rattle.bt_log_file.specs.Opening.{IsLogFault}
 
 -- the log of a torrent on a new device of the file at this path; none where no path is given
 abbrev pub IsLogAt : Metainfo → Option (Bor (List ℕ)) → Option (LogView LogDiskView) → Type 0
 IsLogAt torrent None None = ⊤
 IsLogAt torrent (Some path) (Some log) =
-    IsAttached device_history device_honest device_faults torrent.infohash (new_log_device path.now) log
+    IsAttached device_conduct torrent.infohash (new_log_device path.now) log
 IsLogAt torrent _ _ = ⊥
 
 -- why none is opened in this file, where these files are known

@@ -2,7 +2,7 @@
 -- root in the torrent decides.
 use Rattle.std.specs.Prelude.{◌≡◌, ℕ, ◌+◌, ◌<◌, List, length, Some, slice_get}
 use Rattle.std.specs.List.{count_by}
-use Rattle.bt_disk.specs.History.{History}
+use Rattle.bt_disk.specs.Conduct.{Conduct}
 use Rattle.bt_store.specs.BlockStates.{is_marked, is_waiting}
 use Rattle.bt_machine.specs.declared.event.Event.TheVariants.{Adopt}
 use Rattle.bt_machine.specs.declared.event.Answer.{Answer}
@@ -20,30 +20,30 @@ pub record IsWholeWaiting (s : EngineState) (file : ℕ) : Type 0 where
 
 -- Of so many files, from the first on, each that is so when its turn comes was taken in, and no read of it
 -- failed; nothing else happened.
-pub data TakesInWaiting {D : Type 0} (history : D → History) (honest : D → Type 0) (faults : D → ℕ)
+pub data TakesInWaiting {D : Type 0} (conduct : Conduct D)
     (dig : List ℕ → List ℕ) (first : EngineView D) : ℕ → EngineView D → Type 0 where
-  none_yet : TakesInWaiting history honest faults dig first 0 first
-  passed : (count : ℕ) (now : EngineView D) → TakesInWaiting history honest faults dig first count now
-      → ¬ IsWholeWaiting now.state count → TakesInWaiting history honest faults dig first (count + 1) now
+  none_yet : TakesInWaiting conduct dig first 0 first
+  passed : (count : ℕ) (now : EngineView D) → TakesInWaiting conduct dig first count now
+      → ¬ IsWholeWaiting now.state count → TakesInWaiting conduct dig first (count + 1) now
   taken : (count : ℕ) (mid now : EngineView D) (answer : Answer)
-      → TakesInWaiting history honest faults dig first count mid → IsWholeWaiting mid.state count
-      → StepsTo history honest faults dig mid (Adopt count) answer now → IsTakenIn answer
-      → TakesInWaiting history honest faults dig first (count + 1) now
+      → TakesInWaiting conduct dig first count mid → IsWholeWaiting mid.state count
+      → StepsTo conduct dig mid (Adopt count) answer now → IsTakenIn answer
+      → TakesInWaiting conduct dig first (count + 1) now
 
 -- of all files
-abbrev pub TakesInAllWaiting : {D : Type 0} → (D → History) → (D → Type 0) → (D → ℕ) → (List ℕ → List ℕ)
+abbrev pub TakesInAllWaiting : {D : Type 0} → Conduct D → (List ℕ → List ℕ)
     → EngineView D → EngineView D → Type 0
-TakesInAllWaiting history honest faults dig old new =
-    TakesInWaiting history honest faults dig old (length old.state.files) new
+TakesInAllWaiting conduct dig old new =
+    TakesInWaiting conduct dig old (length old.state.files) new
 
 -- one of the files is so, and is not taken in without a fault; those before it were seen to
-pub record StopsAtWaiting {D : Type 0} (history : D → History) (honest : D → Type 0) (faults : D → ℕ)
+pub record StopsAtWaiting {D : Type 0} (conduct : Conduct D)
     (dig : List ℕ → List ℕ) (old : EngineView D) (fault : Fault) (new : EngineView D) : Type 0 where
   pub file : ℕ
   pub inside : file < length old.state.files
   pub before : EngineView D
-  pub taken : TakesInWaiting history honest faults dig old file before
+  pub taken : TakesInWaiting conduct dig old file before
   pub waits : IsWholeWaiting before.state file
   pub answer : Answer
-  pub last : StepsTo history honest faults dig before (Adopt file) answer new
+  pub last : StepsTo conduct dig before (Adopt file) answer new
   pub cause : IsAdoptionFault answer fault

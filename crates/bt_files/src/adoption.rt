@@ -21,10 +21,10 @@ pub fn adopt_files<D: Disk + Drop, H: NodeHash>(
     requires no_peer { engine.old.state.peers ≡ [] }
     requires each { length filled.now ≡ length engine.old.state.torrent.files }
     ensures taken_in { OnOk result
-        (TakesIn D.history D.honest D.faults H.digest engine.old filled.now engine.new) }
+        (TakesIn D.conduct H.digest engine.old filled.now engine.new) }
     ensures fault { IfErr result
-        (λ fault. StopsAtFile D.history D.honest D.faults H.digest engine.old filled.now fault engine.new) }
-    ensures run { LeadsTo D.history D.honest D.faults H.digest engine.old engine.new }
+        (λ fault. StopsAtFile D.conduct H.digest engine.old filled.now fault engine.new) }
+    ensures run { LeadsTo D.conduct H.digest engine.old engine.new }
     ensures torrent { engine.new.state.torrent ≡ engine.old.state.torrent }
     ensures no_peer { engine.new.state.peers ≡ [] }
 {
@@ -53,7 +53,7 @@ pub(crate) fn adopt_file<D: Disk + Drop, H: NodeHash>(
     requires no_peer { engine.old.state.peers ≡ [] }
     requires inside { file < length engine.old.state.files }
     ensures step { (answer : Answer)
-        × StepsTo D.history D.honest D.faults H.digest engine.old (Adopt file) answer engine.new
+        × StepsTo D.conduct H.digest engine.old (Adopt file) answer engine.new
         × MatchResult result (λ _. IsTakenIn answer) (IsAdoptionFault answer) }
     ensures no_peer { engine.new.state.peers ≡ [] }
 {

@@ -20,9 +20,9 @@ pub fn conclude<D: Disk + Drop, H: NodeHash, W: Write>(
     engine: &mut Engine<D, H>,
     writer: &mut W,
 ) -> Result<u8, Fault>
-    ensures concluded { IfOk result (λ status. IsConcluded D.history D.honest D.faults H.digest engine.old
+    ensures concluded { IfOk result (λ status. IsConcluded D.conduct H.digest engine.old
         (W.contents writer.old) (W.contents writer.new) status engine.new) }
-    ensures run { LeadsTo D.history D.honest D.faults H.digest engine.old engine.new }
+    ensures run { LeadsTo D.conduct H.digest engine.old engine.new }
     ensures fault { IfErr result (IsEndFault engine.old.log) }
 {
     finish(engine)?;

@@ -75,7 +75,7 @@ fn begin_store<'a, D: Disk + Drop, P: Watch>(
     requires each { length files.filled.items ≡ length torrent.files }
     requires own_log { IfSome log (λ log. log.infohash ≡ torrent.infohash) }
     ensures begun { IfOk result
-        (HasBegun D.history D.honest D.faults sha256 torrent files.disks.items log files.filled.items) }
+        (HasBegun D.conduct sha256 torrent files.disks.items log files.filled.items) }
     ensures fault { IfErr result IsCallFault }
 {
     let OpenFiles {
@@ -118,7 +118,7 @@ pub(crate) fn begin<'a, D: Disk + Drop>(
     requires devices { length disks.items ≡ device_count torrent.files }
     requires each { length filled.items ≡ length torrent.files }
     ensures begun { IfOk result
-        (HasBegun D.history D.honest D.faults sha256 torrent disks.items None filled.items) }
+        (HasBegun D.conduct sha256 torrent disks.items None filled.items) }
     ensures fault { IfErr result IsCallFault }
 {
     match Engine::start(alloc, torrent, hash, disks, None) {
@@ -145,7 +145,7 @@ pub(crate) fn begin_with_log<'a, D: Disk + Drop>(
     requires devices { length disks.items ≡ device_count torrent.files }
     requires own_log { log.infohash ≡ torrent.infohash }
     ensures begun { IfOk result (λ engine. (filled : List Bool)
-        → HasBegun D.history D.honest D.faults sha256 torrent disks.items (Some log) filled engine) }
+        → HasBegun D.conduct sha256 torrent disks.items (Some log) filled engine) }
     ensures fault { IfErr result (λ fault. fault ≡ out_of_memory) }
 {
     match Engine::start(alloc, torrent, hash, disks, Some(log)) {
@@ -161,11 +161,11 @@ pub(crate) fn begin_with_log<'a, D: Disk + Drop>(
 /// it; nothing else of it changes. Errors: a device failed, or the log is full; what waited waits still.
 pub fn finish<D: Disk + Drop, H: NodeHash>(engine: &mut Engine<D, H>) -> Result<(), Fault>
     ensures flushed { OnOk result
-        (StepsTo D.history D.honest D.faults H.digest engine.old Flush (Flushed (Ok tt)) engine.new) }
+        (StepsTo D.conduct H.digest engine.old Flush (Flushed (Ok tt)) engine.new) }
     ensures failed { IfErr result (λ fault. (error : FlushError) × (fault ≡ flush_fault error)
-        × StepsTo D.history D.honest D.faults H.digest engine.old Flush (Flushed (Err error)) engine.new) }
+        × StepsTo D.conduct H.digest engine.old Flush (Flushed (Err error)) engine.new) }
     ensures same { IsSameButPending engine.old.state engine.new.state }
-    ensures run { LeadsTo D.history D.honest D.faults H.digest engine.old engine.new }
+    ensures run { LeadsTo D.conduct H.digest engine.old engine.new }
     ensures fault { IfErr result (IsFlushFault engine.old.log) }
 {
     match engine.flush() {

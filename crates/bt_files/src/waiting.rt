@@ -15,10 +15,10 @@ use bt_tree::NodeHash;
 pub fn adopt_waiting<D: Disk + Drop, H: NodeHash>(engine: &mut Engine<D, H>) -> Result<(), Fault>
     requires { engine.old.state.peers ≡ [] }
     ensures taken_in { OnOk result
-        (TakesInAllWaiting D.history D.honest D.faults H.digest engine.old engine.new) }
+        (TakesInAllWaiting D.conduct H.digest engine.old engine.new) }
     ensures fault { IfErr result
-        (λ fault. StopsAtWaiting D.history D.honest D.faults H.digest engine.old fault engine.new) }
-    ensures run { LeadsTo D.history D.honest D.faults H.digest engine.old engine.new }
+        (λ fault. StopsAtWaiting D.conduct H.digest engine.old fault engine.new) }
+    ensures run { LeadsTo D.conduct H.digest engine.old engine.new }
     ensures torrent { engine.new.state.torrent ≡ engine.old.state.torrent }
     ensures no_peer { engine.new.state.peers ≡ [] }
 {

@@ -96,38 +96,34 @@ impl<'a, D: Disk> Disk for SealedDisk<'a, D> {
     ghost use Rattle.std.specs.Prelude.{◌≡◌, ◌↔◌, ◌≤◌, true, false, length, IsErr, IfOk};
     ghost use Rattle.bt_disk.specs.Limits.{count_after};
     ghost use Rattle.bt_disk.specs.Calls.{IsAnswered, len_call, read_call, write_call, set_len_call, sync_call};
-    ghost use Rattle.bt_folder.specs.SealedDisk.{fault_count, after_refusal, PassesOn};
+    ghost use Rattle.bt_folder.specs.SealedDisk.{sealed_conduct, fault_count, after_refusal, PassesOn};
 
-    ghost history = { λ d. D.history d.inner };
-
-    ghost honest = { λ d. D.honest d.inner };
-
-    ghost faults = { λ d. fault_count D.faults d };
+    ghost conduct = { sealed_conduct D.conduct };
 
     ghost reads_image = { λ d honest. D.reads_image d.inner honest };
 
     fn len(&mut self) -> Result<u64, DeviceFault>
-        ensures passes { PassesOn D.history D.honest D.faults self.old (len_call result) self.new }
+        ensures passes { PassesOn D.conduct self.old (len_call result) self.new }
 
         // as every device
-        ensures counted { fault_count D.faults self.new ≡ count_after (fault_count D.faults self.old) result }
-        ensures as_honest { D.honest self.old.inner ↔ D.honest self.new.inner }
-        ensures answered { D.honest self.old.inner
-            → IsAnswered (D.history self.old.inner) (len_call result) (D.history self.new.inner) }
+        ensures counted { fault_count D.conduct self.new ≡ count_after (fault_count D.conduct self.old) result }
+        ensures as_honest { D.conduct.honest self.old.inner ↔ D.conduct.honest self.new.inner }
+        ensures answered { D.conduct.honest self.old.inner
+            → IsAnswered (D.conduct.history self.old.inner) (len_call result) (D.conduct.history self.new.inner) }
     {
         self.inner.len()
     }
 
     fn read_at(&mut self, at: u64, out: &mut [u8]) -> Result<usize, DeviceFault>
         ensures passes { PassesOn
-            D.history D.honest D.faults self.old (read_call at out.new result) self.new }
+            D.conduct self.old (read_call at out.new result) self.new }
 
         // as every device
         ensures within { IfOk result (λ count. count ≤ length out.new) }
-        ensures counted { fault_count D.faults self.new ≡ count_after (fault_count D.faults self.old) result }
-        ensures as_honest { D.honest self.old.inner ↔ D.honest self.new.inner }
-        ensures answered { D.honest self.old.inner
-            → IsAnswered (D.history self.old.inner) (read_call at out.new result) (D.history self.new.inner) }
+        ensures counted { fault_count D.conduct self.new ≡ count_after (fault_count D.conduct self.old) result }
+        ensures as_honest { D.conduct.honest self.old.inner ↔ D.conduct.honest self.new.inner }
+        ensures answered { D.conduct.honest self.old.inner
+            → IsAnswered (D.conduct.history self.old.inner) (read_call at out.new result) (D.conduct.history self.new.inner) }
     {
         self.inner.read_at(at, out)
     }
@@ -137,14 +133,14 @@ impl<'a, D: Disk> Disk for SealedDisk<'a, D> {
         ensures closed { self.old.is_sealed ≡ true → self.new.is_sealed ≡ true }
         ensures refused { self.new.is_sealed ≡ true → IsErr result × (self.new ≡ after_refusal self.old) }
         ensures passes { self.new.is_sealed ≡ false
-            → PassesOn D.history D.honest D.faults self.old (write_call at bytes.now result) self.new }
+            → PassesOn D.conduct self.old (write_call at bytes.now result) self.new }
 
         // as every device
-        ensures counted { fault_count D.faults self.new ≡ count_after (fault_count D.faults self.old) result }
-        ensures as_honest { D.honest self.old.inner ↔ D.honest self.new.inner }
-        ensures answered { D.honest self.old.inner
+        ensures counted { fault_count D.conduct self.new ≡ count_after (fault_count D.conduct self.old) result }
+        ensures as_honest { D.conduct.honest self.old.inner ↔ D.conduct.honest self.new.inner }
+        ensures answered { D.conduct.honest self.old.inner
             → IsAnswered
-            (D.history self.old.inner) (write_call at bytes.now result) (D.history self.new.inner) }
+            (D.conduct.history self.old.inner) (write_call at bytes.now result) (D.conduct.history self.new.inner) }
     {
         if self.refuses() {
             // The device inside is not reached.
@@ -158,13 +154,13 @@ impl<'a, D: Disk> Disk for SealedDisk<'a, D> {
         ensures closed { self.old.is_sealed ≡ true → self.new.is_sealed ≡ true }
         ensures refused { self.new.is_sealed ≡ true → IsErr result × (self.new ≡ after_refusal self.old) }
         ensures passes { self.new.is_sealed ≡ false
-            → PassesOn D.history D.honest D.faults self.old (set_len_call len result) self.new }
+            → PassesOn D.conduct self.old (set_len_call len result) self.new }
 
         // as every device
-        ensures counted { fault_count D.faults self.new ≡ count_after (fault_count D.faults self.old) result }
-        ensures as_honest { D.honest self.old.inner ↔ D.honest self.new.inner }
-        ensures answered { D.honest self.old.inner
-            → IsAnswered (D.history self.old.inner) (set_len_call len result) (D.history self.new.inner) }
+        ensures counted { fault_count D.conduct self.new ≡ count_after (fault_count D.conduct self.old) result }
+        ensures as_honest { D.conduct.honest self.old.inner ↔ D.conduct.honest self.new.inner }
+        ensures answered { D.conduct.honest self.old.inner
+            → IsAnswered (D.conduct.history self.old.inner) (set_len_call len result) (D.conduct.history self.new.inner) }
     {
         if self.refuses() {
             return Err(DeviceFault);
@@ -173,13 +169,13 @@ impl<'a, D: Disk> Disk for SealedDisk<'a, D> {
     }
 
     fn sync(&mut self) -> Result<(), DeviceFault>
-        ensures passes { PassesOn D.history D.honest D.faults self.old (sync_call result) self.new }
+        ensures passes { PassesOn D.conduct self.old (sync_call result) self.new }
 
         // as every device
-        ensures counted { fault_count D.faults self.new ≡ count_after (fault_count D.faults self.old) result }
-        ensures as_honest { D.honest self.old.inner ↔ D.honest self.new.inner }
-        ensures answered { D.honest self.old.inner
-            → IsAnswered (D.history self.old.inner) (sync_call result) (D.history self.new.inner) }
+        ensures counted { fault_count D.conduct self.new ≡ count_after (fault_count D.conduct self.old) result }
+        ensures as_honest { D.conduct.honest self.old.inner ↔ D.conduct.honest self.new.inner }
+        ensures answered { D.conduct.honest self.old.inner
+            → IsAnswered (D.conduct.history self.old.inner) (sync_call result) (D.conduct.history self.new.inner) }
     {
         self.inner.sync()
     }

@@ -7,7 +7,7 @@ use Rattle.std.proofs.lemmas.Grind.{flat_map-append}
 use Rattle.std.proofs.lemmas.List.Elements.{All-cons, All-head, All-nil, All-tail}
 use Rattle.bt_tree.specs.Blocks.{block_count}
 use Rattle.bt_tree.specs.Limits.{full_block_length}
-use Rattle.bt_disk.specs.History.{History}
+use Rattle.bt_disk.specs.Conduct.{Conduct}
 use Rattle.bt_disk.specs.Pool.{PooledView}
 use Rattle.bt_meta.specs.Files.{File}
 use Rattle.bt_meta.specs.Torrent.{Metainfo}
@@ -15,7 +15,8 @@ use Rattle.bt_check.specs.Check.{CheckedFile}
 use Rattle.bt_parts.specs.Line.{run_line}
 use Rattle.bt_parts.specs.declared.cut.Part.{Part}
 use Rattle.bt_parts.specs.declared.run.Run.{Run}
-use Rattle.bt_jobs.specs.Part.{IsPartAt, IsPartReport, device_faults, device_history, device_honest}
+use Rattle.bt_jobs.specs.Part.{IsPartAt, IsPartReport}
+use Rattle.bt_disk.specs.Pool.{pooled_conduct}
 use Rattle.bt_jobs.specs.Plan.{AreShares}
 use Rattle.bt_jobs.specs.Share.{runs_text}
 use Rattle.bt_jobs.specs.Trees.{AreRunsOf, ArePartFindings, none, more, GoByRoots, IsPartFinding, IsReadyPart, file_in_part, part_at}
@@ -28,7 +29,7 @@ use Rattle.bt_jobs.specs.declared.trees.PartTrees.{PartTrees}
 abbrev pub files_in : {D : Type 0} → List (PartFile D) → List File
 files_in opened = map file_in_part (map part_at opened)
 
-module _ {D : Type 0} (history : D → History) (honest : D → Type 0) (faults : D → ℕ) (layer : ℕ) (layer_at : ℕ → List ℕ → List ℕ) where
+module _ {D : Type 0} (conduct : Conduct D) (layer : ℕ) (layer_at : ℕ → List ℕ → List ℕ) where
   -- Some files are told, and these are left.
   pub record IsPartTelling (all left : List (PartFile D)) (trees : PartTrees) (old new : Option (List ℕ)) : Type 0 where
     pub done : List (PartFile D)
@@ -37,7 +38,7 @@ module _ {D : Type 0} (history : D → History) (honest : D → Type 0) (faults 
     pub parted : all ≡ done ++ left
     pub ready : All (IsReadyPart layer) (map part_at left)
     pub roots : GoByRoots layer_at (files_in left)
-    pub found : ArePartFindings history honest faults layer [] done runs checked
+    pub found : ArePartFindings conduct layer [] done runs checked
     pub keeps : KeepsParts layer layer_at checked (files_in left) trees
     pub lines : Appends old new (runs_text runs)
 
@@ -78,18 +79,18 @@ module _ {D : Type 0} (history : D → History) (honest : D → Type 0) (faults 
 
   -- one more
   found_more : (before mid after : List CheckedFile) (done : List (PartFile D)) (one : PartFile D) (runs others : List Run)
-      → ArePartFindings history honest faults layer before done runs mid
+      → ArePartFindings conduct layer before done runs mid
       → AreRunsOf one.part.number (block_count (file_in_part one.part).length) one.part.share others
-      → IsPartFinding history honest faults layer mid (file_in_part one.part) one.part.share others one.disk after
-      → ArePartFindings history honest faults layer before (done ++ one ∷ []) (runs ++ others) after
+      → IsPartFinding conduct layer mid (file_in_part one.part) one.part.share others one.disk after
+      → ArePartFindings conduct layer before (done ++ one ∷ []) (runs ++ others) after
   found_more _ _ after _ one _ others (none before) of is =
-      subst (λ l. ArePartFindings history honest faults layer before (one ∷ []) l after) (append-nil others) (more before after after one [] others [] of is (none after))
+      subst (λ l. ArePartFindings conduct layer before (one ∷ []) l after) (append-nil others) (more before after after one [] others [] of is (none after))
   found_more _ _ after _ one _ others (more before next mid first rest runs later own finding are) of is =
-      subst (λ l. ArePartFindings history honest faults layer before (first ∷ rest ++ one ∷ []) l after) (sym (append_assoc runs later others))
+      subst (λ l. ArePartFindings conduct layer before (first ∷ rest ++ one ∷ []) l after) (sym (append_assoc runs later others))
       (more before next after first (rest ++ one ∷ []) runs (later ++ others) own finding (found_more next mid after rest one later others are of is))
 
   pub telling_more : (all before left : List (PartFile D)) (one : PartFile D) (trees grown : PartTrees) (old mid new : Option (List ℕ))
-      → IsPartTelling all before trees old mid → before ≡ one ∷ left → ChecksNext history honest faults layer one trees grown mid new
+      → IsPartTelling all before trees old mid → before ≡ one ∷ left → ChecksNext conduct layer one trees grown mid new
       → IsPartTelling all left grown old new
   telling_more all before left one trees grown old mid new t taken checks =
       let roots_left : GoByRoots layer_at (files_in (one ∷ left)) = subst (λ l. GoByRoots layer_at (files_in l)) taken t.roots in
@@ -109,11 +110,11 @@ module _ {D : Type 0} (history : D → History) (honest : D → Type 0) (faults 
       }
 
   pub all_told : (all : List (PartFile D)) (trees : PartTrees) (old new : Option (List ℕ)) → IsPartTelling all [] trees old new
-      → (runs : List Run) × (checked : List CheckedFile) × ArePartFindings history honest faults layer [] all runs checked × Appends old new (runs_text runs)
+      → (runs : List Run) × (checked : List CheckedFile) × ArePartFindings conduct layer [] all runs checked × Appends old new (runs_text runs)
   all_told all trees old new t = (
     t.runs,
     t.checked,
-    subst (λ l. ArePartFindings history honest faults layer [] l t.runs t.checked) (sym (t.parted ∙ append-nil t.done)) t.found,
+    subst (λ l. ArePartFindings conduct layer [] l t.runs t.checked) (sym (t.parted ∙ append-nil t.done)) t.found,
     t.lines,
   )
 
@@ -122,7 +123,7 @@ pub part_report : (dir : List ℕ) (torrent : Metainfo) (part : Part) (layer byt
     (old new : Option (List ℕ)) → torrent.piece_length ≡ bytes → bytes ≡ full_block_length * 2 ^ layer → files ≡ torrent.files → files_in opened ≡ files
     → map (λ (p : FilePart). p.number) (map part_at opened) ≡ range_with_len 0 (length files)
     → AreShares layer part files (map (λ (p : FilePart). p.share) (map part_at opened)) → All (IsPartAt dir) opened
-    → (runs : List Run) × (checked : List CheckedFile) × ArePartFindings device_history device_honest device_faults layer [] opened runs checked
+    → (runs : List Run) × (checked : List CheckedFile) × ArePartFindings pooled_conduct layer [] opened runs checked
     × Appends old new (runs_text runs)
     → (runs : List Run) × IsPartReport dir torrent part runs × Appends old new (runs_text runs)
 part_report dir torrent part layer bytes files opened old new length_is size same are numbers shares paths told = (

@@ -13,7 +13,7 @@ use Rattle.std.proofs.lemmas.List.Elements.{All-cons, All-head, All-nil, All-pus
 use Rattle.std.proofs.lemmas.Slice.Eq.{bytes_eq-Decides}
 use Rattle.bt_tree.specs.Blocks.{block_count}
 use Rattle.bt_tree.specs.TreeShape.{height_of}
-use Rattle.bt_disk.specs.History.{History}
+use Rattle.bt_disk.specs.Conduct.{Conduct}
 use Rattle.bt_disk.specs.Calls.{HasCalls}
 use Rattle.bt_disk.proofs.CallLists.{has_none, has_then}
 use Rattle.bt_meta.specs.Files.{File}
@@ -159,23 +159,23 @@ knows_own layer layer_at file (c ∷ before) by_root own = elim (cases_bool (is_
 -- ---- a share
 
 -- a share of a file whose length is told by its tree
-pub share_at : {D : Type 0} {history : D → History} {honest : D → Type 0} {faults : D → ℕ} {n : ℕ} {known : KnownLayer} {leaves : ℕ → Option (List ℕ)}
+pub share_at : {D : Type 0} {conduct : Conduct D} {n : ℕ} {known : KnownLayer} {leaves : ℕ → Option (List ℕ)}
     {tree grown : Facts} {file : ℕ} (share : Share) {disk after : D} (old new : Option (List ℕ))
-    → ChecksShare history honest faults tree file share disk after grown old new → HoldsLeaves n known leaves tree → IsPieceEdge known n share.from
+    → ChecksShare conduct tree file share disk after grown old new → HoldsLeaves n known leaves tree → IsPieceEdge known n share.from
     → (reads : List BlockRead) × (runs : List Run) × IsShareCheck n known leaves file share.from share.to reads runs
-    × HasCalls history honest faults disk (map (call_of n) reads) after
+    × HasCalls conduct disk (map (call_of n) reads) after
     × HoldsLeaves n known (leaves_after leaves (share_reads (block_count n) share.from share.to reads) n known) grown × Appends old new (runs_text runs)
-share_at {D} {history} {honest} {faults} {n} {known} {leaves} {tree} {grown} {file} share {disk} {after} old new checks holds edge =
+share_at {D} {conduct} {n} {known} {leaves} {tree} {grown} {file} share {disk} {after} old new checks holds edge =
     subst (λ m. HoldsLeaves m known leaves tree → IsPieceEdge known m share.from
     → (reads : List BlockRead) × (runs : List Run) × IsShareCheck m known leaves file share.from share.to reads runs
-    × HasCalls history honest faults disk (map (call_of m) reads) after
+    × HasCalls conduct disk (map (call_of m) reads) after
     × HoldsLeaves m known (leaves_after leaves (share_reads (block_count m) share.from share.to reads) m known) grown × Appends old new (runs_text runs))
     holds.length_is (checks known leaves) holds edge
 
 -- a share of no block
-pub nothing_checked : {D : Type 0} (history : D → History) (honest : D → Type 0) (faults : D → ℕ) (layer : ℕ) (part : FilePart) (disk : D) (kept : Kept)
-    (old : Option (List ℕ)) → part.share.from ≤ part.share.to → part.share.to ≤ part.share.from → ChecksBlocks history honest faults layer part disk kept kept old old
-nothing_checked history honest faults layer part disk kept old forward none_left before has own =
+pub nothing_checked : {D : Type 0} (conduct : Conduct D) (layer : ℕ) (part : FilePart) (disk : D) (kept : Kept)
+    (old : Option (List ℕ)) → part.share.from ≤ part.share.to → part.share.to ≤ part.share.from → ChecksBlocks conduct layer part disk kept kept old old
+nothing_checked conduct layer part disk kept old forward none_left before has own =
     let share = part.share in
     let file = file_in_part part in
     let same : share.from ≡ share.to = omega (arith, forward, none_left) in
@@ -192,7 +192,7 @@ nothing_checked history honest faults layer part disk kept old forward none_left
         faults = (λ t. absurd (true≢false (sym t)), λ some. absurd (omega (arith, some)));
         no_length = refl;
       },
-      has_none history honest faults disk,
+      has_none conduct disk,
       λ len. inl (none_left, refl),
       Appends-nil old,
     )
@@ -257,11 +257,11 @@ module _ (layer : ℕ) (part : FilePart) (before : List CheckedFile) (len : Opti
     faults = (λ t. inr (is.faults.0 t), λ h. elim h [ inl first ↦ absurd (behind first.0) | inr some ↦ is.faults.1 some ]);
   }
 
-  module _ {D : Type 0} (history : D → History) (honest : D → Type 0) (faults : D → ℕ) (disk last : D)
-      (calls : HasCalls history honest faults disk (share_calls file.length share len reads) last) where
+  module _ {D : Type 0} (conduct : Conduct D) (disk last : D)
+      (calls : HasCalls conduct disk (share_calls file.length share len reads) last) where
     part_found : (kept grown : Kept) (first runs : List Run) → AreLengthRuns part len first → IsChecked runs
         → KeepsOthers layer before file share (answers_of file.length share len reads) kept grown
-        → (after : List CheckedFile) × IsPartFinding history honest faults layer before file share (first ++ runs) (Some disk) after
+        → (after : List CheckedFile) × IsPartFinding conduct layer before file share (first ++ runs) (Some disk) after
         × ((other : File) → HasTree layer before other kept → HasTree layer after other grown)
     part_found kept grown first runs asks is (inl nothing) = (
       before,
@@ -274,18 +274,18 @@ module _ (layer : ℕ) (part : FilePart) (before : List CheckedFile) (len : Opti
       keeps,
     )
 
-pub part_checked : {D : Type 0} (history : D → History) (honest : D → Type 0) (faults : D → ℕ) (layer : ℕ) (part : FilePart) (disk mid : D) (kept grown : Kept)
-    (old told new : Option (List ℕ)) → part.share.from ≤ block_count (file_in_part part).length → TellsLength history honest faults part disk mid old told
-    → ChecksBlocks history honest faults layer part mid kept grown told new → ChecksPart history honest faults layer part (Some disk) kept grown old new
-part_checked history honest faults layer part disk mid kept grown old told new fits length_told checks before has own =
+pub part_checked : {D : Type 0} (conduct : Conduct D) (layer : ℕ) (part : FilePart) (disk mid : D) (kept grown : Kept)
+    (old told new : Option (List ℕ)) → part.share.from ≤ block_count (file_in_part part).length → TellsLength conduct part disk mid old told
+    → ChecksBlocks conduct layer part mid kept grown told new → ChecksPart conduct layer part (Some disk) kept grown old new
+part_checked conduct layer part disk mid kept grown old told new fits length_told checks before has own =
     let blocks = checks before has own in
     let len = length_told.0 in
     let first = length_told.1 in
     let reads = blocks.0 in
     let runs = blocks.1 in
     let last = blocks.2 in
-    let calls = has_then history honest faults disk mid last (length_calls part.share len) (map (call_of (file_in_part part).length) reads) length_told.3 blocks.4 in
-    let found = part_found layer part before len reads fits history honest faults disk last calls kept grown first runs length_told.2 blocks.3 (blocks.5 len) in (
+    let calls = has_then conduct disk mid last (length_calls part.share len) (map (call_of (file_in_part part).length) reads) length_told.3 blocks.4 in
+    let found = part_found layer part before len reads fits conduct disk last calls kept grown first runs length_told.2 blocks.3 (blocks.5 len) in (
       first ++ runs,
       found.0,
       runs_joined layer part before len reads fits first runs length_told.2 blocks.3,
@@ -296,16 +296,16 @@ part_checked history honest faults layer part disk mid kept grown old told new f
     )
 
 -- a file that is not there was told
-pub absent_checked : {D : Type 0} (history : D → History) (honest : D → Type 0) (faults : D → ℕ) (layer : ℕ) (part : FilePart) (kept : Kept)
-    (old new : Option (List ℕ)) → TellsAbsent part old new → ChecksPart history honest faults layer part None kept kept old new
-absent_checked history honest faults layer part kept old new told before has own = (told.0, before, told.1, absent told.2, λ other had. had, told.3)
+pub absent_checked : {D : Type 0} (conduct : Conduct D) (layer : ℕ) (part : FilePart) (kept : Kept)
+    (old new : Option (List ℕ)) → TellsAbsent part old new → ChecksPart conduct layer part None kept kept old new
+absent_checked conduct layer part kept old new told before has own = (told.0, before, told.1, absent told.2, λ other had. had, told.3)
 
 -- whether there is a device is known
-pub part_with : {D : Type 0} (history : D → History) (honest : D → Type 0) (faults : D → ℕ) (layer : ℕ) (part : FilePart) (disk there : Option D) (kept grown : Kept)
-    (old new : Option (List ℕ)) → disk ≡ there → ChecksPart history honest faults layer part there kept grown old new
-    → ChecksPart history honest faults layer part disk kept grown old new
-part_with history honest faults layer part disk there kept grown old new same checks =
-    subst (λ o. ChecksPart history honest faults layer part o kept grown old new) (sym same) checks
+pub part_with : {D : Type 0} (conduct : Conduct D) (layer : ℕ) (part : FilePart) (disk there : Option D) (kept grown : Kept)
+    (old new : Option (List ℕ)) → disk ≡ there → ChecksPart conduct layer part there kept grown old new
+    → ChecksPart conduct layer part disk kept grown old new
+part_with conduct layer part disk there kept grown old new same checks =
+    subst (λ o. ChecksPart conduct layer part o kept grown old new) (sym same) checks
 
 -- the tree of a file, of which a share begins with a piece
 pub ready_at : {n block : ℕ} {known : KnownLayer} {leaves : ℕ → Option (List ℕ)} {k : Facts} → HoldsLeaves n known leaves k → IsPieceEdge known n block
@@ -335,9 +335,9 @@ parts_begun layer layer_at files trees count empty told = record {
 }
 
 -- the layers of the files that were checked go by their lengths and roots
-module _ {D : Type 0} (history : D → History) (honest : D → Type 0) (faults : D → ℕ) where
+module _ {D : Type 0} (conduct : Conduct D) where
   roots_after : (layer : ℕ) (layer_at : ℕ → List ℕ → List ℕ) (before after : List CheckedFile) (file : File) (share : Share) (runs : List Run) (disk : Option D)
-      → IsPartFinding history honest faults layer before file share runs disk after → file.layer ≡ layer_at file.length file.root
+      → IsPartFinding conduct layer before file share runs disk after → file.layer ≡ layer_at file.length file.root
       → All (λ c. c.file.layer ≡ layer_at c.file.length c.file.root) before → All (λ c. c.file.layer ≡ layer_at c.file.length c.file.root) after
   roots_after layer layer_at before _ file share runs _ (absent all) own by_root = by_root
   roots_after layer layer_at before _ file share runs _ (blockless disk last len reads nothing calls found) own by_root = by_root
@@ -352,15 +352,15 @@ first_part {layer} {layer_at} {before} {file} {rest} {trees} keeps roots =
     (first_has keeps.kept, knows_own layer layer_at file before keeps.by_root (All-head (λ (f : File). f.layer ≡ layer_at f.length f.root) file [] roots))
 
 -- it was checked
-pub next_part : {D : Type 0} (history : D → History) (honest : D → Type 0) (faults : D → ℕ) (layer : ℕ) (layer_at : ℕ → List ℕ → List ℕ)
+pub next_part : {D : Type 0} (conduct : Conduct D) (layer : ℕ) (layer_at : ℕ → List ℕ → List ℕ)
     (before after : List CheckedFile) (file : File) (share : Share) (runs : List Run) (disk : Option D) (rest : List File) (old mid new : PartTrees)
     → KeepsParts layer layer_at before (file ∷ rest) old → GoByRoots layer_at (file ∷ []) → mid.last ≡ old.last → mid.left ≡ length rest
-    → IsPartFinding history honest faults layer before file share runs disk after
+    → IsPartFinding conduct layer before file share runs disk after
     → ((other : File) → HasTree layer before other old.kept → HasTree layer after other mid.kept) → LetsGo file (shared_of mid) (shared_of new)
     → KeepsParts layer layer_at after rest new
-next_part history honest faults layer layer_at before after file share runs disk rest old mid new keeps roots last_is left_is found others goes = record {
+next_part conduct layer layer_at before after file share runs disk rest old mid new keeps roots last_is left_is found others goes = record {
   kept = next_trees layer before after file rest (shared_of old) (shared_of mid) (shared_of new) keeps.kept last_is left_is others goes;
-  by_root = roots_after history honest faults layer layer_at before after file share runs disk found
+  by_root = roots_after conduct layer layer_at before after file share runs disk found
       (All-head (λ (f : File). f.layer ≡ layer_at f.length f.root) file [] roots) keeps.by_root;
 }
 
@@ -379,24 +379,24 @@ not_long n len few = record {
 }
 
 -- the length was not asked for, or it was
-module _ {D : Type 0} (history : D → History) (honest : D → Type 0) (faults : D → ℕ) (part : FilePart) where
-  pub length_unasked : (disk : D) (old : Option (List ℕ)) → part.share.is_first ≡ false → TellsLength history honest faults part disk disk old old
+module _ {D : Type 0} (conduct : Conduct D) (part : FilePart) where
+  pub length_unasked : (disk : D) (old : Option (List ℕ)) → part.share.is_first ≡ false → TellsLength conduct part disk disk old old
   length_unasked disk old behind = (
     None,
     [],
     unasked (λ t. absurd (true≢false (sym t ∙ behind))),
-    subst (λ calls. HasCalls history honest faults disk calls disk) (sym (ap (λ b. if b then len_call_of None ∷ [] else []) behind)) (has_none history honest faults disk),
+    subst (λ calls. HasCalls conduct disk calls disk) (sym (ap (λ b. if b then len_call_of None ∷ [] else []) behind)) (has_none conduct disk),
     Appends-nil old,
   )
 
   pub length_asked : (disk after : D) (len : Option ℕ) (met : Met) (old new : Option (List ℕ)) → part.share.is_first ≡ true
-      → IsMeasured (file_in_part part).length len met → HasCalls history honest faults disk (len_call_of len ∷ []) after
-      → Appends old new (run_line (no_blocks part met)) → TellsLength history honest faults part disk after old new
+      → IsMeasured (file_in_part part).length len met → HasCalls conduct disk (len_call_of len ∷ []) after
+      → Appends old new (run_line (no_blocks part met)) → TellsLength conduct part disk after old new
   length_asked disk after len met old new is_first measured calls put = (
     len,
     no_blocks part met ∷ [],
     asked met is_first measured,
-    subst (λ calls. HasCalls history honest faults disk calls after) (sym (ap (λ b. if b then len_call_of len ∷ [] else []) is_first)) calls,
+    subst (λ calls. HasCalls conduct disk calls after) (sym (ap (λ b. if b then len_call_of len ∷ [] else []) is_first)) calls,
     subst (Appends old new) (sym (append-nil (run_line (no_blocks part met)))) put,
   )
 

@@ -12,7 +12,7 @@ use Rattle.std.proofs.lemmas.List.FromFn.{length-range_with_len}
 use Rattle.std.proofs.lemmas.List.Sums.{sum_by-append}
 use Rattle.sha2.specs.Sha256.{sha256}
 use Rattle.bt_tree.specs.Blocks.{block_count}
-use Rattle.bt_disk.specs.History.{History}
+use Rattle.bt_disk.specs.Conduct.{Conduct}
 use Rattle.bt_disk.specs.Calls.{HasCalls}
 use Rattle.bt_disk.proofs.CallLists.{has_none, has_then}
 use Rattle.bt_sparse.specs.SparseTree.{Facts}
@@ -141,11 +141,11 @@ or_true true = refl
 or_true false = refl
 
 -- The blocks before the end of a run were read, and the runs before it told.
-pub record IsSharing {D : Type 0} (history : D → History) (honest : D → Type 0) (faults : D → ℕ) (n : ℕ) (known : KnownLayer) (leaves : ℕ → Option (List ℕ))
+pub record IsSharing {D : Type 0} (conduct : Conduct D) (n : ℕ) (known : KnownLayer) (leaves : ℕ → Option (List ℕ))
     (disk : D) (file from : ℕ) (run : Run) (k : Facts) (store : StoreView D) (old new : Option (List ℕ)) : Type 0 where
   pub reads : List BlockRead
   pub runs : List Run
-  pub calls : HasCalls history honest faults disk (map (call_of n) reads) store.disk
+  pub calls : HasCalls conduct disk (map (call_of n) reads) store.disk
   pub each : map block_of reads ≡ range_with_len from (run.to - from)
   pub own : All (λ r. r.file ≡ file) runs
   pub mine : run.file ≡ file
@@ -162,18 +162,18 @@ pub record IsSharing {D : Type 0} (history : D → History) (honest : D → Type
   pub learned : IsLearned n known leaves (reads_behind from reads) run.to k
   pub lines : Appends old new (runs_text runs)
 
-module _ {D : Type 0} (history : D → History) (honest : D → Type 0) (faults : D → ℕ) (n : ℕ) (known : KnownLayer) (leaves : ℕ → Option (List ℕ))
+module _ {D : Type 0} (conduct : Conduct D) (n : ℕ) (known : KnownLayer) (leaves : ℕ → Option (List ℕ))
     (disk : D) (file from : ℕ) where
   pub sharing_begun : (run : Run) (k : Facts) (store : StoreView D) (old : Option (List ℕ)) → HoldsLeaves n known leaves k → IsPieceEdge known n from
       → from ≤ block_count n → store.file_length ≡ n → store.disk ≡ disk → run ≡ run_at file from
-      → IsSharing history honest faults n known leaves disk file from run k store old old
+      → IsSharing conduct n known leaves disk file from run k store old old
   sharing_begun run k store old holds edge inside same on is =
-      subst (λ r. IsSharing history honest faults n known leaves disk file from r k store old old) (sym is) (
+      subst (λ r. IsSharing conduct n known leaves disk file from r k store old old) (sym is) (
       let none_left : from - from ≡ 0 = omega arith in
       record {
         reads = [];
         runs = [];
-        calls = subst (HasCalls history honest faults disk []) (sym on) (has_none history honest faults disk);
+        calls = subst (HasCalls conduct disk []) (sym on) (has_none conduct disk);
         each = ap (range_with_len from) (sym none_left);
         own = All-nil (λ (r : Run). r.file ≡ file);
         mine = refl;
@@ -193,10 +193,10 @@ module _ {D : Type 0} (history : D → History) (honest : D → Type 0) (faults 
       )
 
   module _ (run : Run) (k : Facts) (store : StoreView D) (old new : Option (List ℕ))
-      (s : IsSharing history honest faults n known leaves disk file from run k store old new) where
+      (s : IsSharing conduct n known leaves disk file from run k store old new) where
     -- the groups that come next
     module _ (reads : List BlockRead) (groups : AdoptedGroups) (grown : Facts) (after : StoreView D)
-        (step : AreAdopted history honest faults sha256 k run.to store reads groups grown after) where
+        (step : AreAdopted conduct sha256 k run.to store reads groups grown after) where
       abbrev before : List BlockRead
       before = reads_behind from s.reads
 
@@ -258,11 +258,11 @@ module _ {D : Type 0} (history : D → History) (honest : D → Type 0) (faults 
       ]
 
       pub sharing_more : (next : Run) → IsWithGroups run groups next
-          → IsSharing history honest faults n known leaves disk file from next grown after old new
+          → IsSharing conduct n known leaves disk file from next grown after old new
       sharing_more next is =
           let behind : before ++ reads ≡ reads_behind from (s.reads ++ reads) = behind_more from s.reads reads in
-          let made = has_then history honest faults disk store.disk after.disk (map (call_of n) s.reads) (map (call_of n) reads) s.calls
-          (subst (λ m. HasCalls history honest faults store.disk (map (call_of m) reads) after.disk) s.same_file step.calls) in
+          let made = has_then conduct disk store.disk after.disk (map (call_of n) s.reads) (map (call_of n) reads) s.calls
+          (subst (λ m. HasCalls conduct store.disk (map (call_of m) reads) after.disk) s.same_file step.calls) in
           let span : (run.to - from) + (groups.next - run.to) ≡ groups.next - from = omega (arith, s.begun, s.forward, add.onward) in
           let here : IsCountOf right next =
           is.marked ∙ own_count ∙ ap (λ a. count_by right (range_with_len a (groups.next - a))) (sym is.from)
@@ -270,7 +270,7 @@ module _ {D : Type 0} (history : D → History) (honest : D → Type 0) (faults 
           record {
             reads = s.reads ++ reads;
             runs = s.runs;
-            calls = subst (λ l. HasCalls history honest faults disk l after.disk) (sym (map-append (call_of n) s.reads reads)) made;
+            calls = subst (λ l. HasCalls conduct disk l after.disk) (sym (map-append (call_of n) s.reads reads)) made;
             each = map-append block_of s.reads reads ∙ ap (λ l. l ++ map block_of reads) s.each ∙ ap (λ l. range_with_len from (run.to - from) ++ l) add.in_order
                 ∙ ranges_joined from (run.to - from) (groups.next - run.to) run.to (omega (arith, s.begun, s.forward))
                 ∙ ap (range_with_len from) (span ∙ ap (λ e. e - from) (sym is.to));
@@ -295,9 +295,9 @@ module _ {D : Type 0} (history : D → History) (honest : D → Type 0) (faults 
 
     -- the run was told, or goes on
     pub sharing_told : (end : ℕ) (later : Option (List ℕ)) (next : Run) → TellsOrKeeps run end new later next
-        → IsSharing history honest faults n known leaves disk file from next k store old later
+        → IsSharing conduct n known leaves disk file from next k store old later
     sharing_told end later next (inr goes_on) =
-        subst (λ r. IsSharing history honest faults n known leaves disk file from r k store old later) (sym goes_on.2)
+        subst (λ r. IsSharing conduct n known leaves disk file from r k store old later) (sym goes_on.2)
         (record {
           reads = s.reads;
           runs = s.runs;
@@ -319,7 +319,7 @@ module _ {D : Type 0} (history : D → History) (honest : D → Type 0) (faults 
           lines = Appends-kept old new later (runs_text s.runs) s.lines goes_on.1;
         })
     sharing_told end later next (inl told) =
-        subst (λ r. IsSharing history honest faults n known leaves disk file from r k store old later) (sym told.1) (
+        subst (λ r. IsSharing conduct n known leaves disk file from r k store old later) (sym told.1) (
         let few : run.marked ≤ run.to - run.from =
         omega (arith, s.count, count_few (is_right_block (is_node_read (reads_behind from s.reads) n) known leaves) run.from (run.to - run.from)) in
         let fits : IsWithin (block_count n) run = record { forward = s.forward; inside = s.within; few = few } in
@@ -352,7 +352,7 @@ module _ {D : Type 0} (history : D → History) (honest : D → Type 0) (faults 
     -- the share was read and told
     pub share_checked : (to : ℕ) (after : D) → run.to ≡ to → run.from ≡ run.to → run.met ≡ Nothing → after ≡ store.disk
         → (reads : List BlockRead) × (runs : List Run) × IsShareCheck n known leaves file from to reads runs
-        × HasCalls history honest faults disk (map (call_of n) reads) after
+        × HasCalls conduct disk (map (call_of n) reads) after
         × HoldsLeaves n known (leaves_after leaves (share_reads (block_count n) from to reads) n known) k × Appends old new (runs_text runs)
     share_checked to after end empty sound on =
         let read : length s.reads ≡ run.to - from = sym (length-map s.reads block_of) ∙ ap length s.each ∙ length-range_with_len from (run.to - from) in
@@ -372,7 +372,7 @@ module _ {D : Type 0} (history : D → History) (honest : D → Type 0) (faults 
                 (ap (λ m. list_any (λ r. is_fault r.met) s.runs || is_fault m) sound ∙ or_false (list_any (λ r. is_fault r.met) s.runs)) s.fault;
             no_length = s.no_length;
           },
-          subst (HasCalls history honest faults disk (map (call_of n) s.reads)) (sym on) s.calls,
+          subst (HasCalls conduct disk (map (call_of n) s.reads)) (sym on) s.calls,
           learned_after n known leaves from to k s.reads learned size inside,
           s.lines,
         )

@@ -8,7 +8,7 @@ use Rattle.std.proofs.lemmas.List.Elements.{All-append, All-head, All-nil, All-t
 use Rattle.std.proofs.lemmas.Nat.{pow_below}
 use Rattle.bt_tree.specs.Blocks.{block_count}
 use Rattle.bt_tree.specs.Limits.{full_block_length}
-use Rattle.bt_disk.specs.History.{History}
+use Rattle.bt_disk.specs.Conduct.{Conduct}
 use Rattle.bt_meta.specs.Files.{File}
 use Rattle.bt_meta.specs.Torrent.{Metainfo}
 use Rattle.bt_sparse.proofs.Values.{none_some}
@@ -22,7 +22,8 @@ use Rattle.bt_parts.specs.declared.cut.Share.{Share}
 use Rattle.bt_parts.specs.declared.run.Run.{Run}
 use Rattle.bt_parts.proofs.Cuts.{shares_whole}
 use Rattle.bt_jobs.specs.Law.{AreReports, none as no_report, more as more_reports, PartsAreWhole, runs_of}
-use Rattle.bt_jobs.specs.Part.{IsPartReport, device_faults, device_history, device_honest}
+use Rattle.bt_jobs.specs.Part.{IsPartReport}
+use Rattle.bt_disk.specs.Pool.{pooled_conduct}
 use Rattle.bt_jobs.specs.Plan.{IsCutOf, IsShareOf, total_of}
 use Rattle.bt_jobs.specs.Trees.{AreRunsOf, ArePartFindings, none, more, file_in_part, part_at}
 use Rattle.bt_jobs.specs.declared.trees.FilePart.{FilePart}
@@ -59,7 +60,7 @@ all_other number other runs ne all = λ k d lt e. ne (sym (all k d lt) ∙ e)
 all_behind : (number from : ℕ) (runs : List Run) → number < from → All (λ (r : Run). from ≤ r.file) runs → All (λ (r : Run). r.file ≢ number) runs
 all_behind number from runs lt all = λ k d inside e. absurd (omega (arith, lt, all k d inside, e))
 
-module _ {D : Type 0} (history : D → History) (honest : D → Type 0) (faults : D → ℕ) (layer : ℕ) where
+module _ {D : Type 0} (conduct : Conduct D) (layer : ℕ) where
   -- so many data files, with numbers from one on
   abbrev AreNumbered : ℕ → List (PartFile D) → Type 0
   AreNumbered a opened = map (λ (p : FilePart). p.number) (map part_at opened) ≡ range_with_len a (length opened)
@@ -72,7 +73,7 @@ module _ {D : Type 0} (history : D → History) (honest : D → Type 0) (faults 
 
   -- what they tell is of none of the files before
   told_from : (a : ℕ) (before after : List CheckedFile) (opened : List (PartFile D)) (runs : List Run)
-      → ArePartFindings history honest faults layer before opened runs after → AreNumbered a opened → All (λ (r : Run). a ≤ r.file) runs
+      → ArePartFindings conduct layer before opened runs after → AreNumbered a opened → All (λ (r : Run). a ≤ r.file) runs
   told_from a _ _ _ _ (none before) numbers = All-nil (λ (r : Run). a ≤ r.file)
   told_from a _ _ _ _ (more before mid after one rest own others is found are) numbers =
       let later = told_from (a + 1) mid after rest others are (next_numbers a one rest numbers) in
@@ -81,7 +82,7 @@ module _ {D : Type 0} (history : D → History) (honest : D → Type 0) (faults 
 
   -- the runs of one of them
   told_of : (a j : ℕ) (before after : List CheckedFile) (opened : List (PartFile D)) (runs : List Run) (one : PartFile D)
-      → ArePartFindings history honest faults layer before opened runs after → AreNumbered a opened → slice_get opened j ≡ Some one
+      → ArePartFindings conduct layer before opened runs after → AreNumbered a opened → slice_get opened j ≡ Some one
       → AreRunsOf one.part.number (block_count (file_in_part one.part).length) one.part.share (runs_of (a + j) runs)
   told_of a j _ _ _ _ one (none before) numbers at = absurd (none_some one at)
   told_of a zero _ _ _ _ one (more before mid after first rest own others is found are) numbers at =
@@ -163,7 +164,7 @@ module _ (dir : List ℕ) (torrent : Metainfo) (count number : ℕ) (file : File
       ap (λ (p : FilePart). p.share) (one.2 ∙ sym same_part) ∙ own_share.2 in
       let numbered : map (λ (p : FilePart). p.number) (map part_at r.opened) ≡ range_with_len 0 (length r.opened) =
       r.numbers ∙ ap (range_with_len 0) (sym (ap length r.files) ∙ lengths r.opened) in
-      let told = told_of device_history device_honest device_faults r.layer 0 number [] r.checked r.opened runs one.0 r.found numbered one.1 in
+      let told = told_of pooled_conduct r.layer 0 number [] r.checked r.opened runs one.0 r.found numbered one.1 in
       let place : 0 + number ≡ number = omega arith in
       let alike : (edge : ℕ) → cut_at here.0 edge ≡ cut_at cut edge = λ edge.
       cut_same here.0 cut edge (here.2.place ∙ sym is.place) (here.2.blocks ∙ sym is.blocks)

@@ -2,8 +2,7 @@
 use Rattle.std.specs.Prelude.{◌≡◌, ℕ, ◌*◌, ◌^◌, List, [], length, map, IfSome}
 use Rattle.std.specs.List.{All, range_with_len}
 use Rattle.bt_tree.specs.Limits.{full_block_length}
-use Rattle.bt_disk.specs.History.{History, new_history}
-use Rattle.bt_disk.specs.Pool.{PooledView}
+use Rattle.bt_disk.specs.Pool.{PooledView, pooled_conduct}
 use Rattle.bt_meta.specs.Torrent.{Metainfo}
 use Rattle.bt_check.specs.Check.{CheckedFile}
 use Rattle.bt_check.specs.Paths.{path_below}
@@ -12,18 +11,6 @@ use Rattle.bt_parts.specs.declared.run.Run.{Run}
 use Rattle.bt_jobs.specs.Plan.{AreShares}
 use Rattle.bt_jobs.specs.Trees.{ArePartFindings, file_in_part, part_at}
 use Rattle.bt_jobs.specs.declared.trees.PartFile.{PartFile}
-
--- ---- the devices of data files, as `Disk` has them
-
--- of what a file of the system holds nothing is known
-abbrev pub device_history : PooledView → History
-device_history disk = new_history []
-
-abbrev pub device_honest : PooledView → Type 0
-device_honest disk = ⊥
-
-abbrev pub device_faults : PooledView → ℕ
-device_faults disk = disk.failed
 
 -- ---- what is told
 
@@ -42,4 +29,4 @@ pub record IsPartReport (dir : List ℕ) (torrent : Metainfo) (part : Part) (run
   pub shares : AreShares layer part torrent.files (map (λ p. p.share) (map part_at opened))
   pub paths : All (IsPartAt dir) opened
   pub checked : List CheckedFile
-  pub found : ArePartFindings device_history device_honest device_faults layer [] opened runs checked
+  pub found : ArePartFindings pooled_conduct layer [] opened runs checked

@@ -3,7 +3,7 @@ use Rattle.std.specs.Prelude.{◌≡◌, ℕ, ◌+◌, ◌-◌, ◌*◌, ◌/◌
 use Rattle.std.specs.Io.KnownBytes.{Appends, Keeps}
 use Rattle.std.specs.List.{All, flat_map, list_any, range_with_len}
 use Rattle.bt_tree.specs.Blocks.{block_count}
-use Rattle.bt_disk.specs.History.{History}
+use Rattle.bt_disk.specs.Conduct.{Conduct}
 use Rattle.bt_disk.specs.Calls.{HasCalls}
 use Rattle.bt_sparse.specs.SparseTree.{Facts}
 use Rattle.bt_store.specs.BlockReads.{BlockRead, failed, block_of, call_of, fault_count}
@@ -55,15 +55,15 @@ IsReadyAt block k = (known : KnownLayer) × (leaves : ℕ → Option (List ℕ))
 
 -- The blocks of a share were checked by what a tree knows: these calls lead from the old device to the new
 -- one, the tree learns the leaves of the pieces that are right, and a line was written for each run.
-abbrev pub ChecksShare : {D : Type 0} → (D → History) → (D → Type 0) → (D → ℕ) → Facts → ℕ → Share → D → D
+abbrev pub ChecksShare : {D : Type 0} → Conduct D → Facts → ℕ → Share → D → D
     → Facts → (old new : Option (List ℕ)) → Type 0
-ChecksShare history honest faults tree file share disk after grown old new =
+ChecksShare conduct tree file share disk after grown old new =
     let n = tree.file_length in
     (known : KnownLayer) (leaves : ℕ → Option (List ℕ)) → HoldsLeaves n known leaves tree
     → IsPieceEdge known n share.from
     → (reads : List BlockRead) × (runs : List Run)
     × IsShareCheck n known leaves file share.from share.to reads runs
-    × HasCalls history honest faults disk (map (call_of n) reads) after
+    × HasCalls conduct disk (map (call_of n) reads) after
     × HoldsLeaves n known (leaves_after leaves
     (share_reads (block_count n) share.from share.to reads) n known) grown
     × Appends old new (runs_text runs)

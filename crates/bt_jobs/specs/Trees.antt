@@ -3,7 +3,7 @@
 use Rattle.std.specs.Prelude.{◌≡◌, ◌≢◌, ℕ, ◌-◌, ◌<◌, ◌≤◌, ◌↔◌, ◌⊎◌, if◌then◌else◌, IsTrue, IsSomeAnd, List, [], ◌∷◌, ◌++◌, Option, None, Some, map}
 use Rattle.std.specs.List.{All, list_any, range_with_len}
 use Rattle.bt_tree.specs.Blocks.{block_count}
-use Rattle.bt_disk.specs.History.{History}
+use Rattle.bt_disk.specs.Conduct.{Conduct}
 use Rattle.bt_disk.specs.Calls.{Call, HasCalls}
 use Rattle.bt_store.specs.BlockReads.{BlockRead, block_of, call_of, fault_count}
 use Rattle.bt_meta.specs.Files.{File, file_of}
@@ -69,32 +69,32 @@ pub record IsShareFinding (layer : ℕ) (before : List CheckedFile) (file : File
 
 -- What is told of a share of a file, by the answers of its device, and which files are read then. There is no
 -- device, and no block is right; or there is one, of whose blocks the share has none, or some.
-pub data IsPartFinding {D : Type 0} (history : D → History) (honest : D → Type 0) (faults : D → ℕ) (layer : ℕ)
+pub data IsPartFinding {D : Type 0} (conduct : Conduct D) (layer : ℕ)
     (before : List CheckedFile) (file : File) (share : Share) (runs : List Run)
     : Option D → List CheckedFile → Type 0 where
   absent : All (λ run. (run.marked ≡ 0) × (run.met ≡ Absent)) runs
-      → IsPartFinding history honest faults layer before file share runs None before
+      → IsPartFinding conduct layer before file share runs None before
   blockless : (disk after : D) (len : Option ℕ) (reads : List BlockRead) → share.to ≤ share.from
-      → HasCalls history honest faults disk (share_calls file.length share len reads) after
+      → HasCalls conduct disk (share_calls file.length share len reads) after
       → IsShareFinding layer before file share len reads runs
-      → IsPartFinding history honest faults layer before file share runs (Some disk) before
+      → IsPartFinding conduct layer before file share runs (Some disk) before
   read : (disk after : D) (len : Option ℕ) (reads : List BlockRead)
-      → HasCalls history honest faults disk (share_calls file.length share len reads) after
+      → HasCalls conduct disk (share_calls file.length share len reads) after
       → IsShareFinding layer before file share len reads runs
-      → IsPartFinding history honest faults layer before file share runs (Some disk)
+      → IsPartFinding conduct layer before file share runs (Some disk)
       (before ++ record { file = file; answers = answers_of file.length share len reads } ∷ [])
 
 -- what is told of some files, each after those before it, and which are read then
-pub data ArePartFindings {D : Type 0} (history : D → History) (honest : D → Type 0) (faults : D → ℕ)
+pub data ArePartFindings {D : Type 0} (conduct : Conduct D)
     (layer : ℕ) : List CheckedFile → List (PartFile D) → List Run → List CheckedFile → Type 0 where
-  none : (before : List CheckedFile) → ArePartFindings history honest faults layer before [] [] before
+  none : (before : List CheckedFile) → ArePartFindings conduct layer before [] [] before
   more : (before mid after : List CheckedFile) (one : PartFile D) (rest : List (PartFile D))
       (runs others : List Run)
       → AreRunsOf one.part.number (block_count (file_in_part one.part).length) one.part.share runs
-      → IsPartFinding history honest faults layer before (file_in_part one.part) one.part.share runs
+      → IsPartFinding conduct layer before (file_in_part one.part) one.part.share runs
       one.disk mid
-      → ArePartFindings history honest faults layer mid rest others after
-      → ArePartFindings history honest faults layer before (one ∷ rest) (runs ++ others) after
+      → ArePartFindings conduct layer mid rest others after
+      → ArePartFindings conduct layer before (one ∷ rest) (runs ++ others) after
 
 -- ---- what a part asks for
 

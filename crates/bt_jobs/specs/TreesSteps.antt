@@ -3,7 +3,7 @@ use Rattle.std.specs.Prelude.{◌≡◌, ◌↔◌, ◌⊎◌, ◌++◌, ◌<◌
 use Rattle.std.specs.List.{All}
 use Rattle.std.specs.Io.KnownBytes.{Appends, Keeps}
 use Rattle.bt_tree.specs.Blocks.{block_count}
-use Rattle.bt_disk.specs.History.{History}
+use Rattle.bt_disk.specs.Conduct.{Conduct}
 use Rattle.bt_disk.specs.Calls.{HasCalls}
 use Rattle.bt_meta.specs.Files.{File}
 use Rattle.bt_store.specs.BlockReads.{BlockRead, call_of}
@@ -74,11 +74,11 @@ pub data AreLengthRuns (part : FilePart) (len : Option ℕ) : List Run → Type 
 
 -- The length of a data file was told, where the part has the byte at which it begins: no other call led from
 -- the old device to the new one.
-abbrev pub TellsLength : {D : Type 0} → (D → History) → (D → Type 0) → (D → ℕ) → FilePart → D → D
+abbrev pub TellsLength : {D : Type 0} → Conduct D → FilePart → D → D
     → (old new : Option (List ℕ)) → Type 0
-TellsLength history honest faults part disk after old new =
+TellsLength conduct part disk after old new =
     (len : Option ℕ) × (runs : List Run) × AreLengthRuns part len runs
-    × HasCalls history honest faults disk (length_calls part.share len) after
+    × HasCalls conduct disk (length_calls part.share len) after
     × Appends old new (runs_text runs)
 
 -- ---- a file that is not there
@@ -114,28 +114,28 @@ TellsAbsent part old new = (runs : List Run)
 
 -- The blocks of a part were read and told, if it has some, and what is kept of any file is so after it too,
 -- whatever length the device tells.
-abbrev pub ChecksBlocks : {D : Type 0} → (D → History) → (D → Type 0) → (D → ℕ) → ℕ → FilePart → D → Kept
+abbrev pub ChecksBlocks : {D : Type 0} → Conduct D → ℕ → FilePart → D → Kept
     → Kept → (old new : Option (List ℕ)) → Type 0
-ChecksBlocks {D} history honest faults layer part disk kept grown old new =
+ChecksBlocks {D} conduct layer part disk kept grown old new =
     let file = file_in_part part in
     (before : List CheckedFile) → HasTree layer before file kept → KnowsOwn layer before file
     → (reads : List BlockRead) × (runs : List Run) × (last : D)
     × IsShareCheck file.length (layer_before layer before file) (leaves_before layer before file) part.number
     part.share.from part.share.to reads runs
-    × HasCalls history honest faults disk (map (call_of file.length) reads) last
+    × HasCalls conduct disk (map (call_of file.length) reads) last
     × ((len : Option ℕ) → KeepsOthers layer before file part.share
     (answers_of file.length part.share len reads) kept grown)
     × Appends old new (runs_text runs)
 
 -- A part of a file was checked and told, and what is kept of any file is so after it too.
-abbrev pub ChecksPart : {D : Type 0} → (D → History) → (D → Type 0) → (D → ℕ) → ℕ → FilePart → Option D → Kept
+abbrev pub ChecksPart : {D : Type 0} → Conduct D → ℕ → FilePart → Option D → Kept
     → Kept → (old new : Option (List ℕ)) → Type 0
-ChecksPart history honest faults layer part disk kept grown old new =
+ChecksPart conduct layer part disk kept grown old new =
     let file = file_in_part part in
     (before : List CheckedFile) → HasTree layer before file kept → KnowsOwn layer before file
     → (runs : List Run) × (after : List CheckedFile)
     × AreRunsOf part.number (block_count file.length) part.share runs
-    × IsPartFinding history honest faults layer before file part.share runs disk after
+    × IsPartFinding conduct layer before file part.share runs disk after
     × ((other : File) → HasTree layer before other kept → HasTree layer after other grown)
     × Appends old new (runs_text runs)
 
@@ -149,14 +149,14 @@ IsNextPart layer part trees =
     × GoByRoots layer_at (file_in_part part ∷ [])
 
 -- It was checked and told, and the trees are kept for the files behind it.
-abbrev pub ChecksNext : {D : Type 0} → (D → History) → (D → Type 0) → (D → ℕ) → ℕ → PartFile D → PartTrees
+abbrev pub ChecksNext : {D : Type 0} → Conduct D → ℕ → PartFile D → PartTrees
     → PartTrees → (old new : Option (List ℕ)) → Type 0
-ChecksNext history honest faults layer one trees grown old new =
+ChecksNext conduct layer one trees grown old new =
     let file = file_in_part one.part in
     (layer_at : ℕ → List ℕ → List ℕ) (before : List CheckedFile) (rest : List File)
     → KeepsParts layer layer_at before (file ∷ rest) trees → GoByRoots layer_at (file ∷ [])
     → (runs : List Run) × (after : List CheckedFile)
     × AreRunsOf one.part.number (block_count file.length) one.part.share runs
-    × IsPartFinding history honest faults layer before file one.part.share runs one.disk after
+    × IsPartFinding conduct layer before file one.part.share runs one.disk after
     × KeepsParts layer layer_at after rest grown
     × Appends old new (runs_text runs)

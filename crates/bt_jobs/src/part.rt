@@ -169,7 +169,7 @@ fn check_each<D: Disk + Drop, W: Write>(
         × GoByRoots layer_at (map file_in_part (map part_at files.items))
         × KeepsParts size.layer layer_at [] (map file_in_part (map part_at files.items)) trees.old }
     ensures told { OnOk result ((runs : List BlockRun) × (checked : List CheckedFile)
-        × ArePartFindings D.history D.honest D.faults size.layer [] files.entry.items runs checked
+        × ArePartFindings D.conduct size.layer [] files.entry.items runs checked
         × Appends (W.contents writer.old) (W.contents writer.new) (runs_text runs)) }
     ensures fault { IfErr result (λ fault. (fault ≡ device) ⊎ (fault ≡ out_of_memory)) }
 {

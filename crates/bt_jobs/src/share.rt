@@ -42,7 +42,7 @@ pub(crate) fn check_share<D: Disk + Drop, W: Write>(
     requires ready { IsReadyAt share.from tree.old }
     requires forward { share.from ≤ share.to }
     requires inside { share.to ≤ block_count tree.old.file_length }
-    ensures checked { IfOk result (λ after. ChecksShare D.history D.honest D.faults tree.old file share disk
+    ensures checked { IfOk result (λ after. ChecksShare D.conduct tree.old file share disk
         after tree.new (W.contents writer.old) (W.contents writer.new)) }
     ensures fault { IfErr result (λ fault. (fault ≡ device) ⊎ (fault ≡ out_of_memory)) }
 {
@@ -116,7 +116,7 @@ fn adopt_ahead<D: Disk + Drop>(
 ) -> Result<AdoptedGroups, AllocError>
     requires geometry { tree.old.file_length ≡ store.old.file_length }
     requires inside { from < block_count store.old.file_length }
-    ensures ok { IfOk result (λ adopted. (reads : List BlockRead) × AreAdopted D.history D.honest D.faults
+    ensures ok { IfOk result (λ adopted. (reads : List BlockRead) × AreAdopted D.conduct
         sha256 tree.old from store.old reads adopted tree.new store.new) }
     ensures onward { IfOk result (λ adopted. from < adopted.next) }
     ensures within { IfOk result (λ adopted. adopted.next ≤ block_count store.old.file_length) }

@@ -81,7 +81,7 @@ impl PartTrees {
     ) -> Result<(), Fault>
         requires ready { IsReadyPart size.layer opened.part }
         requires trees { IsNextPart size.layer opened.part self.old }
-        ensures told { OnOk result (ChecksNext D.history D.honest D.faults size.layer opened.entry
+        ensures told { OnOk result (ChecksNext D.conduct size.layer opened.entry
             self.old self.new (W.contents writer.old) (W.contents writer.new)) }
         ensures fault { IfErr result (λ fault. (fault ≡ device) ⊎ (fault ≡ out_of_memory)) }
     {
@@ -125,7 +125,7 @@ fn check_file<D: Disk + Drop, W: Write>(
     requires ready { IsReadyPart size.layer part }
     requires tree { (before : List CheckedFile) × HasTree size.layer before (file_in_part part) kept.old
         × KnowsOwn size.layer before (file_in_part part) }
-    ensures told { OnOk result (ChecksPart D.history D.honest D.faults size.layer part.entry disk
+    ensures told { OnOk result (ChecksPart D.conduct size.layer part.entry disk
         kept.old kept.new (W.contents writer.old) (W.contents writer.new)) }
     ensures fault { IfErr result (λ fault. (fault ≡ device) ⊎ (fault ≡ out_of_memory)) }
 {
@@ -147,7 +147,7 @@ fn check_present<D: Disk + Drop, W: Write>(
     requires ready { IsReadyPart size.layer part }
     requires tree { (before : List CheckedFile) × HasTree size.layer before (file_in_part part) kept.old
         × KnowsOwn size.layer before (file_in_part part) }
-    ensures told { OnOk result (ChecksPart D.history D.honest D.faults size.layer part.entry (Some disk)
+    ensures told { OnOk result (ChecksPart D.conduct size.layer part.entry (Some disk)
         kept.old kept.new (W.contents writer.old) (W.contents writer.new)) }
     ensures fault { IfErr result (λ fault. (fault ≡ device) ⊎ (fault ≡ out_of_memory)) }
 {
@@ -163,7 +163,7 @@ fn tell_length<D: Disk, W: Write>(
     disk: &mut D,
     writer: &mut W,
 ) -> Result<(), Fault>
-    ensures told { OnOk result (TellsLength D.history D.honest D.faults part.entry disk.old disk.new
+    ensures told { OnOk result (TellsLength D.conduct part.entry disk.old disk.new
         (W.contents writer.old) (W.contents writer.new)) }
     ensures fault { IfErr result (λ fault. (fault ≡ device) ⊎ (fault ≡ out_of_memory)) }
 {
@@ -187,7 +187,7 @@ fn check_blocks<D: Disk + Drop, W: Write>(
     requires ready { IsReadyPart size.layer part }
     requires tree { (before : List CheckedFile) × HasTree size.layer before (file_in_part part) kept.old
         × KnowsOwn size.layer before (file_in_part part) }
-    ensures told { OnOk result (ChecksBlocks D.history D.honest D.faults size.layer part.entry disk
+    ensures told { OnOk result (ChecksBlocks D.conduct size.layer part.entry disk
         kept.old kept.new (W.contents writer.old) (W.contents writer.new)) }
     ensures fault { IfErr result (λ fault. (fault ≡ device) ⊎ (fault ≡ out_of_memory)) }
 {
@@ -212,7 +212,7 @@ fn check_known<D: Disk + Drop, W: Write>(
     requires lawful { IsFileLength geometry }
     requires tree { (before : List CheckedFile) × HasTree size.layer before (file_in_part part) kept.old
         × KnowsOwn size.layer before (file_in_part part) }
-    ensures told { OnOk result (ChecksBlocks D.history D.honest D.faults size.layer part.entry disk
+    ensures told { OnOk result (ChecksBlocks D.conduct size.layer part.entry disk
         kept.old kept.new (W.contents writer.old) (W.contents writer.new)) }
     ensures fault { IfErr result (λ fault. (fault ≡ device) ⊎ (fault ≡ out_of_memory)) }
 {
@@ -290,7 +290,7 @@ fn tell_none<W: Write>(
 
 /// How many bytes a device has; none where the call failed.
 fn length_of<D: Disk>(disk: &mut D) -> Option<u64>
-    ensures { HasCalls D.history D.honest D.faults disk.old (len_call_of result ∷ []) disk.new }
+    ensures { HasCalls D.conduct disk.old (len_call_of result ∷ []) disk.new }
 {
     match disk.len() {
         Ok(length) => Some(length),

@@ -7,7 +7,7 @@ use Rattle.bt_meta.specs.Files.{File}
 use Rattle.bt_meta.specs.Torrent.{Metainfo}
 use Rattle.bt_check.specs.declared.fault.Fault.{Fault}
 use Rattle.bt_log_file.specs.Attaching.{IsAttachFault}
-use Rattle.bt_log_file.specs.Device.{LogDiskView, device_faults, device_history, device_honest}
+use Rattle.bt_log_file.specs.Device.{LogDiskView, device_conduct}
 use Rattle.bt_log_file.specs.Names.{HasNameOfFile}
 use Rattle.bt_log_file.specs.Opening.{IsFileFault, IsLogFaultOf, IsNameFault}
 
@@ -30,9 +30,9 @@ module _ (known : KnownFiles) (identity : Option FileIdentity) (torrent : Metain
 
   -- no log is opened on its device
   pub of_device : (infohash : List ℕ) → infohash ≡ torrent.infohash
-      → IsAttachFault device_history device_honest device_faults infohash disk fault → IsLogFaultOf known identity torrent path disk fault
+      → IsAttachFault device_conduct infohash disk fault → IsLogFaultOf known identity torrent path disk fault
   of_device infohash whose is =
-      inr (inr (subst (λ (h : List ℕ). IsAttachFault device_history device_honest device_faults h disk fault) whose is))
+      inr (inr (subst (λ (h : List ℕ). IsAttachFault device_conduct h disk fault) whose is))
 
 -- ---- what holds where a result is a value, or a fault
 

@@ -1,6 +1,6 @@
 -- Why a log is not opened on a device, as the program tells it.
 use Rattle.std.specs.Prelude.{◌≡◌, ℕ, List, Err}
-use Rattle.bt_disk.specs.History.{History}
+use Rattle.bt_disk.specs.Conduct.{Conduct}
 use Rattle.bt_resume.specs.ResumeLog.{Opens}
 use Rattle.bt_resume.specs.declared.error.LogError.{LogError}
 use Rattle.bt_resume.specs.declared.error.LogError.TheVariants.{OtherTorrent, TooLong, Device, OutOfMemory}
@@ -15,9 +15,9 @@ log_fault Device = device
 log_fault OutOfMemory = out_of_memory
 
 -- the fault is that of the refusal which the log's opening on the device ended with
-pub record IsAttachFault {D : Type 0} (history : D → History) (honest : D → Type 0) (faults : D → ℕ)
+pub record IsAttachFault {D : Type 0} (conduct : Conduct D)
     (infohash : List ℕ) (disk : D) (fault : Fault) : Type 0 where
   pub cause : LogError
   pub after : D
-  pub opens : Opens history honest faults infohash disk (Err cause) after
+  pub opens : Opens conduct infohash disk (Err cause) after
   pub told : fault ≡ log_fault cause

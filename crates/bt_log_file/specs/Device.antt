@@ -1,10 +1,10 @@
 -- The device of a log's file.
 use Rattle.std.specs.Prelude.{ℕ, List, [], false}
-use Rattle.bt_ahead.specs.Disk.{AheadView, new_ahead}
+use Rattle.bt_ahead.specs.Disk.{AheadView, ahead_conduct, new_ahead}
 use Rattle.bt_disk.specs.FileDisk.{writing}
-use Rattle.bt_disk.specs.History.{History, new_history}
-use Rattle.bt_disk.specs.Pool.{PooledView}
-use Rattle.bt_folder.specs.SealedDisk.{SealedView, fault_count, new_sealed}
+use Rattle.bt_disk.specs.Conduct.{Conduct}
+use Rattle.bt_disk.specs.Pool.{PooledView, pooled_conduct}
+use Rattle.bt_folder.specs.SealedDisk.{SealedView, new_sealed, sealed_conduct}
 
 -- a device of a pool, which is read ahead, and may be closed to writes
 abbrev pub LogDiskView : Type 0
@@ -27,12 +27,5 @@ new_log_device at = new_sealed (new_ahead (new_log_file at))
 
 -- ---- such a device, as `Disk` has it
 
--- of what a file of the system holds nothing is known
-abbrev pub device_history : LogDiskView → History
-device_history disk = new_history []
-
-abbrev pub device_honest : LogDiskView → Type 0
-device_honest disk = ⊥
-
-abbrev pub device_faults : LogDiskView → ℕ
-device_faults disk = fault_count (λ (ahead : AheadView PooledView). ahead.failed) disk
+abbrev pub device_conduct : Conduct LogDiskView
+device_conduct = sealed_conduct (ahead_conduct pooled_conduct)

@@ -10,7 +10,7 @@ use Rattle.bt_meta.specs.Torrent.{Metainfo}
 use Rattle.bt_check.specs.Fault.{device, log_among_files, out_of_memory}
 use Rattle.bt_check.specs.declared.fault.Fault.{Fault}
 use Rattle.bt_log_file.specs.Attaching.{IsAttachFault}
-use Rattle.bt_log_file.specs.Device.{LogDiskView, device_faults, device_history, device_honest, new_log_device}
+use Rattle.bt_log_file.specs.Device.{LogDiskView, device_conduct, new_log_device}
 use Rattle.bt_log_file.specs.Names.{HasNameOfFile}
 
 -- a call failed, or memory was refused
@@ -57,7 +57,7 @@ abbrev pub IsLogFaultOf : KnownFiles → Option FileIdentity → Metainfo → Li
 IsLogFaultOf known identity torrent path disk fault =
     IsCallFault fault
     ⊎ ((fault ≡ log_among_files) × IsAmongFiles known identity torrent.files path)
-    ⊎ IsAttachFault device_history device_honest device_faults torrent.infohash disk fault
+    ⊎ IsAttachFault device_conduct torrent.infohash disk fault
 
 -- why a log is not opened in the file at a path, whatever the system tells of it
 abbrev pub IsLogFault : KnownFiles → Metainfo → List ℕ → Fault → Type 0

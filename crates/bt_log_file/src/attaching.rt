@@ -15,8 +15,8 @@ pub(crate) fn attach_log<D: Disk + Drop>(
     disk: D,
     infohash: Hash32,
 ) -> Result<ResumeLog<D>, Fault>
-    ensures log { IfOk result (IsAttached D.history D.honest D.faults infohash disk) }
-    ensures fault { IfErr result (IsAttachFault D.history D.honest D.faults infohash disk) }
+    ensures log { IfOk result (IsAttached D.conduct infohash disk) }
+    ensures fault { IfErr result (IsAttachFault D.conduct infohash disk) }
 {
     match ResumeLog::attach(alloc, disk, infohash) {
         Ok(log) => Ok(log),

@@ -4,7 +4,7 @@ ghost use Rattle.std.specs.Bool.{OnFalse};
 ghost use Rattle.bt_folder.specs.KnownFiles.{IsKnown};
 ghost use Rattle.bt_meta.specs.Files.{file_of};
 ghost use Rattle.bt_resume.specs.ResumeLog.{IsAttached};
-ghost use Rattle.bt_log_file.specs.Device.{device_faults, device_history, device_honest, new_log_device};
+ghost use Rattle.bt_log_file.specs.Device.{device_conduct, new_log_device};
 ghost use Rattle.bt_log_file.specs.Names.{HasNameOfFile};
 ghost use Rattle.bt_log_file.specs.Opening.{AddsFile, AddsFurther, IsAdded, IsCallFault, IsFileFault, IsLogFault, IsLogFaultOf, IsNameFault, listing_fault};
 
@@ -40,7 +40,7 @@ pub fn open_log<'a, R: Files + AllocGlobal + Clone + Drop, P: Watch>(
     path: &str,
 ) -> Result<ResumeLog<LogDisk<'a, R, P>>, Fault>
     ensures log { IfOk result
-        (IsAttached device_history device_honest device_faults torrent.now.infohash (new_log_device path.now)) }
+        (IsAttached device_conduct torrent.now.infohash (new_log_device path.now)) }
     ensures further { OnOk result (AddsFurther known.old known.new) }
     ensures fault { IfErr result (IsLogFault known.old torrent.now path.now) }
 {
@@ -60,7 +60,7 @@ fn open_in_file<'a, R: Files + AllocGlobal + Clone + Drop, P: Watch>(
     opened: OpenedLog<LogDisk<'a, R, P>>,
 ) -> Result<ResumeLog<LogDisk<'a, R, P>>, Fault>
     ensures log { IfOk result
-        (IsAttached device_history device_honest device_faults torrent.now.infohash opened.entry.disk) }
+        (IsAttached device_conduct torrent.now.infohash opened.entry.disk) }
     ensures further { OnOk result (AddsFile known.old opened.entry.opening.identity known.new) }
     ensures fault { IfErr result
         (IsLogFaultOf known.old opened.entry.opening.identity torrent.now path.now opened.entry.disk) }

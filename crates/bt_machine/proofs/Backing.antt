@@ -26,6 +26,7 @@ use Rattle.bt_machine.proofs.Pairs.{to_pairs}
 use Rattle.bt_machine.proofs.Recovered.{recovered_backed, recovered_state}
 use Rattle.bt_machine.proofs.LogCalls.{by_reads, calls_back, logs_are, old_log, appends_hold, flush_kept}
 use Rattle.bt_machine.proofs.Followed.{HaveOwnRoots, KeepsBacked, kept_same, same_as_before, next_backs, connect_backs, feed_backs, lost_backs, rechoke_backs, adopt_backs}
+use Rattle.bt_disk.specs.Conduct.{Conduct}
 
 -- ---- answers
 
@@ -39,9 +40,9 @@ answer_cases backed _ rest e = inr (inl ((λ same. absurd cc), e))
 
 -- ---- openings
 
-module _ {D : Type 0} (history : D → History) (honest : D → Type 0) (faults : D → ℕ) where
-  opens_back : {infohash : List ℕ} {old new : D} {result : _} → Opens history honest faults infohash old result new → honest new → honest old
-  opens_back (opened result new some reads) h = by_reads history honest faults reads h
+module _ {D : Type 0} (conduct : Conduct D) where
+  opens_back : {infohash : List ℕ} {old new : D} {result : _} → Opens conduct infohash old result new → conduct.honest new → conduct.honest old
+  opens_back (opened result new some reads) h = by_reads conduct reads h
   opens_back (unmeasured new c) h = c.as_honest.1 h
   opens_back (made_anew new none c) h = c.as_honest.1 h
   opens_back (no_write new none c) h = c.as_honest.1 h
@@ -49,8 +50,8 @@ module _ {D : Type 0} (history : D → History) (honest : D → Type 0) (faults 
 
   -- ---- lists of calls
 
-  pub calls_split : (old : LogView D) (first more : List LogCall) (new : LogView D) → AreLogCalls history honest faults old (first ++ more) new
-      → (mid : LogView D) × AreLogCalls history honest faults old first mid × AreLogCalls history honest faults mid more new
+  pub calls_split : (old : LogView D) (first more : List LogCall) (new : LogView D) → AreLogCalls conduct old (first ++ more) new
+      → (mid : LogView D) × AreLogCalls conduct old first mid × AreLogCalls conduct mid more new
   calls_split old [] more new c = (old, refl, c)
   calls_split old (call ∷ first) more new c =
       let rest = calls_split c.0 first more new c.2 in
@@ -60,8 +61,8 @@ module _ {D : Type 0} (history : D → History) (honest : D → Type 0) (faults 
   none_first [] more e = (refl, e)
   none_first (call ∷ first) more e = absurd cc
 
-  pub log_split : (o n : Option (LogView D)) (first more : List LogCall) → HaveLogCalls history honest faults o (first ++ more) n
-      → (m : Option (LogView D)) × HaveLogCalls history honest faults o first m × HaveLogCalls history honest faults m more n
+  pub log_split : (o n : Option (LogView D)) (first more : List LogCall) → HaveLogCalls conduct o (first ++ more) n
+      → (m : Option (LogView D)) × HaveLogCalls conduct o first m × HaveLogCalls conduct m more n
   log_split (Some old) (Some new) first more c =
       let split = calls_split old first more new c in
       (Some split.0, split.1, split.2)
@@ -73,22 +74,22 @@ module _ {D : Type 0} (history : D → History) (honest : D → Type 0) (faults 
 
   module _ (dig : Digest) where
     pub begins_of : {torrent : Metainfo} {placed : List (Option D)} {log : Option (LogView D)} {first : EngineView D}
-        → BeginsOn history honest faults dig torrent placed log first → Begins dig torrent first.state
+        → BeginsOn conduct dig torrent placed log first → Begins dig torrent first.state
     begins_of (bare_on none starts disks gone) = bare starts
     begins_of (with_log_on l calls is same starts have log_is) = with_log l.hints calls starts
 
     pub log_of : {torrent : Metainfo} {placed : List (Option D)} {log : LogView D} {first : EngineView D}
-        → BeginsOn history honest faults dig torrent placed (Some log) first → first.log ≡ Some log
+        → BeginsOn conduct dig torrent placed (Some log) first → first.log ≡ Some log
     log_of (bare_on none starts disks gone) = absurd cc
     log_of (with_log_on l calls is same starts have log_is) = log_is
 
     pub record Opened (torrent : Metainfo) (placed : List (Option D)) (log : LogView D) (new : EngineView D) : Type 0 where
       pub calls : DeviceCalls
       pub recovers : Recovers dig (unopened torrent) log.hints calls new.state
-      pub have : HaveCalls history honest faults placed calls new.disks
+      pub have : HaveCalls conduct placed calls new.disks
 
     pub opened_by : {torrent : Metainfo} {placed : List (Option D)} {log : LogView D} {new : EngineView D}
-        → BeginsOn history honest faults dig torrent placed (Some log) new → Opened torrent placed log new
+        → BeginsOn conduct dig torrent placed (Some log) new → Opened torrent placed log new
     opened_by (bare_on none starts disks gone) = absurd cc
     opened_by {torrent} {log = log} {new = new} (with_log_on l calls is same starts have log_is) = record {
       calls = calls;
@@ -105,16 +106,16 @@ module _ {D : Type 0} (history : D → History) (honest : D → Type 0) (faults 
     nothing_pending {new} text backed is none =
         subst (IsBacked dig new) (is ∙ sym (append-nil (hints_in text)) ∙ ap (λ hs. hints_in text ++ hs) (sym none)) backed
 
-    pub start_backed : AttachHolds history honest faults → StartIsBacked history honest faults dig
+    pub start_backed : AttachHolds conduct → StartIsBacked conduct dig
     start_backed attach torrent given disk log new size attached begins now is h =
         let o = opened_by begins in
         let same : log ≡ now = inner (sym (log_of begins) ∙ is) in
-        let was_honest = opens_back attached.opens (subst (λ (l : LogView D). honest l.disk) (sym same) h) in
+        let was_honest = opens_back attached.opens (subst (λ (l : LogView D). conduct.honest l.disk) (sym same) h) in
         let held = attach torrent.infohash disk log size was_honest attached in
         let state = recovered_state dig o.recovers in
         let backed = recovered_backed dig (unopened torrent) new.state log.hints o.calls o.recovers in (
           state.0,
-          subst (λ l. IsBackedBy history honest faults dig new.state l) same (record {
+          subst (λ l. IsBackedBy conduct dig new.state l) same (record {
             text = held.0;
             holds = held.2;
             backed = nothing_pending held.0 backed held.1 state.1;
@@ -130,34 +131,34 @@ module _ {D : Type 0} (history : D → History) (honest : D → Type 0) (faults 
     record Goes (s : EngineState) (text : LogText) (answer : Answer) (new : EngineState) (log : LogView D) : Type 0 where
       logged : new.logged ≡ true
       now : LogText
-      holds : Holds history honest faults log now now
+      holds : Holds conduct log now now
       backed : answer ≢ Restarted (Err OutOfMemory) → IsBacked dig s (hints_in text ++ s.pending) → IsBacked dig new (hints_in now ++ new.pending)
       again : answer ≡ Restarted (Ok tt) → IsBacked dig new (hints_in now ++ new.pending)
 
-    module _ (reload : ReloadHolds history honest faults) (append : AppendHolds history honest faults) (flush : FlushHolds history honest faults) where
+    module _ (reload : ReloadHolds conduct) (append : AppendHolds conduct) (flush : FlushHolds conduct) where
       -- the log is not called, or holds what it held
-      holds_same : {s new : EngineState} {was log : LogView D} {answer : Answer} (text : LogText) → Holds history honest faults was text text → log ≡ was
+      holds_same : {s new : EngineState} {was log : LogView D} {answer : Answer} (text : LogText) → Holds conduct was text text → log ≡ was
           → KeepsBacked dig s new → s.logged ≡ true → answer ≢ Restarted (Ok tt) → Goes s text answer new log
       holds_same text holds same kept is other = record {
         logged = kept.logged ∙ is;
         now = text;
-        holds = subst (λ l. Holds history honest faults l text text) (sym same) holds;
+        holds = subst (λ l. Holds conduct l text text) (sym same) holds;
         backed = λ x old. kept.backed is (hints_in text) old;
         again = λ e. absurd (other e);
       }
 
-      quiet : {s new : EngineState} {was log : LogView D} {calls : List LogCall} {answer : Answer} (text : LogText) → Holds history honest faults was text text
-          → calls ≡ [] → AreLogCalls history honest faults was calls log → KeepsBacked dig s new → s.logged ≡ true → answer ≢ Restarted (Ok tt)
+      quiet : {s new : EngineState} {was log : LogView D} {calls : List LogCall} {answer : Answer} (text : LogText) → Holds conduct was text text
+          → calls ≡ [] → AreLogCalls conduct was calls log → KeepsBacked dig s new → s.logged ≡ true → answer ≢ Restarted (Ok tt)
           → Goes s text answer new log
       quiet {was = was} {log = log} text holds none made kept is other =
-          holds_same text holds (subst (λ cs. AreLogCalls history honest faults was cs log) none made) kept is other
+          holds_same text holds (subst (λ cs. AreLogCalls conduct was cs log) none made) kept is other
 
       flush_goes : {s new : EngineState} {was log : LogView D} {calls : EventCalls} {r : Result (Unit {0}) FlushError} {answer : Answer} (text : LogText)
-          → StepFlush s calls r new → answer ≢ Restarted (Ok tt) → AreLogCalls history honest faults was calls.log log → honest log.disk → s.logged ≡ true
-          → Holds history honest faults was text text → Goes s text answer new log
+          → StepFlush s calls r new → answer ≢ Restarted (Ok tt) → AreLogCalls conduct was calls.log log → conduct.honest log.disk → s.logged ≡ true
+          → Holds conduct was text text → Goes s text answer new log
       flush_goes text (syncs none made ok same) other c h is holds = absurd cc
       flush_goes {was = was} {log = log} text (writes x made ok after) other c h is holds =
-          let k = flush_kept history honest faults dig append flush was log text (record { made = made; after = after }) c h holds in
+          let k = flush_kept conduct dig append flush was log text (record { made = made; after = after }) c h holds in
           record {
             logged = ap (λ z. z.logged) after ∙ is;
             now = k.now;
@@ -168,14 +169,14 @@ module _ {D : Type 0} (history : D → History) (honest : D → Type 0) (faults 
       flush_goes text (fails before file after files made refused same) other c h is holds =
           quiet text holds (ap (λ (z : EventCalls). z.log) made) c (kept_same dig (same_as_before same)) is other
       flush_goes {s} {was = was} {log = log} text (unwritten before hint after cause x pending made refused same) other c h is holds =
-          let all = subst (λ (z : EventCalls). AreLogCalls history honest faults was z.log log) made c in
-          let a = appends_hold history honest faults append before was log (append_fault hint cause ∷ []) text text h all holds in
+          let all = subst (λ (z : EventCalls). AreLogCalls conduct was z.log log) made c in
+          let a = appends_hold conduct append before was log (append_fault hint cause ∷ []) text text h all holds in
           let last = a.1.rest in
           let failed = append hint a.0 last.0 (Err cause) text (with_hints text before) a.1.was_honest last.1.0 last.1.1 a.1.holds in
           holds_same text failed last.2 (kept_same dig (same_as_before same)) is other
       flush_goes {s} {was = was} {log = log} text (unflushed x made refused same) other c h is holds =
-          let all = subst (λ (z : EventCalls). AreLogCalls history honest faults was z.log log) made c in
-          let a = appends_hold history honest faults append s.pending was log (flush_fault ∷ []) text text h all holds in
+          let all = subst (λ (z : EventCalls). AreLogCalls conduct was z.log log) made c in
+          let a = appends_hold conduct append s.pending was log (flush_fault ∷ []) text text h all holds in
           let last = a.1.rest in
           let failed = flush a.0 last.0 (Err last.1.0) text (with_hints text s.pending) a.1.was_honest last.1.1 a.1.holds in
           holds_same text failed last.2 (kept_same dig (same_as_before same)) is other
@@ -184,42 +185,42 @@ module _ {D : Type 0} (history : D → History) (honest : D → Type 0) (faults 
       refused_not e f = absurd cc
 
       restart_goes : {s new : EngineState} {was log : LogView D} {calls : EventCalls} {r : Result (Unit {0}) RestartError} (text : LogText)
-          → StepRestart dig s calls r new → AreLogCalls history honest faults was calls.log log → honest log.disk → s.logged ≡ true
-          → Holds history honest faults was text text → Goes s text (Restarted r) new log
+          → StepRestart dig s calls r new → AreLogCalls conduct was calls.log log → conduct.honest log.disk → s.logged ≡ true
+          → Holds conduct was text text → Goes s text (Restarted r) new log
       restart_goes text (restarts hints (no_log none log_is no_hint) recovers places ok) c h is holds = absurd cc
       restart_goes {s} {new} {was} {log} {calls} text (restarts hints (read_again x log_is) recovers places ok) c h is holds =
-          let one = subst (λ cs. AreLogCalls history honest faults was cs log) log_is c in
-          let was_honest = calls_back history honest faults was calls.log log c h in
+          let one = subst (λ cs. AreLogCalls conduct was cs log) log_is c in
+          let was_honest = calls_back conduct was calls.log log c h in
           let again = reload was one.0 (Ok tt) text text was_honest one.1.0 holds in
           let state = recovered_state dig recovers in
           let backed = nothing_pending again.0 (recovered_backed dig s new hints calls.devices recovers) (sym one.1.1 ∙ again.1) state.1 in
           record {
             logged = state.0 ∙ is;
             now = again.0;
-            holds = subst (λ l. Holds history honest faults l again.0 again.0) (sym one.2) again.2;
+            holds = subst (λ l. Holds conduct l again.0 again.0) (sym one.2) again.2;
             backed = λ x old. backed;
             again = λ e. backed;
           }
       restart_goes {was = was} {log = log} {calls = calls} text (unread cause x made refused same) c h is holds =
-          let one = subst (λ (z : EventCalls). AreLogCalls history honest faults was z.log log) made c in
-          let failed = reload was one.0 (Err cause) text text (calls_back history honest faults was calls.log log c h) one.1 holds in
+          let one = subst (λ (z : EventCalls). AreLogCalls conduct was z.log log) made c in
+          let failed = reload was one.0 (Err cause) text text (calls_back conduct was calls.log log c h) one.1 holds in
           holds_same text failed.0 one.2 (kept_same dig (same_as_before same)) is (refused_not refused)
       restart_goes text (not_restarted hints (no_log none log_is no_hint) no_read refused after) c h is holds = absurd cc
       restart_goes {was = was} {log = log} {calls = calls} text (not_restarted hints (read_again x log_is) no_read refused after) c h is holds =
-          let one = subst (λ cs. AreLogCalls history honest faults was cs log) log_is c in
-          let again = reload was one.0 (Ok tt) text text (calls_back history honest faults was calls.log log c h) one.1.0 holds in
+          let one = subst (λ cs. AreLogCalls conduct was cs log) log_is c in
+          let again = reload was one.0 (Ok tt) text text (calls_back conduct was calls.log log c h) one.1.0 holds in
           record {
             logged = ap (λ z. z.logged) after ∙ is;
             now = again.0;
-            holds = subst (λ l. Holds history honest faults l again.0 again.0) (sym one.2) again.2;
+            holds = subst (λ l. Holds conduct l again.0 again.0) (sym one.2) again.2;
             backed = λ other old. absurd (other (ap (λ r. Restarted r) refused));
             again = λ e. absurd (refused_not refused e);
           }
 
       module _ (sizes : IsDigest dig) (rooted : KeepsRooted dig) (lead : GroupProofsFollow dig) (others : OtherRootsStay dig) where
         step_goes : {s new : EngineState} {was log : LogView D} (event : Event) (calls : EventCalls) (answer : Answer) (text : LogText) → HaveOwnRoots s.trees
-            → AreSparseTrees dig s → Step dig s event calls answer new → AreLogCalls history honest faults was calls.log log → honest log.disk
-            → s.logged ≡ true → Holds history honest faults was text text → Goes s text answer new log
+            → AreSparseTrees dig s → Step dig s event calls answer new → AreLogCalls conduct was calls.log log → conduct.honest log.disk
+            → s.logged ≡ true → Holds conduct was text text → Goes s text answer new log
         step_goes Connect calls answer text own sparse t c h is holds =
             quiet text holds (ap (λ (z : EventCalls). z.log) t.2) c (connect_backs dig t.3) is (λ e. absurd cc)
         step_goes (Feed key bytes) calls answer text own sparse t c h is holds =
@@ -238,11 +239,11 @@ module _ {D : Type 0} (history : D → History) (honest : D → Type 0) (faults 
         own_roots : {torrent : Metainfo} {s : EngineState} → IsShaped torrent s → HaveOwnRoots s.trees
         own_roots {s = s} shaped = to_pairs (λ (j k : Facts). j.root ≢ k.root) s.trees shaped.roots
 
-        pub step_backed : StepKeepsBacking history honest faults dig
+        pub step_backed : StepKeepsBacking conduct dig
         step_backed old new event answer shaped sparse other step backing log is h =
-            let was = old_log history honest faults old.log new.log step.calls.log is step.logged in
-            let c = logs_are history honest faults old.log new.log step.calls.log was.1 is step.logged in
-            let b = backing was.0 was.1 (calls_back history honest faults was.0 step.calls.log log c h) in
+            let was = old_log conduct old.log new.log step.calls.log is step.logged in
+            let c = logs_are conduct old.log new.log step.calls.log was.1 is step.logged in
+            let b = backing was.0 was.1 (calls_back conduct was.0 step.calls.log log c h) in
             let g = step_goes event step.calls answer b.1.text (own_roots shaped) sparse step.step c h b.0 b.1.holds in
             (g.logged, record { text = g.now; holds = g.holds; backed = g.backed other b.1.backed })
 
@@ -250,61 +251,61 @@ module _ {D : Type 0} (history : D → History) (honest : D → Type 0) (faults 
 
         -- the log holds a text, whether it backs the engine or not
         abbrev pub HasText : EngineView D → Type 0
-        HasText e = (log : LogView D) → e.log ≡ Some log → honest log.disk
-            → (e.state.logged ≡ true) × ((text : LogText) × Holds history honest faults log text text)
+        HasText e = (log : LogView D) → e.log ≡ Some log → conduct.honest log.disk
+            → (e.state.logged ≡ true) × ((text : LogText) × Holds conduct log text text)
 
         record AfterStep (answer : Answer) (new : EngineView D) : Type 0 where
           texts : HasText new
-          again : answer ≡ Restarted (Ok tt) → HasBacking history honest faults dig new
+          again : answer ≡ Restarted (Ok tt) → HasBacking conduct dig new
 
         after_step : {torrent : Metainfo} (old new : EngineView D) (event : Event) (answer : Answer) → IsShaped torrent old.state
-            → AreSparseTrees dig old.state → StepsTo history honest faults dig old event answer new → HasText old → AfterStep answer new
+            → AreSparseTrees dig old.state → StepsTo conduct dig old event answer new → HasText old → AfterStep answer new
         after_step old new event answer shaped sparse step texts = record {
           texts = λ log is h. (let g = goes log is h in (g.1.logged, (g.1.now, g.1.holds)));
           again = λ e log is h. (let g = goes log is h in (g.1.logged, record { text = g.1.now; holds = g.1.holds; backed = g.1.again e }));
         }
           where
-            goes : (log : LogView D) → new.log ≡ Some log → honest log.disk → (text : LogText) × Goes old.state text answer new.state log
+            goes : (log : LogView D) → new.log ≡ Some log → conduct.honest log.disk → (text : LogText) × Goes old.state text answer new.state log
             goes log is h =
-                let was = old_log history honest faults old.log new.log step.calls.log is step.logged in
-                let c = logs_are history honest faults old.log new.log step.calls.log was.1 is step.logged in
-                let held = texts was.0 was.1 (calls_back history honest faults was.0 step.calls.log log c h) in
+                let was = old_log conduct old.log new.log step.calls.log is step.logged in
+                let c = logs_are conduct old.log new.log step.calls.log was.1 is step.logged in
+                let held = texts was.0 was.1 (calls_back conduct was.0 step.calls.log log c h) in
                 (held.1.0, step_goes event step.calls answer held.1.0 (own_roots shaped) sparse step.step c h held.0 held.1.1)
 
         -- what is said of an engine and of an honest log stands where neither changes
         still : (P : EngineState → LogView D → Type 0) (old new : EngineView D) → new.state ≡ old.state
-            → HaveLogCalls history honest faults old.log [] new.log → ((log : LogView D) → old.log ≡ Some log → honest log.disk → P old.state log)
-            → (log : LogView D) → new.log ≡ Some log → honest log.disk → P new.state log
+            → HaveLogCalls conduct old.log [] new.log → ((log : LogView D) → old.log ≡ Some log → conduct.honest log.disk → P old.state log)
+            → (log : LogView D) → new.log ≡ Some log → conduct.honest log.disk → P new.state log
         still P old new state c holds log is h =
-            let was = old_log history honest faults old.log new.log [] is c in
-            let same : log ≡ was.0 = logs_are history honest faults old.log new.log [] was.1 is c in
-            let held = holds was.0 was.1 (subst (λ (l : LogView D). honest l.disk) same h) in
+            let was = old_log conduct old.log new.log [] is c in
+            let same : log ≡ was.0 = logs_are conduct old.log new.log [] was.1 is c in
+            let held = holds was.0 was.1 (subst (λ (l : LogView D). conduct.honest l.disk) same h) in
             subst (λ z. P z log) (sym state) (subst (P old.state) (sym same) held)
 
         -- after any list of events it holds a text, and backs the engine where no restart came to nothing
         pub record AfterRun (backed : Bool) (answers : List Answer) (new : EngineView D) : Type 0 where
           pub texts : HasText new
-          pub backs : is_backed_after backed answers ≡ true → HasBacking history honest faults dig new
+          pub backs : is_backed_after backed answers ≡ true → HasBacking conduct dig new
 
         run_backed : StepKeepsShape dig → StepKeepsSparse dig → (torrent : Metainfo) → IsLawful torrent.piece_length torrent.files → (events : List Event)
             (calls : List EventCalls) (answers : List Answer) (backed : Bool) (old new : EngineView D) → IsShaped torrent old.state
-            → AreSparseTrees dig old.state → HasText old → (backed ≡ true → HasBacking history honest faults dig old)
-            → RunOn history honest faults dig old.state old.disks events calls answers new.state new.disks
-            → HaveLogCalls history honest faults old.log (flat_map (λ c. c.log) calls) new.log → AfterRun backed answers new
+            → AreSparseTrees dig old.state → HasText old → (backed ≡ true → HasBacking conduct dig old)
+            → RunOn conduct dig old.state old.disks events calls answers new.state new.disks
+            → HaveLogCalls conduct old.log (flat_map (λ c. c.log) calls) new.log → AfterRun backed answers new
         run_backed shape keep torrent lawful [] [] [] backed old new shaped sparse texts before run logs = record {
-          texts = still (λ s log. (s.logged ≡ true) × ((text : LogText) × Holds history honest faults log text text)) old new run.0 logs texts;
-          backs = λ after. still (λ s log. (s.logged ≡ true) × IsBackedBy history honest faults dig s log) old new run.0 logs (before after);
+          texts = still (λ s log. (s.logged ≡ true) × ((text : LogText) × Holds conduct log text text)) old new run.0 logs texts;
+          backs = λ after. still (λ s log. (s.logged ≡ true) × IsBackedBy conduct dig s log) old new run.0 logs (before after);
         }
         run_backed shape keep torrent lawful (e ∷ es) (c ∷ cs) (a ∷ rest) backed old new shaped sparse texts before run logs =
             let split = log_split old.log new.log c.log (flat_map (λ c. c.log) cs) logs in
             let mid : EngineView D = record { state = run.0; disks = run.1; log = split.0 } in
-            let step : StepsTo history honest faults dig old e a mid = record { calls = c; step = run.2; made = run.3; logged = split.1 } in
+            let step : StepsTo conduct dig old e a mid = record { calls = c; step = run.2; made = run.3; logged = split.1 } in
             let own_lawful = subst (λ (t : Metainfo). IsLawful t.piece_length t.files) (sym shaped.same) lawful in
             let own_shape = subst (λ t. IsShaped t old.state) (sym shaped.same) shaped in
             let mid_shape = shape torrent old.state run.0 e c a shaped run.2 in
             let mid_sparse = keep old.state run.0 e c a own_lawful run.2 sparse in
             let next = after_step old mid e a shaped sparse step texts in
-            let go = λ (b : Bool) (now : b ≡ true → HasBacking history honest faults dig mid).
+            let go = λ (b : Bool) (now : b ≡ true → HasBacking conduct dig mid).
             run_backed shape keep torrent lawful es cs rest b mid new mid_shape mid_sparse next.texts now run.4 split.2 in
             record {
               texts = (go false (λ x. absurd cc)).texts;
@@ -318,18 +319,18 @@ module _ {D : Type 0} (history : D → History) (honest : D → Type 0) (faults 
             }
         run_backed shape keep torrent lawful _ _ _ backed old new shaped sparse texts before run logs = absurd run
 
-        module _ (attach : AttachHolds history honest faults) (starts : StartsInShape dig) (sparse : StartsSparse dig) (shape : StepKeepsShape dig)
+        module _ (attach : AttachHolds conduct) (starts : StartsInShape dig) (sparse : StartsSparse dig) (shape : StepKeepsShape dig)
             (keep : StepKeepsSparse dig) where
           pub after_run : (torrent : Metainfo) (given : List (Option D)) (disk : D) (log : LogView D) (first last : EngineView D) (events : List Event)
               (answers : List Answer) → IsLawful torrent.piece_length torrent.files → length torrent.infohash ≡ digest_length
-              → IsAttached history honest faults torrent.infohash disk log → BeginsOn history honest faults dig torrent given (Some log) first
-              → RunsTo history honest faults dig first events answers last → AfterRun true answers last
+              → IsAttached conduct torrent.infohash disk log → BeginsOn conduct dig torrent given (Some log) first
+              → RunsTo conduct dig first events answers last → AfterRun true answers last
           after_run torrent given disk log first last events answers lawful size attached begins run =
               let backing = start_backed attach torrent given disk log first size attached begins in
               run_backed shape keep torrent lawful events run.calls answers true first last (starts torrent first.state (begins_of begins))
               (sparse torrent first.state lawful (begins_of begins)) (λ l is h. (let b = backing l is h in (b.0, (b.1.text, b.1.holds)))) (λ x. backing)
               run.run run.logged
 
-          pub runs_backed : RunsAreBacked history honest faults dig
+          pub runs_backed : RunsAreBacked conduct dig
           runs_backed torrent given disk log first last events answers lawful size attached begins run =
               (after_run torrent given disk log first last events answers lawful size attached begins run).backs

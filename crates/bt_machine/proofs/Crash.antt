@@ -5,6 +5,7 @@ use Rattle.bt_machine.proofs.Lists.{some_below, contains_none, contains_cases}
 use Rattle.bt_machine.proofs.Pairs.{contains_at}
 use Rattle.bt_machine.proofs.Tame.{Touches, keeping, putting, step_touches}
 use Rattle.bt_machine.proofs.Sound.{of_all}
+use Rattle.bt_disk.specs.Conduct.{Conduct}
 
 keeps_spare : (n : ℕ) (c : Call) → KeepsBytes c → Spares n c
 keeps_spare n (bytes_written at bytes) k = absurd k
@@ -44,11 +45,11 @@ step_spares {s} {file} i j {f} {k} (putting b bytes g l call here has_tree missi
 all_of : {X : Type 0} (P : X → Type 0) (xs : List X) → ((x : X) → Contains xs x → P x) → All P xs
 all_of P xs h k d lt = h _ (contains_at xs k d lt)
 
-module _ {D : Type 0} (history : D → History) (honest : D → Type 0) (faults : D → ℕ) (dig : Digest) (calls_keep : CallsKeepBytes) where
-  pub images_kept : ((d : D) → honest d → IsImage (history d).now (history d).now.bytes) → StepKeepsImages history honest faults dig
+module _ {D : Type 0} (conduct : Conduct D) (dig : Digest) (calls_keep : CallsKeepBytes) where
+  pub images_kept : ((d : D) → conduct.honest d → IsImage (conduct.history d).now (conduct.history d).now.bytes) → StepKeepsImages conduct dig
   images_kept reads old new event calls answer disks after file i t f k bytes e step have is present size there honest_now kept j byte at =
       let d = have.each file e there in
       let honest_before = d.2.as_honest.1 honest_now in
       let inside : j < block_length k.file_length i = (let lt = some_below bytes j at in omega arith) in
       let spares = all_of _ _ (λ c among. step_spares i j (step_touches dig old new event calls _ step) is present inside (of_all calls.devices among)) in
-      calls_keep (history d.0) (history e) (calls_of file calls.devices) t (16384 * i + j) byte (reads d.0 honest_before) (d.2.answered honest_before) spares (kept d.0 d.1 j byte at)
+      calls_keep (conduct.history d.0) (conduct.history e) (calls_of file calls.devices) t (16384 * i + j) byte (reads d.0 honest_before) (d.2.answered honest_before) spares (kept d.0 d.1 j byte at)

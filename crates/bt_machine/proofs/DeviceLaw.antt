@@ -7,6 +7,7 @@ use Rattle.bt_machine.proofs.Base.{[], ◌≡◌, ◌≢◌, ℕ, inl, inr, Bool
 use Rattle.bt_machine.proofs.Machine.{DeviceCalls, calls_at, calls_of}
 use Rattle.bt_machine.proofs.Lists.{contains_none, contains_map, set_other, set_same, some_below, get_some}
 use Rattle.bt_machine.specs.DeviceLaw.{NoCallsLead, CallsOfOneLead, CallsCompose}
+use Rattle.bt_disk.specs.Conduct.{Conduct}
 
 -- ---- one device
 
@@ -40,19 +41,19 @@ calls_append file xs ys =
 
 -- ---- all devices
 
-module _ {D : Type 0} (history : D → History) (honest : D → Type 0) (faults : D → ℕ) where
-  has_none : (d : D) → HasCalls history honest faults d [] d
+module _ {D : Type 0} (conduct : Conduct D) where
+  has_none : (d : D) → HasCalls conduct d [] d
   has_none d = record { counted = refl; as_honest = (λ h. h, λ h. h); answered = λ h. refl }
 
-  has_then : (a b c : D) (xs ys : List Call) → HasCalls history honest faults a xs b → HasCalls history honest faults b ys c
-      → HasCalls history honest faults a (xs ++ ys) c
+  has_then : (a b c : D) (xs ys : List Call) → HasCalls conduct a xs b → HasCalls conduct b ys c
+      → HasCalls conduct a (xs ++ ys) c
   has_then a b c xs ys first more = record {
-    counted = more.counted ∙ ap (λ n. count_after_calls n ys) first.counted ∙ sym (count_then (faults a) xs ys);
+    counted = more.counted ∙ ap (λ n. count_after_calls n ys) first.counted ∙ sym (count_then (conduct.faults a) xs ys);
     as_honest = (λ h. more.as_honest.0 (first.as_honest.0 h), λ h. first.as_honest.1 (more.as_honest.1 h));
-    answered = λ h. answered_then (history a) (history b) (history c) xs ys (first.answered h) (more.answered (first.as_honest.0 h));
+    answered = λ h. answered_then (conduct.history a) (conduct.history b) (conduct.history c) xs ys (first.answered h) (more.answered (first.as_honest.0 h));
   }
 
-  pub have_none : NoCallsLead history honest faults
+  pub have_none : NoCallsLead conduct
   have_none disks = record {
     count = refl;
     none = λ file. (λ e. e, λ e. e);
@@ -60,7 +61,7 @@ module _ {D : Type 0} (history : D → History) (honest : D → Type 0) (faults 
     each = λ file after here. (after, here, has_none after);
   }
 
-  pub have_one : CallsOfOneLead history honest faults
+  pub have_one : CallsOfOneLead conduct
   have_one disks i d e calls here has = record {
     count = length-set disks i (Some e);
     none = λ file. elim (cases_eq file i) [
@@ -84,7 +85,7 @@ module _ {D : Type 0} (history : D → History) (honest : D → Type 0) (faults 
           let now = set_same disks i {x = Some e} here in
           let is : e ≡ after = cc in
           let own = ap (λ f. calls_of f (calls_at i calls)) same ∙ own_calls i calls in
-          (d, ap (slice_get disks) same ∙ here, rw own (subst (λ x. HasCalls history honest faults d calls x) is has))
+          (d, ap (slice_get disks) same ∙ here, rw own (subst (λ x. HasCalls conduct d calls x) is has))
           )
       | inr apart ↦ (
         after,
@@ -107,7 +108,7 @@ module _ {D : Type 0} (history : D → History) (honest : D → Type 0) (faults 
       let there = get_some c file (omega arith) in
       there_by b c file none here there.0 there.1
 
-  pub have_then : CallsCompose history honest faults
+  pub have_then : CallsCompose conduct
   have_then a b c xs ys first more = record {
     count = more.count ∙ first.count;
     none = λ file. ((λ e. (more.none file).0 ((first.none file).0 e)), (λ e. (first.none file).1 ((more.none file).1 e)));

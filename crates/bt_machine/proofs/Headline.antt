@@ -6,9 +6,10 @@ use Rattle.bt_machine.proofs.Rooted.{run_rooted}
 use Rattle.bt_machine.proofs.Shape.{shape_kept}
 use Rattle.bt_machine.proofs.Sound.{start_sound, run_sound, complete_stands}
 use Rattle.bt_machine.proofs.View.{without_devices}
+use Rattle.bt_disk.specs.Conduct.{Conduct}
 
-module _ {D : Type 0} (history : D → History) (honest : D → Type 0) (faults : D → ℕ) (dig : Digest) where
-  begins_of : {torrent given log first : _} → BeginsOn history honest faults dig torrent given log first → Begins dig torrent first.state
+module _ {D : Type 0} (conduct : Conduct D) (dig : Digest) where
+  begins_of : {torrent given log first : _} → BeginsOn conduct dig torrent given log first → Begins dig torrent first.state
   begins_of (bare_on no_log starts disks none) = bare starts
   begins_of (with_log_on l calls is same starts have log_is) = with_log l.hints calls starts
 
@@ -23,17 +24,17 @@ module _ {D : Type 0} (history : D → History) (honest : D → Type 0) (faults 
         same = λ other other_size other_root. tell (take file.length bytes) other (cc) (cc);
       }
 
-  pub files_published : AdoptMarksByBytes dig → KeepsRooted dig → LayersAreSound dig → RootsAreSound dig → RootsTellFiles dig → CompleteFilesArePublished history honest faults dig
+  pub files_published : AdoptMarksByBytes dig → KeepsRooted dig → LayersAreSound dig → RootsAreSound dig → RootsTellFiles dig → CompleteFilesArePublished conduct dig
   files_published marks keeps layers roots tell torrent given log first last events calls answers after number file d lawful starts run complete there honest_now =
       let begins = begins_of starts in
-      let plain = without_devices history honest faults dig first.state last first.disks after events calls answers run in
+      let plain = without_devices conduct dig first.state last first.disks after events calls answers run in
       let rooted = run_rooted dig keeps layers roots last events calls answers lawful begins plain in
-      let sound = run_sound history honest faults dig marks first.state last events calls answers first.disks after run (start_sound history honest faults dig torrent given log first starts) in
+      let sound = run_sound conduct dig marks first.state last events calls answers first.disks after run (start_sound conduct dig torrent given log first starts) in
       let shaped = (shape_kept dig torrent first.state last events calls answers begins plain).0 in
       let own = (shaped.each number file complete.state complete.listed complete.here).has_tree complete.some in
       let is : own.0 ≡ complete.tree = same_some own.1 complete.has_tree in
       let root = ap (λ (k : Facts). k.root) (sym is) ∙ own.2 in
       let size = ap (λ (k : Facts). k.file_length) (sym is) ∙ own.3 in
       published tell size root
-      (complete_stands history honest faults dig last after number complete.state complete.tree d rooted sound (record { here = complete.here; has_tree = complete.has_tree }) (rw size complete.some)
+      (complete_stands conduct dig last after number complete.state complete.tree d rooted sound (record { here = complete.here; has_tree = complete.has_tree }) (rw size complete.some)
       (λ i lt. complete.marked i (rw (← size) lt)) there honest_now)

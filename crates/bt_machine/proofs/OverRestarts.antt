@@ -26,6 +26,7 @@ use Rattle.bt_machine.proofs.LogCalls.{calls_back, calls_stand}
 use Rattle.bt_machine.proofs.Backing.{calls_split}
 use Rattle.bt_machine.proofs.Reopening.{marked_again}
 use Rattle.bt_machine.proofs.Reading.{files_read, never_less, none_failed, device_after, devices_run, block_read}
+use Rattle.bt_disk.specs.Conduct.{Conduct}
 
 -- ---- failures
 
@@ -48,17 +49,17 @@ no_restarts [] calls none = tt
 no_restarts (x ∷ xs) [] none = tt
 no_restarts (x ∷ xs) (c ∷ cs) none = ((λ is. absurd (first_is x xs none is)), no_restarts xs cs (others_are x xs none))
 
-module _ {D : Type 0} (history : D → History) (honest : D → Type 0) (faults : D → ℕ) (dig : Digest) where
+module _ {D : Type 0} (conduct : Conduct D) (dig : Digest) where
   run_faults : (events : List Event) (calls : List EventCalls) (answers : List Answer) (old new : EngineState) (disks after : List (Option D)) (file : ℕ) (d e : D)
-      → RunOn history honest faults dig old disks events calls answers new after → slice_get disks file ≡ Some (Some d) → slice_get after file ≡ Some (Some e)
-      → faults d ≤ max_count → faults d ≤ faults e
+      → RunOn conduct dig old disks events calls answers new after → slice_get disks file ≡ Some (Some d) → slice_get after file ≡ Some (Some e)
+      → conduct.faults d ≤ max_count → conduct.faults d ≤ conduct.faults e
   run_faults [] [] [] old new disks after file d e run at there le =
       let same = same_device at (ap (λ l. slice_get l file) (sym run.1) ∙ there) in
-      let equal = ap faults same in
+      let equal = ap conduct.faults same in
       omega (arith, equal)
   run_faults (x ∷ xs) (c ∷ cs) (a ∷ rest) old new disks after file d e run at there le =
-      let one = device_after history honest faults disks run.1 c.devices file run.3 at in
-      let grown = bounded (calls_of file c.devices) (faults d) le in
+      let one = device_after conduct disks run.1 c.devices file run.3 at in
+      let grown = bounded (calls_of file c.devices) (conduct.faults d) le in
       let counted = one.2.counted in
       let more = run_faults xs cs rest run.0 new run.1 after file one.0 e run.4 one.1 there (omega (arith, grown.1, counted)) in
       omega (arith, grown.0, counted, more)
@@ -66,17 +67,17 @@ module _ {D : Type 0} (history : D → History) (honest : D → Type 0) (faults 
 
   -- a device whose count stayed over events had it between them too
   between : (calls : List Call) (events : List Event) (more : List EventCalls) (answers : List Answer) (mid new : EngineState) (disks after : List (Option D))
-      (file : ℕ) (d m e : D) → HasCalls history honest faults d calls m → RunOn history honest faults dig mid disks events more answers new after
-      → slice_get disks file ≡ Some (Some m) → slice_get after file ≡ Some (Some e) → (faults d < max_count) × (faults e ≡ faults d) → faults m ≡ faults d
+      (file : ℕ) (d m e : D) → HasCalls conduct d calls m → RunOn conduct dig mid disks events more answers new after
+      → slice_get disks file ≡ Some (Some m) → slice_get after file ≡ Some (Some e) → (conduct.faults d < max_count) × (conduct.faults e ≡ conduct.faults d) → conduct.faults m ≡ conduct.faults d
   between calls events more answers mid new disks after file d m e has run at there calm =
       let few = calm.0 in
       let same = calm.1 in
       let counted = has.counted in
-      let grown = bounded calls (faults d) (omega (arith, few)) in
+      let grown = bounded calls (conduct.faults d) (omega (arith, few)) in
       let later_on = run_faults events more answers mid new disks after file m e run at there (omega (arith, grown.1, counted)) in
       omega (arith, grown.0, counted, later_on, same)
 
-  pub counts_tell : CountsTellReads history honest faults dig
+  pub counts_tell : CountsTellReads conduct dig
   counts_tell old new [] [] [] disks after run none = tt
   counts_tell old new (x ∷ xs) (c ∷ cs) (a ∷ rest) disks after run none =
       ((λ is file at wanted among. fine file at wanted among), counts_tell run.0 new xs cs rest run.1 after run.4 (record { none = calm }))
@@ -85,13 +86,13 @@ module _ {D : Type 0} (history : D → History) (honest : D → Type 0) (faults 
       fine file at wanted among =
           let m = run.3.of_devices file (read_fault at wanted) among in
           let d = run.3.each file m.0 m.1 in
-          let e = devices_run history honest faults dig xs cs rest run.0 new run.1 after file run.4 m.1 in
+          let e = devices_run conduct dig xs cs rest run.0 new run.1 after file run.4 m.1 in
           let count = none.none file d.0 e.0 d.1 e.1 in
           let same = between (calls_of file c.devices) xs cs rest run.0 new run.1 after file d.0 m.0 e.0 d.2 run.4 m.1 e.1 count in
-          none_failed history honest faults c.devices file count.0 same d.2 at wanted among
+          none_failed conduct c.devices file count.0 same d.2 at wanted among
 
       calm : (file : ℕ) (m e : D) → slice_get run.1 file ≡ Some (Some m) → slice_get after file ≡ Some (Some e)
-          → (faults m < max_count) × (faults e ≡ faults m)
+          → (conduct.faults m < max_count) × (conduct.faults e ≡ conduct.faults m)
       calm file m e at there =
           let d = run.3.each file m at in
           let count = none.none file d.0 e d.1 there in
@@ -138,18 +139,18 @@ module _ {D : Type 0} (history : D → History) (honest : D → Type 0) (faults 
         long = tree.length ∙ g.long;
       }
 
-  module _ (marks : AdoptMarksByBytes dig) (calls_keep : CallsKeepBytes) (reads : (d : D) → honest d → IsImage (history d).now (history d).now.bytes)
-      (reload_stands : ReloadStands history honest faults) (append_stands : AppendStands history honest faults) (flush_stands : FlushStands history honest faults)
-      (reload : ReloadHolds history honest faults) (come_first : HintsComeFirst) where
+  module _ (marks : AdoptMarksByBytes dig) (calls_keep : CallsKeepBytes) (reads : (d : D) → conduct.honest d → IsImage (conduct.history d).now (conduct.history d).now.bytes)
+      (reload_stands : ReloadStands conduct) (append_stands : AppendStands conduct) (flush_stands : FlushStands conduct)
+      (reload : ReloadHolds conduct) (come_first : HintsComeFirst) where
     -- a restart in which no read failed marks it again, and any other changes no mark
     restart_marks : {flushed s new : EngineState} {calls : EventCalls} {r : Result (Unit {0}) RestartError} (b : BlockId) (k : Facts) (bytes : List ℕ) (text : LogText)
         (t : ℕ) (was log : LogView D) (d e : D) → WasFlushed flushed b k bytes text → s.torrent ≡ flushed.torrent → s.logged ≡ true
-        → state_at s b ≡ Some Marked → honest was.disk → KeepsFirst history honest faults t text was → AreLogCalls history honest faults was calls.log log
-        → honest d → NoReadFailed calls.devices → HasCalls history honest faults d (calls_of b.file calls.devices) e
-        → stored_block k.file_length (history d).now.bytes b.block ≡ bytes → StepRestart dig s calls r new → state_at new b ≡ Some Marked
+        → state_at s b ≡ Some Marked → conduct.honest was.disk → KeepsFirst conduct t text was → AreLogCalls conduct was calls.log log
+        → conduct.honest d → NoReadFailed calls.devices → HasCalls conduct d (calls_of b.file calls.devices) e
+        → stored_block k.file_length (conduct.history d).now.bytes b.block ≡ bytes → StepRestart dig s calls r new → state_at new b ≡ Some Marked
     restart_marks {flushed} {s} {new} {calls} b k bytes text t was log d e f torrent logged marked was_honest kept logs h fine has stands
         (restarts hints (read_again is made) recovers places ok) =
-        let c = subst (λ l. AreLogCalls history honest faults was l log) made logs in
+        let c = subst (λ l. AreLogCalls conduct was l log) made logs in
         let held = reload was c.0 (Ok tt) kept.kept kept.all was_honest c.1.0 kept.holds in
         let hints_are : hints ≡ hints_in held.0 = sym c.1.1 ∙ held.1 in
         let first = then_begins _ _ _ (come_first text kept.kept kept.begins) (come_first kept.kept kept.all kept.holds.begins) in
@@ -161,7 +162,7 @@ module _ {D : Type 0} (history : D → History) (honest : D → Type 0) (faults 
         good read of_block among =
             let only : (c : Call) → Contains (calls_of b.file calls.devices) c → IsRead c =
             λ c inside. files_read dig hints _ _ new calls.devices recovers.restores b.file c (of_all calls.devices inside) in
-            let r = block_read history honest faults calls.devices b.file k.file_length b.block read h (fine b.file) has only of_block among in
+            let r = block_read conduct calls.devices b.file k.file_length b.block read h (fine b.file) has only of_block among in
             (r.0, r.1, subst (IsRight dig k b.block) (sym (r.2 ∙ stands)) f.right)
     restart_marks b k bytes text t was log d e f torrent logged marked was_honest kept logs h fine has stands
         (restarts hints (no_log is made none) recovers places ok) = absurd cc
@@ -173,36 +174,36 @@ module _ {D : Type 0} (history : D → History) (honest : D → Type 0) (faults 
     -- what every image has of the block since the flush, every image goes on to have
     pub kept_over : (flushed : EngineState) (b : BlockId) (k : Facts) (bytes : List ℕ) (text : LogText) (t t_log : ℕ) (events : List Event) (calls : List EventCalls)
         (answers : List Answer) (s new : EngineState) (disks after : List (Option D)) (was log : LogView D) (d e : D) → WasFlushed flushed b k bytes text
-        → StaysMarked flushed s b k → RunOn history honest faults dig s disks events calls answers new after
-        → AreLogCalls history honest faults was (flat_map (λ c. c.log) calls) log → honest log.disk → KeepsFirst history honest faults t_log text was
-        → IsSound history honest dig s disks → slice_get disks b.file ≡ Some (Some d) → slice_get after b.file ≡ Some (Some e) → honest e
-        → RestartsReadAll events calls → IsBlockKept (history d) t b.block bytes → IsBlockKept (history e) t b.block bytes
+        → StaysMarked flushed s b k → RunOn conduct dig s disks events calls answers new after
+        → AreLogCalls conduct was (flat_map (λ c. c.log) calls) log → conduct.honest log.disk → KeepsFirst conduct t_log text was
+        → IsSound conduct dig s disks → slice_get disks b.file ≡ Some (Some d) → slice_get after b.file ≡ Some (Some e) → conduct.honest e
+        → RestartsReadAll events calls → IsBlockKept (conduct.history d) t b.block bytes → IsBlockKept (conduct.history e) t b.block bytes
     kept_over flushed b k bytes text t t_log [] [] [] s new disks after was log d e f g run logs h first sound at there honest_now all_read kept =
-        subst (λ x. IsBlockKept (history x) t b.block bytes) (same_device at (ap (λ l. slice_get l b.file) (sym run.1) ∙ there)) kept
+        subst (λ x. IsBlockKept (conduct.history x) t b.block bytes) (same_device at (ap (λ l. slice_get l b.file) (sym run.1) ∙ there)) kept
     kept_over flushed b k bytes text t t_log (x ∷ xs) (c ∷ cs) (a ∷ rest) s new disks after was log d e f g run logs h first sound at there honest_now all_read kept =
-        let back = device_before history honest faults dig run.0 new xs cs rest run.1 after b.file run.4 there honest_now in
-        let one = device_after history honest faults disks run.1 c.devices b.file run.3 at in
-        let honest_then = subst honest (same_device back.1 one.1) back.2 in
+        let back = device_before conduct dig run.0 new xs cs rest run.1 after b.file run.4 there honest_now in
+        let one = device_after conduct disks run.1 c.devices b.file run.3 at in
+        let honest_then = subst conduct.honest (same_device back.1 one.1) back.2 in
         let honest_before = one.2.as_honest.1 honest_then in
-        let split = calls_split history honest faults was c.log (flat_map (λ z. z.log) cs) log logs in
-        let log_then = calls_back history honest faults split.0 (flat_map (λ z. z.log) cs) log split.2 h in
-        let log_before = calls_back history honest faults was c.log split.0 split.1 log_then in
-        let first_then = calls_stand history honest faults reload_stands append_stands flush_stands t_log text was c.log split.0 log_then split.1 first in
+        let split = calls_split conduct was c.log (flat_map (λ z. z.log) cs) log logs in
+        let log_then = calls_back conduct split.0 (flat_map (λ z. z.log) cs) log split.2 h in
+        let log_before = calls_back conduct was c.log split.0 split.1 log_then in
+        let first_then = calls_stand conduct reload_stands append_stands flush_stands t_log text was c.log split.0 log_then split.1 first in
         let size : length bytes ≡ block_length k.file_length b.block = f.right.whole in
-        let stands = block_stands k.file_length b.block bytes (history d).now.bytes size (λ j byte inside. kept j byte inside (history d).now.bytes (inl (reads d honest_before))) in
+        let stands = block_stands k.file_length b.block bytes (conduct.history d).now.bytes size (λ j byte inside. kept j byte inside (conduct.history d).now.bytes (inl (reads d honest_before))) in
         let before = state_is s b g.is_file.here g.marked in
         let marked : state_at run.0 b ≡ Some Marked = elim (restart_or x) [
           | inl is ↦ (
               let r = subst (λ z. Step dig s z c a run.0) is run.2 in
               restart_marks b k bytes text t_log was split.0 d one.0 f g.torrent g.logged before log_before first split.1 honest_before (all_read.0 is) one.2 stands r.2
               )
-          | inr apart ↦ marks_kept history honest faults dig s run.0 x c a disks run.1 b one.0 apart run.2 run.3 sound one.1 honest_then before
+          | inr apart ↦ marks_kept conduct dig s run.0 x c a disks run.1 b one.0 apart run.2 run.3 sound one.1 honest_then before
         ] in
-        let kept_then = images_kept history honest faults dig calls_keep reads s run.0 x c a disks run.1 b.file b.block t g.file g.tree bytes one.0 run.2 run.3 g.is_file
+        let kept_then = images_kept conduct dig calls_keep reads s run.0 x c a disks run.1 b.file b.block t g.file g.tree bytes one.0 run.2 run.3 g.is_file
         (λ gone. absurd (present g.marked gone)) (size ∙ ap (λ n. block_length n b.block) (sym g.long)) one.1 honest_then
-        (λ y there_y. subst (λ z. IsBlockKept (history z) t b.block bytes) (same_device at there_y) kept) in
+        (λ y there_y. subst (λ z. IsBlockKept (conduct.history z) t b.block bytes) (same_device at there_y) kept) in
         kept_over flushed b k bytes text t t_log xs cs rest run.0 new run.1 after split.0 log one.0 e f (stays_next x c a run.2 g marked) run.4 split.2 h first_then
-        (step_sound history honest faults dig marks s run.0 x c a disks run.1 run.2 run.3 sound) one.1 there honest_now
+        (step_sound conduct dig marks s run.0 x c a disks run.1 run.2 run.3 sound) one.1 there honest_now
         all_read.1 kept_then
       where
         present : {o : Option _} → o ≡ Some Marked → o ≡ Some Missing → ⊥

@@ -14,6 +14,7 @@ use Rattle.bt_machine.specs.Sound.{RunOn}
 use Rattle.bt_machine.proofs.Machine.{Digest}
 use Rattle.bt_machine.proofs.Sound.{among_file}
 use Rattle.bt_machine.proofs.Lists.{same_some, get_some, some_below, here, later, contains_none, contains_cases, contains_map}
+use Rattle.bt_disk.specs.Conduct.{Conduct}
 
 -- ---- reads
 
@@ -94,16 +95,16 @@ fault_counts (c ∷ cs) n at wanted lt among = elim (contains_cases cs among) [
       ]
 ]
 
-module _ {D : Type 0} (history : D → History) (honest : D → Type 0) (faults : D → ℕ) where
+module _ {D : Type 0} (conduct : Conduct D) where
   -- a device stays where it was one
-  pub device_after : (old new : List (Option D)) (calls : DeviceCalls) (file : ℕ) {d : D} → HaveCalls history honest faults old calls new
-      → slice_get old file ≡ Some (Some d) → (e : D) × (slice_get new file ≡ Some (Some e)) × HasCalls history honest faults d (calls_of file calls) e
+  pub device_after : (old new : List (Option D)) (calls : DeviceCalls) (file : ℕ) {d : D} → HaveCalls conduct old calls new
+      → slice_get old file ≡ Some (Some d) → (e : D) × (slice_get new file ≡ Some (Some e)) × HasCalls conduct d (calls_of file calls) e
   device_after old new calls file {d} have at = by new_at.0 new_at.1
     where
       new_at : (o : Option D) × (slice_get new file ≡ Some o)
       new_at = get_some new file (omega (arith, some_below old file at, have.count))
 
-      by : (o : Option D) → slice_get new file ≡ Some o → (e : D) × (slice_get new file ≡ Some (Some e)) × HasCalls history honest faults d (calls_of file calls) e
+      by : (o : Option D) → slice_get new file ≡ Some o → (e : D) × (slice_get new file ≡ Some (Some e)) × HasCalls conduct d (calls_of file calls) e
       by None e = absurd (differ (same_some at ((have.none file).1 e)))
         where
           differ : Some d ≡ None → ⊥
@@ -111,13 +112,13 @@ module _ {D : Type 0} (history : D → History) (honest : D → Type 0) (faults 
       by (Some x) e =
           let one = have.each file x e in
           let same : one.0 ≡ d = inner (same_some one.1 at) in
-          (x, e, subst (λ z. HasCalls history honest faults z (calls_of file calls) x) same one.2)
+          (x, e, subst (λ z. HasCalls conduct z (calls_of file calls) x) same one.2)
         where
           inner : {a b : D} → Some a ≡ Some b → a ≡ b
           inner e = cc
 
   pub devices_run : (dig : Digest) (events : List Event) (calls : List EventCalls) (answers : List Answer) (old new : EngineState) (disks after : List (Option D)) (file : ℕ) {d : D}
-      → RunOn history honest faults dig old disks events calls answers new after → slice_get disks file ≡ Some (Some d)
+      → RunOn conduct dig old disks events calls answers new after → slice_get disks file ≡ Some (Some d)
       → (e : D) × (slice_get after file ≡ Some (Some e))
   devices_run dig [] [] [] old new disks after file {d} run at = (d, ap (λ l. slice_get l file) run.1 ∙ at)
   devices_run dig (x ∷ xs) (c ∷ cs) (a ∷ as_) old new disks after file run at =
@@ -128,20 +129,20 @@ module _ {D : Type 0} (history : D → History) (honest : D → Type 0) (faults 
   -- ---- blocks
 
   -- where its count stayed, no read of a device failed
-  pub none_failed : {old new : D} (calls : DeviceCalls) (file : ℕ) → faults old < max_count → faults new ≡ faults old
-      → HasCalls history honest faults old (calls_of file calls) new → (at wanted : ℕ) → Contains calls (file, read_fault at wanted) → ⊥
+  pub none_failed : {old new : D} (calls : DeviceCalls) (file : ℕ) → conduct.faults old < max_count → conduct.faults new ≡ conduct.faults old
+      → HasCalls conduct old (calls_of file calls) new → (at wanted : ℕ) → Contains calls (file, read_fault at wanted) → ⊥
   none_failed {old} calls file few same has at wanted among =
-      let more = fault_counts (calls_of file calls) (faults old) at wanted few (among_file calls among) in
+      let more = fault_counts (calls_of file calls) (conduct.faults old) at wanted few (among_file calls among) in
       omega (arith, more, has.counted, same)
 
   -- a read of a block that did not fail gave the bytes that an honest device has of it
-  pub block_read : {old new : D} (calls : DeviceCalls) (file n i : ℕ) (read : BlockRead) → honest old
+  pub block_read : {old new : D} (calls : DeviceCalls) (file n i : ℕ) (read : BlockRead) → conduct.honest old
       → ((at wanted : ℕ) → Contains calls (file, read_fault at wanted) → ⊥)
-      → HasCalls history honest faults old (calls_of file calls) new → ((c : Call) → Contains (calls_of file calls) c → IsRead c)
+      → HasCalls conduct old (calls_of file calls) new → ((c : Call) → Contains (calls_of file calls) c → IsRead c)
       → block_of read ≡ i → Contains calls (file, call_of n read)
-      → (bytes : List ℕ) × (read ≡ given i bytes) × (bytes ≡ stored_block n (history old).now.bytes i)
+      → (bytes : List ℕ) × (read ≡ given i bytes) × (bytes ≡ stored_block n (conduct.history old).now.bytes i)
   block_read {old} {new} calls file n i (given b bytes) is_honest fine has all block among =
       let at : Contains (calls_of file calls) (bytes_given (16384 * b) (block_length n b) bytes) = among_file calls among in
-      let are = bytes_are (calls_of file calls) (history old) (history new) all (has.answered is_honest) (16384 * b) (block_length n b) bytes at in
-      (bytes, ap (λ j. given j bytes) block, are ∙ ap (λ j. stored_block n (history old).now.bytes j) block)
+      let are = bytes_are (calls_of file calls) (conduct.history old) (conduct.history new) all (has.answered is_honest) (16384 * b) (block_length n b) bytes at in
+      (bytes, ap (λ j. given j bytes) block, are ∙ ap (λ j. stored_block n (conduct.history old).now.bytes j) block)
   block_read calls file n i (failed b) is_honest fine has all block among = absurd (fine (16384 * b) (block_length n b) among)

@@ -10,6 +10,7 @@ use Rattle.bt_machine.proofs.Marking.{step_cases}
 use Rattle.bt_machine.proofs.Stored.{own_bytes, other_bytes, torn_bytes, complete_root}
 use Rattle.bt_machine.proofs.Tame.{Tame, Touches, keeping, putting, step_tame, hints_tame, anew_reads}
 use Rattle.bt_machine.proofs.Restarts.{restart_or, IsRestart, anew, as_before, restart_is, recovered_marks}
+use Rattle.bt_disk.specs.Conduct.{Conduct}
 
 -- ---- calls of one device
 
@@ -188,10 +189,10 @@ none_marked : (n i : ℕ) → slice_get (replicate n Missing) i ≡ Some Marked 
 none_marked (suc n) (suc i) e = none_marked n i e
 none_marked _ _ e = absurd cc
 
-module _ {D : Type 0} (history : D → History) (honest : D → Type 0) (faults : D → ℕ) (dig : Digest) where
+module _ {D : Type 0} (conduct : Conduct D) (dig : Digest) where
   -- where all is begun anew, what is marked was read
-  pub anew_sound : {s new hints calls disks after : _} → Recovers dig s hints calls new → HaveCalls history honest faults disks calls after
-      → IsSound history honest dig new after
+  pub anew_sound : {s new hints calls disks after : _} → Recovers dig s hints calls new → HaveCalls conduct disks calls after
+      → IsSound conduct dig new after
   anew_sound {new = new} {calls = calls} r have file f k e is_file there honest_now i marked =
       let d = have.each file e there in
       let now : state_at new (block_id file i) ≡ Some Marked = state_is new (block_id file i) is_file.here marked in
@@ -199,7 +200,7 @@ module _ {D : Type 0} (history : D → History) (honest : D → Type 0) (faults 
       let x = recovered_marks dig r (block_id file i) now in
       read_stands new calls _ _ (anew_reads dig r) (d.2.answered (d.2.as_honest.1 honest_now)) tree x.has_tree x.read x.right
 
-  pub start_sound : StartsSound history honest faults dig
+  pub start_sound : StartsSound conduct dig
   start_sound torrent placed log first (bare_on no_log starts disks none) file f k d is_file there honest_now j marked =
       let lt : file < length torrent.files = rw (← starts.is_new.count) (some_below first.state.files file is_file.here) in
       let listed = get_some torrent.files file lt in
@@ -210,32 +211,32 @@ module _ {D : Type 0} (history : D → History) (honest : D → Type 0) (faults 
 
   module _ (marks : AdoptMarksByBytes dig) where
     -- where each file's blocks are right by what becomes of one of them
-    by_blocks : {old new : EngineState} {disks calls after : _} → HaveCalls history honest faults disks calls after → IsSound history honest dig old disks
+    by_blocks : {old new : EngineState} {disks calls after : _} → HaveCalls conduct disks calls after → IsSound conduct dig old disks
         → ((file i : ℕ) (f : FileState) (k : Facts) (before now : History) → slice_get new.files file ≡ Some f → slice_get new.trees f.tree ≡ Some k
         → AreAnswered before (calls_of file calls) now
         → ((g : FileState) (l : Facts) → slice_get old.files file ≡ Some g → slice_get old.trees g.tree ≡ Some l → AreRight dig l before.now.bytes g.states)
-        → slice_get f.states i ≡ Some Marked → IsRight dig k i (stored_block k.file_length now.now.bytes i)) → IsSound history honest dig new after
+        → slice_get f.states i ≡ Some Marked → IsRight dig k i (stored_block k.file_length now.now.bytes i)) → IsSound conduct dig new after
     by_blocks have sound right file f k e is_file there honest_now i marked =
         let d = have.each file e there in
         let was_honest = d.2.as_honest.1 honest_now in
         right file i f k _ _ is_file.here is_file.has_tree (d.2.answered was_honest)
         (λ g l at has_tree. sound file g l d.0 (record { here = at; has_tree = has_tree }) d.1 was_honest) marked
 
-    restart_sound : {old new disks calls after : _} → IsRestart dig old calls new → HaveCalls history honest faults disks calls after
-        → IsSound history honest dig old disks → IsSound history honest dig new after
+    restart_sound : {old new disks calls after : _} → IsRestart dig old calls new → HaveCalls conduct disks calls after
+        → IsSound conduct dig old disks → IsSound conduct dig new after
     restart_sound (anew hints none recovers places) have sound = anew_sound recovers have
     restart_sound {old} {new} (as_before none made e) have sound = by_blocks have sound (λ file i f k before now.
         block_right old new Flush file before now (hints_tame dig old new made e) (λ b m. inl (ap (λ z. state_at z b) (sym e) ∙ m)) (λ x. absurd cc))
 
-    pub step_sound : StepKeepsSound history honest faults dig
+    pub step_sound : StepKeepsSound conduct dig
     step_sound old new event calls answer disks after step have sound = elim (restart_or event) [
       | inl is ↦ (let r = subst (λ x. Step dig old x calls answer new) is step in restart_sound (restart_is r.2) have sound)
       | inr apart ↦ by_blocks have sound (λ file i f k before now.
           block_right old new event file before now (step_tame dig old new event calls answer apart step) (λ b m. step_cases dig marks b old new event calls answer step m) apart)
     ]
 
-    pub run_sound : (old new events calls answers : _) (disks after : List (Option D)) → RunOn history honest faults dig old disks events calls answers new after
-        → IsSound history honest dig old disks → IsSound history honest dig new after
+    pub run_sound : (old new events calls answers : _) (disks after : List (Option D)) → RunOn conduct dig old disks events calls answers new after
+        → IsSound conduct dig old disks → IsSound conduct dig new after
     run_sound old new [] [] [] disks after run sound = λ file f k e is_file there honest_now.
         sound file f k e (record { here = cc; has_tree = cc })
         (cc) honest_now
@@ -243,7 +244,7 @@ module _ {D : Type 0} (history : D → History) (honest : D → Type 0) (faults 
         run_sound run.0 new es calls answers run.1 after run.4 (step_sound old run.0 e c a disks run.1 run.2 run.3 sound)
     run_sound old new _ _ _ disks after run sound = absurd run
 
-module _ {D : Type 0} (history : D → History) (honest : D → Type 0) (faults : D → ℕ) (dig : Digest) where
-  pub complete_stands : CompleteFilesStand history honest dig
+module _ {D : Type 0} (conduct : Conduct D) (dig : Digest) where
+  pub complete_stands : CompleteFilesStand conduct dig
   complete_stands s disks file f k d rooted sound is_file some marked there honest_now =
       complete_root k _ _ (rooted f.tree k is_file.has_tree) some marked (sound file f k d is_file there honest_now)

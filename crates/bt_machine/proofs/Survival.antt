@@ -2,6 +2,7 @@
 use Rattle.std.proofs.lemmas.List.{ext_get_or}
 use Rattle.std.proofs.lemmas.Option.{slice_get_within, get_or_from_slice_get, slice_get-get_or}
 use Rattle.bt_disk.specs.State.{synced_state}
+use Rattle.bt_disk.specs.Conduct.{Conduct}
 use Rattle.bt_disk.specs.History.{moment_of, after_sync}
 use Rattle.bt_disk.specs.Calls.{IsAnswered}
 use Rattle.bt_machine.proofs.Base.{[], ◌≡◌, ℕ, ◌+◌, ◌-◌, ◌*◌, ◌<◌, Bool, true, false, not, inl, inr, List, ◌∷◌, length, get_or, Some, Ok, refl, sym, ap, ◌∙◌, subst, arith, slice_get, Contains, ◌==◌, cases_lt, eqb-true, same_number_lists, block_length, CallsKeepBytes, KeptFromNow, AdoptMarksByBytes, IsImage, History, Call, sync_made, AreAnswered, Facts, IsRight, BlockState, Marked, option_map_or}
@@ -98,8 +99,8 @@ has_device s file i {f} at marked =
 only_syncs : (files file : _) {c : Call} → Contains (syncs_of files) (file, c) → c ≡ sync_made
 only_syncs files file among = let m = contains_map (λ file. (file, sync_made)) files among in ap (λ x. x.1) (sym m.2)
 
-module _ {D : Type 0} (history : D → History) (honest : D → Type 0) (faults : D → ℕ) (dig : Digest) (kept_from_now : KeptFromNow) where
-  pub flush_kept : FlushKeepsBlocks history honest faults dig
+module _ {D : Type 0} (conduct : Conduct D) (dig : Digest) (kept_from_now : KeptFromNow) where
+  pub flush_kept : FlushKeepsBlocks conduct dig
   flush_kept old new calls disks after file i f k e step have is marked there honest_now j byte at =
       let f_is = flushed step.2 (flush_ok step.1) in
       let old_here : slice_get old.files file ≡ Some f = ap (λ l. slice_get l file) (sym f_is.files) ∙ is.here in
@@ -107,8 +108,8 @@ module _ {D : Type 0} (history : D → History) (honest : D → Type 0) (faults 
       let d = have.each file e there in
       let are : (c : Call) → Contains (calls_of file calls.devices) c → c ≡ sync_made = λ c one. only_syncs (data_files old) file (subst (λ cs. Contains cs (file, c)) f_is.made (of_all calls.devices one)) in
       let medium = some_synced _ _ _ (among_file calls.devices among) are (d.2.answered (d.2.as_honest.1 honest_now)) in
-      kept_from_now (history e) (16384 * i + j) byte (λ image left.
-      rw (synced_image (history e).now.bytes image (subst (λ s. IsImage s image) medium left)) (stands_in k.file_length (history e).now.bytes i j at))
+      kept_from_now (conduct.history e) (16384 * i + j) byte (λ image left.
+      rw (synced_image (conduct.history e).now.bytes image (subst (λ s. IsImage s image) medium left)) (stands_in k.file_length (conduct.history e).now.bytes i j at))
 
 -- ---- lists of events
 
@@ -134,40 +135,40 @@ goes_on file i {f} {k} keeps is marked =
       same_length = tree.length;
     }
 
-module _ {D : Type 0} (history : D → History) (honest : D → Type 0) (faults : D → ℕ) (dig : Digest) (marks : AdoptMarksByBytes dig) (calls_keep : CallsKeepBytes) (reads : (d : D) → honest d → IsImage (history d).now (history d).now.bytes) where
-  pub images_run : RunKeepsImages history honest faults dig
+module _ {D : Type 0} (conduct : Conduct D) (dig : Digest) (marks : AdoptMarksByBytes dig) (calls_keep : CallsKeepBytes) (reads : (d : D) → conduct.honest d → IsImage (conduct.history d).now (conduct.history d).now.bytes) where
+  pub images_run : RunKeepsImages conduct dig
   images_run old new [] [] [] disks after file i t f k bytes e none run sound is marked size there honest_now kept =
       kept e (ap (λ l. slice_get l file) (sym run.1) ∙ there)
   images_run old new (x ∷ xs) (c ∷ calls) (a ∷ answers) disks after file i t f k bytes e none run sound is marked size there honest_now kept =
-      let mid = device_before history honest faults dig run.0 new xs calls answers run.1 after file run.4 there honest_now in
+      let mid = device_before conduct dig run.0 new xs calls answers run.1 after file run.4 there honest_now in
       let marked_now = state_is old (block_id file i) is.here marked in
-      let still = marks_kept history honest faults dig old run.0 x c a disks run.1 (block_id file i) mid.0 (first_is x xs none) run.2 run.3 sound mid.1 mid.2 marked_now in
+      let still = marks_kept conduct dig old run.0 x c a disks run.1 (block_id file i) mid.0 (first_is x xs none) run.2 run.3 sound mid.1 mid.2 marked_now in
       let then = goes_on file i (step_keeps dig x c a (first_is x xs none) run.2) is still in
-      let one : (d : D) → slice_get run.1 file ≡ Some (Some d) → IsBlockKept (history d) t i bytes = λ d at.
+      let one : (d : D) → slice_get run.1 file ≡ Some (Some d) → IsBlockKept (conduct.history d) t i bytes = λ d at.
       (let same : d ≡ mid.0 = cc in
-      images_kept history honest faults dig calls_keep reads old run.0 x c a disks run.1 file i t f k bytes d run.2 run.3 is (λ gone. absurd cc) size at (rw same mid.2) kept) in
+      images_kept conduct dig calls_keep reads old run.0 x c a disks run.1 file i t f k bytes d run.2 run.3 is (λ gone. absurd cc) size at (rw same mid.2) kept) in
       images_run run.0 new xs calls answers run.1 after file i t then.state then.tree bytes e (others_are x xs none) run.4
-      (step_sound history honest faults dig marks old run.0 x c a disks run.1 run.2 run.3 sound) then.is_file then.marked (size ∙ ap (λ n. block_length n i) (sym then.same_length)) there honest_now one
+      (step_sound conduct dig marks old run.0 x c a disks run.1 run.2 run.3 sound) then.is_file then.marked (size ∙ ap (λ n. block_length n i) (sym then.same_length)) there honest_now one
   images_run old new _ _ _ disks after file i t f k bytes e none run sound is marked size there honest_now kept = absurd run
 
-  pub flushed_survive : KeptFromNow → FlushedBlocksSurvive history honest faults dig
+  pub flushed_survive : KeptFromNow → FlushedBlocksSurvive conduct dig
   flushed_survive kept_from_now old mid new made events calls answers disks flushed_disks after file i f k d e sound none step have run is marked there_then there honest_now image left =
-      let back = device_before history honest faults dig mid new events calls answers flushed_disks after file run there honest_now in
+      let back = device_before conduct dig mid new events calls answers flushed_disks after file run there honest_now in
       let same : d ≡ back.0 = cc in
-      let honest_then : honest d = rw same back.2 in
+      let honest_then : conduct.honest d = rw same back.2 in
       let f_is = flushed step.2 (flush_ok step.1) in
       let is_then : IsFile mid file f k = record { here = ap (λ l. slice_get l file) f_is.files ∙ is.here; has_tree = ap (λ l. slice_get l f.tree) f_is.trees ∙ is.has_tree } in
-      let sound_then = step_sound history honest faults dig marks old mid Flush made _ disks flushed_disks step have sound in
+      let sound_then = step_sound conduct dig marks old mid Flush made _ disks flushed_disks step have sound in
       let right = sound_then file f k d is_then there_then honest_then i marked in
-      let kept = flush_kept history honest faults dig kept_from_now old mid made disks flushed_disks file i f k d step have is_then marked there_then honest_then in
-      let each : (x : D) → slice_get flushed_disks file ≡ Some (Some x) → IsBlockKept (history x) (moment_of (history d)) i (stored_block k.file_length (history d).now.bytes i) = λ x at.
+      let kept = flush_kept conduct dig kept_from_now old mid made disks flushed_disks file i f k d step have is_then marked there_then honest_then in
+      let each : (x : D) → slice_get flushed_disks file ≡ Some (Some x) → IsBlockKept (conduct.history x) (moment_of (conduct.history d)) i (stored_block k.file_length (conduct.history d).now.bytes i) = λ x at.
       (let one : x ≡ d = cc in rw one kept) in
-      let last = images_run mid new events calls answers flushed_disks after file i (moment_of (history d)) f k _ e none run sound_then is_then marked right.whole there honest_now each in
+      let last = images_run mid new events calls answers flushed_disks after file i (moment_of (conduct.history d)) f k _ e none run sound_then is_then marked right.whole there honest_now each in
       subst (IsRight dig k i)
-      (sym (block_stands k.file_length i (stored_block k.file_length (history d).now.bytes i) image right.whole (λ j byte at. last j byte at image left))) right
+      (sym (block_stands k.file_length i (stored_block k.file_length (conduct.history d).now.bytes i) image right.whole (λ j byte at. last j byte at image left))) right
 
-  pub flushes_kept : KeptFromNow → RunsKeepFlushedBlocks history honest faults dig
+  pub flushes_kept : KeptFromNow → RunsKeepFlushedBlocks conduct dig
   flushes_kept kept_from_now torrent given log first old mid new events later calls later_calls made answers later_answers before flushed_disks after file i f k d e begins none run step have goes is marked there_then there honest_now =
       flushed_survive kept_from_now old mid new made later later_calls later_answers before flushed_disks after file i f k d e
-      (run_sound history honest faults dig marks first.state old events calls answers first.disks before run (start_sound history honest faults dig torrent given log first begins))
+      (run_sound conduct dig marks first.state old events calls answers first.disks before run (start_sound conduct dig torrent given log first begins))
       none step have goes is marked there_then there honest_now

@@ -9,6 +9,7 @@ use Rattle.bt_machine.proofs.PeerChanges.{judged_other}
 use Rattle.bt_machine.proofs.Adopting.{right_in, group_forward}
 use Rattle.bt_machine.proofs.Tame.{Touches, keeping, putting, step_touches}
 use Rattle.bt_machine.proofs.Sound.{no_write, no_fault, calls_keep, of_all, among_file, step_sound}
+use Rattle.bt_disk.specs.Conduct.{Conduct}
 
 -- ---- states
 
@@ -322,7 +323,7 @@ first_is event events none = none 0 event (omega arith)
 pub others_are : (event : Event) (events : List Event) → HasNoRestart (event ∷ events) → HasNoRestart events
 others_are event events none i d lt = none (suc i) d (omega arith)
 
-module _ {D : Type 0} (history : D → History) (honest : D → Type 0) (faults : D → ℕ) (dig : Digest) where
+module _ {D : Type 0} (conduct : Conduct D) (dig : Digest) where
   -- what an honest device gave stands there
   given_stands : (s : EngineState) {calls file : _} (i n : ℕ) {bytes : _} (before after : History) → Touches s.files s.trees calls
       → AreAnswered before (calls_of file calls) after → Contains calls (file, call_of n (given i bytes)) → bytes ≡ stored_block n before.now.bytes i
@@ -337,7 +338,7 @@ module _ {D : Type 0} (history : D → History) (honest : D → Type 0) (faults 
         | inr none_left ↦ absurd (contains_none none_left)
       ]
 
-  pub marks_kept : StepKeepsMarks history honest faults dig
+  pub marks_kept : StepKeepsMarks conduct dig
   marks_kept old new event calls answer disks after b e apart step have sound there honest_now before = elim (step_stays dig b old new event calls _ apart step before) [
     | inl kept ↦ kept
     | inr w ↦
@@ -352,8 +353,8 @@ module _ {D : Type 0} (history : D → History) (honest : D → Type 0) (faults 
 
   -- the device was there before, and honest
   pub device_before : (old new events calls answers : _) (disks after : List (Option D)) (file : _) {e : D}
-      → RunOn history honest faults dig old disks events calls answers new after → slice_get after file ≡ Some (Some e) → honest e
-      → (d : D) × (slice_get disks file ≡ Some (Some d)) × honest d
+      → RunOn conduct dig old disks events calls answers new after → slice_get after file ≡ Some (Some e) → conduct.honest e
+      → (d : D) × (slice_get disks file ≡ Some (Some d)) × conduct.honest d
   device_before old new [] [] [] disks after file {e} run there honest_now = (e, sym (cc) ∙ there, honest_now)
   device_before old new (x ∷ xs) (c ∷ calls) (a ∷ answers) disks after file run there honest_now =
       let mid = device_before run.0 new xs calls answers run.1 after file run.4 there honest_now in
@@ -361,11 +362,11 @@ module _ {D : Type 0} (history : D → History) (honest : D → Type 0) (faults 
       (d.0, d.1, d.2.as_honest.1 mid.2)
   device_before old new _ _ _ disks after file run there honest_now = absurd run
 
-module _ {D : Type 0} (history : D → History) (honest : D → Type 0) (faults : D → ℕ) (dig : Digest) (marks : AdoptMarksByBytes dig) where
-  pub run_marks_kept : RunKeepsMarks history honest faults dig
+module _ {D : Type 0} (conduct : Conduct D) (dig : Digest) (marks : AdoptMarksByBytes dig) where
+  pub run_marks_kept : RunKeepsMarks conduct dig
   run_marks_kept old new [] [] [] disks after b e none run sound there honest_now before = cc
   run_marks_kept old new (x ∷ xs) (c ∷ calls) (a ∷ answers) disks after b e none run sound there honest_now before =
-      let mid = device_before history honest faults dig run.0 new xs calls answers run.1 after b.file run.4 there honest_now in
-      let kept = marks_kept history honest faults dig old run.0 x c a disks run.1 b mid.0 (first_is x xs none) run.2 run.3 sound mid.1 mid.2 before in
-      run_marks_kept run.0 new xs calls answers run.1 after b e (others_are x xs none) run.4 (step_sound history honest faults dig marks old run.0 x c a disks run.1 run.2 run.3 sound) there honest_now kept
+      let mid = device_before conduct dig run.0 new xs calls answers run.1 after b.file run.4 there honest_now in
+      let kept = marks_kept conduct dig old run.0 x c a disks run.1 b mid.0 (first_is x xs none) run.2 run.3 sound mid.1 mid.2 before in
+      run_marks_kept run.0 new xs calls answers run.1 after b e (others_are x xs none) run.4 (step_sound conduct dig marks old run.0 x c a disks run.1 run.2 run.3 sound) there honest_now kept
   run_marks_kept old new _ _ _ disks after b e none run sound there honest_now before = absurd run

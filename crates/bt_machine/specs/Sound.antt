@@ -1,6 +1,6 @@
 -- What honest devices have of the marked blocks of an engine, over its steps.
 use Rattle.std.specs.Prelude.{[], ◌≡◌, ℕ, ◌<◌, List, ◌∷◌, Option, Some, slice_get}
-use Rattle.bt_disk.specs.History.{History}
+use Rattle.bt_disk.specs.Conduct.{Conduct}
 use Rattle.bt_sparse.specs.SparseTree.{Facts, blocks_of}
 use Rattle.bt_store.specs.declared.block_states.BlockState.TheVariants.{Marked}
 use Rattle.bt_machine.specs.declared.event.Event.{Event}
@@ -17,50 +17,50 @@ use Rattle.bt_machine.specs.declared.event.Answer.{Answer}
 use Rattle.bt_machine.specs.Step.{Step}
 
 -- on each honest device the marked blocks of its file are right
-abbrev pub IsSound : {D : Type 0} → (D → History) → (D → Type 0) → (List ℕ → List ℕ)
+abbrev pub IsSound : {D : Type 0} → Conduct D → (List ℕ → List ℕ)
     → EngineState → List (Option D) → Type 0
-IsSound {D} history honest dig s disks = (file : ℕ) (f : FileState) (k : Facts) (d : D) → IsFile s file f k
-    → slice_get disks file ≡ Some (Some d) → honest d → AreRight dig k (history d).now.bytes f.states
+IsSound {D} conduct dig s disks = (file : ℕ) (f : FileState) (k : Facts) (d : D) → IsFile s file f k
+    → slice_get disks file ≡ Some (Some d) → conduct.honest d → AreRight dig k (conduct.history d).now.bytes f.states
 
 -- It is so at the beginning: without a log no block is marked, and with one each was read,
-abbrev pub StartsSound : {D : Type 0} → (D → History) → (D → Type 0) → (D → ℕ) → (List ℕ → List ℕ) → Type 0
-StartsSound {D} history honest faults dig = (torrent : Metainfo) (given : List (Option D))
+abbrev pub StartsSound : {D : Type 0} → Conduct D → (List ℕ → List ℕ) → Type 0
+StartsSound {D} conduct dig = (torrent : Metainfo) (given : List (Option D))
     (log : Option (LogView D)) (first : EngineView D)
-    → BeginsOn history honest faults dig torrent given log first
-    → IsSound history honest dig first.state first.disks
+    → BeginsOn conduct dig torrent given log first
+    → IsSound conduct dig first.state first.disks
 
 -- and each event keeps it so, whatever the devices answer.
-abbrev pub StepKeepsSound : {D : Type 0} → (D → History) → (D → Type 0) → (D → ℕ) → (List ℕ → List ℕ) → Type 0
-StepKeepsSound {D} history honest faults dig = (old new : EngineState) (event : Event) (calls : EventCalls)
+abbrev pub StepKeepsSound : {D : Type 0} → Conduct D → (List ℕ → List ℕ) → Type 0
+StepKeepsSound {D} conduct dig = (old new : EngineState) (event : Event) (calls : EventCalls)
     (answer : Answer) (disks after : List (Option D))
-    → Step dig old event calls answer new → HaveCalls history honest faults disks calls.devices after
-    → IsSound history honest dig old disks → IsSound history honest dig new after
+    → Step dig old event calls answer new → HaveCalls conduct disks calls.devices after
+    → IsSound conduct dig old disks → IsSound conduct dig new after
 
 -- A list of events, one step after the other, with the devices that its calls were made of.
-abbrev pub RunOn : {D : Type 0} → (D → History) → (D → Type 0) → (D → ℕ) → (List ℕ → List ℕ)
+abbrev pub RunOn : {D : Type 0} → Conduct D → (List ℕ → List ℕ)
     → EngineState → List (Option D) → List Event → List EventCalls → List Answer
     → EngineState → List (Option D) → Type 0
-RunOn {D} history honest faults dig old disks [] [] [] new after = (new ≡ old) × (after ≡ disks)
-RunOn {D} history honest faults dig old disks (event ∷ events) (calls ∷ more) (answer ∷ answers) new after =
+RunOn {D} conduct dig old disks [] [] [] new after = (new ≡ old) × (after ≡ disks)
+RunOn {D} conduct dig old disks (event ∷ events) (calls ∷ more) (answer ∷ answers) new after =
     (next : EngineState) × (between : List (Option D))
-    × Step dig old event calls answer next × HaveCalls history honest faults disks calls.devices between
-    × RunOn history honest faults dig next between events more answers new after
-RunOn {D} history honest faults dig old disks _ _ _ new after = ⊥
+    × Step dig old event calls answer next × HaveCalls conduct disks calls.devices between
+    × RunOn conduct dig next between events more answers new after
+RunOn {D} conduct dig old disks _ _ _ new after = ⊥
 
 -- A device that is honest after a list of events was there before it, and honest.
-abbrev pub HonestDevicesWereSo : {D : Type 0} → (D → History) → (D → Type 0) → (D → ℕ) → (List ℕ → List ℕ)
+abbrev pub HonestDevicesWereSo : {D : Type 0} → Conduct D → (List ℕ → List ℕ)
     → Type 0
-HonestDevicesWereSo {D} history honest faults dig = (old new : EngineState) (events : List Event)
+HonestDevicesWereSo {D} conduct dig = (old new : EngineState) (events : List Event)
     (calls : List EventCalls) (answers : List Answer) (disks after : List (Option D)) (file : ℕ) (e : D)
-    → RunOn history honest faults dig old disks events calls answers new after
-    → slice_get after file ≡ Some (Some e) → honest e
-    → (d : D) × (slice_get disks file ≡ Some (Some d)) × honest d
+    → RunOn conduct dig old disks events calls answers new after
+    → slice_get after file ≡ Some (Some e) → conduct.honest e
+    → (d : D) × (slice_get disks file ≡ Some (Some d)) × conduct.honest d
 
 -- So where all blocks of a file are marked and its device is honest, the file stands there with its tree's
 -- root.
-abbrev pub CompleteFilesStand : {D : Type 0} → (D → History) → (D → Type 0) → (List ℕ → List ℕ) → Type 0
-CompleteFilesStand {D} history honest dig = (s : EngineState) (disks : List (Option D))
-    (file : ℕ) (f : FileState) (k : Facts) (d : D) → AreRooted dig s → IsSound history honest dig s disks
+abbrev pub CompleteFilesStand : {D : Type 0} → Conduct D → (List ℕ → List ℕ) → Type 0
+CompleteFilesStand {D} conduct dig = (s : EngineState) (disks : List (Option D))
+    (file : ℕ) (f : FileState) (k : Facts) (d : D) → AreRooted dig s → IsSound conduct dig s disks
     → IsFile s file f k → 0 < k.file_length
     → ((i : ℕ) → i < blocks_of k → slice_get f.states i ≡ Some Marked)
-    → slice_get disks file ≡ Some (Some d) → honest d → HasFile dig k (history d).now.bytes
+    → slice_get disks file ≡ Some (Some d) → conduct.honest d → HasFile dig k (conduct.history d).now.bytes

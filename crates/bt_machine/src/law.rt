@@ -28,7 +28,7 @@ pub fn starts_keep_laws<D: Disk, H: NodeHash>(hash: H)
     ensures orderly { StartsInOrder H.digest }
     ensures rooted { StartsRooted H.digest }
     ensures sparse { StartsSparse H.digest }
-    ensures sound { StartsSound D.history D.honest D.faults H.digest }
+    ensures sound { StartsSound D.conduct H.digest }
 {
     layers_are_sound(hash);
     roots_are_sound(hash);
@@ -43,7 +43,7 @@ pub fn steps_keep_laws<D: Disk, H: NodeHash>(hash: H)
     ensures orderly { StepKeepsOrder H.digest }
     ensures rooted { StepKeepsRooted H.digest }
     ensures sparse { StepKeepsSparse H.digest }
-    ensures sound { StepKeepsSound D.history D.honest D.faults H.digest }
+    ensures sound { StepKeepsSound D.conduct H.digest }
 {
     layers_are_sound(hash);
     roots_are_sound(hash);
@@ -108,7 +108,7 @@ pub fn run_sends_read_bytes<H: NodeHash>()
 /// and root. So it equals every file of that length and root, or at one place of their trees two different
 /// inputs have one digest.
 pub fn complete_files_are_published<D: Disk, H: NodeHash>(hash: H)
-    ensures { CompleteFilesArePublished D.history D.honest D.faults H.digest }
+    ensures { CompleteFilesArePublished D.conduct H.digest }
 {
     layers_are_sound(hash);
     roots_are_sound(hash);
@@ -120,18 +120,18 @@ pub fn complete_files_are_published<D: Disk, H: NodeHash>(hash: H)
 /// Where an engine's trees are rooted and the marked blocks of honest devices are right, a file of which all
 /// blocks are marked stands whole on an honest device, with its tree's root.
 pub fn complete_files_stand<D: Disk, H: NodeHash>()
-    ensures { CompleteFilesStand D.history D.honest H.digest }
+    ensures { CompleteFilesStand D.conduct H.digest }
 {}
 
 /// A device that is honest after a list of events was there before it, and honest.
 pub fn honest_devices_were_so<D: Disk, H: NodeHash>()
-    ensures { HonestDevicesWereSo D.history D.honest D.faults H.digest }
+    ensures { HonestDevicesWereSo D.conduct H.digest }
 {}
 
 /// When a flush answers Ok, every marked block of an honest device is kept as it stands, by every image from
 /// that moment on.
 pub fn flush_keeps_blocks<D: Disk, H: NodeHash>()
-    ensures { FlushKeepsBlocks D.history D.honest D.faults H.digest }
+    ensures { FlushKeepsBlocks D.conduct H.digest }
 {
     calls_keep_bytes();
 }
@@ -140,7 +140,7 @@ pub fn flush_keeps_blocks<D: Disk, H: NodeHash>()
 /// any moment after a flush that answered Ok and before a restart, also within an event, leaves each block
 /// right on an honest device that was marked at the flush.
 pub fn runs_keep_flushed_blocks<D: Disk, H: NodeHash>(hash: H)
-    ensures { RunsKeepFlushedBlocks D.history D.honest D.faults H.digest }
+    ensures { RunsKeepFlushedBlocks D.conduct H.digest }
 {
     calls_keep_bytes();
     adopt_marks_by_bytes(hash);
@@ -149,7 +149,7 @@ pub fn runs_keep_flushed_blocks<D: Disk, H: NodeHash>(hash: H)
 /// Where marked blocks are right on honest devices: what every image since a moment has of a marked block,
 /// every image goes on to have over a list of events without a restart, also those of a crash within one.
 pub fn run_keeps_images<D: Disk, H: NodeHash>(hash: H)
-    ensures { RunKeepsImages D.history D.honest D.faults H.digest }
+    ensures { RunKeepsImages D.conduct H.digest }
 {
     calls_keep_bytes();
     adopt_marks_by_bytes(hash);
@@ -158,7 +158,7 @@ pub fn run_keeps_images<D: Disk, H: NodeHash>(hash: H)
 /// Where marked blocks are right on honest devices, a marked block on one stays marked over a list of events
 /// without a restart.
 pub fn run_keeps_marks<D: Disk, H: NodeHash>(hash: H)
-    ensures { RunKeepsMarks D.history D.honest D.faults H.digest }
+    ensures { RunKeepsMarks D.conduct H.digest }
 {
     adopt_marks_by_bytes(hash);
 }
@@ -218,18 +218,18 @@ pub fn whole_pieces_are_marked()
 /// No call leads from devices to themselves, calls of one file's device are calls of all devices, and calls
 /// and then others, as those of two events, are these calls one after the other.
 pub fn device_calls_compose<D: Disk>()
-    ensures none { NoCallsLead D.history D.honest D.faults }
-    ensures one { CallsOfOneLead D.history D.honest D.faults }
-    ensures both { CallsCompose D.history D.honest D.faults }
+    ensures none { NoCallsLead D.conduct }
+    ensures one { CallsOfOneLead D.conduct }
+    ensures both { CallsCompose D.conduct }
 {}
 
 /// Lists of events of an engine with its devices are put together, event by event or list by list; and what
 /// is said of lists of events whatever the devices are, is said of them.
 pub fn runs_compose<D: Disk, H: NodeHash>()
-    ensures none { NoEventsRun D.history D.honest D.faults H.digest }
-    ensures one_more { OneMoreEventRuns D.history D.honest D.faults H.digest }
-    ensures both { RunsCompose D.history D.honest D.faults H.digest }
-    ensures are_runs { RunsAreRuns D.history D.honest D.faults H.digest }
+    ensures none { NoEventsRun D.conduct H.digest }
+    ensures one_more { OneMoreEventRuns D.conduct H.digest }
+    ensures both { RunsCompose D.conduct H.digest }
+    ensures are_runs { RunsAreRuns D.conduct H.digest }
 {}
 
 /// Each frame that an event sends fits and can be written: where an engine has the files and trees of a

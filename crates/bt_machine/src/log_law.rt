@@ -35,9 +35,9 @@ pub fn hints_lead_trees<H: NodeHash>()
 /// they answer: there is a log exactly where the engine says so, it is the torrent's, and the engine's hints
 /// are those that were last read from it.
 pub fn engines_are_of_logs<D: Disk, H: NodeHash>()
-    ensures starts { StartsOfLog D.history D.honest D.faults H.digest }
-    ensures steps { StepKeepsOfLog D.history D.honest D.faults H.digest }
-    ensures runs { RunKeepsOfLog D.history D.honest D.faults H.digest }
+    ensures starts { StartsOfLog D.conduct H.digest }
+    ensures steps { StepKeepsOfLog D.conduct H.digest }
+    ensures runs { RunKeepsOfLog D.conduct H.digest }
 {}
 
 /// What a log backs is marked again, when all is begun anew with its hints and the reads are right.
@@ -47,8 +47,8 @@ pub fn backed_blocks_are_marked_again<H: NodeHash>()
 
 /// What a log keeps stands through every event, and after a flush it keeps enough of every marked block.
 pub fn logs_stand<D: Disk, H: NodeHash>()
-    ensures stand { StepKeepsLog D.history D.honest D.faults H.digest }
-    ensures kept { FlushKeepsHints D.history D.honest D.faults H.digest }
+    ensures stand { StepKeepsLog D.conduct H.digest }
+    ensures kept { FlushKeepsHints D.conduct H.digest }
 {
     kept_hints_stand::<D>();
     logs_hold_hints::<D>();
@@ -70,10 +70,10 @@ pub fn group_proofs_follow<H: NodeHash>(hash: H)
 /// of memory, until one is accepted. From a flush that answered Ok on, what the log held then is in whatever a
 /// stop leaves of it.
 pub fn logs_back_engines<D: Disk, H: NodeHash>(hash: H)
-    ensures starts { StartIsBacked D.history D.honest D.faults H.digest }
-    ensures steps { StepKeepsBacking D.history D.honest D.faults H.digest }
-    ensures runs { RunsAreBacked D.history D.honest D.faults H.digest }
-    ensures flushed { FlushedLogsAreKept D.history D.honest D.faults H.digest }
+    ensures starts { StartIsBacked D.conduct H.digest }
+    ensures steps { StepKeepsBacking D.conduct H.digest }
+    ensures runs { RunsAreBacked D.conduct H.digest }
+    ensures flushed { FlushedLogsAreKept D.conduct H.digest }
 {
     logs_hold_hints::<D>();
     kept_hints_stand::<D>();
@@ -88,14 +88,14 @@ pub fn logs_back_engines<D: Disk, H: NodeHash>(hash: H)
 /// stayed what it was.
 pub fn restarts_read_all<D: Disk, H: NodeHash>()
     ensures none { NoRestartsReadAll }
-    ensures counted { CountsTellReads D.history D.honest D.faults H.digest }
+    ensures counted { CountsTellReads D.conduct H.digest }
 {}
 
 /// Once a flush answered Ok on an engine with a log, a stop at any later moment, also within an event, leaves
 /// enough: all blocks that were marked at the flush are marked where the devices and the log are opened again
 /// and no read fails. A restart since the flush counts as a reopening: no read of it failed either.
 pub fn flushed_blocks_are_marked_again<D: Disk, H: NodeHash>(hash: H)
-    ensures { FlushedBlocksAreMarkedAgain D.history D.honest D.faults H.digest }
+    ensures { FlushedBlocksAreMarkedAgain D.conduct H.digest }
 {
     logs_back_engines::<D, H>(hash);
     runs_keep_shape::<H>();

@@ -1,6 +1,6 @@
 -- Peers that are tried one after the other, until the engine is complete.
 use Rattle.std.specs.Prelude.{[], ℕ, ◌≡◌, ◌+◌, true, false, List, ◌∷◌, length, replicate, Option, IfSome, Result, Ok, Err}
-use Rattle.bt_disk.specs.History.{History}
+use Rattle.bt_disk.specs.Conduct.{Conduct}
 use Rattle.bt_machine.specs.declared.error.FlushError.{FlushError}
 use Rattle.bt_machine.specs.Report.{all_complete}
 use Rattle.bt_machine.specs.State.{EngineView}
@@ -18,13 +18,13 @@ pub record IsDialled {L R W : Type 0} (dials failures : L → ℕ) (gives : L �
 
 -- A peer is tried: its link is dialled once; where that reaches it, it has a session until the engine is
 -- complete, of so many turns at most.
-pub record IsTried {D L R W : Type 0} (history : D → History) (honest : D → Type 0) (faults : D → ℕ)
+pub record IsTried {D L R W : Type 0} (conduct : Conduct D)
     (dig : List ℕ → List ℕ) (dials failures : L → ℕ) (gives : L → R → W → Type 0)
     (remaining : R → Option (List ℕ)) (contents : W → Option (List ℕ)) (turns : ℕ) (old : EngineView D)
     (link : L) (end : PeerEnd) (after : L) (new : EngineView D) : Type 0 where
   pub reached : Option (R × W)
   pub dialled : IsDialled dials failures gives link reached after
-  pub ended : EndsAs history honest faults dig remaining contents true turns reached old end new
+  pub ended : EndsAs conduct dig remaining contents true turns reached old end new
 
 -- what is said of one peer: of the engine and its link, its end, and both afterwards
 abbrev pub Trial : (D L : Type 0) → Type 1
@@ -46,14 +46,13 @@ pub data InTurn {D L : Type 0} (Try : Trial D L)
 
 -- The same of a peer in whose session the engine is flushed behind each `every`-th turn, and then behind the
 -- session, or never where that is 0; and what the last of these flushes answered.
-pub record IsTriedWithFlushes {D L R W : Type 0} (history : D → History) (honest : D → Type 0)
-    (faults : D → ℕ) (dig : List ℕ → List ℕ) (dials failures : L → ℕ) (gives : L → R → W → Type 0)
+pub record IsTriedWithFlushes {D L R W : Type 0} (conduct : Conduct D) (dig : List ℕ → List ℕ) (dials failures : L → ℕ) (gives : L → R → W → Type 0)
     (remaining : R → Option (List ℕ)) (contents : W → Option (List ℕ)) (every turns : ℕ) (old : EngineView D)
     (link : L) (end : PeerEnd) (answer : Result (Unit {0}) FlushError) (after : L) (new : EngineView D)
     : Type 0 where
   pub reached : Option (R × W)
   pub dialled : IsDialled dials failures gives link reached after
-  pub ended : EndsAsWithFlushes history honest faults dig remaining contents true every turns reached old end
+  pub ended : EndsAsWithFlushes conduct dig remaining contents true every turns reached old end
       answer new
 
 -- what is said of one peer: of the engine and its link, its end and what the last flush answered, and both

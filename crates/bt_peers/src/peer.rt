@@ -21,11 +21,11 @@ pub fn meet_peer<D: Disk + Drop, H: NodeHash, R: Read + Drop, W: Write + Drop>(
     turns: u64,
 ) -> PeerEnd
     requires no_peer { engine.old.state.peers ≡ [] }
-    ensures ended { EndsAs D.history D.honest D.faults H.digest R.remaining W.contents until_complete
+    ensures ended { EndsAs D.conduct H.digest R.remaining W.contents until_complete
         turns reached engine.old result engine.new }
     ensures gone { engine.new.state.peers ≡ [] }
-    ensures run { LeadsTo D.history D.honest D.faults H.digest engine.old engine.new }
-    ensures stands { Stands D.history D.honest D.faults engine.old engine.new }
+    ensures run { LeadsTo D.conduct H.digest engine.old engine.new }
+    ensures stands { Stands D.conduct engine.old engine.new }
 {
     // It is never flushed.
     let (end, _) = meet_peer_with_flushes(alloc, engine, reached, until_complete, turns, 0);
@@ -45,11 +45,11 @@ pub fn meet_peer_with_flushes<D: Disk + Drop, H: NodeHash, R: Read + Drop, W: Wr
     flush_every: u64,
 ) -> (PeerEnd, Result<(), FlushError>)
     requires no_peer { engine.old.state.peers ≡ [] }
-    ensures ended { EndsAsWithFlushes D.history D.honest D.faults H.digest R.remaining W.contents
+    ensures ended { EndsAsWithFlushes D.conduct H.digest R.remaining W.contents
         until_complete flush_every turns reached engine.old result.0 result.1 engine.new }
     ensures gone { engine.new.state.peers ≡ [] }
-    ensures run { LeadsTo D.history D.honest D.faults H.digest engine.old engine.new }
-    ensures stands { Stands D.history D.honest D.faults engine.old engine.new }
+    ensures run { LeadsTo D.conduct H.digest engine.old engine.new }
+    ensures stands { Stands D.conduct engine.old engine.new }
 {
     what_leads_on_stands::<D, H>(engine.hash());
     engine.keeps_laws();
@@ -77,10 +77,10 @@ fn flush_behind<D: Disk + Drop, H: NodeHash>(
     flush_every: u64,
 ) -> Result<(), FlushError>
     requires no_peer { engine.old.state.peers ≡ [] }
-    ensures flushed { IsFlushedWhere D.history D.honest D.faults H.digest (not (flush_every == 0)) engine.old
+    ensures flushed { IsFlushedWhere D.conduct H.digest (not (flush_every == 0)) engine.old
         result engine.new }
     ensures gone { engine.new.state.peers ≡ [] }
-    ensures run { LeadsTo D.history D.honest D.faults H.digest engine.old engine.new }
+    ensures run { LeadsTo D.conduct H.digest engine.old engine.new }
 {
     if flush_every == 0 {
         return Ok(());

@@ -26,11 +26,11 @@ pub fn run_peers<D: Disk + Drop, H: NodeHash, L: Link>(
     requires same_length { length links.old ≡ length ends.old }
     requires undialled { All (λ link. L.dials link ≡ 0) links.old }
     requires no_peer { engine.old.state.peers ≡ [] }
-    ensures peers { InTurn (IsTried D.history D.honest D.faults H.digest L.dials L.failures L.gives
+    ensures peers { InTurn (IsTried D.conduct H.digest L.dials L.failures L.gives
         L.R.remaining L.W.contents turns) engine.old links.old ends.new links.new engine.new }
     ensures gone { engine.new.state.peers ≡ [] }
-    ensures run { LeadsTo D.history D.honest D.faults H.digest engine.old engine.new }
-    ensures stands { Stands D.history D.honest D.faults engine.old engine.new }
+    ensures run { LeadsTo D.conduct H.digest engine.old engine.new }
+    ensures stands { Stands D.conduct engine.old engine.new }
 {
     // It is never flushed, so no flush is refused.
     let _ = run_peers_with_flushes(alloc, engine, links, ends, turns, 0);
@@ -52,12 +52,12 @@ pub fn run_peers_with_flushes<D: Disk + Drop, H: NodeHash, L: Link>(
     requires same_length { length links.old ≡ length ends.old }
     requires undialled { All (λ link. L.dials link ≡ 0) links.old }
     requires no_peer { engine.old.state.peers ≡ [] }
-    ensures peers { InTurnWithFlushes (IsTriedWithFlushes D.history D.honest D.faults H.digest L.dials
+    ensures peers { InTurnWithFlushes (IsTriedWithFlushes D.conduct H.digest L.dials
         L.failures L.gives L.R.remaining L.W.contents flush_every turns) engine.old links.old ends.new
         links.new result engine.new }
     ensures gone { engine.new.state.peers ≡ [] }
-    ensures run { LeadsTo D.history D.honest D.faults H.digest engine.old engine.new }
-    ensures stands { Stands D.history D.honest D.faults engine.old engine.new }
+    ensures run { LeadsTo D.conduct H.digest engine.old engine.new }
+    ensures stands { Stands D.conduct engine.old engine.new }
 {
     what_leads_on_stands::<D, H>(engine.hash());
     engine.keeps_laws();
@@ -83,11 +83,11 @@ fn try_peer<D: Disk + Drop, H: NodeHash, L: Link>(
 ) -> Result<(), FlushError>
     requires undialled { L.dials link.old ≡ 0 }
     requires no_peer { engine.old.state.peers ≡ [] }
-    ensures tried { IsTriedWithFlushes D.history D.honest D.faults H.digest L.dials L.failures L.gives
+    ensures tried { IsTriedWithFlushes D.conduct H.digest L.dials L.failures L.gives
         L.R.remaining L.W.contents flush_every turns engine.old link.old end.new result link.new
         engine.new }
     ensures gone { engine.new.state.peers ≡ [] }
-    ensures run { LeadsTo D.history D.honest D.faults H.digest engine.old engine.new }
+    ensures run { LeadsTo D.conduct H.digest engine.old engine.new }
 {
     let reached = link.dial();
     let (met, flushed) = meet_peer_with_flushes(alloc, engine, reached, true, turns, flush_every);

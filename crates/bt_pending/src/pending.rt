@@ -116,7 +116,7 @@ impl Pending {
     /// before, also those that were appended: the log has forgotten these.
     pub fn write_to<D: Disk + Drop>(&mut self, log: &mut ResumeLog<D>) -> Result<(), FlushError>
         ensures written { (calls : List LogCall)
-            × AreLogCalls D.history D.honest D.faults log.old calls log.new
+            × AreLogCalls D.conduct log.old calls log.new
             × WritesHints self.old.hints calls result self.new.hints }
         ensures unchanged { IfErr result (λ _. self.new ≡ self.old) }
         ensures room { IfOk result (λ _. self.new.room ≡ self.old.room + length self.old.hints) }

@@ -16,7 +16,7 @@ pub(crate) fn append_all<D: Disk + Drop>(
 ) -> Result<(), AppendError>
     requires { AreWritable hints.now }
     ensures { (calls : List LogCall)
-        × AreLogCalls D.history D.honest D.faults log.old calls log.new
+        × AreLogCalls D.conduct log.old calls log.new
         × AppendsHints hints.now calls result }
 {
     for hint in hints {

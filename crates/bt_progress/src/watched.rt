@@ -46,11 +46,7 @@ impl<'a, T, P: Watch> Watched<'a, T, P> {
 }
 
 impl<'a, D: Disk, P: Watch> Disk for Watched<'a, D, P> {
-    ghost history = { λ w. D.history w };
-
-    ghost honest = { λ w. D.honest w };
-
-    ghost faults = { λ w. D.faults w };
+    ghost conduct = { D.conduct };
 
     ghost reads_image = { λ w honest. D.reads_image w honest };
 

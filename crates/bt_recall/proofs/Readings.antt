@@ -24,6 +24,7 @@ use Rattle.bt_recall.specs.ReadsSteps.{HasReads, IsSettled}
 use Rattle.bt_recall.specs.Recovering.{AreMissing}
 use Rattle.bt_recall.specs.RestoringSteps.{tree_and_length, block_total, HasTree, HaveTrees, RestoresSlots}
 use Rattle.bt_recall.proofs.Recallings.{same_lists, touched, state_then, length-recalled, is_among, among_recorded, empty_kept, one_recalled}
+use Rattle.bt_disk.specs.Conduct.{Conduct}
 
 -- ---- which blocks wait
 
@@ -137,11 +138,11 @@ record HasStore {D H : Type 0} (trees : List Facts) (slot : Slot D H) (store : S
   pub stands : slice_get trees slot.tree ≡ Some k
   pub same : k.file_length ≡ store.file_length
 
-module _ {D H : Type 0} (history : D → History) (honest : D → Type 0) (faults : D → ℕ) (dig : List ℕ → List ℕ) (hints : List Hint) (trees : List Facts) where
+module _ {D H : Type 0} (conduct : Conduct D) (dig : List ℕ → List ℕ) (hints : List Hint) (trees : List Facts) where
   -- one of the slots has become another, and the machine restores its file so
   record RestoresOne (slots : List (Slot D H)) (file : ℕ) (slot after : Slot D H) : Type 0 where
     pub calls : DeviceCalls
-    pub made : HaveCalls history honest faults (map disk_of slots) calls (map disk_of (slice_set slots file after))
+    pub made : HaveCalls conduct (map disk_of slots) calls (map disk_of (slice_set slots file after))
     pub restores : (s : EngineState) → s.trees ≡ trees → s.files ≡ map file_of slots
         → RestoresFile dig hints file s calls (record s { files = map file_of (slice_set slots file after) })
     pub named : tree_and_length after ≡ tree_and_length slot
@@ -153,8 +154,8 @@ module _ {D H : Type 0} (history : D → History) (honest : D → Type 0) (fault
         let same = set_id slots file at in
         record {
           calls = [];
-          made = subst (λ (xs : List (Slot D H)). HaveCalls history honest faults (map disk_of slots) [] (map disk_of xs)) (sym same)
-              (have_none history honest faults (map disk_of slots));
+          made = subst (λ (xs : List (Slot D H)). HaveCalls conduct (map disk_of slots) [] (map disk_of xs)) (sym same)
+              (have_none conduct (map disk_of slots));
           restores = λ s trees_are files_are. empty (file_of slot) (ap (λ (fs : List FileState). slice_get fs file) files_are ∙ get_mapped file_of slots file at)
               (ap (λ (o : Option (StoreView D)). option_map_or (λ store. store.states) o []) none) refl
               (ap (λ (xs : List (Slot D H)). record s { files = map file_of xs }) same ∙ ap (λ (fs : List FileState). record s { files = fs }) (sym files_are));
@@ -163,7 +164,7 @@ module _ {D H : Type 0} (history : D → History) (honest : D → Type 0) (fault
         }
 
     module _ {store : StoreView D} {k : Facts} (of : HasStore trees slot store k) (missing : store.states ≡ new_states store.file_length) {after : Slot D H}
-        (read : HasReads history honest faults dig k (record slot { store = Some (recalled_store (meant_in dig hints file) k store) }) (recalled_store (meant_in dig hints file) k store) after) where
+        (read : HasReads conduct dig k (record slot { store = Some (recalled_store (meant_in dig hints file) k store) }) (recalled_store (meant_in dig hints file) k store) after) where
       abbrev recorded : List ℕ
       recorded = recorded_blocks dig k hints file (length store.states)
 
@@ -185,12 +186,12 @@ module _ {D H : Type 0} (history : D → History) (honest : D → Type 0) (fault
       states_then : read.after.states ≡ judged dig k false read.reads store.states
       states_then = read.judged.states ∙ judged_before dig k hints file store.states recorded read.reads order
 
-      made_calls : HaveCalls history honest faults (map disk_of slots) calls_made (map disk_of (slice_set slots file after))
+      made_calls : HaveCalls conduct (map disk_of slots) calls_made (map disk_of (slice_set slots file after))
       made_calls =
-          subst (λ (x : Slot D H). HaveCalls history honest faults (map disk_of slots) calls_made (map disk_of (slice_set slots file x))) (sym read.changed)
-          (subst (λ calls. HaveCalls history honest faults (map disk_of slots) calls (map disk_of (slice_set slots file (record slot { store = Some read.after }))))
+          subst (λ (x : Slot D H). HaveCalls conduct (map disk_of slots) calls_made (map disk_of (slice_set slots file x))) (sym read.changed)
+          (subst (λ calls. HaveCalls conduct (map disk_of slots) calls (map disk_of (slice_set slots file (record slot { store = Some read.after }))))
           (sym (calls_are file read.reads of.same))
-          (have_changed slots file at of.has read.after history honest faults (map (call_of store.file_length) read.reads) read.judged.device.calls))
+          (have_changed slots file at of.has read.after conduct (map (call_of store.file_length) read.reads) read.judged.device.calls))
 
       next_is : (s : EngineState) → s.files ≡ map file_of slots
           → next s ≡ with_file s file (record { tree = slot.tree; states = judged dig k false read.reads store.states })
@@ -229,7 +230,7 @@ module _ {D H : Type 0} (history : D → History) (honest : D → Type 0) (fault
       }
 
     one_file : HasTree trees (tree_and_length slot) → ((store : StoreView D) → slot.store ≡ Some store → store.states ≡ new_states store.file_length)
-        → {after : Slot D H} → IsSettled history honest faults dig trees (recalled_slot dig hints trees file slot) after → RestoresOne slots file slot after
+        → {after : Slot D H} → IsSettled conduct dig trees (recalled_slot dig hints trees file slot) after → RestoresOne slots file slot after
     one_file tree missing {after} settled = by slot.store refl
       where
         by : (o : Option (StoreView D)) → slot.store ≡ o → RestoresOne slots file slot after
@@ -238,7 +239,7 @@ module _ {D H : Type 0} (history : D → History) (honest : D → Type 0) (fault
             subst (λ (x : Slot D H). RestoresOne slots file slot x) (sym (settled.empty (ap (λ (x : Slot D H). x.store) same ∙ none) ∙ same)) (empty_one none)
         by (Some store) has =
             let k = tree store.file_length (ap (option_map (λ (s : StoreView D). s.file_length)) has) in
-            let settled_then = subst (λ (x : Slot D H). IsSettled history honest faults dig trees x after) (one_recalled trees (meant_in dig hints file) slot has k.1) settled in
+            let settled_then = subst (λ (x : Slot D H). IsSettled conduct dig trees x after) (one_recalled trees (meant_in dig hints file) slot has k.1) settled in
             store_one (record { has = has; stands = k.1; same = k.2 }) (missing store has) (settled_then.read (recalled_store (meant_in dig hints file) k.0 store) k.0 refl k.1)
 
   -- ---- all slots
@@ -251,10 +252,10 @@ module _ {D H : Type 0} (history : D → History) (honest : D → Type 0) (fault
         subst (HasTree trees) (sym (kept_named (meant_in dig hints file) trees was.0) ∙ ap (λ (x : Slot D H). tree_and_length x) was.2) (have file was.0 was.1)
 
     module _ (new : List (Slot D H)) (settled : (file : ℕ) (slot : Slot D H) → slice_get now file ≡ Some slot
-        → (after : Slot D H) × (slice_get new file ≡ Some after) × IsSettled history honest faults dig trees slot after)
+        → (after : Slot D H) × (slice_get new file ≡ Some after) × IsSettled conduct dig trees slot after)
         (size : length new ≡ length old) (missing : AreMissing old) where
       after_of : (file : ℕ) {slot : Slot D H} → slice_get old file ≡ Some slot
-          → (after : Slot D H) × (slice_get new file ≡ Some after) × IsSettled history honest faults dig trees (recalled_slot dig hints trees file slot) after
+          → (after : Slot D H) × (slice_get new file ≡ Some after) × IsSettled conduct dig trees (recalled_slot dig hints trees file slot) after
       after_of file {slot} at = settled file (recalled_slot dig hints trees file slot) (recalled file ∙ ap (option_map (recalled_slot dig hints trees file)) at)
 
       one_of : (slots : List (Slot D H)) (file : ℕ) {slot : Slot D H} → slice_get slots file ≡ Some slot → (at : slice_get old file ≡ Some slot)
@@ -265,7 +266,7 @@ module _ {D H : Type 0} (history : D → History) (honest : D → Type 0) (fault
       -- the files from one on
       record RestoresFrom (a n : ℕ) : Type 0 where
         pub calls : DeviceCalls
-        pub made : HaveCalls history honest faults (map disk_of (mixed old new a)) calls (map disk_of new)
+        pub made : HaveCalls conduct (map disk_of (mixed old new a)) calls (map disk_of new)
         pub restores : (s : EngineState) → s.trees ≡ trees → s.files ≡ map file_of (mixed old new a)
             → RestoresFiles dig hints (range_with_len a n) s calls (record s { files = map file_of new })
 
@@ -274,8 +275,8 @@ module _ {D H : Type 0} (history : D → History) (honest : D → Type 0) (fault
           let all : mixed old new a ≡ new = ap (mixed old new) (omega (arith, e)) ∙ all_later old new size in
           record {
             calls = [];
-            made = subst (λ (xs : List (Slot D H)). HaveCalls history honest faults (map disk_of xs) [] (map disk_of new)) (sym all)
-                (have_none history honest faults (map disk_of new));
+            made = subst (λ (xs : List (Slot D H)). HaveCalls conduct (map disk_of xs) [] (map disk_of new)) (sym all)
+                (have_none conduct (map disk_of new));
             restores = λ s trees_are files_are. (
               refl,
               ap (λ (fs : List FileState). record s { files = fs }) (sym (files_are ∙ ap (λ (xs : List (Slot D H)). map file_of xs) all)),
@@ -292,8 +293,8 @@ module _ {D H : Type 0} (history : D → History) (honest : D → Type 0) (fault
           let more = restores_from n (a + 1) (omega (arith, e)) in
           record {
             calls = one.calls ++ more.calls;
-            made = have_then history honest faults (map disk_of mid) (map disk_of (slice_set mid a after.0)) (map disk_of new) one.calls more.calls one.made
-                (subst (λ (xs : List (Slot D H)). HaveCalls history honest faults (map disk_of xs) more.calls (map disk_of new)) later more.made);
+            made = have_then conduct (map disk_of mid) (map disk_of (slice_set mid a after.0)) (map disk_of new) one.calls more.calls one.made
+                (subst (λ (xs : List (Slot D H)). HaveCalls conduct (map disk_of xs) more.calls (map disk_of new)) later more.made);
             restores = λ s trees_are files_are. (
               record s { files = map file_of (slice_set mid a after.0) },
               one.calls,
@@ -304,7 +305,7 @@ module _ {D H : Type 0} (history : D → History) (honest : D → Type 0) (fault
             );
           }
 
-      pub all_restored : RestoresSlots history honest faults dig hints trees old new
+      pub all_restored : RestoresSlots conduct dig hints trees old new
       all_restored =
           let all = restores_from (length old) 0 (omega arith) in
           record { calls = all.calls; made = all.made; restores = all.restores }
@@ -332,34 +333,34 @@ module _ {D H : Type 0} (history : D → History) (honest : D → Type 0) (fault
 
 -- ---- slot after slot
 
-module _ {D H : Type 0} (history : D → History) (honest : D → Type 0) (faults : D → ℕ) (dig : List ℕ → List ℕ) (trees : List Facts) where
+module _ {D H : Type 0} (conduct : Conduct D) (dig : List ℕ → List ℕ) (trees : List Facts) where
   pub slot_settled : {slot : Slot D H} {store after : StoreView D} {k : Facts} → slot.store ≡ Some store → slice_get trees slot.tree ≡ Some k → (reads : List BlockRead)
-      → IsJudged history honest faults dig k false (waiting_blocks dig k store.states 0 (length store.states)) store reads after
-      → IsSettled history honest faults dig trees slot (record slot { store = Some after })
+      → IsJudged conduct dig k false (waiting_blocks dig k store.states 0 (length store.states)) store reads after
+      → IsSettled conduct dig trees slot (record slot { store = Some after })
   slot_settled {slot} {store} {after} {k} has stands reads is_judged = record {
     empty = λ none. absurd (let clash = sym has ∙ none in cc);
     read = λ s j had stood.
-        subst (λ (x : StoreView D). HasReads history honest faults dig j slot x (record slot { store = Some after })) (some_is (sym has ∙ had))
-        (subst (λ (y : Facts). HasReads history honest faults dig y slot store (record slot { store = Some after })) (some_is (sym stands ∙ stood))
+        subst (λ (x : StoreView D). HasReads conduct dig j slot x (record slot { store = Some after })) (some_is (sym has ∙ had))
+        (subst (λ (y : Facts). HasReads conduct dig y slot store (record slot { store = Some after })) (some_is (sym stands ∙ stood))
         (record { after = after; reads = reads; judged = is_judged; changed = refl }));
   }
 
   -- the slots below a number are settled, and those from there on are as they were
   pub record AreSettledBelow (n : ℕ) (old now : List (Slot D H)) : Type 0 where
     pub below : (i : ℕ) (slot : Slot D H) → i < n → slice_get old i ≡ Some slot
-        → (after : Slot D H) × (slice_get now i ≡ Some after) × IsSettled history honest faults dig trees slot after
+        → (after : Slot D H) × (slice_get now i ≡ Some after) × IsSettled conduct dig trees slot after
     pub from : (i : ℕ) → n ≤ i → slice_get now i ≡ slice_get old i
 
   pub settled_none : (old : List (Slot D H)) → AreSettledBelow 0 old old
   settled_none old = record { below = λ i slot lt at. absurd (omega (arith, lt)); from = λ i le. refl }
 
   pub settled_more : (n : ℕ) (old now : List (Slot D H)) (slot after : Slot D H) → slice_get now n ≡ Some slot → AreSettledBelow n old now
-      → IsSettled history honest faults dig trees slot after → AreSettledBelow (n + 1) old (slice_set now n after)
+      → IsSettled conduct dig trees slot after → AreSettledBelow (n + 1) old (slice_set now n after)
   settled_more n old now slot after here before settled = record {
     below = λ i was lt at. elim (cases_eq i n) [
       | inl same ↦ (
           let is : slot ≡ was = some_is (sym here ∙ before.from n (omega arith) ∙ ap (slice_get old) (sym same) ∙ at) in
-          (after, ap (slice_get (slice_set now n after)) same ∙ set_same now n here, subst (λ (x : Slot D H). IsSettled history honest faults dig trees x after) is settled)
+          (after, ap (slice_get (slice_set now n after)) same ∙ set_same now n here, subst (λ (x : Slot D H). IsSettled conduct dig trees x after) is settled)
           )
       | inr apart ↦ (
           let done = before.below i was (omega (arith, lt, apart)) at in

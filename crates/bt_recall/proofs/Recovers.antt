@@ -26,6 +26,7 @@ use Rattle.bt_recall.specs.FollowingSteps.{missing_file, missing_from, FollowsTo
 use Rattle.bt_recall.specs.Recovering.{RecoversFiles, AreMissing}
 use Rattle.bt_recall.specs.RestoringSteps.{tree_and_length, block_total, HaveTrees, RestoresSlots}
 use Rattle.bt_recall.proofs.Recallings.{same_lists}
+use Rattle.bt_disk.specs.Conduct.{Conduct}
 
 -- ---- a slot whose blocks are missing
 
@@ -46,14 +47,14 @@ pub seen_alike : {D H X : Type 0} (f : Slot D H → X) (old : Vec (Slot D H)) {l
     → map f made ≡ map f lent → lent ≡ old.items → map f (with_items old made).items ≡ map f old.items
 seen_alike f old are same lends = ap (map f) are ∙ same ∙ ap (map f) lends
 
-pub restored_alike : {D H : Type 0} {history : D → History} {honest : D → Type 0} {faults : D → ℕ} {dig : List ℕ → List ℕ} {hints more : List Hint} {trees ks : List Facts}
+pub restored_alike : {D H : Type 0} {conduct : Conduct D} {dig : List ℕ → List ℕ} {hints more : List Hint} {trees ks : List Facts}
     {lent made old new : List (Slot D H)} → hints ≡ more → trees ≡ ks → lent ≡ old → new ≡ made
-    → RestoresSlots history honest faults dig hints trees lent made → RestoresSlots history honest faults dig more ks old new
-restored_alike {D} {H} {history} {honest} {faults} {dig} {hints} {more} {trees} {ks} {lent} {made} {old} {new} a b c d restored =
-    subst (λ hs. RestoresSlots history honest faults dig hs ks old new) a
-    (subst (λ ts. RestoresSlots history honest faults dig hints ts old new) b
-    (subst (λ xs. RestoresSlots history honest faults dig hints trees xs new) c
-    (subst (λ xs. RestoresSlots history honest faults dig hints trees lent xs) (sym d) restored)))
+    → RestoresSlots conduct dig hints trees lent made → RestoresSlots conduct dig more ks old new
+restored_alike {D} {H} {conduct} {dig} {hints} {more} {trees} {ks} {lent} {made} {old} {new} a b c d restored =
+    subst (λ hs. RestoresSlots conduct dig hs ks old new) a
+    (subst (λ ts. RestoresSlots conduct dig hints ts old new) b
+    (subst (λ xs. RestoresSlots conduct dig hints trees xs new) c
+    (subst (λ xs. RestoresSlots conduct dig hints trees lent xs) (sym d) restored)))
 
 -- the files of tied parts have their trees
 pub trees_of_tied : {D H : Type 0} {parts : Parts D H} → IsTied parts → HaveTrees parts.trees.items parts.slots.items
@@ -161,12 +162,12 @@ module _ {D H : Type 0} (old : Parts D H) (slots : Vec (Slot D H)) (named : map 
         ap (λ (p : Parts D H). state_of p) others
         ∙ ap (λ (ps : List PeerState). record (state_of old) { files = map file_of slots.items; peers = ps }) (no_peers old.peers.items alone new.book old.book)
 
-    pub recovers : {history : D → History} {honest : D → Type 0} {faults : D → ℕ} {dig : List ℕ → List ℕ} → old.peers.items ≡ []
-        → RestoresSlots history honest faults dig (state_of old).hints old.trees.items old.slots.items slots.items
-        → RecoversFiles history honest faults dig old new
-    recovers {history} {honest} {faults} {dig} alone restored = record {
+    pub recovers : {conduct : Conduct D} {dig : List ℕ → List ℕ} → old.peers.items ≡ []
+        → RestoresSlots conduct dig (state_of old).hints old.trees.items old.slots.items slots.items
+        → RecoversFiles conduct dig old new
+    recovers {conduct} {dig} alone restored = record {
       calls = restored.calls;
-      made = subst (λ (p : Parts D H). HaveCalls history honest faults (disks_of old) restored.calls (disks_of p)) (sym others) restored.made;
+      made = subst (λ (p : Parts D H). HaveCalls conduct (disks_of old) restored.calls (disks_of p)) (sym others) restored.made;
       restores = subst (λ (s : EngineState). RestoresFiles dig (state_of old).hints (range_with_len 0 (length (state_of old).files)) (state_of old) restored.calls s)
           (sym (state_then alone))
           (subst (λ n. RestoresFiles dig (state_of old).hints (range_with_len 0 n) (state_of old) restored.calls (record (state_of old) { files = map file_of slots.items }))

@@ -1,7 +1,7 @@
 -- Files of a torrent whose recorded blocks are read. No public contract cites it.
 use Rattle.std.specs.Prelude.{◌≡◌, ℕ, List, length, map, Option, Some, option_map, slice_get}
 use Rattle.std.specs.List.{range_with_len}
-use Rattle.bt_disk.specs.History.{History}
+use Rattle.bt_disk.specs.Conduct.{Conduct}
 use Rattle.bt_sparse.specs.SparseTree.{Facts}
 use Rattle.bt_resume.specs.declared.hint.Hint.{Hint}
 use Rattle.bt_machine.specs.State.{EngineState}
@@ -29,11 +29,11 @@ HaveTrees {D} {H} trees slots = (file : ℕ) (slot : Slot D H) → slice_get slo
 
 -- In every engine that has these trees and files, the machine restores the files so, by calls of these
 -- devices.
-pub record RestoresSlots {D H : Type 0} (history : D → History) (honest : D → Type 0) (faults : D → ℕ)
+pub record RestoresSlots {D H : Type 0} (conduct : Conduct D)
     (dig : List ℕ → List ℕ) (hints : List Hint) (trees : List Facts) (old new : List (Slot D H))
     : Type 0 where
   pub calls : DeviceCalls
-  pub made : HaveCalls history honest faults (map disk_of old) calls (map disk_of new)
+  pub made : HaveCalls conduct (map disk_of old) calls (map disk_of new)
   pub restores : (s : EngineState) → s.trees ≡ trees → s.files ≡ map file_of old
       → RestoresFiles dig hints (range_with_len 0 (length old)) s calls
       (record s { files = map file_of new })

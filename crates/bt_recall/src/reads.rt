@@ -23,7 +23,7 @@ pub(crate) fn restore_files<D: Disk + Drop, H: NodeHash>(
 )
     requires trees { HaveTrees trees.now slots.old }
     requires missing { AreMissing slots.old }
-    ensures restores { RestoresSlots D.history D.honest D.faults H.digest (hints_in hints.now) trees.now
+    ensures restores { RestoresSlots D.conduct H.digest (hints_in hints.now) trees.now
         slots.old slots.new }
     ensures kept { map tree_and_length slots.new ≡ map tree_and_length slots.old }
     ensures sizes { map block_total slots.new ≡ map block_total slots.old }
@@ -37,7 +37,7 @@ fn settle_files<D: Disk + Drop, H: NodeHash>(slots: &mut [Slot<D, H>], trees: &[
     requires { HaveTrees trees.now slots.old }
     ensures { (file : ℕ) (slot : Slot D H) → slice_get slots.old file ≡ Some slot
         → (after : Slot D H) × (slice_get slots.new file ≡ Some after)
-        × IsSettled D.history D.honest D.faults H.digest trees.now slot after }
+        × IsSettled D.conduct H.digest trees.now slot after }
 {
     for slot in slots.iter_mut() {
         settle_slot(slot, trees);
@@ -47,7 +47,7 @@ fn settle_files<D: Disk + Drop, H: NodeHash>(slots: &mut [Slot<D, H>], trees: &[
 /// The blocks of a file that wait are read.
 fn settle_slot<D: Disk + Drop, H: NodeHash>(slot: &mut Slot<D, H>, trees: &[SparseTree<H>])
     requires { HasTree trees.now (tree_and_length slot.old) }
-    ensures { IsSettled D.history D.honest D.faults H.digest trees.now slot.old slot.new }
+    ensures { IsSettled D.conduct H.digest trees.now slot.old slot.new }
 {
     let Some(store) = &mut slot.store else {
         return;

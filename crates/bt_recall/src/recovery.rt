@@ -20,7 +20,7 @@ pub fn recover_files<D: Disk + Drop, H: NodeHash>(parts: &mut Parts<D, H>)
     requires alone { parts.old.peers.items ≡ [] }
     requires missing { AreMissing parts.old.slots.items }
     requires logged { IsSome parts.old.log }
-    ensures recovers { RecoversFiles D.history D.honest D.faults H.digest parts.old parts.new }
+    ensures recovers { RecoversFiles D.conduct H.digest parts.old parts.new }
     ensures places { KeepsPlaces (state_of parts.old) (state_of parts.new) }
     ensures torrent { parts.new.torrent ≡ parts.old.torrent }
     ensures log { parts.new.log ≡ parts.old.log }

@@ -3,7 +3,7 @@ use Rattle.std.proofs.Common.{[], ◌≡◌, ℕ, ◌+◌, ◌<◌, ◌^◌, Lis
 use Rattle.std.specs.Borrow.{Bor}
 use Rattle.std.specs.Io.KnownBytes.{Keeps}
 use Rattle.std.proofs.KnownBytes.{Appends-nil, Appends-trans, Appends-kept}
-use Rattle.bt_disk.specs.History.{History}
+use Rattle.bt_disk.specs.Conduct.{Conduct}
 use Rattle.bt_machine.specs.State.{EngineView}
 use Rattle.bt_replay.specs.Event.{nothing, one_more}
 use Rattle.bt_replay.specs.Field.{parts_of}
@@ -12,20 +12,20 @@ use Rattle.bt_replay.specs.declared.fault.ReplayFault.{ReplayFault}
 use Rattle.bt_replay.specs.declared.fault.ReplayFault.TheVariants.{Line as bad_line_at}
 
 -- how far it has come: these lines ran, and the rest is left
-pub record IsAt {D : Type 0} (history : D → History) (honest : D → Type 0) (faults : D → ℕ)
+pub record IsAt {D : Type 0} (conduct : Conduct D)
     (dig : List ℕ → List ℕ) (handshake : List ℕ) (first : EngineView D) (start number : ℕ)
     (all : List (List ℕ)) (rest : Option (Bor (List ℕ))) (old new : Option (List ℕ)) (now : EngineView D)
     : Type 0 where
   pub done : List (List ℕ)
   pub parted : all ≡ done ++ lines_in rest
   pub counted : number ≡ start + length done
-  pub ran : HasRun history honest faults dig handshake first done old new now
+  pub ran : HasRun conduct dig handshake first done old new now
 
-pub at_start : {D : Type 0} (history : D → History) (honest : D → Type 0) (faults : D → ℕ)
+pub at_start : {D : Type 0} (conduct : Conduct D)
     (dig : List ℕ → List ℕ) (handshake : List ℕ) (first : EngineView D) (start : ℕ)
     (rest : Option (Bor (List ℕ))) (old : Option (List ℕ))
-    → IsAt history honest faults dig handshake first start start (lines_in rest) rest old old first
-at_start history honest faults dig handshake first start rest old = record {
+    → IsAt conduct dig handshake first start start (lines_in rest) rest old old first
+at_start conduct dig handshake first start rest old = record {
   done = [];
   parted = refl;
   counted = omega arith;
@@ -37,14 +37,14 @@ parted_more : (all done more : List (List ℕ)) (line text : List ℕ) → all �
     → parts_of 10 text ≡ line ∷ more → all ≡ done ++ line ∷ more
 parted_more all done more line text parted cut = parted ∙ ap (λ lines. done ++ lines) cut
 
-pub at_more : {D : Type 0} (history : D → History) (honest : D → Type 0) (faults : D → ℕ)
+pub at_more : {D : Type 0} (conduct : Conduct D)
     (dig : List ℕ → List ℕ) (handshake : List ℕ) (first mid now : EngineView D) (start number next : ℕ)
     (all : List (List ℕ)) (text line : List ℕ) (rest more : Option (Bor (List ℕ))) (old new newer : Option (List ℕ))
-    → IsAt history honest faults dig handshake first start number all rest old new mid
+    → IsAt conduct dig handshake first start number all rest old new mid
     → lines_in rest ≡ parts_of 10 text → parts_of 10 text ≡ line ∷ lines_in more → next ≡ number + 1
-    → HasRunOne history honest faults dig handshake mid line new newer now
-    → IsAt history honest faults dig handshake first start next all more old newer now
-at_more history honest faults dig handshake first mid now start number next all text line rest more old new newer at here cut is one = record {
+    → HasRunOne conduct dig handshake mid line new newer now
+    → IsAt conduct dig handshake first start next all more old newer now
+at_more conduct dig handshake first mid now start number next all text line rest more old new newer at here cut is one = record {
   done = at.done ++ line ∷ [];
   parted = parted_more all at.done (lines_in more) line text (at.parted ∙ ap (λ lines. at.done ++ lines) here) cut ∙ sym (append_assoc at.done (line ∷ []) (lines_in more));
   counted = let len = length-append at.done (line ∷ []) in omega (arith, is, at.counted, len);
@@ -55,52 +55,52 @@ at_more history honest faults dig handshake first mid now start number next all 
   };
 }
 
-pub at_end : {D : Type 0} (history : D → History) (honest : D → Type 0) (faults : D → ℕ)
+pub at_end : {D : Type 0} (conduct : Conduct D)
     (dig : List ℕ → List ℕ) (handshake : List ℕ) (first now : EngineView D) (start number : ℕ)
     (all : List (List ℕ)) (rest : Option (Bor (List ℕ))) (old new : Option (List ℕ))
-    → IsAt history honest faults dig handshake first start number all rest old new now → lines_in rest ≡ []
-    → HasRun history honest faults dig handshake first all old new now
-at_end history honest faults dig handshake first now start number all rest old new at none =
-    subst (λ lines. HasRun history honest faults dig handshake first lines old new now)
+    → IsAt conduct dig handshake first start number all rest old new now → lines_in rest ≡ []
+    → HasRun conduct dig handshake first all old new now
+at_end conduct dig handshake first now start number all rest old new at none =
+    subst (λ lines. HasRun conduct dig handshake first lines old new now)
     (sym (at.parted ∙ ap (λ lines. at.done ++ lines) none ∙ append-nil at.done)) at.ran
 
 -- as long as it runs, the next number fits
-pub next_fits : {D : Type 0} (history : D → History) (honest : D → Type 0) (faults : D → ℕ)
+pub next_fits : {D : Type 0} (conduct : Conduct D)
     (dig : List ℕ → List ℕ) (handshake : List ℕ) (first now : EngineView D) (start number : ℕ)
     (all : List (List ℕ)) (text line : List ℕ) (rest more : Option (Bor (List ℕ))) (old new : Option (List ℕ))
-    → IsAt history honest faults dig handshake first start number all rest old new now
+    → IsAt conduct dig handshake first start number all rest old new now
     → lines_in rest ≡ parts_of 10 text → parts_of 10 text ≡ line ∷ lines_in more → start + length all < 2 ^ 64
     → number + 1 < 2 ^ 64
-next_fits history honest faults dig handshake first now start number all text line rest more old new at here cut few =
+next_fits conduct dig handshake first now start number all text line rest more old new at here cut few =
     let whole = ap length (at.parted ∙ ap (λ lines. at.done ++ lines) (here ∙ cut)) in
     let len = length-append at.done (line ∷ lines_in more) in
     grind (arith, few, at.counted, whole, len)
 
 -- where a line is the last, the lines end there
-pub kept_run : {D : Type 0} (history : D → History) (honest : D → Type 0) (faults : D → ℕ) (dig : List ℕ → List ℕ)
+pub kept_run : {D : Type 0} (conduct : Conduct D) (dig : List ℕ → List ℕ)
     (handshake : List ℕ) (first now : EngineView D) (lines : List (List ℕ)) (old new newer : Option (List ℕ))
-    → HasRun history honest faults dig handshake first lines old new now → Keeps new newer
-    → HasRun history honest faults dig handshake first lines old newer now
-kept_run history honest faults dig handshake first now lines old new newer ran kept = record {
+    → HasRun conduct dig handshake first lines old new now → Keeps new newer
+    → HasRun conduct dig handshake first lines old newer now
+kept_run conduct dig handshake first now lines old new newer ran kept = record {
   text = ran.text;
   runs = ran.runs;
   written = Appends-kept old new newer ran.text ran.written kept;
 }
 
-pub ends_here : {D : Type 0} (history : D → History) (honest : D → Type 0) (faults : D → ℕ)
+pub ends_here : {D : Type 0} (conduct : Conduct D)
     (dig : List ℕ → List ℕ) (handshake : List ℕ) (first mid : EngineView D) (start number : ℕ)
     (all : List (List ℕ)) (text line : List ℕ) (rest more : Option (Bor (List ℕ))) (old new newer : Option (List ℕ))
     (fault : ReplayFault)
-    → IsAt history honest faults dig handshake first start number all rest old new mid
+    → IsAt conduct dig handshake first start number all rest old new mid
     → lines_in rest ≡ parts_of 10 text → parts_of 10 text ≡ line ∷ lines_in more
     → EndsAtLine handshake number line new newer fault
-    → EndsEarly history honest faults dig handshake first start all old newer fault
-ends_here history honest faults dig handshake first mid start number all text line rest more old new newer fault at here cut (bad_line bad is kept) =
+    → EndsEarly conduct dig handshake first start all old newer fault
+ends_here conduct dig handshake first mid start number all text line rest more old new newer fault at here cut (bad_line bad is kept) =
     at_bad_line at.done (lines_in more) line mid
     (parted_more all at.done (lines_in more) line text (at.parted ∙ ap (λ lines. at.done ++ lines) here) cut)
-    (kept_run history honest faults dig handshake first mid at.done old new newer at.ran kept) bad
+    (kept_run conduct dig handshake first mid at.done old new newer at.ran kept) bad
     (is ∙ ap bad_line_at at.counted)
-ends_here history honest faults dig handshake first mid start number all text line rest more old new newer fault at here cut (no_memory is kept) =
+ends_here conduct dig handshake first mid start number all text line rest more old new newer fault at here cut (no_memory is kept) =
     without_memory at.done (lines_in rest) mid at.parted
-    (kept_run history honest faults dig handshake first mid at.done old new newer at.ran kept) is
-ends_here history honest faults dig handshake first mid start number all text line rest more old new newer fault at here cut (not_written is) = unwritten is
+    (kept_run conduct dig handshake first mid at.done old new newer at.ran kept) is
+ends_here conduct dig handshake first mid start number all text line rest more old new newer fault at here cut (not_written is) = unwritten is

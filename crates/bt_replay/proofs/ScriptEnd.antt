@@ -6,14 +6,14 @@ use Rattle.bt_machine.specs.State.{EngineView}
 use Rattle.bt_replay.specs.Devices.{Device}
 use Rattle.bt_replay.specs.Event.{peer_handshake}
 use Rattle.bt_replay.specs.Run.{EndsEarly, HasRun}
-use Rattle.bt_replay.specs.Script.{BeginsOn, NamesTorrent, Replays, device_history, device_honest, device_faults, early, script_lines, whole}
+use Rattle.bt_replay.specs.Script.{BeginsOn, NamesTorrent, Replays, device_conduct, early, script_lines, whole}
 use Rattle.bt_replay.specs.declared.fault.ReplayFault.{ReplayFault}
 
 pub replayed : (script first : List ℕ) (lines rest : List (List ℕ)) (torrent : Metainfo)
     (engine now : EngineView Device) (count : ℕ) (old new : Option (List ℕ)) (outcome : Result (Unit {0}) ReplayFault)
     → script_lines script ≡ first ∷ lines → NamesTorrent first torrent → BeginsOn torrent lines engine rest count
-    → OnOk outcome (HasRun device_history device_honest device_faults sha256 (peer_handshake torrent) engine rest old new now)
-    → IfErr outcome (EndsEarly device_history device_honest device_faults sha256 (peer_handshake torrent) engine (count + 2) rest old new)
+    → OnOk outcome (HasRun device_conduct sha256 (peer_handshake torrent) engine rest old new now)
+    → IfErr outcome (EndsEarly device_conduct sha256 (peer_handshake torrent) engine (count + 2) rest old new)
     → Replays script old new outcome
 replayed script first lines rest torrent engine now count old new (Ok tt) cut named begun ran ended =
     whole first lines rest torrent engine now count cut named begun ran refl

@@ -1,6 +1,6 @@
 -- What the lines behind a torrent's devices come to: events of its engine, and reports.
 use Rattle.std.specs.Prelude.{[], ◌≡◌, ◌≢◌, ℕ, List, ◌∷◌, ◌++◌, Option, Some, None, replicate, take}
-use Rattle.bt_disk.specs.History.{History}
+use Rattle.bt_disk.specs.Conduct.{Conduct}
 use Rattle.bt_meta.specs.Torrent.{Metainfo}
 use Rattle.bt_wire.specs.Handshake.{handshake_spelling}
 use Rattle.bt_machine.specs.declared.event.Event.{Event}
@@ -32,14 +32,14 @@ event_of handshake Restart = Some restart
 event_of handshake _ = None
 
 -- a line asks for an event or a report: from the old engine it led to the new one, and this text tells of it
-pub data Does {D : Type 0} (history : D → History) (honest : D → Type 0) (faults : D → ℕ)
+pub data Does {D : Type 0} (conduct : Conduct D)
     (dig : List ℕ → List ℕ) (handshake : List ℕ) (old : EngineView D) (line : Line) (text : List ℕ)
     (new : EngineView D) : Type 0 where
   does_event : (event : Event) (answer : Answer) → event_of handshake line ≡ Some event
-      → StepsTo history honest faults dig old event answer new → text ≡ answer_text answer
-      → Does history honest faults dig handshake old line text new
+      → StepsTo conduct dig old event answer new → text ≡ answer_text answer
+      → Does conduct dig handshake old line text new
   reports : line ≡ Report → new ≡ old → text ≡ report_text old.state
-      → Does history honest faults dig handshake old line text new
+      → Does conduct dig handshake old line text new
 
 -- it asks for neither
 pub record IsIdle (handshake : List ℕ) (line : Line) : Type 0 where
@@ -52,12 +52,12 @@ pub data IsBad (handshake text : List ℕ) : Type 0 where
   idle : (line : Line) → Spells text line → IsIdle handshake line → IsBad handshake text
 
 -- Lines ran, one after the other, from the first engine to the last one, and this text tells of them.
-pub data RunsLines {D : Type 0} (history : D → History) (honest : D → Type 0) (faults : D → ℕ)
+pub data RunsLines {D : Type 0} (conduct : Conduct D)
     (dig : List ℕ → List ℕ) (handshake : List ℕ) (first : EngineView D)
     : List (List ℕ) → List ℕ → EngineView D → Type 0 where
-  nothing : RunsLines history honest faults dig handshake first [] [] first
+  nothing : RunsLines conduct dig handshake first [] [] first
   one_more : (lines : List (List ℕ)) (line : List ℕ) (spelled : Line) (text said : List ℕ)
       (mid new : EngineView D)
-      → RunsLines history honest faults dig handshake first lines text mid
-      → Spells line spelled → Does history honest faults dig handshake mid spelled said new
-      → RunsLines history honest faults dig handshake first (lines ++ line ∷ []) (text ++ said) new
+      → RunsLines conduct dig handshake first lines text mid
+      → Spells line spelled → Does conduct dig handshake mid spelled said new
+      → RunsLines conduct dig handshake first (lines ++ line ∷ []) (text ++ said) new

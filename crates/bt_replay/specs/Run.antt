@@ -3,7 +3,7 @@ use Rattle.std.specs.Prelude.{◌≡◌, ℕ, ◌+◌, List, ◌∷◌, ◌++◌
 use Rattle.std.specs.Borrow.{Bor}
 use Rattle.std.specs.Option.{option_copied}
 use Rattle.std.specs.Io.KnownBytes.{Appends, Keeps}
-use Rattle.bt_disk.specs.History.{History}
+use Rattle.bt_disk.specs.Conduct.{Conduct}
 use Rattle.bt_machine.specs.State.{EngineView}
 use Rattle.bt_replay.specs.Event.{Does, IsBad, RunsLines}
 use Rattle.bt_replay.specs.Field.{more_parts}
@@ -17,21 +17,21 @@ abbrev pub lines_in : Option (Bor (List ℕ)) → List (List ℕ)
 lines_in text = more_parts 10 (option_copied text)
 
 -- the lines ran, and what tells of them was written behind what the writer held
-pub record HasRun {D : Type 0} (history : D → History) (honest : D → Type 0) (faults : D → ℕ)
+pub record HasRun {D : Type 0} (conduct : Conduct D)
     (dig : List ℕ → List ℕ) (handshake : List ℕ) (first : EngineView D) (lines : List (List ℕ))
     (old new : Option (List ℕ)) (now : EngineView D) : Type 0 where
   pub text : List ℕ
-  pub runs : RunsLines history honest faults dig handshake first lines text now
+  pub runs : RunsLines conduct dig handshake first lines text now
   pub written : Appends old new text
 
 -- One line ran, and what tells of it was written.
-pub record HasRunOne {D : Type 0} (history : D → History) (honest : D → Type 0) (faults : D → ℕ)
+pub record HasRunOne {D : Type 0} (conduct : Conduct D)
     (dig : List ℕ → List ℕ) (handshake : List ℕ) (before : EngineView D) (line : List ℕ)
     (old new : Option (List ℕ)) (now : EngineView D) : Type 0 where
   pub spelled : Line
   pub said : List ℕ
   pub spells : Spells line spelled
-  pub does : Does history honest faults dig handshake before spelled said now
+  pub does : Does conduct dig handshake before spelled said now
   pub written : Appends old new said
 
 -- One line is the last: it can't stand there; memory was refused; or the writer failed, and then nothing is
@@ -45,14 +45,14 @@ pub data EndsAtLine (handshake : List ℕ) (number : ℕ) (line : List ℕ) (old
 
 -- The lines, of which the first has this number, did not all run. Those before a bad line did; where memory
 -- was refused, those at the front that are told did.
-pub data EndsEarly {D : Type 0} (history : D → History) (honest : D → Type 0) (faults : D → ℕ)
+pub data EndsEarly {D : Type 0} (conduct : Conduct D)
     (dig : List ℕ → List ℕ) (handshake : List ℕ) (first : EngineView D) (number : ℕ) (lines : List (List ℕ))
     (old new : Option (List ℕ)) (fault : ReplayFault) : Type 0 where
   at_bad_line : (good rest : List (List ℕ)) (bad : List ℕ) (now : EngineView D) → lines ≡ good ++ bad ∷ rest
-      → HasRun history honest faults dig handshake first good old new now → IsBad handshake bad
+      → HasRun conduct dig handshake first good old new now → IsBad handshake bad
       → fault ≡ bad_line_at (number + length good)
-      → EndsEarly history honest faults dig handshake first number lines old new fault
+      → EndsEarly conduct dig handshake first number lines old new fault
   without_memory : (good rest : List (List ℕ)) (now : EngineView D) → lines ≡ good ++ rest
-      → HasRun history honest faults dig handshake first good old new now → fault ≡ OutOfMemory
-      → EndsEarly history honest faults dig handshake first number lines old new fault
-  unwritten : fault ≡ Write → EndsEarly history honest faults dig handshake first number lines old new fault
+      → HasRun conduct dig handshake first good old new now → fault ≡ OutOfMemory
+      → EndsEarly conduct dig handshake first number lines old new fault
+  unwritten : fault ≡ Write → EndsEarly conduct dig handshake first number lines old new fault

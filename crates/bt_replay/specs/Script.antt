@@ -2,9 +2,9 @@
 use Rattle.std.specs.Prelude.{◌≡◌, ℕ, ◌+◌, ◌-◌, ◌==◌, ◌&&◌, if◌then◌else◌, nat_lt, List, ◌∷◌, map, filter_map, length, take, slice_index, Option, Some, None, Result, Ok, Err, ⊤}
 use Rattle.std.specs.Io.KnownBytes.{Keeps}
 use Rattle.sha2.specs.Sha256.{sha256}
-use Rattle.bt_disk.specs.History.{History}
-use Rattle.bt_disk.specs.FaultDisk.{IsHonest, fault_count}
-use Rattle.bt_disk.specs.MemoryDisk.{history_of}
+use Rattle.bt_disk.specs.Conduct.{Conduct}
+use Rattle.bt_disk.specs.FaultDisk.{fault_conduct}
+use Rattle.bt_disk.specs.MemoryDisk.{memory_conduct}
 use Rattle.bt_meta.specs.Faults.{first_fault}
 use Rattle.bt_meta.specs.Reader.{IsRefused}
 use Rattle.bt_meta.specs.Torrent.{Metainfo, IsTorrent}
@@ -61,18 +61,12 @@ pub data NamesNone (text : List ℕ) (fault : ReplayFault) : Type 0 where
 
 -- ---- the engine
 
-abbrev pub device_history : Device → History
-device_history device = history_of device.inner.kept
-
-abbrev pub device_honest : Device → Type 0
-device_honest device = IsHonest (λ _. ⊤) device
-
-abbrev pub device_faults : Device → ℕ
-device_faults device = fault_count (λ disk. disk.failed) device
+abbrev pub device_conduct : Conduct Device
+device_conduct = fault_conduct memory_conduct
 
 -- a log of the torrent with this infohash, which was made on an empty device in memory
 abbrev pub IsNewLog : (infohash : List ℕ) → LogView Device → Type 0
-IsNewLog infohash log = IsAttached device_history device_honest device_faults infohash (zero_device 0) log
+IsNewLog infohash log = IsAttached device_conduct infohash (zero_device 0) log
 
 -- An engine is started for the torrent with such a log, on the devices that the settings at the front of these
 -- lines make; no line sets the log's device.
@@ -82,7 +76,7 @@ pub record BeginsOn (torrent : Metainfo) (lines : List (List ℕ)) (engine : Eng
   pub set : SetsFront (map first_device torrent.files) lines count rest devices
   pub log : LogView Device
   pub log_is_new : IsNewLog torrent.infohash log
-  pub starts : AnswersStart device_history device_honest device_faults sha256 torrent
+  pub starts : AnswersStart device_conduct sha256 torrent
       (filter_map (λ device. device) devices) (Some log) (Ok engine)
 
 -- ---- the whole
@@ -94,13 +88,13 @@ pub data Replays (script : List ℕ) (old new : Option (List ℕ)) (outcome : Re
   whole : (first : List ℕ) (lines rest : List (List ℕ)) (torrent : Metainfo) (engine now : EngineView Device)
       (count : ℕ) → script_lines script ≡ first ∷ lines → NamesTorrent first torrent
       → BeginsOn torrent lines engine rest count
-      → HasRun device_history device_honest device_faults sha256 (peer_handshake torrent) engine
+      → HasRun device_conduct sha256 (peer_handshake torrent) engine
       rest old new now
       → outcome ≡ Ok tt → Replays script old new outcome
   early : (first : List ℕ) (lines rest : List (List ℕ)) (torrent : Metainfo) (engine : EngineView Device)
       (count : ℕ) (fault : ReplayFault) → script_lines script ≡ first ∷ lines → NamesTorrent first torrent
       → BeginsOn torrent lines engine rest count
-      → EndsEarly device_history device_honest device_faults sha256 (peer_handshake torrent) engine
+      → EndsEarly device_conduct sha256 (peer_handshake torrent) engine
       (count + 2) rest old new fault
       → outcome ≡ Err fault → Replays script old new outcome
   unbegun : (first : List ℕ) (lines : List (List ℕ)) (fault : ReplayFault)

@@ -23,7 +23,7 @@ pub(crate) fn told<D: Disk + Drop, H: NodeHash>(
     line: &Line,
 ) -> Result<Option<String>, AllocError>
     ensures told { IfOk result (λ found. IfSome found (λ text.
-        Does D.history D.honest D.faults H.digest handshake.now engine.old line.now (string_bytes text)
+        Does D.conduct H.digest handshake.now engine.old line.now (string_bytes text)
         engine.new)) }
     ensures idle { IfOk result (λ found. IfNone found (IsIdle handshake.now line.now)) }
 {
@@ -81,7 +81,7 @@ fn fitting_answer<D: Disk + Drop, H: NodeHash>(
     handshake: &[u8],
     line: &Line,
 ) -> Option<Answer>
-    ensures some { IfSome result (λ answer. AnswersLine D.history D.honest D.faults H.digest handshake.now
+    ensures some { IfSome result (λ answer. AnswersLine D.conduct H.digest handshake.now
         engine.old line.now answer engine.new) }
     ensures fit { IfSome result (λ answer. AllFit (sent_by answer)) }
     ensures none { IfNone result (event_of handshake.now line.now ≡ None) }
@@ -97,7 +97,7 @@ fn answer_of<D: Disk + Drop, H: NodeHash>(
     handshake: &[u8],
     line: &Line,
 ) -> Option<Answer>
-    ensures some { IfSome result (λ answer. AnswersLine D.history D.honest D.faults H.digest handshake.now
+    ensures some { IfSome result (λ answer. AnswersLine D.conduct H.digest handshake.now
         engine.old line.now answer engine.new) }
     ensures none { IfNone result (event_of handshake.now line.now ≡ None) }
 {

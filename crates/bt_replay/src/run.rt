@@ -25,9 +25,9 @@ pub fn run_all<D: Disk + Drop, H: NodeHash, W: Write>(
     writer: &mut W,
 ) -> Result<(), ReplayFault>
     requires { number + length (lines_in lines) < 2 ^ 64 }
-    ensures done { OnOk result (HasRun D.history D.honest D.faults H.digest handshake.now engine.old
+    ensures done { OnOk result (HasRun D.conduct H.digest handshake.now engine.old
         (lines_in lines.entry) (W.contents writer.old) (W.contents writer.new) engine.new) }
-    ensures ended { IfErr result (EndsEarly D.history D.honest D.faults H.digest handshake.now engine.old
+    ensures ended { IfErr result (EndsEarly D.conduct H.digest handshake.now engine.old
         number (lines_in lines.entry) (W.contents writer.old) (W.contents writer.new)) }
 {
     run_lines(alloc, engine, hash, handshake, lines, number, writer)?;
@@ -49,9 +49,9 @@ fn run_lines<D: Disk + Drop, H: NodeHash, W: Write>(
     writer: &mut W,
 ) -> Result<(), ReplayFault>
     requires { number + length (lines_in lines) < 2 ^ 64 }
-    ensures done { OnOk result (HasRun D.history D.honest D.faults H.digest handshake.now engine.old
+    ensures done { OnOk result (HasRun D.conduct H.digest handshake.now engine.old
         (lines_in lines.entry) (W.contents writer.old) (W.contents writer.new) engine.new) }
-    ensures ended { IfErr result (EndsEarly D.history D.honest D.faults H.digest handshake.now engine.old
+    ensures ended { IfErr result (EndsEarly D.conduct H.digest handshake.now engine.old
         number (lines_in lines.entry) (W.contents writer.old) (W.contents writer.new)) }
 {
     let mut rest = lines;
@@ -75,7 +75,7 @@ fn run_line<D: Disk + Drop, H: NodeHash, W: Write>(
     number: u64,
     writer: &mut W,
 ) -> Result<(), ReplayFault>
-    ensures done { OnOk result (HasRunOne D.history D.honest D.faults H.digest handshake.now engine.old
+    ensures done { OnOk result (HasRunOne D.conduct H.digest handshake.now engine.old
         line.now (W.contents writer.old) (W.contents writer.new) engine.new) }
     ensures ended { IfErr result (EndsAtLine handshake.now number line.now
         (W.contents writer.old) (W.contents writer.new)) }

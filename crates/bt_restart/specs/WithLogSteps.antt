@@ -1,6 +1,6 @@
 -- How all is begun anew from a log, step by step. No public contract cites it.
 use Rattle.std.specs.Prelude.{[], ◌≡◌, ℕ, List, map, Option, Result, Some}
-use Rattle.bt_disk.specs.History.{History}
+use Rattle.bt_disk.specs.Conduct.{Conduct}
 use Rattle.bt_sparse.specs.SparseTree.{Facts}
 use Rattle.bt_resume.specs.ResumeLog.{LogView, IsReloaded}
 use Rattle.bt_resume.specs.declared.error.LogError.{LogError}
@@ -13,13 +13,13 @@ use Rattle.bt_state.specs.declared.parts.Parts.{Parts}
 use Rattle.bt_start.specs.Trees.{AreTreesOf}
 
 -- the log was read again; what waits to be written to it stays
-pub record IsReadAgain {D : Type 0} (history : D → History) (honest : D → Type 0) (faults : D → ℕ)
+pub record IsReadAgain {D : Type 0} (conduct : Conduct D)
     (old : Option (OpenLog D)) (result : Result (Unit {0}) LogError) (new : Option (OpenLog D))
     : Type 0 where
   pub before : OpenLog D
   pub after : LogView D
   pub had : old ≡ Some before
-  pub reloaded : IsReloaded history honest faults before.log result after
+  pub reloaded : IsReloaded conduct before.log result after
   pub has : new ≡ Some (record before { log = after })
 
 -- the torrent's trees, in the order of the parts', which have taken the proofs of the log

@@ -29,7 +29,7 @@ pub fn restart<D: Disk + Drop, H: NodeHash>(
     requires digest { H.digest ≡ sha256 }
     requires tied { IsTied parts.old }
     requires shaped { IsShaped parts.old.torrent (state_of parts.old) }
-    ensures step { RestartsWith D.history D.honest D.faults H.digest parts.old result parts.new }
+    ensures step { RestartsWith D.conduct H.digest parts.old result parts.new }
     ensures refused { IfErr result (λ _. parts.new ≡ record parts.old { log = parts.new.log }) }
     ensures torrent { parts.new.torrent ≡ parts.old.torrent }
     ensures tied { IsTied parts.new }

@@ -38,7 +38,7 @@ pub(crate) fn restart_with_log<D: Disk + Drop, H: NodeHash>(
     requires tied { IsTied parts.old }
     requires shaped { IsShaped parts.old.torrent (state_of parts.old) }
     requires logged { IsSome parts.old.log }
-    ensures step { RestartsWith D.history D.honest D.faults H.digest parts.old result parts.new }
+    ensures step { RestartsWith D.conduct H.digest parts.old result parts.new }
     ensures refused { IfErr result (λ _. parts.new ≡ record parts.old { log = parts.new.log }) }
     ensures torrent { parts.new.torrent ≡ parts.old.torrent }
     ensures tied { IsTied parts.new }
@@ -59,7 +59,7 @@ pub(crate) fn restart_with_log<D: Disk + Drop, H: NodeHash>(
 /// Reads the log again. A refusal leaves all but its device as it was.
 fn read_again<D: Disk + Drop>(log: &mut Option<OpenLog<D>>) -> Result<(), LogError>
     requires { IsSome log.old }
-    ensures { IsReadAgain D.history D.honest D.faults log.old result log.new }
+    ensures { IsReadAgain D.conduct log.old result log.new }
 {
     match log {
         Some(open) => open.log.reload(),

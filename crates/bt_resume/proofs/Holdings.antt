@@ -5,6 +5,7 @@ use Rattle.std.proofs.Math.Seq.{take-add}
 use Rattle.std.proofs.lemmas.List.{append_assoc, append-nil, take-take, take_at, length-take, length-drop, length-append, length-replicate}
 use Rattle.std.proofs.lemmas.List.Elements.{All-nil}
 use Rattle.bt_disk.specs.State.{State, IsImage, written, synced_state}
+use Rattle.bt_disk.specs.Conduct.{Conduct}
 use Rattle.bt_disk.specs.History.{History, moment_of, LeftBefore, LeftSince, after_write}
 use Rattle.bt_disk.specs.Calls.{bytes_written, sync_made, HasCalls, AfterWriteFault}
 use Rattle.bt_disk.proofs.Images.{synced_image}
@@ -130,17 +131,17 @@ open_logs_keep infohash bytes text all size log begins = record {
   begins = spelled_first infohash bytes text all size begins (log_held infohash bytes all log).spelled;
 }
 
-module _ {D : Type 0} (history : D → History) (honest : D → Type 0) (faults : D → ℕ) where
+module _ {D : Type 0} (conduct : Conduct D) where
   -- the device after a reading that found a text
   abbrev IsFound : List ℕ → D → LogText → Type 0
   IsFound infohash new text =
-      (length (history new).now.bytes ≤ 2 ^ 40) × HoldsTo infohash (history new).now.bytes (text_length text) (format_of text) text
+      (length (conduct.history new).now.bytes ≤ 2 ^ 40) × HoldsTo infohash (conduct.history new).now.bytes (text_length text) (format_of text) text
 
-  reads_found : (infohash : List ℕ) (old new : D) (result : Result LogText LogError) → honest old → Reads history honest faults infohash old result new
-      → MatchResult result (IsFound infohash new) (λ _. history new ≡ history old ⊎ history new ≡ history old)
+  reads_found : (infohash : List ℕ) (old new : D) (result : Result LogText LogError) → conduct.honest old → Reads conduct infohash old result new
+      → MatchResult result (IsFound infohash new) (λ _. conduct.history new ≡ conduct.history old ⊎ conduct.history new ≡ conduct.history old)
   reads_found infohash old _ _ h (read text new calls is within of) =
-      let log : IsLog infohash (history new).now.bytes text = subst (λ (s : History). IsLog infohash s.now.bytes text) (sym (calls.answered h)) (of h) in
-      (log.within, log_held infohash (history new).now.bytes text log)
+      let log : IsLog infohash (conduct.history new).now.bytes text = subst (λ (s : History). IsLog infohash s.now.bytes text) (sym (calls.answered h)) (of h) in
+      (log.within, log_held infohash (conduct.history new).now.bytes text log)
   reads_found infohash old _ _ h (too_long new calls of) = inl (calls.answered h)
   reads_found infohash old _ _ h (other_torrent new calls of) = inl (calls.answered h)
   reads_found infohash old _ _ h (no_memory new calls of) = inl (calls.answered h)
@@ -148,13 +149,13 @@ module _ {D : Type 0} (history : D → History) (honest : D → Type 0) (faults 
   reads_found infohash old _ _ h (no_header new calls) = let a = calls.answered h in inl (a.2 ∙ a.1)
   reads_found infohash old _ _ h (unread new at wanted calls of) = let a = calls.answered h in inl (a.2 ∙ a.1)
 
-  made_found : (infohash : List ℕ) (old new : D) → length infohash ≡ 32 → honest old → (history old).now.bytes ≡ []
-      → HasCalls history honest faults old (bytes_written 0 (header Two infohash) ∷ sync_made ∷ []) new → IsFound infohash new (of_two [])
+  made_found : (infohash : List ℕ) (old new : D) → length infohash ≡ 32 → conduct.honest old → (conduct.history old).now.bytes ≡ []
+      → HasCalls conduct old (bytes_written 0 (header Two infohash) ∷ sync_made ∷ []) new → IsFound infohash new (of_two [])
   made_found infohash old new size h none calls =
       let a = calls.answered h in
       let head_bytes : List ℕ = header Two infohash in
-      let left : IsLeft (history old).now.bytes 0 head_bytes (a.0).now.bytes = after_made (history old) a.0 0 head_bytes (omega arith) a.1 in
-      let synced : (history new).now.bytes ≡ (a.0).now.bytes = ap (λ (s : History). s.now.bytes) (a.2.2 ∙ a.2.1) in
+      let left : IsLeft (conduct.history old).now.bytes 0 head_bytes (a.0).now.bytes = after_made (conduct.history old) a.0 0 head_bytes (omega arith) a.1 in
+      let synced : (conduct.history new).now.bytes ≡ (a.0).now.bytes = ap (λ (s : History). s.now.bytes) (a.2.2 ∙ a.2.1) in
       let head : 0 + length head_bytes ≡ 40 = omega (arith, size) in (
         omega (arith, ap length synced, left.within, head, ap length none),
         record {
@@ -165,8 +166,8 @@ module _ {D : Type 0} (history : D → History) (honest : D → Type 0) (faults 
         },
       )
 
-  opens_found : (infohash : List ℕ) (old new : D) (result : Result LogText LogError) → length infohash ≡ 32 → honest old
-      → Opens history honest faults infohash old result new → MatchResult result (IsFound infohash new) (λ _. ⊤)
+  opens_found : (infohash : List ℕ) (old new : D) (result : Result LogText LogError) → length infohash ≡ 32 → conduct.honest old
+      → Opens conduct infohash old result new → MatchResult result (IsFound infohash new) (λ _. ⊤)
   opens_found infohash old new (Ok text) size h (opened _ _ of reads) = reads_found infohash old new (Ok text) h reads
   opens_found infohash old new (Err cause) size h (opened _ _ of reads) = tt
   opens_found infohash old _ _ size h (unmeasured new calls) = tt
@@ -175,65 +176,65 @@ module _ {D : Type 0} (history : D → History) (honest : D → Type 0) (faults 
   opens_found infohash old _ _ size h (unsynced new none calls) = tt
 
   found_holds : (disk : D) (infohash : List ℕ) (text : LogText) → length infohash ≡ 32 → IsFound infohash disk text
-      → Holds history honest faults (read_log disk infohash text) text text
+      → Holds conduct (read_log disk infohash text) text text
   found_holds disk infohash text size found =
       record { torrent = size; within = found.0; begins = goes_on_same text; kept_is = found.1; text_is = found.1 }
 
-  pub read_holds : (infohash : List ℕ) (old : D) (log : LogView D) → length infohash ≡ 32 → honest old → (is : IsAttached history honest faults infohash old log)
-      → Holds history honest faults log is.text is.text
+  pub read_holds : (infohash : List ℕ) (old : D) (log : LogView D) → length infohash ≡ 32 → conduct.honest old → (is : IsAttached conduct infohash old log)
+      → Holds conduct log is.text is.text
   read_holds infohash old log size h is =
-      subst (λ l. Holds history honest faults l is.text is.text) (sym is.log_is)
+      subst (λ l. Holds conduct l is.text is.text) (sym is.log_is)
       (found_holds log.disk infohash is.text size (opens_found infohash old log.disk (Ok is.text) size h is.opens))
 
-  pub attach_holds : AttachHolds history honest faults
+  pub attach_holds : AttachHolds conduct
   attach_holds infohash old log size h is = (is.text, ap (λ (l : LogView D). l.hints) is.log_is, read_holds infohash old log size h is)
 
   -- the same log on a device with the same bytes
-  moved : (log : LogView D) (disk : D) (kept text : LogText) → Holds history honest faults log kept text → history disk ≡ history log.disk
-      → Holds history honest faults (record log { disk = disk }) kept text
+  moved : (log : LogView D) (disk : D) (kept text : LogText) → Holds conduct log kept text → conduct.history disk ≡ conduct.history log.disk
+      → Holds conduct (record log { disk = disk }) kept text
   moved log disk kept text holds same =
       record { torrent = holds.torrent; within = rw same holds.within; begins = holds.begins; kept_is = rw same holds.kept_is; text_is = rw same holds.text_is }
 
   -- what was appended is forgotten
-  kept_alone : (log : LogView D) (disk : D) (kept : LogText) → length log.infohash ≡ 32 → length (history disk).now.bytes ≤ 2 ^ 40
-      → HoldsTo log.infohash (history disk).now.bytes log.kept_end log.kept_format kept → Holds history honest faults (forgotten log disk) kept kept
+  kept_alone : (log : LogView D) (disk : D) (kept : LogText) → length log.infohash ≡ 32 → length (conduct.history disk).now.bytes ≤ 2 ^ 40
+      → HoldsTo log.infohash (conduct.history disk).now.bytes log.kept_end log.kept_format kept → Holds conduct (forgotten log disk) kept kept
   kept_alone log disk kept size within held =
       record { torrent = size; within = within; begins = goes_on_same kept; kept_is = held; text_is = held }
 
   -- the device of a log begins with the text that it holds
-  pub held_keeps : (log : LogView D) (kept text : LogText) → Holds history honest faults log kept text → KeepsText log.infohash text (history log.disk).now.bytes
+  pub held_keeps : (log : LogView D) (kept text : LogText) → Holds conduct log kept text → KeepsText log.infohash text (conduct.history log.disk).now.bytes
   held_keeps log kept text holds = record { within = holds.within; begins = rw (← holds.text_is.end_is) holds.text_is.spelled }
 
   -- what is kept ends where the next hint is written, or before
-  kept_first : (log : LogView D) (kept text : LogText) → Holds history honest faults log kept text → log.kept_end ≤ log.end
+  kept_first : (log : LogView D) (kept text : LogText) → Holds conduct log kept text → log.kept_end ≤ log.end
   kept_first log kept text holds = omega (arith, goes_on_is_longer kept text holds.begins, holds.kept_is.end_is, holds.text_is.end_is)
 
-  pub reload_holds : ReloadHolds history honest faults
+  pub reload_holds : ReloadHolds conduct
   reload_holds old new (Ok value) kept text h is holds = (
     is.0,
     ap (λ (l : LogView D). l.hints) is.2,
-    subst (λ log. Holds history honest faults log is.0 is.0) (sym is.2)
+    subst (λ log. Holds conduct log is.0 is.0) (sym is.2)
         (found_holds new.disk old.infohash is.0 holds.torrent (reads_found old.infohash old.disk new.disk (Ok is.0) h is.1)),
-    kept_devices_are_read history honest faults old.infohash old.disk new.disk (Ok is.0) text holds.torrent holds.text_is.lawful h (held_keeps old kept text holds) is.1,
+    kept_devices_are_read conduct old.infohash old.disk new.disk (Ok is.0) text holds.torrent holds.text_is.lawful h (held_keeps old kept text holds) is.1,
   )
   reload_holds old new (Err cause) kept text h is holds =
-      let same : history new.disk ≡ history old.disk = elim (reads_found old.infohash old.disk new.disk (Err cause) h is.0) [ inl e ↦ e | inr e ↦ e ] in (
-        subst (λ log. Holds history honest faults log kept text) (sym is.1) (moved old new.disk kept text holds same),
-        kept_devices_are_read history honest faults old.infohash old.disk new.disk (Err cause) text holds.torrent holds.text_is.lawful h (held_keeps old kept text holds) is.0,
+      let same : conduct.history new.disk ≡ conduct.history old.disk = elim (reads_found old.infohash old.disk new.disk (Err cause) h is.0) [ inl e ↦ e | inr e ↦ e ] in (
+        subst (λ log. Holds conduct log kept text) (sym is.1) (moved old new.disk kept text holds same),
+        kept_devices_are_read conduct old.infohash old.disk new.disk (Err cause) text holds.torrent holds.text_is.lawful h (held_keeps old kept text holds) is.0,
       )
 
-  pub append_holds : AppendHolds history honest faults
+  pub append_holds : AppendHolds conduct
   append_holds hint old new (Ok value) kept text h lawful is holds =
-      let bytes : List ℕ = (history old.disk).now.bytes in
-      let after : List ℕ = (history new.disk).now.bytes in
+      let bytes : List ℕ = (conduct.history old.disk).now.bytes in
+      let after : List ℕ = (conduct.history new.disk).now.bytes in
       let more : List ℕ = appended_bytes old.format hint in
       let a = is.1.answered h in
       let inside = held_inside old.infohash bytes old.end old.format text holds.torrent holds.text_is in
-      let left : IsLeft bytes old.end more after = after_made (history old.disk) (history new.disk) old.end more inside (a.2 ∙ a.1) in
+      let left : IsLeft bytes old.end more after = after_made (conduct.history old.disk) (conduct.history new.disk) old.end more inside (a.2 ∙ a.1) in
       let size : length (take old.end bytes) ≡ old.end = omega (arith, length-take old.end bytes) in
       let front : take old.end after ≡ take old.end bytes =
       sym (take-take old.end (old.end + length more) after (omega arith)) ∙ ap (λ xs. take old.end xs) left.front ∙ take_at (take old.end bytes) more old.end size in
-      subst (λ log. Holds history honest faults log kept (with_hint text hint)) (sym is.2) (record {
+      subst (λ log. Holds conduct log kept (with_hint text hint)) (sym is.2) (record {
         torrent = holds.torrent;
         within = omega (arith, left.within, holds.within, is.0);
         begins = goes_on_trans kept text (with_hint text hint) holds.begins (hint_behind text hint lawful).goes_on;
@@ -242,35 +243,35 @@ module _ {D : Type 0} (history : D → History) (honest : D → Type 0) (faults 
         text_is = held_more old.infohash bytes after old.end text hint old.format holds.text_is lawful left;
       })
   append_holds hint old new (Err AppendDevice) kept text h lawful is holds =
-      let bytes : List ℕ = (history old.disk).now.bytes in
-      let after : List ℕ = (history new.disk).now.bytes in
+      let bytes : List ℕ = (conduct.history old.disk).now.bytes in
+      let after : List ℕ = (conduct.history new.disk).now.bytes in
       let more : List ℕ = appended_bytes old.format hint in
       let a = is.1.answered h in
       let inside = held_inside old.infohash bytes old.end old.format text holds.torrent holds.text_is in
       let spared : IsSpared bytes old.end (length more) after =
-      after_torn (history old.disk) (history new.disk) old.end more inside (subst (AfterWriteFault old.end more (history old.disk)) (sym a.2) a.1) in
-      subst (λ log. Holds history honest faults log kept kept) (sym is.2)
+      after_torn (conduct.history old.disk) (conduct.history new.disk) old.end more inside (subst (AfterWriteFault old.end more (conduct.history old.disk)) (sym a.2) a.1) in
+      subst (λ log. Holds conduct log kept kept) (sym is.2)
       (kept_alone old new.disk kept holds.torrent (omega (arith, spared.within, holds.within, is.0))
       (held_same old.infohash bytes after old.kept_end old.kept_format kept
       (front_kept bytes after old.kept_end old.end (kept_first old kept text holds) spared.front) holds.kept_is))
   append_holds hint old new (Err Full) kept text h lawful is holds =
-      subst (λ log. Holds history honest faults log kept kept) (sym is.1) (kept_alone old old.disk kept holds.torrent holds.within holds.kept_is)
+      subst (λ log. Holds conduct log kept kept) (sym is.1) (kept_alone old old.disk kept holds.torrent holds.within holds.kept_is)
 
-  pub flush_holds : FlushHolds history honest faults
+  pub flush_holds : FlushHolds conduct
   flush_holds old new (Ok value) kept text h is holds =
       let a = is.0.answered h in
-      let synced : (history new.disk).now ≡ synced_state (history old.disk).now.bytes = ap (λ (s : History). s.now) (a.2 ∙ a.1) in
-      let bytes : (history new.disk).now.bytes ≡ (history old.disk).now.bytes = ap (λ (s : State). s.bytes) synced in
-      let held : HoldsTo old.infohash (history new.disk).now.bytes old.end old.format text = rw bytes holds.text_is in
-      let held_now : Holds history honest faults (record old { disk = new.disk; kept_end = old.end; kept_format = old.format }) text text =
+      let synced : (conduct.history new.disk).now ≡ synced_state (conduct.history old.disk).now.bytes = ap (λ (s : History). s.now) (a.2 ∙ a.1) in
+      let bytes : (conduct.history new.disk).now.bytes ≡ (conduct.history old.disk).now.bytes = ap (λ (s : State). s.bytes) synced in
+      let held : HoldsTo old.infohash (conduct.history new.disk).now.bytes old.end old.format text = rw bytes holds.text_is in
+      let held_now : Holds conduct (record old { disk = new.disk; kept_end = old.end; kept_format = old.format }) text text =
       record { torrent = holds.torrent; within = rw bytes holds.within; begins = goes_on_same text; kept_is = held; text_is = held } in
       let keeps = held_keeps old kept text holds in
-      let since : IsTextKeptSince (history new.disk) (moment_of (history new.disk)) old.infohash text =
-      from_now (KeepsText old.infohash text) (history new.disk)
-      (λ image left. subst (KeepsText old.infohash text) (sym (synced_image (history old.disk).now.bytes image (subst (λ s. IsImage s image) synced left))) keeps) in
-      subst (λ (log : LogView D). Holds history honest faults log text text × IsTextKeptSince (history new.disk) (moment_of (history new.disk)) log.infohash text) (sym is.1) (held_now, since)
+      let since : IsTextKeptSince (conduct.history new.disk) (moment_of (conduct.history new.disk)) old.infohash text =
+      from_now (KeepsText old.infohash text) (conduct.history new.disk)
+      (λ image left. subst (KeepsText old.infohash text) (sym (synced_image (conduct.history old.disk).now.bytes image (subst (λ s. IsImage s image) synced left))) keeps) in
+      subst (λ (log : LogView D). Holds conduct log text text × IsTextKeptSince (conduct.history new.disk) (moment_of (conduct.history new.disk)) log.infohash text) (sym is.1) (held_now, since)
   flush_holds old new (Err cause) kept text h is holds =
       let a = is.0.answered h in
-      let same : history new.disk ≡ history old.disk = a.2 ∙ a.1 in
-      subst (λ log. Holds history honest faults log kept kept) (sym is.1)
+      let same : conduct.history new.disk ≡ conduct.history old.disk = a.2 ∙ a.1 in
+      subst (λ log. Holds conduct log kept kept) (sym is.1)
       (kept_alone old new.disk kept holds.torrent (rw same holds.within) (rw same holds.kept_is))

@@ -1,7 +1,7 @@
 -- Devices whose bytes begin with a log are opened as one.
 use Rattle.std.proofs.Common.{◌≡◌, ℕ, List, [], length, ap, arith}
 use Rattle.std.proofs.lemmas.List.{length-take}
-use Rattle.bt_disk.specs.History.{History}
+use Rattle.bt_disk.specs.Conduct.{Conduct}
 use Rattle.bt_resume.specs.LogText.{LogText, text_length}
 use Rattle.bt_resume.specs.ResumeLog.{read, other_torrent, too_long, no_memory, no_length, no_header, unread, opened, unmeasured, made, unwritten, unsynced}
 use Rattle.bt_resume.specs.Law.{KeepsText, KeptDevicesAreRead, KeptDevicesOpen}
@@ -13,8 +13,8 @@ pub not_empty : (infohash bytes : List ℕ) (text : LogText) → length infohash
 not_empty infohash bytes text size keeps none =
     omega (arith, ap length keeps.begins, log_size infohash text size, length-take (text_length text) bytes, ap length none)
 
-module _ {D : Type 0} (history : D → History) (honest : D → Type 0) (faults : D → ℕ) where
-  pub kept_devices_are_read : KeptDevicesAreRead history honest faults
+module _ {D : Type 0} (conduct : Conduct D) where
+  pub kept_devices_are_read : KeptDevicesAreRead conduct
   kept_devices_are_read infohash old _ _ text size lawful h keeps (read all new calls is within of) = (kept_logs_open infohash _ text size lawful keeps).1 all (of h)
   kept_devices_are_read infohash old _ _ text size lawful h keeps (other_torrent new calls of) =
       let head = (kept_logs_open infohash _ text size lawful keeps).0 in of h head.0 head.1
@@ -24,7 +24,7 @@ module _ {D : Type 0} (history : D → History) (honest : D → Type 0) (faults 
   kept_devices_are_read infohash old _ _ text size lawful h keeps (no_header new calls) = tt
   kept_devices_are_read infohash old _ _ text size lawful h keeps (unread new at wanted calls of) = tt
 
-  pub kept_devices_open : KeptDevicesOpen history honest faults
+  pub kept_devices_open : KeptDevicesOpen conduct
   kept_devices_open infohash old new result text size lawful h keeps (opened _ _ of reads) =
       kept_devices_are_read infohash old new result text size lawful h keeps reads
   kept_devices_open infohash old _ _ text size lawful h keeps (unmeasured new calls) = tt

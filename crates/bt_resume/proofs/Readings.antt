@@ -2,6 +2,7 @@
 use Rattle.std.proofs.Common.{◌≡◌, ℕ, ◌+◌, ◌-◌, ◌^◌, ◌<◌, ◌≤◌, ◌↔◌, inl, inr, min, max, List, [], ◌++◌, length, take, drop, Result, Ok, Err, refl, sym, ap, ◌∙◌, subst, arith}
 use Rattle.std.proofs.lemmas.List.{append_assoc, take-take, take_at, drop-drop, take-append-drop, length-append, length-drop, nil_from_length}
 use Rattle.std.proofs.lemmas.List.Elements.{All-nil}
+use Rattle.bt_disk.specs.Conduct.{Conduct}
 use Rattle.bt_disk.specs.History.{History}
 use Rattle.bt_disk.specs.Calls.{HasCalls}
 use Rattle.bt_disk.proofs.CallLists.{has_then}
@@ -65,25 +66,25 @@ empty_body : (f : Format) → body_spelling (empty_text f) ≡ []
 empty_body One = refl
 empty_body Two = refl
 
-module _ {D : Type 0} (history : D → History) (honest : D → Type 0) (faults : D → ℕ) where
+module _ {D : Type 0} (conduct : Conduct D) where
   -- a call that succeeded and changed nothing leaves no trace
-  pub has_nothing : (old new : D) → faults new ≡ faults old → honest old ↔ honest new → (honest old → history new ≡ history old)
-      → HasCalls history honest faults old [] new
+  pub has_nothing : (old new : D) → conduct.faults new ≡ conduct.faults old → conduct.honest old ↔ conduct.honest new → (conduct.honest old → conduct.history new ≡ conduct.history old)
+      → HasCalls conduct old [] new
   has_nothing old new counted as_honest same = record { counted = counted; as_honest = as_honest; answered = same }
 
   -- what is said of the bytes then was true of them before
-  pub of_same : (P : List ℕ → Type 0) (old new : D) → HasCalls history honest faults old [] new → OfBytes history honest faults new P
-      → OfBytes history honest faults old P
+  pub of_same : (P : List ℕ → Type 0) (old new : D) → HasCalls conduct old [] new → OfBytes conduct new P
+      → OfBytes conduct old P
   of_same P old new calls of h = subst P (ap (λ (s : History). s.now.bytes) (calls.answered h)) (of (calls.as_honest.0 h))
 
   -- what was read so far behind a header of a format, from a device of so many bytes
   pub record HasRead (format : Format) (len : ℕ) (old : D) (text : LogText) (end : ℕ) (new : D) : Type 0 where
-    pub calls : HasCalls history honest faults old [] new
+    pub calls : HasCalls conduct old [] new
     pub begins : BeginsIn format text
     pub lawful : IsText text
     pub end_is : end ≡ text_length text
     pub within : end ≤ max 40 len
-    pub spelled : OfBytes history honest faults old (λ bytes. drop 40 bytes ≡ body_spelling text ++ drop end bytes)
+    pub spelled : OfBytes conduct old (λ bytes. drop 40 bytes ≡ body_spelling text ++ drop end bytes)
 
   pub read_none : (format : Format) (len : ℕ) (old : D) → HasRead format len old (empty_text format) 40 old
   read_none format len old = record {
@@ -92,16 +93,16 @@ module _ {D : Type 0} (history : D → History) (honest : D → Type 0) (faults 
     lawful = lawful_empty format;
     end_is = omega (arith, ap length (empty_body format));
     within = omega arith;
-    spelled = λ h. ap (λ xs. xs ++ drop 40 (history old).now.bytes) (sym (empty_body format));
+    spelled = λ h. ap (λ xs. xs ++ drop 40 (conduct.history old).now.bytes) (sym (empty_body format));
   }
 
   pub window_more : (format : Format) (len : ℕ) (old mid new : D) (text taken : LogText) (end room used : ℕ) → HasRead format len old text end mid
-      → IsWindow history honest faults end room mid (format_of text) taken used new → end + room ≤ len
+      → IsWindow conduct end room mid (format_of text) taken used new → end + room ≤ len
       → HasRead format len old (joined_text text taken) (end + used) new
   window_more format len old mid new text taken end room used before window inside =
       let both = are_joined text taken window.begins in
       record {
-        calls = has_then history honest faults old mid new [] [] before.calls window.calls;
+        calls = has_then conduct old mid new [] [] before.calls window.calls;
         begins = begins_as format text (joined_text text taken) both.header before.begins;
         lawful = both.lawful before.lawful window.lawful;
         end_is = omega (arith, before.end_is, window.size, ap length both.body, length-append (body_spelling text) (body_spelling taken));
@@ -113,7 +114,7 @@ module _ {D : Type 0} (history : D → History) (honest : D → Type 0) (faults 
   -- all is read where nothing is read of what is left
   pub all_read : (format : Format) (len : ℕ) (old new : D) (contents : Contents) (end : ℕ) → HasRead format len old contents.hints end new
       → contents.end ≡ record { at = end; format = format_of contents.hints } → len ≤ 2 ^ 40
-      → OfBytes history honest faults old (λ bytes. EndsIn (format_of contents.hints) (drop end bytes)) → AreContents history honest faults format old contents new
+      → OfBytes conduct old (λ bytes. EndsIn (format_of contents.hints) (drop end bytes)) → AreContents conduct format old contents new
   all_read format len old new contents end before end_is limit none =
       let at : (e : ℕ) → End = λ e. record { at = e; format = format_of contents.hints } in
       record {
@@ -126,9 +127,9 @@ module _ {D : Type 0} (history : D → History) (honest : D → Type 0) (faults 
       }
 
   pub window_last : (format : Format) (len : ℕ) (old mid new : D) (text taken : LogText) (end room : ℕ) (contents : Contents) → HasRead format len old text end mid
-      → IsWindow history honest faults end room mid (format_of text) taken 0 new → end < len → room ≡ min (len - end) 65536 → len ≤ 2 ^ 40
-      → (honest old → len ≡ length (history old).now.bytes) → contents.hints ≡ joined_text text taken
-      → contents.end ≡ record { at = end; format = format_of contents.hints } → AreContents history honest faults format old contents new
+      → IsWindow conduct end room mid (format_of text) taken 0 new → end < len → room ≡ min (len - end) 65536 → len ≤ 2 ^ 40
+      → (conduct.honest old → len ≡ length (conduct.history old).now.bytes) → contents.hints ≡ joined_text text taken
+      → contents.end ≡ record { at = end; format = format_of contents.hints } → AreContents conduct format old contents new
   window_last format len old mid new text taken end room contents before window inside room_is limit len_is same end_is =
       let nothing : end + 0 ≡ end = omega arith in
       let more : HasRead format len old (joined_text text taken) end new =
@@ -136,39 +137,39 @@ module _ {D : Type 0} (history : D → History) (honest : D → Type 0) (faults 
       let read_so_far : HasRead format len old contents.hints end new = rw same more in
       let format_is : format_of contents.hints ≡ format_of taken = ap format_of same ∙ (are_joined text taken window.begins).format in
       all_read format len old new contents end read_so_far end_is limit
-      (λ h. rw format_is (window_tells (format_of taken) (drop end (history old).now.bytes) room (omega (arith, room_is))
-      (omega (arith, room_is, len_is h, length-drop end (history old).now.bytes))
+      (λ h. rw format_is (window_tells (format_of taken) (drop end (conduct.history old).now.bytes) room (omega (arith, room_is))
+      (omega (arith, room_is, len_is h, length-drop end (conduct.history old).now.bytes))
       (of_same (λ bytes. EndsIn (format_of taken) (take room (drop end bytes))) old mid before.calls (λ m. (window.taken_is m).longest) h)))
 
   pub read_to_end : (format : Format) (len : ℕ) (old new : D) (contents : Contents) (end : ℕ) → HasRead format len old contents.hints end new
       → contents.end ≡ record { at = end; format = format_of contents.hints } → len ≤ end → len ≤ 2 ^ 40
-      → (honest old → len ≡ length (history old).now.bytes) → AreContents history honest faults format old contents new
+      → (conduct.honest old → len ≡ length (conduct.history old).now.bytes) → AreContents conduct format old contents new
   read_to_end format len old new contents end before end_is past limit len_is =
       all_read format len old new contents end before end_is limit
-      (λ h. nothing_read (format_of contents.hints) (drop end (history old).now.bytes) (omega (arith, len_is h, length-drop end (history old).now.bytes)))
+      (λ h. nothing_read (format_of contents.hints) (drop end (conduct.history old).now.bytes) (omega (arith, len_is h, length-drop end (conduct.history old).now.bytes)))
 
   -- ---- the whole
 
-  pub reads_later : (infohash : List ℕ) (old mid new : D) (result : Result LogText LogError) → HasCalls history honest faults old [] mid
-      → Reads history honest faults infohash mid result new → Reads history honest faults infohash old result new
+  pub reads_later : (infohash : List ℕ) (old mid new : D) (result : Result LogText LogError) → HasCalls conduct old [] mid
+      → Reads conduct infohash mid result new → Reads conduct infohash old result new
   reads_later infohash old mid _ _ first (read text new calls lawful within of) =
-      read text new (has_then history honest faults old mid new [] [] first calls) lawful within (of_same (λ bytes. IsLog infohash bytes text) old mid first of)
+      read text new (has_then conduct old mid new [] [] first calls) lawful within (of_same (λ bytes. IsLog infohash bytes text) old mid first of)
   reads_later infohash old mid _ _ first (other_torrent new calls of) =
-      other_torrent new (has_then history honest faults old mid new [] [] first calls) (of_same (IsOther infohash) old mid first of)
+      other_torrent new (has_then conduct old mid new [] [] first calls) (of_same (IsOther infohash) old mid first of)
   reads_later infohash old mid _ _ first (too_long new calls of) =
-      too_long new (has_then history honest faults old mid new [] [] first calls)
+      too_long new (has_then conduct old mid new [] [] first calls)
       (of_same (λ bytes. HasHeader infohash bytes × (2 ^ 40 < length bytes)) old mid first of)
   reads_later infohash old mid _ _ first (no_memory new calls of) =
-      no_memory new (has_then history honest faults old mid new [] [] first calls)
+      no_memory new (has_then conduct old mid new [] [] first calls)
       (of_same (λ bytes. HasHeader infohash bytes × (length bytes ≤ 2 ^ 40)) old mid first of)
-  reads_later infohash old mid _ _ first (no_length new calls) = no_length new (has_then history honest faults old mid new [] _ first calls)
-  reads_later infohash old mid _ _ first (no_header new calls) = no_header new (has_then history honest faults old mid new [] _ first calls)
+  reads_later infohash old mid _ _ first (no_length new calls) = no_length new (has_then conduct old mid new [] _ first calls)
+  reads_later infohash old mid _ _ first (no_header new calls) = no_header new (has_then conduct old mid new [] _ first calls)
   reads_later infohash old mid _ _ first (unread new at wanted calls of) =
-      unread new at wanted (has_then history honest faults old mid new [] _ first calls)
+      unread new at wanted (has_then conduct old mid new [] _ first calls)
       (of_same (λ bytes. HasHeader infohash bytes × (length bytes ≤ 2 ^ 40)) old mid first of)
 
-  pub reads_unheaded : (infohash : List ℕ) (old new : D) (cause : LogError) → IsHeaderCheck history honest faults infohash old (Err cause) new
-      → Reads history honest faults infohash old (Err cause) new
+  pub reads_unheaded : (infohash : List ℕ) (old new : D) (cause : LogError) → IsHeaderCheck conduct infohash old (Err cause) new
+      → Reads conduct infohash old (Err cause) new
   reads_unheaded infohash old new OtherTorrent check = other_torrent new check.0 check.1
   reads_unheaded infohash old new Device check = no_header new check
   reads_unheaded infohash old new TooLong check = absurd check
@@ -176,55 +177,55 @@ module _ {D : Type 0} (history : D → History) (honest : D → Type 0) (faults 
 
   -- the device has the header of a format
   abbrev IsHeaded : List ℕ → Format → D → Type 0
-  IsHeaded infohash format old = OfBytes history honest faults old (λ bytes. take 40 bytes ≡ header format infohash)
+  IsHeaded infohash format old = OfBytes conduct old (λ bytes. take 40 bytes ≡ header format infohash)
 
-  pub reads_too_long : (infohash : List ℕ) (format : Format) (old new : D) (len : ℕ) → HasCalls history honest faults old [] new → IsHeaded infohash format old
-      → (honest old → len ≡ length (history old).now.bytes) → 2 ^ 40 < len → Reads history honest faults infohash old (Err TooLong) new
+  pub reads_too_long : (infohash : List ℕ) (format : Format) (old new : D) (len : ℕ) → HasCalls conduct old [] new → IsHeaded infohash format old
+      → (conduct.honest old → len ≡ length (conduct.history old).now.bytes) → 2 ^ 40 < len → Reads conduct infohash old (Err TooLong) new
   reads_too_long infohash format old new len calls headed len_is long =
       too_long new calls (λ h. ((format, headed h), omega (arith, long, len_is h)))
 
   pub reads_contents : (infohash : List ℕ) (format : Format) (old mid new : D) (result : Result Contents LogError) (len : ℕ)
-      → HasCalls history honest faults old [] mid → IsHeaded infohash format old → (honest old → len ≡ length (history old).now.bytes) → len ≤ 2 ^ 40
-      → IsContentsRead history honest faults format mid result new → Reads history honest faults infohash old (text_of result) new
+      → HasCalls conduct old [] mid → IsHeaded infohash format old → (conduct.honest old → len ≡ length (conduct.history old).now.bytes) → len ≤ 2 ^ 40
+      → IsContentsRead conduct format mid result new → Reads conduct infohash old (text_of result) new
   reads_contents infohash format old mid new (Ok contents) len first headed len_is limit are =
-      read contents.hints new (has_then history honest faults old mid new [] [] first are.calls) are.lawful are.within
+      read contents.hints new (has_then conduct old mid new [] [] first are.calls) are.lawful are.within
       (λ h. record {
         within = omega (arith, limit, len_is h);
         header_is = headed h ∙ ap (λ f. header f infohash) (header_of format contents.hints are.begins);
         body_is = of_same (λ bytes. IsBody (drop 40 bytes) contents.hints) old mid first are.text_is h;
       })
   reads_contents infohash format old mid new (Err Device) len first headed len_is limit unread_is =
-      unread new unread_is.0 unread_is.1 (has_then history honest faults old mid new [] _ first unread_is.2)
+      unread new unread_is.0 unread_is.1 (has_then conduct old mid new [] _ first unread_is.2)
       (λ h. ((format, headed h), omega (arith, limit, len_is h)))
   reads_contents infohash format old mid new (Err OutOfMemory) len first headed len_is limit calls =
-      no_memory new (has_then history honest faults old mid new [] [] first calls) (λ h. ((format, headed h), omega (arith, limit, len_is h)))
+      no_memory new (has_then conduct old mid new [] [] first calls) (λ h. ((format, headed h), omega (arith, limit, len_is h)))
   reads_contents infohash format old mid new (Err OtherTorrent) len first headed len_is limit none = absurd none
   reads_contents infohash format old mid new (Err TooLong) len first headed len_is limit none = absurd none
 
   -- ---- a log that is opened
 
-  pub opens_read : (infohash : List ℕ) (old mid new : D) (result : Result LogText LogError) (len : ℕ) → HasCalls history honest faults old [] mid
-      → (honest old → len ≡ length (history old).now.bytes) → 0 < len → Reads history honest faults infohash mid result new
-      → Opens history honest faults infohash old result new
+  pub opens_read : (infohash : List ℕ) (old mid new : D) (result : Result LogText LogError) (len : ℕ) → HasCalls conduct old [] mid
+      → (conduct.honest old → len ≡ length (conduct.history old).now.bytes) → 0 < len → Reads conduct infohash mid result new
+      → Opens conduct infohash old result new
   opens_read infohash old mid new result len first len_is some reads =
       opened result new (λ h e. omega (arith, len_is h, some, ap length e)) (reads_later infohash old mid new result first reads)
 
-  empty : (old : D) (len : ℕ) → (honest old → len ≡ length (history old).now.bytes) → len ≡ 0 → OfBytes history honest faults old (λ bytes. bytes ≡ [])
-  empty old len len_is none h = nil_from_length (history old).now.bytes (omega (arith, len_is h, none))
+  empty : (old : D) (len : ℕ) → (conduct.honest old → len ≡ length (conduct.history old).now.bytes) → len ≡ 0 → OfBytes conduct old (λ bytes. bytes ≡ [])
+  empty old len len_is none h = nil_from_length (conduct.history old).now.bytes (omega (arith, len_is h, none))
 
-  pub opens_made : (infohash : List ℕ) (old mid new : D) (text : LogText) (len : ℕ) → HasCalls history honest faults old [] mid
-      → (honest old → len ≡ length (history old).now.bytes) → len ≡ 0 → text ≡ of_two [] → IsMade history honest faults infohash mid {T = ℕ} (Ok 0) new
-      → Opens history honest faults infohash old (Ok text) new
+  pub opens_made : (infohash : List ℕ) (old mid new : D) (text : LogText) (len : ℕ) → HasCalls conduct old [] mid
+      → (conduct.honest old → len ≡ length (conduct.history old).now.bytes) → len ≡ 0 → text ≡ of_two [] → IsMade conduct infohash mid {T = ℕ} (Ok 0) new
+      → Opens conduct infohash old (Ok text) new
   opens_made infohash old mid new text len first len_is none nothing calls =
-      rw nothing (made new (empty old len len_is none) (has_then history honest faults old mid new [] _ first calls))
+      rw nothing (made new (empty old len len_is none) (has_then conduct old mid new [] _ first calls))
 
-  pub opens_unmade : (infohash : List ℕ) (old mid new : D) (cause : LogError) (len : ℕ) → HasCalls history honest faults old [] mid
-      → (honest old → len ≡ length (history old).now.bytes) → len ≡ 0 → IsMade history honest faults infohash mid {T = ℕ} (Err cause) new
-      → Opens history honest faults infohash old (Err cause) new
+  pub opens_unmade : (infohash : List ℕ) (old mid new : D) (cause : LogError) (len : ℕ) → HasCalls conduct old [] mid
+      → (conduct.honest old → len ≡ length (conduct.history old).now.bytes) → len ≡ 0 → IsMade conduct infohash mid {T = ℕ} (Err cause) new
+      → Opens conduct infohash old (Err cause) new
   opens_unmade infohash old mid new Device len first len_is none (inl calls) =
-      unwritten new (empty old len len_is none) (has_then history honest faults old mid new [] _ first calls)
+      unwritten new (empty old len len_is none) (has_then conduct old mid new [] _ first calls)
   opens_unmade infohash old mid new Device len first len_is none (inr calls) =
-      unsynced new (empty old len len_is none) (has_then history honest faults old mid new [] _ first calls)
+      unsynced new (empty old len len_is none) (has_then conduct old mid new [] _ first calls)
   opens_unmade infohash old mid new OtherTorrent len first len_is none calls = absurd calls
   opens_unmade infohash old mid new TooLong len first len_is none calls = absurd calls
   opens_unmade infohash old mid new OutOfMemory len first len_is none calls = absurd calls

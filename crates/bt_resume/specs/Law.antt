@@ -1,6 +1,7 @@
 -- What logs that were spelled are read as, and what a crash leaves of a log.
 use Rattle.std.specs.Prelude.{◌≡◌, ℕ, ◌≤◌, List, ◌++◌, length, take, Result, Ok, MatchResult, ⊤}
 use Rattle.bt_tree.specs.Limits.{digest_length}
+use Rattle.bt_disk.specs.Conduct.{Conduct}
 use Rattle.bt_disk.specs.History.{History, moment_of, LeftSince}
 use Rattle.bt_disk.specs.declared.disk.DeviceFault.{DeviceFault}
 use Rattle.bt_resume.specs.Limits.{max_log_length}
@@ -77,89 +78,89 @@ pub record HoldsTo (infohash bytes : List ℕ) (end : ℕ) (format : Format) (te
   pub format_is : format ≡ format_of text
   pub spelled : take end bytes ≡ text_spelling infohash text
 
-module _ {D : Type 0} (history : D → History) (honest : D → Type 0) (faults : D → ℕ) where
+module _ {D : Type 0} (conduct : Conduct D) where
   -- An honest device whose bytes begin with a text is read, and is opened, as one whose text goes on from it:
   -- it is refused only where a call or memory failed.
 
   abbrev pub KeptDevicesAreRead : Type 0
   KeptDevicesAreRead = (infohash : List ℕ) (old new : D) (result : Result LogText LogError) (text : LogText)
-      → length infohash ≡ digest_length → IsText text → honest old
-      → KeepsText infohash text (history old).now.bytes → Reads history honest faults infohash old result new
+      → length infohash ≡ digest_length → IsText text → conduct.honest old
+      → KeepsText infohash text (conduct.history old).now.bytes → Reads conduct infohash old result new
       → MatchResult result (GoesOn text) IsNotOfBytes
 
   abbrev pub KeptDevicesOpen : Type 0
   KeptDevicesOpen = (infohash : List ℕ) (old new : D) (result : Result LogText LogError) (text : LogText)
-      → length infohash ≡ digest_length → IsText text → honest old
-      → KeepsText infohash text (history old).now.bytes → Opens history honest faults infohash old result new
+      → length infohash ≡ digest_length → IsText text → conduct.honest old
+      → KeepsText infohash text (conduct.history old).now.bytes → Opens conduct infohash old result new
       → MatchResult result (GoesOn text) IsNotOfBytes
 
   -- The device of a log holds this text where the next hint is due, and the kept one, which goes on as it,
   -- where it is due once what was appended is forgotten.
   pub record Holds (log : LogView D) (kept text : LogText) : Type 0 where
     pub torrent : length log.infohash ≡ digest_length
-    pub within : length (history log.disk).now.bytes ≤ max_log_length
+    pub within : length (conduct.history log.disk).now.bytes ≤ max_log_length
     pub begins : GoesOn kept text
-    pub kept_is : HoldsTo log.infohash (history log.disk).now.bytes log.kept_end log.kept_format kept
-    pub text_is : HoldsTo log.infohash (history log.disk).now.bytes log.end log.format text
+    pub kept_is : HoldsTo log.infohash (conduct.history log.disk).now.bytes log.kept_end log.kept_format kept
+    pub text_is : HoldsTo log.infohash (conduct.history log.disk).now.bytes log.end log.format text
 
   -- What every image since a moment begins with, every image goes on to begin with, through each call of a
   -- log on an honest device, and at each moment within it.
 
   abbrev pub AttachKeeps : Type 0
   AttachKeeps = (infohash torrent : List ℕ) (old new : D) (result : Result LogText LogError) (t : ℕ)
-      (text : LogText) → length infohash ≡ digest_length → honest old
-      → Opens history honest faults torrent old result new
-      → IsTextKeptSince (history old) t infohash text → IsTextKeptSince (history new) t infohash text
+      (text : LogText) → length infohash ≡ digest_length → conduct.honest old
+      → Opens conduct torrent old result new
+      → IsTextKeptSince (conduct.history old) t infohash text → IsTextKeptSince (conduct.history new) t infohash text
 
   abbrev pub ReloadKeeps : Type 0
   ReloadKeeps = (old new : LogView D) (result : Result ⊤ LogError) (t : ℕ) (text : LogText)
-      → length old.infohash ≡ digest_length → honest old.disk
-      → IsReloaded history honest faults old result new
-      → IsTextKeptSince (history old.disk) t old.infohash text
-      → IsTextKeptSince (history new.disk) t old.infohash text
+      → length old.infohash ≡ digest_length → conduct.honest old.disk
+      → IsReloaded conduct old result new
+      → IsTextKeptSince (conduct.history old.disk) t old.infohash text
+      → IsTextKeptSince (conduct.history new.disk) t old.infohash text
 
   abbrev pub AppendKeeps : Type 0
   AppendKeeps = (hint : Hint) (old new : LogView D) (result : Result ⊤ AppendError) (t : ℕ) (text : LogText)
-      → length old.infohash ≡ digest_length → honest old.disk
-      → IsAppended history honest faults hint old result new → text_length text ≤ old.end
-      → IsTextKeptSince (history old.disk) t old.infohash text
-      → IsTextKeptSince (history new.disk) t old.infohash text
+      → length old.infohash ≡ digest_length → conduct.honest old.disk
+      → IsAppended conduct hint old result new → text_length text ≤ old.end
+      → IsTextKeptSince (conduct.history old.disk) t old.infohash text
+      → IsTextKeptSince (conduct.history new.disk) t old.infohash text
 
   abbrev pub FlushKeeps : Type 0
   FlushKeeps = (old new : LogView D) (result : Result ⊤ DeviceFault) (t : ℕ) (text : LogText)
-      → length old.infohash ≡ digest_length → honest old.disk → IsFlushed history honest faults old result new
-      → IsTextKeptSince (history old.disk) t old.infohash text
-      → IsTextKeptSince (history new.disk) t old.infohash text
+      → length old.infohash ≡ digest_length → conduct.honest old.disk → IsFlushed conduct old result new
+      → IsTextKeptSince (conduct.history old.disk) t old.infohash text
+      → IsTextKeptSince (conduct.history new.disk) t old.infohash text
 
   -- Which text the device of a log holds, after each call on an honest device.
 
   abbrev pub AttachHolds : Type 0
-  AttachHolds = (infohash : List ℕ) (old : D) (log : LogView D) → length infohash ≡ digest_length → honest old
-      → IsAttached history honest faults infohash old log
+  AttachHolds = (infohash : List ℕ) (old : D) (log : LogView D) → length infohash ≡ digest_length → conduct.honest old
+      → IsAttached conduct infohash old log
       → (text : LogText) × (log.hints ≡ hints_in text) × Holds log text text
 
   -- what is read goes on from the text that was held, whatever lies behind it
   abbrev pub ReloadHolds : Type 0
-  ReloadHolds = (old new : LogView D) (result : Result ⊤ LogError) (kept text : LogText) → honest old.disk
-      → IsReloaded history honest faults old result new → Holds old kept text
+  ReloadHolds = (old new : LogView D) (result : Result ⊤ LogError) (kept text : LogText) → conduct.honest old.disk
+      → IsReloaded conduct old result new → Holds old kept text
       → MatchResult result
       (λ _. (read : LogText) × (new.hints ≡ hints_in read) × Holds new read read × GoesOn text read)
       (λ cause. Holds new kept text × IsNotOfBytes cause)
 
   abbrev pub AppendHolds : Type 0
   AppendHolds = (hint : Hint) (old new : LogView D) (result : Result ⊤ AppendError) (kept text : LogText)
-      → honest old.disk → IsHint Two hint → IsAppended history honest faults hint old result new
+      → conduct.honest old.disk → IsHint Two hint → IsAppended conduct hint old result new
       → Holds old kept text
       → MatchResult result (λ _. Holds new kept (with_hint text hint)) (λ _. Holds new kept kept)
 
   -- and from a flush that succeeded on, whatever a crash leaves begins with it
   abbrev pub FlushHolds : Type 0
   FlushHolds = (old new : LogView D) (result : Result ⊤ DeviceFault) (kept text : LogText)
-      → honest old.disk
-      → IsFlushed history honest faults old result new → Holds old kept text
+      → conduct.honest old.disk
+      → IsFlushed conduct old result new → Holds old kept text
       → MatchResult result
       (λ _. Holds new text text
-      × IsTextKeptSince (history new.disk) (moment_of (history new.disk)) new.infohash text)
+      × IsTextKeptSince (conduct.history new.disk) (moment_of (conduct.history new.disk)) new.infohash text)
       (λ _. Holds new kept kept)
 
   -- The text that a log keeps goes on from this one, and so does whatever a crash at moment t or later has
@@ -169,34 +170,34 @@ module _ {D : Type 0} (history : D → History) (honest : D → Type 0) (faults 
     pub all : LogText
     pub holds : Holds log kept all
     pub begins : GoesOn text kept
-    pub since : IsTextKeptSince (history log.disk) t log.infohash text
+    pub since : IsTextKeptSince (conduct.history log.disk) t log.infohash text
 
   -- Such a text stands, in the log and in each image, through each call on an honest device, whatever it
   -- answers.
 
   abbrev pub AttachStands : Type 0
   AttachStands = (infohash : List ℕ) (old : D) (log : LogView D) (t : ℕ) (text : LogText)
-      → length infohash ≡ digest_length → IsText text → honest old
-      → IsTextKeptSince (history old) t infohash text → IsAttached history honest faults infohash old log
+      → length infohash ≡ digest_length → IsText text → conduct.honest old
+      → IsTextKeptSince (conduct.history old) t infohash text → IsAttached conduct infohash old log
       → KeepsFirst t text log
 
   abbrev pub ReloadStands : Type 0
   ReloadStands = (old new : LogView D) (result : Result ⊤ LogError) (t : ℕ) (text : LogText)
-      → honest old.disk → IsReloaded history honest faults old result new → KeepsFirst t text old
+      → conduct.honest old.disk → IsReloaded conduct old result new → KeepsFirst t text old
       → KeepsFirst t text new
 
   abbrev pub AppendStands : Type 0
   AppendStands = (hint : Hint) (old new : LogView D) (result : Result ⊤ AppendError) (t : ℕ) (text : LogText)
-      → honest old.disk → IsHint Two hint → IsAppended history honest faults hint old result new
+      → conduct.honest old.disk → IsHint Two hint → IsAppended conduct hint old result new
       → KeepsFirst t text old → KeepsFirst t text new
 
   abbrev pub FlushStands : Type 0
   FlushStands = (old new : LogView D) (result : Result ⊤ DeviceFault) (t : ℕ) (text : LogText)
-      → honest old.disk → IsFlushed history honest faults old result new → KeepsFirst t text old
+      → conduct.honest old.disk → IsFlushed conduct old result new → KeepsFirst t text old
       → KeepsFirst t text new
 
   -- and from a flush that succeeded on, all that was held is such a text
   abbrev pub FlushedStand : Type 0
-  FlushedStand = (old new : LogView D) (value : ⊤) (kept text : LogText) → honest old.disk
-      → IsFlushed history honest faults old {E = DeviceFault} (Ok value) new → Holds old kept text
-      → KeepsFirst (moment_of (history new.disk)) text new
+  FlushedStand = (old new : LogView D) (value : ⊤) (kept text : LogText) → conduct.honest old.disk
+      → IsFlushed conduct old {E = DeviceFault} (Ok value) new → Holds old kept text
+      → KeepsFirst (moment_of (conduct.history new.disk)) text new

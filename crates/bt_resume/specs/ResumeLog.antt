@@ -1,6 +1,6 @@
 -- A log on a device. Its formats are this project's own.
 use Rattle.std.specs.Prelude.{◌≡◌, ◌≢◌, ℕ, ◌+◌, ◌<◌, ◌≤◌, List, [], ◌∷◌, length, Result, Ok, Err}
-use Rattle.bt_disk.specs.History.{History}
+use Rattle.bt_disk.specs.Conduct.{Conduct}
 use Rattle.bt_disk.specs.Calls.{length_fault, read_fault, bytes_written, write_fault, sync_made, sync_fault, HasCalls}
 use Rattle.bt_resume.specs.Limits.{header_length, max_log_length}
 use Rattle.bt_resume.specs.LogText.{LogText, of_two, hints_in, format_of, header, text_length, IsText, IsLog, HasHeader, IsOther, appended_bytes}
@@ -43,31 +43,31 @@ forgotten log disk = record log { disk = disk; end = log.kept_end; format = log.
 abbrev pub end_with : {D : Type 0} → LogView D → Hint → ℕ
 end_with log hint = log.end + length (appended_bytes log.format hint)
 
-module _ {D : Type 0} (history : D → History) (honest : D → Type 0) (faults : D → ℕ) where
+module _ {D : Type 0} (conduct : Conduct D) where
   -- what is said of an honest device's bytes
   abbrev pub OfBytes : D → (List ℕ → Type 0) → Type 0
-  OfBytes disk P = honest disk → P (history disk).now.bytes
+  OfBytes disk P = conduct.honest disk → P (conduct.history disk).now.bytes
 
   -- A log was read, or why it was not. But for the one read that failed no call failed, and no call changed
   -- an honest device. Of a device that is too long only the header is read, so only that read of it may have
   -- failed.
   pub data Reads (infohash : List ℕ) (old : D) : Result LogText LogError → D → Type 0 where
-    read : (text : LogText) (new : D) → HasCalls history honest faults old [] new → IsText text
+    read : (text : LogText) (new : D) → HasCalls conduct old [] new → IsText text
         → text_length text ≤ max_log_length → OfBytes old (λ bytes. IsLog infohash bytes text)
         → Reads infohash old (Ok text) new
-    other_torrent : (new : D) → HasCalls history honest faults old [] new → OfBytes old (IsOther infohash)
+    other_torrent : (new : D) → HasCalls conduct old [] new → OfBytes old (IsOther infohash)
         → Reads infohash old (Err OtherTorrent) new
-    too_long : (new : D) → HasCalls history honest faults old [] new
+    too_long : (new : D) → HasCalls conduct old [] new
         → OfBytes old (λ bytes. HasHeader infohash bytes × (max_log_length < length bytes))
         → Reads infohash old (Err TooLong) new
-    no_memory : (new : D) → HasCalls history honest faults old [] new
+    no_memory : (new : D) → HasCalls conduct old [] new
         → OfBytes old (λ bytes. HasHeader infohash bytes × (length bytes ≤ max_log_length))
         → Reads infohash old (Err OutOfMemory) new
-    no_length : (new : D) → HasCalls history honest faults old (length_fault ∷ []) new
+    no_length : (new : D) → HasCalls conduct old (length_fault ∷ []) new
         → Reads infohash old (Err Device) new
-    no_header : (new : D) → HasCalls history honest faults old (read_fault 0 header_length ∷ []) new
+    no_header : (new : D) → HasCalls conduct old (read_fault 0 header_length ∷ []) new
         → Reads infohash old (Err Device) new
-    unread : (new : D) (at wanted : ℕ) → HasCalls history honest faults old (read_fault at wanted ∷ []) new
+    unread : (new : D) (at wanted : ℕ) → HasCalls conduct old (read_fault at wanted ∷ []) new
         → OfBytes old (λ bytes. HasHeader infohash bytes × (length bytes ≤ max_log_length))
         → Reads infohash old (Err Device) new
 
@@ -76,16 +76,16 @@ module _ {D : Type 0} (history : D → History) (honest : D → Type 0) (faults 
   pub data Opens (infohash : List ℕ) (old : D) : Result LogText LogError → D → Type 0 where
     opened : (result : Result LogText LogError) (new : D) → OfBytes old (λ bytes. bytes ≢ [])
         → Reads infohash old result new → Opens infohash old result new
-    unmeasured : (new : D) → HasCalls history honest faults old (length_fault ∷ []) new
+    unmeasured : (new : D) → HasCalls conduct old (length_fault ∷ []) new
         → Opens infohash old (Err Device) new
     made : (new : D) → OfBytes old (λ bytes. bytes ≡ [])
-        → HasCalls history honest faults old (bytes_written 0 (header Two infohash) ∷ sync_made ∷ []) new
+        → HasCalls conduct old (bytes_written 0 (header Two infohash) ∷ sync_made ∷ []) new
         → Opens infohash old (Ok (of_two [])) new
     unwritten : (new : D) → OfBytes old (λ bytes. bytes ≡ [])
-        → HasCalls history honest faults old (write_fault 0 (header Two infohash) ∷ []) new
+        → HasCalls conduct old (write_fault 0 (header Two infohash) ∷ []) new
         → Opens infohash old (Err Device) new
     unsynced : (new : D) → OfBytes old (λ bytes. bytes ≡ [])
-        → HasCalls history honest faults old (bytes_written 0 (header Two infohash) ∷ sync_fault ∷ []) new
+        → HasCalls conduct old (bytes_written 0 (header Two infohash) ∷ sync_fault ∷ []) new
         → Opens infohash old (Err Device) new
 
   -- a log that was opened on a device
@@ -106,12 +106,12 @@ module _ {D : Type 0} (history : D → History) (honest : D → Type 0) (faults 
   abbrev pub IsAppended : Hint → LogView D → {T : Type 0} → Result T AppendError → LogView D → Type 0
   IsAppended hint old (Ok _) new =
       (end_with old hint ≤ max_log_length)
-      × HasCalls history honest faults old.disk (bytes_written old.end (appended_bytes old.format hint) ∷ [])
+      × HasCalls conduct old.disk (bytes_written old.end (appended_bytes old.format hint) ∷ [])
       new.disk
       × (new ≡ record old { disk = new.disk; end = end_with old hint; format = Two })
   IsAppended hint old (Err AppendDevice) new =
       (end_with old hint ≤ max_log_length)
-      × HasCalls history honest faults old.disk (write_fault old.end (appended_bytes old.format hint) ∷ [])
+      × HasCalls conduct old.disk (write_fault old.end (appended_bytes old.format hint) ∷ [])
       new.disk
       × (new ≡ forgotten old new.disk)
   IsAppended hint old (Err Full) new =
@@ -120,7 +120,7 @@ module _ {D : Type 0} (history : D → History) (honest : D → Type 0) (faults 
   -- The device was synced, so that what was appended is kept. After a fault it is forgotten.
   abbrev pub IsFlushed : LogView D → {T E : Type 0} → Result T E → LogView D → Type 0
   IsFlushed old (Ok _) new =
-      HasCalls history honest faults old.disk (sync_made ∷ []) new.disk
+      HasCalls conduct old.disk (sync_made ∷ []) new.disk
       × (new ≡ record old { disk = new.disk; kept_end = old.end; kept_format = old.format })
   IsFlushed old (Err _) new =
-      HasCalls history honest faults old.disk (sync_fault ∷ []) new.disk × (new ≡ forgotten old new.disk)
+      HasCalls conduct old.disk (sync_fault ∷ []) new.disk × (new ≡ forgotten old new.disk)

@@ -63,7 +63,7 @@ pub(crate) fn header(format: Format, infohash: &Hash32) -> [u8; HEADER_LEN]
 
 /// In which format the device begins with the header of the torrent's log; OtherTorrent, where in none.
 fn check_header<D: Disk>(disk: &mut D, infohash: &Hash32) -> Result<Format, LogError>
-    ensures { IsHeaderCheck D.history D.honest D.faults infohash.now disk.old result disk.new }
+    ensures { IsHeaderCheck D.conduct infohash.now disk.old result disk.new }
 {
     let mut front = [0; HEADER_LEN];
     let Ok(count) = disk.read_at(0, &mut front) else {
@@ -98,7 +98,7 @@ fn read_window<D: Disk>(
     hints: &mut Hints,
     room: usize,
 ) -> Result<usize, LogError>
-    ensures { IsWindowRead D.history D.honest D.faults at (length window.old) disk.old hints.old
+    ensures { IsWindowRead D.conduct at (length window.old) disk.old hints.old
         result hints.new disk.new }
 {
     let Ok(count) = disk.read_at(at, window) else {
@@ -118,8 +118,8 @@ fn read_hints<D: Disk>(
     len: u64,
 ) -> Result<Contents, LogError>
     requires within { len ≤ max_log_length }
-    requires len { D.honest disk.old → len ≡ length (D.history disk.old).now.bytes }
-    ensures { IsContentsRead D.history D.honest D.faults format disk.old result disk.new }
+    requires len { D.conduct.honest disk.old → len ≡ length (D.conduct.history disk.old).now.bytes }
+    ensures { IsContentsRead D.conduct format disk.old result disk.new }
 {
     let mut hints = Hints::new(alloc, format);
     let mut end = HEADER_LEN as u64;
@@ -142,8 +142,8 @@ fn read_contents<D: Disk>(
     infohash: &Hash32,
     len: u64,
 ) -> Result<Contents, LogError>
-    requires { D.honest disk.old → len ≡ length (D.history disk.old).now.bytes }
-    ensures reads { Reads D.history D.honest D.faults infohash.now disk.old (text_of result) disk.new }
+    requires { D.conduct.honest disk.old → len ≡ length (D.conduct.history disk.old).now.bytes }
+    ensures reads { Reads D.conduct infohash.now disk.old (text_of result) disk.new }
     ensures end { IfOk result (λ contents. contents.end ≡ end_of contents.hints) }
     ensures within { IfOk result (λ contents. contents.end.at ≤ max_log_length) }
 {
@@ -160,7 +160,7 @@ pub(crate) fn read_log<D: Disk>(
     disk: &mut D,
     infohash: &Hash32,
 ) -> Result<Contents, LogError>
-    ensures reads { Reads D.history D.honest D.faults infohash.now disk.old (text_of result) disk.new }
+    ensures reads { Reads D.conduct infohash.now disk.old (text_of result) disk.new }
     ensures end { IfOk result (λ contents. contents.end ≡ end_of contents.hints) }
     ensures within { IfOk result (λ contents. contents.end.at ≤ max_log_length) }
 {
@@ -176,7 +176,7 @@ pub(crate) fn open_log<D: Disk>(
     disk: &mut D,
     infohash: &Hash32,
 ) -> Result<Contents, LogError>
-    ensures opens { Opens D.history D.honest D.faults infohash.now disk.old (text_of result) disk.new }
+    ensures opens { Opens D.conduct infohash.now disk.old (text_of result) disk.new }
     ensures end { IfOk result (λ contents. contents.end ≡ end_of contents.hints) }
     ensures within { IfOk result (λ contents. contents.end.at ≤ max_log_length) }
 {
@@ -192,7 +192,7 @@ pub(crate) fn open_log<D: Disk>(
 
 /// Gives an empty device the header of the torrent's log, of format 2, and syncs it.
 fn make_log<D: Disk>(disk: &mut D, infohash: &Hash32) -> Result<(), LogError>
-    ensures { IsMade D.history D.honest D.faults infohash.now disk.old result disk.new }
+    ensures { IsMade D.conduct infohash.now disk.old result disk.new }
 {
     let Ok(()) = disk.write_at(0, &header(Format::Two, infohash)) else {
         return Err(LogError::Device);

@@ -25,35 +25,35 @@ pub fn kept_logs_open()
 /// An honest device with such bytes is read, and is opened, with a text that goes on from this one, and is not
 /// refused for what its bytes are.
 pub fn kept_devices_open<D: Disk>()
-    ensures reads { KeptDevicesAreRead D.history D.honest D.faults }
-    ensures opens { KeptDevicesOpen D.history D.honest D.faults }
+    ensures reads { KeptDevicesAreRead D.conduct }
+    ensures opens { KeptDevicesOpen D.conduct }
 {}
 
 /// What every image since a moment begins with, every image goes on to begin with, through each call of a
 /// log on an honest device, and at each moment within it.
 pub fn logs_keep_hints<D: Disk>()
-    ensures attach { AttachKeeps D.history D.honest D.faults }
-    ensures reload { ReloadKeeps D.history D.honest D.faults }
-    ensures append { AppendKeeps D.history D.honest D.faults }
-    ensures flush { FlushKeeps D.history D.honest D.faults }
+    ensures attach { AttachKeeps D.conduct }
+    ensures reload { ReloadKeeps D.conduct }
+    ensures append { AppendKeeps D.conduct }
+    ensures flush { FlushKeeps D.conduct }
 {}
 
 /// Which text the device of a log holds where the next hint is due, after each call of a log on an honest
 /// device. Once a flush succeeded, each later image begins with the one that was read and appended to until
 /// then.
 pub fn logs_hold_hints<D: Disk>()
-    ensures attach { AttachHolds D.history D.honest D.faults }
-    ensures reload { ReloadHolds D.history D.honest D.faults }
-    ensures append { AppendHolds D.history D.honest D.faults }
-    ensures flush { FlushHolds D.history D.honest D.faults }
+    ensures attach { AttachHolds D.conduct }
+    ensures reload { ReloadHolds D.conduct }
+    ensures append { AppendHolds D.conduct }
+    ensures flush { FlushHolds D.conduct }
 {}
 
 /// A text that a log keeps, and that every image since a moment begins with, stays so through each call of a
 /// log on an honest device; from a flush that succeeded on, all that was held is such a text.
 pub fn kept_hints_stand<D: Disk>()
-    ensures attach { AttachStands D.history D.honest D.faults }
-    ensures reload { ReloadStands D.history D.honest D.faults }
-    ensures append { AppendStands D.history D.honest D.faults }
-    ensures flush { FlushStands D.history D.honest D.faults }
-    ensures flushed { FlushedStand D.history D.honest D.faults }
+    ensures attach { AttachStands D.conduct }
+    ensures reload { ReloadStands D.conduct }
+    ensures append { AppendStands D.conduct }
+    ensures flush { FlushStands D.conduct }
+    ensures flushed { FlushedStand D.conduct }
 {}

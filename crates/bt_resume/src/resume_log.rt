@@ -71,8 +71,8 @@ impl<D: Disk + Drop> ResumeLog<D> {
         mut disk: D,
         infohash: Hash32,
     ) -> Result<ResumeLog<D>, Refused<D, LogError>>
-        ensures log { IfOk result (IsAttached D.history D.honest D.faults infohash disk) }
-        ensures refused { IfErr result (λ refused. Opens D.history D.honest D.faults infohash disk
+        ensures log { IfOk result (IsAttached D.conduct infohash disk) }
+        ensures refused { IfErr result (λ refused. Opens D.conduct infohash disk
             (Err refused.cause) refused.disk) }
     {
         match open_log(alloc, &mut disk, &infohash) {
@@ -136,7 +136,7 @@ impl<D: Disk + Drop> ResumeLog<D> {
     /// Errors: as `attach`, but that a device without bytes is `OtherTorrent`. They leave the hints as they
     /// were, and what was appended is not forgotten.
     pub fn reload(&mut self) -> Result<(), LogError>
-        ensures { IsReloaded D.history D.honest D.faults self.old result self.new }
+        ensures { IsReloaded D.conduct self.old result self.new }
     {
         let contents = read_log(self.alloc, &mut self.disk, &self.infohash)?;
         let Contents { hints, end } = contents;
@@ -154,7 +154,7 @@ impl<D: Disk + Drop> ResumeLog<D> {
     /// be appended again.
     pub fn append(&mut self, hint: &Hint) -> Result<(), AppendError>
         requires { CanBeRead hint.now }
-        ensures { IsAppended D.history D.honest D.faults hint.now self.old result self.new }
+        ensures { IsAppended D.conduct hint.now self.old result self.new }
     {
         let mut bytes = [0; MAX_APPENDED_LEN];
         let len = write_appended(self.end.format, hint, &mut bytes);
@@ -178,7 +178,7 @@ impl<D: Disk + Drop> ResumeLog<D> {
     /// After a fault, what was appended since the last good flush or reading is forgotten: it is to be
     /// appended again.
     pub fn flush(&mut self) -> Result<(), DeviceFault>
-        ensures { IsFlushed D.history D.honest D.faults self.old result self.new }
+        ensures { IsFlushed D.conduct self.old result self.new }
     {
         let result = self.disk.sync();
         match result {

@@ -22,6 +22,7 @@ use Rattle.bt_engine.specs.Run.{RunsEvents}
 use Rattle.bt_runs.specs.Promises.{RunsAsPromised, ArePublished}
 use Rattle.bt_runs.specs.Flushes.{FlushesLoseNoBlock}
 use Rattle.bt_runs.proofs.Paths.{sends_on_path, run_marks}
+use Rattle.bt_disk.specs.Conduct.{Conduct}
 
 published : (dig : Digest) → RootsTellFiles dig → {file : File} {k : Facts} {bytes : List ℕ} → k.file_length ≡ file.length → k.root ≡ file.root → HasFile dig k bytes
     → IsPublished dig file bytes
@@ -34,14 +35,14 @@ published dig tell {file} {k} {bytes} size root has =
       same = λ other other_size other_root. tell (take file.length bytes) other (cc) (cc);
     }
 
-module _ {D : Type 0} (history : D → History) (honest : D → Type 0) (faults : D → ℕ) (dig : Digest) where
+module _ {D : Type 0} (conduct : Conduct D) (dig : Digest) where
   pub as_promised : (old new : EngineView D) (events : List Event) (before after : List Answer)
       → IsLawful old.state.torrent.piece_length old.state.torrent.files → IsShaped old.state.torrent old.state → AreRooted dig old.state
-      → RunsAreRuns history honest faults dig → RightIsChecked dig → StepKeepsShape dig → StepKeepsRooted dig → StepMarksByBytes dig → RunSendsReadBytes dig
-      → ((es : List Event) (calls : List EventCalls) (answers : List Answer) → RunOn history honest faults dig old.state old.disks es calls answers new.state new.disks
-      → HaveLogCalls history honest faults old.log (flat_map (λ c. c.log) calls) new.log → FlushesLoseNoBlock history honest faults dig old es calls answers new)
-      → (result : Result (Unit {0}) AllocError) → OnOk result (RunsEvents history honest faults dig old events before after new)
-      → OnOk result (RunsAsPromised history honest faults dig old events before after new)
+      → RunsAreRuns conduct dig → RightIsChecked dig → StepKeepsShape dig → StepKeepsRooted dig → StepMarksByBytes dig → RunSendsReadBytes dig
+      → ((es : List Event) (calls : List EventCalls) (answers : List Answer) → RunOn conduct dig old.state old.disks es calls answers new.state new.disks
+      → HaveLogCalls conduct old.log (flat_map (λ c. c.log) calls) new.log → FlushesLoseNoBlock conduct dig old es calls answers new)
+      → (result : Result (Unit {0}) AllocError) → OnOk result (RunsEvents conduct dig old events before after new)
+      → OnOk result (RunsAsPromised conduct dig old events before after new)
   as_promised old new events before after lawful shaped rooted are_runs right keeps_shape keeps_rooted marks sends flushes (Err error) ran = tt
   as_promised old new events before after lawful shaped rooted are_runs right keeps_shape keeps_rooted marks sends flushes (Ok done) ran =
       let run = ran.runs in
@@ -61,16 +62,16 @@ module _ {D : Type 0} (history : D → History) (honest : D → Type 0) (faults 
 
   -- the events happened, or none did
   abbrev pub SomeRun : EngineView D → EngineView D → Type 0
-  SomeRun old new = (es : List Event) × (answers : List Answer) × RunsTo history honest faults dig old es answers new × HasNoRestart es
+  SomeRun old new = (es : List Event) × (answers : List Answer) × RunsTo conduct dig old es answers new × HasNoRestart es
 
-  pub some_run : NoEventsRun history honest faults dig → (old new : EngineView D) (events : List Event) (before after : List Answer)
-      (result : Result (Unit {0}) AllocError) → OnOk result (RunsEvents history honest faults dig old events before after new) → OnErr result (new ≡ old)
+  pub some_run : NoEventsRun conduct dig → (old new : EngineView D) (events : List Event) (before after : List Answer)
+      (result : Result (Unit {0}) AllocError) → OnOk result (RunsEvents conduct dig old events before after new) → OnErr result (new ≡ old)
       → HasNoRestart events → SomeRun old new
   some_run none_run old new events before after (Ok done) ran none no_restart = (events, ran.said, ran.runs, no_restart)
   some_run none_run old new events before after (Err error) ran none no_restart = ([], [], rw none (none_run old), All-nil (λ event. event ≢ Restart))
 
-  pub files_published : RootsTellFiles dig → CompleteFilesStand history honest dig → (s : EngineView D) → IsShaped s.state.torrent s.state → AreRooted dig s.state → IsSound history honest dig s.state s.disks
-      → ArePublished history honest dig s
+  pub files_published : RootsTellFiles dig → CompleteFilesStand conduct dig → (s : EngineView D) → IsShaped s.state.torrent s.state → AreRooted dig s.state → IsSound conduct dig s.state s.disks
+      → ArePublished conduct dig s
   files_published tell stand s shaped rooted sound number file d complete there honest_now =
       let own = (shaped.each number file complete.state complete.listed complete.here).has_tree complete.some in
       let is : own.0 ≡ complete.tree = same_some own.1 complete.has_tree in

@@ -1,7 +1,7 @@
 -- What leads on without a restart is a list of events, and loses nothing.
 use Rattle.std.proofs.Common.{[], ◌≢◌, ℕ, List, ◌∷◌, ◌++◌}
 use Rattle.std.proofs.lemmas.List.Elements.{All-append, All-nil, All-push}
-use Rattle.bt_disk.specs.History.{History}
+use Rattle.bt_disk.specs.Conduct.{Conduct}
 use Rattle.bt_machine.specs.Unmarks.{HasNoRestart}
 use Rattle.bt_machine.specs.State.{EngineView}
 use Rattle.bt_machine.specs.View.{RunsTo, NoEventsRun, OneMoreEventRuns, RunsCompose}
@@ -14,15 +14,15 @@ use Rattle.bt_runs.specs.Leads.{LeadsTo, none, one, both, WhatLeadsOnStands}
 abbrev IsNoRestart : Event → Type 0
 IsNoRestart event = event ≢ Restart
 
-module _ {D : Type 0} (history : D → History) (honest : D → Type 0) (faults : D → ℕ) (dig : List ℕ → List ℕ) where
+module _ {D : Type 0} (conduct : Conduct D) (dig : List ℕ → List ℕ) where
   pub record SomeRun (old new : EngineView D) : Type 0 where
     pub events : List Event
     pub answers : List Answer
-    pub runs : RunsTo history honest faults dig old events answers new
+    pub runs : RunsTo conduct dig old events answers new
     pub no_restart : HasNoRestart events
 
   -- what leads on is a list of events
-  pub leads_run : NoEventsRun history honest faults dig → OneMoreEventRuns history honest faults dig → RunsCompose history honest faults dig → {old new : EngineView D} → LeadsTo history honest faults dig old new → SomeRun old new
+  pub leads_run : NoEventsRun conduct dig → OneMoreEventRuns conduct dig → RunsCompose conduct dig → {old new : EngineView D} → LeadsTo conduct dig old new → SomeRun old new
   leads_run none_run one_more compose (none engine) = record { events = []; answers = []; runs = none_run engine; no_restart = All-nil IsNoRestart }
   leads_run none_run one_more compose (one old new event answer is_other step) = record {
     events = event ∷ [];
@@ -40,8 +40,8 @@ module _ {D : Type 0} (history : D → History) (honest : D → Type 0) (faults 
       }
 
   -- so it loses nothing
-  pub leads_stand : NoEventsRun history honest faults dig → OneMoreEventRuns history honest faults dig → RunsCompose history honest faults dig
-      → RunsStand history honest faults dig → WhatLeadsOnStands history honest faults dig
+  pub leads_stand : NoEventsRun conduct dig → OneMoreEventRuns conduct dig → RunsCompose conduct dig
+      → RunsStand conduct dig → WhatLeadsOnStands conduct dig
   leads_stand none_run one_more compose stand old new sound leads =
       let run = leads_run none_run one_more compose leads in
       stand old new run.events run.answers run.no_restart sound run.runs

@@ -1,17 +1,17 @@
 -- The calls of a log, parted and put together.
 use Rattle.std.proofs.Common.{[], ◌≡◌, ℕ, List, ◌∷◌, ◌++◌, Option, Some, None, refl, ap, ◌∙◌}
-use Rattle.bt_disk.specs.History.{History}
+use Rattle.bt_disk.specs.Conduct.{Conduct}
 use Rattle.bt_machine.specs.LogCalls.{LogCall, AreLogCalls, HaveLogCalls}
 
-module _ {D : Type 0} (history : D → History) (honest : D → Type 0) (faults : D → ℕ) where
-  calls_parted : (old new : _) (calls more : List LogCall) → AreLogCalls history honest faults old (calls ++ more) new
-      → (mid : _) × AreLogCalls history honest faults old calls mid × AreLogCalls history honest faults mid more new
+module _ {D : Type 0} (conduct : Conduct D) where
+  calls_parted : (old new : _) (calls more : List LogCall) → AreLogCalls conduct old (calls ++ more) new
+      → (mid : _) × AreLogCalls conduct old calls mid × AreLogCalls conduct mid more new
   calls_parted old new [] more made = (old, refl, made)
   calls_parted old new (call ∷ calls) more made =
       let rest = calls_parted made.0 new calls more made.2 in (rest.0, (made.0, made.1, rest.1), rest.2)
 
-  calls_joined : (old mid new : _) (calls more : List LogCall) → AreLogCalls history honest faults old calls mid
-      → AreLogCalls history honest faults mid more new → AreLogCalls history honest faults old (calls ++ more) new
+  calls_joined : (old mid new : _) (calls more : List LogCall) → AreLogCalls conduct old calls mid
+      → AreLogCalls conduct mid more new → AreLogCalls conduct old (calls ++ more) new
   calls_joined old mid new [] more first then = rw first at then
   calls_joined old mid new (call ∷ calls) more first then = (first.0, first.1, calls_joined first.0 mid new calls more first.2 then)
 
@@ -20,15 +20,15 @@ module _ {D : Type 0} (history : D → History) (honest : D → Type 0) (faults 
   none_parted (call ∷ calls) more none = absurd cc
 
   -- some calls and then others are those of a log between
-  pub logs_parted : (old new : Option _) (calls more : List LogCall) → HaveLogCalls history honest faults old (calls ++ more) new
-      → (mid : Option _) × HaveLogCalls history honest faults old calls mid × HaveLogCalls history honest faults mid more new
+  pub logs_parted : (old new : Option _) (calls more : List LogCall) → HaveLogCalls conduct old (calls ++ more) new
+      → (mid : Option _) × HaveLogCalls conduct old calls mid × HaveLogCalls conduct mid more new
   logs_parted (Some old) (Some new) calls more made = let both = calls_parted old new calls more made in (Some both.0, both.1, both.2)
   logs_parted None None calls more made = let none = none_parted calls more made in (None, none.0, none.1)
   logs_parted (Some old) None calls more made = absurd made
   logs_parted None (Some new) calls more made = absurd made
 
-  pub logs_joined : (old mid new : Option _) (calls more : List LogCall) → HaveLogCalls history honest faults old calls mid
-      → HaveLogCalls history honest faults mid more new → HaveLogCalls history honest faults old (calls ++ more) new
+  pub logs_joined : (old mid new : Option _) (calls more : List LogCall) → HaveLogCalls conduct old calls mid
+      → HaveLogCalls conduct mid more new → HaveLogCalls conduct old (calls ++ more) new
   logs_joined (Some old) (Some mid) (Some new) calls more first then = calls_joined old mid new calls more first then
   logs_joined None None None calls more first then = ap (λ l. l ++ more) first ∙ then
   logs_joined (Some old) None new calls more first then = absurd first
@@ -37,6 +37,6 @@ module _ {D : Type 0} (history : D → History) (honest : D → Type 0) (faults 
   logs_joined None None (Some new) calls more first then = absurd then
 
   -- none is made
-  pub no_log_calls : (log : Option _) → HaveLogCalls history honest faults log [] log
+  pub no_log_calls : (log : Option _) → HaveLogCalls conduct log [] log
   no_log_calls (Some log) = refl
   no_log_calls None = refl

@@ -1,7 +1,7 @@
 -- How a start is refused where the log is the torrent's, and for what no log is refused.
 use Rattle.std.specs.Prelude.{◌↔◌, IfOk, IfErr}
 use Rattle.std.proofs.Common.{◌≡◌, ◌≢◌, ℕ, List, Option, Some, None, Result, Ok, Err, length, refl, sym, ap, ◌∙◌, subst}
-use Rattle.bt_disk.specs.History.{History}
+use Rattle.bt_disk.specs.Conduct.{Conduct}
 use Rattle.bt_meta.specs.Torrent.{Metainfo}
 use Rattle.bt_resume.specs.ResumeLog.{LogView, Opens, IsAttached}
 use Rattle.bt_resume.specs.declared.error.LogError.{LogError}
@@ -17,7 +17,7 @@ use Rattle.bt_machine.proofs.Lists.{some_is}
 use Rattle.bt_runs.specs.Reopening.{HasReopened, IsNotReopened, IsNotStarted, RefusesNoneFlushed, unstarted}
 use Rattle.bt_runs.specs.declared.reopening.ReopenRefused.{ReopenRefused}
 
-module _ {D : Type 0} (history : D → History) (honest : D → Type 0) (faults : D → ℕ) (dig : List ℕ → List ℕ) where
+module _ {D : Type 0} (conduct : Conduct D) (dig : List ℕ → List ℕ) where
   -- a refused start of an engine with its torrent's log
   pub record IsRefused (torrent : Metainfo) (given : List D) (log : LogView D) (refused : StartRefused D (LogView D)) : Type 0 where
     pub same_torrent : refused.cause ≢ OtherLog
@@ -26,7 +26,7 @@ module _ {D : Type 0} (history : D → History) (honest : D → Type 0) (faults 
     pub same_log : refused.log ≡ Some log
 
   pub start_refused : {torrent : Metainfo} {given : List D} {log : LogView D} {answer : _} {refused : StartRefused D (LogView D)} → log.infohash ≡ torrent.infohash
-      → AnswersStart history honest faults dig torrent given (Some log) answer → answer ≡ Err refused → IsRefused torrent given log refused
+      → AnswersStart conduct dig torrent given (Some log) answer → answer ≡ Err refused → IsRefused torrent given log refused
   start_refused own (starts first placed are begun is) err = absurd cc
   start_refused {torrent} {given} {log} {answer} {refused} own (other_count other back) err =
       let one : back.refused ≡ refused = (let is = back.is in cc) in
@@ -49,47 +49,47 @@ module _ {D : Type 0} (history : D → History) (honest : D → Type 0) (faults 
         same_log = subst (λ (r : StartRefused D (LogView D)). r.log ≡ Some log) one back.same_log;
       }
 
-  pub refuses_none : FlushedLogsAreKept history honest faults dig → (torrent : Metainfo) (log new : D) (cause : LogError)
-      → Opens history honest faults torrent.infohash log (Err cause) new → RefusesNoneFlushed history honest faults dig torrent log cause
+  pub refuses_none : FlushedLogsAreKept conduct dig → (torrent : Metainfo) (log new : D) (cause : LogError)
+      → Opens conduct torrent.infohash log (Err cause) new → RefusesNoneFlushed conduct dig torrent log cause
   refuses_none kept torrent log new cause opens flushed last synced stopped r left =
       (kept torrent flushed last synced stopped r left.was_honest).opens log new (Err cause) left opens
 
   -- ---- what a start with an opened log comes to
 
   -- an engine has begun
-  has_begun : {torrent : Metainfo} {given : List D} {log : D} {opened : LogView D} {engine : EngineView D} {answer : _} → IsAttached history honest faults torrent.infohash log opened
-      → IsReopened history honest faults dig torrent given (Some opened) engine → AnswersStart history honest faults dig torrent given (Some opened) answer
-      → answer ≡ Ok engine → HasReopened history honest faults dig torrent given log engine
+  has_begun : {torrent : Metainfo} {given : List D} {log : D} {opened : LogView D} {engine : EngineView D} {answer : _} → IsAttached conduct torrent.infohash log opened
+      → IsReopened conduct dig torrent given (Some opened) engine → AnswersStart conduct dig torrent given (Some opened) answer
+      → answer ≡ Ok engine → HasReopened conduct dig torrent given log engine
   has_begun {torrent} {opened = opened} {engine} attached again (starts first placed are begun is) ok =
       let one : first ≡ engine = cc in record {
         opened = opened;
         attached = attached;
         placed = placed;
         devices = are;
-        begins = subst (λ (e : EngineView D). BeginsOn history honest faults dig torrent placed (Some opened) e) one begun;
+        begins = subst (λ (e : EngineView D). BeginsOn conduct dig torrent placed (Some opened) e) one begun;
         again = again;
       }
   has_begun attached again (other_count other back) ok = let is = back.is in absurd cc
   has_begun attached again (other_log l so_many some other back) ok = let is = back.is in absurd cc
   has_begun attached again (no_memory so_many own back) ok = let is = back.is in absurd cc
 
-  pub ok_reopened : (torrent : Metainfo) (given : List D) (log : D) (opened : LogView D) → IsAttached history honest faults torrent.infohash log opened
+  pub ok_reopened : (torrent : Metainfo) (given : List D) (log : D) (opened : LogView D) → IsAttached conduct torrent.infohash log opened
       → (result : Result (EngineView D) (ReopenRefused D))
-      → IfOk result (λ engine. AnswersStart history honest faults dig torrent given (Some opened) (Ok engine))
-      → IfOk result (IsReopened history honest faults dig torrent given (Some opened))
-      → IfOk result (HasReopened history honest faults dig torrent given log)
+      → IfOk result (λ engine. AnswersStart conduct dig torrent given (Some opened) (Ok engine))
+      → IfOk result (IsReopened conduct dig torrent given (Some opened))
+      → IfOk result (HasReopened conduct dig torrent given log)
   ok_reopened torrent given log opened attached (Ok engine) begun again = has_begun attached again begun refl
   ok_reopened torrent given log opened attached (Err refused) begun again = tt
 
-  pub err_unstarted : (torrent : Metainfo) (given : List D) (log : D) (opened : LogView D) → IsAttached history honest faults torrent.infohash log opened
+  pub err_unstarted : (torrent : Metainfo) (given : List D) (log : D) (opened : LogView D) → IsAttached conduct torrent.infohash log opened
       → (result : Result (EngineView D) (ReopenRefused D)) → IfErr result (IsNotStarted torrent given opened)
-      → IfErr result (IsNotReopened history honest faults dig torrent given log)
+      → IfErr result (IsNotReopened conduct dig torrent given log)
   err_unstarted torrent given log opened attached (Ok engine) is = tt
   err_unstarted torrent given log opened attached (Err refused) is = unstarted opened attached is
 
   -- the log comes back with a refused start
   pub none_back : {torrent : Metainfo} {given : List D} {log : LogView D} {answer : _} {refused : StartRefused D (LogView D)} → log.infohash ≡ torrent.infohash
-      → AnswersStart history honest faults dig torrent given (Some log) answer → answer ≡ Err refused → refused.log ≡ None → ⊥
+      → AnswersStart conduct dig torrent given (Some log) answer → answer ≡ Err refused → refused.log ≡ None → ⊥
   none_back own answers err none = let r = start_refused own answers err in let same = r.same_log in absurd (some_none (sym same ∙ none))
     where
       some_none : {l : LogView D} → Some l ≡ None → ⊥

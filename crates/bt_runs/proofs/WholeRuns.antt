@@ -26,6 +26,7 @@ use Rattle.bt_runs.specs.WholeRuns.{starting_calls, IsMarkedAtStart, IsPublished
 use Rattle.bt_runs.proofs.Flushes.{flushes}
 use Rattle.bt_runs.proofs.Leading.{leads_run}
 use Rattle.bt_runs.proofs.Paths.{marked_cases, path_of, sends_on_path}
+use Rattle.bt_disk.specs.Conduct.{Conduct}
 
 -- ---- blocks
 
@@ -63,16 +64,16 @@ positive : (n : ℕ) → (n ≡ 0 → ⊥) → 0 < n
 positive zero some = absurd (some refl)
 positive (suc n) some = omega arith
 
-module _ {D : Type 0} (history : D → History) (honest : D → Type 0) (faults : D → ℕ) (dig : Digest) where
+module _ {D : Type 0} (conduct : Conduct D) (dig : Digest) where
   -- ---- the start
 
-  begins_of : {torrent : Metainfo} {placed : List (Option D)} {log : Option (LogView D)} {first : EngineView D} → BeginsOn history honest faults dig torrent placed log first
+  begins_of : {torrent : Metainfo} {placed : List (Option D)} {log : Option (LogView D)} {first : EngineView D} → BeginsOn conduct dig torrent placed log first
       → Begins dig torrent first.state
   begins_of (bare_on no_log begun same unlogged) = bare begun
   begins_of (with_log_on l calls is of_torrent begun made same) = with_log l.hints calls begun
 
   -- a file has a device exactly where one was placed
-  placed_none : {torrent : Metainfo} {placed : List (Option D)} {log : Option (LogView D)} {first : EngineView D} → BeginsOn history honest faults dig torrent placed log first
+  placed_none : {torrent : Metainfo} {placed : List (Option D)} {log : Option (LogView D)} {first : EngineView D} → BeginsOn conduct dig torrent placed log first
       → (i : ℕ) → (slice_get placed i ≡ Some None) ↔ (slice_get first.disks i ≡ Some None)
   placed_none (bare_on no_log begun same unlogged) i =
       (subst (λ l. slice_get l i ≡ Some None) (sym same), subst (λ l. slice_get l i ≡ Some None) same)
@@ -80,7 +81,7 @@ module _ {D : Type 0} (history : D → History) (honest : D → Type 0) (faults 
 
   -- what is marked at the start was read then
   marked_first : StartMarksByBytes dig → RightIsChecked dig → {torrent : Metainfo} {placed : List (Option D)} {log : Option (LogView D)} {first : EngineView D}
-      → (begins : BeginsOn history honest faults dig torrent placed log first) → IsShaped torrent first.state → AreRooted dig first.state
+      → (begins : BeginsOn conduct dig torrent placed log first) → IsShaped torrent first.state → AreRooted dig first.state
       → (b : BlockId) → state_at first.state b ≡ Some Marked → IsMarkedAtStart dig (starting_calls begins) first.state b
   marked_first start_marks right {torrent} {first = first} (bare_on no_log begun same unlogged) shaped rooted b marked =
       absurd (unmarked_first dig torrent first.state b begun marked)
@@ -92,14 +93,14 @@ module _ {D : Type 0} (history : D → History) (honest : D → Type 0) (faults 
 
   -- a file has a device where it had one
   none_before : (old new : EngineState) (events : List Event) (calls : List EventCalls) (answers : List Answer) (disks after : List (Option D)) (i : ℕ)
-      → RunOn history honest faults dig old disks events calls answers new after → slice_get after i ≡ Some None → slice_get disks i ≡ Some None
+      → RunOn conduct dig old disks events calls answers new after → slice_get after i ≡ Some None → slice_get disks i ≡ Some None
   none_before old new [] [] [] disks after i run at = rw (← run.1) at
   none_before old new (e ∷ es) (c ∷ calls) (a ∷ answers) disks after i run at =
       (run.3.none i).1 (none_before run.0 new es calls answers run.1 after i run.4 at)
   none_before old new _ _ _ disks after i run at = absurd run
 
   none_after : (old new : EngineState) (events : List Event) (calls : List EventCalls) (answers : List Answer) (disks after : List (Option D)) (i : ℕ)
-      → RunOn history honest faults dig old disks events calls answers new after → slice_get disks i ≡ Some None → slice_get after i ≡ Some None
+      → RunOn conduct dig old disks events calls answers new after → slice_get disks i ≡ Some None → slice_get after i ≡ Some None
   none_after old new [] [] [] disks after i run at = rw run.1 at
   none_after old new (e ∷ es) (c ∷ calls) (a ∷ answers) disks after i run at =
       none_after run.0 new es calls answers run.1 after i run.4 ((run.3.none i).0 at)
@@ -108,12 +109,12 @@ module _ {D : Type 0} (history : D → History) (honest : D → Type 0) (faults 
   -- ---- the whole
 
   module _ {torrent : Metainfo} {given : List D} {placed : List (Option D)} {log : Option (LogView D)} {first last : EngineView D} {events : List Event} {answers : List Answer}
-      (begins : BeginsOn history honest faults dig torrent placed log first) (runs : RunsTo history honest faults dig first events answers last)
+      (begins : BeginsOn conduct dig torrent placed log first) (runs : RunsTo conduct dig first events answers last)
       (lawful : IsLawful torrent.piece_length torrent.files) (devices : AreDevicesOf torrent.files given placed) where
     -- a complete file is the published one
-    published_on : CompleteFilesArePublished history honest faults dig → IsShaped torrent last.state → (number : ℕ) (file : File) (disk : Option D)
+    published_on : CompleteFilesArePublished conduct dig → IsShaped torrent last.state → (number : ℕ) (file : File) (disk : Option D)
         → slice_get torrent.files number ≡ Some file → is_complete last.state number ≡ true → slice_get last.disks number ≡ Some disk
-        → IsPublishedOn history honest dig file disk
+        → IsPublishedOn conduct dig file disk
     published_on publish shaped number file None listed done there =
         (devices.empty number file listed).0 ((placed_none begins number).1
         (none_before first.state last.state events runs.calls answers first.disks last.disks number runs.run there))
@@ -136,13 +137,13 @@ module _ {D : Type 0} (history : D → History) (honest : D → Type 0) (faults 
           marked = λ i inside. marked_there f.0.states i all (rw shape.blocks inside);
         }) there honest_now
 
-  module _ (right : RightIsChecked dig) (starts_in_shape : StartsInShape dig) (starts_rooted : StartsRooted dig) (starts_sound : StartsSound history honest faults dig)
-      (start_marks : StartMarksByBytes dig) (keeps_shape : StepKeepsShape dig) (keeps_rooted : StepKeepsRooted dig) (keeps_sound : StepKeepsSound history honest faults dig)
+  module _ (right : RightIsChecked dig) (starts_in_shape : StartsInShape dig) (starts_rooted : StartsRooted dig) (starts_sound : StartsSound conduct dig)
+      (start_marks : StartMarksByBytes dig) (keeps_shape : StepKeepsShape dig) (keeps_rooted : StepKeepsRooted dig) (keeps_sound : StepKeepsSound conduct dig)
       (step_marks : StepMarksByBytes dig) (run_sends : RunSendsReadBytes dig) (run_shape : RunsKeepShape dig)
-      (are_runs : RunsAreRuns history honest faults dig) (publish : CompleteFilesArePublished history honest faults dig)
-      (keeps_marks : RunKeepsMarks history honest faults dig) (keeps_images : RunKeepsImages history honest faults dig)
-      (flush_keeps : FlushKeepsBlocks history honest faults dig) (were_so : HonestDevicesWereSo history honest faults dig) where
-    pub whole_runs : WholeRunsKeepPromises history honest faults dig
+      (are_runs : RunsAreRuns conduct dig) (publish : CompleteFilesArePublished conduct dig)
+      (keeps_marks : RunKeepsMarks conduct dig) (keeps_images : RunKeepsImages conduct dig)
+      (flush_keeps : FlushKeepsBlocks conduct dig) (were_so : HonestDevicesWereSo conduct dig) where
+    pub whole_runs : WholeRunsKeepPromises conduct dig
     whole_runs torrent given placed log first last events answers begins runs lawful devices =
         let run = runs.run in
         let plain = are_runs first.state last.state first.disks last.disks events runs.calls answers run in
@@ -161,15 +162,15 @@ module _ {D : Type 0} (history : D → History) (honest : D → Type 0) (faults 
               (run_sends first.state last.state events runs.calls before answer after (rw (← is) plain) key piece begin bytes sent);
           complete = λ number file listed done i inside. marks (block_id number i) (complete_marked torrent last.state number file i shaped listed done inside);
           published = published_on begins runs lawful devices publish shaped;
-          flushes = flushes history honest faults dig were_so keeps_images keeps_marks flush_keeps keeps_sound first last events runs.calls answers
+          flushes = flushes conduct dig were_so keeps_images keeps_marks flush_keeps keeps_sound first last events runs.calls answers
               (starts_sound torrent placed log first begins) run runs.logged;
         }
 
     -- what leads on is such a run
-    pub what_leads_on : NoEventsRun history honest faults dig → OneMoreEventRuns history honest faults dig → RunsCompose history honest faults dig
-        → WhatLeadsOnIsWhole history honest faults dig
+    pub what_leads_on : NoEventsRun conduct dig → OneMoreEventRuns conduct dig → RunsCompose conduct dig
+        → WhatLeadsOnIsWhole conduct dig
     what_leads_on none_run one_more compose torrent given placed log first last begins lawful devices leads =
-        let some = leads_run history honest faults dig none_run one_more compose leads in
+        let some = leads_run conduct dig none_run one_more compose leads in
         record {
           events = some.events;
           answers = some.answers;

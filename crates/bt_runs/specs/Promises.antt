@@ -1,6 +1,6 @@
 -- What is promised of every list of events, whatever peers send and devices answer.
 use Rattle.std.specs.Prelude.{[], ◌≡◌, ◌≢◌, ℕ, List, ◌∷◌, ◌++◌, flat_map, Some, slice_get, Contains}
-use Rattle.bt_disk.specs.History.{History}
+use Rattle.bt_disk.specs.Conduct.{Conduct}
 use Rattle.bt_meta.specs.Files.{File}
 use Rattle.bt_sparse.specs.SparseTree.{Facts, IsChecked}
 use Rattle.bt_store.specs.declared.block_states.BlockState.TheVariants.{Marked}
@@ -90,24 +90,24 @@ SendsReadBytes dig old events calls answers new =
 -- devices and of the log, and their answers stand behind those before. By the bytes of these calls and of the
 -- peers blocks are marked and data is sent; and what is marked at a flush that answers Ok, no later stop
 -- loses, up to a restart.
-pub record RunsAsPromised {D : Type 0} (history : D → History) (honest : D → Type 0) (faults : D → ℕ)
+pub record RunsAsPromised {D : Type 0} (conduct : Conduct D)
     (dig : List ℕ → List ℕ) (old : EngineView D) (events : List Event) (before after : List Answer)
     (new : EngineView D) : Type 0 where
   pub answers : List Answer
   pub behind : after ≡ before ++ answers
   pub calls : List EventCalls
-  pub run : RunOn history honest faults dig old.state old.disks events calls answers new.state new.disks
-  pub logged : HaveLogCalls history honest faults old.log (flat_map (λ c. c.log) calls) new.log
+  pub run : RunOn conduct dig old.state old.disks events calls answers new.state new.disks
+  pub logged : HaveLogCalls conduct old.log (flat_map (λ c. c.log) calls) new.log
   pub marks : MarksByBytes dig old.state events calls answers new.state
   pub sends : SendsReadBytes dig old.state events calls answers new.state
-  pub flushes : FlushesLoseNoBlock history honest faults dig old events calls answers new
+  pub flushes : FlushesLoseNoBlock conduct dig old events calls answers new
 
 -- ---- files and devices
 
 -- Each file that is complete, on an honest device, has the torrent's length and root; so it equals each file
 -- of that length and root, or at one place of their trees two different inputs have one digest.
-abbrev pub ArePublished : {D : Type 0} → (D → History) → (D → Type 0) → (List ℕ → List ℕ) → EngineView D
+abbrev pub ArePublished : {D : Type 0} → Conduct D → (List ℕ → List ℕ) → EngineView D
     → Type 0
-ArePublished {D} history honest dig s = (number : ℕ) (file : File) (d : D)
-    → IsComplete s.state.torrent s.state number file → slice_get s.disks number ≡ Some (Some d) → honest d
-    → IsPublished dig file (history d).now.bytes
+ArePublished {D} conduct dig s = (number : ℕ) (file : File) (d : D)
+    → IsComplete s.state.torrent s.state number file → slice_get s.disks number ≡ Some (Some d) → conduct.honest d
+    → IsPublished dig file (conduct.history d).now.bytes

@@ -1,6 +1,6 @@
 -- What an engine begins with where another one was stopped.
 use Rattle.std.specs.Prelude.{◌≡◌, ◌≢◌, ◌↔◌, ℕ, List, length, Option, Some, Err}
-use Rattle.bt_disk.specs.History.{History}
+use Rattle.bt_disk.specs.Conduct.{Conduct}
 use Rattle.bt_meta.specs.Torrent.{Metainfo}
 use Rattle.bt_resume.specs.ResumeLog.{LogView, Opens, IsAttached}
 use Rattle.bt_resume.specs.Law.{IsNotOfBytes}
@@ -25,31 +25,31 @@ pub record IsNotStarted {D : Type 0} (torrent : Metainfo) (given : List D) (open
   pub same_disks : refused.disks.items ≡ given
   pub same_log : refused.log ≡ opened.disk
 
-module _ {D : Type 0} (history : D → History) (honest : D → Type 0) (faults : D → ℕ)
+module _ {D : Type 0} (conduct : Conduct D)
     (dig : List ℕ → List ℕ) where
   -- The log was opened, and an engine of the torrent has begun with it over these devices. And so it marks
   -- again what was marked where another one was stopped.
   pub record HasReopened (torrent : Metainfo) (given : List D) (log : D) (engine : EngineView D) : Type 0
     where
       pub opened : LogView D
-      pub attached : IsAttached history honest faults torrent.infohash log opened
+      pub attached : IsAttached conduct torrent.infohash log opened
       pub placed : List (Option D)
       pub devices : AreDevicesOf torrent.files given placed
-      pub begins : BeginsOn history honest faults dig torrent placed (Some opened) engine
-      pub again : IsReopened history honest faults dig torrent given (Some opened) engine
+      pub begins : BeginsOn conduct dig torrent placed (Some opened) engine
+      pub again : IsReopened conduct dig torrent given (Some opened) engine
 
   -- No log is refused for what its bytes are that a stop has left, at any moment since a flush that answered
   -- Ok, of that of an engine of the torrent.
   abbrev pub RefusesNoneFlushed : Metainfo → (log : D) → LogError → Type 0
   RefusesNoneFlushed torrent log cause = (flushed last : EngineView D) (synced stopped : LogView D)
-      → RunsPastFlush history honest faults dig torrent flushed last synced stopped
-      → IsLogLeft history honest synced stopped log → IsNotOfBytes cause
+      → RunsPastFlush conduct dig torrent flushed last synced stopped
+      → IsLogLeft conduct synced stopped log → IsNotOfBytes cause
 
   -- The log was not opened, or it was and no engine has begun. All is given back.
   pub data IsNotReopened (torrent : Metainfo) (given : List D) (log : D) (refused : ReopenRefused D) : Type 0
     where
       unopened : (cause : LogError) → refused.cause ≡ Log cause → refused.disks.items ≡ given
-          → Opens history honest faults torrent.infohash log (Err cause) refused.log
+          → Opens conduct torrent.infohash log (Err cause) refused.log
           → RefusesNoneFlushed torrent log cause → IsNotReopened torrent given log refused
-      unstarted : (opened : LogView D) → IsAttached history honest faults torrent.infohash log opened
+      unstarted : (opened : LogView D) → IsAttached conduct torrent.infohash log opened
           → IsNotStarted torrent given opened refused → IsNotReopened torrent given log refused

@@ -2,7 +2,7 @@
 -- devices and the log answer.
 use Rattle.std.specs.Prelude.{[], ◌≡◌, ℕ, ◌<◌, true, List, Option, Some, None, slice_get}
 use Rattle.bt_tree.specs.Blocks.{block_count}
-use Rattle.bt_disk.specs.History.{History}
+use Rattle.bt_disk.specs.Conduct.{Conduct}
 use Rattle.bt_meta.specs.Files.{File}
 use Rattle.bt_meta.specs.Torrent.{Metainfo, IsLawful}
 use Rattle.bt_resume.specs.ResumeLog.{LogView}
@@ -27,9 +27,9 @@ use Rattle.bt_runs.specs.Promises.{IsOnCheckedPath, IsMarkedOnPath, SendsReadByt
 -- ---- the start
 
 -- the calls by which an engine was begun: with a log they read blocks, and without one there is none
-abbrev pub starting_calls : {D : Type 0} {history : D → History} {honest : D → Type 0} {faults : D → ℕ}
+abbrev pub starting_calls : {D : Type 0} {conduct : Conduct D}
     {dig : List ℕ → List ℕ} {torrent : Metainfo} {placed : List (Option D)} {log : Option (LogView D)}
-    {first : EngineView D} → BeginsOn history honest faults dig torrent placed log first → DeviceCalls
+    {first : EngineView D} → BeginsOn conduct dig torrent placed log first → DeviceCalls
 starting_calls (bare no_log begun same unlogged) = []
 starting_calls (with_log l calls is of_torrent begun made same) = calls
 
@@ -44,25 +44,25 @@ pub record IsMarkedAtStart (dig : List ℕ → List ℕ) (calls : DeviceCalls) (
 
 -- What a file's device has is the published file, where the device is honest. Only an empty file has no
 -- device: it has no byte either, as every file of its length.
-abbrev pub IsPublishedOn : {D : Type 0} → (D → History) → (D → Type 0) → (List ℕ → List ℕ) → File → Option D
+abbrev pub IsPublishedOn : {D : Type 0} → Conduct D → (List ℕ → List ℕ) → File → Option D
     → Type 0
-IsPublishedOn history honest dig file None = file.length ≡ 0
-IsPublishedOn history honest dig file (Some d) = honest d → IsPublished dig file (history d).now.bytes
+IsPublishedOn conduct dig file None = file.length ≡ 0
+IsPublishedOn conduct dig file (Some d) = conduct.honest d → IsPublished dig file (conduct.history d).now.bytes
 
 -- so it is of each file of the torrent of which the engine reports that it is complete, an empty one too
-abbrev pub CompleteIsPublished : {D : Type 0} → (D → History) → (D → Type 0) → (List ℕ → List ℕ) → Metainfo
+abbrev pub CompleteIsPublished : {D : Type 0} → Conduct D → (List ℕ → List ℕ) → Metainfo
     → EngineView D → Type 0
-CompleteIsPublished {D} history honest dig torrent s = (number : ℕ) (file : File) (disk : Option D)
+CompleteIsPublished {D} conduct dig torrent s = (number : ℕ) (file : File) (disk : Option D)
     → slice_get torrent.files number ≡ Some file → is_complete s.state number ≡ true
-    → slice_get s.disks number ≡ Some disk → IsPublishedOn history honest dig file disk
+    → slice_get s.disks number ≡ Some disk → IsPublishedOn conduct dig file disk
 
 -- ---- a run from the start
 
-module _ {D : Type 0} {history : D → History} {honest : D → Type 0} {faults : D → ℕ} {dig : List ℕ → List ℕ}
+module _ {D : Type 0} {conduct : Conduct D} {dig : List ℕ → List ℕ}
     {torrent : Metainfo} {placed : List (Option D)} {log : Option (LogView D)} {first : EngineView D}
     {events : List Event} {answers : List Answer} {last : EngineView D}
-    (begins : BeginsOn history honest faults dig torrent placed log first)
-    (runs : RunsTo history honest faults dig first events answers last) where
+    (begins : BeginsOn conduct dig torrent placed log first)
+    (runs : RunsTo conduct dig first events answers last) where
   -- A block is marked since an event of the run, or since the start, by bytes that came or were read then.
   -- Their digest lies at the block's leaf, on a checked path to the pieces root of its file.
   pub data IsMarkedInRun (b : BlockId) : Type 0 where
@@ -83,17 +83,17 @@ module _ {D : Type 0} {history : D → History} {honest : D → Type 0} {faults 
     pub sends : SendsReadBytes dig first.state events runs.calls answers last.state
     pub complete : (number : ℕ) (file : File) → slice_get torrent.files number ≡ Some file
         → is_complete last.state number ≡ true → IsFileMarkedOnPath number file
-    pub published : CompleteIsPublished history honest dig torrent last
-    pub flushes : FlushesLoseNoBlock history honest faults dig first events runs.calls answers last
+    pub published : CompleteIsPublished conduct dig torrent last
+    pub flushes : FlushesLoseNoBlock conduct dig first events runs.calls answers last
 
 -- Every run from the start of a lawful torrent, over devices of its files, is so, be restarts among its
 -- events or not.
-abbrev pub WholeRunsKeepPromises : {D : Type 0} → (D → History) → (D → Type 0) → (D → ℕ)
+abbrev pub WholeRunsKeepPromises : {D : Type 0} → Conduct D
     → (List ℕ → List ℕ) → Type 0
-WholeRunsKeepPromises {D} history honest faults dig = (torrent : Metainfo) (given : List D)
+WholeRunsKeepPromises {D} conduct dig = (torrent : Metainfo) (given : List D)
     (placed : List (Option D)) (log : Option (LogView D)) (first last : EngineView D) (events : List Event)
-    (answers : List Answer) (begins : BeginsOn history honest faults dig torrent placed log first)
-    (runs : RunsTo history honest faults dig first events answers last)
+    (answers : List Answer) (begins : BeginsOn conduct dig torrent placed log first)
+    (runs : RunsTo conduct dig first events answers last)
     → IsLawful torrent.piece_length torrent.files → AreDevicesOf torrent.files given placed
     → IsWholeRun begins runs
 
@@ -101,21 +101,21 @@ WholeRunsKeepPromises {D} history honest faults dig = (torrent : Metainfo) (give
 
 -- events, none of them a restart, led from the engine that began to this one, as a run of which that is
 -- promised
-pub record HasWholeRun {D : Type 0} {history : D → History} {honest : D → Type 0} {faults : D → ℕ}
+pub record HasWholeRun {D : Type 0} {conduct : Conduct D}
     {dig : List ℕ → List ℕ} {torrent : Metainfo} {placed : List (Option D)} {log : Option (LogView D)}
-    {first : EngineView D} (begins : BeginsOn history honest faults dig torrent placed log first)
+    {first : EngineView D} (begins : BeginsOn conduct dig torrent placed log first)
     (last : EngineView D) : Type 0 where
   pub events : List Event
   pub answers : List Answer
   pub no_restart : HasNoRestart events
-  pub runs : RunsTo history honest faults dig first events answers last
+  pub runs : RunsTo conduct dig first events answers last
   pub promised : IsWholeRun begins runs
 
 -- so it is of whatever leads on from the start
-abbrev pub WhatLeadsOnIsWhole : {D : Type 0} → (D → History) → (D → Type 0) → (D → ℕ) → (List ℕ → List ℕ)
+abbrev pub WhatLeadsOnIsWhole : {D : Type 0} → Conduct D → (List ℕ → List ℕ)
     → Type 0
-WhatLeadsOnIsWhole {D} history honest faults dig = (torrent : Metainfo) (given : List D)
+WhatLeadsOnIsWhole {D} conduct dig = (torrent : Metainfo) (given : List D)
     (placed : List (Option D)) (log : Option (LogView D)) (first last : EngineView D)
-    (begins : BeginsOn history honest faults dig torrent placed log first)
+    (begins : BeginsOn conduct dig torrent placed log first)
     → IsLawful torrent.piece_length torrent.files → AreDevicesOf torrent.files given placed
-    → LeadsTo history honest faults dig first last → HasWholeRun begins last
+    → LeadsTo conduct dig first last → HasWholeRun begins last

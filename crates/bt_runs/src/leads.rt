@@ -10,7 +10,7 @@ use bt_tree::NodeHash;
 /// nothing that every image since a moment has of a marked block, and nothing of the text that every image of
 /// the log begins with. It does nothing when it runs.
 pub fn what_leads_on_stands<D: Disk, H: NodeHash>(hash: H)
-    ensures { WhatLeadsOnStands D.history D.honest D.faults H.digest }
+    ensures { WhatLeadsOnStands D.conduct H.digest }
 {
     run_keeps_marks::<D, H>(hash);
     run_keeps_images::<D, H>(hash);

@@ -24,15 +24,15 @@ pub fn run_as_promised<D: Disk + Drop, H: NodeHash>(
     events: &[Event],
     answers: &mut Vec<Answer>,
 ) -> Result<(), AllocError>
-    ensures run { OnOk result (RunsAsPromised D.history D.honest D.faults H.digest engine.old events.now
+    ensures run { OnOk result (RunsAsPromised D.conduct H.digest engine.old events.now
         answers.old.items answers.new.items engine.new) }
     ensures kept { OnErr result (engine.new ≡ engine.old) }
     ensures unanswered { OnErr result (answers.new.items ≡ answers.old.items) }
-    ensures published { ArePublished D.history D.honest H.digest engine.new }
+    ensures published { ArePublished D.conduct H.digest engine.new }
     ensures stands { HasNoRestart events.now
-        → Stands D.history D.honest D.faults engine.old engine.new }
+        → Stands D.conduct engine.old engine.new }
     ensures flushed { HasNoRestart events.now
-        → KeepsFlushed D.history D.honest D.faults H.digest engine.old engine.new }
+        → KeepsFlushed D.conduct H.digest engine.old engine.new }
 {
     // The laws of a run, and what holds of an engine before the events and after them.
     let hash = engine.hash();
@@ -57,7 +57,7 @@ pub fn run_as_promised<D: Disk + Drop, H: NodeHash>(
 /// an engine, where it stands right behind the flush. Its contract is of whatever events follow, up to a
 /// restart, and of stops between them and within them. It does nothing when it runs.
 pub fn flushed_blocks_stay<D: Disk + Drop, H: NodeHash>(engine: &Engine<D, H>)
-    ensures { FlushedBlocksStay D.history D.honest D.faults H.digest engine.now }
+    ensures { FlushedBlocksStay D.conduct H.digest engine.now }
 {
     let hash = engine.hash();
     run_keeps_marks::<D, H>(hash);

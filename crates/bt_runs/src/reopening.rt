@@ -51,9 +51,9 @@ pub fn reopen<D: Disk + Drop, H: NodeHash>(
 ) -> Result<Engine<D, H>, ReopenRefused<D>>
     requires { H.digest ≡ sha256 }
     ensures reopened { IfOk result
-        (HasReopened D.history D.honest D.faults H.digest torrent disks.items log) }
+        (HasReopened D.conduct H.digest torrent disks.items log) }
     ensures refused { IfErr result
-        (IsNotReopened D.history D.honest D.faults H.digest torrent disks.items log) }
+        (IsNotReopened D.conduct H.digest torrent disks.items log) }
 {
     logs_back_engines::<D, H>(hash);
     match ResumeLog::attach(alloc, log, torrent.infohash()) {
@@ -76,9 +76,9 @@ fn start_with<D: Disk + Drop, H: NodeHash>(
 ) -> Result<Engine<D, H>, ReopenRefused<D>>
     requires digest { H.digest ≡ sha256 }
     requires same_torrent { opened.infohash ≡ torrent.infohash }
-    ensures begun { IfOk result (λ engine. AnswersStart D.history D.honest D.faults H.digest torrent
+    ensures begun { IfOk result (λ engine. AnswersStart D.conduct H.digest torrent
         disks.items (Some opened) (Ok engine)) }
-    ensures again { IfOk result (IsReopened D.history D.honest D.faults H.digest torrent disks.items
+    ensures again { IfOk result (IsReopened D.conduct H.digest torrent disks.items
         (Some opened)) }
     ensures refused { IfErr result (IsNotStarted torrent disks.items opened) }
 {

@@ -14,8 +14,8 @@ use bt_tree::NodeHash;
 /// digests: what is marked, sent and complete then is what the torrent names. Restarts may be among them; what
 /// leads on without one is such a run too. It does nothing when it runs.
 pub fn whole_runs_keep_promises<D: Disk + Drop, H: NodeHash>(engine: &Engine<D, H>)
-    ensures runs { WholeRunsKeepPromises D.history D.honest D.faults H.digest }
-    ensures leads { WhatLeadsOnIsWhole D.history D.honest D.faults H.digest }
+    ensures runs { WholeRunsKeepPromises D.conduct H.digest }
+    ensures leads { WhatLeadsOnIsWhole D.conduct H.digest }
 {
     let hash = engine.hash();
     right_is_checked(hash);

@@ -2,7 +2,7 @@
 use Rattle.std.specs.Prelude.{[], ◌≡◌, ℕ, List, ◌∷◌, Option, Some, None, Result}
 use Rattle.std.proofs.Common.{ap, refl, sym, subst}
 use Rattle.std.specs.declared.alloc.AllocError.{AllocError}
-use Rattle.bt_disk.specs.History.{History}
+use Rattle.bt_disk.specs.Conduct.{Conduct}
 use Rattle.bt_book.specs.declared.names.PeerKey.{PeerKey}
 use Rattle.bt_machine.specs.declared.event.Event.TheVariants.{Connect, Feed, Next, Lost as LostEvent, Rechoke, Flush}
 use Rattle.bt_machine.specs.declared.event.Answer.{Answer}
@@ -66,10 +66,10 @@ module _ (dig : List ℕ → List ℕ) {old new : EngineState} {calls : EventCal
   own_flush r step = subst (λ (q : Result (Unit {0}) FlushError). StepFlush old calls q new) (sym (ap (flushed_in r) step.1)) step.2
 
 -- a log of which no call is made stays
-pub log_stays : {D : Type 0} (history : D → History) (honest : D → Type 0) (faults : D → ℕ) (old new : Option _) (calls : List LogCall)
-    → HaveLogCalls history honest faults old calls new → calls ≡ [] → new ≡ old
-log_stays history honest faults (Some old) (Some new) [] made none = ap (λ l. Some l) made
-log_stays history honest faults None None calls made none = refl
-log_stays history honest faults (Some old) (Some new) (call ∷ calls) made none = absurd cc
-log_stays history honest faults (Some old) None calls made none = absurd made
-log_stays history honest faults None (Some new) calls made none = absurd made
+pub log_stays : {D : Type 0} (conduct : Conduct D) (old new : Option _) (calls : List LogCall)
+    → HaveLogCalls conduct old calls new → calls ≡ [] → new ≡ old
+log_stays conduct (Some old) (Some new) [] made none = ap (λ l. Some l) made
+log_stays conduct None None calls made none = refl
+log_stays conduct (Some old) (Some new) (call ∷ calls) made none = absurd cc
+log_stays conduct (Some old) None calls made none = absurd made
+log_stays conduct None (Some new) calls made none = absurd made

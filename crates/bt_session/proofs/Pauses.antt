@@ -2,7 +2,7 @@
 use Rattle.std.proofs.Common.{[], ◌≡◌, ◌≢◌, ℕ, ◌≤◌, Bool, true, false, List, Option, refl, sym, subst, arith}
 use Rattle.std.proofs.KnownBytes.{Appends-nil, Consumes-nil}
 use Rattle.std.specs.Prelude.{Result, Ok, Err, MatchResult}
-use Rattle.bt_disk.specs.History.{History}
+use Rattle.bt_disk.specs.Conduct.{Conduct}
 use Rattle.bt_book.specs.declared.names.PeerKey.{PeerKey}
 use Rattle.bt_machine.specs.declared.error.FlushError.{FlushError}
 use Rattle.bt_machine.specs.declared.event.Event.TheVariants.{Flush}
@@ -28,10 +28,10 @@ flush_is_next : (key : PeerKey) (until : Bool) (every taken : ℕ) (s : EngineSt
 flush_is_next key until every taken s (Rechoked (Ok out)) due over = subst (λ d. FollowsTurn d key Flush) (sym due) refl
 flush_is_next key until every taken s _ due over = absurd over
 
-module _ {D : Type 0} (history : D → History) (honest : D → Type 0) (faults : D → ℕ) (dig : List ℕ → List ℕ) (key : PeerKey) (until : Bool) (every : ℕ) where
+module _ {D : Type 0} (conduct : Conduct D) (dig : List ℕ → List ℕ) (key : PeerKey) (until : Bool) (every : ℕ) where
   -- none is due
   pub not_flushed : (taken : ℕ) (engine : EngineView D) → is_flush_due every taken ≡ false
-      → IsPause history honest faults dig key until every taken engine (Ok tt) engine
+      → IsPause conduct dig key until every taken engine (Ok tt) engine
   not_flushed taken engine none given first remaining contents h few = record {
     last = h.last;
     ran = h.ran;
@@ -40,24 +40,24 @@ module _ {D : Type 0} (history : D → History) (honest : D → Type 0) (faults 
 
   -- one is due: it is made, or it is refused
   pub flushed : (taken : ℕ) (old new : EngineView D) (answer : Result (Unit {0}) FlushError) → is_flush_due every taken ≡ true
-      → StepsTo history honest faults dig old Flush (Flushed answer) new → IsPause history honest faults dig key until every taken old answer new
+      → StepsTo conduct dig old Flush (Flushed answer) new → IsPause conduct dig key until every taken old answer new
   flushed taken old new answer due step given first remaining contents h few = by answer step
     where
-      ran : (answer : Result (Unit {0}) FlushError) → StepsTo history honest faults dig old Flush (Flushed answer) new
-          → HasRun history honest faults dig key until every AllWritten first taken (Flushed answer) (place new remaining contents)
+      ran : (answer : Result (Unit {0}) FlushError) → StepsTo conduct dig old Flush (Flushed answer) new
+          → HasRun conduct dig key until every AllWritten first taken (Flushed answer) (place new remaining contents)
       ran answer step =
-          went_on history honest faults dig key until every first AllWritten taken taken h.last (Flushed answer) Flush (place old remaining contents)
+          went_on conduct dig key until every first AllWritten taken taken h.last (Flushed answer) Flush (place old remaining contents)
           (place new remaining contents) h.ran (flush_is_next key until every taken old.state h.last due h.next) step (omega arith) (Consumes-nil remaining)
-          (written_all history honest faults dig key until every first taken h.last (Flushed answer) (place old remaining contents) contents h.ran (Appends-nil contents))
+          (written_all conduct dig key until every first taken h.last (Flushed answer) (place old remaining contents) contents h.ran (Appends-nil contents))
 
-      by : (answer : Result (Unit {0}) FlushError) → StepsTo history honest faults dig old Flush (Flushed answer) new
+      by : (answer : Result (Unit {0}) FlushError) → StepsTo conduct dig old Flush (Flushed answer) new
           → MatchResult answer
-          (λ done. GoesOn history honest faults dig key until every (IsBetweenTurns until) first taken (place new remaining contents))
-          (λ error. HasEnded history honest faults dig key until every given first (Err error) (place new remaining contents))
+          (λ done. GoesOn conduct dig key until every (IsBetweenTurns until) first taken (place new remaining contents))
+          (λ error. HasEnded conduct dig key until every given first (Err error) (place new remaining contents))
       by (Ok done) step = record { last = Flushed (Ok done); ran = ran (Ok done) step; next = tt }
       by (Err error) step = record { taken = taken; few = few; last = Flushed (Err error); ran = ran (Err error) step; comes = (due, refl) }
 
 -- a session that is never flushed comes to no flush that is refused
-pub never_refused : {D : Type 0} (history : D → History) (honest : D → Type 0) (faults : D → ℕ) (dig : List ℕ → List ℕ) (until : Bool) (given : ℕ) (first : Place D)
-    (error : FlushError) (last : Place D) → IsSessionWithFlushes history honest faults dig until 0 given first (Err error) last → ⊥
-never_refused history honest faults dig until given first error last session = let due : false ≡ true = session.ended.comes.0 in absurd cc
+pub never_refused : {D : Type 0} (conduct : Conduct D) (dig : List ℕ → List ℕ) (until : Bool) (given : ℕ) (first : Place D)
+    (error : FlushError) (last : Place D) → IsSessionWithFlushes conduct dig until 0 given first (Err error) last → ⊥
+never_refused conduct dig until given first error last session = let due : false ≡ true = session.ended.comes.0 in absurd cc

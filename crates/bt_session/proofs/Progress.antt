@@ -7,7 +7,7 @@ use Rattle.std.proofs.KnownBytes.{Appends-nil, Appends-trans, Appends-kept, Cons
 use Rattle.std.specs.Prelude.{flat_map, Ok}
 use Rattle.std.specs.Io.KnownBytes.{Appends, Keeps, Consumes}
 use Rattle.std.specs.List.{count_by}
-use Rattle.bt_disk.specs.History.{History}
+use Rattle.bt_disk.specs.Conduct.{Conduct}
 use Rattle.bt_book.specs.declared.names.PeerKey.{PeerKey}
 use Rattle.bt_machine.specs.declared.answer.Frame.{Frame}
 use Rattle.bt_machine.specs.declared.event.Event.{Event}
@@ -46,11 +46,11 @@ count_more events event = sum_by-append (λ x. cond (is_turn x) 1 0) events (eve
 pub nothing_written : (old new : Option (List ℕ)) (frames : List Frame) → Keeps old new → SomeWritten old new frames
 nothing_written old new frames kept = (0, Appends-kept old old new [] (Appends-nil old) kept)
 
-module _ {D : Type 0} (history : D → History) (honest : D → Type 0) (faults : D → ℕ) (dig : List ℕ → List ℕ) (key : PeerKey) (until : Bool) (every : ℕ) (first : Place D) where
+module _ {D : Type 0} (conduct : Conduct D) (dig : List ℕ → List ℕ) (key : PeerKey) (until : Bool) (every : ℕ) (first : Place D) where
   -- it begins
   pub begun : (how_much : HowMuch) (out : Output) (answer : Answer) (engine : EngineView D) (contents : Option (List ℕ)) → answer ≡ Connected (Ok (key, out))
-      → StepsTo history honest faults dig first.engine Connect answer engine → how_much first.contents contents (frames_to key (sent_by answer))
-      → HasRun history honest faults dig key until every how_much first 0 answer (record { engine = engine; remaining = first.remaining; contents = contents })
+      → StepsTo conduct dig first.engine Connect answer engine → how_much first.contents contents (frames_to key (sent_by answer))
+      → HasRun conduct dig key until every how_much first 0 answer (record { engine = engine; remaining = first.remaining; contents = contents })
   begun how_much out answer engine contents is step written = record {
     events = Connect ∷ [];
     answers = answer ∷ [];
@@ -62,11 +62,11 @@ module _ {D : Type 0} (history : D → History) (honest : D → Type 0) (faults 
 
   -- it goes on
   pub went_on : (how_much : HowMuch) (turns more : ℕ) (last answer : Answer) (event : Event) (mid now : Place D)
-      (h : HasRun history honest faults dig key until every AllWritten first turns last mid)
-      → Follows key until every turns mid.engine.state last event → StepsTo history honest faults dig mid.engine event answer now.engine
+      (h : HasRun conduct dig key until every AllWritten first turns last mid)
+      → Follows key until every turns mid.engine.state last event → StepsTo conduct dig mid.engine event answer now.engine
       → turns + count_by is_turn (event ∷ []) ≡ more → Consumes mid.remaining now.remaining (fed_by event)
       → how_much first.contents now.contents (frames_in key h.answers ++ frames_to key (sent_by answer))
-      → HasRun history honest faults dig key until every how_much first more answer now
+      → HasRun conduct dig key until every how_much first more answer now
   went_on how_much turns more last answer event mid now h follows step counted read written = record {
     events = h.events ++ event ∷ [];
     answers = h.answers ++ answer ∷ [];
@@ -80,7 +80,7 @@ module _ {D : Type 0} (history : D → History) (honest : D → Type 0) (faults 
 
   -- what an answer sends to the peer is written
   pub written_all : (turns : ℕ) (last answer : Answer) (mid : Place D) (contents : Option (List ℕ))
-      (h : HasRun history honest faults dig key until every AllWritten first turns last mid) → Appends mid.contents contents (spellings (frames_to key (sent_by answer)))
+      (h : HasRun conduct dig key until every AllWritten first turns last mid) → Appends mid.contents contents (spellings (frames_to key (sent_by answer)))
       → AllWritten first.contents contents (frames_in key h.answers ++ frames_to key (sent_by answer))
   written_all turns last answer mid contents h written =
       subst (Appends first.contents contents) (sym (flat_map-append spelling (frames_in key h.answers) (frames_to key (sent_by answer))))
@@ -88,7 +88,7 @@ module _ {D : Type 0} (history : D → History) (honest : D → Type 0) (faults 
 
   -- or nothing of it
   pub written_some : (turns : ℕ) (last answer : Answer) (mid : Place D) (contents : Option (List ℕ))
-      (h : HasRun history honest faults dig key until every AllWritten first turns last mid) → Keeps mid.contents contents
+      (h : HasRun conduct dig key until every AllWritten first turns last mid) → Keeps mid.contents contents
       → SomeWritten first.contents contents (frames_in key h.answers ++ frames_to key (sent_by answer))
   written_some turns last answer mid contents h kept =
       let frames : List Frame = frames_in key h.answers in
@@ -100,8 +100,8 @@ module _ {D : Type 0} (history : D → History) (honest : D → Type 0) (faults 
 
   -- a read that gave nothing, or failed
   pub read_none : (turns : ℕ) (last : Answer) (mid : Place D) (remaining : Option (List ℕ))
-      → HasRun history honest faults dig key until every AllWritten first turns last mid → Keeps mid.remaining remaining
-      → HasRun history honest faults dig key until every AllWritten first turns last (record mid { remaining = remaining })
+      → HasRun conduct dig key until every AllWritten first turns last mid → Keeps mid.remaining remaining
+      → HasRun conduct dig key until every AllWritten first turns last (record mid { remaining = remaining })
   read_none turns last mid remaining h kept = record {
     events = h.events;
     answers = h.answers;

@@ -2,7 +2,7 @@
 use Rattle.std.proofs.Common.{[], ◌≢◌, ℕ, Bool, true, false, List, ◌∷◌, ◌++◌, Some, None}
 use Rattle.std.specs.Prelude.{Ok}
 use Rattle.std.proofs.lemmas.List.Elements.{All-nil, All-push}
-use Rattle.bt_disk.specs.History.{History}
+use Rattle.bt_disk.specs.Conduct.{Conduct}
 use Rattle.bt_machine.specs.declared.event.Event.{Event}
 use Rattle.bt_machine.specs.declared.event.Event.TheVariants.{Connect, Lost, Restart}
 use Rattle.bt_machine.specs.declared.event.Answer.{Answer}
@@ -34,20 +34,20 @@ no_restart key until every taken s _ event follows e = absurd follows
 
 -- ---- what stands
 
-module _ {D : Type 0} (history : D → History) (honest : D → Type 0) (faults : D → ℕ) (dig : List ℕ → List ℕ) where
-  no_restarts : {key until every first events answers last now : _} → Session history honest faults dig key until every first events answers last now
+module _ {D : Type 0} (conduct : Conduct D) (dig : List ℕ → List ℕ) where
+  no_restarts : {key until every first events answers last now : _} → Session conduct dig key until every first events answers last now
       → HasNoRestart events
   no_restarts (begins out answer now is step) = All-push IsNoRestart [] Connect (All-nil IsNoRestart) (λ e. absurd cc)
   no_restarts {key} {until} {every} (goes_on events answers last answer event mid now session follows step) =
       All-push IsNoRestart events event (no_restarts session) (no_restart key until every _ mid.state last event follows)
 
   -- a whole session is a run, with the removal of its peer at the end
-  pub sessions_stand : NoEventsRun history honest faults dig → OneMoreEventRuns history honest faults dig → RunsStand history honest faults dig
-      → SessionsStand history honest faults dig
+  pub sessions_stand : NoEventsRun conduct dig → OneMoreEventRuns conduct dig → RunsStand conduct dig
+      → SessionsStand conduct dig
   sessions_stand none_run one_more stand until every given first last end sound session =
       let ran = session.ended.ran in
       stand first.engine last.engine (ran.events ++ Lost session.key ∷ []) (ran.answers ++ LostAnswer session.removed ∷ [])
       (All-push IsNoRestart ran.events (Lost session.key) (no_restarts ran.session) (λ e. absurd cc)) sound
       (one_more first.engine session.engine last.engine ran.events ran.answers (Lost session.key) (LostAnswer session.removed)
-      (session_runs history honest faults dig none_run one_more session.key until every first.engine ran.events ran.answers session.ended.last session.engine ran.session)
+      (session_runs conduct dig none_run one_more session.key until every first.engine ran.events ran.answers session.ended.last session.engine ran.session)
       session.removal)

@@ -1,7 +1,7 @@
 -- How a session ends.
 use Rattle.std.specs.Prelude.{ℕ, ◌≡◌, ◌<◌, ◌≤◌, ◌⊎◌, Bool, true, false, List, Option, Some, None, Result, Ok, Err}
 use Rattle.std.specs.Io.KnownBytes.{IsAtEnd}
-use Rattle.bt_disk.specs.History.{History}
+use Rattle.bt_disk.specs.Conduct.{Conduct}
 use Rattle.bt_book.specs.declared.names.PeerKey.{PeerKey}
 use Rattle.bt_machine.specs.declared.answer.Why.{Why}
 use Rattle.bt_machine.specs.declared.error.EngineError.{EngineError}
@@ -77,29 +77,29 @@ Comes (Err error) until every given taken last s remaining =
     (is_flush_due every taken ≡ true) × (last ≡ Flushed (Err error))
 
 -- From the first place a session has come to this end, where it is now. The peer may be there still.
-pub record HasEnded {D : Type 0} (history : D → History) (honest : D → Type 0) (faults : D → ℕ)
+pub record HasEnded {D : Type 0} (conduct : Conduct D)
     (dig : List ℕ → List ℕ) (key : PeerKey) (until_complete : Bool) (every given : ℕ) (first : Place D)
     (end : Result SessionEnd FlushError) (now : Place D) : Type 0 where
   pub taken : ℕ
   pub few : taken ≤ given
   pub last : Answer
-  pub ran : HasRun history honest faults dig key until_complete every (written_at end) first taken last now
+  pub ran : HasRun conduct dig key until_complete every (written_at end) first taken last now
   pub comes : Comes end until_complete every given taken last now.engine.state now.remaining
 
 -- A whole session, in which the engine is flushed behind each `every`-th turn, or never where that is 0: it
 -- has come to its end, and its peer is removed.
-pub record IsSessionWithFlushes {D : Type 0} (history : D → History) (honest : D → Type 0) (faults : D → ℕ)
+pub record IsSessionWithFlushes {D : Type 0} (conduct : Conduct D)
     (dig : List ℕ → List ℕ) (until_complete : Bool) (every given : ℕ) (first : Place D)
     (end : Result SessionEnd FlushError) (last : Place D) : Type 0 where
   pub key : PeerKey
   pub engine : EngineView D
-  pub ended : HasEnded history honest faults dig key until_complete every given first end
+  pub ended : HasEnded conduct dig key until_complete every given first end
       (record last { engine = engine })
   pub removed : Result (Unit {0}) EngineError
-  pub removal : StepsTo history honest faults dig engine (Lost key) (LostAnswer removed) last.engine
+  pub removal : StepsTo conduct dig engine (Lost key) (LostAnswer removed) last.engine
 
 -- a whole session without a flush
-abbrev pub IsSession : {D : Type 0} → (D → History) → (D → Type 0) → (D → ℕ) → (List ℕ → List ℕ)
+abbrev pub IsSession : {D : Type 0} → Conduct D → (List ℕ → List ℕ)
     → (until_complete : Bool) → (given : ℕ) → (first : Place D) → SessionEnd → (last : Place D) → Type 0
-IsSession history honest faults dig until given first end last =
-    IsSessionWithFlushes history honest faults dig until 0 given first (Ok end) last
+IsSession conduct dig until given first end last =
+    IsSessionWithFlushes conduct dig until 0 given first (Ok end) last

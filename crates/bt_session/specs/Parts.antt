@@ -1,7 +1,7 @@
 -- What a part of a session does, wherever the session began.
 use Rattle.std.specs.Prelude.{ℕ, ◌≡◌, ◌≤◌, Bool, true, false, List, length, take, Option, Some, None, Result, Ok, Err, MatchResult}
 use Rattle.std.specs.Io.KnownBytes.{Consumes, IsAtEnd}
-use Rattle.bt_disk.specs.History.{History}
+use Rattle.bt_disk.specs.Conduct.{Conduct}
 use Rattle.bt_book.specs.declared.names.PeerKey.{PeerKey}
 use Rattle.bt_machine.specs.declared.answer.Why.{Why}
 use Rattle.bt_machine.specs.declared.event.Event.{Event}
@@ -30,38 +30,38 @@ IsTurnOver every taken s (Rechoked (Ok _)) = Unit {0}
 IsTurnOver every taken s _ = ⊥
 
 -- A session has come here in so many turns, with all written that was sent, and goes on so.
-pub record GoesOn {D : Type 0} (history : D → History) (honest : D → Type 0) (faults : D → ℕ)
+pub record GoesOn {D : Type 0} (conduct : Conduct D)
     (dig : List ℕ → List ℕ) (key : PeerKey) (until_complete : Bool) (every : ℕ) (outlook : Outlook)
     (first : Place D) (taken : ℕ) (now : Place D) : Type 0 where
   pub last : Answer
-  pub ran : HasRun history honest faults dig key until_complete every AllWritten first taken last now
+  pub ran : HasRun conduct dig key until_complete every AllWritten first taken last now
   pub next : outlook every taken now.engine.state last
 
 -- A part of a session, however often that is flushed: it takes it from one place to another, where it goes
 -- on, or to its end.
-abbrev pub IsPart : {D A : Type 0} → (D → History) → (D → Type 0) → (D → ℕ) → (List ℕ → List ℕ)
+abbrev pub IsPart : {D A : Type 0} → Conduct D → (List ℕ → List ℕ)
     → PeerKey → (until_complete : Bool) → Outlook → (took : ℕ → ℕ) → Place D → Result A SessionEnd
     → (A → Outlook) → Place D → Type 0
-IsPart {D} history honest faults dig key until before took old result after new =
+IsPart {D} conduct dig key until before took old result after new =
     (every given taken : ℕ) (first : Place D)
-    → GoesOn history honest faults dig key until every before first taken old → took taken ≤ given
+    → GoesOn conduct dig key until every before first taken old → took taken ≤ given
     → MatchResult result
-    (λ done. GoesOn history honest faults dig key until every (after done) first (took taken) new)
-    (λ end. HasEnded history honest faults dig key until every given first (Ok end) new)
+    (λ done. GoesOn conduct dig key until every (after done) first (took taken) new)
+    (λ end. HasEnded conduct dig key until every given first (Ok end) new)
 
 -- What stands between two turns, the first of them the `taken`-th: a flush where one is due, and the session
 -- goes on, or the flush was refused and was its end.
-abbrev pub IsPause : {D : Type 0} → (D → History) → (D → Type 0) → (D → ℕ) → (List ℕ → List ℕ) → PeerKey
+abbrev pub IsPause : {D : Type 0} → Conduct D → (List ℕ → List ℕ) → PeerKey
     → (until_complete : Bool) → (every taken : ℕ) → EngineView D → Result (Unit {0}) FlushError
     → EngineView D → Type 0
-IsPause {D} history honest faults dig key until every taken old result new =
+IsPause {D} conduct dig key until every taken old result new =
     (given : ℕ) (first : Place D) (remaining contents : Option (List ℕ))
-    → GoesOn history honest faults dig key until every IsTurnOver first taken (place old remaining contents)
+    → GoesOn conduct dig key until every IsTurnOver first taken (place old remaining contents)
     → taken ≤ given
     → MatchResult result
-    (λ done. GoesOn history honest faults dig key until every (IsBetweenTurns until) first taken
+    (λ done. GoesOn conduct dig key until every (IsBetweenTurns until) first taken
     (place new remaining contents))
-    (λ error. HasEnded history honest faults dig key until every given first (Err error)
+    (λ error. HasEnded conduct dig key until every given first (Err error)
     (place new remaining contents))
 
 -- ---- its parts

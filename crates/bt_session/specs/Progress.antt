@@ -2,7 +2,7 @@
 use Rattle.std.specs.Prelude.{ℕ, ◌≡◌, Bool, List, [], take, flat_map, Option}
 use Rattle.std.specs.Io.KnownBytes.{Appends, Consumes}
 use Rattle.std.specs.List.{count_by}
-use Rattle.bt_disk.specs.History.{History}
+use Rattle.bt_disk.specs.Conduct.{Conduct}
 use Rattle.bt_book.specs.declared.names.PeerKey.{PeerKey}
 use Rattle.bt_machine.specs.declared.answer.Frame.{Frame}
 use Rattle.bt_machine.specs.declared.event.Event.{Event}
@@ -48,12 +48,12 @@ IsUnknown old new frames = Unit {0}
 -- From the first place a session of so many turns came to where it is now, with `last` as its last answer. It
 -- was fed, in their order, just the bytes that the reader gave; and of what it sent to its peer so much is
 -- written.
-pub record HasRun {D : Type 0} (history : D → History) (honest : D → Type 0) (faults : D → ℕ)
+pub record HasRun {D : Type 0} (conduct : Conduct D)
     (dig : List ℕ → List ℕ) (key : PeerKey) (until_complete : Bool) (every : ℕ) (how_much : HowMuch)
     (first : Place D) (turns : ℕ) (last : Answer) (now : Place D) : Type 0 where
   pub events : List Event
   pub answers : List Answer
-  pub session : Session history honest faults dig key until_complete every first.engine events answers last
+  pub session : Session conduct dig key until_complete every first.engine events answers last
       now.engine
   pub count : count_by is_turn events ≡ turns
   pub read : Consumes first.remaining now.remaining (flat_map fed_by events)

@@ -1,7 +1,7 @@
 -- What happens in a session with a peer: which event follows on which.
 use Rattle.std.specs.Prelude.{[], ◌≡◌, ℕ, ◌<◌, ◌≤◌, ◌%◌, ◌==◌, ◌&&◌, not, Bool, true, false, List, ◌∷◌, ◌++◌, length, Some, None, Ok}
 use Rattle.std.specs.List.{count_by}
-use Rattle.bt_disk.specs.History.{History}
+use Rattle.bt_disk.specs.Conduct.{Conduct}
 use Rattle.bt_book.specs.declared.names.PeerKey.{PeerKey}
 use Rattle.bt_machine.specs.declared.event.Event.{Event}
 use Rattle.bt_machine.specs.declared.event.Event.TheVariants.{Connect, Feed, Next, Rechoke, Flush}
@@ -56,25 +56,25 @@ Follows key until every taken s (Flushed (Ok _)) event = FeedsRead key event
 Follows key until every taken s _ event = ⊥
 
 -- A session begins as its peer is connected, and goes on event by event. `last` is the last answer.
-pub data Session {D : Type 0} (history : D → History) (honest : D → Type 0) (faults : D → ℕ)
+pub data Session {D : Type 0} (conduct : Conduct D)
     (dig : List ℕ → List ℕ) (key : PeerKey) (until_complete : Bool) (every : ℕ) (first : EngineView D)
     : List Event → List Answer → (last : Answer) → EngineView D → Type 0 where
   begins : (out : Output) (answer : Answer) (now : EngineView D) → answer ≡ Connected (Ok (key, out))
-      → StepsTo history honest faults dig first Connect answer now
-      → Session history honest faults dig key until_complete every first (Connect ∷ []) (answer ∷ []) answer
+      → StepsTo conduct dig first Connect answer now
+      → Session conduct dig key until_complete every first (Connect ∷ []) (answer ∷ []) answer
       now
   goes_on : (events : List Event) (answers : List Answer) (last answer : Answer) (event : Event)
       (mid now : EngineView D)
-      → Session history honest faults dig key until_complete every first events answers last mid
+      → Session conduct dig key until_complete every first events answers last mid
       → Follows key until_complete every (count_by is_turn events) mid.state last event
-      → StepsTo history honest faults dig mid event answer now
-      → Session history honest faults dig key until_complete every first (events ++ event ∷ [])
+      → StepsTo conduct dig mid event answer now
+      → Session conduct dig key until_complete every first (events ++ event ∷ [])
       (answers ++ answer ∷ []) answer now
 
 -- Its events are a run of the engine.
-abbrev pub SessionsAreRuns : {D : Type 0} → (D → History) → (D → Type 0) → (D → ℕ) → (List ℕ → List ℕ)
+abbrev pub SessionsAreRuns : {D : Type 0} → Conduct D → (List ℕ → List ℕ)
     → Type 0
-SessionsAreRuns {D} history honest faults dig = (key : PeerKey) (until_complete : Bool) (every : ℕ)
+SessionsAreRuns {D} conduct dig = (key : PeerKey) (until_complete : Bool) (every : ℕ)
     (first : EngineView D) (events : List Event) (answers : List Answer) (last : Answer) (now : EngineView D)
-    → Session history honest faults dig key until_complete every first events answers last now
-    → RunsTo history honest faults dig first events answers now
+    → Session conduct dig key until_complete every first events answers last now
+    → RunsTo conduct dig first events answers now

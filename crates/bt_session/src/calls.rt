@@ -21,9 +21,9 @@ pub(crate) fn connect<D: Disk + Drop, H: NodeHash>(
     engine: &mut Engine<D, H>,
 ) -> Result<(PeerKey, Output), ConnectError>
     requires empty { engine.old.state.peers ≡ [] }
-    ensures step { StepsTo D.history D.honest D.faults H.digest engine.old Connect (Connected result)
+    ensures step { StepsTo D.conduct H.digest engine.old Connect (Connected result)
         engine.new }
-    ensures stands { Stands D.history D.honest D.faults engine.old engine.new }
+    ensures stands { Stands D.conduct engine.old engine.new }
     ensures alone { IfOk result (λ joined. IsAlone joined.0 engine.new.state) }
     ensures fit { AllFit (sent_by (Connected result)) }
     ensures kept { OnErr result (engine.new ≡ engine.old) }
@@ -40,7 +40,7 @@ pub(crate) fn feed<D: Disk + Drop, H: NodeHash>(
     bytes: &[u8],
 ) -> Result<(), EngineError>
     requires alone { IsAlone key engine.old.state }
-    ensures step { StepsTo D.history D.honest D.faults H.digest engine.old (Feed key bytes.now) (Fed result)
+    ensures step { StepsTo D.conduct H.digest engine.old (Feed key bytes.now) (Fed result)
         engine.new }
     ensures alone { IsAlone key engine.new.state }
     ensures refused { IfErr result (λ error. error ≡ OutOfMemory) }
@@ -54,7 +54,7 @@ pub(crate) fn next<D: Disk + Drop, H: NodeHash>(
     key: PeerKey,
 ) -> Result<Option<Output>, EngineError>
     requires alone { IsAlone key engine.old.state }
-    ensures step { StepsTo D.history D.honest D.faults H.digest engine.old (Next key) (Stepped result)
+    ensures step { StepsTo D.conduct H.digest engine.old (Next key) (Stepped result)
         engine.new }
     ensures leaves { LeavesPeer key engine.old.state result engine.new.state }
     ensures fit { AllFit (sent_by (Stepped result)) }
@@ -70,7 +70,7 @@ pub(crate) fn rechoke<D: Disk + Drop, H: NodeHash>(
     key: PeerKey,
 ) -> Result<Output, AllocError>
     requires alone { IsAlone key engine.old.state }
-    ensures step { StepsTo D.history D.honest D.faults H.digest engine.old Rechoke (Rechoked result)
+    ensures step { StepsTo D.conduct H.digest engine.old Rechoke (Rechoked result)
         engine.new }
     ensures alone { IsAlone key engine.new.state }
     ensures fit { AllFit (sent_by (Rechoked result)) }
@@ -86,7 +86,7 @@ pub(crate) fn flush<D: Disk + Drop, H: NodeHash>(
     key: PeerKey,
 ) -> Result<(), FlushError>
     requires alone { IsAlone key engine.old.state }
-    ensures step { StepsTo D.history D.honest D.faults H.digest engine.old Flush (Flushed result) engine.new }
+    ensures step { StepsTo D.conduct H.digest engine.old Flush (Flushed result) engine.new }
     ensures alone { IsAlone key engine.new.state }
 {
     engine.flush()
@@ -98,7 +98,7 @@ pub(crate) fn remove<D: Disk + Drop, H: NodeHash>(
     key: PeerKey,
 ) -> Result<(), EngineError>
     requires no_other { HasNoOther key engine.old.state }
-    ensures step { StepsTo D.history D.honest D.faults H.digest engine.old (Lost key) (LostAnswer result)
+    ensures step { StepsTo D.conduct H.digest engine.old (Lost key) (LostAnswer result)
         engine.new }
     ensures gone { engine.new.state.peers ≡ [] }
 {

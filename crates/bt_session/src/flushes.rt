@@ -19,7 +19,7 @@ pub(crate) fn flush_if_due<D: Disk + Drop, H: NodeHash>(
     taken: u64,
 ) -> Result<(), FlushError>
     requires alone { IsAlone partner.key engine.old.state }
-    ensures pause { IsPause D.history D.honest D.faults H.digest partner.key partner.until_complete
+    ensures pause { IsPause D.conduct H.digest partner.key partner.until_complete
         partner.flush_every taken engine.old result engine.new }
     ensures alone { IsAlone partner.key engine.new.state }
 {

@@ -11,7 +11,7 @@ use bt_tree::NodeHash;
 /// The events of a session are a run of its engine, one after the other, with the answers that it had. So
 /// what is said of every run is said of sessions too.
 pub fn sessions_are_runs<D: Disk, H: NodeHash>()
-    ensures { SessionsAreRuns D.history D.honest D.faults H.digest }
+    ensures { SessionsAreRuns D.conduct H.digest }
 {
     runs_compose::<D, H>();
 }
@@ -20,7 +20,7 @@ pub fn sessions_are_runs<D: Disk, H: NodeHash>()
 /// every image since a moment has of a marked block, and nothing of the text that every image of the log
 /// begins with. It does nothing when it runs.
 pub(crate) fn sessions_stand<D: Disk, H: NodeHash>(hash: H)
-    ensures { SessionsStand D.history D.honest D.faults H.digest }
+    ensures { SessionsStand D.conduct H.digest }
 {
     run_keeps_marks::<D, H>(hash);
     run_keeps_images::<D, H>(hash);

@@ -40,13 +40,13 @@ pub fn run_session<D: Disk + Drop, H: NodeHash, R: Read, W: Write>(
     turns: u64,
 ) -> Result<SessionEnd, ConnectError>
     requires no_peer { engine.old.state.peers ≡ [] }
-    ensures session { IfOk result (λ end. IsSession D.history D.honest D.faults H.digest until_complete turns
+    ensures session { IfOk result (λ end. IsSession D.conduct H.digest until_complete turns
         (place engine.old (R.remaining reader.old) (W.contents writer.old)) end
         (place engine.new (R.remaining reader.new) (W.contents writer.new))) }
-    ensures stands { Stands D.history D.honest D.faults engine.old engine.new }
+    ensures stands { Stands D.conduct engine.old engine.new }
     ensures gone { engine.new.state.peers ≡ [] }
     ensures refused { IfErr result (λ error.
-        StepsTo D.history D.honest D.faults H.digest engine.old Connect (Connected (Err error)) engine.new) }
+        StepsTo D.conduct H.digest engine.old Connect (Connected (Err error)) engine.new) }
     ensures kept { OnErr result (engine.new ≡ engine.old) }
     ensures unread { OnErr result (reader.new ≡ reader.old) }
     ensures unwritten { OnErr result (writer.new ≡ writer.old) }
@@ -74,14 +74,14 @@ pub fn run_session_with_flushes<D: Disk + Drop, H: NodeHash, R: Read, W: Write>(
     flush_every: u64,
 ) -> Result<Result<SessionEnd, FlushError>, ConnectError>
     requires no_peer { engine.old.state.peers ≡ [] }
-    ensures session { IfOk result (λ end. IsSessionWithFlushes D.history D.honest D.faults H.digest
+    ensures session { IfOk result (λ end. IsSessionWithFlushes D.conduct H.digest
         until_complete flush_every turns
         (place engine.old (R.remaining reader.old) (W.contents writer.old)) end
         (place engine.new (R.remaining reader.new) (W.contents writer.new))) }
-    ensures stands { Stands D.history D.honest D.faults engine.old engine.new }
+    ensures stands { Stands D.conduct engine.old engine.new }
     ensures gone { engine.new.state.peers ≡ [] }
     ensures refused { IfErr result (λ error.
-        StepsTo D.history D.honest D.faults H.digest engine.old Connect (Connected (Err error)) engine.new) }
+        StepsTo D.conduct H.digest engine.old Connect (Connected (Err error)) engine.new) }
     ensures kept { OnErr result (engine.new ≡ engine.old) }
     ensures unread { OnErr result (reader.new ≡ reader.old) }
     ensures unwritten { OnErr result (writer.new ≡ writer.old) }
@@ -115,9 +115,9 @@ fn converse<D: Disk + Drop, H: NodeHash, R: Read, W: Write>(
     requires alone { IsAlone partner.key engine.old.state }
     requires fit { AllFit greeting.now.send }
     ensures ends { (first : EngineView D)
-        → StepsTo D.history D.honest D.faults H.digest first Connect
+        → StepsTo D.conduct H.digest first Connect
         (Connected (Ok (partner.key, greeting.now))) engine.old
-        → HasEnded D.history D.honest D.faults H.digest partner.key partner.until_complete
+        → HasEnded D.conduct H.digest partner.key partner.until_complete
         partner.flush_every turns
         (place first (R.remaining reader.old) (W.contents writer.old)) result
         (place engine.new (R.remaining reader.new) (W.contents writer.new)) }
@@ -151,10 +151,10 @@ fn take_turns<D: Disk + Drop, H: NodeHash, R: Read, W: Write>(
 ) -> Result<SessionEnd, FlushError>
     requires alone { IsAlone partner.key engine.old.state }
     ensures ends { (first : Place D)
-        → GoesOn D.history D.honest D.faults H.digest partner.key partner.until_complete partner.flush_every
+        → GoesOn D.conduct H.digest partner.key partner.until_complete partner.flush_every
         (IsBetweenTurns partner.until_complete) first 0
         (place engine.old (R.remaining reader.old) (W.contents writer.old))
-        → HasEnded D.history D.honest D.faults H.digest partner.key partner.until_complete
+        → HasEnded D.conduct H.digest partner.key partner.until_complete
         partner.flush_every turns first result
         (place engine.new (R.remaining reader.new) (W.contents writer.new)) }
     ensures no_other { HasNoOther partner.key engine.new.state }

@@ -38,7 +38,7 @@ pub(crate) fn turn<D: Disk + Drop, H: NodeHash, R: Read, W: Write>(
     room: &mut Room,
 ) -> Result<(), SessionEnd>
     requires alone { IsAlone partner.key engine.old.state }
-    ensures part { IsPart D.history D.honest D.faults H.digest partner.key partner.until_complete
+    ensures part { IsPart D.conduct H.digest partner.key partner.until_complete
         (IsBetweenTurns partner.until_complete) (λ turns. turns + 1)
         (place engine.old (R.remaining reader.old) (W.contents writer.old)) result
         (λ _. IsTurnOver)
@@ -60,7 +60,7 @@ fn receive<D: Disk + Drop, H: NodeHash, R: Read>(
 ) -> Result<(), SessionEnd>
     requires alone { IsAlone partner.key engine.old.state }
     ensures part { (contents : Option (List ℕ))
-        → IsPart D.history D.honest D.faults H.digest partner.key partner.until_complete
+        → IsPart D.conduct H.digest partner.key partner.until_complete
         (IsBetweenTurns partner.until_complete) (λ turns. turns + 1)
         (place engine.old (R.remaining reader.old) contents) result
         (λ _. Awaits partner.key partner.until_complete (Next partner.key))
@@ -106,7 +106,7 @@ fn take_events<D: Disk + Drop, H: NodeHash, W: Write>(
 ) -> Result<(), SessionEnd>
     requires alone { IsAlone partner.key engine.old.state }
     ensures part { (remaining : Option (List ℕ))
-        → IsPart D.history D.honest D.faults H.digest partner.key partner.until_complete
+        → IsPart D.conduct H.digest partner.key partner.until_complete
         (Awaits partner.key partner.until_complete (Next partner.key)) (λ turns. turns)
         (place engine.old remaining (W.contents writer.old)) result
         (λ _. Awaits partner.key partner.until_complete Rechoke)
@@ -128,7 +128,7 @@ fn take_event<D: Disk + Drop, H: NodeHash, W: Write>(
 ) -> Result<bool, SessionEnd>
     requires alone { IsAlone partner.key engine.old.state }
     ensures part { (remaining : Option (List ℕ))
-        → IsPart D.history D.honest D.faults H.digest partner.key partner.until_complete
+        → IsPart D.conduct H.digest partner.key partner.until_complete
         (Awaits partner.key partner.until_complete (Next partner.key)) (λ turns. turns)
         (place engine.old remaining (W.contents writer.old)) result
         (λ more. Awaits partner.key partner.until_complete (event_after partner.key more))
@@ -176,7 +176,7 @@ fn choose<D: Disk + Drop, H: NodeHash, W: Write>(
 ) -> Result<(), SessionEnd>
     requires alone { IsAlone partner.key engine.old.state }
     ensures part { (remaining : Option (List ℕ))
-        → IsPart D.history D.honest D.faults H.digest partner.key partner.until_complete
+        → IsPart D.conduct H.digest partner.key partner.until_complete
         (Awaits partner.key partner.until_complete Rechoke) (λ turns. turns)
         (place engine.old remaining (W.contents writer.old)) result
         (λ _. IsTurnOver)

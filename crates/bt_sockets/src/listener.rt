@@ -102,12 +102,12 @@ pub fn serve<'a, D: Disk + Drop, H: NodeHash, R: Net + Clock>(
     passage: Passage<'a>,
 ) -> Result<PeerEnd, Fault>
     requires no_peer { engine.old.state.peers ≡ [] }
-    ensures served { IfOk result (λ end. IsServed D.history D.honest D.faults H.digest
+    ensures served { IfOk result (λ end. IsServed D.conduct H.digest
         (AreNew passage.entry.short_blocks.now)
         ⟦<StreamReader<'a, R::Stream, R> as Read>⟧.remaining
         ⟦<StreamWriter<'a, R::Stream, R> as Write>⟧.contents SESSION_TURNS engine.old end engine.new) }
     ensures gone { engine.new.state.peers ≡ [] }
-    ensures run { LeadsTo D.history D.honest D.faults H.digest engine.old engine.new }
+    ensures run { LeadsTo D.conduct H.digest engine.old engine.new }
     ensures refused { IfErr result (λ fault. fault ≡ device) }
     ensures kept { OnErr result (engine.new ≡ engine.old) }
 {

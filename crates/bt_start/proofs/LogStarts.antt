@@ -19,6 +19,7 @@ use Rattle.bt_state.specs.declared.parts.Parts.{Parts}
 use Rattle.bt_state.proofs.Lists.{get_mapped}
 use Rattle.bt_start.specs.WithLogSteps.{HaveBegunWith}
 use Rattle.bt_start.proofs.ProvenTrees.{proven_tied, proven_shaped}
+use Rattle.bt_disk.specs.Conduct.{Conduct}
 
 -- trees that were lent, and have taken proofs
 pub trees_then : {dig : List ℕ → List ℕ} {hints more : List Hint} (trees : Vec Facts) {lent made : List Facts} → lent ≡ trees.items
@@ -77,7 +78,7 @@ module _ {D H : Type 0} {dig : List ℕ → List ℕ} {torrent : Metainfo} {give
       subst (λ (p : Parts D H). AreDevicesOf torrent.files given (disks_of p)) (sym b.is)
       (subst (λ (t : Metainfo). AreDevicesOf t.files given (disks_of b.base)) b.same_torrent b.begun.devices)
 
-  module _ {history : D → History} {honest : D → Type 0} {faults : D → ℕ} {new : Parts D H} (recovers : RecoversFiles history honest faults dig logged new) where
+  module _ {conduct : Conduct D} {new : Parts D H} (recovers : RecoversFiles conduct dig logged new) where
     state_proven : state_of proven ≡ record (unopened b.base.torrent) { trees = b.trees.items; files = (state_of b.base).files; peers = []; pending = []; hints = held.log.hints }
     state_proven =
         ap (λ (s : EngineState). record s { trees = b.trees.items; logged = true; pending = held.pending.hints; hints = held.log.hints }) b.begun.starts.is
@@ -105,7 +106,7 @@ module _ {D H : Type 0} {dig : List ℕ → List ℕ} {torrent : Metainfo} {give
     starts_with = subst (λ (t : Metainfo). StartsWith dig t held.log.hints recovers.calls (state_of new)) b.same_torrent starts_base
 
     pub begins_with : held.log.infohash ≡ torrent.infohash → new.log ≡ Some held
-        → BeginsOn history honest faults dig torrent (disks_of parts) (Some held.log) (record { state = state_of new; disks = disks_of new; log = log_of new })
+        → BeginsOn conduct dig torrent (disks_of parts) (Some held.log) (record { state = state_of new; disks = disks_of new; log = log_of new })
     begins_with same kept =
         on_log held.log recovers.calls refl same starts_with recovers.made (ap (option_map (λ (h : OpenLog D). h.log)) kept)
 

@@ -39,7 +39,7 @@ pub(crate) fn start_bare<D: Disk + Drop, H: NodeHash>(
     disks: Vec<D>,
 ) -> Result<Parts<D, H>, StartRefused<D, ResumeLog<D>>>
     requires digest { H.digest ≡ sha256 }
-    ensures answer { AnswersStart D.history D.honest D.faults H.digest torrent disks.items None
+    ensures answer { AnswersStart D.conduct H.digest torrent disks.items None
         (answer_of result) }
     ensures tied { IfOk result (λ parts. IsTied parts) }
     ensures unlogged { IfOk result (λ parts. parts.log ≡ None) }
@@ -49,7 +49,7 @@ pub(crate) fn start_bare<D: Disk + Drop, H: NodeHash>(
     ensures rooted { IfOk result (λ parts. AreRooted H.digest (state_of parts)) }
     ensures sparse { IfOk result (λ parts. AreSparseTrees H.digest (state_of parts)) }
     ensures sound { IfOk result (λ parts.
-        IsSound D.history D.honest H.digest (state_of parts) (disks_of parts)) }
+        IsSound D.conduct H.digest (state_of parts) (disks_of parts)) }
 {
     starts_keep_laws::<D, H>(hash);
     if disks.len() != device_count(torrent.files()) {

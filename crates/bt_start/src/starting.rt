@@ -38,7 +38,7 @@ pub fn start<D: Disk + Drop, H: NodeHash>(
     log: Option<ResumeLog<D>>,
 ) -> Result<Parts<D, H>, StartRefused<D, ResumeLog<D>>>
     requires digest { H.digest ≡ sha256 }
-    ensures answer { AnswersStart D.history D.honest D.faults H.digest torrent disks.items log
+    ensures answer { AnswersStart D.conduct H.digest torrent disks.items log
         (answer_of result) }
     ensures tied { IfOk result (λ parts. IsTied parts) }
     ensures lawful { IfOk result (λ parts. IsLawful parts.torrent.piece_length parts.torrent.files) }
@@ -47,7 +47,7 @@ pub fn start<D: Disk + Drop, H: NodeHash>(
     ensures rooted { IfOk result (λ parts. AreRooted H.digest (state_of parts)) }
     ensures sparse { IfOk result (λ parts. AreSparseTrees H.digest (state_of parts)) }
     ensures sound { IfOk result (λ parts.
-        IsSound D.history D.honest H.digest (state_of parts) (disks_of parts)) }
+        IsSound D.conduct H.digest (state_of parts) (disks_of parts)) }
 {
     match log {
         None => start_bare(alloc, torrent, hash, disks),

@@ -43,7 +43,7 @@ pub(crate) fn start_with_log<D: Disk + Drop, H: NodeHash>(
     log: ResumeLog<D>,
 ) -> Result<Parts<D, H>, StartRefused<D, ResumeLog<D>>>
     requires digest { H.digest ≡ sha256 }
-    ensures answer { AnswersStart D.history D.honest D.faults H.digest torrent disks.items (Some log)
+    ensures answer { AnswersStart D.conduct H.digest torrent disks.items (Some log)
         (answer_of result) }
     ensures tied { IfOk result (λ parts. IsTied parts) }
     ensures lawful { IfOk result (λ parts. IsLawful parts.torrent.piece_length parts.torrent.files) }
@@ -52,7 +52,7 @@ pub(crate) fn start_with_log<D: Disk + Drop, H: NodeHash>(
     ensures rooted { IfOk result (λ parts. AreRooted H.digest (state_of parts)) }
     ensures sparse { IfOk result (λ parts. AreSparseTrees H.digest (state_of parts)) }
     ensures sound { IfOk result (λ parts.
-        IsSound D.history D.honest H.digest (state_of parts) (disks_of parts)) }
+        IsSound D.conduct H.digest (state_of parts) (disks_of parts)) }
 {
     starts_keep_laws::<D, H>(hash);
     if disks.len() != device_count(torrent.files()) {

@@ -6,6 +6,7 @@ use Rattle.bt_disk.specs.Calls.{HasCalls}
 use Rattle.bt_disk.proofs.CallLists.{has_none, has_then}
 use Rattle.std.proofs.lemmas.List.{map-append}
 use Rattle.bt_machine.specs.Devices.{DeviceCalls, calls_at, calls_of, HaveCalls}
+use Rattle.bt_disk.specs.Conduct.{Conduct}
 
 not_same : (i j : ℕ) → i ≢ j → (i == j) ≡ false
 not_same i j apart = by (i == j) refl
@@ -29,19 +30,19 @@ other_calls : (file i : ℕ) (calls : List Call) → file ≢ i → calls_of fil
 other_calls file i [] apart = refl
 other_calls file i (c ∷ calls) apart = rw (not_same i file (λ e. apart (sym e))) (other_calls file i calls apart)
 
-module _ {D : Type 0} (history : D → History) (honest : D → Type 0) (faults : D → ℕ) where
-  pub have_none : (disks : List (Option D)) → HaveCalls history honest faults disks [] disks
+module _ {D : Type 0} (conduct : Conduct D) where
+  pub have_none : (disks : List (Option D)) → HaveCalls conduct disks [] disks
   have_none disks = record {
     count = refl;
     none = λ file. (λ e. e, λ e. e);
     of_devices = λ file call c. absurd (omega (arith, c.1));
-    each = λ file after here. (after, here, has_none history honest faults after);
+    each = λ file after here. (after, here, has_none conduct after);
   }
 
   -- calls of the device of the file at i alone
   pub have_one : (disks : List (Option D)) (i : ℕ) (d e : D) (calls : List Call) → slice_get disks i ≡ Some (Some d)
-      → HasCalls history honest faults d calls e
-      → HaveCalls history honest faults disks (calls_at i calls) (slice_set disks i (Some e))
+      → HasCalls conduct d calls e
+      → HaveCalls conduct disks (calls_at i calls) (slice_set disks i (Some e))
   have_one disks i d e calls here has = record {
     count = length-set disks i (Some e);
     none = λ file. elim (same_or_not file i) [
@@ -65,12 +66,12 @@ module _ {D : Type 0} (history : D → History) (honest : D → Type 0) (faults 
           let now = set_same disks i {x = Some e} here in
           let is : e ≡ after = cc in
           let own = ap (λ f. calls_of f (calls_at i calls)) same ∙ own_calls i calls in
-          (d, ap (slice_get disks) same ∙ here, rw own (subst (λ x. HasCalls history honest faults d calls x) is has))
+          (d, ap (slice_get disks) same ∙ here, rw own (subst (λ x. HasCalls conduct d calls x) is has))
           )
       | inr apart ↦ (
         after,
         sym (set_other disks i file (Some e) apart) ∙ there,
-        rw (other_calls file i calls apart) (has_none history honest faults after),
+        rw (other_calls file i calls apart) (has_none conduct after),
       )
     ];
   }
@@ -94,8 +95,8 @@ module _ {D : Type 0} (history : D → History) (honest : D → Type 0) (faults 
       let there = get_some c file (omega arith) in
       there_by b c file none here there.0 there.1
 
-  pub have_then : (a b c : List (Option D)) (xs ys : DeviceCalls) → HaveCalls history honest faults a xs b
-      → HaveCalls history honest faults b ys c → HaveCalls history honest faults a (xs ++ ys) c
+  pub have_then : (a b c : List (Option D)) (xs ys : DeviceCalls) → HaveCalls conduct a xs b
+      → HaveCalls conduct b ys c → HaveCalls conduct a (xs ++ ys) c
   have_then a b c xs ys first more = record {
     count = more.count ∙ first.count;
     none = λ file. ((λ e. (more.none file).0 ((first.none file).0 e)), (λ e. (first.none file).1 ((more.none file).1 e)));
@@ -106,6 +107,6 @@ module _ {D : Type 0} (history : D → History) (honest : D → Type 0) (faults 
     each = λ file after there. (
         let m = more.each file after there in
         let l = first.each file m.0 m.1 in
-        (l.0, l.1, rw (calls_append file xs ys) (has_then history honest faults l.0 m.0 after (calls_of file xs) (calls_of file ys) l.2 m.2))
+        (l.0, l.1, rw (calls_append file xs ys) (has_then conduct l.0 m.0 after (calls_of file xs) (calls_of file ys) l.2 m.2))
         );
   }

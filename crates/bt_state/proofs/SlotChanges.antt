@@ -15,6 +15,7 @@ use Rattle.bt_state.specs.declared.slot.Slot.{Slot}
 use Rattle.bt_state.proofs.BlockChanges.{EachFits}
 use Rattle.bt_state.proofs.DeviceCalls.{have_one}
 use Rattle.bt_state.proofs.Lists.{get_mapped, map_set}
+use Rattle.bt_disk.specs.Conduct.{Conduct}
 
 -- ---- one block of a file, in a state of the machine
 
@@ -151,11 +152,11 @@ module _ {D H : Type 0} (slots : List (Slot D H)) (i : ℕ) {slot : Slot D H} {s
   disks_changed = map_set disk_of disk_of slots i (record slot { store = Some after }) (λ j x apart e. refl)
 
   -- calls of the store's device are calls of all devices
-  pub have_changed : (history : D → History) (honest : D → Type 0) (faults : D → ℕ) (calls : List Call)
-      → HasCalls history honest faults store.disk calls after.disk
-      → HaveCalls history honest faults (map disk_of slots) (calls_at i calls) (map disk_of changed)
-  have_changed history honest faults calls made =
-      rw disks_changed (have_one history honest faults (map disk_of slots) i store.disk after.disk calls disk_here made)
+  pub have_changed : (conduct : Conduct D) (calls : List Call)
+      → HasCalls conduct store.disk calls after.disk
+      → HaveCalls conduct (map disk_of slots) (calls_at i calls) (map disk_of changed)
+  have_changed conduct calls made =
+      rw disks_changed (have_one conduct (map disk_of slots) i store.disk after.disk calls disk_here made)
 
   pub fits_changed : {files : List File} {trees : List Facts} → after.file_length ≡ store.file_length → EachFits files trees slots
       → EachFits files trees changed

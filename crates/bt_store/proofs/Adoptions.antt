@@ -4,7 +4,7 @@ use Rattle.std.specs.List.{count_by}
 use Rattle.std.proofs.lemmas.List.{take-append-le}
 use Rattle.std.proofs.Math.Seq.{take-length}
 use Rattle.bt_tree.specs.Tree.{padding_digest}
-use Rattle.bt_disk.specs.History.{History}
+use Rattle.bt_disk.specs.Conduct.{Conduct}
 use Rattle.bt_disk.specs.Calls.{HasCalls}
 use Rattle.std.proofs.Math.Nat.{mod-lt}
 use Rattle.std.proofs.lemmas.Nat.{div-add-mod', pow_pos}
@@ -23,12 +23,12 @@ use Rattle.bt_store.specs.declared.block_states.BlockState.{BlockState}
 use Rattle.bt_store.specs.declared.groups.ReadTally.{ReadTally}
 use Rattle.bt_store.proofs.GroupReads.{group_size, group_limits}
 
-module _ {D : Type 0} (history : D → History) (honest : D → Type 0) (faults : D → ℕ) (dig : List ℕ → List ℕ) (k : Facts) (from anchor first count : ℕ)
+module _ {D : Type 0} (conduct : Conduct D) (dig : List ℕ → List ℕ) (k : Facts) (from anchor first count : ℕ)
     (old new : StoreView D) where
   -- nothing was read
-  pub stops_before : IsUnknownGroup k from anchor first count → StopsAdopting history honest faults dig k from old [] old
+  pub stops_before : IsUnknownGroup k from anchor first count → StopsAdopting conduct dig k from old [] old
   stops_before group = record {
-    calls = has_none history honest faults old.disk;
+    calls = has_none conduct old.disk;
     anchor = anchor;
     first = first;
     count = count;
@@ -37,10 +37,10 @@ module _ {D : Type 0} (history : D → History) (honest : D → Type 0) (faults 
     others = refl;
   }
 
-module _ {D : Type 0} (history : D → History) (honest : D → Type 0) (faults : D → ℕ) (dig : List ℕ → List ℕ) (k : Facts) (from anchor first count : ℕ)
+module _ {D : Type 0} (conduct : Conduct D) (dig : List ℕ → List ℕ) (k : Facts) (from anchor first count : ℕ)
     (old new : StoreView D) (reads : List BlockRead) (tally : ReadTally) (digests : List (List ℕ)) where
-  pub stops_after : IsUnknownGroup k from anchor first count → IsGroupRead history honest faults dig old.file_length first count (2 ^ anchor) old.disk reads tally new.disk digests
-      → new ≡ record old { disk = new.disk } → StopsAdopting history honest faults dig k from old reads new
+  pub stops_after : IsUnknownGroup k from anchor first count → IsGroupRead conduct dig old.file_length first count (2 ^ anchor) old.disk reads tally new.disk digests
+      → new ≡ record old { disk = new.disk } → StopsAdopting conduct dig k from old reads new
   stops_after group read others = record {
     calls = read.calls;
     anchor = anchor;
@@ -53,12 +53,12 @@ module _ {D : Type 0} (history : D → History) (honest : D → Type 0) (faults 
 
   -- what became of it
   pub adopts_by : (after : StoreView D) (adopted : Adopted) (grown : Facts) → IsUnknownGroup k from anchor first count
-      → IsGroupRead history honest faults dig old.file_length first count (2 ^ anchor) old.disk reads tally new.disk digests
+      → IsGroupRead conduct dig old.file_length first count (2 ^ anchor) old.disk reads tally new.disk digests
       → new ≡ record old { disk = new.disk } → after ≡ record new { states = after.states }
       → AdoptsGroup dig new.file_length k anchor first count new.states digests tally adopted grown after.states
-      → IsAdopted history honest faults dig k from old reads adopted grown after
+      → IsAdopted conduct dig k from old reads adopted grown after
   adopts_by after adopted grown group read others claimed adopts = record {
-    calls = subst (λ d. HasCalls history honest faults old.disk (map (call_of old.file_length) reads) d) (sym (ap (λ s. s.disk) claimed)) read.calls;
+    calls = subst (λ d. HasCalls conduct old.disk (map (call_of old.file_length) reads) d) (sym (ap (λ s. s.disk) claimed)) read.calls;
     adopts = subst (λ s. Adopts dig k from s reads adopted grown after.states) (ap (λ s. s.states) others)
         (adopts from reads group (subst (λ n. AreGroupReads dig n first count (2 ^ anchor) reads tally digests) (sym (ap (λ s. s.file_length) others)) read.are));
     same_file = ap (λ s. s.file_length) claimed ∙ ap (λ s. s.file_length) others;

@@ -7,7 +7,7 @@ use Rattle.std.specs.Result.{result_ok}
 use borrow.Rule.Slice.PartMut.{put_mid}
 use Rattle.bt_tree.specs.Blocks.{block_at, block_length}
 use Rattle.bt_disk.specs.Limits.{count_after, one_more}
-use Rattle.bt_disk.specs.History.{History}
+use Rattle.bt_disk.specs.Conduct.{Conduct}
 use Rattle.bt_disk.specs.Calls.{bytes_given, read_fault, HasCalls, IsAnswered, read_call}
 use Rattle.bt_disk.proofs.CallLists.{has_one, has_then, count_read}
 use Rattle.bt_store.specs.BlockReads.{given, failed, call_of}
@@ -60,18 +60,18 @@ written_by j k buffer out (Ok count) inside small within = part_written (j * 163
 written_by j k buffer out (Err e) inside small within = within
 
 -- one read more
-pub run_next : {D E : Type 0} (history : D → History) (honest : D → Type 0) (faults : D → ℕ) (n first j k : ℕ) (a b c : D) (counts : List (Option ℕ)) (buffer out : List ℕ) (r : Result ℕ E)
-    → HasCalls history honest faults a (map (call_of n) (batch_reads first counts buffer j)) b → j < length counts → j * 16384 ≤ length buffer
+pub run_next : {D E : Type 0} (conduct : Conduct D) (n first j k : ℕ) (a b c : D) (counts : List (Option ℕ)) (buffer out : List ℕ) (r : Result ℕ E)
+    → HasCalls conduct a (map (call_of n) (batch_reads first counts buffer j)) b → j < length counts → j * 16384 ≤ length buffer
     → length out ≡ block_length n (first + j) → IfOk r (λ count. count ≤ length out)
-    → faults c ≡ count_after (faults b) r → honest b ↔ honest c → (honest b → IsAnswered (history b) (read_call (16384 * (first + j)) out r) (history c))
-    → HasCalls history honest faults a (map (call_of n) (batch_reads first (set counts j (result_ok r)) (put_mid (j * 16384) k buffer out) (j + 1))) c
-run_next history honest faults n first j k a b c counts buffer out r made in_counts in_buffer size within counted as_honest answered =
+    → conduct.faults c ≡ count_after (conduct.faults b) r → conduct.honest b ↔ conduct.honest c → (conduct.honest b → IsAnswered (conduct.history b) (read_call (16384 * (first + j)) out r) (conduct.history c))
+    → HasCalls conduct a (map (call_of n) (batch_reads first (set counts j (result_ok r)) (put_mid (j * 16384) k buffer out) (j + 1))) c
+run_next conduct n first j k a b c counts buffer out r made in_counts in_buffer size within counted as_honest answered =
     let call = read_call (16384 * (first + j)) out r in
     let after = set counts j (result_ok r) in
     let pasted = put_mid (j * 16384) k buffer out in
-    let one : HasCalls history honest faults b (call ∷ []) c =
-    has_one history honest faults b call c (counted ∙ count_read (faults b) (16384 * (first + j)) out r) as_honest answered in
-    let both : HasCalls history honest faults a (map (call_of n) (batch_reads first counts buffer j) ++ call ∷ []) c = has_then history honest faults a b c _ _ made one in
+    let one : HasCalls conduct b (call ∷ []) c =
+    has_one conduct b call c (counted ∙ count_read (conduct.faults b) (16384 * (first + j)) out r) as_honest answered in
+    let both : HasCalls conduct a (map (call_of n) (batch_reads first counts buffer j) ++ call ∷ []) c = has_then conduct a b c _ _ made one in
     let kept : batch_reads first after pasted j ≡ batch_reads first counts buffer j =
     reads_kept first counts after buffer pasted j (λ t lt. get_or-set_other counts j t (result_ok r) None (λ e. absurd (omega arith)))
     (λ t lt. part_kept (j * 16384) k buffer out t (omega arith) in_buffer) in
@@ -83,7 +83,7 @@ run_next history honest faults n first j k a b c counts buffer out r made in_cou
     ap (λ m. map (call_of n) (batch_reads first after pasted m)) (add-one j) ∙ ap (map (call_of n)) (reads_more first after pasted j) ∙ map-append (call_of n) _ _
     ∙ ap (λ xs. map (call_of n) xs ++ call_of n (read_of (first + j) (get_or after j None) (block_at pasted j)) ∷ []) kept
     ∙ ap (λ x. map (call_of n) (batch_reads first counts buffer j) ++ x ∷ []) same in
-    subst (λ xs. HasCalls history honest faults a xs c) (sym all) both
+    subst (λ xs. HasCalls conduct a xs c) (sym all) both
 
 -- a part of the buffer, as code cuts it out
 pub part_is : (j : ℕ) (buffer : List ℕ) → take (j * 16384 + 16384 - j * 16384) (drop (j * 16384) buffer) ≡ block_at buffer j
@@ -104,16 +104,16 @@ given_within n out (Err e) size within = within
 
 -- ---- one block alone
 
-module _ {D : Type 0} (history : D → History) (honest : D → Type 0) (faults : D → ℕ) (n i : ℕ) (b c : D) (out : List ℕ) where
-  pub one_given : (count : ℕ) → length out ≡ block_length n i → faults c ≡ faults b → honest b ↔ honest c
-      → (honest b → IsAnswered (history b) (bytes_given (16384 * i) (length out) (take count out)) (history c))
-      → HasCalls history honest faults b (call_of n (given i (take count out)) ∷ []) c
+module _ {D : Type 0} (conduct : Conduct D) (n i : ℕ) (b c : D) (out : List ℕ) where
+  pub one_given : (count : ℕ) → length out ≡ block_length n i → conduct.faults c ≡ conduct.faults b → conduct.honest b ↔ conduct.honest c
+      → (conduct.honest b → IsAnswered (conduct.history b) (bytes_given (16384 * i) (length out) (take count out)) (conduct.history c))
+      → HasCalls conduct b (call_of n (given i (take count out)) ∷ []) c
   one_given count size counted as_honest answered =
-      has_one history honest faults b (call_of n (given i (take count out))) c counted as_honest
-      (λ h. subst (λ l. IsAnswered (history b) (bytes_given (16384 * i) l (take count out)) (history c)) size (answered h))
+      has_one conduct b (call_of n (given i (take count out))) c counted as_honest
+      (λ h. subst (λ l. IsAnswered (conduct.history b) (bytes_given (16384 * i) l (take count out)) (conduct.history c)) size (answered h))
 
-  pub one_failed : length out ≡ block_length n i → faults c ≡ one_more (faults b) → honest b ↔ honest c
-      → (honest b → IsAnswered (history b) (read_fault (16384 * i) (length out)) (history c)) → HasCalls history honest faults b (call_of n (failed i) ∷ []) c
+  pub one_failed : length out ≡ block_length n i → conduct.faults c ≡ one_more (conduct.faults b) → conduct.honest b ↔ conduct.honest c
+      → (conduct.honest b → IsAnswered (conduct.history b) (read_fault (16384 * i) (length out)) (conduct.history c)) → HasCalls conduct b (call_of n (failed i) ∷ []) c
   one_failed size counted as_honest answered =
-      has_one history honest faults b (call_of n (failed i)) c counted as_honest
-      (λ h. subst (λ l. IsAnswered (history b) (read_fault (16384 * i) l) (history c)) size (answered h))
+      has_one conduct b (call_of n (failed i)) c counted as_honest
+      (λ h. subst (λ l. IsAnswered (conduct.history b) (read_fault (16384 * i) l) (conduct.history c)) size (answered h))

@@ -7,7 +7,7 @@ use Rattle.std.proofs.lemmas.List.FromFn.{length-range_with_len}
 use Rattle.std.proofs.lemmas.List.Sums.{sum_by_push, sum_by-append, count_by-le-length}
 use Rattle.bt_tree.specs.Blocks.{block_length, block_at}
 use Rattle.bt_tree.specs.Tree.{padding_digest}
-use Rattle.bt_disk.specs.History.{History}
+use Rattle.bt_disk.specs.Conduct.{Conduct}
 use Rattle.bt_disk.specs.Calls.{HasCalls}
 use Rattle.bt_disk.proofs.CallLists.{has_none, has_then}
 use Rattle.bt_store.specs.BlockReads.{BlockRead, block_of, call_of, is_fault, fault_count}
@@ -225,20 +225,20 @@ module _ (dig : List ℕ → List ℕ) (n first width : ℕ) where
       subst (λ k. AreGroupReads dig n first k width (batch_reads first counts buffer m) (counted_found blocks_found m none) (noted_found 0 blocks_found m digests)) all
       (subst (λ f. AreGroupReads dig n first (0 + m) width (batch_reads f counts buffer m) (counted_found blocks_found m none) (noted_found 0 blocks_found m digests)) start made)
 
-module _ {D : Type 0} (history : D → History) (honest : D → Type 0) (faults : D → ℕ) (dig : List ℕ → List ℕ) (n first width : ℕ) where
+module _ {D : Type 0} (conduct : Conduct D) (dig : List ℕ → List ℕ) (n first width : ℕ) where
   pub group_start : (a : D) (digests : List (List ℕ)) → digests ≡ replicate width (padding_digest dig 0)
-      → IsGroupRead history honest faults dig n first 0 width a [] (record { whole = 0; faults = 0 }) a digests
-  group_start a digests padded = record { calls = has_none history honest faults a; are = reads_none_yet dig n first width digests padded }
+      → IsGroupRead conduct dig n first 0 width a [] (record { whole = 0; faults = 0 }) a digests
+  group_start a digests padded = record { calls = has_none conduct a; are = reads_none_yet dig n first width digests padded }
 
   pub group_next : (done m : ℕ) (a b c : D) (reads : List BlockRead) (tally : ReadTally) (digests : List (List ℕ)) (counts : List (Option ℕ)) (buffer : List ℕ) (blocks_found : List BlockFound)
-      → IsGroupRead history honest faults dig n first done width a reads tally b digests → done + m ≤ width
-      → HasCalls history honest faults b (map (call_of n) (batch_reads (first + done) counts buffer m)) c
+      → IsGroupRead conduct dig n first done width a reads tally b digests → done + m ≤ width
+      → HasCalls conduct b (map (call_of n) (batch_reads (first + done) counts buffer m)) c
       → IsWithinParts counts buffer m → AreFound dig n (first + done) counts buffer blocks_found m
-      → IsGroupRead history honest faults dig n first (done + m) width a (reads ++ batch_reads (first + done) counts buffer m) (counted_found blocks_found m tally) c
+      → IsGroupRead conduct dig n first (done + m) width a (reads ++ batch_reads (first + done) counts buffer m) (counted_found blocks_found m tally) c
       (noted_found done blocks_found m digests)
   group_next done m a b c reads tally digests counts buffer blocks_found before fits calls within found =
       let more = batch_reads (first + done) counts buffer m in
       record {
-        calls = subst (λ l. HasCalls history honest faults a l c) (sym (map-append (call_of n) reads more)) (has_then history honest faults a b c _ _ before.calls calls);
+        calls = subst (λ l. HasCalls conduct a l c) (sym (map-append (call_of n) reads more)) (has_then conduct a b c _ _ before.calls calls);
         are = reads_more_of dig n first width done m reads tally digests counts buffer blocks_found before.are fits within found;
       }

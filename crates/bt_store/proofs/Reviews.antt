@@ -6,7 +6,7 @@ use Rattle.std.specs.List.{count_by, range_with_len}
 use Rattle.std.proofs.lemmas.List.{map-append}
 use Rattle.std.proofs.lemmas.List.Elements.{filter-append}
 use Rattle.std.proofs.lemmas.List.Sums.{sum_by-append, sum_by-cons}
-use Rattle.bt_disk.specs.History.{History}
+use Rattle.bt_disk.specs.Conduct.{Conduct}
 use Rattle.bt_disk.specs.Calls.{HasCalls}
 use Rattle.bt_disk.proofs.CallLists.{has_none, has_then}
 use Rattle.bt_sparse.specs.SparseTree.{Facts, value_at}
@@ -97,17 +97,17 @@ past_kept dig k forgiving (read ∷ reads) states i (suc n) j blocks past =
 
 -- ---- from batch to batch
 
-module _ {D : Type 0} (history : D → History) (honest : D → Type 0) (faults : D → ℕ) (dig : List ℕ → List ℕ) (k : Facts) where
+module _ {D : Type 0} (conduct : Conduct D) (dig : List ℕ → List ℕ) (k : Facts) where
   -- some blocks, and then others
-  judged_then : (forgiving : Bool) (a b c : StoreView D) (bs cs : List ℕ) (xs ys : List BlockRead) → IsJudged history honest faults dig k forgiving bs a xs b
-      → IsJudged history honest faults dig k forgiving cs b ys c → IsJudged history honest faults dig k forgiving (bs ++ cs) a (xs ++ ys) c
+  judged_then : (forgiving : Bool) (a b c : StoreView D) (bs cs : List ℕ) (xs ys : List BlockRead) → IsJudged conduct dig k forgiving bs a xs b
+      → IsJudged conduct dig k forgiving cs b ys c → IsJudged conduct dig k forgiving (bs ++ cs) a (xs ++ ys) c
   judged_then forgiving a b c bs cs xs ys f g =
-      let calls = subst (λ n. HasCalls history honest faults b.disk (map (call_of n) ys) c.disk) f.same_file g.device.calls in
+      let calls = subst (λ n. HasCalls conduct b.disk (map (call_of n) ys) c.disk) f.same_file g.device.calls in
       record {
         device = record {
           in_order = map-append block_of xs ys ∙ ap (λ l. l ++ map block_of ys) f.device.in_order ∙ ap (λ l. bs ++ l) g.device.in_order;
-          calls = subst (λ l. HasCalls history honest faults a.disk l c.disk) (sym (map-append (call_of a.file_length) xs ys))
-              (has_then history honest faults a.disk b.disk c.disk _ _ f.device.calls calls);
+          calls = subst (λ l. HasCalls conduct a.disk l c.disk) (sym (map-append (call_of a.file_length) xs ys))
+              (has_then conduct a.disk b.disk c.disk _ _ f.device.calls calls);
         };
         states = g.states ∙ ap (judged dig k forgiving ys) f.states ∙ sym (judged-append dig k forgiving xs ys a.states);
         same_file = g.same_file ∙ f.same_file;
@@ -116,7 +116,7 @@ module _ {D : Type 0} (history : D → History) (honest : D → Type 0) (faults 
   -- the chosen blocks up to one were judged, and those from there on are as they were
   pub record IsReviewedTo (review : Review) (from at : ℕ) (old new : StoreView D) (tally : Tally) : Type 0 where
     pub reads : List BlockRead
-    pub judged : IsJudged history honest faults dig k (forgives review) (chosen_blocks dig k review old.states from (at - from)) old reads new
+    pub judged : IsJudged conduct dig k (forgives review) (chosen_blocks dig k review old.states from (at - from)) old reads new
     pub counts : IsTallyOf dig k reads tally
     pub few : tally_sum tally ≤ at - from
     pub low : from ≤ at
@@ -128,7 +128,7 @@ module _ {D : Type 0} (history : D → History) (honest : D → Type 0) (faults 
       record {
         reads = [];
         judged = record {
-          device = record { in_order = ap (chosen_blocks dig k review s.states from) (sym none); calls = has_none history honest faults s.disk };
+          device = record { in_order = ap (chosen_blocks dig k review s.states from) (sym none); calls = has_none conduct s.disk };
           states = refl;
           same_file = refl;
         };
@@ -157,7 +157,7 @@ module _ {D : Type 0} (history : D → History) (honest : D → Type 0) (faults 
       ∙ ap (λ l. chosen_blocks dig k review old.states from (at - from) ++ l) (filter_out (is_chosen dig k review old.states) at not_chosen) ∙ append-nil _ in
       record {
         reads = before.reads;
-        judged = subst (λ l. IsJudged history honest faults dig k (forgives review) l old before.reads new) (sym same) before.judged;
+        judged = subst (λ l. IsJudged conduct dig k (forgives review) l old before.reads new) (sym same) before.judged;
         counts = before.counts;
         few = omega (arith, before.few, before.low);
         low = omega (arith, before.low);
@@ -165,7 +165,7 @@ module _ {D : Type 0} (history : D → History) (honest : D → Type 0) (faults 
       }
 
   pub reviewed_batch : (review : Review) (from at n : ℕ) (a b c : StoreView D) (tally run total : Tally) (more : List BlockRead) → IsReviewedTo review from at a b tally
-      → ((j : ℕ) → j < n → is_chosen dig k review b.states (at + j) ≡ true) → IsJudged history honest faults dig k (forgives review) (range_with_len at n) b more c
+      → ((j : ℕ) → j < n → is_chosen dig k review b.states (at + j) ≡ true) → IsJudged conduct dig k (forgives review) (range_with_len at n) b more c
       → IsTallyOf dig k more run → tally_sum run ≡ n → total.right ≡ tally.right + run.right → total.wrong ≡ tally.wrong + run.wrong → total.faults ≡ tally.faults + run.faults
       → IsReviewedTo review from (at + n) a c total
   reviewed_batch review from at n a b c tally run total more before chosen judged counts sum right wrong faulty =
@@ -177,7 +177,7 @@ module _ {D : Type 0} (history : D → History) (honest : D → Type 0) (faults 
       let both = judged_then (forgives review) a b c _ _ before.reads more before.judged judged in
       record {
         reads = before.reads ++ more;
-        judged = subst (λ l. IsJudged history honest faults dig k (forgives review) l a (before.reads ++ more) c) (sym blocks) both;
+        judged = subst (λ l. IsJudged conduct dig k (forgives review) l a (before.reads ++ more) c) (sym blocks) both;
         counts = record {
           right = omega (arith, right, before.counts.right, counts.right, sum_by-append (λ x. cond (is_right_read dig k x) 1 0) before.reads more);
           wrong = omega (arith, wrong, before.counts.wrong, counts.wrong, sum_by-append (λ x. cond (is_wrong_read dig k x) 1 0) before.reads more);

@@ -6,7 +6,7 @@ use Rattle.std.proofs.lemmas.Bool.{cases_Bool}
 use Rattle.std.proofs.lemmas.List.{length-take-le}
 use Rattle.bt_tree.specs.Blocks.{block_length}
 use Rattle.bt_sparse.specs.SparseTree.{Facts, value_at}
-use Rattle.bt_disk.specs.History.{History}
+use Rattle.bt_disk.specs.Conduct.{Conduct}
 use Rattle.bt_disk.specs.Calls.{HasCalls}
 use Rattle.bt_store.specs.FileStore.{StoreView}
 use Rattle.bt_store.specs.BlockReads.{BlockRead, given, call_of, is_leaf, is_right, IsRight}
@@ -74,19 +74,19 @@ module _ (dig : List ℕ → List ℕ) (k : Facts) (i : ℕ) (out : List ℕ) wh
       → Restores dig k i states (read ∷ []) (Err Device) states
   restores_none lost fault = not_read lost
 
-moved : {D : Type 0} (history : D → History) (honest : D → Type 0) (faults : D → ℕ) (m n : ℕ) (a c b : D) (read : BlockRead) → a ≡ c → m ≡ n
-    → HasCalls history honest faults a (call_of m read ∷ []) b → HasCalls history honest faults c (call_of n read ∷ []) b
-moved history honest faults m n a c b read disk size made =
-    subst (λ d. HasCalls history honest faults d (call_of n read ∷ []) b) disk (subst (λ l. HasCalls history honest faults a (call_of l read ∷ []) b) size made)
+moved : {D : Type 0} (conduct : Conduct D) (m n : ℕ) (a c b : D) (read : BlockRead) → a ≡ c → m ≡ n
+    → HasCalls conduct a (call_of m read ∷ []) b → HasCalls conduct c (call_of n read ∷ []) b
+moved conduct m n a c b read disk size made =
+    subst (λ d. HasCalls conduct d (call_of n read ∷ []) b) disk (subst (λ l. HasCalls conduct a (call_of l read ∷ []) b) size made)
 
 -- with the read's call of the device, in a store that is seen so
-module _ {D : Type 0} (history : D → History) (honest : D → Type 0) (faults : D → ℕ) (dig : List ℕ → List ℕ) (k : Facts) (i : ℕ) {n : ℕ} {a b : D}
+module _ {D : Type 0} (conduct : Conduct D) (dig : List ℕ → List ℕ) (k : Facts) (i : ℕ) {n : ℕ} {a b : D}
     {old new after : List BlockState} {s : StoreView D} {read : BlockRead} (view : record { file_length = n; disk = a; states = old } ≡ s)
-    (same : k.file_length ≡ s.file_length) (made : HasCalls history honest faults a (call_of k.file_length read ∷ []) b) (states : after ≡ new) where
+    (same : k.file_length ≡ s.file_length) (made : HasCalls conduct a (call_of k.file_length read ∷ []) b) (states : after ≡ new) where
   pub is_lent : {out : List ℕ} {answer : Result ℕ ReadError} → Lends dig k i out s.states (read ∷ []) answer new
-      → (reads : List BlockRead) × IsLent history honest faults dig k i out s reads answer (record { file_length = n; disk = b; states = after })
-  is_lent lends = (read ∷ [], record { calls = moved history honest faults k.file_length s.file_length a s.disk b read (ap (λ (t : StoreView D). t.disk) view) same made; answer = rw states lends; same_file = ap (λ (t : StoreView D). t.file_length) view })
+      → (reads : List BlockRead) × IsLent conduct dig k i out s reads answer (record { file_length = n; disk = b; states = after })
+  is_lent lends = (read ∷ [], record { calls = moved conduct k.file_length s.file_length a s.disk b read (ap (λ (t : StoreView D). t.disk) view) same made; answer = rw states lends; same_file = ap (λ (t : StoreView D). t.file_length) view })
 
   pub is_restored : {answer : Result Bool StoreError} → Restores dig k i s.states (read ∷ []) answer new
-      → (reads : List BlockRead) × IsRestored history honest faults dig k i s reads answer (record { file_length = n; disk = b; states = after })
-  is_restored restores = (read ∷ [], record { calls = moved history honest faults k.file_length s.file_length a s.disk b read (ap (λ (t : StoreView D). t.disk) view) same made; answer = rw states restores; same_file = ap (λ (t : StoreView D). t.file_length) view })
+      → (reads : List BlockRead) × IsRestored conduct dig k i s reads answer (record { file_length = n; disk = b; states = after })
+  is_restored restores = (read ∷ [], record { calls = moved conduct k.file_length s.file_length a s.disk b read (ap (λ (t : StoreView D). t.disk) view) same made; answer = rw states restores; same_file = ap (λ (t : StoreView D). t.file_length) view })

@@ -10,7 +10,7 @@ use Rattle.bt_tree.specs.Blocks.{block_at, block_count}
 use Rattle.bt_tree.specs.Tree.{padding_digest}
 use Rattle.bt_tree.specs.TreeShape.{height_of}
 use Rattle.bt_tree.proofs.TreeShape.{height_is, same_height, le_from_pow}
-use Rattle.bt_disk.specs.History.{History}
+use Rattle.bt_disk.specs.Conduct.{Conduct}
 use Rattle.bt_disk.specs.Calls.{HasCalls}
 use Rattle.bt_sparse.specs.SparseTree.{Facts, blocks_of, height, held_at}
 use Rattle.bt_sparse.specs.Anchor.{IsAnchor}
@@ -422,11 +422,11 @@ module _ {D : Type 0} (dig : List ℕ → List ℕ) (k : Facts) (from anchor cou
 
 -- ---- a batch as a whole
 
-module _ {D : Type 0} (history : D → History) (honest : D → Type 0) (faults : D → ℕ) (dig : List ℕ → List ℕ) (k grown : Facts) (from count : ℕ) (old mid new : StoreView D)
-    (blocks_found : List BlockFound) (read : IsBatchRead history honest faults dig old.file_length from blocks_found count old.disk mid.disk)
+module _ {D : Type 0} (conduct : Conduct D) (dig : List ℕ → List ℕ) (k grown : Facts) (from count : ℕ) (old mid new : StoreView D)
+    (blocks_found : List BlockFound) (read : IsBatchRead conduct dig old.file_length from blocks_found count old.disk mid.disk)
     (others : mid ≡ record old { disk = mid.disk }) (after : new ≡ record mid { states = new.states }) where
-  made : HasCalls history honest faults old.disk (map (call_of old.file_length) (batch_reads from read.counts read.buffer count)) new.disk
-  made = subst (HasCalls history honest faults old.disk (map (call_of old.file_length) (batch_reads from read.counts read.buffer count))) (sym (ap (λ s. s.disk) after)) read.calls
+  made : HasCalls conduct old.disk (map (call_of old.file_length) (batch_reads from read.counts read.buffer count)) new.disk
+  made = subst (HasCalls conduct old.disk (map (call_of old.file_length) (batch_reads from read.counts read.buffer count))) (sym (ap (λ s. s.disk) after)) read.calls
 
   are_here : AreRead dig mid.file_length from blocks_found count read.counts read.buffer
   are_here = subst (λ n. AreRead dig n from blocks_found count read.counts read.buffer) (sym (ap (λ s. s.file_length) others)) read.are
@@ -435,7 +435,7 @@ module _ {D : Type 0} (history : D → History) (honest : D → Type 0) (faults 
   same = ap (λ s. s.file_length) after ∙ ap (λ s. s.file_length) others
 
   pub batch_adopted : (adopted : AdoptedGroups) → AdoptsBatch dig mid.file_length k from count mid.states blocks_found adopted grown new.states
-      → AreAdopted history honest faults dig k from old (batch_reads from read.counts read.buffer count) adopted grown new
+      → AreAdopted conduct dig k from old (batch_reads from read.counts read.buffer count) adopted grown new
   batch_adopted adopted adopts = record {
     calls = made;
     adopts = subst (λ s. AdoptsInTurn dig k from s (batch_reads from read.counts read.buffer count) adopted grown new.states) (ap (λ s. s.states) others)
@@ -444,7 +444,7 @@ module _ {D : Type 0} (history : D → History) (honest : D → Type 0) (faults 
   }
 
   pub batch_stopped : StopsBatch dig mid.file_length k from count mid.states blocks_found grown new.states
-      → StopsInTurn history honest faults dig k from old (batch_reads from read.counts read.buffer count) grown new
+      → StopsInTurn conduct dig k from old (batch_reads from read.counts read.buffer count) grown new
   batch_stopped stops = record {
     calls = made;
     stops = subst (λ s. StopsAmong dig k from s (batch_reads from read.counts read.buffer count) grown new.states) (ap (λ s. s.states) others)
@@ -454,9 +454,9 @@ module _ {D : Type 0} (history : D → History) (honest : D → Type 0) (faults 
 
 -- ---- one group alone
 
-module _ {D : Type 0} (history : D → History) (honest : D → Type 0) (faults : D → ℕ) (dig : List ℕ → List ℕ) (k grown : Facts) (from : ℕ) (old new : StoreView D) (reads : List BlockRead) where
-  pub alone_adopted : (one : Adopted) → from < blocks_of k → IsAdopted history honest faults dig k from old reads one grown new
-      → AreAdopted history honest faults dig k from old reads (record { next = one.next; marked = one.marked; faults = one.faults }) grown new
+module _ {D : Type 0} (conduct : Conduct D) (dig : List ℕ → List ℕ) (k grown : Facts) (from : ℕ) (old new : StoreView D) (reads : List BlockRead) where
+  pub alone_adopted : (one : Adopted) → from < blocks_of k → IsAdopted conduct dig k from old reads one grown new
+      → AreAdopted conduct dig k from old reads (record { next = one.next; marked = one.marked; faults = one.faults }) grown new
   alone_adopted one real is =
       let marked : 0 + one.marked ≡ one.marked = omega arith in
       let faulty : 0 + one.faults ≡ one.faults = omega arith in
@@ -468,7 +468,7 @@ module _ {D : Type 0} (history : D → History) (honest : D → Type 0) (faults 
         same_file = is.same_file;
       }
 
-  pub alone_stopped : StopsAdopting history honest faults dig k from old reads new → StopsInTurn history honest faults dig k from old reads k new
+  pub alone_stopped : StopsAdopting conduct dig k from old reads new → StopsInTurn conduct dig k from old reads k new
   alone_stopped is = record {
     calls = is.calls;
     stops = record {

@@ -3,7 +3,7 @@ use Rattle.std.specs.Prelude.{◌≡◌, ◌≢◌, ℕ, zero, suc, ◌+◌, ◌
 use Rattle.std.specs.List.{count_by, range_with_len}
 use Rattle.bt_tree.specs.Blocks.{block_length}
 use Rattle.bt_tree.specs.Tree.{padding_digest}
-use Rattle.bt_disk.specs.History.{History}
+use Rattle.bt_disk.specs.Conduct.{Conduct}
 use Rattle.bt_disk.specs.Calls.{HasCalls}
 use Rattle.bt_sparse.specs.SparseTree.{Facts, blocks_of, value_at}
 use Rattle.bt_sparse.specs.Anchor.{IsAnchor}
@@ -103,19 +103,19 @@ pub data Adopts (dig : List ℕ → List ℕ) (k : Facts) (from : ℕ) (states :
       (record { next = first + count; anchor = 0; marked = 0; faults = fault_count reads }) k states
 
 -- these reads were made, no other call failed or changed an honest device, and the rest is what `Adopts` says
-pub record IsAdopted {D : Type 0} (history : D → History) (honest : D → Type 0) (faults : D → ℕ)
+pub record IsAdopted {D : Type 0} (conduct : Conduct D)
     (dig : List ℕ → List ℕ) (k : Facts) (from : ℕ) (old : StoreView D) (reads : List BlockRead)
     (adopted : Adopted) (grown : Facts) (new : StoreView D) : Type 0 where
-  pub calls : HasCalls history honest faults old.disk (map (call_of old.file_length) reads) new.disk
+  pub calls : HasCalls conduct old.disk (map (call_of old.file_length) reads) new.disk
   pub adopts : Adopts dig k from old.states reads adopted grown new.states
   pub same_file : new.file_length ≡ old.file_length
 
 -- memory was refused, which only blocks below a held node take: they were read or they were not, no other
 -- call failed or changed an honest device, and nothing else changed
-pub record StopsAdopting {D : Type 0} (history : D → History) (honest : D → Type 0) (faults : D → ℕ)
+pub record StopsAdopting {D : Type 0} (conduct : Conduct D)
     (dig : List ℕ → List ℕ) (k : Facts) (from : ℕ) (old : StoreView D) (reads : List BlockRead)
     (new : StoreView D) : Type 0 where
-  pub calls : HasCalls history honest faults old.disk (map (call_of old.file_length) reads) new.disk
+  pub calls : HasCalls conduct old.disk (map (call_of old.file_length) reads) new.disk
   pub anchor : ℕ
   pub first : ℕ
   pub count : ℕ

@@ -4,7 +4,7 @@ use Rattle.std.specs.List.{count_by}
 use Rattle.std.specs.Cmp.Lexicographic.{pointwise}
 use Rattle.bt_tree.specs.Limits.{full_block_length}
 use Rattle.bt_tree.specs.Blocks.{block_length}
-use Rattle.bt_disk.specs.History.{History}
+use Rattle.bt_disk.specs.Conduct.{Conduct}
 use Rattle.bt_disk.specs.Calls.{Call, bytes_given, read_fault, HasCalls}
 use Rattle.bt_sparse.specs.SparseTree.{Facts, value_at}
 use Rattle.bt_store.specs.FileStore.{StoreView}
@@ -27,10 +27,10 @@ call_of n (failed i) = read_fault (full_block_length * i) (block_length n i)
 
 -- Between old and new these blocks were read, and no other call failed or changed an honest device. A read
 -- that succeeds leaves no trace, so how many there were, and in which order, is not said.
-pub record AreReads {D : Type 0} (history : D → History) (honest : D → Type 0) (faults : D → ℕ) (n : ℕ)
+pub record AreReads {D : Type 0} (conduct : Conduct D) (n : ℕ)
     (blocks : List ℕ) (old : D) (reads : List BlockRead) (new : D) : Type 0 where
   pub in_order : map block_of reads ≡ blocks
-  pub calls : HasCalls history honest faults old (map (call_of n) reads) new
+  pub calls : HasCalls conduct old (map (call_of n) reads) new
 
 -- a leaf that is known and this digest are the same
 abbrev pub is_leaf : Option (List ℕ) → List ℕ → Bool
@@ -63,10 +63,10 @@ judged dig k forgiving (read ∷ reads) states =
     judged dig k forgiving reads (after_read dig k forgiving read states)
 
 -- These blocks were read and judged; the file's length stays.
-pub record IsJudged {D : Type 0} (history : D → History) (honest : D → Type 0) (faults : D → ℕ)
+pub record IsJudged {D : Type 0} (conduct : Conduct D)
     (dig : List ℕ → List ℕ) (k : Facts) (forgiving : Bool) (blocks : List ℕ)
     (old : StoreView D) (reads : List BlockRead) (new : StoreView D) : Type 0 where
-  pub device : AreReads history honest faults old.file_length blocks old.disk reads new.disk
+  pub device : AreReads conduct old.file_length blocks old.disk reads new.disk
   pub states : new.states ≡ judged dig k forgiving reads old.states
   pub same_file : new.file_length ≡ old.file_length
 

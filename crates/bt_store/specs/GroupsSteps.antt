@@ -2,7 +2,7 @@
 use Rattle.std.specs.Prelude.{◌≡◌, ℕ, zero, suc, ◌+◌, ◌-◌, List, ◌++◌, map, replicate, slice_set, slice_index_or}
 use Rattle.std.specs.List.{count_by, range_with_len}
 use Rattle.bt_tree.specs.Tree.{padding_digest}
-use Rattle.bt_disk.specs.History.{History}
+use Rattle.bt_disk.specs.Conduct.{Conduct}
 use Rattle.bt_disk.specs.Calls.{HasCalls}
 use Rattle.bt_store.specs.BlockReads.{BlockRead, block_of, call_of, fault_count}
 use Rattle.bt_store.specs.Adoption.{is_whole, claimed_digest}
@@ -42,8 +42,8 @@ pub record AreGroupReads (dig : List ℕ → List ℕ) (n first count width : �
   pub failed : tally.faults ≡ fault_count reads
 
 -- these reads were made, and no other call failed or changed an honest device
-pub record IsGroupRead {D : Type 0} (history : D → History) (honest : D → Type 0) (faults : D → ℕ)
+pub record IsGroupRead {D : Type 0} (conduct : Conduct D)
     (dig : List ℕ → List ℕ) (n first count width : ℕ) (old : D) (reads : List BlockRead) (tally : ReadTally)
     (new : D) (digests : List (List ℕ)) : Type 0 where
-  pub calls : HasCalls history honest faults old (map (call_of n) reads) new
+  pub calls : HasCalls conduct old (map (call_of n) reads) new
   pub are : AreGroupReads dig n first count width reads tally digests

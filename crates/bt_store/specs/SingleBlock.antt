@@ -1,7 +1,7 @@
 -- What becomes of one block that is read to be lent, or to be found again.
 use Rattle.std.specs.Prelude.{◌≡◌, ◌≢◌, ℕ, ◌≤◌, ◌<◌, Bool, true, false, List, [], ◌∷◌, map, take, slice_get, slice_set, Some, IsSome, Result, Ok, Err}
 use Rattle.bt_tree.specs.Blocks.{block_count, block_length}
-use Rattle.bt_disk.specs.History.{History}
+use Rattle.bt_disk.specs.Conduct.{Conduct}
 use Rattle.bt_disk.specs.Calls.{HasCalls}
 use Rattle.bt_sparse.specs.SparseTree.{Facts, value_at}
 use Rattle.bt_store.specs.FileStore.{StoreView}
@@ -46,18 +46,18 @@ pub data Restores (dig : List ℕ → List ℕ) (k : Facts) (i : ℕ) (states : 
 
 -- these reads were made, no other call failed or changed an honest device, and the answer and the states are
 -- those that `Lends` says
-pub record IsLent {D : Type 0} (history : D → History) (honest : D → Type 0) (faults : D → ℕ)
+pub record IsLent {D : Type 0} (conduct : Conduct D)
     (dig : List ℕ → List ℕ) (k : Facts) (i : ℕ) (out : List ℕ) (old : StoreView D) (reads : List BlockRead)
     (result : Result ℕ ReadError) (new : StoreView D) : Type 0 where
-  pub calls : HasCalls history honest faults old.disk (map (call_of old.file_length) reads) new.disk
+  pub calls : HasCalls conduct old.disk (map (call_of old.file_length) reads) new.disk
   pub answer : Lends dig k i out old.states reads result new.states
   pub same_file : new.file_length ≡ old.file_length
 
 -- these reads were made, no other call failed or changed an honest device, and the answer and the states are
 -- those that `Restores` says
-pub record IsRestored {D : Type 0} (history : D → History) (honest : D → Type 0) (faults : D → ℕ)
+pub record IsRestored {D : Type 0} (conduct : Conduct D)
     (dig : List ℕ → List ℕ) (k : Facts) (i : ℕ) (old : StoreView D) (reads : List BlockRead)
     (result : Result Bool StoreError) (new : StoreView D) : Type 0 where
-  pub calls : HasCalls history honest faults old.disk (map (call_of old.file_length) reads) new.disk
+  pub calls : HasCalls conduct old.disk (map (call_of old.file_length) reads) new.disk
   pub answer : Restores dig k i old.states reads result new.states
   pub same_file : new.file_length ≡ old.file_length

@@ -1,7 +1,7 @@
 -- Groups that are adopted one after the other.
 use Rattle.std.specs.Prelude.{◌≡◌, ℕ, ◌+◌, ◌<◌, List, [], ◌++◌, map}
 use Rattle.std.specs.List.{range_with_len}
-use Rattle.bt_disk.specs.History.{History}
+use Rattle.bt_disk.specs.Conduct.{Conduct}
 use Rattle.bt_disk.specs.Calls.{HasCalls}
 use Rattle.bt_sparse.specs.SparseTree.{Facts, blocks_of}
 use Rattle.bt_store.specs.FileStore.{StoreView}
@@ -31,10 +31,10 @@ pub data AdoptsInTurn (dig : List ℕ → List ℕ) (k : Facts) (from : ℕ) (st
       → AdoptsInTurn dig k from states (reads ++ last) (with_group before one) grown after
 
 -- these reads were made, no other call failed or changed an honest device, and the groups were adopted
-pub record AreAdopted {D : Type 0} (history : D → History) (honest : D → Type 0) (faults : D → ℕ)
+pub record AreAdopted {D : Type 0} (conduct : Conduct D)
     (dig : List ℕ → List ℕ) (k : Facts) (from : ℕ) (old : StoreView D) (reads : List BlockRead)
     (adopted : AdoptedGroups) (grown : Facts) (new : StoreView D) : Type 0 where
-  pub calls : HasCalls history honest faults old.disk (map (call_of old.file_length) reads) new.disk
+  pub calls : HasCalls conduct old.disk (map (call_of old.file_length) reads) new.disk
   pub adopts : AdoptsInTurn dig k from old.states reads adopted grown new.states
   pub same_file : new.file_length ≡ old.file_length
 
@@ -56,9 +56,9 @@ pub record StopsAmong (dig : List ℕ → List ℕ) (k : Facts) (from : ℕ) (ol
   pub in_order : map block_of others ≡ range_with_len first size
 
 -- these reads were made, no other call failed or changed an honest device, and memory was refused at a group
-pub record StopsInTurn {D : Type 0} (history : D → History) (honest : D → Type 0) (faults : D → ℕ)
+pub record StopsInTurn {D : Type 0} (conduct : Conduct D)
     (dig : List ℕ → List ℕ) (k : Facts) (from : ℕ) (old : StoreView D) (reads : List BlockRead)
     (grown : Facts) (new : StoreView D) : Type 0 where
-  pub calls : HasCalls history honest faults old.disk (map (call_of old.file_length) reads) new.disk
+  pub calls : HasCalls conduct old.disk (map (call_of old.file_length) reads) new.disk
   pub stops : StopsAmong dig k from old.states reads grown new.states
   pub same_file : new.file_length ≡ old.file_length

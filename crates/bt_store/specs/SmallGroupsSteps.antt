@@ -2,7 +2,7 @@
 -- found.
 use Rattle.std.specs.Prelude.{◌≡◌, ℕ, ◌+◌, ◌%◌, ◌^◌, ◌<◌, ◌≤◌, ◌⊎◌, List, Option, None, IfSome, length, map, slice_index_or}
 use Rattle.bt_tree.specs.Blocks.{block_at}
-use Rattle.bt_disk.specs.History.{History}
+use Rattle.bt_disk.specs.Conduct.{Conduct}
 use Rattle.bt_disk.specs.Calls.{HasCalls}
 use Rattle.bt_sparse.specs.SparseTree.{Facts, blocks_of}
 use Rattle.bt_sparse.specs.Anchor.{IsAnchor}
@@ -40,13 +40,13 @@ ReadSomehow dig n first blocks_found count =
     (counts : List (Option ℕ)) × (buffer : List ℕ) × AreRead dig n first blocks_found count counts buffer
 
 -- the reads were made, and no other call failed or changed an honest device
-pub record IsBatchRead {D : Type 0} (history : D → History) (honest : D → Type 0) (faults : D → ℕ)
+pub record IsBatchRead {D : Type 0} (conduct : Conduct D)
     (dig : List ℕ → List ℕ) (n first : ℕ) (blocks_found : List BlockFound) (count : ℕ) (old new : D)
     : Type 0 where
   pub counts : List (Option ℕ)
   pub buffer : List ℕ
   pub are : AreRead dig n first blocks_found count counts buffer
-  pub calls : HasCalls history honest faults
+  pub calls : HasCalls conduct
       old (map (call_of n) (batch_reads first counts buffer count)) new
 
 -- what becomes of one group, whichever reads found this of its blocks, and whichever of them is adopted

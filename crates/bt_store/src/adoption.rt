@@ -50,9 +50,9 @@ impl<D: Disk + Drop, H: NodeHash> FileStore<D, H> {
     pub fn adopt(&mut self, tree: &mut SparseTree<H>, from: u32) -> Result<Adopted, AllocError>
         requires geometry { tree.old.file_length ≡ self.old.file_length }
         requires inside { from ≤ block_count self.old.file_length }
-        ensures ok { IfOk result (λ adopted. (reads : List BlockRead) × IsAdopted D.history D.honest D.faults
+        ensures ok { IfOk result (λ adopted. (reads : List BlockRead) × IsAdopted D.conduct
             H.digest tree.old from self.old reads adopted tree.new self.new) }
-        ensures stop { IfErr result (λ _. (reads : List BlockRead) × StopsAdopting D.history D.honest D.faults
+        ensures stop { IfErr result (λ _. (reads : List BlockRead) × StopsAdopting D.conduct
             H.digest tree.old from self.old reads self.new) }
         ensures tree { IfErr result (λ _. tree.new ≡ tree.old) }
         ensures unknown { IfErr result (λ _. value_at H.digest tree.old 0 from ≡ None) }
@@ -80,7 +80,7 @@ impl<D: Disk + Drop, H: NodeHash> FileStore<D, H> {
         requires geometry { tree.now.file_length ≡ self.old.file_length }
         requires inside { from < blocks_of tree.now }
         requires known { IsSome (value_at H.digest tree.now 0 from) }
-        ensures { (reads : List BlockRead) × IsAdopted D.history D.honest D.faults
+        ensures { (reads : List BlockRead) × IsAdopted D.conduct
             H.digest tree.now from self.old reads result tree.now self.new }
     {
         let count = known_batch(tree, from);
@@ -105,9 +105,9 @@ impl<D: Disk + Drop, H: NodeHash> FileStore<D, H> {
         requires anchor { IsAnchor tree.old from anchor }
         requires above { 0 < anchor }
         requires limit { anchor ≤ max_height }
-        ensures ok { IfOk result (λ adopted. (reads : List BlockRead) × IsAdopted D.history D.honest D.faults
+        ensures ok { IfOk result (λ adopted. (reads : List BlockRead) × IsAdopted D.conduct
             H.digest tree.old from self.old reads adopted tree.new self.new) }
-        ensures stop { IfErr result (λ _. (reads : List BlockRead) × StopsAdopting D.history D.honest D.faults
+        ensures stop { IfErr result (λ _. (reads : List BlockRead) × StopsAdopting D.conduct
             H.digest tree.old from self.old reads self.new) }
         ensures tree { IfErr result (λ _. tree.new ≡ tree.old) }
     {
@@ -175,7 +175,7 @@ impl<D: Disk + Drop, H: NodeHash> FileStore<D, H> {
         requires inside { first + count ≤ block_count self.old.file_length }
         requires padded { digests.old ≡ replicate (length digests.old) (padding_digest H.digest 0) }
         requires fits { count ≤ length digests.old }
-        ensures read { (reads : List BlockRead) × IsGroupRead D.history D.honest D.faults H.digest
+        ensures read { (reads : List BlockRead) × IsGroupRead D.conduct H.digest
             self.old.file_length first count (length digests.old)
             self.old.disk reads result self.new.disk digests.new }
         ensures others { self.new ≡ record self.old { disk = self.new.disk } }

@@ -36,7 +36,7 @@ impl<D: Disk + Drop, H: NodeHash> FileStore<D, H> {
     pub fn put(&mut self, tree: &SparseTree<H>, block: u32, bytes: &[u8]) -> Result<Put, StoreError>
         requires { tree.now.file_length ≡ self.old.file_length }
         ensures why { PutIsDue H.digest tree.now block bytes.now self.old.states result }
-        ensures calls { HasCalls D.history D.honest D.faults
+        ensures calls { HasCalls D.conduct
             self.old.disk (calls_of_put block bytes.now result) self.new.disk }
         ensures states { self.new.states ≡ states_after_put block result self.old.states }
         ensures same_file { self.new.file_length ≡ self.old.file_length }
@@ -58,7 +58,7 @@ impl<D: Disk + Drop, H: NodeHash> FileStore<D, H> {
     fn write(&mut self, block: u32, bytes: &[u8], is_known: bool) -> Result<Put, StoreError>
         requires { block < block_count self.old.file_length }
         ensures written { IsWritten is_known result }
-        ensures calls { HasCalls D.history D.honest D.faults
+        ensures calls { HasCalls D.conduct
             self.old.disk (calls_of_put block bytes.now result) self.new.disk }
         ensures states { self.new.states ≡ states_after_put block result self.old.states }
         ensures same_file { self.new.file_length ≡ self.old.file_length }

@@ -43,7 +43,7 @@ pub(crate) fn read_batch<D: Disk>(
     requires few { count ≤ 8 }
     requires inside { first + count ≤ block_count geometry }
     requires room { count * full_block_length ≤ length buffer.old }
-    ensures calls { HasCalls D.history D.honest D.faults
+    ensures calls { HasCalls D.conduct
         disk.old (map (call_of geometry) (batch_reads first result buffer.new count)) disk.new }
     ensures within { (j : ℕ) → j < count
         → IfSome (slice_index_or result j None) (λ given. given ≤ block_length geometry (first + j)) }

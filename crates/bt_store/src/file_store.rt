@@ -139,7 +139,7 @@ impl<D: Disk + Drop, H: NodeHash> FileStore<D, H> {
 
     /// Syncs the device, by one call. All states stay.
     pub fn sync(&mut self) -> Result<(), DeviceFault>
-        ensures call { HasCalls D.history D.honest D.faults
+        ensures call { HasCalls D.conduct
             self.old.disk (sync_call result ∷ []) self.new.disk }
         ensures others { self.new ≡ record self.old { disk = self.new.disk } }
     {

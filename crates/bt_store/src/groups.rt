@@ -202,7 +202,7 @@ pub(crate) fn read_group<D: Disk, H: NodeHash>(
     requires padded { digests.old ≡ replicate (length digests.old) (padding_digest H.digest 0) }
     requires fits { count ≤ length digests.old }
     requires room { length buffer.old ≡ 8 * full_block_length }
-    ensures { (reads : List BlockRead) × IsGroupRead D.history D.honest D.faults H.digest geometry
+    ensures { (reads : List BlockRead) × IsGroupRead D.conduct H.digest geometry
         first count (length digests.old) disk.old reads result disk.new digests.new }
 {
     let mut tally = ReadTally {

@@ -207,7 +207,7 @@ impl<D: Disk + Drop, H: NodeHash> FileStore<D, H> {
         requires { tree.now.file_length ≡ self.old.file_length }
         ensures inside { IfOk result (λ _. from + count ≤ block_count self.old.file_length) }
         ensures settled { IfOk result (λ settled. (reads : List BlockRead)
-            × IsJudged D.history D.honest D.faults H.digest tree.now false
+            × IsJudged D.conduct H.digest tree.now false
             (waiting_blocks H.digest tree.now self.old.states from count) self.old reads self.new
             × (settled.marked ≡ right_count H.digest tree.now reads)
             × (settled.freed ≡ wrong_count H.digest tree.now reads)
@@ -240,7 +240,7 @@ impl<D: Disk + Drop, H: NodeHash> FileStore<D, H> {
     pub fn recheck(&mut self, tree: &SparseTree<H>) -> Rechecked
         requires { tree.now.file_length ≡ self.old.file_length }
         ensures { (reads : List BlockRead)
-            × IsJudged D.history D.honest D.faults H.digest tree.now true
+            × IsJudged D.conduct H.digest tree.now true
             (marked_blocks self.old.states) self.old reads self.new
             × (result.kept ≡ right_count H.digest tree.now reads)
             × (result.unmarked ≡ wrong_count H.digest tree.now reads)
@@ -263,7 +263,7 @@ impl<D: Disk + Drop, H: NodeHash> FileStore<D, H> {
         requires upwards { from ≤ end }
         requires inside { end ≤ block_count self.old.file_length }
         ensures { (reads : List BlockRead)
-            × IsJudged D.history D.honest D.faults H.digest tree.now (forgives review)
+            × IsJudged D.conduct H.digest tree.now (forgives review)
             (chosen_blocks H.digest tree.now review self.old.states from (end - from)) self.old reads self.new
             × IsTallyOf H.digest tree.now reads result }
     {
@@ -292,7 +292,7 @@ impl<D: Disk + Drop, H: NodeHash> FileStore<D, H> {
         requires inside { end ≤ block_count self.old.file_length }
         requires room { full_block_length ≤ length buffer.old }
         ensures { (reads : List BlockRead)
-            × IsJudged D.history D.honest D.faults H.digest tree.now (forgives review)
+            × IsJudged D.conduct H.digest tree.now (forgives review)
             (chosen_blocks H.digest tree.now review self.old.states from (end - from)) self.old reads self.new
             × IsTallyOf H.digest tree.now reads result }
     {
@@ -366,7 +366,7 @@ impl<D: Disk + Drop, H: NodeHash> FileStore<D, H> {
         requires few { count ≤ 8 }
         requires inside { first + count ≤ block_count self.old.file_length }
         ensures judged { (reads : List BlockRead)
-            × IsJudged D.history D.honest D.faults H.digest tree.now forgiving
+            × IsJudged D.conduct H.digest tree.now forgiving
             (range_with_len first count) self.old reads self.new
             × IsTallyOf H.digest tree.now reads result }
         ensures sum { tally_sum result ≡ count }
@@ -391,7 +391,7 @@ impl<D: Disk + Drop, H: NodeHash> FileStore<D, H> {
         requires inside { first + count ≤ block_count self.old.file_length }
         requires room { count * full_block_length ≤ length buffer.old }
         ensures judged { (reads : List BlockRead)
-            × IsJudged D.history D.honest D.faults H.digest tree.now forgiving
+            × IsJudged D.conduct H.digest tree.now forgiving
             (range_with_len first count) self.old reads self.new
             × IsTallyOf H.digest tree.now reads result }
         ensures sum { tally_sum result ≡ count }

@@ -36,7 +36,7 @@ impl<D: Disk + Drop, H: NodeHash> FileStore<D, H> {
     ) -> Result<usize, ReadError>
         requires geometry { tree.now.file_length ≡ self.old.file_length }
         requires room { block_length self.old.file_length block ≤ length out.old }
-        ensures lent { (reads : List BlockRead) × IsLent D.history D.honest D.faults H.digest tree.now
+        ensures lent { (reads : List BlockRead) × IsLent D.conduct H.digest tree.now
             block out.new self.old reads result self.new }
         ensures rest { drop (block_length self.old.file_length block) out.new
             ≡ drop (block_length self.old.file_length block) out.old }
@@ -62,7 +62,7 @@ impl<D: Disk + Drop, H: NodeHash> FileStore<D, H> {
     /// missing.
     pub fn restore(&mut self, tree: &SparseTree<H>, block: u32) -> Result<bool, StoreError>
         requires { tree.now.file_length ≡ self.old.file_length }
-        ensures { (reads : List BlockRead) × IsRestored D.history D.honest D.faults H.digest tree.now
+        ensures { (reads : List BlockRead) × IsRestored D.conduct H.digest tree.now
             block self.old reads result self.new }
     {
         if block >= self.geometry.blocks() {
@@ -86,7 +86,7 @@ impl<D: Disk + Drop, H: NodeHash> FileStore<D, H> {
         requires inside { block < block_count tree.now.file_length }
         requires room { length buffer.old ≡ full_block_length }
         requires lost { IsLost H.digest tree.now block self.old.states }
-        ensures { (reads : List BlockRead) × IsRestored D.history D.honest D.faults H.digest tree.now
+        ensures { (reads : List BlockRead) × IsRestored D.conduct H.digest tree.now
             block self.old reads result self.new }
     {
         match read_block(&mut self.disk, self.hash, tree, block, buffer) {
@@ -120,7 +120,7 @@ fn read_block<D: Disk, H: NodeHash>(
 ) -> Verdict
     requires inside { block < block_count tree.now.file_length }
     requires room { block_length tree.now.file_length block ≤ length out.old }
-    ensures read { (read : BlockRead) × HasCalls D.history D.honest D.faults
+    ensures read { (read : BlockRead) × HasCalls D.conduct
         disk.old (call_of tree.now.file_length read ∷ []) disk.new
         × ComesTo H.digest tree.now block out.new read result }
     ensures rest { drop (block_length tree.now.file_length block) out.new

@@ -114,9 +114,9 @@ impl<D: Disk + Drop, H: NodeHash> FileStore<D, H> {
     ) -> Result<AdoptedGroups, AllocError>
         requires geometry { tree.old.file_length ≡ self.old.file_length }
         requires inside { from < block_count self.old.file_length }
-        ensures ok { IfOk result (λ adopted. (reads : List BlockRead) × AreAdopted D.history D.honest D.faults
+        ensures ok { IfOk result (λ adopted. (reads : List BlockRead) × AreAdopted D.conduct
             H.digest tree.old from self.old reads adopted tree.new self.new) }
-        ensures stop { IfErr result (λ _. (reads : List BlockRead) × StopsInTurn D.history D.honest D.faults
+        ensures stop { IfErr result (λ _. (reads : List BlockRead) × StopsInTurn D.conduct
             H.digest tree.old from self.old reads tree.new self.new) }
         ensures onward { IfOk result (λ adopted. from < adopted.next) }
         ensures within { IfOk result (λ adopted. adopted.next ≤ block_count self.old.file_length) }
@@ -135,9 +135,9 @@ impl<D: Disk + Drop, H: NodeHash> FileStore<D, H> {
     ) -> Result<AdoptedGroups, AllocError>
         requires geometry { tree.old.file_length ≡ self.old.file_length }
         requires inside { from < block_count self.old.file_length }
-        ensures ok { IfOk result (λ adopted. (reads : List BlockRead) × AreAdopted D.history D.honest D.faults
+        ensures ok { IfOk result (λ adopted. (reads : List BlockRead) × AreAdopted D.conduct
             H.digest tree.old from self.old reads adopted tree.new self.new) }
-        ensures stop { IfErr result (λ _. (reads : List BlockRead) × StopsInTurn D.history D.honest D.faults
+        ensures stop { IfErr result (λ _. (reads : List BlockRead) × StopsInTurn D.conduct
             H.digest tree.old from self.old reads tree.new self.new) }
         ensures onward { IfOk result (λ adopted. from < adopted.next) }
         ensures within { IfOk result (λ adopted. adopted.next ≤ block_count self.old.file_length) }
@@ -163,9 +163,9 @@ impl<D: Disk + Drop, H: NodeHash> FileStore<D, H> {
         requires batch { IsBatch tree.old from batch.anchor batch.count }
         requires some { 0 < batch.count }
         requires limit { blocks_of tree.old ≤ max_block_count }
-        ensures ok { IfOk result (λ adopted. (reads : List BlockRead) × AreAdopted D.history D.honest D.faults
+        ensures ok { IfOk result (λ adopted. (reads : List BlockRead) × AreAdopted D.conduct
             H.digest tree.old from self.old reads adopted tree.new self.new) }
-        ensures stop { IfErr result (λ _. (reads : List BlockRead) × StopsInTurn D.history D.honest D.faults
+        ensures stop { IfErr result (λ _. (reads : List BlockRead) × StopsInTurn D.conduct
             H.digest tree.old from self.old reads tree.new self.new) }
         ensures onward { IfOk result (λ adopted. from < adopted.next) }
         ensures within { IfOk result (λ adopted. adopted.next ≤ block_count self.old.file_length) }
@@ -178,7 +178,7 @@ impl<D: Disk + Drop, H: NodeHash> FileStore<D, H> {
     fn find_batch(&mut self, first: u32, count: usize) -> [BlockFound; BATCH_BLOCKS]
         requires few { count ≤ 8 }
         requires inside { first + count ≤ block_count self.old.file_length }
-        ensures read { IsBatchRead D.history D.honest D.faults H.digest
+        ensures read { IsBatchRead D.conduct H.digest
             self.old.file_length first result count self.old.disk self.new.disk }
         ensures others { self.new ≡ record self.old { disk = self.new.disk } }
     {

@@ -3,7 +3,7 @@ use Rattle.std.proofs.Common.{◌≡◌, ℕ, Bool, true, List, Option, Some, No
 use Rattle.std.specs.Borrow.{Bor}
 use Rattle.std.specs.Prelude.{⊤, All, IfSome}
 use Rattle.std.proofs.lemmas.List.Elements.{All-map}
-use Rattle.bt_disk.specs.History.{History}
+use Rattle.bt_disk.specs.Conduct.{Conduct}
 use Rattle.bt_machine.specs.State.{EngineView}
 use Rattle.bt_machine.specs.declared.error.FlushError.{FlushError}
 use Rattle.bt_peers.specs.declared.end.PeerEnd.{PeerEnd}
@@ -26,11 +26,11 @@ abbrev by_bytes : {R W : Type 0} → (R → Option (List ℕ)) → (W → Option
 by_bytes remaining contents None = None
 by_bytes remaining contents (Some ways) = Some (remaining ways.0, contents ways.1)
 
-module _ {D : Type 0} (history : D → History) (honest : D → Type 0) (faults : D → ℕ) (dig : List ℕ → List ℕ) where
+module _ {D : Type 0} (conduct : Conduct D) (dig : List ℕ → List ℕ) where
   ends_by_bytes : {R W : Type 0} (remaining : R → Option (List ℕ)) (contents : W → Option (List ℕ)) (until : _) (turns : ℕ)
       (reached : Option (R × W)) (old : EngineView D) (end : PeerEnd) (new : EngineView D)
-      → EndsAs history honest faults dig remaining contents until turns reached old end new
-      → EndsAs history honest faults dig (λ (b : Option (List ℕ)). b) (λ (b : Option (List ℕ)). b) until turns (by_bytes remaining contents reached) old end new
+      → EndsAs conduct dig remaining contents until turns reached old end new
+      → EndsAs conduct dig (λ (b : Option (List ℕ)). b) (λ (b : Option (List ℕ)). b) until turns (by_bytes remaining contents reached) old end new
   ends_by_bytes remaining contents until turns None old Untried new e = e
   ends_by_bytes remaining contents until turns None old Unreachable new e = e
   ends_by_bytes remaining contents until turns None old (Refused error) new e = e
@@ -42,8 +42,8 @@ module _ {D : Type 0} (history : D → History) (honest : D → Type 0) (faults 
 
   flushed_ends_by_bytes : {R W : Type 0} (remaining : R → Option (List ℕ)) (contents : W → Option (List ℕ)) (until : Bool) (every turns : ℕ)
       (reached : Option (R × W)) (old : EngineView D) (end : PeerEnd) (answer : Result (Unit {0}) FlushError) (new : EngineView D)
-      → EndsAsWithFlushes history honest faults dig remaining contents until every turns reached old end answer new
-      → EndsAsWithFlushes history honest faults dig (λ (b : Option (List ℕ)). b) (λ (b : Option (List ℕ)). b) until every turns (by_bytes remaining contents reached)
+      → EndsAsWithFlushes conduct dig remaining contents until every turns reached old end answer new
+      → EndsAsWithFlushes conduct dig (λ (b : Option (List ℕ)). b) (λ (b : Option (List ℕ)). b) until every turns (by_bytes remaining contents reached)
       old end answer new
   flushed_ends_by_bytes remaining contents until every turns None old Untried answer new e = e
   flushed_ends_by_bytes remaining contents until every turns None old Unreachable answer new e = e
@@ -62,8 +62,8 @@ module _ {D : Type 0} (history : D → History) (honest : D → Type 0) (faults 
 
   -- a connection that is served
   pub served_by_bytes : {R W : Type 0} (gives : R → W → Type 0) (remaining : R → Option (List ℕ)) (contents : W → Option (List ℕ)) (old : EngineView D) (end : PeerEnd)
-      (new : EngineView D) → IsServed history honest faults dig gives remaining contents session_turns old end new
-      → MeetsOverTcp history honest faults dig old end new
+      (new : EngineView D) → IsServed conduct dig gives remaining contents session_turns old end new
+      → MeetsOverTcp conduct dig old end new
   served_by_bytes gives remaining contents old end new served = record {
     reached = by_bytes remaining contents served.reached;
     given = some_ways remaining contents served.reached;
@@ -80,8 +80,8 @@ module _ {D : Type 0} (history : D → History) (honest : D → Type 0) (faults 
   -- a peer that is tried
   pub tried_by_bytes : {R W : Type 0} (gives : Dials → R → W → Type 0) (remaining : R → Option (List ℕ)) (contents : W → Option (List ℕ)) (old : EngineView D)
       (link : Dials) (end : PeerEnd) (after : Dials) (new : EngineView D)
-      → IsTried history honest faults dig (λ (l : Dials). l.all) (λ (l : Dials). l.failed) gives remaining contents session_turns old link end after new
-      → TriesOverTcp history honest faults dig old link end after new
+      → IsTried conduct dig (λ (l : Dials). l.all) (λ (l : Dials). l.failed) gives remaining contents session_turns old link end after new
+      → TriesOverTcp conduct dig old link end after new
   tried_by_bytes gives remaining contents old link end after new t = record {
     reached = by_bytes remaining contents t.reached;
     dialled = dialled_by_bytes gives remaining contents link t.reached after t.dialled;
@@ -91,9 +91,9 @@ module _ {D : Type 0} (history : D → History) (honest : D → Type 0) (faults 
   -- and one in whose session the engine is flushed
   flushed_by_bytes : {R W : Type 0} (gives : Dials → R → W → Type 0) (remaining : R → Option (List ℕ)) (contents : W → Option (List ℕ)) (every : ℕ)
       (old : EngineView D) (link : Dials) (end : PeerEnd) (answer : Result (Unit {0}) FlushError) (after : Dials) (new : EngineView D)
-      → IsTriedWithFlushes history honest faults dig (λ (l : Dials). l.all) (λ (l : Dials). l.failed) gives remaining contents every session_turns
+      → IsTriedWithFlushes conduct dig (λ (l : Dials). l.all) (λ (l : Dials). l.failed) gives remaining contents every session_turns
       old link end answer after new
-      → TriesWithFlushesOverTcp history honest faults dig every old link end answer after new
+      → TriesWithFlushesOverTcp conduct dig every old link end answer after new
   flushed_by_bytes gives remaining contents every old link end answer after new t = record {
     reached = by_bytes remaining contents t.reached;
     dialled = dialled_by_bytes gives remaining contents link t.reached after t.dialled;
@@ -103,14 +103,14 @@ module _ {D : Type 0} (history : D → History) (honest : D → Type 0) (faults 
   -- where the engine is never flushed, no flush is refused
   unflushed_answer : {L R W : Type 0} (dials failures : L → ℕ) (gives : L → R → W → Type 0) (remaining : R → Option (List ℕ)) (contents : W → Option (List ℕ))
       (turns : ℕ) {old new : EngineView D} {links rest : List L} {ends : List PeerEnd} {answer : Result (Unit {0}) FlushError}
-      → InTurnWithFlushes (IsTriedWithFlushes history honest faults dig dials failures gives remaining contents 0 turns) old links ends rest answer new
+      → InTurnWithFlushes (IsTriedWithFlushes conduct dig dials failures gives remaining contents 0 turns) old links ends rest answer new
       → answer ≡ Ok tt
   unflushed_answer dials failures gives remaining contents turns (no_more engine) = refl
   unflushed_answer dials failures gives remaining contents turns (is_complete engine links is_done) = refl
   unflushed_answer dials failures gives remaining contents turns (went old mid new link after end links rest ends answer not_done t later) =
       unflushed_answer dials failures gives remaining contents turns later
   unflushed_answer dials failures gives remaining contents turns (stopped old new link after end links error not_done t) =
-      (unflushed_end history honest faults dig remaining contents true turns t.reached old new end (Err error) t.ended).0
+      (unflushed_end conduct dig remaining contents true turns t.reached old new end (Err error) t.ended).0
 
 -- ---- peers in turn
 
@@ -136,67 +136,67 @@ flushed_in_turn_by Try To carry (stopped old new link after end links error not_
     stopped old new link after end links error not_done (carry old link end (Err error) after new t)
 
 -- with a log and without
-turns_over_tcp : {D R W : Type 0} (history : D → History) (honest : D → Type 0) (faults : D → ℕ) (dig : List ℕ → List ℕ)
+turns_over_tcp : {D R W : Type 0} (conduct : Conduct D) (dig : List ℕ → List ℕ)
     (gives : Dials → R → W → Type 0) (remaining : R → Option (List ℕ)) (contents : W → Option (List ℕ)) (log : Option (Bor (List ℕ)))
     (old : EngineView D) (links : List Dials) (ends : List PeerEnd) (rest : List Dials) (answer : Result (Unit {0}) FlushError) (new : EngineView D)
-    → InTurnWithFlushes (IsTriedWithFlushes history honest faults dig (λ (l : Dials). l.all) (λ (l : Dials). l.failed) gives remaining contents (flush_turns log) session_turns)
+    → InTurnWithFlushes (IsTriedWithFlushes conduct dig (λ (l : Dials). l.all) (λ (l : Dials). l.failed) gives remaining contents (flush_turns log) session_turns)
     old links ends rest answer new
-    → TurnsOverTcp history honest faults dig log old links ends rest answer new
-turns_over_tcp history honest faults dig gives remaining contents None old links ends rest answer new turns = (
-  unflushed_answer history honest faults dig (λ (l : Dials). l.all) (λ (l : Dials). l.failed) gives remaining contents session_turns turns,
-  in_turn_by _ (TriesOverTcp history honest faults dig) (tried_by_bytes history honest faults dig gives remaining contents)
-      (unflushed_turns history honest faults dig (λ (l : Dials). l.all) (λ (l : Dials). l.failed) gives remaining contents session_turns turns),
+    → TurnsOverTcp conduct dig log old links ends rest answer new
+turns_over_tcp conduct dig gives remaining contents None old links ends rest answer new turns = (
+  unflushed_answer conduct dig (λ (l : Dials). l.all) (λ (l : Dials). l.failed) gives remaining contents session_turns turns,
+  in_turn_by _ (TriesOverTcp conduct dig) (tried_by_bytes conduct dig gives remaining contents)
+      (unflushed_turns conduct dig (λ (l : Dials). l.all) (λ (l : Dials). l.failed) gives remaining contents session_turns turns),
 )
-turns_over_tcp history honest faults dig gives remaining contents (Some path) old links ends rest answer new turns =
-    flushed_in_turn_by _ (TriesWithFlushesOverTcp history honest faults dig (flush_turns (Some path)))
-    (flushed_by_bytes history honest faults dig gives remaining contents (flush_turns (Some path))) turns
+turns_over_tcp conduct dig gives remaining contents (Some path) old links ends rest answer new turns =
+    flushed_in_turn_by _ (TriesWithFlushesOverTcp conduct dig (flush_turns (Some path)))
+    (flushed_by_bytes conduct dig gives remaining contents (flush_turns (Some path))) turns
 
 -- a fetch whose peers are tried so is one whose peers are tried otherwise
 syncs_by : {D L : Type 0} (InTurns To : Turns D L)
     → ((old : EngineView D) (links : List L) (ends : List PeerEnd) (rest : List L) (answer : Result (Unit {0}) FlushError) (new : EngineView D)
     → InTurns old links ends rest answer new → To old links ends rest answer new)
-    → (history : D → History) (honest : D → Type 0) (faults : D → ℕ) (dig : List ℕ → List ℕ)
+    → (conduct : Conduct D) (dig : List ℕ → List ℕ)
     (old : EngineView D) (links : List L) (ends : List PeerEnd) (rest : List L) (answer : Result (Unit {0}) FlushError) (new : EngineView D)
-    → TriesAndSyncs InTurns history honest faults dig old links ends rest answer new
-    → TriesAndSyncs To history honest faults dig old links ends rest answer new
-syncs_by InTurns To carry history honest faults dig old links ends rest answer new (behind met turns flushed) =
+    → TriesAndSyncs InTurns conduct dig old links ends rest answer new
+    → TriesAndSyncs To conduct dig old links ends rest answer new
+syncs_by InTurns To carry conduct dig old links ends rest answer new (behind met turns flushed) =
     behind met (carry old links ends rest (Ok tt) met turns) flushed
-syncs_by InTurns To carry history honest faults dig old links ends rest answer new (among error turns is) =
+syncs_by InTurns To carry conduct dig old links ends rest answer new (among error turns is) =
     among error (carry old links ends rest (Err error) new turns) is
 
 fetched_by : {D L : Type 0} (InTurns To : Turns D L)
     → ((old : EngineView D) (links : List L) (ends : List PeerEnd) (rest : List L) (answer : Result (Unit {0}) FlushError) (new : EngineView D)
     → InTurns old links ends rest answer new → To old links ends rest answer new)
-    → (history : D → History) (honest : D → Type 0) (faults : D → ℕ) (dig : List ℕ → List ℕ) (peers : List Peer)
+    → (conduct : Conduct D) (dig : List ℕ → List ℕ) (peers : List Peer)
     (old : EngineView D) (links : List L) (before now : Option (List ℕ)) (status : ℕ) (rest : List L) (new : EngineView D)
-    → HasFetched InTurns history honest faults dig peers old links before now status rest new
-    → HasFetched To history honest faults dig peers old links before now status rest new
-fetched_by InTurns To carry history honest faults dig peers old links before now status rest new f = record {
+    → HasFetched InTurns conduct dig peers old links before now status rest new
+    → HasFetched To conduct dig peers old links before now status rest new
+fetched_by InTurns To carry conduct dig peers old links before now status rest new f = record {
   ends = f.ends;
   kept = f.kept;
   told = f.told;
   taken = f.taken;
-  tried = syncs_by InTurns To carry history honest faults dig old links f.ends rest (Ok tt) f.kept f.tried;
+  tried = syncs_by InTurns To carry conduct dig old links f.ends rest (Ok tt) f.kept f.tried;
   lines = f.lines;
   taken_in = f.taken_in;
   end = f.end;
 }
 
 -- over links to these peers, peers are tried over TCP
-pub fetched_over_tcp : {D R W : Type 0} (history : D → History) (honest : D → Type 0) (faults : D → ℕ) (dig : List ℕ → List ℕ)
+pub fetched_over_tcp : {D R W : Type 0} (conduct : Conduct D) (dig : List ℕ → List ℕ)
     (gives : Dials → R → W → Type 0) (remaining : R → Option (List ℕ)) (contents : W → Option (List ℕ)) (short : List Ask) (peers : List Peer)
     (log : Option (Bor (List ℕ))) (every : ℕ) (old : EngineView D) (links : List Dials) (before now : Option (List ℕ)) (status : ℕ) (rest : List Dials) (new : EngineView D)
     → links ≡ links_of short peers → every ≡ flush_turns log
-    → HasFetched (InTurnWithFlushes (IsTriedWithFlushes history honest faults dig (λ (l : Dials). l.all) (λ (l : Dials). l.failed) gives remaining contents every session_turns))
-    history honest faults dig peers old links before now status rest new
-    → HasFetched (TurnsOverTcp history honest faults dig log) history honest faults dig peers old (links_of short peers) before now status rest new
-fetched_over_tcp history honest faults dig gives remaining contents short peers log every old links before now status rest new are often fetched =
-    subst (λ given. HasFetched (TurnsOverTcp history honest faults dig log) history honest faults dig peers old given before now status rest new) are
-    (fetched_by _ (TurnsOverTcp history honest faults dig log) (turns_over_tcp history honest faults dig gives remaining contents log)
-    history honest faults dig peers old links before now status rest new
+    → HasFetched (InTurnWithFlushes (IsTriedWithFlushes conduct dig (λ (l : Dials). l.all) (λ (l : Dials). l.failed) gives remaining contents every session_turns))
+    conduct dig peers old links before now status rest new
+    → HasFetched (TurnsOverTcp conduct dig log) conduct dig peers old (links_of short peers) before now status rest new
+fetched_over_tcp conduct dig gives remaining contents short peers log every old links before now status rest new are often fetched =
+    subst (λ given. HasFetched (TurnsOverTcp conduct dig log) conduct dig peers old given before now status rest new) are
+    (fetched_by _ (TurnsOverTcp conduct dig log) (turns_over_tcp conduct dig gives remaining contents log)
+    conduct dig peers old links before now status rest new
     (subst (λ n. HasFetched (InTurnWithFlushes
-    (IsTriedWithFlushes history honest faults dig (λ (l : Dials). l.all) (λ (l : Dials). l.failed) gives remaining contents n session_turns))
-    history honest faults dig peers old links before now status rest new) often fetched))
+    (IsTriedWithFlushes conduct dig (λ (l : Dials). l.all) (λ (l : Dials). l.failed) gives remaining contents n session_turns))
+    conduct dig peers old links before now status rest new) often fetched))
 
 -- none of these links was dialled
 pub links_undialled : (short : List Ask) (peers : List Peer) (links : List Dials) → links ≡ links_of short peers → All (λ (link : Dials). link.all ≡ 0) links

@@ -5,7 +5,7 @@ use Rattle.std.specs.Borrow.{Bor}
 use Rattle.std.specs.Prelude.{◌&&◌, ◌==◌, not, if◌then◌else◌, slice_get, Contains}
 use Rattle.std.proofs.lemmas.Bool.{eqb-true}
 use Rattle.std.proofs.lemmas.List.Sums.{count_by-le-length, sum_by-cons}
-use Rattle.bt_disk.specs.History.{History}
+use Rattle.bt_disk.specs.Conduct.{Conduct}
 use Rattle.bt_resume.specs.ResumeLog.{LogView}
 use Rattle.bt_store.specs.BlockStates.{is_marked}
 use Rattle.bt_store.specs.declared.block_states.BlockState.{BlockState}
@@ -72,16 +72,16 @@ zero_is_complete : (complete : Bool) (status : ℕ) → status ≡ (if complete 
 zero_is_complete true status told zero = refl
 zero_is_complete false status told zero = absurd (omega (arith, told, zero))
 
-module _ {D : Type 0} (history : D → History) (honest : D → Type 0) (faults : D → ℕ) (dig : List ℕ → List ℕ)
-    (promises : WhatLeadsOnIsWhole history honest faults dig) (old last : EngineView D)
-    (lawful : IsLawful old.state.torrent.piece_length old.state.torrent.files) (leads : LeadsTo history honest faults dig old last)
+module _ {D : Type 0} (conduct : Conduct D) (dig : List ℕ → List ℕ)
+    (promises : WhatLeadsOnIsWhole conduct dig) (old last : EngineView D)
+    (lawful : IsLawful old.state.torrent.piece_length old.state.torrent.files) (leads : LeadsTo conduct dig old last)
     (before after : Option (List ℕ)) (status : ℕ) (torrent : Metainfo) (given : List D) (attached : Option (LogView D)) (filled : List Bool)
-    (begun : HasBegun history honest faults dig torrent given attached filled old) where
+    (begun : HasBegun conduct dig torrent given attached filled old) where
   whole_run : HasWholeRun begun.begins last
   whole_run = promises torrent given begun.placed attached begun.first last begun.begins (subst (λ (t : Metainfo). IsLawful t.piece_length t.files) begun.same lawful)
       begun.devices (both begun.first old last begun.run leads)
 
-  pub ends_fetch : (peers : List Peer) (log : Option (Bor (List ℕ))) → HasFetchedOverTcp history honest faults dig peers log old before after status last
+  pub ends_fetch : (peers : List Peer) (log : Option (Bor (List ℕ))) → HasFetchedOverTcp conduct dig peers log old before after status last
       → EndsFetch begun.begins old peers log before after status
   ends_fetch peers log fetched =
       let found = whole_run in
@@ -96,6 +96,6 @@ module _ {D : Type 0} (history : D → History) (honest : D → Type 0) (faults 
             (each_complete last.state number (zero_is_complete (all_complete last.state) status fetched.fetched.end.told zero));
       }
 
-  pub ends_seed : (service : Service) → HasListened history honest faults dig service old before after last → status ≡ 0
+  pub ends_seed : (service : Service) → HasListened conduct dig service old before after last → status ≡ 0
       → EndsSeed begun.begins old service before after status
   ends_seed service listened done = record { last = last; listened = listened; whole = whole_run; done = done }

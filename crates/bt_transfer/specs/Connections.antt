@@ -5,7 +5,7 @@ use Rattle.std.specs.Io.KnownBytes.{Appends}
 use Rattle.std.specs.List.{enumerate_from, flat_map}
 use Rattle.bt_check.specs.Display.{line_text}
 use Rattle.bt_check.specs.declared.fault.Fault.{Fault}
-use Rattle.bt_disk.specs.History.{History}
+use Rattle.bt_disk.specs.Conduct.{Conduct}
 use Rattle.bt_files.specs.OpenFolder.{IsCallFault}
 use Rattle.bt_files.specs.Store.{flush_fault}
 use Rattle.bt_machine.specs.declared.error.FlushError.{FlushError}
@@ -31,12 +31,12 @@ IsRefusedAs (Err error) fault = fault ≡ flush_fault error
 
 -- Serving fails: events led on from the old engine, and the last thing was a flush, whatever it answered. The fault is
 -- that of this flush, where it was refused, or of a call before it.
-pub record FailsToServe {D : Type 0} (history : D → History) (honest : D → Type 0) (faults : D → ℕ)
+pub record FailsToServe {D : Type 0} (conduct : Conduct D)
     (dig : List ℕ → List ℕ) (old : EngineView D) (fault : Fault) (new : EngineView D) : Type 0 where
   pub mid : EngineView D
-  pub led : LeadsTo history honest faults dig old mid
+  pub led : LeadsTo conduct dig old mid
   pub answer : Result (Unit {0}) FlushError
-  pub flushed : StepsTo history honest faults dig mid Flush (Flushed answer) new
+  pub flushed : StepsTo conduct dig mid Flush (Flushed answer) new
   pub cause : IsCallFault fault ⊎ IsRefusedAs answer fault
 
 -- ---- lines
@@ -58,8 +58,8 @@ pub record HasServed {D : Type 0} (Meet : Meeting D) (count : ℕ) (old : Engine
   pub lines : Appends before after (served_lines ends)
 
 -- a connection is served over TCP, and then all devices are synced
-pub record MeetsAndSyncs {D : Type 0} (history : D → History) (honest : D → Type 0) (faults : D → ℕ)
+pub record MeetsAndSyncs {D : Type 0} (conduct : Conduct D)
     (dig : List ℕ → List ℕ) (old : EngineView D) (end : PeerEnd) (new : EngineView D) : Type 0 where
   pub mid : EngineView D
-  pub met : MeetsOverTcp history honest faults dig old end mid
-  pub synced : StepsTo history honest faults dig mid Flush (Flushed (Ok tt)) new
+  pub met : MeetsOverTcp conduct dig old end mid
+  pub synced : StepsTo conduct dig mid Flush (Flushed (Ok tt)) new

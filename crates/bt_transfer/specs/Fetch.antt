@@ -2,7 +2,7 @@
 use Rattle.std.specs.Prelude.{◌≡◌, ℕ, Bool, List, Ok, Err, Option, Result, Some, None, map, slice_get}
 use Rattle.std.specs.Borrow.{Bor}
 use Rattle.std.specs.Io.KnownBytes.{Appends}
-use Rattle.bt_disk.specs.History.{History}
+use Rattle.bt_disk.specs.Conduct.{Conduct}
 use Rattle.bt_resume.specs.ResumeLog.{LogView}
 use Rattle.bt_files.specs.Waiting.{TakesInAllWaiting}
 use Rattle.bt_meta.specs.Files.{File}
@@ -38,28 +38,28 @@ Turns D L = EngineView D → List L → List PeerEnd → List L → Result (Unit
 
 -- The peers were tried in turn, no flush among them was refused, and the next thing was a flush, which was
 -- answered so. Or a flush among them was refused: that is the answer, and nothing came after it.
-pub data TriesAndSyncs {D L : Type 0} (InTurns : Turns D L) (history : D → History) (honest : D → Type 0)
-    (faults : D → ℕ) (dig : List ℕ → List ℕ) (old : EngineView D) (links : List L) (ends : List PeerEnd)
+pub data TriesAndSyncs {D L : Type 0} (InTurns : Turns D L) (conduct : Conduct D) (dig : List ℕ → List ℕ)
+    (old : EngineView D) (links : List L) (ends : List PeerEnd)
     (rest : List L) (answer : Result (Unit {0}) FlushError) (new : EngineView D) : Type 0 where
   behind : (met : EngineView D) → InTurns old links ends rest (Ok tt) met
-      → StepsTo history honest faults dig met Flush (Flushed answer) new
-      → TriesAndSyncs InTurns history honest faults dig old links ends rest answer new
+      → StepsTo conduct dig met Flush (Flushed answer) new
+      → TriesAndSyncs InTurns conduct dig old links ends rest answer new
   among : (error : FlushError) → InTurns old links ends rest (Err error) new → answer ≡ Err error
-      → TriesAndSyncs InTurns history honest faults dig old links ends rest answer new
+      → TriesAndSyncs InTurns conduct dig old links ends rest answer new
 
 -- The peers were tried in turn, all devices were synced, a line tells of each peer that was tried, the files
 -- whose blocks came without their hashes were taken in, and then it is concluded.
-pub record HasFetched {D L : Type 0} (InTurns : Turns D L) (history : D → History) (honest : D → Type 0)
-    (faults : D → ℕ) (dig : List ℕ → List ℕ) (peers : List Peer) (old : EngineView D) (links : List L)
+pub record HasFetched {D L : Type 0} (InTurns : Turns D L) (conduct : Conduct D) (dig : List ℕ → List ℕ)
+    (peers : List Peer) (old : EngineView D) (links : List L)
     (before after : Option (List ℕ)) (status : ℕ) (rest : List L) (new : EngineView D) : Type 0 where
   pub ends : List PeerEnd
   pub kept : EngineView D
   pub told : Option (List ℕ)
   pub taken : EngineView D
-  pub tried : TriesAndSyncs InTurns history honest faults dig old links ends rest (Ok tt) kept
+  pub tried : TriesAndSyncs InTurns conduct dig old links ends rest (Ok tt) kept
   pub lines : Appends before told (peer_lines peers ends)
-  pub taken_in : TakesInAllWaiting history honest faults dig kept taken
-  pub end : IsConcluded history honest faults dig taken told after status new
+  pub taken_in : TakesInAllWaiting conduct dig kept taken
+  pub end : IsConcluded conduct dig taken told after status new
 
 -- ---- over TCP
 
@@ -71,12 +71,12 @@ flush_turns (Some path) = 16384
 
 -- Peers are tried in turn, and where there is a log, also flushed in their sessions and behind these. Without
 -- one there is no flush among them.
-abbrev pub TurnsOverTcp : {D : Type 0} → (D → History) → (D → Type 0) → (D → ℕ) → (List ℕ → List ℕ)
+abbrev pub TurnsOverTcp : {D : Type 0} → Conduct D → (List ℕ → List ℕ)
     → (log : Option (Bor (List ℕ))) → Turns D Dials
-TurnsOverTcp history honest faults dig None old links ends rest answer new =
-    (answer ≡ Ok tt) × InTurn (TriesOverTcp history honest faults dig) old links ends rest new
-TurnsOverTcp history honest faults dig (Some path) old links ends rest answer new =
-    InTurnWithFlushes (TriesWithFlushesOverTcp history honest faults dig (flush_turns (Some path)))
+TurnsOverTcp conduct dig None old links ends rest answer new =
+    (answer ≡ Ok tt) × InTurn (TriesOverTcp conduct dig) old links ends rest new
+TurnsOverTcp conduct dig (Some path) old links ends rest answer new =
+    InTurnWithFlushes (TriesWithFlushesOverTcp conduct dig (flush_turns (Some path)))
     old links ends rest answer new
 
 -- A link to each peer's host and port, in their order, none of which was dialled. What stands before their
@@ -85,11 +85,11 @@ abbrev pub links_of : List Ask → List Peer → List Dials
 links_of short peers = map (λ peer. undialled peer.host.now peer.port short) peers
 
 -- The same over a new link to each of the peers, for the short last blocks of the engine's own torrent.
-pub record HasFetchedOverTcp {D : Type 0} (history : D → History) (honest : D → Type 0) (faults : D → ℕ)
+pub record HasFetchedOverTcp {D : Type 0} (conduct : Conduct D)
     (dig : List ℕ → List ℕ) (peers : List Peer) (log : Option (Bor (List ℕ))) (old : EngineView D)
     (before after : Option (List ℕ)) (status : ℕ) (new : EngineView D) : Type 0 where
   pub rest : List Dials
-  pub fetched : HasFetched (TurnsOverTcp history honest faults dig log) history honest faults dig peers
+  pub fetched : HasFetched (TurnsOverTcp conduct dig log) conduct dig peers
       old (links_of (short_blocks_of old.state.torrent) peers) before after status rest new
 
 -- ---- the whole
@@ -100,16 +100,16 @@ pub record HasFetchedOverTcp {D : Type 0} (history : D → History) (honest : D 
 -- start, by bytes whose digest lies at its leaf, on a checked path to the file's root (`reported`); and what
 -- its device has is the published file, where that is honest (`published`). With status 0 each file of the
 -- torrent is so (`complete`).
-pub record EndsFetch {D : Type 0} {history : D → History} {honest : D → Type 0} {faults : D → ℕ}
+pub record EndsFetch {D : Type 0} {conduct : Conduct D}
     {dig : List ℕ → List ℕ} {torrent : Metainfo} {placed : List (Option D)} {attached : Option (LogView D)}
-    {first : EngineView D} (begins : BeginsOn history honest faults dig torrent placed attached first)
+    {first : EngineView D} (begins : BeginsOn conduct dig torrent placed attached first)
     (old : EngineView D) (peers : List Peer) (log : Option (Bor (List ℕ))) (before after : Option (List ℕ))
     (status : ℕ) : Type 0 where
   pub last : EngineView D
-  pub fetched : HasFetchedOverTcp history honest faults dig peers log old before after status last
+  pub fetched : HasFetchedOverTcp conduct dig peers log old before after status last
   pub whole : HasWholeRun begins last
   pub reported : ReportsMarked begins whole.runs
-  pub published : ReportsPublished history honest dig torrent last
+  pub published : ReportsPublished conduct dig torrent last
   pub complete : status ≡ 0 → (number : ℕ) (file : File) → slice_get torrent.files number ≡ Some file
       → IsFileMarkedOnPath begins whole.runs number file
 

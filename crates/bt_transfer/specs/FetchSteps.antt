@@ -1,6 +1,6 @@
 -- A fetch that fails.
 use Rattle.std.specs.Prelude.{◌≡◌, ℕ, List, Result, Ok, Err}
-use Rattle.bt_disk.specs.History.{History}
+use Rattle.bt_disk.specs.Conduct.{Conduct}
 use Rattle.bt_check.specs.Fault.{out_of_memory}
 use Rattle.bt_check.specs.declared.fault.Fault.{Fault}
 use Rattle.bt_files.specs.OpenFolder.{IsCallFault}
@@ -12,28 +12,28 @@ use Rattle.bt_runs.specs.Leads.{LeadsTo}
 use Rattle.bt_transfer.specs.Fetch.{TriesAndSyncs, Turns}
 
 -- Peers were tried in turn, and a flush among them or behind them was refused, which is told as this fault.
-pub record FailsToSync {D L : Type 0} (InTurns : Turns D L) (history : D → History) (honest : D → Type 0)
-    (faults : D → ℕ) (dig : List ℕ → List ℕ) (old : EngineView D) (links : List L) (ends : List PeerEnd)
+pub record FailsToSync {D L : Type 0} (InTurns : Turns D L) (conduct : Conduct D) (dig : List ℕ → List ℕ)
+    (old : EngineView D) (links : List L) (ends : List PeerEnd)
     (rest : List L) (fault : Fault) (new : EngineView D) : Type 0 where
   pub error : FlushError
   pub told : fault ≡ flush_fault error
-  pub tried : TriesAndSyncs InTurns history honest faults dig old links ends rest (Err error) new
+  pub tried : TriesAndSyncs InTurns conduct dig old links ends rest (Err error) new
 
 -- A fetch fails for want of memory, before any peer is tried; by a flush among the peers or behind them that was
 -- refused; or as the peers' lines are written, however that flush was answered: nothing comes behind it. Or it fails
 -- later, behind a flush that was made.
-pub data BreaksOff {D L : Type 0} (InTurns : Turns D L) (history : D → History) (honest : D → Type 0)
-    (faults : D → ℕ) (dig : List ℕ → List ℕ) (old : EngineView D) (links rest : List L) (fault : Fault)
+pub data BreaksOff {D L : Type 0} (InTurns : Turns D L) (conduct : Conduct D) (dig : List ℕ → List ℕ)
+    (old : EngineView D) (links rest : List L) (fault : Fault)
     (new : EngineView D) : Type 0 where
   none_tried : fault ≡ out_of_memory → rest ≡ links → new ≡ old
-      → BreaksOff InTurns history honest faults dig old links rest fault new
+      → BreaksOff InTurns conduct dig old links rest fault new
   refused : (ends : List PeerEnd)
-      → FailsToSync InTurns history honest faults dig old links ends rest fault new
-      → BreaksOff InTurns history honest faults dig old links rest fault new
+      → FailsToSync InTurns conduct dig old links ends rest fault new
+      → BreaksOff InTurns conduct dig old links rest fault new
   unwritten : (ends : List PeerEnd) (answer : Result (Unit {0}) FlushError)
-      → TriesAndSyncs InTurns history honest faults dig old links ends rest answer new → IsCallFault fault
-      → BreaksOff InTurns history honest faults dig old links rest fault new
+      → TriesAndSyncs InTurns conduct dig old links ends rest answer new → IsCallFault fault
+      → BreaksOff InTurns conduct dig old links rest fault new
   later : (ends : List PeerEnd) (kept : EngineView D)
-      → TriesAndSyncs InTurns history honest faults dig old links ends rest (Ok tt) kept
-      → LeadsTo history honest faults dig kept new
-      → BreaksOff InTurns history honest faults dig old links rest fault new
+      → TriesAndSyncs InTurns conduct dig old links ends rest (Ok tt) kept
+      → LeadsTo conduct dig kept new
+      → BreaksOff InTurns conduct dig old links rest fault new

@@ -1,6 +1,6 @@
 -- Peers over TCP. What a socket gives is some bytes, and it takes some: it is known by these alone.
 use Rattle.std.specs.Prelude.{⊤, ℕ, ◌^◌, List}
-use Rattle.bt_disk.specs.History.{History}
+use Rattle.bt_disk.specs.Conduct.{Conduct}
 use Rattle.bt_machine.specs.State.{EngineView}
 use Rattle.bt_peers.specs.Peers.{IsTried, IsTriedWithFlushes, Trial, TrialWithFlushes}
 use Rattle.bt_peers.specs.declared.end.PeerEnd.{PeerEnd}
@@ -12,17 +12,17 @@ abbrev pub session_turns : ℕ
 session_turns = 2 ^ 32
 
 -- a peer is tried, over a link of which the dials are counted
-abbrev pub TriesOverTcp : {D : Type 0} → (D → History) → (D → Type 0) → (D → ℕ) → (List ℕ → List ℕ)
+abbrev pub TriesOverTcp : {D : Type 0} → Conduct D → (List ℕ → List ℕ)
     → Trial D Dials
-TriesOverTcp history honest faults dig =
-    IsTried history honest faults dig (λ link. link.all) (λ link. link.failed) (λ link given taken. ⊤)
+TriesOverTcp conduct dig =
+    IsTried conduct dig (λ link. link.all) (λ link. link.failed) (λ link given taken. ⊤)
     (λ bytes. bytes) (λ bytes. bytes) session_turns
 
 -- the same, and the engine is flushed behind each `every`-th turn of the session, and behind the session
-abbrev pub TriesWithFlushesOverTcp : {D : Type 0} → (D → History) → (D → Type 0) → (D → ℕ)
+abbrev pub TriesWithFlushesOverTcp : {D : Type 0} → Conduct D
     → (List ℕ → List ℕ) → (every : ℕ) → TrialWithFlushes D Dials
-TriesWithFlushesOverTcp history honest faults dig every =
-    IsTriedWithFlushes history honest faults dig (λ link. link.all) (λ link. link.failed)
+TriesWithFlushesOverTcp conduct dig every =
+    IsTriedWithFlushes conduct dig (λ link. link.all) (λ link. link.failed)
     (λ link given taken. ⊤) (λ bytes. bytes) (λ bytes. bytes) every session_turns
 
 -- what is said of one connection: of the engine before, the peer's end and the engine afterwards
@@ -30,8 +30,8 @@ abbrev pub Meeting : (D : Type 0) → Type 1
 Meeting D = EngineView D → PeerEnd → EngineView D → Type 0
 
 -- a connection is served
-abbrev pub MeetsOverTcp : {D : Type 0} → (D → History) → (D → Type 0) → (D → ℕ) → (List ℕ → List ℕ)
+abbrev pub MeetsOverTcp : {D : Type 0} → Conduct D → (List ℕ → List ℕ)
     → Meeting D
-MeetsOverTcp history honest faults dig old end new =
-    IsServed history honest faults dig (λ given taken. ⊤) (λ bytes. bytes) (λ bytes. bytes) session_turns
+MeetsOverTcp conduct dig old end new =
+    IsServed conduct dig (λ given taken. ⊤) (λ bytes. bytes) (λ bytes. bytes) session_turns
     old end new

@@ -6,7 +6,7 @@ use Rattle.std.specs.Io.KnownBytes.{Appends}
 use Rattle.sha2.specs.Sha256.{sha256}
 use Rattle.bt_check.specs.Display.{line_text}
 use Rattle.bt_check.specs.declared.fault.Fault.{Fault}
-use Rattle.bt_disk.specs.History.{History}
+use Rattle.bt_disk.specs.Conduct.{Conduct}
 use Rattle.bt_resume.specs.ResumeLog.{LogView}
 use Rattle.bt_machine.specs.declared.error.FlushError.TheVariants.{LogFull}
 use Rattle.bt_machine.specs.declared.event.Event.TheVariants.{Flush}
@@ -20,7 +20,7 @@ use Rattle.bt_runs.specs.WholeRuns.{HasWholeRun}
 use Rattle.bt_files.specs.DataFiles.{DeviceView}
 use Rattle.bt_files.specs.OpenFolder.{IsCallFault}
 use Rattle.bt_files.specs.Report.{engine_report}
-use Rattle.bt_files.specs.Store.{device_faults, device_history, device_honest}
+use Rattle.bt_files.specs.Store.{device_conduct}
 use Rattle.bt_files.specs.declared.file_use.FileUse.{FileUse}
 use Rattle.bt_files.specs.declared.file_use.FileUse.TheVariants.{ReadOnly, Seed}
 use Rattle.bt_machine.specs.Report.{all_complete}
@@ -32,20 +32,20 @@ use Rattle.bt_words.specs.declared.peer.Serving.{Serving}
 use Rattle.bt_words.specs.declared.peer.Serving.TheVariants.{Count, Forever}
 
 -- so many connections were served, and then all devices were synced
-pub record HasServedCount {D : Type 0} (history : D → History) (honest : D → Type 0) (faults : D → ℕ)
+pub record HasServedCount {D : Type 0} (conduct : Conduct D)
     (dig : List ℕ → List ℕ) (count : ℕ) (old : EngineView D) (before after : Option (List ℕ))
     (new : EngineView D) : Type 0 where
   pub mid : EngineView D
-  pub served : HasServed (MeetsOverTcp history honest faults dig) count old before after mid
-  pub synced : StepsTo history honest faults dig mid Flush (Flushed (Ok tt)) new
+  pub served : HasServed (MeetsOverTcp conduct dig) count old before after mid
+  pub synced : StepsTo conduct dig mid Flush (Flushed (Ok tt)) new
 
 -- Where no count is given, all are served that can be numbered, and behind each all devices are synced.
-abbrev pub HasServedAll : {D : Type 0} → (D → History) → (D → Type 0) → (D → ℕ) → (List ℕ → List ℕ)
+abbrev pub HasServedAll : {D : Type 0} → Conduct D → (List ℕ → List ℕ)
     → Serving → EngineView D → (before after : Option (List ℕ)) → EngineView D → Type 0
-HasServedAll history honest faults dig (Count count) old before after new =
-    HasServedCount history honest faults dig count old before after new
-HasServedAll history honest faults dig Forever old before after new =
-    HasServed (MeetsAndSyncs history honest faults dig) (2 ^ 64 - 1) old before after new
+HasServedAll conduct dig (Count count) old before after new =
+    HasServedCount conduct dig count old before after new
+HasServedAll conduct dig Forever old before after new =
+    HasServed (MeetsAndSyncs conduct dig) (2 ^ 64 - 1) old before after new
 
 -- the port at which connections are waited for
 abbrev pub listening_line : ℕ → List ℕ
@@ -56,31 +56,31 @@ abbrev pub IsPortFor : (asked port : ℕ) → Type 0
 IsPortFor asked port = asked ≢ 0 → port ≡ asked
 
 -- the port of a listener was told, as the service asks for one, and then connections were served
-pub record HasListened {D : Type 0} (history : D → History) (honest : D → Type 0) (faults : D → ℕ)
+pub record HasListened {D : Type 0} (conduct : Conduct D)
     (dig : List ℕ → List ℕ) (service : Service) (old : EngineView D) (before after : Option (List ℕ))
     (new : EngineView D) : Type 0 where
   pub port : ℕ
   pub told : Option (List ℕ)
   pub listening : Appends before told (listening_line port)
-  pub served : HasServedAll history honest faults dig service.serving old told after new
+  pub served : HasServedAll conduct dig service.serving old told after new
   pub asked : IsPortFor service.port port
 
 -- a seed fails: before it serves, by a call, and the engine is as it was; or as it serves
-abbrev pub FailsToSeed : {D : Type 0} → (D → History) → (D → Type 0) → (D → ℕ) → (List ℕ → List ℕ)
+abbrev pub FailsToSeed : {D : Type 0} → Conduct D → (List ℕ → List ℕ)
     → EngineView D → Fault → EngineView D → Type 0
-FailsToSeed history honest faults dig old fault new =
-    ((new ≡ old) × IsCallFault fault) ⊎ FailsToServe history honest faults dig old fault new
+FailsToSeed conduct dig old fault new =
+    ((new ≡ old) × IsCallFault fault) ⊎ FailsToServe conduct dig old fault new
 
 -- An engine that began so, with a torrent, and with a log or without, and has come to `old`, served
 -- connections, and the status is 0. The whole, from its start on, is a run as promised: what it sent was cut
 -- from blocks whose digests lie at their leaves, on checked paths to their files' roots, and each block that
 -- is marked is so by such bytes.
-pub record EndsSeed {D : Type 0} {history : D → History} {honest : D → Type 0} {faults : D → ℕ}
+pub record EndsSeed {D : Type 0} {conduct : Conduct D}
     {dig : List ℕ → List ℕ} {torrent : Metainfo} {placed : List (Option D)} {attached : Option (LogView D)}
-    {first : EngineView D} (begins : BeginsOn history honest faults dig torrent placed attached first)
+    {first : EngineView D} (begins : BeginsOn conduct dig torrent placed attached first)
     (old : EngineView D) (service : Service) (before after : Option (List ℕ)) (status : ℕ) : Type 0 where
   pub last : EngineView D
-  pub listened : HasListened history honest faults dig service old before after last
+  pub listened : HasListened conduct dig service old before after last
   pub whole : HasWholeRun begins last
   pub done : status ≡ 0
 
@@ -122,6 +122,6 @@ pub record HasFilledLog (is_info : Bool) (dir : List ℕ) (service : Service) (l
   pub store : EngineView DeviceView
   pub loaded : IsLoaded is_info (seed_use service.is_read_only) dir log store
   pub mid : EngineView DeviceView
-  pub led : LeadsTo device_history device_honest device_faults sha256 store mid
+  pub led : LeadsTo device_conduct sha256 store mid
   pub last : EngineView DeviceView
-  pub full : StepsTo device_history device_honest device_faults sha256 mid Flush (Flushed (Err LogFull)) last
+  pub full : StepsTo device_conduct sha256 mid Flush (Flushed (Err LogFull)) last

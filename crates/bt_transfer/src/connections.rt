@@ -29,9 +29,9 @@ pub(crate) fn serve_count<D: Disk + Drop, H: NodeHash, N: Net + Clock, W: Write>
     writer: &mut W,
 ) -> Result<(), Fault>
     requires no_peer { engine.old.state.peers ≡ [] }
-    ensures served { OnOk result (HasServed (MeetsOverTcp D.history D.honest D.faults H.digest) count
+    ensures served { OnOk result (HasServed (MeetsOverTcp D.conduct H.digest) count
         engine.old (W.contents writer.old) (W.contents writer.new) engine.new) }
-    ensures run { LeadsTo D.history D.honest D.faults H.digest engine.old engine.new }
+    ensures run { LeadsTo D.conduct H.digest engine.old engine.new }
     ensures fault { IfErr result (λ fault. (fault ≡ device) ⊎ (fault ≡ out_of_memory)) }
 {
     for number in 0..count {
@@ -50,11 +50,11 @@ pub(crate) fn serve_forever<D: Disk + Drop, H: NodeHash, N: Net + Clock, W: Writ
     writer: &mut W,
 ) -> Result<(), Fault>
     requires no_peer { engine.old.state.peers ≡ [] }
-    ensures served { OnOk result (HasServed (MeetsAndSyncs D.history D.honest D.faults H.digest) (2 ^ 64 - 1)
+    ensures served { OnOk result (HasServed (MeetsAndSyncs D.conduct H.digest) (2 ^ 64 - 1)
         engine.old (W.contents writer.old) (W.contents writer.new) engine.new) }
     ensures kept { IfErr result
-        (λ fault. FailsToServe D.history D.honest D.faults H.digest engine.old fault engine.new) }
-    ensures run { LeadsTo D.history D.honest D.faults H.digest engine.old engine.new }
+        (λ fault. FailsToServe D.conduct H.digest engine.old fault engine.new) }
+    ensures run { LeadsTo D.conduct H.digest engine.old engine.new }
     ensures fault { IfErr result (IsEndFault engine.old.log) }
 {
     for number in 0..u64::MAX {
@@ -75,13 +75,13 @@ fn serve_and_sync<D: Disk + Drop, H: NodeHash, N: Net + Clock, W: Write>(
 ) -> Result<PeerEnd, Fault>
     requires no_peer { engine.old.state.peers ≡ [] }
     ensures served { IfOk result
-        (λ end. MeetsAndSyncs D.history D.honest D.faults H.digest engine.old end engine.new) }
+        (λ end. MeetsAndSyncs D.conduct H.digest engine.old end engine.new) }
     ensures told { IfOk result
         (λ end. Appends (W.contents writer.old) (W.contents writer.new) (served_line number end)) }
     ensures gone { OnOk result (engine.new.state.peers ≡ []) }
     ensures kept { IfErr result
-        (λ fault. FailsToServe D.history D.honest D.faults H.digest engine.old fault engine.new) }
-    ensures run { LeadsTo D.history D.honest D.faults H.digest engine.old engine.new }
+        (λ fault. FailsToServe D.conduct H.digest engine.old fault engine.new) }
+    ensures run { LeadsTo D.conduct H.digest engine.old engine.new }
     ensures fault { IfErr result (IsEndFault engine.old.log) }
 {
     let served = serve_next(alloc, reception, engine, number, writer);
@@ -102,11 +102,11 @@ fn serve_next<D: Disk + Drop, H: NodeHash, N: Net + Clock, W: Write>(
 ) -> Result<PeerEnd, Fault>
     requires no_peer { engine.old.state.peers ≡ [] }
     ensures served { IfOk result
-        (λ end. MeetsOverTcp D.history D.honest D.faults H.digest engine.old end engine.new) }
+        (λ end. MeetsOverTcp D.conduct H.digest engine.old end engine.new) }
     ensures told { IfOk result
         (λ end. Appends (W.contents writer.old) (W.contents writer.new) (served_line number end)) }
     ensures gone { engine.new.state.peers ≡ [] }
-    ensures run { LeadsTo D.history D.honest D.faults H.digest engine.old engine.new }
+    ensures run { LeadsTo D.conduct H.digest engine.old engine.new }
     ensures fault { IfErr result (λ fault. (fault ≡ device) ⊎ (fault ≡ out_of_memory)) }
 {
     let end = serve_one(alloc, reception, engine)?;
@@ -122,9 +122,9 @@ fn serve_one<D: Disk + Drop, H: NodeHash, N: Net + Clock>(
 ) -> Result<PeerEnd, Fault>
     requires no_peer { engine.old.state.peers ≡ [] }
     ensures served { IfOk result
-        (λ end. MeetsOverTcp D.history D.honest D.faults H.digest engine.old end engine.new) }
+        (λ end. MeetsOverTcp D.conduct H.digest engine.old end engine.new) }
     ensures gone { engine.new.state.peers ≡ [] }
-    ensures run { LeadsTo D.history D.honest D.faults H.digest engine.old engine.new }
+    ensures run { LeadsTo D.conduct H.digest engine.old engine.new }
     ensures fault { IfErr result (λ fault. fault ≡ device) }
 {
     let idle = Duration::from_secs(IDLE_SECONDS);

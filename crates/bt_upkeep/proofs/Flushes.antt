@@ -18,6 +18,7 @@ use Rattle.bt_state.proofs.DeviceCalls.{have_none, have_then}
 use Rattle.bt_state.proofs.Lists.{get_mapped}
 use Rattle.bt_state.proofs.SlotChanges.{have_changed}
 use Rattle.bt_upkeep.specs.DevicesSteps.{SyncsSlot, syncs, rests, SyncsSlots, without_disk, store_without_disk}
+use Rattle.bt_disk.specs.Conduct.{Conduct}
 
 -- ---- the files that have a block
 
@@ -67,15 +68,15 @@ module _ {D H : Type 0} (slot : Slot D H) where
 
 -- ---- the slots before one were synced
 
-module _ {D H : Type 0} (history : D → History) (honest : D → Type 0) (faults : D → ℕ) where
+module _ {D H : Type 0} (conduct : Conduct D) where
   pub record AreSyncedBelow (old now : List (Slot D H)) (i : ℕ) : Type 0 where
-    pub have : HaveCalls history honest faults (map disk_of old) (syncs_of (data_below (map file_of old) i)) (map disk_of now)
+    pub have : HaveCalls conduct (map disk_of old) (syncs_of (data_below (map file_of old) i)) (map disk_of now)
     pub others : map without_disk now ≡ map without_disk old
     pub after : (j : ℕ) → i ≤ j → slice_get now j ≡ slice_get old j
 
   pub none_synced : (slots : List (Slot D H)) → AreSyncedBelow slots slots 0
   none_synced slots = record {
-    have = have_none history honest faults (map disk_of slots);
+    have = have_none conduct (map disk_of slots);
     others = refl;
     after = λ j le. refl;
   }
@@ -85,25 +86,25 @@ module _ {D H : Type 0} (history : D → History) (honest : D → Type 0) (fault
     before = sym (below.after i (omega arith)) ∙ here
 
     module _ (store : StoreView D) (disk : D) (has : slot.store ≡ Some store) (is : new ≡ record slot { store = Some (record store { disk = disk }) }) where
-      have_call : (call : Call) → HasCalls history honest faults store.disk (call ∷ []) disk
-          → HaveCalls history honest faults (map disk_of old) (syncs_of (data_below (map file_of old) i) ++ (i, call) ∷ []) (map disk_of (slice_set now i new))
+      have_call : (call : Call) → HasCalls conduct store.disk (call ∷ []) disk
+          → HaveCalls conduct (map disk_of old) (syncs_of (data_below (map file_of old) i) ++ (i, call) ∷ []) (map disk_of (slice_set now i new))
       have_call call calls =
           let after : StoreView D = record store { disk = disk } in
-          subst (λ (s : Slot D H). HaveCalls history honest faults (map disk_of old) (syncs_of (data_below (map file_of old) i) ++ (i, call) ∷ [])
+          subst (λ (s : Slot D H). HaveCalls conduct (map disk_of old) (syncs_of (data_below (map file_of old) i) ++ (i, call) ∷ [])
           (map disk_of (slice_set now i s))) (sym is)
-          (have_then history honest faults (map disk_of old) (map disk_of now) (map disk_of (slice_set now i (record slot { store = Some after })))
-          (syncs_of (data_below (map file_of old) i)) ((i, call) ∷ []) below.have (have_changed now i here has after history honest faults (call ∷ []) calls))
+          (have_then conduct (map disk_of old) (map disk_of now) (map disk_of (slice_set now i (record slot { store = Some after })))
+          (syncs_of (data_below (map file_of old) i)) ((i, call) ∷ []) below.have (have_changed now i here has after conduct (call ∷ []) calls))
 
       all_others : map without_disk (slice_set now i new) ≡ map without_disk old
       all_others =
           map_stays without_disk now i new here
           (ap without_disk is ∙ sym (ap (λ (o : Option (StoreView D)). (slot.tree, option_map store_without_disk o)) has)) ∙ below.others
 
-    pub one_synced : SyncsSlot history honest faults slot (Ok tt) new → AreSyncedBelow old (slice_set now i new) (i + 1)
+    pub one_synced : SyncsSlot conduct slot (Ok tt) new → AreSyncedBelow old (slice_set now i new) (i + 1)
     one_synced (syncs store disk has some calls is) =
         let next = data_next (map file_of old) i true (at_file slot old i before (stored slot has some)) in
         record {
-          have = subst (λ (cs : DeviceCalls). HaveCalls history honest faults (map disk_of old) cs (map disk_of (slice_set now i new)))
+          have = subst (λ (cs : DeviceCalls). HaveCalls conduct (map disk_of old) cs (map disk_of (slice_set now i new)))
               (sym (ap syncs_of next ∙ map-append _ (data_below (map file_of old) i) (i ∷ []))) (have_call store disk has is _ calls);
           others = all_others store disk has is;
           after = λ j le. set_other now i j new (λ e. absurd (omega (arith, le, e))) ∙ below.after j (omega arith);
@@ -112,12 +113,12 @@ module _ {D H : Type 0} (history : D → History) (honest : D → Type 0) (fault
         let next = data_next (map file_of old) i false (at_file slot old i before (storeless slot has)) ∙ append-nil (data_below (map file_of old) i) in
         let same : slice_set now i new ≡ now = ap (slice_set now i) is ∙ set_id now i here in
         rw same (record {
-          have = subst (λ (cs : DeviceCalls). HaveCalls history honest faults (map disk_of old) cs (map disk_of now)) (sym (ap syncs_of next)) below.have;
+          have = subst (λ (cs : DeviceCalls). HaveCalls conduct (map disk_of old) cs (map disk_of now)) (sym (ap syncs_of next)) below.have;
           others = below.others;
           after = λ j le. below.after j (omega arith);
         })
 
-    pub sync_failed : (e : DeviceFault) → SyncsSlot history honest faults slot (Err e) new → SyncsSlots history honest faults old (Err Device) (slice_set now i new)
+    pub sync_failed : (e : DeviceFault) → SyncsSlot conduct slot (Err e) new → SyncsSlots conduct old (Err Device) (slice_set now i new)
     sync_failed e (syncs store disk has some calls is) =
         let files = map file_of old in
         let lt : i < length files = rw (length-map old file_of) (some_below old i before) in
@@ -133,7 +134,7 @@ module _ {D H : Type 0} (history : D → History) (honest : D → Type 0) (fault
         }
     sync_failed e (rests has answer is) = absurd cc
 
-  pub all_synced : (old now : List (Slot D H)) (i : ℕ) → i ≡ length old → AreSyncedBelow old now i → SyncsSlots history honest faults old (Ok tt) now
+  pub all_synced : (old now : List (Slot D H)) (i : ℕ) → i ≡ length old → AreSyncedBelow old now i → SyncsSlots conduct old (Ok tt) now
   all_synced old now i all below = record {
     calls = syncs_of (data_below (map file_of old) i);
     have = below.have;

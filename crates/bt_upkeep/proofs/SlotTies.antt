@@ -15,6 +15,7 @@ use Rattle.bt_state.specs.declared.parts.Parts.{Parts}
 use Rattle.bt_state.proofs.Lists.{get_mapped}
 use Rattle.bt_state.proofs.Ties.{tied_again}
 use Rattle.bt_upkeep.specs.DevicesSteps.{store_without_disk, without_disk, SyncsSlots}
+use Rattle.bt_disk.specs.Conduct.{Conduct}
 
 -- the machine's file of what is kept
 abbrev file_from : ℕ × Option (ℕ × List BlockState) → FileState
@@ -62,11 +63,11 @@ module _ {D H : Type 0} where
   }
 
   -- the slots as they were passed and as they came back
-  pub synced_as : (history : D → History) (honest : D → Type 0) (faults : D → ℕ) (r : Result (Unit {0}) FlushError) {passed old back new : List (Slot D H)}
-      → passed ≡ old → new ≡ back → SyncsSlots history honest faults passed r back → SyncsSlots history honest faults old r new
-  synced_as history honest faults r {old = old} {back = back} was now synced =
-      subst (λ (slots : List (Slot D H)). SyncsSlots history honest faults old r slots) (sym now)
-      (subst (λ (slots : List (Slot D H)). SyncsSlots history honest faults slots r back) was synced)
+  pub synced_as : (conduct : Conduct D) (r : Result (Unit {0}) FlushError) {passed old back new : List (Slot D H)}
+      → passed ≡ old → new ≡ back → SyncsSlots conduct passed r back → SyncsSlots conduct old r new
+  synced_as conduct r {old = old} {back = back} was now synced =
+      subst (λ (slots : List (Slot D H)). SyncsSlots conduct old r slots) (sym now)
+      (subst (λ (slots : List (Slot D H)). SyncsSlots conduct slots r back) was synced)
 
   module _ (old new : Parts D H) (kept : map without_disk new.slots.items ≡ map without_disk old.slots.items) where
     pub state_kept : state_of (record old { slots = new.slots }) ≡ state_of old

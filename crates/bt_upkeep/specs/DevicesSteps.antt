@@ -1,6 +1,6 @@
 -- How the devices of slots are synced, one after the other, and how what waits is written to the log.
 use Rattle.std.specs.Prelude.{[], ◌≡◌, ℕ, ◌<◌, List, ◌∷◌, map, length, Option, Some, None, option_map, Result, Ok, Err}
-use Rattle.bt_disk.specs.History.{History}
+use Rattle.bt_disk.specs.Conduct.{Conduct}
 use Rattle.bt_disk.specs.Calls.{HasCalls, sync_call}
 use Rattle.bt_disk.specs.declared.disk.DeviceFault.{DeviceFault}
 use Rattle.bt_store.specs.FileStore.{StoreView}
@@ -17,13 +17,13 @@ use Rattle.bt_state.specs.declared.slot.Slot.{Slot}
 
 -- the slot's device was synced, where it has one, and nothing else changed; a store has a block
 pub data SyncsSlot
-    {D H : Type 0} (history : D → History) (honest : D → Type 0) (faults : D → ℕ)
+    {D H : Type 0} (conduct : Conduct D)
     (old : Slot D H) (answer : Result (Unit {0}) DeviceFault) (new : Slot D H) : Type 0 where
   syncs : (store : StoreView D) (disk : D) → old.store ≡ Some store → 0 < length store.states
-      → HasCalls history honest faults store.disk (sync_call answer ∷ []) disk
+      → HasCalls conduct store.disk (sync_call answer ∷ []) disk
       → new ≡ record old { store = Some (record store { disk = disk }) }
-      → SyncsSlot history honest faults old answer new
-  rests : old.store ≡ None → answer ≡ Ok tt → new ≡ old → SyncsSlot history honest faults old answer new
+      → SyncsSlot conduct old answer new
+  rests : old.store ≡ None → answer ≡ Ok tt → new ≡ old → SyncsSlot conduct old answer new
 
 -- a store and a slot but for the device: a file's length and the states of its blocks, and a slot's tree
 abbrev pub store_without_disk : {D : Type 0} → StoreView D → ℕ × List BlockState
@@ -40,20 +40,20 @@ SyncsData s calls (Err cause) = StepFlush s (on_devices calls) (Err cause) s
 
 -- The devices were synced as those of an engine of these files. All else stays.
 pub record SyncsSlots
-    {D H : Type 0} (history : D → History) (honest : D → Type 0) (faults : D → ℕ)
+    {D H : Type 0} (conduct : Conduct D)
     (old : List (Slot D H)) (answer : Result (Unit {0}) FlushError) (new : List (Slot D H)) : Type 0 where
   pub calls : DeviceCalls
-  pub have : HaveCalls history honest faults (map disk_of old) calls (map disk_of new)
+  pub have : HaveCalls conduct (map disk_of old) calls (map disk_of new)
   pub synced : (s : EngineState) → s.files ≡ map file_of old → SyncsData s calls answer
   pub others : map without_disk new ≡ map without_disk old
 
 -- What waits was written to the log, where there is one.
 pub data WritesLog
-    {D : Type 0} (history : D → History) (honest : D → Type 0) (faults : D → ℕ)
+    {D : Type 0} (conduct : Conduct D)
     (old : Option (OpenLog D)) (answer : Result (Unit {0}) FlushError) (new : Option (OpenLog D))
     : Type 0 where
   writes : (before after : OpenLog D) (calls : List LogCall) → old ≡ Some before → new ≡ Some after
-      → AreLogCalls history honest faults before.log calls after.log
+      → AreLogCalls conduct before.log calls after.log
       → WritesHints before.pending.hints calls answer after.pending.hints
-      → WritesLog history honest faults old answer new
-  no_log : old ≡ None → answer ≡ Ok tt → new ≡ old → WritesLog history honest faults old answer new
+      → WritesLog conduct old answer new
+  no_log : old ≡ None → answer ≡ Ok tt → new ≡ old → WritesLog conduct old answer new

@@ -23,8 +23,8 @@ use bt_tree::NodeHash;
 pub fn flush<D: Disk + Drop, H: NodeHash>(parts: &mut Parts<D, H>) -> Result<(), FlushError>
     requires { IsTied parts.old }
     ensures step { (calls : EventCalls)
-        × HaveCalls D.history D.honest D.faults (disks_of parts.old) calls.devices (disks_of parts.new)
-        × HaveLogCalls D.history D.honest D.faults (log_of parts.old) calls.log (log_of parts.new)
+        × HaveCalls D.conduct (disks_of parts.old) calls.devices (disks_of parts.new)
+        × HaveLogCalls D.conduct (log_of parts.old) calls.log (log_of parts.new)
         × StepFlush (state_of parts.old) calls result (state_of parts.new) }
     ensures torrent { parts.new.torrent ≡ parts.old.torrent }
     ensures tied { IsTied parts.new }
@@ -36,7 +36,7 @@ pub fn flush<D: Disk + Drop, H: NodeHash>(parts: &mut Parts<D, H>) -> Result<(),
 
 /// Syncs the device of each slot that has one, up to the first that fails.
 fn sync_slots<D: Disk + Drop, H: NodeHash>(slots: &mut [Slot<D, H>]) -> Result<(), FlushError>
-    ensures { SyncsSlots D.history D.honest D.faults slots.old result slots.new }
+    ensures { SyncsSlots D.conduct slots.old result slots.new }
 {
     for slot in slots.iter_mut() {
         if let Err(DeviceFault) = sync_slot(slot) {
@@ -48,7 +48,7 @@ fn sync_slots<D: Disk + Drop, H: NodeHash>(slots: &mut [Slot<D, H>]) -> Result<(
 
 /// Syncs the slot's device, where it has one.
 fn sync_slot<D: Disk + Drop, H: NodeHash>(slot: &mut Slot<D, H>) -> Result<(), DeviceFault>
-    ensures { SyncsSlot D.history D.honest D.faults slot.old result slot.new }
+    ensures { SyncsSlot D.conduct slot.old result slot.new }
 {
     let Some(store) = &mut slot.store else {
         return Ok(());
@@ -66,7 +66,7 @@ fn has_block<D: Disk + Drop, H: NodeHash>(store: &FileStore<D, H>)
 
 /// Writes what waits to the log, where there is one.
 fn write_log<D: Disk + Drop>(log: &mut Option<OpenLog<D>>) -> Result<(), FlushError>
-    ensures { WritesLog D.history D.honest D.faults log.old result log.new }
+    ensures { WritesLog D.conduct log.old result log.new }
 {
     let Some(open_log) = log else {
         return Ok(());

@@ -44,6 +44,7 @@ use Rattle.bt_wire_events.proofs.HashesHandled.{at_file, nothing_called, refused
 use Rattle.bt_wire_events.proofs.KeptHints.{keeps_none, keeps_proofs}
 use Rattle.bt_wire_events.proofs.NotedBlocks.{slots_noted}
 use Rattle.bt_wire_events.proofs.Vectors.{vec_kept}
+use Rattle.bt_disk.specs.Conduct.{Conduct}
 
 -- each slot has a store of its tree's length
 fits_lengths : {D H : Type 0} (parts : Parts D H) → IsTied parts → FitLengths parts.trees.items parts.slots.items
@@ -52,15 +53,15 @@ fits_lengths {D} parts tied file slot k here stands = λ same store has.
     ap (λ (x : Facts). x.file_length) (some_is (sym stands ∙ of.stands)) ∙ of.same
 
 -- the lists that were lent are the parts'
-pub changes_of : {D H : Type 0} (history : D → History) (honest : D → Type 0) (faults : D → ℕ) (dig : List ℕ → List ℕ) (key : HashKey) (digests : List ℕ)
+pub changes_of : {D H : Type 0} (conduct : Conduct D) (dig : List ℕ → List ℕ) (key : HashKey) (digests : List ℕ)
     (hint : Option Hint) (old : Parts D H) (trees : List Facts) (slots : List (Slot D H)) (said learnt : Learnt) (grown : List Facts) (settled : List (Slot D H))
     → trees ≡ old.trees.items → slots ≡ old.slots.items → said ≡ learnt
-    → ChangesByHashes history honest faults dig key digests hint trees slots said grown settled
-    → ChangesByHashes history honest faults dig key digests hint old.trees.items old.slots.items learnt grown settled
-changes_of {D} {H} history honest faults dig key digests hint old trees slots said learnt grown settled same_trees same_slots is changes =
-    subst (λ (ts : List Facts). ChangesByHashes history honest faults dig key digests hint ts old.slots.items learnt grown settled) same_trees
-    (subst (λ (ss : List (Slot D H)). ChangesByHashes history honest faults dig key digests hint trees ss learnt grown settled) same_slots
-    (subst (λ (l : Learnt). ChangesByHashes history honest faults dig key digests hint trees slots l grown settled) is changes))
+    → ChangesByHashes conduct dig key digests hint trees slots said grown settled
+    → ChangesByHashes conduct dig key digests hint old.trees.items old.slots.items learnt grown settled
+changes_of {D} {H} conduct dig key digests hint old trees slots said learnt grown settled same_trees same_slots is changes =
+    subst (λ (ts : List Facts). ChangesByHashes conduct dig key digests hint ts old.slots.items learnt grown settled) same_trees
+    (subst (λ (ss : List (Slot D H)). ChangesByHashes conduct dig key digests hint trees ss learnt grown settled) same_slots
+    (subst (λ (l : Learnt). ChangesByHashes conduct dig key digests hint trees slots l grown settled) is changes))
 
 -- the same trees and slots were written over the parts'
 pub parts_kept : {D H : Type 0} (old : Parts D H) (trees : List Facts) (slots : List (Slot D H)) → length trees ≡ vec_len old.trees → trees ≡ old.trees.items
@@ -71,13 +72,13 @@ parts_kept {D} {H} old trees slots tree_count same_trees slot_count same_slots =
     ∙ ap {B = Parts D H} (λ ss. record old { slots = ss }) (vec_kept old.slots slots slot_count same_slots)
 
 -- hashes that are refused
-pub takes_refused : {D H : Type 0} (history : D → History) (honest : D → Type 0) (faults : D → ℕ) (dig : List ℕ → List ℕ) (key : HashKey) (digests : List ℕ)
+pub takes_refused : {D H : Type 0} (conduct : Conduct D) (dig : List ℕ → List ℕ) (key : HashKey) (digests : List ℕ)
     (old new : Parts D H) (i : ℕ) (why : Why) → new ≡ old → AreRefused dig old.trees.items key digests why
-    → TakesHashes history honest faults dig old i key digests (Refused why) new
-takes_refused {D} {H} history honest faults dig key digests old new i why same refusal = (
+    → TakesHashes conduct dig old i key digests (Refused why) new
+takes_refused {D} {H} conduct dig key digests old new i why same refusal = (
   [],
   [],
-  subst (λ (x : Parts D H). HaveCalls history honest faults (disks_of old) [] (disks_of x)) (sym same) (nothing_called history honest faults (disks_of old)),
+  subst (λ (x : Parts D H). HaveCalls conduct (disks_of old) [] (disks_of x)) (sym same) (nothing_called conduct (disks_of old)),
   λ p at. refused_so dig key digests old.trees.items why refusal (state_of old) i p (state_of new) refl (ap (λ (x : Parts D H). state_of x) same),
   keeps_none old,
 )
@@ -86,12 +87,12 @@ no_store : {D : Type 0} (o : Option (StoreView D)) → option_map (λ store. sto
 no_store None e = refl
 no_store (Some store) e = absurd cc
 
-module _ {D H : Type 0} (history : D → History) (honest : D → Type 0) (faults : D → ℕ) (dig : List ℕ → List ℕ) (key : HashKey) (digests : List ℕ)
+module _ {D H : Type 0} (conduct : Conduct D) (dig : List ℕ → List ℕ) (key : HashKey) (digests : List ℕ)
     (old : Parts D H) (tied : IsTied old) (notes : Vec Note) (grown : List Facts) (settled : List (Slot D H))
-    (l : Learns history honest faults dig key digests old.trees.items old.slots.items notes.items grown settled) where
+    (l : Learns conduct dig key digests old.trees.items old.slots.items notes.items grown settled) where
   pub fits_settled : EachFits old.torrent.files grown settled
   fits_settled i slot at =
-      let o = at_file history honest faults dig l.new l.tree key.index (settled_count key) old.slots.items settled l.settles i at in
+      let o = at_file conduct dig l.new l.tree key.index (settled_count key) old.slots.items settled l.settles i at in
       let was = subst (λ (ts : List Facts). EachFits old.torrent.files ts old.slots.items) (sym l.grows)
       (fits_trees old.slots.items l.tree l.new l.here.here l.accepts.joins.file_length tied.each) i o.0 o.1 in
       let same_tree : slot.tree ≡ o.0.tree = ap (λ (f : FileState). f.tree) o.2.judged in
@@ -129,7 +130,7 @@ module _ {D H : Type 0} (history : D → History) (honest : D → Type 0) (fault
           same_torrent = refl;
           followed = followed_alike first (followed_tied old tied shaped) refl refl;
           noted = subst (λ (ss : List (Slot D H)). AreNotesOf first notes.items (record (state_of learnt_parts) { files = map file_of ss })) (sym slots)
-              (slots_noted dig l.new history honest faults l.tree key.index (settled_count key) old.slots.items settled notes.items l.settles (state_of learnt_parts));
+              (slots_noted dig l.new conduct l.tree key.index (settled_count key) old.slots.items settled notes.items l.settles (state_of learnt_parts));
         }
 
     pub keys_kept : map (λ p. p.key) new_parts.peers.items ≡ map (λ p. p.key) old.peers.items
@@ -140,7 +141,7 @@ module _ {D H : Type 0} (history : D → History) (honest : D → Type 0) (fault
     leaves_learnt = leaves_by (state_of old) (state_of new_parts)
         (λ file f at.
         let n = get_map file_of settled file (ap (λ (ss : List (Slot D H)). slice_get (map file_of ss) file) (sym slots) ∙ at) in
-        let o = at_file history honest faults dig l.new l.tree key.index (settled_count key) old.slots.items settled l.settles file n.1 in
+        let o = at_file conduct dig l.new l.tree key.index (settled_count key) old.slots.items settled l.settles file n.1 in
         (file_of o.0, get_mapped file_of old.slots.items file o.1, ap (λ (g : FileState). g.tree) (sym n.2 ∙ o.2.judged)))
         (λ tree j at.
         one_grown old.trees.items l.tree l.here.here (still_joined l.accepts.joins) tree j
@@ -166,14 +167,14 @@ module _ {D H : Type 0} (history : D → History) (honest : D → Type 0) (fault
     pub takes_learnt : (hash : HashState) → q ≡ record p { hash = hash } → Resolves key Idle p.hash hash
         → ((known : PeerKey) → asked_of next.book known ≡ asked_of old.book known)
         → (hint kept : Option Hint) → hint ≡ hint_of (is_some old.log) key digests → kept ≡ kept_hint l.old l.new hint
-        → TakesHashes history honest faults dig old i key digests (Settled notes kept) new_parts
+        → TakesHashes conduct dig old i key digests (Settled notes kept) new_parts
     takes_learnt hash is resolves asked hint kept made keeps =
-        let calls = learning_calls dig key digests old.trees.items history honest faults old.slots.items grown settled l in
+        let calls = learning_calls dig key digests old.trees.items conduct old.slots.items grown settled l in
         let proofs = new_proofs key digests l.old l.new in (
           calls,
           proofs,
-          subst (λ (ss : List (Slot D H)). HaveCalls history honest faults (disks_of old) calls (map disk_of ss)) (sym slots)
-              (have_learning_calls dig key digests old.trees.items history honest faults old.slots.items grown settled l),
+          subst (λ (ss : List (Slot D H)). HaveCalls conduct (disks_of old) calls (map disk_of ss)) (sym slots)
+              (have_learning_calls dig key digests old.trees.items conduct old.slots.items grown settled l),
           λ x at.
               let own : peer_of old.book p ≡ x = some_is (sym (get_mapped (peer_of old.book) old.peers.items i here) ∙ at) in
               let after : peer_of old.book q ≡ record x { hash = hash } =
@@ -181,7 +182,7 @@ module _ {D H : Type 0} (history : D → History) (honest : D → Type 0) (fault
               let last = state_learnt asked
               ∙ ap (λ (y : PeerState). with_peer (record (state_of old) { trees = grown; files = map file_of settled }) i y) after in
               subst (λ (t : EngineState). HandlesHashes dig (state_of old) i x key digests calls (record no_effect { notes = notes.items; proofs = proofs }) t) (sym last)
-              (learnt_so dig key digests old.trees.items history honest faults old.slots.items grown settled l (state_of old) i x hash refl refl
+              (learnt_so dig key digests old.trees.items conduct old.slots.items grown settled l (state_of old) i x hash refl refl
               (subst (λ (y : PeerState). Resolves key Idle y.hash hash) own resolves)),
           keeps_proofs key digests old l.old l.new hint kept made keeps,
         )

@@ -18,6 +18,7 @@ use Rattle.bt_state.specs.Parts.{file_of, disk_of}
 use Rattle.bt_wire_events.specs.RunSteps.{HasCallsIfAny, SettlesSlot, SettlesSlots}
 use Rattle.bt_wire_events.specs.LearningSteps.{AreRefused, unknown_root, no_claim, refused, Learns}
 use Rattle.bt_state.specs.declared.slot.Slot.{Slot}
+use Rattle.bt_disk.specs.Conduct.{Conduct}
 
 -- ---- reads of one file among those of all
 
@@ -81,47 +82,47 @@ no_element : {X : Type 0} (xs : List X) (i : ℕ) (o : Option X) → slice_get x
 no_element xs i None at past = refl
 no_element xs i (Some x) at past = absurd (let lt = some_below xs i at in omega arith)
 
-pub nothing_called : {D : Type 0} (history : D → History) (honest : D → Type 0) (faults : D → ℕ) (disks : List (Option D))
-    → HaveCalls history honest faults disks [] disks
-nothing_called history honest faults disks = record {
+pub nothing_called : {D : Type 0} (conduct : Conduct D) (disks : List (Option D))
+    → HaveCalls conduct disks [] disks
+nothing_called conduct disks = record {
   count = refl;
   none = λ file. (λ e. e, λ e. e);
   of_devices = λ file call c. absurd (contains_none c);
-  each = λ file after here. (after, here, has_none history honest faults after);
+  each = λ file after here. (after, here, has_none conduct after);
 }
 
-module _ {D H : Type 0} (history : D → History) (honest : D → Type 0) (faults : D → ℕ) (dig : List ℕ → List ℕ) (k : Facts) (tree from count : ℕ)
-    (old new : List (Slot D H)) {notes : List Note} (s : SettlesSlots history honest faults dig k tree from count old [] notes new) where
+module _ {D H : Type 0} (conduct : Conduct D) (dig : List ℕ → List ℕ) (k : Facts) (tree from count : ℕ)
+    (old new : List (Slot D H)) {notes : List Note} (s : SettlesSlots conduct dig k tree from count old [] notes new) where
   abbrev pub the_calls : DeviceCalls
   the_calls = all_reads k.file_length s.reads 0 (length old)
 
-  any_none : (calls : List Call) (o : Option D) (n : Option D) → HasCallsIfAny history honest faults o calls n → (o ≡ None → n ≡ None) × (n ≡ None → o ≡ None)
+  any_none : (calls : List Call) (o : Option D) (n : Option D) → HasCallsIfAny conduct o calls n → (o ≡ None → n ≡ None) × (n ≡ None → o ≡ None)
   any_none calls None n has = ((λ e. has.1), (λ e. refl))
   any_none calls (Some d) n has = ((λ e. absurd cc), (λ e. absurd (let is = has.1 in cc)))
 
-  any_some : (calls : List Call) (o : Option D) (n : Option D) {after : D} → HasCallsIfAny history honest faults o calls n → n ≡ Some after
-      → (before : D) × (o ≡ Some before) × HasCalls history honest faults before calls after
+  any_some : (calls : List Call) (o : Option D) (n : Option D) {after : D} → HasCallsIfAny conduct o calls n → n ≡ Some after
+      → (before : D) × (o ≡ Some before) × HasCalls conduct before calls after
   any_some calls None n has e = absurd (let is = has.1 in cc)
-  any_some calls (Some d) n has e = (d, refl, subst (λ x. HasCalls history honest faults d calls x) (some_is (sym has.1 ∙ e)) has.2)
+  any_some calls (Some d) n has e = (d, refl, subst (λ x. HasCalls conduct d calls x) (some_is (sym has.1 ∙ e)) has.2)
 
-  any_called : (calls : List Call) (call : Call) (o : Option D) (n : Option D) → HasCallsIfAny history honest faults o calls n → Contains calls call
+  any_called : (calls : List Call) (call : Call) (o : Option D) (n : Option D) → HasCallsIfAny conduct o calls n → Contains calls call
       → (after : D) × (n ≡ Some after)
   any_called calls call None n has c = absurd (contains_none (subst (λ cs. Contains cs call) has.0 c))
   any_called calls call (Some d) n has c = (has.0, has.1)
 
   -- the old slot of a file, and what became of it
   pub at_file : (file : ℕ) {n : Slot D H} → slice_get new file ≡ Some n → (o : Slot D H) × (slice_get old file ≡ Some o)
-      × SettlesSlot history honest faults dig k tree from count o (s.reads file) n
+      × SettlesSlot conduct dig k tree from count o (s.reads file) n
   at_file file {n} there =
       let lt = some_below new file there in
       let o = get_some old file (let size = s.size in omega arith) in
       let e = s.each file o.0 o.1 in
-      (o.0, o.1, subst (λ (x : Slot D H). SettlesSlot history honest faults dig k tree from count o.0 (s.reads file) x) (some_is (sym e.1 ∙ there)) e.2)
+      (o.0, o.1, subst (λ (x : Slot D H). SettlesSlot conduct dig k tree from count o.0 (s.reads file) x) (some_is (sym e.1 ∙ there)) e.2)
 
   own : (file : ℕ) {o : Slot D H} → slice_get old file ≡ Some o → calls_of file the_calls ≡ map (call_of k.file_length) (s.reads file)
   own file here = calls_of_file k.file_length s.reads file 0 (length old) (omega arith) (let lt = some_below old file here in omega arith)
 
-  pub have_calls : HaveCalls history honest faults (map disk_of old) the_calls (map disk_of new)
+  pub have_calls : HaveCalls conduct (map disk_of old) the_calls (map disk_of new)
   have_calls = record {
     count = length-map new disk_of ∙ s.size ∙ sym (length-map old disk_of);
     none = λ file. (
@@ -146,7 +147,7 @@ module _ {D H : Type 0} (history : D → History) (honest : D → Type 0) (fault
         let b = any_some _ (disk_of o.0) (disk_of n.0) o.2.made n.2 in (
           b.0,
           get_map_is disk_of old file ∙ ap (option_map disk_of) o.1 ∙ ap (λ x. Some x) b.1,
-          subst (λ cs. HasCalls history honest faults b.0 cs after) (sym (own file o.1)) b.2,
+          subst (λ cs. HasCalls conduct b.0 cs after) (sym (own file o.1)) b.2,
         )
         );
   }
@@ -200,14 +201,14 @@ module _ (dig : List ℕ → List ℕ) (key : HashKey) (digests : List ℕ) (tre
       is_refused fault tree k claim (record { here = ap (λ ts. slice_get ts tree) same ∙ has.here; same_root = has.same_root }) claims bad
       (record { not_memory = memory; made = refl; has_effect = refl; after = is })
 
-  module _ {D H : Type 0} (history : D → History) (honest : D → Type 0) (faults : D → ℕ) (slots : List (Slot D H)) {notes : List Note}
-      (grown : List Facts) (settled : List (Slot D H)) (l : Learns history honest faults dig key digests trees slots notes grown settled) where
+  module _ {D H : Type 0} (conduct : Conduct D) (slots : List (Slot D H)) {notes : List Note}
+      (grown : List Facts) (settled : List (Slot D H)) (l : Learns conduct dig key digests trees slots notes grown settled) where
     -- the calls of the devices
     abbrev pub learning_calls : DeviceCalls
-    learning_calls = the_calls history honest faults dig l.new l.tree key.index (settled_count key) slots settled l.settles
+    learning_calls = the_calls conduct dig l.new l.tree key.index (settled_count key) slots settled l.settles
 
-    pub have_learning_calls : HaveCalls history honest faults (map disk_of slots) learning_calls (map disk_of settled)
-    have_learning_calls = have_calls history honest faults dig l.new l.tree key.index (settled_count key) slots settled l.settles
+    pub have_learning_calls : HaveCalls conduct (map disk_of slots) learning_calls (map disk_of settled)
+    have_learning_calls = have_calls conduct dig l.new l.tree key.index (settled_count key) slots settled l.settles
 
     pub learnt_so : (s : EngineState) (i : ℕ) (p : PeerState) (hash : HashState) → s.trees ≡ trees → s.files ≡ map file_of slots → Resolves key Idle p.hash hash
         → HandlesHashes dig s i p key digests learning_calls (record no_effect { notes = notes; proofs = new_proofs key digests l.old l.new })
@@ -225,7 +226,7 @@ module _ (dig : List ℕ → List ℕ) (key : HashKey) (digests : List ℕ) (tre
           here = record { here = was; same_root = l.here.same_root };
           claims = l.claims;
           accepts = l.accepts;
-          settles = settles_in history honest faults dig l.new l.tree key.index (settled_count key) slots settled l.settles (with_tree s l.tree l.new) files
+          settles = settles_in conduct dig l.new l.tree key.index (settled_count key) slots settled l.settles (with_tree s l.tree l.new) files
               (set_same s.trees l.tree was);
           resolves = resolves;
           has_effect = refl;

@@ -21,6 +21,7 @@ use Rattle.bt_state.proofs.Lists.{get_mapped}
 use Rattle.bt_state.proofs.SlotChanges.{block_changed, set_again}
 use Rattle.bt_wire_events.specs.RunSteps.{SettlesSlots}
 use Rattle.bt_wire_events.specs.HashesSteps.{IsNoteOf, AreNotesOf}
+use Rattle.bt_disk.specs.Conduct.{Conduct}
 
 same_list : {X : Type 0} (xs ys : List X) → ((i : ℕ) → slice_get xs i ≡ slice_get ys i) → xs ≡ ys
 same_list [] [] same = refl
@@ -132,8 +133,8 @@ module _ (dig : List ℕ → List ℕ) (k : Facts) where
           | inr apart ↦ others file (λ from below. out (omega (arith, apart)) (omega arith)) ∙ sym (set_other files first file _ apart)
         ]
 
-  module _ {D H : Type 0} (history : D → History) (honest : D → Type 0) (faults : D → ℕ) (tree from count : ℕ) (old new : List (Slot D H)) (notes : List Note)
-      (s : SettlesSlots history honest faults dig k tree from count old [] notes new) where
+  module _ {D H : Type 0} (conduct : Conduct D) (tree from count : ℕ) (old new : List (Slot D H)) (notes : List Note)
+      (s : SettlesSlots conduct dig k tree from count old [] notes new) where
     settled_file : (file : ℕ) → file < length old → IsSettled s.reads (map file_of old) (map file_of new) file
     settled_file file below =
         let o = get_some old file below in

@@ -21,6 +21,7 @@ use Rattle.bt_state.proofs.Lists.{get_mapped}
 use Rattle.bt_wire_events.specs.NoteRooms.{note_room, slot_room}
 use Rattle.bt_wire_events.specs.RunSteps.{HasCallsIfAny, SettlesSlot, SettlesSlots}
 use Rattle.bt_state.specs.declared.slot.Slot.{Slot}
+use Rattle.bt_disk.specs.Conduct.{Conduct}
 
 -- ---- a run that goes past the file's end
 
@@ -57,15 +58,15 @@ module _ (dig : List ℕ → List ℕ) (k : Facts) (states : List BlockState) wh
 
 -- ---- one file
 
-nothing_called : {D : Type 0} (history : D → History) (honest : D → Type 0) (faults : D → ℕ) (disk : Option D)
-    → HasCallsIfAny history honest faults disk [] disk
-nothing_called history honest faults None = (refl, refl)
-nothing_called history honest faults (Some disk) = (disk, refl, has_none history honest faults disk)
+nothing_called : {D : Type 0} (conduct : Conduct D) (disk : Option D)
+    → HasCallsIfAny conduct disk [] disk
+nothing_called conduct None = (refl, refl)
+nothing_called conduct (Some disk) = (disk, refl, has_none conduct disk)
 
-module _ {D H : Type 0} (history : D → History) (honest : D → Type 0) (faults : D → ℕ) (dig : List ℕ → List ℕ) (k : Facts) (tree from count : ℕ) where
+module _ {D H : Type 0} (conduct : Conduct D) (dig : List ℕ → List ℕ) (k : Facts) (tree from count : ℕ) where
   -- nothing is due
-  pub slot_kept : (slot : Slot D H) → due_blocks dig k tree from count (file_of slot) ≡ [] → SettlesSlot history honest faults dig k tree from count slot [] slot
-  slot_kept slot none = record { due = sym none; judged = refl; same_file = refl; made = nothing_called history honest faults (disk_of slot) }
+  pub slot_kept : (slot : Slot D H) → due_blocks dig k tree from count (file_of slot) ≡ [] → SettlesSlot conduct dig k tree from count slot [] slot
+  slot_kept slot none = record { due = sym none; judged = refl; same_file = refl; made = nothing_called conduct (disk_of slot) }
 
   pub of_other : (slot : Slot D H) → slot.tree ≢ tree → due_blocks dig k tree from count (file_of slot) ≡ []
   of_other slot apart = by (slot.tree == tree) refl
@@ -86,8 +87,8 @@ module _ {D H : Type 0} (history : D → History) (honest : D → Type 0) (fault
   pub slot_settled : (slot : Slot D H) (old new : StoreView D) (cut file : ℕ) (before after : List Note)
       → slot.tree ≡ tree → slot.store ≡ Some old → k.file_length ≡ old.file_length
       → waiting_blocks dig k old.states from cut ≡ waiting_blocks dig k old.states from count
-      → (s : SettlesBlocks history honest faults dig k file from cut old before after new)
-      → SettlesSlot history honest faults dig k tree from count slot s.reads (record slot { store = Some new })
+      → (s : SettlesBlocks conduct dig k file from cut old before after new)
+      → SettlesSlot conduct dig k tree from count slot s.reads (record slot { store = Some new })
   slot_settled slot old new cut file before after same has length cut_is s = record {
     due = s.judged.device.in_order ∙ cut_is
         ∙ ap (λ (store : Option (StoreView D)). waiting_blocks dig k (option_map_or (λ st. st.states) store []) from count) (sym has)
@@ -96,8 +97,8 @@ module _ {D H : Type 0} (history : D → History) (honest : D → Type 0) (fault
         ap (λ (states : List BlockState). record { tree = slot.tree; states = states })
         (s.judged.states ∙ ap (λ (store : Option (StoreView D)). judged dig k false s.reads (option_map_or (λ st. st.states) store [])) (sym has));
     same_file = ap (λ n. Some n) s.judged.same_file ∙ sym (ap (option_map (λ st. st.file_length)) has);
-    made = subst (λ (disk : Option (StoreView D)). HasCallsIfAny history honest faults (option_map (λ st. st.disk) disk) (map (call_of k.file_length) s.reads) (Some new.disk)) (sym has)
-        (new.disk, refl, subst (λ (n : ℕ). HasCalls history honest faults old.disk (map (call_of n) s.reads) new.disk) (sym length) s.judged.device.calls);
+    made = subst (λ (disk : Option (StoreView D)). HasCallsIfAny conduct (option_map (λ st. st.disk) disk) (map (call_of k.file_length) s.reads) (Some new.disk)) (sym has)
+        (new.disk, refl, subst (λ (n : ℕ). HasCalls conduct old.disk (map (call_of n) s.reads) new.disk) (sym length) s.judged.device.calls);
   }
 
 -- ---- a file that is not of the tree
@@ -106,12 +107,12 @@ abbrev IsOff : {D H : Type 0} → ℕ → Slot D H → Type 0
 IsOff tree slot = slot.tree ≡ tree → slot.store ≡ None
 
 module _ {D H : Type 0} (tree count : ℕ) (slot : Slot D H) (off : IsOff tree slot) where
-  off_due : (history : D → History) (honest : D → Type 0) (faults : D → ℕ) (dig : List ℕ → List ℕ) (k : Facts) (from : ℕ) → due_blocks dig k tree from count (file_of slot) ≡ []
-  off_due history honest faults dig k from = elim (cases_eq slot.tree tree) [
+  off_due : (conduct : Conduct D) (dig : List ℕ → List ℕ) (k : Facts) (from : ℕ) → due_blocks dig k tree from count (file_of slot) ≡ []
+  off_due conduct dig k from = elim (cases_eq slot.tree tree) [
     | inl same ↦ (
-        sym (of_tree history honest faults dig k tree from count slot same) ∙ of_empty history honest faults dig k tree from count slot (off same)
+        sym (of_tree conduct dig k tree from count slot same) ∙ of_empty conduct dig k tree from count slot (off same)
         )
-    | inr apart ↦ of_other history honest faults dig k tree from count slot apart
+    | inr apart ↦ of_other conduct dig k tree from count slot apart
   ]
 
   off_room : slot_room tree count slot ≡ 0
@@ -205,12 +206,12 @@ reads_other i reads others j apart = by (j == i) refl
     by true e = absurd (apart (eqb-true j i e))
     by false e = refl
 
-module _ {D H : Type 0} (history : D → History) (honest : D → Type 0) (faults : D → ℕ) (dig : List ℕ → List ℕ) (k : Facts) (tree from count : ℕ)
+module _ {D H : Type 0} (conduct : Conduct D) (dig : List ℕ → List ℕ) (k : Facts) (tree from count : ℕ)
     (old : List (Slot D H)) (before : List Note) where
   -- a file is settled by these reads
   abbrev pub IsSettled : ℕ → Slot D H → List BlockRead → List (Slot D H) → Type 0
   IsSettled file slot reads now = (settled : Slot D H) × (slice_get now file ≡ Some settled)
-      × SettlesSlot history honest faults dig k tree from count slot reads settled
+      × SettlesSlot conduct dig k tree from count slot reads settled
 
   -- those before one are settled, and the others are as they were
   pub record AreSettledTo (i : ℕ) (notes : List Note) (now : List (Slot D H)) : Type 0 where
@@ -230,7 +231,7 @@ module _ {D H : Type 0} (history : D → History) (honest : D → Type 0) (fault
   }
 
   pub settled_more : (i : ℕ) (notes more : List Note) (now : List (Slot D H)) {slot : Slot D H} (new : Slot D H) (reads : List BlockRead)
-      → AreSettledTo i notes now → slice_get now i ≡ Some slot → SettlesSlot history honest faults dig k tree from count slot reads new
+      → AreSettledTo i notes now → slice_get now i ≡ Some slot → SettlesSlot conduct dig k tree from count slot reads new
       → more ≡ notes ++ settling_notes dig k i reads → AreSettledTo (i + 1) more (slice_set now i new)
   settled_more i notes more now {slot} new reads a at settles noted = record {
     reads = reads_with i reads a.reads;
@@ -253,15 +254,15 @@ module _ {D H : Type 0} (history : D → History) (honest : D → Type 0) (fault
           let is : slot ≡ was = some_is (sym at ∙ a.rest i (omega arith) ∙ ap (slice_get old) (sym same) ∙ there) in (
             new,
             ap (slice_get (slice_set now i new)) same ∙ set_same now i at,
-            subst (λ (r : List BlockRead). SettlesSlot history honest faults dig k tree from count was r new) (sym (ap (reads_with i reads a.reads) same ∙ reads_here i reads a.reads))
-                (subst (λ (s : Slot D H). SettlesSlot history honest faults dig k tree from count s reads new) is settles),
+            subst (λ (r : List BlockRead). SettlesSlot conduct dig k tree from count was r new) (sym (ap (reads_with i reads a.reads) same ∙ reads_here i reads a.reads))
+                (subst (λ (s : Slot D H). SettlesSlot conduct dig k tree from count s reads new) is settles),
           )
       by_file file was lt there false e =
           let apart : file ≢ i = (λ same. absurd (let t = eq-eqb file i same in cc)) in
           let before_it = a.each file was (omega (arith, apart)) there in (
             before_it.0,
             set_other now i file new apart ∙ before_it.1,
-            subst (λ (r : List BlockRead). SettlesSlot history honest faults dig k tree from count was r before_it.0) (sym (reads_other i reads a.reads file apart)) before_it.2,
+            subst (λ (r : List BlockRead). SettlesSlot conduct dig k tree from count was r before_it.0) (sym (reads_other i reads a.reads file apart)) before_it.2,
           )
 
   past : (gap i : ℕ) (notes : List Note) (now : List (Slot D H)) → AreSettledTo i notes now → i + gap ≤ length old → NoneOfTree old tree i (i + gap)
@@ -270,8 +271,8 @@ module _ {D H : Type 0} (history : D → History) (honest : D → Type 0) (fault
   past (suc gap) i notes now a inside none =
       let slot = get_some old i (omega arith) in
       let at : slice_get now i ≡ Some slot.0 = a.rest i (omega arith) ∙ slot.1 in
-      let quiet = slot_kept history honest faults dig k tree from count slot.0
-      (off_due tree count slot.0 (none i slot.0 (omega arith) (omega arith) slot.1) history honest faults dig k from) in
+      let quiet = slot_kept conduct dig k tree from count slot.0
+      (off_due tree count slot.0 (none i slot.0 (omega arith) (omega arith) slot.1) conduct dig k from) in
       let one = settled_more i notes notes now slot.0 [] a at quiet (sym (append-nil notes)) in
       subst (λ n. AreSettledTo n notes now) (omega arith)
       (past gap (i + 1) notes now (subst (λ (ss : List (Slot D H)). AreSettledTo (i + 1) notes ss) (set_id now i at) one) (omega (arith, inside))
@@ -282,13 +283,13 @@ module _ {D H : Type 0} (history : D → History) (honest : D → Type 0) (fault
   no_notes a (suc n) = no_notes (a + 1) n
 
   -- no block waits
-  pub settled_idle : NoneWaits (map file_of old) → SettlesSlots history honest faults dig k tree from count old before before old
+  pub settled_idle : NoneWaits (map file_of old) → SettlesSlots conduct dig k tree from count old before before old
   settled_idle none = record {
     reads = λ file. [];
     each = λ file slot at. (
       slot,
       at,
-      slot_kept history honest faults dig k tree from count slot
+      slot_kept conduct dig k tree from count slot
           (idle_due slot (none file (file_of slot) (get_mapped file_of old file at)) (slot.tree == tree)),
     );
     size = refl;
@@ -308,7 +309,7 @@ module _ {D H : Type 0} (history : D → History) (honest : D → Type 0) (fault
       (past (j - i) i notes now a (omega (arith, low, inside)) (λ n s from lt. none n s from (omega (arith, lt, low))))
 
   pub settled_all : (i : ℕ) (notes : List Note) (now : List (Slot D H)) → length old ≡ i → AreSettledTo i notes now
-      → SettlesSlots history honest faults dig k tree from count old before notes now
+      → SettlesSlots conduct dig k tree from count old before notes now
   settled_all i notes now whole a = record {
     reads = a.reads;
     each = λ file slot at. (let lt = some_below old file at in a.each file slot (omega arith) at);

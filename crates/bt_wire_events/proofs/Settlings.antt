@@ -16,6 +16,7 @@ use Rattle.bt_machine.specs.Blocks.{block_id}
 use Rattle.bt_machine.specs.Settling.{read_note}
 use Rattle.bt_wire_events.specs.SettlingSteps.{SettlesBlocks, note_at, is_due}
 use Rattle.bt_wire_events.specs.NoteRooms.{with_device, note_room}
+use Rattle.bt_disk.specs.Conduct.{Conduct}
 
 drop_nil : {X : Type 0} (i : ℕ) → drop {A = X} i [] ≡ []
 drop_nil zero = refl
@@ -120,12 +121,12 @@ module _ (dig : List ℕ → List ℕ) (k : Facts) where
       ap (λ n. n ∷ map (note_at file states) (map block_of reads)) (each read (here reads refl))
       ∙ ap (λ ns. read_note dig k file read ∷ ns) (notes_same file states reads (λ r c. each r (later read reads c)))
 
-  module _ {D : Type 0} (history : D → History) (honest : D → Type 0) (faults : D → ℕ) (file from count : ℕ) (old new : StoreView D) (reads : List BlockRead) where
+  module _ {D : Type 0} (conduct : Conduct D) (file from count : ℕ) (old new : StoreView D) (reads : List BlockRead) where
     -- the notes by the states are those by the reads, and with that of a device that failed the machine's
-    pub blocks_settled : (before after : List Note) (failures : ℕ) → IsJudged history honest faults dig k false (waiting_blocks dig k old.states from count) old reads new
+    pub blocks_settled : (before after : List Note) (failures : ℕ) → IsJudged conduct dig k false (waiting_blocks dig k old.states from count) old reads new
         → failures ≡ fault_count reads
         → after ≡ (before ++ map (note_at file new.states) (waiting_blocks dig k old.states from count)) ++ cond (nat_lt 0 failures) (Device file ∷ []) []
-        → SettlesBlocks history honest faults dig k file from count old before after new
+        → SettlesBlocks conduct dig k file from count old before after new
     blocks_settled before after failures judged faulty is =
         let blocks = judged.device.in_order in
         let once = subst (λ l. AllPairs (λ i j. i ≢ j) l) (sym blocks) (waiting_differ dig k old.states from count) in

@@ -2,7 +2,7 @@
 use Rattle.std.specs.Prelude.{◌≡◌, ℕ, true, List, Option, Some, None, slice_get}
 use Rattle.std.specs.List.{sum_by}
 use Rattle.std.specs.Option.{option_to_list}
-use Rattle.bt_disk.specs.History.{History}
+use Rattle.bt_disk.specs.Conduct.{Conduct}
 use Rattle.bt_sparse.specs.SparseTree.{Facts}
 use Rattle.bt_hashreq.specs.declared.key.HashKey.{HashKey}
 use Rattle.bt_wire.specs.declared.message.Message.TheVariants.{Hashes as hashes_message}
@@ -34,11 +34,11 @@ pub record KeepsProofs {D H : Type 0} (parts : Parts D H) (hint : Option Hint) (
   pub unlogged : parts.log ≡ None → hint ≡ None
 
 -- by calls of the devices the machine takes the hashes from the peer at i, and comes to the new parts
-abbrev pub TakesHashes : {D H : Type 0} → (D → History) → (D → Type 0) → (D → ℕ) → (List ℕ → List ℕ)
+abbrev pub TakesHashes : {D H : Type 0} → Conduct D → (List ℕ → List ℕ)
     → Parts D H → ℕ → HashKey → List ℕ → Learnt → Parts D H → Type 0
-TakesHashes history honest faults dig old i key digests learnt new =
+TakesHashes conduct dig old i key digests learnt new =
     (calls : DeviceCalls) × (proofs : List Hint)
-    × HaveCalls history honest faults (disks_of old) calls (disks_of new)
+    × HaveCalls conduct (disks_of old) calls (disks_of new)
     × ((p : PeerState) → slice_get (state_of old).peers i ≡ Some p → HandlesMessage dig (state_of old) i p
     (hashes_message key digests) calls (effect_of learnt proofs) (state_of new))
     × KeepsProofs old (hint_in learnt) proofs

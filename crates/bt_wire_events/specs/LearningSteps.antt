@@ -1,7 +1,7 @@
 -- What hashes that come make of the trees and the files.
 use Rattle.std.specs.Prelude.{[], ◌≡◌, ◌≢◌, ◌≤◌, ℕ, List, Option, Some, slice_get, slice_set}
 use Rattle.std.specs.List.{sum_by}
-use Rattle.bt_disk.specs.History.{History}
+use Rattle.bt_disk.specs.Conduct.{Conduct}
 use Rattle.bt_sparse.specs.SparseTree.{Facts}
 use Rattle.bt_sparse.specs.Acceptance.{Accepts, IsRefused}
 use Rattle.bt_sparse.specs.declared.claim.Claim.{Claim}
@@ -40,7 +40,7 @@ pub data AreRefused (dig : List ℕ → List ℕ) (trees : List Facts) (key : Ha
       → AreRefused dig trees key digests (Proof fault)
 
 -- a proof is accepted: the tree grows, and then the blocks of its run are settled in every file of the root
-pub record Learns {D H : Type 0} (history : D → History) (honest : D → Type 0) (faults : D → ℕ)
+pub record Learns {D H : Type 0} (conduct : Conduct D)
     (dig : List ℕ → List ℕ) (key : HashKey) (digests : List ℕ) (trees : List Facts) (slots : List (Slot D H))
     (notes : List Note) (grown : List Facts) (settled : List (Slot D H)) : Type 0 where
   pub tree : ℕ
@@ -51,17 +51,17 @@ pub record Learns {D H : Type 0} (history : D → History) (honest : D → Type 
   pub claims : IsClaimBy key digests claim
   pub accepts : Accepts dig old claim new
   pub grows : grown ≡ slice_set trees tree new
-  pub settles : SettlesSlots history honest faults dig new tree key.index (settled_count key) slots [] notes
+  pub settles : SettlesSlots conduct dig new tree key.index (settled_count key) slots [] notes
       settled
 
 -- Refused hashes change nothing. Of others the hint is given back, if there is one and it is to be kept.
-abbrev pub ChangesByHashes : {D H : Type 0} → (D → History) → (D → Type 0) → (D → ℕ) → (List ℕ → List ℕ)
+abbrev pub ChangesByHashes : {D H : Type 0} → Conduct D → (List ℕ → List ℕ)
     → HashKey → List ℕ → Option Hint → List Facts → List (Slot D H) → Learnt → List Facts → List (Slot D H)
     → Type 0
-ChangesByHashes history honest faults dig key digests hint trees slots (Refused why) grown settled =
+ChangesByHashes conduct dig key digests hint trees slots (Refused why) grown settled =
     AreRefused dig trees key digests why × (grown ≡ trees) × (settled ≡ slots)
-ChangesByHashes history honest faults dig key digests hint trees slots (Settled notes kept) grown settled =
-    (l : Learns history honest faults dig key digests trees slots notes.items grown settled)
+ChangesByHashes conduct dig key digests hint trees slots (Settled notes kept) grown settled =
+    (l : Learns conduct dig key digests trees slots notes.items grown settled)
     × (kept ≡ kept_hint l.old l.new hint)
 
 -- the blocks of a run are settled in the tree of this root with at most so many notes

@@ -1,6 +1,6 @@
 -- Blocks of a file that are read back.
 use Rattle.std.specs.Prelude.{◌≡◌, ℕ, Bool, false, ◌&&◌, is_some, if◌then◌else◌, List, ◌++◌}
-use Rattle.bt_disk.specs.History.{History}
+use Rattle.bt_disk.specs.Conduct.{Conduct}
 use Rattle.bt_sparse.specs.SparseTree.{Facts, value_at}
 use Rattle.bt_store.specs.FileStore.{StoreView}
 use Rattle.bt_store.specs.BlockReads.{BlockRead, IsJudged}
@@ -21,10 +21,10 @@ note_at file states i = if is_marked_at states i then Marked (block_id file i) e
 
 -- Those of so many blocks from one on were read back that wait and whose leaf is known, and to the notes that
 -- there were the machine's are added.
-pub record SettlesBlocks {D : Type 0} (history : D → History) (honest : D → Type 0) (faults : D → ℕ)
+pub record SettlesBlocks {D : Type 0} (conduct : Conduct D)
     (dig : List ℕ → List ℕ) (k : Facts) (file from count : ℕ) (old : StoreView D) (before after : List Note)
     (new : StoreView D) : Type 0 where
   pub reads : List BlockRead
-  pub judged : IsJudged history honest faults dig k false (waiting_blocks dig k old.states from count)
+  pub judged : IsJudged conduct dig k false (waiting_blocks dig k old.states from count)
       old reads new
   pub noted : after ≡ before ++ settling_notes dig k file reads

@@ -43,7 +43,7 @@ pub fn take_hashes<D: Disk + Drop, H: NodeHash>(
     requires shaped { IsShaped parts.old.torrent (state_of parts.old) }
     requires inside { index < vec_len parts.old.peers }
     requires there { index < length parts.old.peers.items }
-    ensures takes { IfOk result (λ learnt. TakesHashes D.history D.honest D.faults H.digest
+    ensures takes { IfOk result (λ learnt. TakesHashes D.conduct H.digest
         parts.old index key.now digests.now learnt parts.new) }
     ensures readable { IfOk result (λ learnt. IfSome (hint_in learnt) CanBeRead) }
     ensures few { IfOk result (λ learnt.

@@ -48,7 +48,7 @@ pub(crate) fn learn_hashes<D: Disk + Drop, H: NodeHash>(
     requires idle { waits ≡ false → NoneWaits (map file_of slots.old) }
     requires fit { FitLengths trees.old slots.old }
     requires files { length slots.old ≤ max_file_count }
-    ensures changes { IfOk result (λ learnt. ChangesByHashes D.history D.honest D.faults H.digest
+    ensures changes { IfOk result (λ learnt. ChangesByHashes D.conduct H.digest
         key.now digests.now hint trees.old slots.old learnt trees.new slots.new) }
     ensures few { IfOk result (λ learnt.
         (room : ℕ) → IsRoomFor trees.old slots.old key.now room → note_count learnt ≤ room) }

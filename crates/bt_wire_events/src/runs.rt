@@ -37,7 +37,7 @@ pub(crate) fn settle_slots<D: Disk + Drop, H: NodeHash>(
     requires files { length slots.old ≤ max_file_count }
     requires few { count ≤ max_run_length }
     requires room { vec_len notes.old + sum_by (slot_room index count) slots.old ≤ vec_capacity notes.old }
-    ensures settles { SettlesSlots D.history D.honest D.faults H.digest tree.now index from count slots.old
+    ensures settles { SettlesSlots D.conduct H.digest tree.now index from count slots.old
         notes.old.items notes.new.items slots.new }
     ensures few { vec_len notes.new ≤ vec_len notes.old + sum_by (slot_room index count) slots.old }
 {
@@ -73,7 +73,7 @@ fn settle_slot<D: Disk + Drop, H: NodeHash>(
     requires few { count ≤ max_run_length }
     requires room { vec_len notes.old + slot_room index count slot.old ≤ vec_capacity notes.old }
     ensures settles { (reads : List BlockRead)
-        × SettlesSlot D.history D.honest D.faults H.digest tree.now index from count slot.old reads slot.new
+        × SettlesSlot D.conduct H.digest tree.now index from count slot.old reads slot.new
         × (notes.new.items ≡ notes.old.items ++ settling_notes H.digest tree.now file reads) }
     ensures few { vec_len notes.new ≤ vec_len notes.old + slot_room index count slot.old }
     ensures capacity { vec_capacity notes.old ≤ vec_capacity notes.new }

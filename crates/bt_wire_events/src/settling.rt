@@ -30,7 +30,7 @@ pub(crate) fn settle_blocks<D: Disk + Drop, H: NodeHash>(
     requires inside { from + count ≤ block_count store.old.file_length }
     requires few { count ≤ max_run_length }
     requires room { vec_len notes.old + note_room count store.old.states ≤ vec_capacity notes.old }
-    ensures settles { SettlesBlocks D.history D.honest D.faults H.digest tree.now file from count
+    ensures settles { SettlesBlocks D.conduct H.digest tree.now file from count
         store.old notes.old.items notes.new.items store.new }
     ensures same_file { store.new.file_length ≡ store.old.file_length }
     ensures few { vec_len notes.new ≤ vec_len notes.old + note_room count store.old.states }

@@ -5,6 +5,7 @@ pub use Rattle.bt_meta.specs.Reader
 pub use Rattle.bt_meta.specs.Torrent
 -- devices
 pub use Rattle.bt_disk.specs.Calls
+pub use Rattle.bt_disk.specs.Conduct
 pub use Rattle.bt_disk.specs.FaultDisk
 pub use Rattle.bt_disk.specs.FileDisk
 pub use Rattle.bt_disk.specs.History

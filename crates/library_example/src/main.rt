@@ -69,8 +69,8 @@ fn meet<D: Disk + Drop, H: NodeHash>(
     then: &[u8],
     sent: &mut Vec<u8>,
 ) -> Result<SessionEnd>
-    ensures sound { IsSound D.history D.honest H.digest store.new.state store.new.disks }
-    ensures stands { OnOk result (Stands D.history D.honest D.faults store.old store.new) }
+    ensures sound { IsSound D.conduct H.digest store.new.state store.new.disks }
+    ensures stands { OnOk result (Stands D.conduct store.old store.new) }
     ensures gone { OnOk result (store.new.state.peers ≡ []) }
 {
     store.keeps_laws();

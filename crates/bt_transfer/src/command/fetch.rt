@@ -17,11 +17,11 @@ ghost use Rattle.bt_files.specs.Store.{HasBegun, IsFlushFault};
 use crate::device_context::device_context;
 use crate::peer_lines::write_peers;
 use bt_check::{Fault, Source};
+use bt_connection::ShortBlocks;
 use bt_disk::Disk;
 use bt_engine::Engine;
 use bt_files::{FileUse, adopt_waiting, begin_fetching, conclude, finish, flush_fault, load_store};
 use bt_folder::Seal;
-use bt_connection::ShortBlocks;
 use bt_peers::{Link, PeerEnd, run_peers_with_flushes};
 use bt_progress::Watch;
 use bt_runs::whole_runs_keep_promises;
@@ -95,7 +95,7 @@ fn fetch_store<D: Disk + Drop, H: NodeHash, N: Net + Clock, P: Watch, W: Write>(
     requires no_peer { engine.state.peers ≡ [] }
     ensures fetched { (torrent : Metainfo) (given : List D) (attached : Option (LogView D))
         (filled : List Bool)
-        (begun : HasBegun D.history D.honest D.faults H.digest torrent given attached filled engine)
+        (begun : HasBegun D.conduct H.digest torrent given attached filled engine)
         → IfOk result (λ status. EndsFetch begun.begins engine peers.now log.entry
         (W.contents writer.old) (W.contents writer.new) status) }
     ensures fault { IfErr result (IsEndFault engine.log) }
@@ -151,9 +151,9 @@ fn fetch_from<D: Disk + Drop, H: NodeHash, N: Net + Clock, W: Write>(
 ) -> Result<u8, Fault>
     requires no_peer { engine.old.state.peers ≡ [] }
     requires own_short_blocks { passage.short_blocks.now ≡ short_blocks_of engine.old.state.torrent }
-    ensures fetched { IfOk result (λ status. HasFetchedOverTcp D.history D.honest D.faults H.digest peers.now
+    ensures fetched { IfOk result (λ status. HasFetchedOverTcp D.conduct H.digest peers.now
         log.entry engine.old (W.contents writer.old) (W.contents writer.new) status engine.new) }
-    ensures run { LeadsTo D.history D.honest D.faults H.digest engine.old engine.new }
+    ensures run { LeadsTo D.conduct H.digest engine.old engine.new }
     ensures fault { IfErr result (IsEndFault engine.old.log) }
 {
     let mut links = links_to(alloc, net, peers, passage)?;
@@ -206,14 +206,16 @@ fn fetch_over<D: Disk + Drop, H: NodeHash, L: Link, W: Write>(
     requires same_length { length links.old ≡ length peers.now }
     requires undialled { All (λ link. L.dials link ≡ 0) links.old }
     requires no_peer { engine.old.state.peers ≡ [] }
-    ensures fetched { IfOk result (λ status. HasFetched (InTurnWithFlushes (IsTriedWithFlushes D.history
-        D.honest D.faults H.digest L.dials L.failures L.gives L.R.remaining L.W.contents flush_every turns))
-        D.history D.honest D.faults H.digest peers.now engine.old links.old (W.contents writer.old)
+    ensures fetched { IfOk result (λ status. HasFetched
+        (InTurnWithFlushes (IsTriedWithFlushes D.conduct H.digest L.dials L.failures L.gives L.R.remaining
+        L.W.contents flush_every turns))
+        D.conduct H.digest peers.now engine.old links.old (W.contents writer.old)
         (W.contents writer.new) status links.new engine.new) }
-    ensures broken_off { IfErr result (λ fault. BreaksOff (InTurnWithFlushes (IsTriedWithFlushes D.history
-        D.honest D.faults H.digest L.dials L.failures L.gives L.R.remaining L.W.contents flush_every turns))
-        D.history D.honest D.faults H.digest engine.old links.old links.new fault engine.new) }
-    ensures run { LeadsTo D.history D.honest D.faults H.digest engine.old engine.new }
+    ensures broken_off { IfErr result (λ fault. BreaksOff
+        (InTurnWithFlushes (IsTriedWithFlushes D.conduct H.digest L.dials L.failures L.gives L.R.remaining
+        L.W.contents flush_every turns))
+        D.conduct H.digest engine.old links.old links.new fault engine.new) }
+    ensures run { LeadsTo D.conduct H.digest engine.old engine.new }
     ensures fault { IfErr result (IsEndFault engine.old.log) }
 {
     let mut ends = vec![in alloc; PeerEnd::Untried; peers.len()]?;
@@ -238,14 +240,15 @@ fn try_and_sync<D: Disk + Drop, H: NodeHash, L: Link>(
     requires same_length { length links.old ≡ length ends.old }
     requires undialled { All (λ link. L.dials link ≡ 0) links.old }
     requires no_peer { engine.old.state.peers ≡ [] }
-    ensures kept { OnOk result (TriesAndSyncs (InTurnWithFlushes (IsTriedWithFlushes D.history D.honest
-        D.faults H.digest L.dials L.failures L.gives L.R.remaining L.W.contents flush_every turns)) D.history
-        D.honest D.faults H.digest engine.old links.old ends.new links.new (Ok tt) engine.new) }
-    ensures failed { IfErr result (λ fault. FailsToSync (InTurnWithFlushes (IsTriedWithFlushes D.history
-        D.honest D.faults H.digest L.dials L.failures L.gives L.R.remaining L.W.contents flush_every turns))
-        D.history D.honest D.faults H.digest engine.old links.old ends.new links.new fault engine.new) }
+    ensures kept { OnOk result (TriesAndSyncs (InTurnWithFlushes
+        (IsTriedWithFlushes D.conduct H.digest L.dials L.failures L.gives L.R.remaining L.W.contents
+        flush_every turns)) D.conduct H.digest engine.old links.old ends.new links.new (Ok tt) engine.new) }
+    ensures failed { IfErr result (λ fault. FailsToSync
+        (InTurnWithFlushes (IsTriedWithFlushes D.conduct H.digest L.dials L.failures L.gives L.R.remaining
+        L.W.contents flush_every turns))
+        D.conduct H.digest engine.old links.old ends.new links.new fault engine.new) }
     ensures gone { engine.new.state.peers ≡ [] }
-    ensures run { LeadsTo D.history D.honest D.faults H.digest engine.old engine.new }
+    ensures run { LeadsTo D.conduct H.digest engine.old engine.new }
     ensures fault { IfErr result (IsFlushFault engine.old.log) }
 {
     match run_peers_with_flushes(alloc, engine, links, ends, turns, flush_every) {

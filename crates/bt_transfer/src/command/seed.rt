@@ -18,11 +18,11 @@ use crate::connections::{serve_count, serve_forever};
 use crate::device_context::device_context;
 use crate::reception::Reception;
 use bt_check::{Fault, Source, print};
+use bt_connection::ShortBlocks;
 use bt_disk::Disk;
 use bt_engine::Engine;
 use bt_files::{FileUse, finish, load_store, write_report};
 use bt_folder::Seal;
-use bt_connection::ShortBlocks;
 use bt_progress::{FileCall, Watch};
 use bt_runs::whole_runs_keep_promises;
 use bt_sockets::{Passage, Shared, listen, port_of};
@@ -142,11 +142,11 @@ fn seed_store<D: Disk + Drop, H: NodeHash, N: Net + Clock, P: Watch, W: Write>(
     requires no_peer { engine.state.peers ≡ [] }
     ensures listened { (torrent : Metainfo) (given : List D) (attached : Option (LogView D))
         (filled : List Bool)
-        (begun : HasBegun D.history D.honest D.faults H.digest torrent given attached filled engine)
+        (begun : HasBegun D.conduct H.digest torrent given attached filled engine)
         → IfOk result (λ status. EndsSeed begun.begins engine service.entry
         (W.contents writer.old) (W.contents writer.new) status) }
     ensures stopped { IfErr result (λ fault. (last : EngineView D)
-        × FailsToSeed D.history D.honest D.faults H.digest engine fault last) }
+        × FailsToSeed D.conduct H.digest engine fault last) }
     ensures fault { IfErr result (IsEndFault engine.log) }
 {
     // These calls say what holds of the engine, and of whatever led to it and leads on from it.
@@ -185,11 +185,11 @@ fn listen_and_serve<D: Disk + Drop, H: NodeHash, N: Net + Clock, W: Write>(
 ) -> Result<(), Fault>
     requires no_peer { engine.old.state.peers ≡ [] }
     requires own_short_blocks { passage.short_blocks.now ≡ short_blocks_of engine.old.state.torrent }
-    ensures run { LeadsTo D.history D.honest D.faults H.digest engine.old engine.new }
-    ensures served { OnOk result (HasListened D.history D.honest D.faults H.digest service.entry
+    ensures run { LeadsTo D.conduct H.digest engine.old engine.new }
+    ensures served { OnOk result (HasListened D.conduct H.digest service.entry
         engine.old (W.contents writer.old) (W.contents writer.new) engine.new) }
     ensures stopped { IfErr result
-        (λ fault. FailsToSeed D.history D.honest D.faults H.digest engine.old fault engine.new) }
+        (λ fault. FailsToSeed D.conduct H.digest engine.old fault engine.new) }
     ensures fault { IfErr result (IsEndFault engine.old.log) }
 {
     let listener = listen(net, service.address, service.port)?;
@@ -258,11 +258,11 @@ fn serve_all<D: Disk + Drop, H: NodeHash, N: Net + Clock, W: Write>(
     writer: &mut W,
 ) -> Result<(), Fault>
     requires no_peer { engine.old.state.peers ≡ [] }
-    ensures served { OnOk result (HasServedAll D.history D.honest D.faults H.digest serving
+    ensures served { OnOk result (HasServedAll D.conduct H.digest serving
         engine.old (W.contents writer.old) (W.contents writer.new) engine.new) }
     ensures kept { IfErr result
-        (λ fault. FailsToServe D.history D.honest D.faults H.digest engine.old fault engine.new) }
-    ensures run { LeadsTo D.history D.honest D.faults H.digest engine.old engine.new }
+        (λ fault. FailsToServe D.conduct H.digest engine.old fault engine.new) }
+    ensures run { LeadsTo D.conduct H.digest engine.old engine.new }
     ensures fault { IfErr result (IsEndFault engine.old.log) }
 {
     match serving {

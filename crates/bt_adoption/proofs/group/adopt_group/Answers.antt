@@ -11,7 +11,7 @@ pub returns-in-None-clause-ok : goal.returns-in-None-clause-ok
 returns-in-None-clause-ok g c =
     let d = g.D.Disk in
     if_ok_then c.adopt.result c.adopt.ensures.ok (λ adopted taken.
-    subst (λ (log : Option (OpenLog g.row.D.Denot)). TakesGroup d.history d.honest d.faults g.H.NodeHash.digest c.args.file (is_some log) c.args.from
+    subst (λ (log : Option (OpenLog g.row.D.Denot)). TakesGroup d.conduct g.H.NodeHash.digest c.args.file (is_some log) c.args.from
     (file_view c.args.tree.now c.args.store.now (pending_of log)) adopted (file_view c.adopt.new.tree c.adopt.new.self (pending_of log)))
     (sym c.in-None.is) (takes_bare c.args.file [] taken.1 c.proof_keys_are_answered.ensures))
 

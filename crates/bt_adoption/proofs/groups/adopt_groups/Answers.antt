@@ -56,7 +56,7 @@ loop-total-preserved g c =
     let same = ap block_count (c.geometry.ensures.value ∙ sym c.requires) in
     let group = rw (logged_same c.loop-total.log c.args.log.now c.loop-total.invariant.log) at c.in_ok-group.ensures.ok in
     record {
-      taking = subst (λ (t : Adopted). AreTaking d.history d.honest d.faults g.H.NodeHash.digest c.args.file (is_some c.args.log.now)
+      taking = subst (λ (t : Adopted). AreTaking d.conduct g.H.NodeHash.digest c.args.file (is_some c.args.log.now)
           (file_view c.args.tree.now c.args.store.now (pending_of c.args.log.now)) t (file_view c.adopt_group.new.tree c.adopt_group.new.store (pending_of c.adopt_group.new.log))) (sym c.together-total.ensures)
           (taking_more c.calls_compose.ensures.both c.root.ensures.sound.rooted c.loop-total.invariant.taking (omega (arith, c.loop-total-test.true, c.blocks-blocks.ensures.value, same))
           group

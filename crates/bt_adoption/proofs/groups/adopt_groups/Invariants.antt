@@ -7,7 +7,7 @@ use Rattle.bt_adoption.proofs.groups.adopt_groups.Given as goal
 
 abbrev pub invariant-loop-total : goal.invariant-loop-total
 invariant-loop-total g l = record {
-  taking : AreTaking g.D.Disk.history g.D.Disk.honest g.D.Disk.faults g.H.NodeHash.digest l.file (is_some l.fn.log) (file_view l.fn.tree l.fn.store (pending_of l.fn.log))
+  taking : AreTaking g.D.Disk.conduct g.H.NodeHash.digest l.file (is_some l.fn.log) (file_view l.fn.tree l.fn.store (pending_of l.fn.log))
       l.total (file_view l.tree l.store (pending_of l.log));
   log : log_in l.log ≡ log_in l.fn.log;
 }

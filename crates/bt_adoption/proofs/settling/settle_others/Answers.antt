@@ -35,11 +35,11 @@ loop-other-preserved g c =
     elim c.if-other-file.branch [
       | then-other-file w ↦
           let now = settled_more l.invariant.settled w.if-other-file.true w.settle_file.ensures.settles w.settle_file.ensures.log w.settle_file.ensures.rest w.settle_file.ensures.in_line in
-          let same = subst (λ (p : Parts g.row.D.Denot g.row.H.Denot). AreSettled d.history d.honest d.faults g.H.NodeHash.digest c.args.file c.args.tree old (l.other + 1) p) (sym w.parts-is) now in
+          let same = subst (λ (p : Parts g.row.D.Denot g.row.H.Denot). AreSettled d.conduct g.H.NodeHash.digest c.args.file c.args.tree old (l.other + 1) p) (sym w.parts-is) now in
           let is = walk_goes_on c.requires.lead next l.invariant.stands lt (next_read same.rest l.other next c.index-other-in-loop-other.ensures) in
           record { stands = stands_there is; settled = settled_past next same is.inside (none_passed is) }
       | else-other-file w ↦
-          let same = subst (λ (p : Parts g.row.D.Denot g.row.H.Denot). AreSettled d.history d.honest d.faults g.H.NodeHash.digest c.args.file c.args.tree old (l.other + 1) p) (sym w.parts-is)
+          let same = subst (λ (p : Parts g.row.D.Denot g.row.H.Denot). AreSettled d.conduct g.H.NodeHash.digest c.args.file c.args.tree old (l.other + 1) p) (sym w.parts-is)
           (settled_skipped l.invariant.settled w.if-other-file.false) in
           let is = walk_goes_on c.requires.lead next l.invariant.stands lt (next_read same.rest l.other next c.index-other-in-loop-other.ensures) in
           record { stands = stands_there is; settled = settled_past next same is.inside (none_passed is) }

@@ -6,7 +6,7 @@ use Rattle.bt_adoption.proofs.settling.settle_others.Given as goal
 abbrev pub invariant-loop-other : goal.invariant-loop-other
 invariant-loop-other g l = record {
   stands : StandsAt l.fn.parts.slots.items l.tree l.other;
-  settled : AreSettled g.D.Disk.history g.D.Disk.honest g.D.Disk.faults g.H.NodeHash.digest l.file l.tree l.fn.parts l.other l.parts;
+  settled : AreSettled g.D.Disk.conduct g.H.NodeHash.digest l.file l.tree l.fn.parts l.other l.parts;
 }
 
 abbrev pub decreases-loop-other : goal.decreases-loop-other

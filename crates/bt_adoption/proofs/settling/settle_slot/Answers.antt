@@ -32,7 +32,7 @@ returns-clause-settles g c =
     let at = stands_at old c.args.file here c.requires.fits c.in-Some.is (c.index.ensures ∙ ap (λ n. get_or old.trees.items n c.index.result.now) (sym of_tree)) in
     let r = rw c.unwrap.ensures at c.settle.ensures.settled in
     settles_one dig old c.args.file c.args.tree here (there_at old c.requires.here c.index.ensures) c.in-Some.is of_tree at.same
-    (subst (λ n. IsJudged d.history d.honest d.faults dig k false (waiting_blocks dig k store.states 0 n) store r.0 c.settle.new.self)
+    (subst (λ n. IsJudged d.conduct dig k false (waiting_blocks dig k store.states 0 n) store r.0 c.settle.new.self)
     (c.blocks-blocks.ensures.value ∙ ap block_count c.geometry.ensures.value) r.1)
 
 pub returns-clause-changes : goal.returns-clause-changes

@@ -18,5 +18,5 @@ put-requires g c =
 pub returns : goal.returns
 returns g c =
     puts_in_slot c.requires.can c.index-slots-block.result c.in-Some.store c.in-Some.is c.index-trees-slot.result c.index-trees-slot.is
-    g.D.Disk.history g.D.Disk.honest g.D.Disk.faults g.H.NodeHash.digest c.put.new.self c.put.result
+    g.D.Disk.conduct g.H.NodeHash.digest c.put.new.self c.put.result
     c.put.ensures.why c.put.ensures.states c.put.ensures.calls c.put.ensures.same_file

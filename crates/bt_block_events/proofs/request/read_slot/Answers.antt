@@ -21,9 +21,9 @@ read_span-requires-clause-marked g c = span_marked c.requires.marked c.index-slo
 pub returns-clause-right : goal.returns-clause-right
 returns-clause-right g c =
     sends_from_slot c.requires.marked c.index-slots-span.result c.in-Some.store c.in-Some.is c.index-trees-slot.result c.index-trees-slot.is
-    g.D.Disk.history g.D.Disk.honest g.D.Disk.faults g.H.NodeHash.digest c.read_span.new.store c.read_span.ensures.same_file c.read_span.result c.read_span.ensures.right
+    g.D.Disk.conduct g.H.NodeHash.digest c.read_span.new.store c.read_span.ensures.same_file c.read_span.result c.read_span.ensures.right
 
 pub returns-clause-wrong : goal.returns-clause-wrong
 returns-clause-wrong g c =
     stops_in_slot c.requires.marked c.index-slots-span.result c.in-Some.store c.in-Some.is c.index-trees-slot.result c.index-trees-slot.is
-    g.D.Disk.history g.D.Disk.honest g.D.Disk.faults g.H.NodeHash.digest c.read_span.new.store c.read_span.ensures.same_file c.read_span.result c.read_span.ensures.wrong
+    g.D.Disk.conduct g.H.NodeHash.digest c.read_span.new.store c.read_span.ensures.same_file c.read_span.result c.read_span.ensures.wrong

@@ -11,19 +11,19 @@ pub returns-then-index-clause-takes : goal.returns-then-index-clause-takes
 returns-then-index-clause-takes g c =
     let old = c.args.parts.now in
     let here = get_read old.peers.items c.args.index c.index.result.now c.requires.there c.index.ensures in
-    (_, have_none g.D.Disk.history g.D.Disk.honest g.D.Disk.faults (disks_of old), λ x at. ignored (choking_is old c.args.index here x at ∙ c.if-index.true) refl refl refl)
+    (_, have_none g.D.Disk.conduct (disks_of old), λ x at. ignored (choking_is old c.args.index here x at ∙ c.if-index.true) refl refl refl)
 
 pub returns-in_default-clause-takes : goal.returns-in_default-clause-takes
 returns-in_default-clause-takes g c =
     let old = c.args.parts.now in
     let here = get_read old.peers.items c.args.index c.index.result.now c.requires.there c.index.ensures in
-    (_, have_none g.D.Disk.history g.D.Disk.honest g.D.Disk.faults (disks_of old), λ x at. no_place (choking_is old c.args.index here x at ∙ c.if-index.false) (rw c.in_default.is at c.place_of.ensures.none) refl refl refl)
+    (_, have_none g.D.Disk.conduct (disks_of old), λ x at. no_place (choking_is old c.args.index here x at ∙ c.if-index.false) (rw c.in_default.is at c.place_of.ensures.none) refl refl refl)
 
 pub returns-then-not-are_marked-clause-takes : goal.returns-then-not-are_marked-clause-takes
 returns-then-not-are_marked-clause-takes g c =
     let old = c.args.parts.now in
     let here = get_read old.peers.items c.args.index c.index.result.now c.requires.there c.index.ensures in
-    (_, have_none g.D.Disk.history g.D.Disk.honest g.D.Disk.faults (disks_of old), λ x at. not_marked c.in-Some.span (choking_is old c.args.index here x at ∙ c.if-index.false) c.in-Some.ensures.some c.if-not-are_marked.ensures.no refl refl refl)
+    (_, have_none g.D.Disk.conduct (disks_of old), λ x at. not_marked c.in-Some.span (choking_is old c.args.index here x at ∙ c.if-index.false) c.in-Some.ensures.some c.if-not-are_marked.ensures.no refl refl refl)
 
 if_err : {X E T : Type 0} (r : Result X E) → T → IfErr r (λ e. T)
 if_err (Ok x) t = tt

@@ -20,6 +20,6 @@ returns-in_err-more-clause-wrong g c =
 pub returns-clause-right : goal.returns-clause-right
 returns-clause-right g c =
     let d = g.D.Disk in
-    subst (λ (all : List _). AreReadRight d.history d.honest d.faults g.H.NodeHash.digest c.args.tree.now (one_or_two c.args.first c.args.last) all c.args.store.now c.read_block-2.new.store)
+    subst (λ (all : List _). AreReadRight d.conduct g.H.NodeHash.digest c.args.tree.now (one_or_two c.args.first c.args.last) all c.args.store.now c.read_block-2.new.store)
     (sym (both_parts c.in_ok-count.count c.in_ok-more.more c.read_block.new.out c.read_block-2.new.out (omega arith) c.in_ok-count.ensures.within c.in_ok-more.ensures.within c.read_block-2.auto.out))
     (two_blocks c.if-first-last.false c.in_ok-count.ensures.right c.in_ok-more.ensures.right)

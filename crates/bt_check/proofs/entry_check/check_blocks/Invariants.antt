@@ -9,7 +9,7 @@ use Rattle.bt_check.proofs.entry_check.check_blocks.Given as goal
 abbrev pub invariant-loop-from : goal.invariant-loop-from
 invariant-loop-from g l =
     (known : KnownLayer) (leaves : ℕ → Option (List ℕ)) → HoldsLeaves l.fn.tree.file_length known leaves l.fn.tree
-    → IsChecking g.D.Disk.history g.D.Disk.honest g.D.Disk.faults l.fn.tree.file_length known leaves l.fn.disk l.from l.marked l.faulty l.tree l.store
+    → IsChecking g.D.Disk.conduct l.fn.tree.file_length known leaves l.fn.disk l.from l.marked l.faulty l.tree l.store
 
 abbrev pub decreases-loop-from : goal.decreases-loop-from
 decreases-loop-from g l = block_count l.geometry - l.from

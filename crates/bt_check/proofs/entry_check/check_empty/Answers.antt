@@ -6,5 +6,5 @@ pub returns : goal.returns
 returns g c = (
   c.length_of-length.result,
   λ known leaves.
-      nothing_found _ _ _ 0 known leaves _ _ c.length_of-length.result _ _ c.length_of-length.ensures c.is_longer-longer.ensures c.is_none-unknown.ensures refl,
+      nothing_found _ 0 known leaves _ _ c.length_of-length.result _ _ c.length_of-length.ensures c.is_longer-longer.ensures c.is_none-unknown.ensures refl,
 )

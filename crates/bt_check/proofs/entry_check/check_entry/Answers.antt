@@ -13,7 +13,7 @@ returns-in_default-clause-answered g c =
     let known = known_layer c.args.size.layer (file_of c.args.entry.now) in
     let found = c.check_empty.ensures in (
       record { len = found.0; reads = [] },
-      subst (λ n. IsEntryCheck g.D.Disk.history g.D.Disk.honest g.D.Disk.faults n known no_leaves c.args.disk (record { len = found.0; reads = [] })
+      subst (λ n. IsEntryCheck g.D.Disk.conduct n known no_leaves c.args.disk (record { len = found.0; reads = [] })
           c.check_empty.result.disk c.check_empty.result.finding)
           (sym (unshaped c.args.entry.now.length c.requires.short c.in_default.ensures.lawful.1)) (found.1 known no_leaves),
     )
@@ -21,7 +21,7 @@ returns-in_default-clause-answered g c =
 pub returns-in_default-clause-honest : goal.returns-in_default-clause-honest
 returns-in_default-clause-honest g c = λ honest sound.
     let found = returns-in_default-clause-answered g c in
-    honest_finding _ _ _ c.args.entry.now.length (known_layer c.args.size.layer (file_of c.args.entry.now)) no_leaves _ _ found.0 _ honest found.1.calls found.1.found sound
+    honest_finding _ c.args.entry.now.length (known_layer c.args.size.layer (file_of c.args.entry.now)) no_leaves _ _ found.0 _ honest found.1.calls found.1.found sound
 
 pub check_tree-requires : goal.check_tree-requires
 check_tree-requires g c = is_known c.in_ok-tree.ensures
@@ -35,5 +35,5 @@ returns-clause-answered g c =
 pub returns-clause-honest : goal.returns-clause-honest
 returns-clause-honest g c = λ honest.
     IfOk-weaker c.check_tree.result _ _ (λ check found sound.
-    honest_finding _ _ _ c.args.entry.now.length (known_layer c.args.size.layer (file_of c.args.entry.now)) no_leaves _ _ found.0 _ honest found.1.calls found.1.found
+    honest_finding _ c.args.entry.now.length (known_layer c.args.size.layer (file_of c.args.entry.now)) no_leaves _ _ found.0 _ honest found.1.calls found.1.found
     sound) (returns-clause-answered g c)

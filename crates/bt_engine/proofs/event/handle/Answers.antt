@@ -9,8 +9,8 @@ use Rattle.bt_engine.proofs.event.handle.Goals as goal
 pub returns-in_ok-message-in-HashRequest-clause-handled : goal.returns-in_ok-message-in-HashRequest-clause-handled
 returns-in_ok-message-in-HashRequest-clause-handled g c =
     rw (c.in-Message.is, c.in-HashRequest.is) (
-    handled_by g.D.Disk.history g.D.Disk.honest g.D.Disk.faults g.H.NodeHash.digest c.args.parts.now c.args.parts.now c.args.index (Message (HashRequest c.in-HashRequest.key))
+    handled_by g.D.Disk.conduct g.H.NodeHash.digest c.args.parts.now c.args.parts.now c.args.index (Message (HashRequest c.in-HashRequest.key))
     (Stays (Sends c.in_ok-message-in-HashRequest.message) None) [] [] (λ on. refl) c.requires.there
-    (no_calls g.D.Disk.history g.D.Disk.honest g.D.Disk.faults g.H.NodeHash.digest c.args.parts.now c.args.parts.now refl)
+    (no_calls g.D.Disk.conduct g.H.NodeHash.digest c.args.parts.now c.args.parts.now refl)
     (λ p here. c.in_ok-message-in-HashRequest.ensures c.args.index p)
     )

@@ -19,7 +19,7 @@ take_in_room-requires-clause-orderly g c = subst (λ (s : EngineState). IsOrderl
 pub returns-clause-step : goal.returns-clause-step
 returns-clause-step g c =
     let dig = g.H.NodeHash.digest in
-    let have = λ (ds : List (Option g.row.D.Denot)) (calls : DeviceCalls). HaveCalls g.D.Disk.history g.D.Disk.honest g.D.Disk.faults ds calls (disks_of c.take_in_room.new.parts) in
+    let have = λ (ds : List (Option g.row.D.Denot)) (calls : DeviceCalls). HaveCalls g.D.Disk.conduct ds calls (disks_of c.take_in_room.new.parts) in
     let mid = disks_of c.reserve.new.parts in
     subst (λ (ds : List (Option g.row.D.Denot)). IfOk c.take_in_room.result (λ (out : Output). (calls : DeviceCalls) × have ds calls
     × GoesOn dig c.args.index c.args.event.now calls out (state_of c.args.parts.now) (state_of c.take_in_room.new.parts)))

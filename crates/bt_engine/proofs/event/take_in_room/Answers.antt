@@ -38,13 +38,13 @@ keep-requires-clause-room g c =
 pub returns-in-Closed-clause-step : goal.returns-in-Closed-clause-step
 returns-in-Closed-clause-step g c =
     let h = rw c.in-Closed.is at c.in_ok-why.ensures.handled in
-    let made = subst (λ (ds : List (Option g.row.D.Denot)). HaveCalls g.D.Disk.history g.D.Disk.honest g.D.Disk.faults (disks_of c.args.parts.now) h.calls ds)
+    let made = subst (λ (ds : List (Option g.row.D.Denot)). HaveCalls g.D.Disk.conduct (disks_of c.args.parts.now) h.calls ds)
     (sym c.close.ensures.devices) h.made in
     (h.calls, made, closes_on c.close.new.parts h c.requires.orderly c.close.ensures.is c.close.ensures.gone)
 
 pub returns-in-Stays-clause-step : goal.returns-in-Stays-clause-step
 returns-in-Stays-clause-step g c =
     let h = rw c.in-Stays.is at c.in_ok-why.ensures.handled in
-    let made = subst (λ (ds : List (Option g.row.D.Denot)). HaveCalls g.D.Disk.history g.D.Disk.honest g.D.Disk.faults (disks_of c.args.parts.now) h.calls ds)
+    let made = subst (λ (ds : List (Option g.row.D.Denot)). HaveCalls g.D.Disk.conduct (disks_of c.args.parts.now) h.calls ds)
     (sym c.keep.ensures.devices) h.made in
     (h.calls, made, stays_on c.keep.new.parts h c.requires.orderly c.keep.ensures.follows)

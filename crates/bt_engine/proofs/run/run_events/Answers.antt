@@ -10,7 +10,7 @@ loop-event-preserved g c =
     let pushed = c.push.ensures.succeeds (omega (arith, so_far.1, lt)) in
     let items = rw pushed at c.push.ensures.items in
     let len = rw pushed at c.push.ensures.len in (
-      one_more_ran g.D.Disk.history g.D.Disk.honest g.D.Disk.faults g.H.NodeHash.digest c.runs_compose.ensures.one_more c.args.engine.now c.loop-event.engine c.run_event.new.engine
+      one_more_ran g.D.Disk.conduct g.H.NodeHash.digest c.runs_compose.ensures.one_more c.args.engine.now c.loop-event.engine c.run_event.new.engine
           c.args.events.now c.loop-event.event-index c.event-item.result c.reserve.new.self.items c.push.new.self.items c.loop-event.answers.items c.run_event.result
           lt c.event-item.is items so_far.0 c.run_event.ensures,
       omega (arith, so_far.1, len, c.push.ensures.capacity),

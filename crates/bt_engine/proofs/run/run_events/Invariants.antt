@@ -4,5 +4,5 @@ use Rattle.bt_engine.proofs.run.run_events.Given as goal
 
 abbrev pub invariant-loop-event : goal.invariant-loop-event
 invariant-loop-event g l =
-    RunsEvents g.D.Disk.history g.D.Disk.honest g.D.Disk.faults g.H.NodeHash.digest l.initial.engine (take l.event-index l.events) l.initial.answers.items
+    RunsEvents g.D.Disk.conduct g.H.NodeHash.digest l.initial.engine (take l.event-index l.events) l.initial.answers.items
     l.answers.items l.engine × (vec_len l.answers + length l.events ≤ vec_capacity l.answers + l.event-index)

@@ -7,7 +7,7 @@ returns g c =
     let stand = c.kept_hints_stand.ensures in
     let compose = c.runs_compose.ensures in
     record {
-      runs = runs_stand d.history d.honest d.faults g.H.NodeHash.digest c.run_keeps_marks.ensures c.run_keeps_images.ensures stand.reload stand.append stand.flush;
-      steps = steps_stand d.history d.honest d.faults g.H.NodeHash.digest c.run_keeps_marks.ensures c.run_keeps_images.ensures stand.reload stand.append stand.flush
+      runs = runs_stand d.conduct g.H.NodeHash.digest c.run_keeps_marks.ensures c.run_keeps_images.ensures stand.reload stand.append stand.flush;
+      steps = steps_stand d.conduct g.H.NodeHash.digest c.run_keeps_marks.ensures c.run_keeps_images.ensures stand.reload stand.append stand.flush
           compose.none compose.one_more;
     }

@@ -10,7 +10,7 @@ use Rattle.bt_files.proofs.adoption.adopt_files.Goals as goal
 
 pub returns-in_err-adopt_file-clause-torrent : goal.returns-in_err-adopt_file-clause-torrent
 returns-in_err-adopt_file-clause-torrent g c =
-    keeps_torrent g.D.Disk.history g.D.Disk.honest g.D.Disk.faults g.H.NodeHash.digest c.args.engine.now c.loop-file.engine c.adopt_file.new.engine
+    keeps_torrent g.D.Disk.conduct g.H.NodeHash.digest c.args.engine.now c.loop-file.engine c.adopt_file.new.engine
     c.args.filled.now c.loop-file.file c.in_err-adopt_file.ensures.step.0 c.loop-file.invariant.0 c.in_err-adopt_file.ensures.step.1
 
 pub returns-in_err-adopt_file-clause-run : goal.returns-in_err-adopt_file-clause-run
@@ -20,14 +20,14 @@ returns-in_err-adopt_file-clause-run g c =
 
 pub loop-file-preserved : goal.loop-file-preserved
 loop-file-preserved g c =
-    let taking = IsTaking g.D.Disk.history g.D.Disk.honest g.D.Disk.faults g.H.NodeHash.digest c.args.engine.now c.args.filled.now
+    let taking = IsTaking g.D.Disk.conduct g.H.NodeHash.digest c.args.engine.now c.args.filled.now
     (c.loop-file.file + 1) in
-    let leads = LeadsTo g.D.Disk.history g.D.Disk.honest g.D.Disk.faults g.H.NodeHash.digest c.args.engine.now in
+    let leads = LeadsTo g.D.Disk.conduct g.H.NodeHash.digest c.args.engine.now in
     let inside : c.loop-file.file < length c.args.filled.now = (let below = c.loop-file-test.true in let all = c.loop-file.invariant.2 in omega (arith, below, all)) in
     elim c.if-is_filled.branch [
       | then-is_filled+in_ok-adopt_file w ↦ (
         subst taking (sym w.engine-is)
-            (taking_more g.D.Disk.history g.D.Disk.honest g.D.Disk.faults g.H.NodeHash.digest c.args.engine.now c.loop-file.engine
+            (taking_more g.D.Disk.conduct g.H.NodeHash.digest c.args.engine.now c.loop-file.engine
             w.adopt_file.new.engine c.args.filled.now c.loop-file.file w.in_ok-adopt_file.ensures.step.0 c.loop-file.invariant.0 inside
             (c.is_filled.ensures.0 w.if-is_filled.true)
             w.in_ok-adopt_file.ensures.step.1 w.in_ok-adopt_file.ensures.step.2 w.in_ok-adopt_file.ensures.no_peer),
@@ -39,7 +39,7 @@ loop-file-preserved g c =
       )
       | else-is_filled w ↦ (
         subst taking (sym w.engine-is)
-            (taking_passed g.D.Disk.history g.D.Disk.honest g.D.Disk.faults g.H.NodeHash.digest c.args.engine.now c.loop-file.engine
+            (taking_passed g.D.Disk.conduct g.H.NodeHash.digest c.args.engine.now c.loop-file.engine
             c.args.filled.now c.loop-file.file c.loop-file.invariant.0 inside
             (λ chosen. cc (c.is_filled.ensures.1 chosen, w.if-is_filled.false))),
         c.loop-file.invariant.1,
@@ -52,7 +52,7 @@ pub loop-file-init : goal.loop-file-init
 loop-file-init g c =
     let files = sym (length-map c.files.result.now file_of) ∙ ap length c.files.ensures.said
     ∙ ap (λ (torrent : Metainfo). length torrent.files) c.torrent.ensures in (
-      taking_none g.D.Disk.history g.D.Disk.honest g.D.Disk.faults g.H.NodeHash.digest c.args.engine.now c.args.filled.now
+      taking_none g.D.Disk.conduct g.H.NodeHash.digest c.args.engine.now c.args.filled.now
           c.keeps_laws.ensures.shaped c.requires.no_peer,
       files ∙ sym c.keeps_laws.ensures.shaped.count,
       files ∙ sym c.requires.each,
@@ -61,5 +61,5 @@ loop-file-init g c =
 
 pub returns-clause-taken_in : goal.returns-clause-taken_in
 returns-clause-taken_in g c =
-    taken_all g.D.Disk.history g.D.Disk.honest g.D.Disk.faults g.H.NodeHash.digest c.args.engine.now c.loop-file.engine c.args.filled.now
+    taken_all g.D.Disk.conduct g.H.NodeHash.digest c.args.engine.now c.loop-file.engine c.args.filled.now
     c.loop-file.file (let all = c.loop-file.invariant.2 in let done = c.loop-file-test.false in omega (arith, all, done)) c.loop-file.invariant.0

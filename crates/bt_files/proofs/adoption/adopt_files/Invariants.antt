@@ -6,6 +6,6 @@ use Rattle.bt_files.proofs.adoption.adopt_files.Given as goal
 
 abbrev pub invariant-loop-file : goal.invariant-loop-file
 invariant-loop-file g l =
-    IsTaking g.D.Disk.history g.D.Disk.honest g.D.Disk.faults g.H.NodeHash.digest l.initial.engine l.filled l.file l.engine
+    IsTaking g.D.Disk.conduct g.H.NodeHash.digest l.initial.engine l.filled l.file l.engine
     × (l.count ≡ length l.initial.engine.state.files) × (l.count ≡ length l.filled)
-    × LeadsTo g.D.Disk.history g.D.Disk.honest g.D.Disk.faults g.H.NodeHash.digest l.initial.engine l.engine
+    × LeadsTo g.D.Disk.conduct g.H.NodeHash.digest l.initial.engine l.engine

@@ -14,7 +14,7 @@ returns-in_err-adopt_files-in-Ok-clause-fault g c =
 
 pub returns-in-Ok-clause-begun : goal.returns-in-Ok-clause-begun
 returns-in-Ok-clause-begun g c =
-    let began = started g.D.Disk.history g.D.Disk.honest g.D.Disk.faults sha256 c.args.torrent c.args.disks.items _ c.in-Ok.engine c.in-Ok.ensures.answer refl in
+    let began = started g.D.Disk.conduct sha256 c.args.torrent c.args.disks.items _ c.in-Ok.engine c.in-Ok.ensures.answer refl in
     record {
       first = c.in-Ok.engine;
       placed = began.placed;
@@ -24,5 +24,5 @@ returns-in-Ok-clause-begun g c =
       run = c.adopt_files.ensures.run;
       same = c.adopt_files.ensures.torrent ∙ began.same_torrent;
       no_peer = c.adopt_files.ensures.no_peer;
-      unlogged = λ none. stays_unlogged g.D.Disk.history g.D.Disk.honest g.D.Disk.faults sha256 c.adopt_files.ensures.run (began.unlogged none);
+      unlogged = λ none. stays_unlogged g.D.Disk.conduct sha256 c.adopt_files.ensures.run (began.unlogged none);
     }

@@ -12,13 +12,13 @@ begin_with_log-requires-clause-own_log g c =
 
 pub returns-in-Some-clause-begun : goal.returns-in-Some-clause-begun
 returns-in-Some-clause-begun g c =
-    subst (λ log. HasBegun g.D.Disk.history g.D.Disk.honest g.D.Disk.faults sha256 c.args.torrent c.args.files.disks.items log c.args.files.filled.items
+    subst (λ log. HasBegun g.D.Disk.conduct sha256 c.args.torrent c.args.files.disks.items log c.args.files.filled.items
     c.in_ok-engine-in-Some.engine) (sym c.in-Some.is) (c.in_ok-engine-in-Some.ensures.begun c.args.files.filled.items)
 
 pub returns-clause-begun : goal.returns-clause-begun
 returns-clause-begun g c =
     subst (λ log. IfOk c.begin.result
-    (HasBegun g.D.Disk.history g.D.Disk.honest g.D.Disk.faults sha256 c.args.torrent c.args.files.disks.items log c.args.files.filled.items))
+    (HasBegun g.D.Disk.conduct sha256 c.args.torrent c.args.files.disks.items log c.args.files.filled.items))
     (sym c.in-None.is) c.begin.ensures.begun
 
 pub returns-in_err-engine-in-Some-clause-fault : goal.returns-in_err-engine-in-Some-clause-fault

@@ -7,13 +7,13 @@ use Rattle.bt_files.proofs.store.begin_with_log.Goals as goal
 
 pub returns-in-Ok-clause-begun : goal.returns-in-Ok-clause-begun
 returns-in-Ok-clause-begun g c = λ filled.
-    let began = started g.D.Disk.history g.D.Disk.honest g.D.Disk.faults sha256 c.args.torrent c.args.disks.items _ c.in-Ok.engine c.in-Ok.ensures.answer refl in
+    let began = started g.D.Disk.conduct sha256 c.args.torrent c.args.disks.items _ c.in-Ok.engine c.in-Ok.ensures.answer refl in
     record {
       first = c.in-Ok.engine;
       placed = began.placed;
       devices = began.devices;
       begins = began.begins;
-      taken_in = takes_none g.D.Disk.history g.D.Disk.honest g.D.Disk.faults sha256 c.in-Ok.engine;
+      taken_in = takes_none g.D.Disk.conduct sha256 c.in-Ok.engine;
       run = none c.in-Ok.engine;
       same = began.same_torrent;
       no_peer = began.no_peer;

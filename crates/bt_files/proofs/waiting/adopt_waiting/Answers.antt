@@ -10,7 +10,7 @@ use Rattle.bt_files.proofs.waiting.adopt_waiting.Goals as goal
 
 pub loop-file-init : goal.loop-file-init
 loop-file-init g c = (
-  seeing_none g.D.Disk.history g.D.Disk.honest g.D.Disk.faults g.H.NodeHash.digest c.args.engine.now c.keeps_laws.ensures.shaped
+  seeing_none g.D.Disk.conduct g.H.NodeHash.digest c.args.engine.now c.keeps_laws.ensures.shaped
       c.requires,
   sym (length-map c.files.result.now file_of) ∙ ap length c.files.ensures.said
       ∙ ap (λ (torrent : Metainfo). length torrent.files) c.torrent.ensures ∙ sym c.keeps_laws.ensures.shaped.count,
@@ -24,19 +24,19 @@ returns-in_err-adopt_file-clause-run g c =
 
 pub returns-in_err-adopt_file-clause-torrent : goal.returns-in_err-adopt_file-clause-torrent
 returns-in_err-adopt_file-clause-torrent g c =
-    seeing_torrent g.D.Disk.history g.D.Disk.honest g.D.Disk.faults g.H.NodeHash.digest c.args.engine.now c.loop-file.engine
+    seeing_torrent g.D.Disk.conduct g.H.NodeHash.digest c.args.engine.now c.loop-file.engine
     c.adopt_file.new.engine c.loop-file.file c.in_err-adopt_file.ensures.step.0 c.loop-file.invariant.0
     c.in_err-adopt_file.ensures.step.1
 
 pub loop-file-preserved : goal.loop-file-preserved
 loop-file-preserved g c =
-    let seeing = IsSeeing g.D.Disk.history g.D.Disk.honest g.D.Disk.faults g.H.NodeHash.digest c.args.engine.now
+    let seeing = IsSeeing g.D.Disk.conduct g.H.NodeHash.digest c.args.engine.now
     (c.loop-file.file + 1) in
-    let leads = LeadsTo g.D.Disk.history g.D.Disk.honest g.D.Disk.faults g.H.NodeHash.digest c.args.engine.now in
+    let leads = LeadsTo g.D.Disk.conduct g.H.NodeHash.digest c.args.engine.now in
     elim c.if-is_whole_waiting.branch [
       | then-is_whole_waiting+in_ok-adopt_file w ↦ (
         subst seeing (sym w.engine-is)
-            (seeing_taken g.D.Disk.history g.D.Disk.honest g.D.Disk.faults g.H.NodeHash.digest c.args.engine.now c.loop-file.engine
+            (seeing_taken g.D.Disk.conduct g.H.NodeHash.digest c.args.engine.now c.loop-file.engine
             w.adopt_file.new.engine c.loop-file.file w.in_ok-adopt_file.ensures.step.0 c.loop-file.invariant.0
             (c.is_whole_waiting.ensures.0 w.if-is_whole_waiting.true)
             w.in_ok-adopt_file.ensures.step.1 w.in_ok-adopt_file.ensures.step.2 w.in_ok-adopt_file.ensures.no_peer),
@@ -47,7 +47,7 @@ loop-file-preserved g c =
       )
       | else-is_whole_waiting w ↦ (
         subst seeing (sym w.engine-is)
-            (seeing_passed g.D.Disk.history g.D.Disk.honest g.D.Disk.faults g.H.NodeHash.digest c.args.engine.now c.loop-file.engine
+            (seeing_passed g.D.Disk.conduct g.H.NodeHash.digest c.args.engine.now c.loop-file.engine
             c.loop-file.file c.loop-file.invariant.0
             (λ waits. cc (c.is_whole_waiting.ensures.1 waits, w.if-is_whole_waiting.false))),
         c.loop-file.invariant.1,

@@ -6,6 +6,6 @@ use Rattle.bt_files.proofs.waiting.adopt_waiting.Given as goal
 
 abbrev pub invariant-loop-file : goal.invariant-loop-file
 invariant-loop-file g l =
-    IsSeeing g.D.Disk.history g.D.Disk.honest g.D.Disk.faults g.H.NodeHash.digest l.initial.engine l.file l.engine
+    IsSeeing g.D.Disk.conduct g.H.NodeHash.digest l.initial.engine l.file l.engine
     × (l.count ≡ length l.initial.engine.state.files)
-    × LeadsTo g.D.Disk.history g.D.Disk.honest g.D.Disk.faults g.H.NodeHash.digest l.initial.engine l.engine
+    × LeadsTo g.D.Disk.conduct g.H.NodeHash.digest l.initial.engine l.engine

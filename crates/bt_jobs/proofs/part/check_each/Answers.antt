@@ -13,30 +13,30 @@ loop-data-init g c =
     let old = g.W.Write.contents c.args.writer.now in
     let files = c.args.files.items in (
       t.0,
-      subst (λ left. IsPartTelling d.history d.honest d.faults c.args.size.layer t.0 files left c.args.trees.now old old)
+      subst (λ left. IsPartTelling d.conduct c.args.size.layer t.0 files left c.args.trees.now old old)
           (sym c.into_iter-data-iterator.ensures.into_iter_gives.0)
-          (telling_begun d.history d.honest d.faults c.args.size.layer t.0 files c.args.trees.now old c.requires.ready t.1 t.2),
+          (telling_begun d.conduct c.args.size.layer t.0 files c.args.trees.now old c.requires.ready t.1 t.2),
     )
 
 pub check-requires-clause-ready : goal.check-requires-clause-ready
 check-requires-clause-ready g c =
     let d = g.D.Disk in
     let (layer_at, t) = c.loop-data.invariant in
-    first_ready d.history d.honest d.faults c.args.size.layer layer_at c.in-Some.«data» _
+    first_ready d.conduct c.args.size.layer layer_at c.in-Some.«data» _
     (subst (λ left. All (IsReadyPart c.args.size.layer) (map part_at left)) c.in-Some.ensures.steps.0 t.ready)
 
 pub check-requires-clause-trees : goal.check-requires-clause-trees
 check-requires-clause-trees g c =
     let d = g.D.Disk in
     let (layer_at, t) = c.loop-data.invariant in
-    first_next d.history d.honest d.faults c.args.size.layer layer_at c.args.files.items _ _ c.in-Some.«data» _ _ _ t c.in-Some.ensures.steps.0
+    first_next d.conduct c.args.size.layer layer_at c.args.files.items _ _ c.in-Some.«data» _ _ _ t c.in-Some.ensures.steps.0
 
 pub loop-data-preserved : goal.loop-data-preserved
 loop-data-preserved g c =
     let d = g.D.Disk in
     let (layer_at, t) = c.loop-data.invariant in (
       layer_at,
-      telling_more d.history d.honest d.faults c.args.size.layer layer_at c.args.files.items _ _ c.in-Some.«data» _ _ _ _ _ t c.in-Some.ensures.steps.0
+      telling_more d.conduct c.args.size.layer layer_at c.args.files.items _ _ c.in-Some.«data» _ _ _ _ _ t c.in-Some.ensures.steps.0
           c.in_ok-check.ensures.told,
     )
 
@@ -45,6 +45,6 @@ returns-clause-told g c =
     let d = g.D.Disk in
     let (layer_at, t) = c.loop-data.invariant in
     let none_left = nil_from_length (into_iter_items c.loop-data.data-iterator) (sym c.loop-data.data-iterator.rest.ok.0 ∙ c.in-None.ensures.steps.0) in
-    all_told d.history d.honest d.faults c.args.size.layer layer_at c.args.files.items _ _ _
-    (subst (λ left. IsPartTelling d.history d.honest d.faults c.args.size.layer layer_at c.args.files.items left c.loop-data.trees
+    all_told d.conduct c.args.size.layer layer_at c.args.files.items _ _ _
+    (subst (λ left. IsPartTelling d.conduct c.args.size.layer layer_at c.args.files.items left c.loop-data.trees
     (g.W.Write.contents c.args.writer.now) (g.W.Write.contents c.loop-data.writer)) none_left t)

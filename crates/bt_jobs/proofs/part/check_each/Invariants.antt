@@ -7,5 +7,5 @@ use Rattle.bt_jobs.proofs.part.check_each.Given as goal
 abbrev pub invariant-loop-data : goal.invariant-loop-data
 invariant-loop-data g l =
     (layer_at : ℕ → List ℕ → List ℕ)
-    × IsPartTelling g.D.Disk.history g.D.Disk.honest g.D.Disk.faults l.size.layer layer_at l.fn.files.items (into_iter_items l.data-iterator) l.trees
+    × IsPartTelling g.D.Disk.conduct l.size.layer layer_at l.fn.files.items (into_iter_items l.data-iterator) l.trees
     (g.W.Write.contents l.fn.writer) (g.W.Write.contents l.writer)

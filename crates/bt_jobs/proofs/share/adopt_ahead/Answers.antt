@@ -9,6 +9,6 @@ returns-clause-ok g c =
     let d = g.D.Disk in
     let found = c.in-Ok.ensures.ok in (
       found.0,
-      alone_adopted d.history d.honest d.faults sha256 c.args.tree.now c.adopt.new.tree c.args.from c.args.store.now c.adopt.new.self found.0 c.in-Ok.group
+      alone_adopted d.conduct sha256 c.args.tree.now c.adopt.new.tree c.args.from c.args.store.now c.adopt.new.self found.0 c.in-Ok.group
           (subst (λ n. c.args.from < block_count n) (sym c.requires.geometry) c.requires.inside) found.1,
     )

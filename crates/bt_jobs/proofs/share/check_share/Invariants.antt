@@ -12,7 +12,7 @@ abbrev pub invariant-loop-run : goal.invariant-loop-run
 invariant-loop-run g l =
     ((known : KnownLayer) (leaves : ℕ → Option (List ℕ)) → HoldsLeaves l.fn.tree.file_length known leaves l.fn.tree
     → IsPieceEdge known l.fn.tree.file_length l.share.from
-    → IsSharing g.D.Disk.history g.D.Disk.honest g.D.Disk.faults l.fn.tree.file_length known leaves l.fn.disk l.file l.share.from l.run l.tree l.store
+    → IsSharing g.D.Disk.conduct l.fn.tree.file_length known leaves l.fn.disk l.file l.share.from l.run l.tree l.store
     (g.W.Write.contents l.fn.writer) (g.W.Write.contents l.writer))
     × (l.share.to ≤ l.run.to → (l.run.from ≡ l.run.to) × (l.run.met ≡ Nothing))
 

@@ -9,5 +9,5 @@ returns-in-None-clause-told g c =
     let d = g.D.Disk in
     let part = c.args.part in
     let empty : block_count part.file.now.length ≡ 0 = ap block_count (unshaped part.file.now.length c.requires.ready.checkable.short c.in-None.ensures.lawful.1) in
-    nothing_checked d.history d.honest d.faults c.args.size.layer part c.args.disk c.args.kept.now _ c.requires.ready.forward
+    nothing_checked d.conduct c.args.size.layer part c.args.disk c.args.kept.now _ c.requires.ready.forward
     (omega (arith, c.requires.ready.inside, empty))

@@ -16,7 +16,7 @@ check_share-requires-clause-ready g c =
 pub returns-then-part-clause-told : goal.returns-then-part-clause-told
 returns-then-part-clause-told g c =
     let d = g.D.Disk in
-    nothing_checked d.history d.honest d.faults c.args.size.layer c.args.part c.args.disk c.args.kept.now _ c.requires.ready.forward c.if-part.true
+    nothing_checked d.conduct c.args.size.layer c.args.part c.args.disk c.args.kept.now _ c.requires.ready.forward c.if-part.true
 
 pub returns-clause-told : goal.returns-clause-told
 returns-clause-told g c = λ before has own.

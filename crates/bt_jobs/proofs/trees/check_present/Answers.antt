@@ -7,5 +7,5 @@ pub returns-clause-told : goal.returns-clause-told
 returns-clause-told g c =
     let d = g.D.Disk in
     on_ok_weaker c.check_blocks.result
-    (λ blocks. part_checked d.history d.honest d.faults c.args.size.layer c.args.part c.args.disk c.tell_length.new.disk c.args.kept.now _ _ _ _
+    (λ blocks. part_checked d.conduct c.args.size.layer c.args.part c.args.disk c.tell_length.new.disk c.args.kept.now _ _ _ _
     (omega (arith, c.requires.ready.forward, c.requires.ready.inside)) c.in_ok-tell_length.ensures.told blocks) c.check_blocks.ensures.told

@@ -3,7 +3,7 @@ use Rattle.std.specs.Prelude.{ℕ}
 use Rattle.bt_meta.specs.Files.{file_of}
 use Rattle.bt_resume.specs.ResumeLog.{IsAttached}
 use Rattle.bt_log_file.specs.Attaching.{IsAttachFault}
-use Rattle.bt_log_file.specs.Device.{device_faults, device_history, device_honest}
+use Rattle.bt_log_file.specs.Device.{device_conduct}
 use Rattle.bt_log_file.specs.Opening.{AddsFile, IsLogFaultOf}
 use Rattle.bt_log_file.proofs.LogFaults.{of_device, of_known, of_name, passed_on, where_err, where_ok}
 use Rattle.bt_log_file.proofs.opening.open_in_file.Goals as goal
@@ -25,7 +25,7 @@ returns-in_err-refuse_other_name-clause-fault g c =
 
 pub returns-clause-log : goal.returns-clause-log
 returns-clause-log g c =
-    subst (λ (h : List ℕ). IfOk c.attach_log.result (IsAttached device_history device_honest device_faults h c.args.opened.disk)) c.infohash.ensures
+    subst (λ (h : List ℕ). IfOk c.attach_log.result (IsAttached device_conduct h c.args.opened.disk)) c.infohash.ensures
     c.attach_log.ensures.log
 
 pub returns-clause-further : goal.returns-clause-further
@@ -38,7 +38,7 @@ returns-clause-further g c =
 pub returns-clause-fault : goal.returns-clause-fault
 returns-clause-fault g c =
     let identity = c.args.opened.opening.identity in
-    where_err c.attach_log.result (IsAttachFault device_history device_honest device_faults c.infohash.result c.args.opened.disk)
+    where_err c.attach_log.result (IsAttachFault device_conduct c.infohash.result c.args.opened.disk)
     (IsLogFaultOf c.args.known.now identity c.args.torrent.now c.args.path.now c.args.opened.disk)
     (λ fault is. of_device c.args.known.now identity c.args.torrent.now c.args.path.now c.args.opened.disk fault c.infohash.result c.infohash.ensures is)
     c.attach_log.ensures.fault

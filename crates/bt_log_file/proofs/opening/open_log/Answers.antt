@@ -1,7 +1,7 @@
 use Rattle.std.proofs.Common.{None, IfOk, inl, subst}
 use Rattle.std.proofs.lemmas.Result.{on_ok_weaker}
 use Rattle.bt_resume.specs.ResumeLog.{IsAttached}
-use Rattle.bt_log_file.specs.Device.{LogDiskView, device_faults, device_history, device_honest}
+use Rattle.bt_log_file.specs.Device.{LogDiskView, device_conduct}
 use Rattle.bt_log_file.specs.Opening.{IsLogFault, IsLogFaultOf}
 use Rattle.bt_log_file.proofs.LogFaults.{passed_on, where_err}
 use Rattle.bt_log_file.proofs.opening.open_log.Goals as goal
@@ -13,7 +13,7 @@ returns-in_err-opened-clause-fault g c =
 
 pub returns-clause-log : goal.returns-clause-log
 returns-clause-log g c =
-    subst (λ (d : LogDiskView). IfOk c.open_in_file.result (IsAttached device_history device_honest device_faults c.args.torrent.now.infohash d))
+    subst (λ (d : LogDiskView). IfOk c.open_in_file.result (IsAttached device_conduct c.args.torrent.now.infohash d))
     c.in_ok-opened.ensures.device c.open_in_file.ensures.log
 
 pub returns-clause-further : goal.returns-clause-further

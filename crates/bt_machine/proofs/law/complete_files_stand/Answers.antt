@@ -2,4 +2,4 @@ use Rattle.bt_machine.proofs.Sound.{complete_stands}
 use Rattle.bt_machine.proofs.law.complete_files_stand.Goals as goal
 
 pub returns : goal.returns
-returns g c = complete_stands g.D.Disk.history g.D.Disk.honest g.D.Disk.faults g.H.NodeHash.digest
+returns g c = complete_stands g.D.Disk.conduct g.H.NodeHash.digest

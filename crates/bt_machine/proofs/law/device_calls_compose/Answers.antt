@@ -3,7 +3,7 @@ use Rattle.bt_machine.proofs.law.device_calls_compose.Goals as goal
 
 pub returns : goal.returns
 returns g c = record {
-  none = have_none g.D.Disk.history g.D.Disk.honest g.D.Disk.faults;
-  one = have_one g.D.Disk.history g.D.Disk.honest g.D.Disk.faults;
-  both = have_then g.D.Disk.history g.D.Disk.honest g.D.Disk.faults;
+  none = have_none g.D.Disk.conduct;
+  one = have_one g.D.Disk.conduct;
+  both = have_then g.D.Disk.conduct;
 }

@@ -3,8 +3,8 @@ use Rattle.bt_machine.proofs.law.runs_compose.Goals as goal
 
 pub returns : goal.returns
 returns g c = record {
-  none = none_run g.D.Disk.history g.D.Disk.honest g.D.Disk.faults g.H.NodeHash.digest;
-  one_more = one_more_runs g.D.Disk.history g.D.Disk.honest g.D.Disk.faults g.H.NodeHash.digest;
-  both = runs_compose g.D.Disk.history g.D.Disk.honest g.D.Disk.faults g.H.NodeHash.digest;
-  are_runs = without_devices g.D.Disk.history g.D.Disk.honest g.D.Disk.faults g.H.NodeHash.digest;
+  none = none_run g.D.Disk.conduct g.H.NodeHash.digest;
+  one_more = one_more_runs g.D.Disk.conduct g.H.NodeHash.digest;
+  both = runs_compose g.D.Disk.conduct g.H.NodeHash.digest;
+  are_runs = without_devices g.D.Disk.conduct g.H.NodeHash.digest;
 }

@@ -15,5 +15,5 @@ returns g c =
       orderly = order_at_first dig;
       rooted = start_rooted dig keeps layers roots;
       sparse = start_sparse dig keeps layers roots g.met.H.NodeHash.has_32_bytes;
-      sound = start_sound g.D.Disk.history g.D.Disk.honest g.D.Disk.faults dig;
+      sound = start_sound g.D.Disk.conduct dig;
     }

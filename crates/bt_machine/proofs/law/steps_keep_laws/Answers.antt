@@ -16,5 +16,5 @@ returns g c =
       orderly = order_kept dig;
       rooted = step_rooted dig keeps layers roots;
       sparse = step_sparse dig keeps layers roots g.met.H.NodeHash.has_32_bytes;
-      sound = step_sound g.D.Disk.history g.D.Disk.honest g.D.Disk.faults dig c.adopt_marks_by_bytes.ensures;
+      sound = step_sound g.D.Disk.conduct dig c.adopt_marks_by_bytes.ensures;
     }

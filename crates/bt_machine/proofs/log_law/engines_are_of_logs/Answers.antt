@@ -6,7 +6,7 @@ returns g c =
     let d = g.D.Disk in
     let dig = g.H.NodeHash.digest in
     record {
-      starts = start_of_log d.history d.honest d.faults dig;
-      steps = step_of_log d.history d.honest d.faults dig;
-      runs = run_of_log d.history d.honest d.faults dig;
+      starts = start_of_log d.conduct dig;
+      steps = step_of_log d.conduct dig;
+      runs = run_of_log d.conduct dig;
     }

@@ -14,11 +14,11 @@ returns g c =
     let sizes = g.met.H.NodeHash.has_32_bytes in
     let rooted = c.keeps_rooted.ensures in
     record {
-      starts = start_backed d.history d.honest d.faults dig hold.attach;
-      steps = step_backed d.history d.honest d.faults dig hold.reload hold.append hold.flush sizes rooted groups.lead groups.others;
-      runs = runs_backed d.history d.honest d.faults dig hold.reload hold.append hold.flush sizes rooted groups.lead groups.others
+      starts = start_backed d.conduct dig hold.attach;
+      steps = step_backed d.conduct dig hold.reload hold.append hold.flush sizes rooted groups.lead groups.others;
+      runs = runs_backed d.conduct dig hold.reload hold.append hold.flush sizes rooted groups.lead groups.others
           hold.attach first.shaped first.sparse next.shaped next.sparse;
-      flushed = logs_kept d.history d.honest d.faults dig hold.reload hold.append hold.flush sizes rooted groups.lead groups.others
+      flushed = logs_kept d.conduct dig hold.reload hold.append hold.flush sizes rooted groups.lead groups.others
           hold.attach first.shaped first.sparse next.shaped next.sparse stand.reload stand.append stand.flush stand.flushed
           c.kept_devices_open.ensures.opens;
     }

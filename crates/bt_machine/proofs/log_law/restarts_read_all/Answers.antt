@@ -4,5 +4,5 @@ use Rattle.bt_machine.proofs.log_law.restarts_read_all.Goals as goal
 pub returns : goal.returns
 returns g c = record {
   none = no_restarts;
-  counted = counts_tell g.D.Disk.history g.D.Disk.honest g.D.Disk.faults g.H.NodeHash.digest;
+  counted = counts_tell g.D.Disk.conduct g.H.NodeHash.digest;
 }

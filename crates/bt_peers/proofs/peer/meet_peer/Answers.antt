@@ -3,5 +3,5 @@ use Rattle.bt_peers.proofs.peer.meet_peer.Goals as goal
 
 pub returns-clause-ended : goal.returns-clause-ended
 returns-clause-ended g c =
-    (unflushed_end g.D.Disk.history g.D.Disk.honest g.D.Disk.faults g.H.NodeHash.digest g.R.Read.remaining g.W.Write.contents c.args.until_complete c.args.turns
+    (unflushed_end g.D.Disk.conduct g.H.NodeHash.digest g.R.Read.remaining g.W.Write.contents c.args.until_complete c.args.turns
     _ _ _ _ _ c.meet_peer_with_flushes-end.ensures.ended).1

@@ -19,14 +19,14 @@ returns-in_default-clause-stands g c =
 
 pub returns-in-Ok-Ok-clause-ended : goal.returns-in-Ok-Ok-clause-ended
 returns-in-Ok-Ok-clause-ended g c =
-    flushed_end g.D.Disk.history g.D.Disk.honest g.D.Disk.faults g.H.NodeHash.digest g.R.Read.remaining g.W.Write.contents c.args.until_complete c.args.flush_every c.args.turns c.args.reached _ c.args.engine.now c.flush_behind.new.engine c.in-Ok-Ok.end c.flush_behind.result c.in-Some.is
+    flushed_end g.D.Disk.conduct g.H.NodeHash.digest g.R.Read.remaining g.W.Write.contents c.args.until_complete c.args.flush_every c.args.turns c.args.reached _ c.args.engine.now c.flush_behind.new.engine c.in-Ok-Ok.end c.flush_behind.result c.in-Some.is
     (behind c.run_session_with_flushes.new.engine (record { left = _; written = _; session = rw c.in-Ok-Ok.field-0-is at c.in-Ok-Ok.ensures.session })
     c.flush_behind.ensures.flushed)
 
 pub returns-in-Ok-Ok-clause-run : goal.returns-in-Ok-Ok-clause-run
 returns-in-Ok-Ok-clause-run g c =
     both c.args.engine.now c.run_session_with_flushes.new.engine c.flush_behind.new.engine
-    (session_leads g.D.Disk.history g.D.Disk.honest g.D.Disk.faults g.H.NodeHash.digest _ _ _ c.args.engine.now c.run_session_with_flushes.new.engine _ _ _ _ _
+    (session_leads g.D.Disk.conduct g.H.NodeHash.digest _ _ _ c.args.engine.now c.run_session_with_flushes.new.engine _ _ _ _ _
     c.in-Ok-Ok.ensures.session)
     c.flush_behind.ensures.run
 
@@ -34,18 +34,18 @@ pub returns-in-Ok-Ok-clause-stands : goal.returns-in-Ok-Ok-clause-stands
 returns-in-Ok-Ok-clause-stands g c =
     c.what_leads_on_stands.ensures c.args.engine.now c.flush_behind.new.engine c.keeps_laws.ensures.sound
     (both c.args.engine.now c.run_session_with_flushes.new.engine c.flush_behind.new.engine
-    (session_leads g.D.Disk.history g.D.Disk.honest g.D.Disk.faults g.H.NodeHash.digest _ _ _ c.args.engine.now c.run_session_with_flushes.new.engine _ _ _ _ _
+    (session_leads g.D.Disk.conduct g.H.NodeHash.digest _ _ _ c.args.engine.now c.run_session_with_flushes.new.engine _ _ _ _ _
     c.in-Ok-Ok.ensures.session)
     c.flush_behind.ensures.run)
 
 pub returns-in-Ok-Err-clause-ended : goal.returns-in-Ok-Err-clause-ended
 returns-in-Ok-Err-clause-ended g c =
-    flushed_end g.D.Disk.history g.D.Disk.honest g.D.Disk.faults g.H.NodeHash.digest g.R.Read.remaining g.W.Write.contents c.args.until_complete c.args.flush_every c.args.turns c.args.reached _ c.args.engine.now c.run_session_with_flushes.new.engine ReadFault (Err c.in-Ok-Err.error) c.in-Some.is
+    flushed_end g.D.Disk.conduct g.H.NodeHash.digest g.R.Read.remaining g.W.Write.contents c.args.until_complete c.args.flush_every c.args.turns c.args.reached _ c.args.engine.now c.run_session_with_flushes.new.engine ReadFault (Err c.in-Ok-Err.error) c.in-Some.is
     (within c.in-Ok-Err.error (record { left = _; written = _; session = rw c.in-Ok-Err.field-0-is at c.in-Ok-Err.ensures.session }) refl refl)
 
 pub returns-in-Ok-Err-clause-run : goal.returns-in-Ok-Err-clause-run
 returns-in-Ok-Err-clause-run g c =
-    session_leads g.D.Disk.history g.D.Disk.honest g.D.Disk.faults g.H.NodeHash.digest _ _ _ c.args.engine.now c.run_session_with_flushes.new.engine _ _ _ _ _
+    session_leads g.D.Disk.conduct g.H.NodeHash.digest _ _ _ c.args.engine.now c.run_session_with_flushes.new.engine _ _ _ _ _
     c.in-Ok-Err.ensures.session
 
 pub returns-in-Ok-Err-clause-stands : goal.returns-in-Ok-Err-clause-stands

@@ -13,8 +13,8 @@ invariant-loop-i g l = record {
   undialled : All (λ link. g.L.Link.dials link ≡ 0) (drop l.i l.links);
   untried : drop l.i l.ends ≡ replicate (length (drop l.i l.links)) Untried;
   leads : LeadsOn
-      (IsTriedWithFlushes g.D.Disk.history g.D.Disk.honest g.D.Disk.faults g.H.NodeHash.digest g.L.Link.dials g.L.Link.failures g.L.Link.gives g.L.R.Read.remaining
+      (IsTriedWithFlushes g.D.Disk.conduct g.H.NodeHash.digest g.L.Link.dials g.L.Link.failures g.L.Link.gives g.L.R.Read.remaining
       g.L.W.Write.contents l.flush_every l.turns)
       l.initial.engine l.initial.links l.engine (drop l.i l.links) (take l.i l.ends) (take l.i l.links);
-  run : LeadsTo g.D.Disk.history g.D.Disk.honest g.D.Disk.faults g.H.NodeHash.digest l.initial.engine l.engine;
+  run : LeadsTo g.D.Disk.conduct g.H.NodeHash.digest l.initial.engine l.engine;
 }

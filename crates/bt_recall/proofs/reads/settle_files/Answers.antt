@@ -7,7 +7,7 @@ use Rattle.bt_recall.proofs.reads.settle_files.Goals as goal
 pub loop-slot-init : goal.loop-slot-init
 loop-slot-init g c =
     let d = g.D.Disk in
-    settled_none d.history d.honest d.faults g.H.NodeHash.digest c.args.trees.now c.args.slots.now
+    settled_none d.conduct g.H.NodeHash.digest c.args.trees.now c.args.slots.now
 
 pub settle_slot-requires : goal.settle_slot-requires
 settle_slot-requires g c =
@@ -22,7 +22,7 @@ loop-slot-preserved g c =
     let now = c.loop-slot.slots in
     let i = c.loop-slot.slot-index in
     let here = slice_get-get_or now i c.slot-item.result (omega (arith, c.loop-slot-test.true, c.loop-slot.auto.slots)) in
-    settled_more d.history d.honest d.faults g.H.NodeHash.digest c.args.trees.now i c.args.slots.now now (get_or now i c.slot-item.result) c.settle_slot.new.slot here
+    settled_more d.conduct g.H.NodeHash.digest c.args.trees.now i c.args.slots.now now (get_or now i c.slot-item.result) c.settle_slot.new.slot here
     c.loop-slot.invariant c.settle_slot.ensures
 
 pub returns : goal.returns

@@ -3,4 +3,4 @@ use Rattle.bt_recall.proofs.reads.settle_files.Given as goal
 
 abbrev pub invariant-loop-slot : goal.invariant-loop-slot
 invariant-loop-slot g l =
-    AreSettledBelow g.D.Disk.history g.D.Disk.honest g.D.Disk.faults g.H.NodeHash.digest l.trees l.slot-index l.fn.slots l.slots
+    AreSettledBelow g.D.Disk.conduct g.H.NodeHash.digest l.trees l.slot-index l.fn.slots l.slots

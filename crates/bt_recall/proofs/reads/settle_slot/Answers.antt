@@ -38,6 +38,6 @@ returns g c =
     let k = c.requires store.file_length (ap (option_map (λ (s : StoreView g.row.D.Denot). s.file_length)) c.in-Some.is) in
     let here = get_read trees tree c.index-trees-slot.result (some_below trees tree k.1) c.index-trees-slot.is in
     let r = rw c.unwrap.ensures at c.settle.ensures.settled in
-    slot_settled d.history d.honest d.faults dig trees c.in-Some.is here r.0
-    (subst (λ n. IsJudged d.history d.honest d.faults dig c.index-trees-slot.result false (waiting_blocks dig c.index-trees-slot.result store.states 0 n) store r.0 c.settle.new.self)
+    slot_settled d.conduct dig trees c.in-Some.is here r.0
+    (subst (λ n. IsJudged d.conduct dig c.index-trees-slot.result false (waiting_blocks dig c.index-trees-slot.result store.states 0 n) store r.0 c.settle.new.self)
     (c.blocks-blocks.ensures.value ∙ ap block_count c.geometry.ensures.value ∙ sym c.geometry.ensures.states) r.1)

@@ -6,7 +6,7 @@ use Rattle.bt_replay.proofs.run.run_lines.Given as goal
 
 abbrev pub invariant-lines : goal.invariant-lines
 invariant-lines g l =
-    IsAt g.D.Disk.history g.D.Disk.honest g.D.Disk.faults g.H.NodeHash.digest l.handshake l.initial.engine l.initial.number l.number
+    IsAt g.D.Disk.conduct g.H.NodeHash.digest l.handshake l.initial.engine l.initial.number l.number
     (lines_in l.initial.rest) l.rest (g.W.Write.contents l.initial.writer) (g.W.Write.contents l.writer) l.engine
 
 abbrev pub decreases-lines : goal.decreases-lines

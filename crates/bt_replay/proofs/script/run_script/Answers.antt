@@ -3,7 +3,7 @@ use Rattle.std.proofs.KnownBytes.{Keeps-refl}
 use Rattle.std.proofs.lemmas.Result.{err_from_is_err_and}
 use Rattle.sha2.specs.Sha256.{sha256}
 use Rattle.bt_replay.specs.Field.{parts_of}
-use Rattle.bt_replay.specs.Script.{device_history, device_honest, device_faults, unbegun}
+use Rattle.bt_replay.specs.Script.{device_conduct, unbegun}
 use Rattle.bt_replay.specs.Run.{EndsEarly, HasRun, lines_in}
 use Rattle.bt_replay.proofs.DeviceSettings.{front_count}
 use Rattle.bt_replay.proofs.ScriptEnd.{replayed}
@@ -47,7 +47,7 @@ returns g c =
     let rest = lines_in c.in_ok-engine.rest in
     replayed c.args.script.now c.cut.result.0.now (lines_in c.cut.result.1) rest c.in_ok-torrent.torrent engine c.run_all.new.engine
     c.in_ok-engine.count before after c.run_all.result lines c.in_ok-torrent.ensures.torrent c.in_ok-engine.ensures.begun
-    (subst (λ handshake. OnOk c.run_all.result (HasRun device_history device_honest device_faults sha256 handshake engine rest before after
+    (subst (λ handshake. OnOk c.run_all.result (HasRun device_conduct sha256 handshake engine rest before after
     c.run_all.new.engine)) c.peer_handshake-handshake.ensures c.run_all.ensures.done)
-    (subst (λ handshake. IfErr c.run_all.result (EndsEarly device_history device_honest device_faults sha256 handshake engine
+    (subst (λ handshake. IfErr c.run_all.result (EndsEarly device_conduct sha256 handshake engine
     (c.in_ok-engine.count + 2) rest before after)) c.peer_handshake-handshake.ensures c.run_all.ensures.ended)

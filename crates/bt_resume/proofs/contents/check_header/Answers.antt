@@ -7,8 +7,8 @@ returns-in-Some g c =
     let d = g.D.Disk in
     let w = c.in-Ok.ensures in
     let size : length c.read_at.new.out ≡ 40 = search rules in (
-      has_nothing d.history d.honest d.faults c.args.disk.now c.read_at.new.self w.counted w.as_honest (λ h. (w.answered h).1),
-      λ h. ap (λ n. take n (d.history c.args.disk.now).now.bytes) (sym size) ∙ sym (w.answered h).0 ∙ c.in-Some.ensures.some,
+      has_nothing d.conduct c.args.disk.now c.read_at.new.self w.counted w.as_honest (λ h. (w.answered h).1),
+      λ h. ap (λ n. take n (d.conduct.history c.args.disk.now).now.bytes) (sym size) ∙ sym (w.answered h).0 ∙ c.in-Some.ensures.some,
     )
 
 pub returns-in-None : goal.returns-in-None
@@ -16,6 +16,6 @@ returns-in-None g c =
     let d = g.D.Disk in
     let w = c.in-Ok.ensures in
     let size : length c.read_at.new.out ≡ 40 = search rules in (
-      has_nothing d.history d.honest d.faults c.args.disk.now c.read_at.new.self w.counted w.as_honest (λ h. (w.answered h).1),
-      λ h format e. c.in-None.ensures.none format ((w.answered h).0 ∙ ap (λ n. take n (d.history c.args.disk.now).now.bytes) size ∙ e),
+      has_nothing d.conduct c.args.disk.now c.read_at.new.self w.counted w.as_honest (λ h. (w.answered h).1),
+      λ h format e. c.in-None.ensures.none format ((w.answered h).0 ∙ ap (λ n. take n (d.conduct.history c.args.disk.now).now.bytes) size ∙ e),
     )

@@ -5,6 +5,6 @@ pub returns : goal.returns
 returns g c =
     let d = g.D.Disk in
     record {
-      reads = openings.kept_devices_are_read d.history d.honest d.faults;
-      opens = openings.kept_devices_open d.history d.honest d.faults;
+      reads = openings.kept_devices_are_read d.conduct;
+      opens = openings.kept_devices_open d.conduct;
     }

@@ -6,9 +6,9 @@ returns g c =
     let d = g.D.Disk in
     let gives_image = g.met.D.Disk.reads_image in
     record {
-      attach = attach_stands d.history d.honest d.faults gives_image;
-      reload = reload_stands d.history d.honest d.faults gives_image;
-      append = append_stands d.history d.honest d.faults gives_image;
-      flush = flush_stands d.history d.honest d.faults gives_image;
-      flushed = flushed_stand d.history d.honest d.faults gives_image;
+      attach = attach_stands d.conduct gives_image;
+      reload = reload_stands d.conduct gives_image;
+      append = append_stands d.conduct gives_image;
+      flush = flush_stands d.conduct gives_image;
+      flushed = flushed_stand d.conduct gives_image;
     }

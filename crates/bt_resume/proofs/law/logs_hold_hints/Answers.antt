@@ -5,8 +5,8 @@ pub returns : goal.returns
 returns g c =
     let d = g.D.Disk in
     record {
-      attach = attach_holds d.history d.honest d.faults;
-      reload = reload_holds d.history d.honest d.faults;
-      append = append_holds d.history d.honest d.faults;
-      flush = flush_holds d.history d.honest d.faults;
+      attach = attach_holds d.conduct;
+      reload = reload_holds d.conduct;
+      append = append_holds d.conduct;
+      flush = flush_holds d.conduct;
     }

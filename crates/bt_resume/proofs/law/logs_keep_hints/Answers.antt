@@ -6,8 +6,8 @@ returns g c =
     let d = g.D.Disk in
     let gives_image = g.met.D.Disk.reads_image in
     record {
-      attach = attach_keeps d.history d.honest d.faults gives_image;
-      reload = reload_keeps d.history d.honest d.faults gives_image;
-      append = append_keeps d.history d.honest d.faults gives_image;
-      flush = flush_keeps d.history d.honest d.faults gives_image;
+      attach = attach_keeps d.conduct gives_image;
+      reload = reload_keeps d.conduct gives_image;
+      append = append_keeps d.conduct gives_image;
+      flush = flush_keeps d.conduct gives_image;
     }

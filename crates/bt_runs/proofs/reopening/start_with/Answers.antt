@@ -4,7 +4,7 @@ use Rattle.bt_runs.proofs.reopening.start_with.Goals as goal
 
 pub unreachable-requires : goal.unreachable-requires
 unreachable-requires g c =
-    none_back g.D.Disk.history g.D.Disk.honest g.D.Disk.faults g.H.NodeHash.digest c.requires.same_torrent c.start.ensures.answer c.in-Err.is c.in-None.is
+    none_back g.D.Disk.conduct g.H.NodeHash.digest c.requires.same_torrent c.start.ensures.answer c.in-Err.is c.in-None.is
 
 pub returns-in-Ok-clause-begun : goal.returns-in-Ok-clause-begun
 returns-in-Ok-clause-begun g c = rw c.in-Ok.is at c.start.ensures.answer
@@ -14,7 +14,7 @@ returns-in-Ok-clause-again g c = c.in-Ok.ensures.again
 
 pub returns-in-Some-clause-refused : goal.returns-in-Some-clause-refused
 returns-in-Some-clause-refused g c =
-    let r = start_refused g.D.Disk.history g.D.Disk.honest g.D.Disk.faults g.H.NodeHash.digest c.requires.same_torrent c.start.ensures.answer c.in-Err.is in
+    let r = start_refused g.D.Disk.conduct g.H.NodeHash.digest c.requires.same_torrent c.start.ensures.answer c.in-Err.is in
     record {
       cause = c.in-Err.refused.cause;
       same_cause = refl;

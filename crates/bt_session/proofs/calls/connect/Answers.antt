@@ -25,5 +25,5 @@ pub returns-clause-kept : goal.returns-clause-kept
 returns-clause-kept g c =
     let step = c.connect.ensures.step in
     refused_same c.connect.result (own_connect g.H.NodeHash.digest c.connect.result step.step) c.connect.ensures.devices
-    (log_stays g.D.Disk.history g.D.Disk.honest g.D.Disk.faults c.args.engine.now.log c.connect.new.self.log step.calls.log step.logged
+    (log_stays g.D.Disk.conduct c.args.engine.now.log c.connect.new.self.log step.calls.log step.logged
     (ap (λ (calls : EventCalls). calls.log) step.step.2))

@@ -4,10 +4,10 @@ use Rattle.bt_session.proofs.flushes.flush_if_due.Goals as goal
 
 pub returns-then-is_flush_due-clause-pause : goal.returns-then-is_flush_due-clause-pause
 returns-then-is_flush_due-clause-pause g c =
-    flushed g.D.Disk.history g.D.Disk.honest g.D.Disk.faults g.H.NodeHash.digest _ _ c.args.partner.flush_every c.args.taken _ _ _
+    flushed g.D.Disk.conduct g.H.NodeHash.digest _ _ c.args.partner.flush_every c.args.taken _ _ _
     (sym c.is_flush_due.ensures ∙ c.if-is_flush_due.true) c.flush.ensures.step
 
 pub returns-else-is_flush_due-clause-pause : goal.returns-else-is_flush_due-clause-pause
 returns-else-is_flush_due-clause-pause g c =
-    not_flushed g.D.Disk.history g.D.Disk.honest g.D.Disk.faults g.H.NodeHash.digest _ _ c.args.partner.flush_every c.args.taken _
+    not_flushed g.D.Disk.conduct g.H.NodeHash.digest _ _ c.args.partner.flush_every c.args.taken _
     (sym c.is_flush_due.ensures ∙ c.if-is_flush_due.false)

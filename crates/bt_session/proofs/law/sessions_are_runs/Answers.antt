@@ -3,4 +3,4 @@ use Rattle.bt_session.proofs.law.sessions_are_runs.Goals as goal
 
 pub returns : goal.returns
 returns g c =
-    session_runs g.D.Disk.history g.D.Disk.honest g.D.Disk.faults g.H.NodeHash.digest c.runs_compose.ensures.none c.runs_compose.ensures.one_more
+    session_runs g.D.Disk.conduct g.H.NodeHash.digest c.runs_compose.ensures.none c.runs_compose.ensures.one_more

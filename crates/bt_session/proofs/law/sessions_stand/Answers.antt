@@ -8,5 +8,5 @@ returns g c =
     let dig = g.H.NodeHash.digest in
     let hints = c.kept_hints_stand.ensures in
     let runs = c.runs_compose.ensures in
-    sessions_stand d.history d.honest d.faults dig runs.none runs.one_more
-    (runs_stand d.history d.honest d.faults dig c.run_keeps_marks.ensures c.run_keeps_images.ensures hints.reload hints.append hints.flush)
+    sessions_stand d.conduct dig runs.none runs.one_more
+    (runs_stand d.conduct dig c.run_keeps_marks.ensures c.run_keeps_images.ensures hints.reload hints.append hints.flush)

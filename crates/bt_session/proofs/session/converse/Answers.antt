@@ -13,12 +13,12 @@ write_frames-requires g c =
 pub returns-in-Err-clause-ends : goal.returns-in-Err-clause-ends
 returns-in-Err-clause-ends g c first step =
     let sent : c.deref.result.now ≡ c.args.greeting.now.send = cc (ap (λ (o : Output). o.send) c.greeting.view_is, c.deref.ensures.value) in
-    not_greeted g.D.Disk.history g.D.Disk.honest g.D.Disk.faults g.H.NodeHash.digest _ _ _ c.args.turns first _ _ _ _ c.args.greeting.now _ _ step sent c.in-Err.ensures.written
+    not_greeted g.D.Disk.conduct g.H.NodeHash.digest _ _ _ c.args.turns first _ _ _ _ c.args.greeting.now _ _ step sent c.in-Err.ensures.written
 
 pub returns-in-Some-clause-ends : goal.returns-in-Some-clause-ends
 returns-in-Some-clause-ends g c first step =
     let sent : c.deref.result.now ≡ c.args.greeting.now.send = cc (ap (λ (o : Output). o.send) c.greeting.view_is, c.deref.ensures.value) in
-    greeted g.D.Disk.history g.D.Disk.honest g.D.Disk.faults g.H.NodeHash.digest c.args.partner.key c.args.partner.until_complete c.args.partner.flush_every c.args.turns first
+    greeted g.D.Disk.conduct g.H.NodeHash.digest c.args.partner.key c.args.partner.until_complete c.args.partner.flush_every c.args.turns first
     c.args.engine.now (g.R.Read.remaining c.args.reader.now) (g.W.Write.contents c.args.writer.now) (g.W.Write.contents c.write_frames.new.writer)
     c.args.greeting.now c.deref.result.now (Some c.in-Some.end) step sent c.in-Ok.ensures.written c.in-Some.ensures
 
@@ -26,6 +26,6 @@ pub returns-in-None-clause-ends : goal.returns-in-None-clause-ends
 returns-in-None-clause-ends g c first step =
     let sent : c.deref.result.now ≡ c.args.greeting.now.send = cc (ap (λ (o : Output). o.send) c.greeting.view_is, c.deref.ensures.value) in
     c.take_turns.ensures.ends (place first (g.R.Read.remaining c.args.reader.now) (g.W.Write.contents c.args.writer.now))
-    (greeted g.D.Disk.history g.D.Disk.honest g.D.Disk.faults g.H.NodeHash.digest c.args.partner.key c.args.partner.until_complete c.args.partner.flush_every c.args.turns first
+    (greeted g.D.Disk.conduct g.H.NodeHash.digest c.args.partner.key c.args.partner.until_complete c.args.partner.flush_every c.args.turns first
     c.args.engine.now (g.R.Read.remaining c.args.reader.now) (g.W.Write.contents c.args.writer.now) (g.W.Write.contents c.write_frames.new.writer)
     c.args.greeting.now c.deref.result.now None step sent c.in-Ok.ensures.written c.in-None.ensures)

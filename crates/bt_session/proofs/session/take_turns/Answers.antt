@@ -23,5 +23,5 @@ loop-taken-preserved g c = record {
 
 pub returns-clause-ends : goal.returns-clause-ends
 returns-clause-ends g c first begun =
-    spent g.D.Disk.history g.D.Disk.honest g.D.Disk.faults g.H.NodeHash.digest _ _ _ c.args.turns c.loop-taken.taken first _
+    spent g.D.Disk.conduct g.H.NodeHash.digest _ _ _ c.args.turns c.loop-taken.taken first _
     (omega (arith, c.loop-taken.auto.taken-end, c.loop-taken-test.false)) (c.loop-taken.invariant.goes first begun)

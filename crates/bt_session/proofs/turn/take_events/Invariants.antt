@@ -10,9 +10,9 @@ abbrev pub invariant-loop : goal.invariant-loop
 invariant-loop g l = record {
   alone : IsAlone l.partner.key l.engine.state;
   goes : (remaining : Option (List ℕ)) (every taken : ℕ) (first : Place g.row.D.Denot)
-      → GoesOn g.D.Disk.history g.D.Disk.honest g.D.Disk.faults g.H.NodeHash.digest l.partner.key l.partner.until_complete every
+      → GoesOn g.D.Disk.conduct g.H.NodeHash.digest l.partner.key l.partner.until_complete every
       (Awaits l.partner.key l.partner.until_complete (Next l.partner.key)) first taken (place l.initial.engine remaining (g.W.Write.contents l.initial.writer))
-      → GoesOn g.D.Disk.history g.D.Disk.honest g.D.Disk.faults g.H.NodeHash.digest l.partner.key l.partner.until_complete every
+      → GoesOn g.D.Disk.conduct g.H.NodeHash.digest l.partner.key l.partner.until_complete every
       (Awaits l.partner.key l.partner.until_complete (Next l.partner.key)) first taken (place l.engine remaining (g.W.Write.contents l.writer));
 }
 

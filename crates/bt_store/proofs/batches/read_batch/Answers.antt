@@ -14,8 +14,8 @@ loop-j-init g c =
     let d = g.D.Disk in record {
       size = refl;
       within = λ t lt. absurd (omega arith);
-      calls = subst (λ reads. HasCalls d.history d.honest d.faults c.args.disk.now (map (call_of c.args.geometry) reads) c.args.disk.now) (sym (reads_none _ _ _))
-          (has_none d.history d.honest d.faults c.args.disk.now);
+      calls = subst (λ reads. HasCalls d.conduct c.args.disk.now (map (call_of c.args.geometry) reads) c.args.disk.now) (sym (reads_none _ _ _))
+          (has_none d.conduct c.args.disk.now);
     }
 
 pub loop-j-preserved : goal.loop-j-preserved
@@ -28,10 +28,10 @@ loop-j-preserved g c =
     omega (arith, c.loop-j.invariant.size, c.loop-j-test.true, c.loop-j.auto.j-end, c.requires.few) in
     let in_buffer : c.loop-j.j * 16384 ≤ length c.loop-j.buffer =
     omega (arith, c.loop-j.auto.buffer, c.requires.room, c.loop-j-test.true, c.loop-j.auto.j-end, c.requires.few) in
-    let next = run_next d.history d.honest d.faults c.args.geometry c.args.first c.loop-j.j (c.loop-j.j * 16384 + c.block_len.result - c.loop-j.j * 16384)
+    let next = run_next d.conduct c.args.geometry c.args.first c.loop-j.j (c.loop-j.j * 16384 + c.block_len.result - c.loop-j.j * 16384)
     c.args.disk.now c.loop-j.disk c.read_at.new.self c.loop-j.lengths c.loop-j.buffer c.read_at.new.out c.read_at.result
     c.loop-j.invariant.calls in_lengths in_buffer size w.within w.counted w.as_honest
-    (λ h. subst (λ at. IsAnswered (d.history c.loop-j.disk) (read_call at c.read_at.new.out c.read_at.result) (d.history c.read_at.new.self)) c.offset_of.ensures (w.answered h)) in
+    (λ h. subst (λ at. IsAnswered (d.conduct.history c.loop-j.disk) (read_call at c.read_at.new.out c.read_at.result) (d.conduct.history c.read_at.new.self)) c.offset_of.ensures (w.answered h)) in
     let given : IfSome c.ok.result (λ n. n ≤ block_length c.args.geometry i) =
     rw c.ok.ensures.value (given_within (block_length c.args.geometry i) c.read_at.new.out c.read_at.result size w.within) in
     record {

@@ -9,6 +9,6 @@ abbrev pub invariant-loop-j : goal.invariant-loop-j
 invariant-loop-j g l = record {
   size : length l.lengths ≡ 8;
   within : (t : ℕ) → t < l.j → IfSome (slice_index_or l.lengths t None) (λ given. given ≤ block_length l.geometry (l.first + t));
-  calls : HasCalls g.D.Disk.history g.D.Disk.honest g.D.Disk.faults
+  calls : HasCalls g.D.Disk.conduct
       l.fn.disk (map (call_of l.geometry) (batch_reads l.first l.lengths l.buffer l.j)) l.disk;
 }

@@ -7,7 +7,7 @@ use Rattle.bt_store.proofs.groups.read_group.Goals as goal
 pub loop-done-init : goal.loop-done-init
 loop-done-init g c =
     let d = g.D.Disk in record {
-      read = ([], group_start d.history d.honest d.faults g.H.NodeHash.digest c.args.geometry c.args.first (length c.args.digests.now) c.args.disk.now c.args.digests.now c.requires.padded);
+      read = ([], group_start d.conduct g.H.NodeHash.digest c.args.geometry c.args.first (length c.args.digests.now) c.args.disk.now c.args.digests.now c.requires.padded);
       within = omega arith;
       size = refl;
       room = c.requires.room;
@@ -24,7 +24,7 @@ loop-done-preserved g c =
     let size : m ≡ min (c.args.count - c.loop-done.done) 8 = c.min-batch.ensures in
     let first = c.args.first + c.loop-done.done in
     let inside : c.loop-done.done + m ≤ c.args.count = omega (arith, size, before.within) in
-    let next = group_next d.history d.honest d.faults g.H.NodeHash.digest c.args.geometry c.args.first (length c.args.digests.now) c.loop-done.done m
+    let next = group_next d.conduct g.H.NodeHash.digest c.args.geometry c.args.first (length c.args.digests.now) c.loop-done.done m
     c.args.disk.now c.loop-done.disk c.read_batch-lengths.new.disk before.read.0 c.loop-done.tally c.loop-done.digests counts buffer c.digest_batch-blocks_found.result before.read.1
     (omega (arith, inside, c.requires.fits)) c.read_batch-lengths.ensures.calls
     (within_parts c.args.geometry first m counts buffer (omega (arith, size, room)) c.read_batch-lengths.ensures.within) c.digest_batch-blocks_found.ensures in

@@ -5,7 +5,7 @@ use Rattle.bt_store.proofs.groups.read_group.Given as goal
 
 abbrev pub invariant-loop-done : goal.invariant-loop-done
 invariant-loop-done g l = record {
-  read : (reads : List BlockRead) × IsGroupRead g.D.Disk.history g.D.Disk.honest g.D.Disk.faults g.H.NodeHash.digest l.geometry
+  read : (reads : List BlockRead) × IsGroupRead g.D.Disk.conduct g.H.NodeHash.digest l.geometry
       l.first l.done (length l.fn.digests) l.fn.disk reads l.tally l.disk l.digests;
   within : l.done ≤ l.count;
   size : length l.digests ≡ length l.fn.digests;

@@ -22,8 +22,8 @@ returns-in_default-clause-read g c =
     let fits : c.block_len-length.result ≤ length c.args.out.now = omega (arith, place, c.requires.room) in
     let size : length slot ≡ c.block_len-length.result = search rules in (
       failed i,
-      one_failed d.history d.honest d.faults n i c.args.disk.now c.read_at.new.self slot (size ∙ place) w.counted w.as_honest
-          (λ h. subst (λ at. IsAnswered (d.history c.args.disk.now) (read_fault at (length slot)) (d.history c.read_at.new.self)) c.offset_of.ensures (w.answered h)),
+      one_failed d.conduct n i c.args.disk.now c.read_at.new.self slot (size ∙ place) w.counted w.as_honest
+          (λ h. subst (λ at. IsAnswered (d.conduct.history c.args.disk.now) (read_fault at (length slot)) (d.conduct.history c.read_at.new.self)) c.offset_of.ensures (w.answered h)),
       fault,
     )
 
@@ -47,7 +47,7 @@ returns-clause-read g c =
     let verdict : c.verdict_of.result ≡ verdict_of (value_at dig k 0 i) (found_of dig k.file_length i (Some count) slot) =
     c.verdict_of.ensures ∙ ap (λ o. verdict_of o c.digest_slot-found.result) c.known.ensures ∙ ap (verdict_of (value_at dig k 0 i)) found in (
       given i (take count slot),
-      one_given d.history d.honest d.faults k.file_length i c.args.disk.now c.read_at.new.self slot count (size ∙ place) w.counted w.as_honest
-          (λ h. subst (λ at. IsAnswered (d.history c.args.disk.now) (bytes_given at (length slot) (take count slot)) (d.history c.read_at.new.self)) c.offset_of.ensures (w.answered h)),
+      one_given d.conduct k.file_length i c.args.disk.now c.read_at.new.self slot count (size ∙ place) w.counted w.as_honest
+          (λ h. subst (λ at. IsAnswered (d.conduct.history c.args.disk.now) (bytes_given at (length slot) (take count slot)) (d.conduct.history c.read_at.new.self)) c.offset_of.ensures (w.answered h)),
       rw verdict (given_comes dig k i (slot ++ rest) count slot w.within (take-append-le count slot rest w.within)),
     )

@@ -25,7 +25,7 @@ returns-in_err-kept-clause-run g c =
 pub returns-in_err-kept-clause-fault : goal.returns-in_err-kept-clause-fault
 returns-in_err-kept-clause-fault g c =
     passed_on c.from_residual-in_err-kept.result _ (IsEndFault c.args.engine.now.log) c.from_residual-in_err-kept.ensures.1
-    (inl (flush_fault_before g.D.Disk.history g.D.Disk.honest g.D.Disk.faults g.H.NodeHash.digest c.serve_next-served.ensures.run _
+    (inl (flush_fault_before g.D.Disk.conduct g.H.NodeHash.digest c.serve_next-served.ensures.run _
     (of_fault c.finish-kept.result _ _ c.in_err-kept.was c.finish-kept.ensures.fault)))
 
 pub returns-clause-gone : goal.returns-clause-gone
@@ -38,12 +38,12 @@ returns-clause-run g c =
 pub returns-in_err-end-clause-kept : goal.returns-in_err-end-clause-kept
 returns-in_err-end-clause-kept g c =
     passed_on c.from_residual.result _ _ c.from_residual.ensures.1
-    (fails_by_call g.D.Disk.history g.D.Disk.honest g.D.Disk.faults g.H.NodeHash.digest c.args.engine.now c.serve_next-served.new.engine
+    (fails_by_call g.D.Disk.conduct g.H.NodeHash.digest c.args.engine.now c.serve_next-served.new.engine
     c.finish-kept.new.engine c.finish-kept.result _ c.serve_next-served.ensures.run c.finish-kept.ensures.flushed c.finish-kept.ensures.failed
     (of_fault c.serve_next-served.result _ IsCallFault c.in_err-end.was c.serve_next-served.ensures.fault))
 
 pub returns-in_err-kept-clause-kept : goal.returns-in_err-kept-clause-kept
 returns-in_err-kept-clause-kept g c =
     passed_on c.from_residual-in_err-kept.result _ _ c.from_residual-in_err-kept.ensures.1
-    (fails_as_flushed g.D.Disk.history g.D.Disk.honest g.D.Disk.faults g.H.NodeHash.digest c.args.engine.now c.serve_next-served.new.engine
+    (fails_as_flushed g.D.Disk.conduct g.H.NodeHash.digest c.args.engine.now c.serve_next-served.new.engine
     c.finish-kept.new.engine c.finish-kept.result _ c.serve_next-served.ensures.run c.in_err-kept.was c.finish-kept.ensures.failed)

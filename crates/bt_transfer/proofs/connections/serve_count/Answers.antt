@@ -9,7 +9,7 @@ loop-number-init g c = (served_none _ c.args.engine.now (g.W.Write.contents c.ar
 
 pub loop-number-preserved : goal.loop-number-preserved
 loop-number-preserved g c = (
-  served_more (MeetsOverTcp g.D.Disk.history g.D.Disk.honest g.D.Disk.faults g.H.NodeHash.digest) c.args.engine.now c.loop-number.engine
+  served_more (MeetsOverTcp g.D.Disk.conduct g.H.NodeHash.digest) c.args.engine.now c.loop-number.engine
       c.serve_next.new.engine c.loop-number.number _ (c.from-next.result + 1) c.in_ok-serve_next.field-0 (g.W.Write.contents c.args.writer.now)
       (g.W.Write.contents c.loop-number.writer) (g.W.Write.contents c.serve_next.new.writer) c.loop-number.invariant.0
       c.in_ok-serve_next.ensures.served c.in_ok-serve_next.ensures.told (omega (arith, c.from-next.ensures)) refl,

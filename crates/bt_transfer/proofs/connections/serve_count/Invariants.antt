@@ -7,7 +7,7 @@ use Rattle.bt_transfer.proofs.connections.serve_count.Given as goal
 
 abbrev pub invariant-loop-number : goal.invariant-loop-number
 invariant-loop-number g l =
-    HasServed (MeetsOverTcp g.D.Disk.history g.D.Disk.honest g.D.Disk.faults g.H.NodeHash.digest) l.number l.initial.engine
+    HasServed (MeetsOverTcp g.D.Disk.conduct g.H.NodeHash.digest) l.number l.initial.engine
     (g.W.Write.contents l.initial.writer) (g.W.Write.contents l.writer) l.engine
     × (l.engine.state.peers ≡ [])
-    × LeadsTo g.D.Disk.history g.D.Disk.honest g.D.Disk.faults g.H.NodeHash.digest l.initial.engine l.engine
+    × LeadsTo g.D.Disk.conduct g.H.NodeHash.digest l.initial.engine l.engine

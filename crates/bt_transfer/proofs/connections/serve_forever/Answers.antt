@@ -13,7 +13,7 @@ loop-number-init g c = (served_none _ c.args.engine.now (g.W.Write.contents c.ar
 
 pub loop-number-preserved : goal.loop-number-preserved
 loop-number-preserved g c = (
-  served_more (MeetsAndSyncs g.D.Disk.history g.D.Disk.honest g.D.Disk.faults g.H.NodeHash.digest) c.args.engine.now c.loop-number.engine
+  served_more (MeetsAndSyncs g.D.Disk.conduct g.H.NodeHash.digest) c.args.engine.now c.loop-number.engine
       c.serve_and_sync.new.engine c.loop-number.number _ _ c.in_ok-serve_and_sync.field-0 (g.W.Write.contents c.args.writer.now)
       (g.W.Write.contents c.loop-number.writer) (g.W.Write.contents c.serve_and_sync.new.writer) c.loop-number.invariant.0
       c.in_ok-serve_and_sync.ensures.served c.in_ok-serve_and_sync.ensures.told refl refl,
@@ -28,10 +28,10 @@ returns-in_err-serve_and_sync-clause-run g c =
 pub returns-in_err-serve_and_sync-clause-fault : goal.returns-in_err-serve_and_sync-clause-fault
 returns-in_err-serve_and_sync-clause-fault g c =
     passed_on c.from_residual.result _ (IsEndFault c.args.engine.now.log) c.from_residual.ensures.1
-    (end_fault_before g.D.Disk.history g.D.Disk.honest g.D.Disk.faults g.H.NodeHash.digest c.loop-number.invariant.2 _ c.in_err-serve_and_sync.ensures.fault)
+    (end_fault_before g.D.Disk.conduct g.H.NodeHash.digest c.loop-number.invariant.2 _ c.in_err-serve_and_sync.ensures.fault)
 
 pub returns-in_err-serve_and_sync-clause-kept : goal.returns-in_err-serve_and_sync-clause-kept
 returns-in_err-serve_and_sync-clause-kept g c =
     passed_on c.from_residual.result _ _ c.from_residual.ensures.1
-    (fails_later g.D.Disk.history g.D.Disk.honest g.D.Disk.faults g.H.NodeHash.digest c.args.engine.now c.loop-number.engine c.serve_and_sync.new.engine _
+    (fails_later g.D.Disk.conduct g.H.NodeHash.digest c.args.engine.now c.loop-number.engine c.serve_and_sync.new.engine _
     c.loop-number.invariant.2 c.in_err-serve_and_sync.ensures.kept)

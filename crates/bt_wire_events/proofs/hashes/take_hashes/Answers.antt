@@ -55,11 +55,11 @@ returns-in-Refused-clause-takes g c =
     let dig = g.H.NodeHash.digest in
     let old = c.args.parts.now in
     let n = c.learn_hashes.new in
-    let changes = changes_of d.history d.honest d.faults dig c.args.key.now c.args.digests.now c.in_ok-hint.hint old c.deref_mut-2.result.now c.deref_mut.result.now
+    let changes = changes_of d.conduct dig c.args.key.now c.args.digests.now c.in_ok-hint.hint old c.deref_mut-2.result.now c.deref_mut.result.now
     c.in_ok-why.field-0 (Refused c.in-Refused.why) n.trees n.slots c.deref_mut-2.ensures.value c.deref_mut.ensures.value c.in-Refused.is c.in_ok-why.ensures.changes in
     let same = parts_kept old n.trees n.slots (c.learn_hashes.auto.trees ∙ c.deref_mut-2.ensures.len) changes.1
     (c.learn_hashes.auto.slots ∙ c.deref_mut.ensures.len) changes.2 in
-    takes_refused d.history d.honest d.faults dig c.args.key.now c.args.digests.now old
+    takes_refused d.conduct dig c.args.key.now c.args.digests.now old
     (record old { trees = with_items old.trees n.trees; slots = with_items old.slots n.slots }) c.args.index c.in-Refused.why same changes.0
 
 pub returns-in-Refused-clause-tied : goal.returns-in-Refused-clause-tied
@@ -67,7 +67,7 @@ returns-in-Refused-clause-tied g c =
     let d = g.D.Disk in
     let old = c.args.parts.now in
     let n = c.learn_hashes.new in
-    let changes = changes_of d.history d.honest d.faults g.H.NodeHash.digest c.args.key.now c.args.digests.now c.in_ok-hint.hint old c.deref_mut-2.result.now c.deref_mut.result.now
+    let changes = changes_of d.conduct g.H.NodeHash.digest c.args.key.now c.args.digests.now c.in_ok-hint.hint old c.deref_mut-2.result.now c.deref_mut.result.now
     c.in_ok-why.field-0 (Refused c.in-Refused.why) n.trees n.slots c.deref_mut-2.ensures.value c.deref_mut.ensures.value c.in-Refused.is c.in_ok-why.ensures.changes in
     let same = parts_kept old n.trees n.slots (c.learn_hashes.auto.trees ∙ c.deref_mut-2.ensures.len) changes.1
     (c.learn_hashes.auto.slots ∙ c.deref_mut.ensures.len) changes.2 in
@@ -82,14 +82,14 @@ follow_notes-requires g c =
     let old = c.args.parts.now in
     let n = c.learn_hashes.new in
     let notes = c.in-Settled.notes in
-    let changes = changes_of d.history d.honest d.faults dig key digests c.in_ok-hint.hint old c.deref_mut-2.result.now c.deref_mut.result.now
+    let changes = changes_of d.conduct dig key digests c.in_ok-hint.hint old c.deref_mut-2.result.now c.deref_mut.result.now
     c.in_ok-why.field-0 (Settled notes c.in-Settled.kept) n.trees n.slots c.deref_mut-2.ensures.value c.deref_mut.ensures.value c.in-Settled.is c.in_ok-why.ensures.changes in
     let l = changes.0 in
     let next : Parts g.row.D.Denot g.row.H.Denot = record old { trees = with_items old.trees n.trees; slots = with_items old.slots n.slots } in
     let p = c.index_mut-peer.result.now in
     let q : Peer = record p { hash = c.resolved_hash_state-peer.result } in
     subst (λ (ns : List Note). IsBehind old.book.wanted old.counts ns (state_of (record next { peers = with_item old.peers c.args.index q }))) (sym c.deref.ensures.value)
-    (notes_behind d.history d.honest d.faults dig key digests old c.requires.tied notes n.trees n.slots l next c.args.index q
+    (notes_behind d.conduct dig key digests old c.requires.tied notes n.trees n.slots l next c.args.index q
     (get_read old.peers.items c.args.index p c.requires.there c.index_mut-peer.ensures.value) refl
     (with_items_is old.trees n.trees (c.learn_hashes.auto.trees ∙ c.deref_mut-2.ensures.len))
     (with_items_is old.slots n.slots (c.learn_hashes.auto.slots ∙ c.deref_mut.ensures.len)) c.requires.shaped)
@@ -104,15 +104,15 @@ returns-in-Settled-clause-takes g c =
     let n = c.learn_hashes.new in
     let new = c.follow_notes.new.parts in
     let notes = c.in-Settled.notes in
-    let changes = changes_of d.history d.honest d.faults dig key digests c.in_ok-hint.hint old c.deref_mut-2.result.now c.deref_mut.result.now
+    let changes = changes_of d.conduct dig key digests c.in_ok-hint.hint old c.deref_mut-2.result.now c.deref_mut.result.now
     c.in_ok-why.field-0 (Settled notes c.in-Settled.kept) n.trees n.slots c.deref_mut-2.ensures.value c.deref_mut.ensures.value c.in-Settled.is c.in_ok-why.ensures.changes in
     let l = changes.0 in
     let next : Parts g.row.D.Denot g.row.H.Denot =
     record old { trees = with_items old.trees n.trees; slots = with_items old.slots n.slots; book = new.book; counts = new.counts } in
     let p = c.index_mut-peer.result.now in
     let q : Peer = record p { hash = c.resolved_hash_state-peer.result } in
-    subst (λ (x : Parts g.row.D.Denot g.row.H.Denot). TakesHashes d.history d.honest d.faults dig old c.args.index key digests (Settled notes c.in-Settled.kept) x) (sym c.follow_notes.ensures.others)
-    (takes_learnt d.history d.honest d.faults dig key digests old c.requires.tied notes n.trees n.slots l next c.args.index q
+    subst (λ (x : Parts g.row.D.Denot g.row.H.Denot). TakesHashes d.conduct dig old c.args.index key digests (Settled notes c.in-Settled.kept) x) (sym c.follow_notes.ensures.others)
+    (takes_learnt d.conduct dig key digests old c.requires.tied notes n.trees n.slots l next c.args.index q
     (get_read old.peers.items c.args.index p c.requires.there c.index_mut-peer.ensures.value) refl
     (with_items_is old.trees n.trees (c.learn_hashes.auto.trees ∙ c.deref_mut-2.ensures.len))
     (with_items_is old.slots n.slots (c.learn_hashes.auto.slots ∙ c.deref_mut.ensures.len))
@@ -127,7 +127,7 @@ returns-in-Settled-clause-readable g c =
     let old = c.args.parts.now in
     let n = c.learn_hashes.new in
     let hint = c.in_ok-hint.hint in
-    let changes = changes_of d.history d.honest d.faults g.H.NodeHash.digest key digests hint old c.deref_mut-2.result.now c.deref_mut.result.now
+    let changes = changes_of d.conduct g.H.NodeHash.digest key digests hint old c.deref_mut-2.result.now c.deref_mut.result.now
     c.in_ok-why.field-0 (Settled c.in-Settled.notes c.in-Settled.kept) n.trees n.slots c.deref_mut-2.ensures.value c.deref_mut.ensures.value c.in-Settled.is c.in_ok-why.ensures.changes in
     let l = changes.0 in
     can_be_read key digests l.claims (is_some old.log) l.old l.new c.in_ok-hint.ensures.value changes.1
@@ -156,7 +156,7 @@ returns-in-Settled-clause-tied g c =
     let n = c.learn_hashes.new in
     let new = c.follow_notes.new.parts in
     let notes = c.in-Settled.notes in
-    let changes = changes_of d.history d.honest d.faults dig key digests c.in_ok-hint.hint old c.deref_mut-2.result.now c.deref_mut.result.now
+    let changes = changes_of d.conduct dig key digests c.in_ok-hint.hint old c.deref_mut-2.result.now c.deref_mut.result.now
     c.in_ok-why.field-0 (Settled notes c.in-Settled.kept) n.trees n.slots c.deref_mut-2.ensures.value c.deref_mut.ensures.value c.in-Settled.is c.in_ok-why.ensures.changes in
     let l = changes.0 in
     let next : Parts g.row.D.Denot g.row.H.Denot =
@@ -164,7 +164,7 @@ returns-in-Settled-clause-tied g c =
     let p = c.index_mut-peer.result.now in
     let q : Peer = record p { hash = c.resolved_hash_state-peer.result } in
     subst (λ (x : Parts g.row.D.Denot g.row.H.Denot). IsTied x) (sym c.follow_notes.ensures.others)
-    (tied_learnt d.history d.honest d.faults dig key digests old c.requires.tied notes n.trees n.slots l next c.args.index q
+    (tied_learnt d.conduct dig key digests old c.requires.tied notes n.trees n.slots l next c.args.index q
     (get_read old.peers.items c.args.index p c.requires.there c.index_mut-peer.ensures.value) refl
     (with_items_is old.trees n.trees (c.learn_hashes.auto.trees ∙ c.deref_mut-2.ensures.len))
     (with_items_is old.slots n.slots (c.learn_hashes.auto.slots ∙ c.deref_mut.ensures.len))

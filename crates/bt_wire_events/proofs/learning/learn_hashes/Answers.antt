@@ -19,7 +19,7 @@ pub returns-in-Err-clause-changes : goal.returns-in-Err-clause-changes
 returns-in-Err-clause-changes g c =
     let d = g.D.Disk in
     let has = (root_found c.args.trees.now c.args.roots.now.trees c.requires.numbered c.args.key.now.root c.in-Some.index (sym c.in-Some.ensures)) in
-    if_ok_by (λ learnt. ChangesByHashes d.history d.honest d.faults g.H.NodeHash.digest c.args.key.now c.args.digests.now c.args.hint c.args.trees.now c.args.slots.now learnt c.args.trees.now c.args.slots.now)
+    if_ok_by (λ learnt. ChangesByHashes d.conduct g.H.NodeHash.digest c.args.key.now c.args.digests.now c.args.hint c.args.trees.now c.args.slots.now learnt c.args.trees.now c.args.slots.now)
     c.refusal.result c.refusal.ensures.ok c.refusal.ensures.other
     (λ memory. (no_claim c.in-Err.fault c.in-Some.index has.0 has.1 memory c.in-Err.ensures.refused, refl, refl))
 
@@ -30,7 +30,7 @@ returns-in-Err-accept-clause-changes g c =
     let trees = c.args.trees.now in
     let here = slice_get-get_or trees c.in-Some.index c.index-trees-index.result (some_below c.args.trees.now c.in-Some.index (root_found c.args.trees.now c.args.roots.now.trees c.requires.numbered c.args.key.now.root c.in-Some.index (sym c.in-Some.ensures)).1.here) in
     let same = ap (λ k. slice_set trees c.in-Some.index k) c.in-Err-accept.ensures.unchanged ∙ set_id trees c.in-Some.index here in
-    if_ok_by (λ learnt. ChangesByHashes d.history d.honest d.faults g.H.NodeHash.digest c.args.key.now c.args.digests.now c.args.hint trees c.args.slots.now learnt (slice_set trees c.in-Some.index c.accept.new.self) c.args.slots.now)
+    if_ok_by (λ learnt. ChangesByHashes d.conduct g.H.NodeHash.digest c.args.key.now c.args.digests.now c.args.hint trees c.args.slots.now learnt (slice_set trees c.in-Some.index c.accept.new.self) c.args.slots.now)
     c.refusal-in-Err-accept.result c.refusal-in-Err-accept.ensures.ok c.refusal-in-Err-accept.ensures.other
     (λ memory. (refused c.in-Err-accept.fault c.in-Some.index x c.in-Ok.claim (root_at trees c.args.key.now.root c.in-Some.index here (root_found c.args.trees.now c.args.roots.now.trees c.requires.numbered c.args.key.now.root c.in-Some.index (sym c.in-Some.ensures))) memory c.in-Ok.ensures.claim c.in-Err-accept.ensures.refused, same, refl))
 
@@ -61,8 +61,8 @@ returns-clause-changes g c =
     let notes = c.settle_slots.new.notes.items in
     let settled = c.settle_slots.new.slots in
     let here = slice_get-get_or trees index c.index-trees-index.result (some_below c.args.trees.now c.in-Some.index (root_found c.args.trees.now c.args.roots.now.trees c.requires.numbered c.args.key.now.root c.in-Some.index (sym c.in-Some.ensures)).1.here) in
-    let settles = subst (λ (n : ℕ). SettlesSlots d.history d.honest d.faults dig new index key.index n slots [] notes settled) c.settled_count-count.ensures.value
-    (subst (λ (ns : List Note). SettlesSlots d.history d.honest d.faults dig new index key.index c.settled_count-count.result slots ns notes settled) c.in_ok-notes.ensures.items c.settle_slots.ensures.settles) in
+    let settles = subst (λ (n : ℕ). SettlesSlots d.conduct dig new index key.index n slots [] notes settled) c.settled_count-count.ensures.value
+    (subst (λ (ns : List Note). SettlesSlots d.conduct dig new index key.index c.settled_count-count.result slots ns notes settled) c.in_ok-notes.ensures.items c.settle_slots.ensures.settles) in
     let old = get_or trees index c.index-trees-index.result in (
       record {
         tree = index;

@@ -10,7 +10,7 @@ use Rattle.bt_wire_events.proofs.runs.settle_slots.Goals as goal
 pub returns-then-not-waits-clause-settles : goal.returns-then-not-waits-clause-settles
 returns-then-not-waits-clause-settles g c =
     let d = g.D.Disk in
-    settled_idle d.history d.honest d.faults g.H.NodeHash.digest c.args.tree.now c.args.index c.args.from c.args.count c.args.slots.now c.args.notes.now.items
+    settled_idle d.conduct g.H.NodeHash.digest c.args.tree.now c.args.index c.args.from c.args.count c.args.slots.now c.args.notes.now.items
     (c.requires.idle c.if-not-waits.true)
 
 pub loop-file-init : goal.loop-file-init
@@ -22,9 +22,9 @@ loop-file-init g c =
     let left = room_left slots c.args.index c.args.count 0 c.index.result.now is.inside is.limit none in
     record {
       stands = stands_there is;
-      settled = settled_past d.history d.honest d.faults g.H.NodeHash.digest c.args.tree.now c.args.index c.args.from c.args.count slots c.args.notes.now.items
+      settled = settled_past d.conduct g.H.NodeHash.digest c.args.tree.now c.args.index c.args.from c.args.count slots c.args.notes.now.items
           0 c.index.result.now c.args.notes.now.items slots is.inside is.limit none
-          (settled_none d.history d.honest d.faults g.H.NodeHash.digest c.args.tree.now c.args.index c.args.from c.args.count slots c.args.notes.now.items);
+          (settled_none d.conduct g.H.NodeHash.digest c.args.tree.now c.args.index c.args.from c.args.count slots c.args.notes.now.items);
       few = omega (arith, left);
       room = omega (arith, left, c.requires.room);
     }
@@ -57,9 +57,9 @@ loop-file-preserved g c =
     let r = c.settle_slot.ensures.settles in
     record {
       stands = stands_there is;
-      settled = settled_past d.history d.honest d.faults g.H.NodeHash.digest c.args.tree.now c.args.index c.args.from c.args.count slots c.args.notes.now.items
+      settled = settled_past d.conduct g.H.NodeHash.digest c.args.tree.now c.args.index c.args.from c.args.count slots c.args.notes.now.items
           (file + 1) c.index-in-loop-file.result.now c.settle_slot.new.notes.items (slice_set now file new) is.inside is.limit none
-          (settled_more d.history d.honest d.faults g.H.NodeHash.digest c.args.tree.now c.args.index c.args.from c.args.count slots c.args.notes.now.items
+          (settled_more d.conduct g.H.NodeHash.digest c.args.tree.now c.args.index c.args.from c.args.count slots c.args.notes.now.items
           file c.loop-file.notes.items c.settle_slot.new.notes.items now new r.0 c.loop-file.invariant.settled (slice_get-get_or now file x lt) r.1 r.2);
       few = omega (arith, left, room_at slots now file x (slot_room c.args.index c.args.count) at, c.loop-file.invariant.few, c.settle_slot.ensures.few);
       room = omega (arith, left, room_at slots now file x (slot_room c.args.index c.args.count) at, c.loop-file.invariant.room, c.settle_slot.ensures.few, c.settle_slot.ensures.capacity);
@@ -74,7 +74,7 @@ loop-file-smaller g c =
 pub returns-clause-settles : goal.returns-clause-settles
 returns-clause-settles g c =
     let d = g.D.Disk in
-    settled_all d.history d.honest d.faults g.H.NodeHash.digest c.args.tree.now c.args.index c.args.from c.args.count c.args.slots.now c.args.notes.now.items
+    settled_all d.conduct g.H.NodeHash.digest c.args.tree.now c.args.index c.args.from c.args.count c.args.slots.now c.args.notes.now.items
     c.loop-file.file c.loop-file.notes.items c.loop-file.slots (omega (arith, c.loop-file-test.false, c.loop-file.auto.slots, c.loop-file.invariant.stands.limit)) c.loop-file.invariant.settled
 
 pub returns-clause-few : goal.returns-clause-few

@@ -9,7 +9,7 @@ use Rattle.bt_wire_events.proofs.runs.settle_slots.Given as goal
 abbrev pub invariant-loop-file : goal.invariant-loop-file
 invariant-loop-file g l = record {
   stands : StandsAt l.fn.slots l.index l.file;
-  settled : AreSettledTo g.D.Disk.history g.D.Disk.honest g.D.Disk.faults g.H.NodeHash.digest l.tree l.index l.from l.count
+  settled : AreSettledTo g.D.Disk.conduct g.H.NodeHash.digest l.tree l.index l.from l.count
       l.fn.slots l.fn.notes.items l.file l.notes.items l.slots;
   few : vec_len l.notes + sum_by (slot_room l.index l.count) (drop l.file l.fn.slots) ≤ vec_len l.fn.notes + sum_by (slot_room l.index l.count) l.fn.slots;
   room : vec_len l.notes + sum_by (slot_room l.index l.count) (drop l.file l.fn.slots) ≤ vec_capacity l.notes;

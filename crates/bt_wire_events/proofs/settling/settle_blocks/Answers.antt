@@ -30,7 +30,7 @@ returns-then-settled-gt0-clause-settles g c =
     let whole : c.loop-block.block-index ≡ length items = omega (arith, c.loop-block-test.false, c.loop-block.auto.block-index-end) in
     let f = note_at c.args.file c.settle.new.self.states in
     let all = ap (λ n. map f (take n items)) whole ∙ ap (λ xs. map f xs) (take-length items ∙ c.as_slice-block-items.ensures.value ∙ c.due_blocks-due.ensures) in
-    blocks_settled g.H.NodeHash.digest c.args.tree.now d.history d.honest d.faults c.args.file c.args.from c.args.count c.args.store.now c.settle.new.self r.0
+    blocks_settled g.H.NodeHash.digest c.args.tree.now d.conduct c.args.file c.args.from c.args.count c.args.store.now c.settle.new.self r.0
     c.args.notes.now.items c.push-then-settled-gt0.new.self.items c.unwrap-settled.result.faults r.1 r.4
     (pushed ∙ ap (λ xs. xs ++ Device c.args.file ∷ []) (c.loop-block.invariant.noted ∙ ap (λ xs. c.args.notes.now.items ++ xs) all)
     ∙ with_fault _ c.args.file c.unwrap-settled.result.faults c.if-settled-gt0.true)
@@ -52,7 +52,7 @@ returns-else-settled-gt0-clause-settles g c =
     let whole : c.loop-block.block-index ≡ length items = omega (arith, c.loop-block-test.false, c.loop-block.auto.block-index-end) in
     let f = note_at c.args.file c.settle.new.self.states in
     let all = ap (λ n. map f (take n items)) whole ∙ ap (λ xs. map f xs) (take-length items ∙ c.as_slice-block-items.ensures.value ∙ c.due_blocks-due.ensures) in
-    blocks_settled g.H.NodeHash.digest c.args.tree.now d.history d.honest d.faults c.args.file c.args.from c.args.count c.args.store.now c.settle.new.self r.0
+    blocks_settled g.H.NodeHash.digest c.args.tree.now d.conduct c.args.file c.args.from c.args.count c.args.store.now c.settle.new.self r.0
     c.args.notes.now.items c.loop-block.notes.items c.unwrap-settled.result.faults r.1 r.4
     (c.loop-block.invariant.noted ∙ ap (λ xs. c.args.notes.now.items ++ xs) all
     ∙ without_fault _ c.args.file c.unwrap-settled.result.faults c.if-settled-gt0.false)

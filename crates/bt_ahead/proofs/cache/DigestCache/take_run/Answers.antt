@@ -17,7 +17,7 @@ returns-in_default g c =
       call = call;
       run_read = (refl, size);
       known = refl;
-      made = has_one d.history d.honest d.faults c.args.disk.now call c.read_at.new.self w.counted w.as_honest w.answered;
+      made = has_one d.conduct c.args.disk.now call c.read_at.new.self w.counted w.as_honest w.answered;
     }
 
 pub returns-then-count-eq-RUN_LEN : goal.returns-then-count-eq-RUN_LEN
@@ -33,7 +33,7 @@ returns-then-count-eq-RUN_LEN g c =
       call = call;
       run_read = (refl, size);
       known = ap blocks_of back ∙ known_whole c.args.at count out (c.if-count-eq-RUN_LEN.true ∙ sym size);
-      made = has_one d.history d.honest d.faults c.args.disk.now call c.read_at.new.self w.counted w.as_honest w.answered;
+      made = has_one d.conduct c.args.disk.now call c.read_at.new.self w.counted w.as_honest w.answered;
     }
 
 pub returns-else-count-eq-RUN_LEN : goal.returns-else-count-eq-RUN_LEN
@@ -48,5 +48,5 @@ returns-else-count-eq-RUN_LEN g c =
       call = call;
       run_read = (refl, size);
       known = known_short c.args.at count out w.within (λ all. c.if-count-eq-RUN_LEN.false (all ∙ size));
-      made = has_one d.history d.honest d.faults c.args.disk.now call c.read_at.new.self w.counted w.as_honest w.answered;
+      made = has_one d.conduct c.args.disk.now call c.read_at.new.self w.counted w.as_honest w.answered;
     }

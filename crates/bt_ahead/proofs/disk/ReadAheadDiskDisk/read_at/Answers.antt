@@ -9,6 +9,6 @@ returns-clause-answered g c = λ is_honest.
     let ahead = c.read_ahead.ensures.run in
     let inner : c.self.inside.inner ≡ c.read_ahead.new.self.inner = ap (λ (view : AheadView g.row.D.Denot). view.inner) c.self.view_is in
     let after : c.count.new.self.inner ≡ c.read_at-answer.new.self = ap (λ (view : AheadView g.row.D.Denot). view.inner) c.count.ensures in
-    let kept = run_keeps d.history d.honest d.faults c.args.self.now.inner c.args.at c.read_ahead.new.self.inner ahead is_honest in
-    let was_honest : d.honest c.self.inside.inner = subst d.honest (sym inner) (ahead.made.as_honest.0 is_honest) in
+    let kept = run_keeps d.conduct c.args.self.now.inner c.args.at c.read_ahead.new.self.inner ahead is_honest in
+    let was_honest : d.conduct.honest c.self.inside.inner = subst d.conduct.honest (sym inner) (ahead.made.as_honest.0 is_honest) in
     rw (after, ← kept, ← inner) (c.read_at-answer.ensures.answered was_honest)

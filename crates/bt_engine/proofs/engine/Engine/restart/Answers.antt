@@ -8,7 +8,7 @@ pub invariant_of-self : goal.invariant_of-self
 invariant_of-self g c =
     let laws = c.steps_keep_laws.ensures in
     let step = c.restart.ensures.step in
-    kept_after g.D.Disk.history g.D.Disk.honest g.D.Disk.faults g.H.NodeHash.digest c.self.inside.parts c.restart.new.parts Restart (Restarted c.restart.result)
+    kept_after g.D.Disk.conduct g.H.NodeHash.digest c.self.inside.parts c.restart.new.parts Restart (Restarted c.restart.result)
     laws.shaped laws.orderly laws.sparse laws.rooted laws.sound c.self.invariant
     (record { calls = step.calls; step = (c.restart.result, refl, step.step); made = step.devices; logged = step.log })
     c.restart.ensures.torrent c.restart.ensures.tied

@@ -18,4 +18,4 @@ invariant_of-result g c = record {
 
 pub returns-in-Ok-clause-again : goal.returns-in-Ok-clause-again
 returns-in-Ok-clause-again g c =
-    reopened g.D.Disk.history g.D.Disk.honest g.D.Disk.faults g.H.NodeHash.digest c.flushed_blocks_are_marked_again.ensures (view_of c.in-Ok.parts) c.start.ensures.answer (ap answer_of c.in-Ok.is)
+    reopened g.D.Disk.conduct g.H.NodeHash.digest c.flushed_blocks_are_marked_again.ensures (view_of c.in-Ok.parts) c.start.ensures.answer (ap answer_of c.in-Ok.is)

@@ -19,7 +19,7 @@ returns-clause-told g c = λ layer_at before rest keeps roots.
       made.1,
       made.2,
       made.3,
-      next_part d.history d.honest d.faults c.args.size.layer layer_at before made.1 (file_in_part part) part.share made.0 c.args.opened.disk rest c.args.self.now _ _ keeps
+      next_part d.conduct c.args.size.layer layer_at before made.1 (file_in_part part) part.share made.0 c.args.opened.disk rest c.args.self.now _ _ keeps
           roots refl (omega (arith, keeps.kept.count)) made.3 made.4 c.let_go.ensures,
       made.5,
     )

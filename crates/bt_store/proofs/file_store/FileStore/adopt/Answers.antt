@@ -14,7 +14,7 @@ returns-then-from-blocks-clause-ok g c =
     let d = g.D.Disk in
     let same : c.self.inside.geometry ≡ c.args.tree.now.file_length = ap (λ s. s.file_length) c.self.view_is ∙ sym c.requires.geometry in
     let past : c.args.from ≡ blocks_of c.args.tree.now = c.if-from-blocks.true ∙ c.blocks-2.ensures.value ∙ ap (λ n. block_count n) same in
-    ([], record { calls = has_none d.history d.honest d.faults c.args.self.now.disk; adopts = none past; same_file = refl })
+    ([], record { calls = has_none d.conduct c.args.self.now.disk; adopts = none past; same_file = refl })
 
 pub adopt_known-requires-clause-known : goal.adopt_known-requires-clause-known
 adopt_known-requires-clause-known g c =

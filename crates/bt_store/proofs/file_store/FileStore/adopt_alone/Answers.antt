@@ -9,7 +9,7 @@ returns-clause-ok g c =
     let d = g.D.Disk in
     let found = c.in-Ok.ensures.ok in (
       found.0,
-      alone_adopted d.history d.honest d.faults g.H.NodeHash.digest c.args.tree.now c.adopt.new.tree c.args.from c.args.self.now c.adopt.new.self found.0 c.in-Ok.group
+      alone_adopted d.conduct g.H.NodeHash.digest c.args.tree.now c.adopt.new.tree c.args.from c.args.self.now c.adopt.new.self found.0 c.in-Ok.group
           (subst (λ n. c.args.from < block_count n) (sym c.requires.geometry) c.requires.inside) found.1,
     )
 
@@ -18,6 +18,6 @@ returns-in_default-clause-stop g c =
     let d = g.D.Disk in
     let stops = c.in_default.ensures.stop in (
       stops.0,
-      subst (λ k. StopsInTurn d.history d.honest d.faults g.H.NodeHash.digest c.args.tree.now c.args.from c.args.self.now stops.0 k c.adopt.new.self) (sym c.in_default.ensures.tree)
-          (alone_stopped d.history d.honest d.faults g.H.NodeHash.digest c.args.tree.now c.adopt.new.tree c.args.from c.args.self.now c.adopt.new.self stops.0 stops.1),
+      subst (λ k. StopsInTurn d.conduct g.H.NodeHash.digest c.args.tree.now c.args.from c.args.self.now stops.0 k c.adopt.new.self) (sym c.in_default.ensures.tree)
+          (alone_stopped d.conduct g.H.NodeHash.digest c.args.tree.now c.adopt.new.tree c.args.from c.args.self.now c.adopt.new.self stops.0 stops.1),
     )

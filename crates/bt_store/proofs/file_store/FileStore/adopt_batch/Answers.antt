@@ -16,7 +16,7 @@ returns-clause-ok g c =
     let d = g.D.Disk in
     IfOk-weaker c.adopt_found.result _ _ (λ adopted adopts. (
       _,
-      batch_adopted d.history d.honest d.faults g.H.NodeHash.digest c.args.tree.now c.adopt_found.new.tree c.args.from c.args.batch.count c.args.self.now
+      batch_adopted d.conduct g.H.NodeHash.digest c.args.tree.now c.adopt_found.new.tree c.args.from c.args.batch.count c.args.self.now
           c.find_batch-blocks_found.new.self c.adopt_found.new.self c.find_batch-blocks_found.result c.find_batch-blocks_found.ensures.read c.find_batch-blocks_found.ensures.others
           c.adopt_found.ensures.others adopted adopts,
     )) c.adopt_found.ensures.ok
@@ -26,7 +26,7 @@ returns-clause-stop g c =
     let d = g.D.Disk in
     IfErr-weaker c.adopt_found.result _ _ (λ _ stops. (
       _,
-      batch_stopped d.history d.honest d.faults g.H.NodeHash.digest c.args.tree.now c.adopt_found.new.tree c.args.from c.args.batch.count c.args.self.now
+      batch_stopped d.conduct g.H.NodeHash.digest c.args.tree.now c.adopt_found.new.tree c.args.from c.args.batch.count c.args.self.now
           c.find_batch-blocks_found.new.self c.adopt_found.new.self c.find_batch-blocks_found.result c.find_batch-blocks_found.ensures.read c.find_batch-blocks_found.ensures.others
           c.adopt_found.ensures.others stops,
     )) c.adopt_found.ensures.stop

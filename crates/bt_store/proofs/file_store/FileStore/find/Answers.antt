@@ -8,19 +8,19 @@ pub returns-in-Right : goal.returns-in-Right
 returns-in-Right g c =
     let d = g.D.Disk in
     let e = c.in-Right.ensures.read in
-    is_restored d.history d.honest d.faults g.H.NodeHash.digest c.args.tree.now c.args.block c.self.view_is c.requires.geometry e.1 (c.set.ensures ∙ ap (λ s. slice_set s.states c.args.block Marked) c.self.view_is)
+    is_restored d.conduct g.H.NodeHash.digest c.args.tree.now c.args.block c.self.view_is c.requires.geometry e.1 (c.set.ensures ∙ ap (λ s. slice_set s.states c.args.block Marked) c.self.view_is)
     (restores_right g.H.NodeHash.digest c.args.tree.now c.args.block _ c.requires.lost e.2)
 
 pub returns-in-Wrong : goal.returns-in-Wrong
 returns-in-Wrong g c =
     let d = g.D.Disk in
     let e = c.in-Wrong.ensures.read in
-    is_restored d.history d.honest d.faults g.H.NodeHash.digest c.args.tree.now c.args.block c.self.view_is c.requires.geometry e.1 (ap (λ s. s.states) c.self.view_is)
+    is_restored d.conduct g.H.NodeHash.digest c.args.tree.now c.args.block c.self.view_is c.requires.geometry e.1 (ap (λ s. s.states) c.self.view_is)
     (restores_wrong g.H.NodeHash.digest c.args.tree.now c.args.block _ c.requires.lost e.2)
 
 pub returns-in-Fault : goal.returns-in-Fault
 returns-in-Fault g c =
     let d = g.D.Disk in
     let e = c.in-Fault.ensures.read in
-    is_restored d.history d.honest d.faults g.H.NodeHash.digest c.args.tree.now c.args.block c.self.view_is c.requires.geometry e.1 (ap (λ s. s.states) c.self.view_is)
+    is_restored d.conduct g.H.NodeHash.digest c.args.tree.now c.args.block c.self.view_is c.requires.geometry e.1 (ap (λ s. s.states) c.self.view_is)
     (restores_none g.H.NodeHash.digest c.args.tree.now c.args.block _ c.requires.lost e.2)

@@ -10,7 +10,7 @@ returns-clause-read g c =
     let counts = c.read_batch-lengths.result in
     let buffer = c.read_batch-lengths.new.buffer in
     let size : c.args.count * 16384 ≤ length buffer = omega (arith, c.read_batch-lengths.auto.buffer, c.requires.few) in
-    subst (λ s. IsBatchRead d.history d.honest d.faults g.H.NodeHash.digest s.file_length c.args.first c.digest_batch.result c.args.count s.disk c.read_batch-lengths.new.disk)
+    subst (λ s. IsBatchRead d.conduct g.H.NodeHash.digest s.file_length c.args.first c.digest_batch.result c.args.count s.disk c.read_batch-lengths.new.disk)
     c.self.view_is
     (record {
       counts = counts;

@@ -29,7 +29,7 @@ returns-clause-judged g c =
     let within : IsWithinParts counts buffer count = within_parts a.geometry first count counts buffer size c.read_batch-lengths.ensures.within in
     let found : AreFound dig k.file_length first counts buffer blocks_found count = λ t lt.
     c.digest_batch-blocks_found.ensures t lt ∙ ap (λ n. found_of dig n (first + t) (get_or counts t None) (block_at buffer t)) same in
-    subst (λ s. (reads : List BlockRead) × IsJudged d.history d.honest d.faults dig k c.args.forgiving (range_with_len first count) s reads after × IsTallyOf dig k reads c.judge_found.result)
+    subst (λ s. (reads : List BlockRead) × IsJudged d.conduct dig k c.args.forgiving (range_with_len first count) s reads after × IsTallyOf dig k reads c.judge_found.result)
     c.self.view_is (
       reads,
       record {

@@ -4,7 +4,7 @@ use Rattle.bt_store.proofs.file_store.FileStore.judge_through.Given as goal
 
 abbrev pub invariant-loop-at : goal.invariant-loop-at
 invariant-loop-at g l = record {
-  reviewed : IsReviewedTo g.D.Disk.history g.D.Disk.honest g.D.Disk.faults g.H.NodeHash.digest l.tree l.review l.from l.at l.fn.self l.self l.tally;
+  reviewed : IsReviewedTo g.D.Disk.conduct g.H.NodeHash.digest l.tree l.review l.from l.at l.fn.self l.self l.tally;
   high : l.at ≤ l.end;
 }
 

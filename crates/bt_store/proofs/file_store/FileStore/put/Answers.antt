@@ -49,4 +49,4 @@ returns-then-is_wrong-clause-why g c =
 pub returns-then-is_wrong-clause-calls : goal.returns-then-is_wrong-clause-calls
 returns-then-is_wrong-clause-calls g c =
     let d = g.D.Disk in
-    has_none d.history d.honest d.faults c.args.self.now.disk
+    has_none d.conduct c.args.self.now.disk

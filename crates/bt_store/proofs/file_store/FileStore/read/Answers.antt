@@ -10,25 +10,25 @@ use Rattle.bt_store.proofs.file_store.FileStore.read.Goals as goal
 pub returns-then-not-is_marked-clause-lent : goal.returns-then-not-is_marked-clause-lent
 returns-then-not-is_marked-clause-lent g c =
     let d = g.D.Disk in
-    ([], record { calls = has_none d.history d.honest d.faults c.args.self.now.disk; answer = not_marked c.if-not-is_marked.ensures.no; same_file = refl })
+    ([], record { calls = has_none d.conduct c.args.self.now.disk; answer = not_marked c.if-not-is_marked.ensures.no; same_file = refl })
 
 pub returns-in-Right-clause-lent : goal.returns-in-Right-clause-lent
 returns-in-Right-clause-lent g c =
     let d = g.D.Disk in
     let e = c.in-Right.ensures.read in
-    is_lent d.history d.honest d.faults g.H.NodeHash.digest c.args.tree.now c.args.block c.self.view_is c.requires.geometry e.1 (ap (λ s. s.states) c.self.view_is)
+    is_lent d.conduct g.H.NodeHash.digest c.args.tree.now c.args.block c.self.view_is c.requires.geometry e.1 (ap (λ s. s.states) c.self.view_is)
     (lends_right g.H.NodeHash.digest c.args.tree.now c.args.block _ _ (c.block_len.ensures.value ∙ ap (λ n. block_length n c.args.block) (ap (λ s. s.file_length) c.self.view_is ∙ sym c.requires.geometry)) c.if-not-is_marked.ensures.yes e.2)
 
 pub returns-in-Wrong-clause-lent : goal.returns-in-Wrong-clause-lent
 returns-in-Wrong-clause-lent g c =
     let d = g.D.Disk in
     let e = c.in-Wrong.ensures.read in
-    is_lent d.history d.honest d.faults g.H.NodeHash.digest c.args.tree.now c.args.block c.self.view_is c.requires.geometry e.1 (c.set.ensures ∙ ap (λ s. slice_set s.states c.args.block Missing) c.self.view_is)
+    is_lent d.conduct g.H.NodeHash.digest c.args.tree.now c.args.block c.self.view_is c.requires.geometry e.1 (c.set.ensures ∙ ap (λ s. slice_set s.states c.args.block Missing) c.self.view_is)
     (lends_wrong g.H.NodeHash.digest c.args.tree.now c.args.block _ c.if-not-is_marked.ensures.yes e.2)
 
 pub returns-in-Fault-clause-lent : goal.returns-in-Fault-clause-lent
 returns-in-Fault-clause-lent g c =
     let d = g.D.Disk in
     let e = c.in-Fault.ensures.read in
-    is_lent d.history d.honest d.faults g.H.NodeHash.digest c.args.tree.now c.args.block c.self.view_is c.requires.geometry e.1 (ap (λ s. s.states) c.self.view_is)
+    is_lent d.conduct g.H.NodeHash.digest c.args.tree.now c.args.block c.self.view_is c.requires.geometry e.1 (ap (λ s. s.states) c.self.view_is)
     (lends_none g.H.NodeHash.digest c.args.tree.now c.args.block _ c.if-not-is_marked.ensures.yes e.2)

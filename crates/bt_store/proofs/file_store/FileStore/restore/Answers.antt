@@ -10,7 +10,7 @@ pub returns-then-block-blocks : goal.returns-then-block-blocks
 returns-then-block-blocks g c =
     let d = g.D.Disk in
     let past : block_count c.args.tree.now.file_length ≤ c.args.block = search rules in
-    ([], record { calls = has_none d.history d.honest d.faults c.args.self.now.disk; answer = no_block past; same_file = refl })
+    ([], record { calls = has_none d.conduct c.args.self.now.disk; answer = no_block past; same_file = refl })
 
 pub returns-then-not-is_missing : goal.returns-then-not-is_missing
 returns-then-not-is_missing g c =
@@ -26,7 +26,7 @@ returns-then-not-is_missing g c =
     ] in (
       [],
       record {
-        calls = has_none d.history d.honest d.faults c.args.self.now.disk;
+        calls = has_none d.conduct c.args.self.now.disk;
         answer = subst (λ b. Restores g.H.NodeHash.digest c.args.tree.now c.args.block c.args.self.now.states [] (Ok b) c.args.self.now.states) (sym c.is_marked.ensures.value) (unread inside kept);
         same_file = refl;
       },

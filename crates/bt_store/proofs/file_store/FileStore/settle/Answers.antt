@@ -10,7 +10,7 @@ returns-then-waiting-eq0-clause-settled g c =
     let none = nothing_waits g.H.NodeHash.digest c.args.tree.now old.states c.args.from c.args.count (sym c.waiting.ensures ∙ c.if-waiting-eq0.true) in (
       [],
       record {
-        device = record { in_order = sym none; calls = has_none d.history d.honest d.faults old.disk };
+        device = record { in_order = sym none; calls = has_none d.conduct old.disk };
         states = refl;
         same_file = refl;
       },

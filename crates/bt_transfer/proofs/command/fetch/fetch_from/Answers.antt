@@ -12,7 +12,7 @@ fetch_over-requires-clause-undialled g c =
 pub returns-clause-fetched : goal.returns-clause-fetched
 returns-clause-fetched g c = record {
   rest = c.fetch_over.new.links;
-  fetched = fetched_over_tcp g.D.Disk.history g.D.Disk.honest g.D.Disk.faults g.H.NodeHash.digest _ _ _
+  fetched = fetched_over_tcp g.D.Disk.conduct g.H.NodeHash.digest _ _ _
       (short_blocks_of c.args.engine.now.state.torrent) c.args.peers.now c.args.log c.flush_turns-every.result c.args.engine.now
       c.deref_mut.result.now (g.W.Write.contents c.args.writer.now) (g.W.Write.contents c.fetch_over.new.writer) c.in_ok-status.status
       c.fetch_over.new.links c.fetch_over.new.engine

@@ -36,13 +36,13 @@ returns-in_err-ends-clause-broken_off g c = passed_on c.from_residual.result _ _
 
 pub returns-in_err-write_peers-clause-broken_off : goal.returns-in_err-write_peers-clause-broken_off
 returns-in_err-write_peers-clause-broken_off g c = passed_on c.from_residual-in_err-write_peers.result _ _ c.from_residual-in_err-write_peers.ensures.1
-    (not_written _ g.D.Disk.history g.D.Disk.honest g.D.Disk.faults g.H.NodeHash.digest c.args.engine.now c.args.links.now _
+    (not_written _ g.D.Disk.conduct g.H.NodeHash.digest c.args.engine.now c.args.links.now _
     c.try_and_sync-kept.new.links c.try_and_sync-kept.new.engine c.try_and_sync-kept.result _ c.try_and_sync-kept.ensures.kept
     c.try_and_sync-kept.ensures.failed c.in_err-write_peers.ensures.fault)
 
 pub returns-in_err-kept-clause-broken_off : goal.returns-in_err-kept-clause-broken_off
 returns-in_err-kept-clause-broken_off g c = passed_on c.from_residual-in_err-kept.result _ _ c.from_residual-in_err-kept.ensures.1
-    (broke_off _ g.D.Disk.history g.D.Disk.honest g.D.Disk.faults g.H.NodeHash.digest c.args.engine.now c.args.links.now _
+    (broke_off _ g.D.Disk.conduct g.H.NodeHash.digest c.args.engine.now c.args.links.now _
     c.try_and_sync-kept.new.links c.try_and_sync-kept.new.engine c.try_and_sync-kept.result _ c.in_err-kept.was c.try_and_sync-kept.ensures.failed)
 
 pub returns-in_err-adopt_waiting-clause-broken_off : goal.returns-in_err-adopt_waiting-clause-broken_off
@@ -83,6 +83,6 @@ returns-in_err-adopt_waiting-clause-fault g c =
 pub returns-clause-fault : goal.returns-clause-fault
 returns-clause-fault g c =
     err_weaker c.conclude.result _ _
-    (end_fault_before g.D.Disk.history g.D.Disk.honest g.D.Disk.faults g.H.NodeHash.digest
+    (end_fault_before g.D.Disk.conduct g.H.NodeHash.digest
     (both c.args.engine.now c.try_and_sync-kept.new.engine c.adopt_waiting.new.engine c.try_and_sync-kept.ensures.run c.adopt_waiting.ensures.run))
     c.conclude.ensures.fault

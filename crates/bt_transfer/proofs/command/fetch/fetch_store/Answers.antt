@@ -9,7 +9,7 @@ fetch_from-requires-clause-own_short_blocks g c = c.in_ok-short_blocks.ensures.o
 
 pub returns-clause-fetched : goal.returns-clause-fetched
 returns-clause-fetched g c = λ torrent given attached filled begun. ok_weaker c.fetch_from.result _ _
-    (λ status fetched. ends_fetch g.D.Disk.history g.D.Disk.honest g.D.Disk.faults g.H.NodeHash.digest c.whole_runs_keep_promises.ensures.leads
+    (λ status fetched. ends_fetch g.D.Disk.conduct g.H.NodeHash.digest c.whole_runs_keep_promises.ensures.leads
     c.args.engine c.fetch_from.new.engine c.keeps_laws.ensures.lawful c.fetch_from.ensures.run (g.W.Write.contents c.args.writer.now)
     (g.W.Write.contents c.fetch_from.new.writer) status torrent given attached filled begun c.args.peers.now c.args.log fetched)
     c.fetch_from.ensures.fetched

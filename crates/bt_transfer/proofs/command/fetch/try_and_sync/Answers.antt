@@ -11,16 +11,16 @@ use Rattle.bt_transfer.proofs.command.fetch.try_and_sync.Goals as goal
 
 pub returns-in-Ok-clause-kept : goal.returns-in-Ok-clause-kept
 returns-in-Ok-clause-kept g c =
-    syncs_behind (InTurnWithFlushes (IsTriedWithFlushes g.D.Disk.history g.D.Disk.honest g.D.Disk.faults g.H.NodeHash.digest
+    syncs_behind (InTurnWithFlushes (IsTriedWithFlushes g.D.Disk.conduct g.H.NodeHash.digest
     g.L.Link.dials g.L.Link.failures g.L.Link.gives g.L.R.Read.remaining g.L.W.Write.contents c.args.flush_every c.args.turns))
-    g.D.Disk.history g.D.Disk.honest g.D.Disk.faults g.H.NodeHash.digest c.args.engine.now c.args.links.now c.run_peers_with_flushes.new.ends c.run_peers_with_flushes.new.links
+    g.D.Disk.conduct g.H.NodeHash.digest c.args.engine.now c.args.links.now c.run_peers_with_flushes.new.ends c.run_peers_with_flushes.new.links
     c.run_peers_with_flushes.new.engine c.finish.new.engine c.finish.result c.in-Ok.ensures.peers c.finish.ensures.flushed
 
 pub returns-in-Ok-clause-failed : goal.returns-in-Ok-clause-failed
 returns-in-Ok-clause-failed g c =
-    fails_behind (InTurnWithFlushes (IsTriedWithFlushes g.D.Disk.history g.D.Disk.honest g.D.Disk.faults g.H.NodeHash.digest
+    fails_behind (InTurnWithFlushes (IsTriedWithFlushes g.D.Disk.conduct g.H.NodeHash.digest
     g.L.Link.dials g.L.Link.failures g.L.Link.gives g.L.R.Read.remaining g.L.W.Write.contents c.args.flush_every c.args.turns))
-    g.D.Disk.history g.D.Disk.honest g.D.Disk.faults g.H.NodeHash.digest c.args.engine.now c.args.links.now c.run_peers_with_flushes.new.ends c.run_peers_with_flushes.new.links
+    g.D.Disk.conduct g.H.NodeHash.digest c.args.engine.now c.args.links.now c.run_peers_with_flushes.new.ends c.run_peers_with_flushes.new.links
     c.run_peers_with_flushes.new.engine c.finish.new.engine c.finish.result c.in-Ok.ensures.peers c.finish.ensures.failed
 
 pub returns-in-Ok-clause-gone : goal.returns-in-Ok-clause-gone
@@ -32,19 +32,19 @@ returns-in-Ok-clause-run g c =
 
 pub returns-in-Ok-clause-fault : goal.returns-in-Ok-clause-fault
 returns-in-Ok-clause-fault g c =
-    err_weaker c.finish.result _ _ (flush_fault_before g.D.Disk.history g.D.Disk.honest g.D.Disk.faults g.H.NodeHash.digest c.in-Ok.ensures.run)
+    err_weaker c.finish.result _ _ (flush_fault_before g.D.Disk.conduct g.H.NodeHash.digest c.in-Ok.ensures.run)
     c.finish.ensures.fault
 
 pub returns-in-Err-clause-failed : goal.returns-in-Err-clause-failed
 returns-in-Err-clause-failed g c =
-    fails_among (InTurnWithFlushes (IsTriedWithFlushes g.D.Disk.history g.D.Disk.honest g.D.Disk.faults g.H.NodeHash.digest
+    fails_among (InTurnWithFlushes (IsTriedWithFlushes g.D.Disk.conduct g.H.NodeHash.digest
     g.L.Link.dials g.L.Link.failures g.L.Link.gives g.L.R.Read.remaining g.L.W.Write.contents c.args.flush_every c.args.turns))
-    g.D.Disk.history g.D.Disk.honest g.D.Disk.faults g.H.NodeHash.digest c.args.engine.now c.args.links.now c.run_peers_with_flushes.new.ends c.run_peers_with_flushes.new.links
+    g.D.Disk.conduct g.H.NodeHash.digest c.args.engine.now c.args.links.now c.run_peers_with_flushes.new.ends c.run_peers_with_flushes.new.links
     c.run_peers_with_flushes.new.engine c.flush_fault.result c.in-Err.error c.flush_fault.ensures c.in-Err.ensures.peers
 
 pub returns-in-Err-clause-fault : goal.returns-in-Err-clause-fault
 returns-in-Err-clause-fault g c =
     subst (IsFlushFault c.args.engine.now.log) (sym c.flush_fault.ensures)
-    (turns_fault g.D.Disk.history g.D.Disk.honest g.D.Disk.faults g.H.NodeHash.digest g.L.Link.dials g.L.Link.failures g.L.Link.gives g.L.R.Read.remaining
+    (turns_fault g.D.Disk.conduct g.H.NodeHash.digest g.L.Link.dials g.L.Link.failures g.L.Link.gives g.L.R.Read.remaining
     g.L.W.Write.contents c.args.flush_every c.args.turns c.args.engine.now c.run_peers_with_flushes.new.engine c.args.links.now
     c.run_peers_with_flushes.new.links c.run_peers_with_flushes.new.ends c.in-Err.error c.in-Err.ensures.peers)

@@ -18,7 +18,7 @@ returns-in_err-announce-clause-fault g c =
 
 pub returns-clause-served : goal.returns-clause-served
 returns-clause-served g c =
-    listened g.D.Disk.history g.D.Disk.honest g.D.Disk.faults g.H.NodeHash.digest c.args.service c.args.engine.now c.serve_all.new.engine
+    listened g.D.Disk.conduct g.H.NodeHash.digest c.args.service c.args.engine.now c.serve_all.new.engine
     (g.W.Write.contents c.args.writer.now) (g.W.Write.contents c.announce.new.writer) (g.W.Write.contents c.serve_all.new.writer) c.serve_all.result
     c.in_ok-announce.ensures.told c.serve_all.ensures.served
 

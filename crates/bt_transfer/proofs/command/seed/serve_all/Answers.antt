@@ -27,19 +27,19 @@ returns-in_err-served-in-Count-clause-fault g c =
 pub returns-in_ok-served-in-Count-clause-fault : goal.returns-in_ok-served-in-Count-clause-fault
 returns-in_ok-served-in-Count-clause-fault g c =
     err_weaker c.finish-kept.result _ _
-    (λ fault failed. inl (flush_fault_before g.D.Disk.history g.D.Disk.honest g.D.Disk.faults g.H.NodeHash.digest c.serve_count-served.ensures.run fault failed))
+    (λ fault failed. inl (flush_fault_before g.D.Disk.conduct g.H.NodeHash.digest c.serve_count-served.ensures.run fault failed))
     c.finish-kept.ensures.fault
 
 pub returns-in_err-served-in-Count-clause-kept : goal.returns-in_err-served-in-Count-clause-kept
 returns-in_err-served-in-Count-clause-kept g c =
     passed_on c.from_residual.result _ _ c.from_residual.ensures.1
-    (fails_by_call g.D.Disk.history g.D.Disk.honest g.D.Disk.faults g.H.NodeHash.digest c.args.engine.now c.serve_count-served.new.engine
+    (fails_by_call g.D.Disk.conduct g.H.NodeHash.digest c.args.engine.now c.serve_count-served.new.engine
     c.finish-kept.new.engine c.finish-kept.result _ c.serve_count-served.ensures.run c.finish-kept.ensures.flushed c.finish-kept.ensures.failed
     (of_fault c.serve_count-served.result _ IsCallFault c.in_err-served-in-Count.was c.serve_count-served.ensures.fault))
 
 pub returns-in_ok-served-in-Count-clause-kept : goal.returns-in_ok-served-in-Count-clause-kept
 returns-in_ok-served-in-Count-clause-kept g c =
     err_weaker c.finish-kept.result _ _
-    (λ fault failed. fails_by_flush g.D.Disk.history g.D.Disk.honest g.D.Disk.faults g.H.NodeHash.digest c.args.engine.now c.serve_count-served.new.engine
+    (λ fault failed. fails_by_flush g.D.Disk.conduct g.H.NodeHash.digest c.args.engine.now c.serve_count-served.new.engine
     c.finish-kept.new.engine fault c.serve_count-served.ensures.run failed)
     c.finish-kept.ensures.failed
