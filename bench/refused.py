@@ -32,7 +32,7 @@ from measure import tried
 from refusing import refuses
 from second_engine import BLOCK, MARKED, PADS, Device, Engine, Key, Torrent, Tree, digest, message, number, spelled
 
-CRATES = ["bt_replay", "bt_peers", "bt_runs", "bt_session", "bt_engine", "bt_machine", "bt_resume", "bt_meta", "bt_bencode", "bt_store",
+CRATES = ["bt_replay", "bt_session", "bt_engine", "bt_machine", "bt_resume", "bt_meta", "bt_bencode", "bt_store",
           "bt_book", "bt_wire", "bt_hashreq", "bt_disk", "bt_sparse", "bt_lanes", "bt_tree", "hex", "anyhow"]
 HEADER, WINDOW, TURNS, READ = 40, 65_536, 1000, 16_384
 ABC = digest(b"abc")

@@ -18,7 +18,7 @@ import tempfile
 
 from measure import built
 
-CRATES = ["bt_session", "bt_engine", "bt_meta", "bt_wire", "bt_hashreq", "bt_store", "bt_connection", "bt_ahead", "bt_disk", "bt_sparse", "bt_lanes", "bt_tree"]
+CRATES = ["bt_session", "bt_engine", "bt_meta", "bt_wire", "bt_hashreq", "bt_store", "bt_connection", "bt_devices", "bt_disk", "bt_sparse", "bt_lanes", "bt_tree"]
 
 
 def main():

@@ -3,7 +3,8 @@ ghost use Rattle.std.specs.Process.{exit_status};
 ghost use Rattle.bt_commands.specs.System.{IsLaunch};
 
 use crate::program::start;
-use bt_progress::{Console, Watched};
+use bt_devices::Watched;
+use bt_progress::Console;
 use std::fs::{File, OpenOptions};
 use std::io::IsTerminal;
 use std::os::fd::{AsRawFd, IntoRawFd, RawFd};

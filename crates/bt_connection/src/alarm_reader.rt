@@ -1,7 +1,7 @@
 //! A reader that gives nothing more once a device of its engine has refused a write.
 ghost use Rattle.std.specs.Prelude.{◌≡◌};
 
-use bt_ahead::Alarm;
+use bt_devices::Alarm;
 use std::io::{self, ErrorKind, Read};
 use std::marker::Model;
 

@@ -6,7 +6,7 @@ ghost use Rattle.bt_wire.specs.Frames.{HasNoMessage};
 ghost use Rattle.bt_connection.specs.Messages.{AreMessages, MayCarryBlock, Leads};
 ghost use Rattle.bt_connection.specs.MessageSteps.{IsCut};
 
-use bt_ahead::DigestCache;
+use bt_devices::DigestCache;
 use bt_wire::frames::{
     BLOCK_MESSAGE_LEN, LENGTH_LEN, PIECE, PIECE_HEAD_LEN, first_message, message_len,
 };

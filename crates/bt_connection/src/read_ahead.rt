@@ -7,7 +7,7 @@ ghost use Rattle.bt_connection.specs.ReadAheadSteps.{IsRefilled, KeepsAll};
 
 use crate::ahead_room::AheadRoom;
 use crate::messages::{cut_behind, fill_from};
-use bt_ahead::DigestCache;
+use bt_devices::DigestCache;
 use bt_wire::HANDSHAKE_LEN;
 use std::cell::{RefCell, RefMut};
 use std::io;

@@ -64,7 +64,8 @@ NoCallsLead {D} conduct = (disk : D) → HasCalls conduct disk [] disk
 abbrev pub OneCallLeads : {D : Type 0} → Conduct D → Type 0
 OneCallLeads {D} conduct = (old : D) (call : Call) (new : D)
     → conduct.faults new ≡ count_after_call (conduct.faults old) call
-    → conduct.honest old ↔ conduct.honest new → (conduct.honest old → IsAnswered (conduct.history old) call (conduct.history new))
+    → conduct.honest old ↔ conduct.honest new
+    → (conduct.honest old → IsAnswered (conduct.history old) call (conduct.history new))
     → HasCalls conduct old (call ∷ []) new
 
 -- calls and then others are these calls one after the other

@@ -35,7 +35,11 @@ HasOnly byte image range =
 
 -- it is honest
 abbrev pub memory_conduct : Conduct MemoryView
-memory_conduct = record { history = λ disk. history_of disk.kept; honest = λ _. ⊤; faults = λ disk. disk.failed }
+memory_conduct = record {
+  history = λ disk. history_of disk.kept;
+  honest = λ _. ⊤;
+  faults = λ disk. disk.failed;
+}
 
 -- the bytes as a read gives them, but for this byte wherever a crash may leave any
 pub record IsFilled (s : State) (byte : ℕ) (image : List ℕ) : Type 0 where

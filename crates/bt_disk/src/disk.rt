@@ -37,7 +37,8 @@ pub trait Disk {
         ensures counted { conduct.faults self.new ≡ count_after (conduct.faults self.old) result }
         ensures as_honest { conduct.honest self.old ↔ conduct.honest self.new }
         ensures answered { conduct.honest self.old
-            → IsAnswered (conduct.history self.old) (read_call at out.new result) (conduct.history self.new) };
+            → IsAnswered (conduct.history self.old)
+            (read_call at out.new result) (conduct.history self.new) };
 
     /// Writes bytes from byte `at` on, past the end too: a gap before them is filled with zeros. A write of
     /// no bytes changes nothing. After an error any part of it may have been made.
@@ -45,7 +46,8 @@ pub trait Disk {
         ensures counted { conduct.faults self.new ≡ count_after (conduct.faults self.old) result }
         ensures as_honest { conduct.honest self.old ↔ conduct.honest self.new }
         ensures answered { conduct.honest self.old
-            → IsAnswered (conduct.history self.old) (write_call at bytes.now result) (conduct.history self.new) };
+            → IsAnswered (conduct.history self.old)
+            (write_call at bytes.now result) (conduct.history self.new) };
 
     /// Cuts the bytes to a length, or fills them up to it with zeros. After an error any part of it may have
     /// been made.
@@ -63,7 +65,8 @@ pub trait Disk {
             → IsAnswered (conduct.history self.old) (sync_call result) (conduct.history self.new) };
 
     /// What a read gives is one of the images that a crash now may leave.
-    ghost reads_image: { (disk : Self) → conduct.honest disk → IsImage (conduct.history disk).now (conduct.history disk).now.bytes };
+    ghost reads_image: { (disk : Self) → conduct.honest disk
+        → IsImage (conduct.history disk).now (conduct.history disk).now.bytes };
 }
 
 /// Counts a call that failed, and gives its error.

@@ -130,10 +130,12 @@ impl<D: Disk + Drop> Disk for FaultDisk<D> {
             (PassesOn D.conduct self.old (len_call result) self.new) }
 
         // as every device
-        ensures counted { fault_count D.conduct self.new ≡ count_after (fault_count D.conduct self.old) result }
+        ensures counted { fault_count D.conduct self.new
+            ≡ count_after (fault_count D.conduct self.old) result }
         ensures as_honest { IsHonest D.conduct self.old ↔ IsHonest D.conduct self.new }
         ensures answered { IsHonest D.conduct self.old
-            → IsAnswered (D.conduct.history self.old.inner) (len_call result) (D.conduct.history self.new.inner) }
+            → IsAnswered (D.conduct.history self.old.inner)
+            (len_call result) (D.conduct.history self.new.inner) }
     {
         if self.fails() {
             return Err(DeviceFault);
@@ -149,10 +151,12 @@ impl<D: Disk + Drop> Disk for FaultDisk<D> {
 
         // as every device
         ensures within { IfOk result (λ count. count ≤ length out.new) }
-        ensures counted { fault_count D.conduct self.new ≡ count_after (fault_count D.conduct self.old) result }
+        ensures counted { fault_count D.conduct self.new
+            ≡ count_after (fault_count D.conduct self.old) result }
         ensures as_honest { IsHonest D.conduct self.old ↔ IsHonest D.conduct self.new }
         ensures answered { IsHonest D.conduct self.old
-            → IsAnswered (D.conduct.history self.old.inner) (read_call at out.new result) (D.conduct.history self.new.inner) }
+            → IsAnswered (D.conduct.history self.old.inner)
+            (read_call at out.new result) (D.conduct.history self.new.inner) }
     {
         if self.fails() {
             return Err(DeviceFault);
@@ -170,11 +174,12 @@ impl<D: Disk + Drop> Disk for FaultDisk<D> {
             (PassesOn D.conduct self.old (write_call at bytes.now result) self.new) }
 
         // as every device
-        ensures counted { fault_count D.conduct self.new ≡ count_after (fault_count D.conduct self.old) result }
+        ensures counted { fault_count D.conduct self.new
+            ≡ count_after (fault_count D.conduct self.old) result }
         ensures as_honest { IsHonest D.conduct self.old ↔ IsHonest D.conduct self.new }
         ensures answered { IsHonest D.conduct self.old
-            → IsAnswered
-            (D.conduct.history self.old.inner) (write_call at bytes.now result) (D.conduct.history self.new.inner) }
+            → IsAnswered (D.conduct.history self.old.inner)
+            (write_call at bytes.now result) (D.conduct.history self.new.inner) }
     {
         if self.fails() {
             // The device inside is not reached.
@@ -190,10 +195,12 @@ impl<D: Disk + Drop> Disk for FaultDisk<D> {
             (PassesOn D.conduct self.old (set_len_call len result) self.new) }
 
         // as every device
-        ensures counted { fault_count D.conduct self.new ≡ count_after (fault_count D.conduct self.old) result }
+        ensures counted { fault_count D.conduct self.new
+            ≡ count_after (fault_count D.conduct self.old) result }
         ensures as_honest { IsHonest D.conduct self.old ↔ IsHonest D.conduct self.new }
         ensures answered { IsHonest D.conduct self.old
-            → IsAnswered (D.conduct.history self.old.inner) (set_len_call len result) (D.conduct.history self.new.inner) }
+            → IsAnswered (D.conduct.history self.old.inner)
+            (set_len_call len result) (D.conduct.history self.new.inner) }
     {
         if self.fails() {
             return Err(DeviceFault);
@@ -208,10 +215,12 @@ impl<D: Disk + Drop> Disk for FaultDisk<D> {
             (PassesOn D.conduct self.old (sync_call result) self.new) }
 
         // as every device
-        ensures counted { fault_count D.conduct self.new ≡ count_after (fault_count D.conduct self.old) result }
+        ensures counted { fault_count D.conduct self.new
+            ≡ count_after (fault_count D.conduct self.old) result }
         ensures as_honest { IsHonest D.conduct self.old ↔ IsHonest D.conduct self.new }
         ensures answered { IsHonest D.conduct self.old
-            → IsAnswered (D.conduct.history self.old.inner) (sync_call result) (D.conduct.history self.new.inner) }
+            → IsAnswered (D.conduct.history self.old.inner)
+            (sync_call result) (D.conduct.history self.new.inner) }
     {
         if self.fails() {
             return Err(DeviceFault);

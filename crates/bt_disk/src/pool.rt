@@ -111,6 +111,7 @@ impl<R: Files + Drop> HandlePool<R> {
           number = self.new.made;
           path = string_bytes path;
           access = access_of_use usage;
+          identity = opening.identity;
           is_synced = false;
           is_written = false;
           failed = 0;
@@ -176,6 +177,7 @@ impl<R: Files + Drop> Model for PooledDisk<R> {
       number = d.number;
       path = string_bytes d.path;
       access = access_of_use d.usage;
+      identity = d.opening.identity;
       is_synced = d.is_synced;
       is_written = d.is_written;
       failed = d.failed;
@@ -184,7 +186,9 @@ impl<R: Files + Drop> Model for PooledDisk<R> {
 
 impl<R: Files + Drop> PooledDisk<R> {
     /// What the system told of the file when it was opened first.
-    pub fn opening(&self) -> Opening {
+    pub fn opening(&self) -> Opening
+        ensures identity { result.identity ≡ self.now.identity }
+    {
         self.opening
     }
 
@@ -290,6 +294,7 @@ impl<R: Files + Drop> Disk for PooledDisk<R> {
         ensures number { self.new.number ≡ self.old.number }
         ensures path { self.new.path ≡ self.old.path }
         ensures access { self.new.access ≡ self.old.access }
+        ensures identity { self.new.identity ≡ self.old.identity }
         ensures is_synced { self.new.is_synced ≡ self.old.is_synced }
         ensures is_written { self.new.is_written ≡ self.old.is_written }
         ensures counted { self.new.failed ≡ count_after self.old.failed result }
@@ -310,6 +315,7 @@ impl<R: Files + Drop> Disk for PooledDisk<R> {
         ensures number { self.new.number ≡ self.old.number }
         ensures path { self.new.path ≡ self.old.path }
         ensures access { self.new.access ≡ self.old.access }
+        ensures identity { self.new.identity ≡ self.old.identity }
         ensures is_synced { self.new.is_synced ≡ self.old.is_synced }
         ensures is_written { self.new.is_written ≡ self.old.is_written }
         ensures within { IfOk result (λ count. count ≤ length out.new) }
@@ -335,6 +341,7 @@ impl<R: Files + Drop> Disk for PooledDisk<R> {
         ensures number { self.new.number ≡ self.old.number }
         ensures path { self.new.path ≡ self.old.path }
         ensures access { self.new.access ≡ self.old.access }
+        ensures identity { self.new.identity ≡ self.old.identity }
         ensures is_synced { self.new.is_synced ≡ false }
         ensures is_written { self.new.is_written ≡ true }
         ensures counted { self.new.failed ≡ count_after self.old.failed result }
@@ -354,6 +361,7 @@ impl<R: Files + Drop> Disk for PooledDisk<R> {
         ensures number { self.new.number ≡ self.old.number }
         ensures path { self.new.path ≡ self.old.path }
         ensures access { self.new.access ≡ self.old.access }
+        ensures identity { self.new.identity ≡ self.old.identity }
         ensures is_synced { self.new.is_synced ≡ false }
         ensures is_written { self.new.is_written ≡ true }
         ensures counted { self.new.failed ≡ count_after self.old.failed result }
@@ -373,6 +381,7 @@ impl<R: Files + Drop> Disk for PooledDisk<R> {
         ensures number { self.new.number ≡ self.old.number }
         ensures path { self.new.path ≡ self.old.path }
         ensures access { self.new.access ≡ self.old.access }
+        ensures identity { self.new.identity ≡ self.old.identity }
         ensures is_synced { OnOk result (self.new.is_synced ≡ true) }
         ensures is_written { self.new.is_written ≡ self.old.is_written }
         ensures as_before { IfErr result (λ _. self.new.is_synced ≡ self.old.is_synced) }

@@ -19,7 +19,7 @@ mod system;
 mod unreadable;
 mod words;
 
-use bt_folder::Seal;
+use bt_devices::Seal;
 use files::{clear_folder, new_folder};
 use stage::Stage;
 use system::Counts;

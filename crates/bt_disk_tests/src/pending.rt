@@ -4,7 +4,7 @@ use crate::hints::{proof_from, run_from};
 use crate::logs::Log;
 use crate::words::{RowError, Words, tell, tell_whether};
 use bt_disk::Disk;
-use bt_pending::{FlushError, Pending};
+use bt_engine_pending::{FlushError, Pending};
 use bt_resume::{Hint, ResumeLog};
 use std::alloc::{AllocError, Global};
 use std::fmt::Write;

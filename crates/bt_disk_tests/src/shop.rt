@@ -8,8 +8,9 @@ use crate::folders::folder_row;
 use crate::many::many_row;
 use crate::system::{Counts, System, manner_of};
 use crate::words::{RowError, Words, tell};
+use bt_devices::Seal;
 use bt_disk::{DeviceFault, FileDisk, HandlePool, PooledDisk};
-use bt_folder::{CaseNames, KnownFiles, Seal};
+use bt_folder::{CaseNames, KnownFiles};
 use std::alloc::{AllocError, Global};
 use std::fs::Files;
 

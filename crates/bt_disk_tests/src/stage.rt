@@ -7,8 +7,8 @@ use crate::shop::{Shop, shop_row};
 use crate::store::{Store, store_row};
 use crate::system::Counts;
 use crate::words::{RowError, Words};
-use bt_folder::Seal;
-use bt_pending::Pending;
+use bt_devices::Seal;
+use bt_engine_pending::Pending;
 use std::alloc::{AllocError, Global};
 
 /// What the rows work on: three devices, a store and a log, which take the first of them, and the hints that wait

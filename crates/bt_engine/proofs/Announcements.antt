@@ -13,11 +13,11 @@ use Rattle.bt_machine.specs.State.{EngineState}
 use Rattle.bt_machine.specs.Blocks.{is_whole, piece_numbers}
 use Rattle.bt_machine.specs.Output.{Sent, sent_to}
 use Rattle.bt_machine.proofs.Lists.{some_is}
-use Rattle.bt_state.specs.Parts.{peer_of}
-use Rattle.bt_state.specs.Ties.{AreUnmarked}
-use Rattle.bt_state.specs.declared.peer.Peer.{Peer}
-use Rattle.bt_state.proofs.Lists.{get_mapped, get_at}
-use Rattle.bt_state.proofs.Wholes.{wholes_are}
+use Rattle.bt_engine_state.specs.Parts.{peer_of}
+use Rattle.bt_engine_state.specs.Ties.{AreUnmarked}
+use Rattle.bt_engine_state.specs.declared.peer.Peer.{Peer}
+use Rattle.bt_engine_state.proofs.Lists.{get_mapped, get_at}
+use Rattle.bt_engine_state.proofs.Wholes.{wholes_are}
 use Rattle.bt_engine.specs.NewsSteps.{unless_last}
 use Rattle.bt_engine.proofs.NewWholes.{numbers_after, numbers_next}
 

@@ -10,17 +10,17 @@ use Rattle.bt_machine.specs.Next.{without_peer}
 use Rattle.bt_machine.specs.Peers.{StepLost, goes, no_peer}
 use Rattle.bt_machine.specs.WireEvents.{Handles}
 use Rattle.bt_machine.proofs.Lists.{get_some, get_map}
-use Rattle.bt_state.specs.Parts.{state_of, disks_of, peer_of}
-use Rattle.bt_state.specs.Ties.{IsTied}
-use Rattle.bt_state.specs.declared.peer.Peer.{Peer}
-use Rattle.bt_state.specs.declared.parts.Parts.{Parts}
-use Rattle.bt_state.proofs.DeviceCalls.{have_none}
-use Rattle.bt_state.proofs.Lists.{get_mapped}
-use Rattle.bt_state.proofs.PeerLists.{keys_apart}
+use Rattle.bt_engine_state.specs.Parts.{state_of, disks_of, peer_of}
+use Rattle.bt_engine_state.specs.Ties.{IsTied}
+use Rattle.bt_engine_state.specs.declared.peer.Peer.{Peer}
+use Rattle.bt_engine_state.specs.declared.parts.Parts.{Parts}
+use Rattle.bt_engine_state.proofs.DeviceCalls.{have_none}
+use Rattle.bt_engine_state.proofs.Lists.{get_mapped}
+use Rattle.bt_engine_state.proofs.PeerLists.{keys_apart}
 use Rattle.bt_engine.specs.EventSteps.{proof_in, effect_of, IsHandled}
 use Rattle.bt_engine.specs.declared.event.Handled.{Handled}
 use Rattle.bt_engine.specs.RoomSteps.{IsMessageBound, IsNoteBound}
-use Rattle.bt_state.specs.declared.open_log.OpenLog.{OpenLog}
+use Rattle.bt_engine_state.specs.declared.open_log.OpenLog.{OpenLog}
 use Rattle.bt_wire.specs.declared.event.WireEvent.TheVariants.{Message}
 use Rattle.bt_wire.specs.declared.message.Message.{Message as PeerMessage}
 use Rattle.bt_wire.specs.declared.message.Message.TheVariants.{Hashes}

@@ -14,10 +14,10 @@ use Rattle.bt_machine.specs.Shape.{IsShaped, StepKeepsShape}
 use Rattle.bt_machine.specs.Sound.{StepKeepsSound}
 use Rattle.bt_machine.specs.Step.{Step}
 use Rattle.bt_machine.specs.View.{StepsTo}
-use Rattle.bt_state.specs.Parts.{state_of, disks_of, log_of}
-use Rattle.bt_state.specs.Ties.{IsTied}
-use Rattle.bt_state.specs.declared.parts.Parts.{Parts}
-use Rattle.bt_state.proofs.DeviceCalls.{have_none}
+use Rattle.bt_engine_state.specs.Parts.{state_of, disks_of, log_of}
+use Rattle.bt_engine_state.specs.Ties.{IsTied}
+use Rattle.bt_engine_state.specs.declared.parts.Parts.{Parts}
+use Rattle.bt_engine_state.proofs.DeviceCalls.{have_none}
 use Rattle.bt_engine.specs.Kept.{view_of, IsKept}
 
 module _ {D H : Type 0} (conduct : Conduct D) (dig : List ℕ → List ℕ)

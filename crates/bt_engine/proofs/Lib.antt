@@ -8,3 +8,10 @@ pub mod Handled
 pub mod EventRuns
 pub mod StandingRuns
 pub mod Reopenings
+pub mod Logs
+pub mod Paths
+pub mod Flushes
+pub mod Kept
+pub mod Leading
+pub mod WholeRuns
+pub mod RunReopenings

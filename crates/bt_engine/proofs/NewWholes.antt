@@ -15,8 +15,8 @@ use Rattle.bt_machine.specs.declared.answer.Note.TheVariants.{Marked as NowMarke
 use Rattle.bt_machine.proofs.Lists.{here, later, contains_none, contains_cases, contains_filter, filter_contains, contains_map, contains_flat_map, range_limits, range_contains, and_true, some_below, get_some, some_is}
 use Rattle.bt_machine.proofs.Pairs.{Pairs, to_pairs, from_pairs, some_at, contains_some}
 use Rattle.bt_machine.specs.Changes.{PieceIsWhole}
-use Rattle.bt_follow_up.proofs.Blocks.{stands}
-use Rattle.bt_follow_up.proofs.PieceOrder.{rises, in_torrent}
+use Rattle.bt_engine_after.proofs.Blocks.{stands}
+use Rattle.bt_engine_after.proofs.PieceOrder.{rises, in_torrent}
 use Rattle.bt_engine.specs.NewsSteps.{IsNotedBefore, TellMarks, marked_piece, marked_file, unless_last}
 
 -- ---- the numbers of notes, without those that follow their like

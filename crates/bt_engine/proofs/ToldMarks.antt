@@ -12,7 +12,7 @@ use Rattle.bt_tree.specs.Blocks.{block_count}
 use Rattle.bt_meta.specs.Files.{File}
 use Rattle.bt_meta.specs.Torrent.{IsLawfulFile}
 use Rattle.bt_book.specs.Blocks.{IsBefore}
-use Rattle.bt_pending.specs.Pending.{PendingView}
+use Rattle.bt_engine_pending.specs.Pending.{PendingView}
 use Rattle.bt_store.specs.BlockStates.{is_marked}
 use Rattle.bt_store.specs.declared.block_states.BlockState.{BlockState}
 use Rattle.bt_machine.specs.declared.answer.Note.{Note}
@@ -23,10 +23,10 @@ use Rattle.bt_machine.specs.Shape.{IsShaped}
 use Rattle.bt_machine.specs.Blocks.{states_of, state_at, all_blocks, is_marked_in, has_become, new_marked_blocks}
 use Rattle.bt_machine.proofs.Lists.{some_is, some_below, here, later, contains_none, contains_cases, contains_map, contains_flat_map, flat_map_contains, contains_filter, filter_contains, and_true}
 use Rattle.bt_machine.proofs.Pairs.{Pairs, to_pairs, from_pairs}
-use Rattle.bt_state.specs.Parts.{state_of, pending_of, hints_of}
-use Rattle.bt_state.specs.declared.open_log.OpenLog.{OpenLog}
-use Rattle.bt_state.specs.declared.parts.Parts.{Parts}
-use Rattle.bt_state.proofs.Unmarked.{among, all_in_order}
+use Rattle.bt_engine_state.specs.Parts.{state_of, pending_of, hints_of}
+use Rattle.bt_engine_state.specs.declared.open_log.OpenLog.{OpenLog}
+use Rattle.bt_engine_state.specs.declared.parts.Parts.{Parts}
+use Rattle.bt_engine_state.proofs.Unmarked.{among, all_in_order}
 use Rattle.bt_engine.specs.NewsSteps.{IsNotedBefore, TellMarks}
 use Rattle.bt_engine.specs.PendingSteps.{marked_block, marks_of, marks_in, hints_told, with_hints, AreInside}
 use Rattle.bt_engine.proofs.MarkNotes.{pairs_flat_map}

@@ -8,9 +8,9 @@ use Rattle.bt_machine.specs.Law.{AreRooted}
 use Rattle.bt_machine.specs.Sound.{IsSound}
 use Rattle.bt_machine.specs.Orderly.{IsOrderly}
 use Rattle.bt_machine.specs.Shape.{IsShaped}
-use Rattle.bt_state.specs.Parts.{state_of, disks_of, log_of}
-use Rattle.bt_state.specs.Ties.{IsTied}
-use Rattle.bt_state.specs.declared.parts.Parts.{Parts}
+use Rattle.bt_engine_state.specs.Parts.{state_of, disks_of, log_of}
+use Rattle.bt_engine_state.specs.Ties.{IsTied}
+use Rattle.bt_engine_state.specs.declared.parts.Parts.{Parts}
 use Rattle.bt_machine.specs.State.{EngineView}
 
 abbrev pub view_of : {D H : Type 0} → Parts D H → EngineView D

@@ -8,3 +8,8 @@ pub mod GreetingSteps
 pub mod Run
 pub mod Standing
 pub mod Reopened
+pub mod Flushes
+pub mod Leads
+pub mod Promises
+pub mod Reopening
+pub mod WholeRuns

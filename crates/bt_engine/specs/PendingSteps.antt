@@ -7,7 +7,7 @@ use Rattle.bt_machine.specs.declared.answer.Note.{Note}
 use Rattle.bt_machine.specs.declared.answer.Note.TheVariants.{Marked as NowMarked}
 use Rattle.bt_machine.specs.Hints.{add_hints}
 use Rattle.bt_machine.specs.State.{EngineState, Hint, mark_of}
-use Rattle.bt_state.specs.declared.open_log.OpenLog.{OpenLog}
+use Rattle.bt_engine_state.specs.declared.open_log.OpenLog.{OpenLog}
 
 -- the block that the note says is marked
 abbrev pub marked_block : Note → List BlockId

@@ -5,9 +5,9 @@ use Rattle.bt_wire.specs.declared.message.Message.{Message as Sent}
 use Rattle.bt_wire.specs.declared.message.Message.TheVariants.{Request, Piece, Hashes}
 use Rattle.bt_wire.specs.declared.event.WireEvent.{WireEvent}
 use Rattle.bt_wire.specs.declared.event.WireEvent.TheVariants.{Message}
-use Rattle.bt_follow_up.specs.AfterEvent.{max_frames}
-use Rattle.bt_state.specs.declared.parts.Parts.{Parts}
-use Rattle.bt_wire_events.specs.Hashes.{IsNoteRoom}
+use Rattle.bt_engine_after.specs.AfterEvent.{max_frames}
+use Rattle.bt_engine_state.specs.declared.parts.Parts.{Parts}
+use Rattle.bt_engine_messages.specs.Hashes.{IsNoteRoom}
 use Rattle.bt_engine.specs.PendingSteps.{HasHintRoom}
 use Rattle.bt_engine.specs.declared.room.Room.{Room}
 

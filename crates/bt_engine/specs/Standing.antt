@@ -32,7 +32,8 @@ module _ {D : Type 0} (conduct : Conduct D) where
         → state_at old.state b ≡ Some Marked → state_at new.state b ≡ Some Marked
     pub images : (file i moment : ℕ) (f : FileState) (k : Facts) (bytes : List ℕ) (d : D)
         → IsFile old.state file f k → slice_get f.states i ≡ Some Marked
-        → length bytes ≡ block_length k.file_length i → slice_get new.disks file ≡ Some (Some d) → conduct.honest d
+        → length bytes ≡ block_length k.file_length i
+        → slice_get new.disks file ≡ Some (Some d) → conduct.honest d
         → ((was : D) → slice_get old.disks file ≡ Some (Some was)
         → IsBlockKept (conduct.history was) moment i bytes)
         → IsBlockKept (conduct.history d) moment i bytes

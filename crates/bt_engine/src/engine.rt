@@ -20,6 +20,7 @@ use crate::next::next;
 use crate::standing::events_stand;
 use bt_book::PeerKey;
 use bt_disk::Disk;
+use bt_engine_state::Parts;
 use bt_machine::{
     AdoptError, Answer, ConnectError, EngineError, Event, FileReport, FlushError, Output,
     RestartError, StartRefused, flush_keeps_blocks, flushed_blocks_are_marked_again, logs_stand,
@@ -27,7 +28,6 @@ use bt_machine::{
 };
 use bt_meta::Torrent;
 use bt_resume::ResumeLog;
-use bt_state::Parts;
 use bt_store::Adopted;
 use bt_tree::NodeHash;
 use std::alloc::{AllocError, Global};
@@ -80,7 +80,7 @@ impl<D: Disk + Drop, H: NodeHash> Engine<D, H> {
             torrent disks.items log) }
     {
         flushed_blocks_are_marked_again::<D, H>(hash);
-        match bt_start::start(alloc, torrent, hash, disks, log) {
+        match bt_engine_start::start(alloc, torrent, hash, disks, log) {
             Ok(parts) => Ok(Engine { alloc, parts, hash }),
             Err(refused) => Err(refused),
         }
@@ -108,7 +108,7 @@ impl<D: Disk + Drop, H: NodeHash> Engine<D, H> {
     {
         steps_keep_laws::<D, H>(self.hash);
         events_stand::<D, H>(self.hash);
-        bt_state::feed(&mut self.parts, peer, bytes)
+        bt_engine_state::feed(&mut self.parts, peer, bytes)
     }
 
     /// Takes the next wire event of a peer, and does what follows from it: what is to be sent, and to whom;
@@ -135,7 +135,7 @@ impl<D: Disk + Drop, H: NodeHash> Engine<D, H> {
     {
         steps_keep_laws::<D, H>(self.hash);
         events_stand::<D, H>(self.hash);
-        bt_state::lost(&mut self.parts, peer)
+        bt_engine_state::lost(&mut self.parts, peer)
     }
 
     /// Chooses the peers to serve anew, and gives what is to be sent. Errors: out of memory; nothing changed
@@ -148,7 +148,7 @@ impl<D: Disk + Drop, H: NodeHash> Engine<D, H> {
     {
         steps_keep_laws::<D, H>(self.hash);
         events_stand::<D, H>(self.hash);
-        bt_upkeep::rechoke(self.alloc, &mut self.parts)
+        bt_engine_after::rechoke(self.alloc, &mut self.parts)
     }
 
     /// Takes in what the device of a file has already, and says how much of it. `next` is the number of its
@@ -162,7 +162,7 @@ impl<D: Disk + Drop, H: NodeHash> Engine<D, H> {
     {
         steps_keep_laws::<D, H>(self.hash);
         events_stand::<D, H>(self.hash);
-        bt_adoption::adopt(self.alloc, &mut self.parts, file)
+        bt_engine_adopt::adopt(self.alloc, &mut self.parts, file)
     }
 
     /// Syncs all devices, in the order of files; with a log then appends what waits for it, in the order of
@@ -180,7 +180,7 @@ impl<D: Disk + Drop, H: NodeHash> Engine<D, H> {
         events_stand::<D, H>(self.hash);
         flush_keeps_blocks::<D, H>();
         logs_stand::<D, H>();
-        bt_upkeep::flush(&mut self.parts)
+        bt_engine_after::flush(&mut self.parts)
     }
 
     /// Begins all anew, as a start does, with what a log has now, which is read again first. No peer is
@@ -193,7 +193,7 @@ impl<D: Disk + Drop, H: NodeHash> Engine<D, H> {
             self.old Event.Restart (Answer.Restarted result) self.new }
     {
         steps_keep_laws::<D, H>(self.hash);
-        bt_restart::restart(self.alloc, self.hash, &mut self.parts)
+        bt_engine_restart::restart(self.alloc, self.hash, &mut self.parts)
     }
 
     /// The digest of its trees. A law of digests is called with it.
@@ -212,28 +212,28 @@ impl<D: Disk + Drop, H: NodeHash> Engine<D, H> {
     pub fn report(&self, file: u32) -> Option<FileReport>
         ensures { result ≡ file_report self.now.state file }
     {
-        bt_state::report(&self.parts, file)
+        bt_engine_state::report(&self.parts, file)
     }
 
     /// Whether all files are complete. It looks at one number for each file.
     pub fn is_complete(&self) -> bool
         ensures { result ≡ all_complete self.now.state }
     {
-        bt_state::is_complete(&self.parts)
+        bt_engine_state::is_complete(&self.parts)
     }
 
     /// How many peers are connected.
     pub fn peers(&self) -> usize
         ensures { result ≡ peer_count self.now.state }
     {
-        bt_state::peer_count(&self.parts)
+        bt_engine_state::peer_count(&self.parts)
     }
 
     /// The device of a file; None where the file is empty, and where there is no such file.
     pub fn disk(&self, file: u32) -> Option<&D>
         ensures { option_copied result ≡ option_and_then (λ disk. disk) (slice_get self.now.disks file) }
     {
-        bt_state::disk(&self.parts, file)
+        bt_engine_state::disk(&self.parts, file)
     }
 
     /// The device of the log; None without a log.

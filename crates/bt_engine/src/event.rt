@@ -7,11 +7,11 @@ ghost use Rattle.bt_machine.specs.Devices.{DeviceCalls, HaveCalls};
 ghost use Rattle.bt_machine.specs.Next.{without_peer};
 ghost use Rattle.bt_machine.specs.Orderly.{IsOrderly};
 ghost use Rattle.bt_machine.specs.Shape.{IsShaped};
-ghost use Rattle.bt_state.specs.Parts.{state_of, disks_of, log_of};
-ghost use Rattle.bt_state.specs.Ties.{IsTied};
-ghost use Rattle.bt_wire_events.specs.Message.{IsPeerEvent};
-ghost use Rattle.bt_wire_events.specs.Hashes.{IsNoteRoom};
-ghost use Rattle.bt_block_events.specs.Piece.{cancels_to};
+ghost use Rattle.bt_engine_state.specs.Parts.{state_of, disks_of, log_of};
+ghost use Rattle.bt_engine_state.specs.Ties.{IsTied};
+ghost use Rattle.bt_engine_messages.specs.Message.{IsPeerEvent};
+ghost use Rattle.bt_engine_messages.specs.Hashes.{IsNoteRoom};
+ghost use Rattle.bt_engine_messages.specs.Piece.{cancels_to};
 ghost use Rattle.bt_engine.specs.NewsSteps.{TellMarks};
 ghost use Rattle.bt_engine.specs.RoomSteps.{IsNoteBound, HasRoom, HasRoomFor};
 ghost use Rattle.bt_engine.specs.PendingSteps.{HasHintRoom};
@@ -21,17 +21,19 @@ use crate::news::{announce_pieces, note_complete_files};
 use crate::pending::record_hints;
 use crate::room::{Room, reserve};
 use arrayvec::ArrayVec;
-use bt_block_events::{Effect, Served, take_piece, take_request};
 use bt_book::{MAX_ASKERS, PeerKey};
 use bt_disk::Disk;
-use bt_follow_up::follow_up;
+use bt_engine_after::follow_up;
+use bt_engine_messages::{
+    Effect, Learnt, Served, take_hash_request, take_hashes, take_peer_event, take_piece,
+    take_request,
+};
+use bt_engine_state::Parts;
 use bt_hashreq::HashKey;
 use bt_machine::{Frame, Note, Output, Why};
 use bt_resume::Hint;
-use bt_state::Parts;
 use bt_tree::NodeHash;
 use bt_wire::{Ask, Bytes, Message, WireEvent};
-use bt_wire_events::{Learnt, take_hash_request, take_hashes, take_peer_event};
 use std::alloc::{AllocError, Global};
 
 /// What a wire event comes to by itself, where its peer stays.
@@ -151,7 +153,7 @@ pub(crate) fn drop_peer<D: Disk + Drop, H: NodeHash>(parts: &mut Parts<D, H>, in
     ensures tied { IsTied parts.new }
 {
     let key = parts.peers[index].key;
-    let _ = bt_state::lost(parts, key);
+    let _ = bt_engine_state::lost(parts, key);
 }
 
 /// What follows where the peer at an index stays: it is sent its answer, or others cancels of the block that

@@ -2,15 +2,15 @@
 ghost use Rattle.std.specs.Prelude.{◌≡◌, Err};
 ghost use Rattle.bt_machine.specs.Orderly.{IsOrderly};
 ghost use Rattle.bt_machine.specs.Peers.{StepConnect, our_handshake};
-ghost use Rattle.bt_state.specs.Parts.{state_of, disks_of};
-ghost use Rattle.bt_state.specs.Ties.{IsTied};
+ghost use Rattle.bt_engine_state.specs.Parts.{state_of, disks_of};
+ghost use Rattle.bt_engine_state.specs.Ties.{IsTied};
 ghost use Rattle.bt_engine.specs.GreetingSteps.{HasTwo, IsGreeting};
 
 use bt_book::PeerKey;
 use bt_disk::Disk;
+use bt_engine_state::{MAX_PEERS, Parts};
 use bt_machine::{ConnectError, Frame, Output};
 use bt_meta::Torrent;
-use bt_state::{MAX_PEERS, Parts};
 use bt_tree::NodeHash;
 use bt_wire::{Bytes, Handshake, Message};
 use std::alloc::Global;
@@ -34,7 +34,7 @@ pub(crate) fn connect<D: Disk + Drop, H: NodeHash>(
     let Ok(send) = Vec::with_capacity(alloc, 2) else {
         return Err(refusal(parts));
     };
-    match bt_state::connect(alloc, parts) {
+    match bt_engine_state::connect(alloc, parts) {
         Ok((key, bits)) => Ok((key, greet(alloc, &parts.torrent, key, bits, send))),
         Err(error) => Err(error),
     }

@@ -8,15 +8,15 @@ ghost use Rattle.bt_machine.specs.State.{EngineState};
 ghost use Rattle.bt_machine.specs.Blocks.{is_complete, new_complete_files};
 ghost use Rattle.bt_machine.specs.Output.{haves};
 ghost use Rattle.bt_machine.specs.Shape.{IsShaped};
-ghost use Rattle.bt_state.specs.Parts.{state_of};
-ghost use Rattle.bt_state.specs.Ties.{IsTied};
+ghost use Rattle.bt_engine_state.specs.Parts.{state_of};
+ghost use Rattle.bt_engine_state.specs.Ties.{IsTied};
 ghost use Rattle.bt_engine.specs.NewsSteps.{TellMarks, marked_piece, marked_file, unless_last, haves_of, notes_if_complete};
 
 use bt_book::PeerKey;
 use bt_disk::Disk;
+use bt_engine_state::Parts;
 use bt_machine::{Frame, Note, whole_pieces_are_marked};
 use bt_meta::Torrent;
-use bt_state::Parts;
 use bt_tree::NodeHash;
 use bt_wire::Message;
 
@@ -121,7 +121,7 @@ fn is_file_complete<D: Disk + Drop, H: NodeHash>(parts: &Parts<D, H>, file: u32)
     requires shaped { IsShaped parts.now.torrent (state_of parts.now) }
     ensures { result ≡ is_complete (state_of parts.now) file }
 {
-    match bt_state::report(parts, file) {
+    match bt_engine_state::report(parts, file) {
         Some(report) => report.complete,
         None => true,
     }

@@ -5,15 +5,15 @@ ghost use Rattle.bt_machine.specs.Devices.{DeviceCalls, HaveCalls};
 ghost use Rattle.bt_machine.specs.Next.{StepNext};
 ghost use Rattle.bt_machine.specs.Orderly.{IsOrderly};
 ghost use Rattle.bt_machine.specs.Shape.{IsShaped};
-ghost use Rattle.bt_state.specs.Parts.{state_of, disks_of, log_of};
-ghost use Rattle.bt_state.specs.Ties.{IsTied};
+ghost use Rattle.bt_engine_state.specs.Parts.{state_of, disks_of, log_of};
+ghost use Rattle.bt_engine_state.specs.Ties.{IsTied};
 ghost use Rattle.bt_engine.specs.NextSteps.{IsCut};
 
 use crate::event::{close, drop_peer, take_event};
 use bt_book::PeerKey;
 use bt_disk::Disk;
+use bt_engine_state::{Parts, index_of};
 use bt_machine::{EngineError, Output, Why};
-use bt_state::{Parts, index_of};
 use bt_tree::NodeHash;
 use bt_wire::{WireError, WireEvent};
 use std::alloc::Global;

@@ -3,14 +3,14 @@ ghost use Rattle.std.specs.Prelude.{[], ◌∷◌, ◌≡◌, ◌+◌, ◌≤◌
 ghost use Rattle.std.specs.Option.{option_to_list};
 ghost use Rattle.bt_resume.specs.Hint.{CanBeRead};
 ghost use Rattle.bt_machine.specs.Hints.{add_hints};
-ghost use Rattle.bt_state.specs.Parts.{state_of, log_of};
+ghost use Rattle.bt_engine_state.specs.Parts.{state_of, log_of};
 ghost use Rattle.bt_engine.specs.PendingSteps.{marks_of, marks_in, hints_told, with_hints, HasHintRoom, AreInside};
 
 use bt_disk::Disk;
+use bt_engine_pending::Pending;
+use bt_engine_state::Parts;
 use bt_machine::Note;
-use bt_pending::Pending;
 use bt_resume::Hint;
-use bt_state::Parts;
 use bt_tree::NodeHash;
 use std::alloc::AllocError;
 

@@ -2,19 +2,19 @@
 ghost use Rattle.std.specs.Prelude.{◌≡◌, ◌^◌, ◌≤◌, IfOk, IfErr};
 ghost use Rattle.bt_machine.specs.Orderly.{IsOrderly};
 ghost use Rattle.bt_machine.specs.Shape.{IsShaped};
-ghost use Rattle.bt_state.specs.Parts.{state_of, log_of};
-ghost use Rattle.bt_state.specs.Ties.{IsTied};
+ghost use Rattle.bt_engine_state.specs.Parts.{state_of, log_of};
+ghost use Rattle.bt_engine_state.specs.Ties.{IsTied};
 ghost use Rattle.bt_engine.specs.RoomSteps.{IsNoteBound, HasRoomFor};
 
 use crate::pending::reserve_hints;
 use bt_book::{MAX_ASKERS, PeerKey};
 use bt_disk::Disk;
-use bt_follow_up::MAX_FRAMES;
+use bt_engine_after::MAX_FRAMES;
+use bt_engine_messages::room_for_notes;
+use bt_engine_state::Parts;
 use bt_machine::{Frame, Note};
-use bt_state::Parts;
 use bt_tree::NodeHash;
 use bt_wire::{Message, WireEvent};
-use bt_wire_events::room_for_notes;
 use std::alloc::{AllocError, Global};
 
 /// Lists of what an event sends and notes.

@@ -9,7 +9,7 @@ use Rattle.bt_machine.specs.Flush.{StepFlush, appended, syncs, writes, fails, un
 use Rattle.bt_machine.specs.LogCalls.{EventCalls, LogCall, HaveLogCalls}
 use Rattle.bt_machine.specs.State.{EngineState, EngineView}
 use Rattle.bt_machine.specs.View.{StepsTo}
-use Rattle.bt_runs.specs.Leads.{LeadsTo, none as no_event, one as one_event, both as one_and_other}
+use Rattle.bt_engine.specs.Leads.{LeadsTo, none as no_event, one as one_event, both as one_and_other}
 use Rattle.bt_check.specs.declared.fault.Fault.{Fault}
 use Rattle.bt_files.specs.Ending.{IsEndFault}
 use Rattle.bt_files.specs.Store.{IsFlushFault, IsSameButPending, flush_fault}

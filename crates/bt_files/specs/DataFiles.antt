@@ -2,10 +2,10 @@
 use Rattle.std.specs.Prelude.{◌≡◌, ℕ, Bool, List, false, map, filter, nat_lt}
 use Rattle.std.specs.List.{AllZip, enumerate_from}
 use Rattle.bt_disk.specs.Pool.{PooledView}
-use Rattle.bt_folder.specs.SealedDisk.{SealedView}
+use Rattle.bt_devices.specs.SealedDisk.{SealedView}
 use Rattle.bt_meta.specs.Files.{File}
 use Rattle.bt_check.specs.Paths.{path_below}
-use Rattle.bt_ahead.specs.Disk.{AheadView, new_ahead}
+use Rattle.bt_devices.specs.Disk.{AheadView, new_ahead}
 use Rattle.bt_files.specs.FileUse.{IsAccessFor, is_as_synced, is_read_only}
 use Rattle.bt_files.specs.declared.file_use.FileUse.{FileUse}
 

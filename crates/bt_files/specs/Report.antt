@@ -12,7 +12,7 @@ use Rattle.bt_machine.specs.Opening.{BeginsOn}
 use Rattle.bt_machine.specs.Report.{all_complete}
 use Rattle.bt_machine.specs.View.{RunsTo}
 use Rattle.bt_resume.specs.ResumeLog.{LogView}
-use Rattle.bt_runs.specs.WholeRuns.{IsFileMarkedOnPath, IsPublishedOn}
+use Rattle.bt_engine.specs.WholeRuns.{IsFileMarkedOnPath, IsPublishedOn}
 use Rattle.bt_check.specs.Finding.{is_complete_finding}
 use Rattle.bt_check.specs.Display.{display_text}
 use Rattle.bt_check.specs.Paths.{path_text}

@@ -2,7 +2,7 @@
 use Rattle.std.specs.Prelude.{[], ◌≡◌, ◌≢◌, ◌⊎◌, ℕ, Bool, List, length, Option, None, Some}
 use Rattle.std.specs.Borrow.{Bor}
 use Rattle.sha2.specs.Sha256.{sha256}
-use Rattle.bt_ahead.specs.Disk.{ahead_conduct}
+use Rattle.bt_devices.specs.Disk.{ahead_conduct}
 use Rattle.bt_disk.specs.Conduct.{Conduct}
 use Rattle.bt_disk.specs.Pool.{pooled_conduct}
 use Rattle.bt_meta.specs.Torrent.{Metainfo}
@@ -13,8 +13,8 @@ use Rattle.bt_machine.specs.Opening.{BeginsOn}
 use Rattle.bt_machine.specs.Start.{AreDevicesOf}
 use Rattle.bt_machine.specs.State.{EngineState, EngineView}
 use Rattle.bt_files.specs.Adoption.{TakesIn}
-use Rattle.bt_runs.specs.Leads.{LeadsTo}
-use Rattle.bt_folder.specs.SealedDisk.{sealed_conduct}
+use Rattle.bt_engine.specs.Leads.{LeadsTo}
+use Rattle.bt_devices.specs.SealedDisk.{sealed_conduct}
 use Rattle.bt_folder.specs.declared.known_files.KnownFiles.{KnownFiles}
 use Rattle.bt_check.specs.Fault.{device, log_full}
 use Rattle.bt_check.specs.declared.fault.Fault.{Fault}

@@ -3,7 +3,7 @@ ghost use Rattle.std.specs.Prelude.{[], ◌≡◌, ◌<◌, ◌↔◌, IsTrue, S
 ghost use Rattle.bt_machine.specs.declared.event.Event.TheVariants.{Adopt};
 ghost use Rattle.bt_machine.specs.declared.event.Answer.{Answer};
 ghost use Rattle.bt_machine.specs.View.{StepsTo};
-ghost use Rattle.bt_runs.specs.Leads.{LeadsTo};
+ghost use Rattle.bt_engine.specs.Leads.{LeadsTo};
 ghost use Rattle.bt_files.specs.Adoption.{IsAdoptionFault, IsTakenIn, StopsAtFile, TakesIn};
 
 use bt_check::Fault;

@@ -1,7 +1,7 @@
 //! The data files of a torrent, opened for a use.
 ghost use Rattle.std.specs.Prelude.{[], ◌≡◌, ◌≢◌, ◌+◌, ◌++◌, ◌∷◌, false, map, length, nat_lt, string_bytes, IfOk, IfErr, IfSome, IsSome, OnOk};
 ghost use Rattle.std.specs.Path.{path_buf_bytes};
-ghost use Rattle.bt_ahead.specs.Disk.{new_ahead};
+ghost use Rattle.bt_devices.specs.Disk.{new_ahead};
 ghost use Rattle.bt_disk.specs.Pool.{new_pool};
 ghost use Rattle.bt_meta.specs.Files.{file_of};
 ghost use Rattle.bt_check.specs.Fault.{device};
@@ -13,23 +13,19 @@ ghost use Rattle.bt_files.specs.OpenFolder.{IsCallFault, IsOpeningFault, KnowsOp
 use crate::device_context::DeviceContext;
 use crate::file_use::FileUse;
 use crate::open_folder::OpenFolder;
-use bt_ahead::{AlarmDisk, ReadAheadDisk};
 use bt_check::{Fault, OPEN_FILES, data_path, fault_name, told};
+use bt_devices::{ReadAheadDisk, SealedDisk, Watched};
 use bt_disk::{DeviceFault, FileDisk, HandlePool, Opening, PooledDisk};
-use bt_folder::{KnownFiles, SealedDisk};
+use bt_folder::KnownFiles;
 use bt_meta::FileEntry;
-use bt_progress::{FileCall, Watch, Watched};
+use bt_progress::{FileCall, Watch};
 use std::alloc::{AllocError, Global};
 use std::path::{Path, PathBuf};
 use std::rt::Files;
 
 /// The device of a data file: one of a pool, which is read ahead, may be closed to writes, rings where a write
 /// fails, and tells of its calls.
-pub type DataDisk<'a, R, P> = Watched<
-    'a,
-    AlarmDisk<'a, SealedDisk<'a, ReadAheadDisk<'a, PooledDisk<R>>>>,
-    P,
->;
+pub type DataDisk<'a, R, P> = Watched<'a, SealedDisk<'a, ReadAheadDisk<'a, PooledDisk<R>>>, P>;
 
 /// The devices of those files of a torrent that have a byte, in their order; and of each file of it, whether bytes of
 /// it are there. What the system tells of all these files is known, but for a read-only use.
@@ -193,11 +189,7 @@ fn open_device<'a, R: Files + Drop, P: Watch>(
     match pooled(pool, context.usage, path.into_string()) {
         Ok(file) => {
             let opening = file.opening();
-            let disk = Watched::new(
-                AlarmDisk::new(device_of(context, file), context.alarm),
-                watch,
-                name,
-            );
+            let disk = Watched::with_alarm(device_of(context, file), watch, name, context.alarm);
             Ok(OpenFile {
                 disk: Some(disk),
                 opening,

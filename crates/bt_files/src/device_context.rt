@@ -1,8 +1,7 @@
 //! What the devices of a store share.
 
 use crate::file_use::FileUse;
-use bt_ahead::{Alarm, DigestCache};
-use bt_folder::Seal;
+use bt_devices::{Alarm, DigestCache, Seal};
 use std::cell::RefCell;
 
 /// What the devices of a store share with each other, and with the connections to its engine.

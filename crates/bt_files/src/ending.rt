@@ -1,6 +1,6 @@
 //! The end of a fetch.
 ghost use Rattle.std.specs.Prelude.{IfErr, IfOk};
-ghost use Rattle.bt_runs.specs.Leads.{LeadsTo};
+ghost use Rattle.bt_engine.specs.Leads.{LeadsTo};
 ghost use Rattle.bt_files.specs.Ending.{IsConcluded, IsEndFault};
 
 use crate::report::write_report;

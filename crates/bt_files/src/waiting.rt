@@ -1,6 +1,6 @@
 //! Files whose blocks have all come, some of them without their hashes, are taken in.
 ghost use Rattle.std.specs.Prelude.{[], ◌≡◌, ◌↔◌, IsTrue, IfErr, OnOk};
-ghost use Rattle.bt_runs.specs.Leads.{LeadsTo};
+ghost use Rattle.bt_engine.specs.Leads.{LeadsTo};
 ghost use Rattle.bt_files.specs.Waiting.{IsWholeWaiting, StopsAtWaiting, TakesInAllWaiting};
 
 use crate::adoption::adopt_file;

@@ -1,4 +1,3 @@
-pub mod SealedDisk
 pub mod CaseNames
 pub mod FolderNames
 pub mod CasePaths

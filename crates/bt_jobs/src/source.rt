@@ -3,8 +3,9 @@ ghost use Rattle.std.specs.Prelude.{IfOk, IfErr};
 ghost use Rattle.bt_check.specs.TorrentFile.{IsLoadFault, IsTorrentOfText};
 
 use bt_check::{BUFFER_LEN, Fault, Source, fault_name, read_text, told};
+use bt_devices::Watched;
 use bt_meta::{Torrent, read_info, read_torrent};
-use bt_progress::{FileCall, Watch, Watched};
+use bt_progress::{FileCall, Watch};
 use std::alloc::Global;
 use std::fs;
 use std::rt::Files;

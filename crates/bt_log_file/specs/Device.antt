@@ -1,10 +1,10 @@
 -- The device of a log's file.
 use Rattle.std.specs.Prelude.{ℕ, List, [], false}
-use Rattle.bt_ahead.specs.Disk.{AheadView, ahead_conduct, new_ahead}
+use Rattle.bt_devices.specs.Disk.{AheadView, ahead_conduct, new_ahead}
 use Rattle.bt_disk.specs.FileDisk.{writing}
 use Rattle.bt_disk.specs.Conduct.{Conduct}
 use Rattle.bt_disk.specs.Pool.{PooledView, pooled_conduct}
-use Rattle.bt_folder.specs.SealedDisk.{SealedView, new_sealed, sealed_conduct}
+use Rattle.bt_devices.specs.SealedDisk.{SealedView, new_sealed, sealed_conduct}
 
 -- a device of a pool, which is read ahead, and may be closed to writes
 abbrev pub LogDiskView : Type 0

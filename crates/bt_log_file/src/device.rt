@@ -1,26 +1,21 @@
 //! The device of a log's file.
 ghost use Rattle.std.specs.Prelude.{◌≡◌, IfErr, IfOk};
-ghost use Rattle.bt_ahead.specs.Disk.{new_ahead};
-ghost use Rattle.bt_folder.specs.SealedDisk.{new_sealed};
+ghost use Rattle.bt_devices.specs.Disk.{new_ahead};
+ghost use Rattle.bt_devices.specs.SealedDisk.{new_sealed};
 ghost use Rattle.bt_log_file.specs.Device.{new_log_device, new_log_file};
 ghost use Rattle.bt_log_file.specs.Opening.{IsCallFault};
 
-use bt_ahead::{Alarm, AlarmDisk, DigestCache, ReadAheadDisk};
 use bt_check::{Fault, fault_name, told};
+use bt_devices::{Alarm, DigestCache, ReadAheadDisk, Seal, SealedDisk, Watched};
 use bt_disk::{HandlePool, Opening, PooledDisk};
-use bt_folder::{Seal, SealedDisk};
-use bt_progress::{FileCall, Watch, Watched};
+use bt_progress::{FileCall, Watch};
 use std::cell::RefCell;
 use std::rt::Files;
 
 /// The device of a log's file. An engine has devices of one type, so this is the type of data files too: a device
 /// that tells of its calls, rings where a write fails, may be closed to writes, and is read ahead. Only blocks are
 /// read ahead, and a log is mostly read by greater parts, so hardly anything of a log is.
-pub type LogDisk<'a, R, P> = Watched<
-    'a,
-    AlarmDisk<'a, SealedDisk<'a, ReadAheadDisk<'a, PooledDisk<R>>>>,
-    P,
->;
+pub type LogDisk<'a, R, P> = Watched<'a, SealedDisk<'a, ReadAheadDisk<'a, PooledDisk<R>>>, P>;
 
 /// What a log's device shares with what is outside of it.
 #[derive(Clone, Copy)]
@@ -55,11 +50,7 @@ pub(crate) fn open_device<'a, R: Files + AllocGlobal + Clone + Drop, P: Watch>(
     let name = fault_name(rt.alloc(), watch, path)?;
     let file = told(rt.alloc(), watch, FileCall::Open, path, open_file(rt, path))?;
     let opening = file.opening();
-    let disk = Watched::new(
-        AlarmDisk::new(device_of(context, file), context.alarm),
-        watch,
-        name,
-    );
+    let disk = Watched::with_alarm(device_of(context, file), watch, name, context.alarm);
     Ok(OpenedLog { disk, opening })
 }
 

@@ -6,9 +6,9 @@ use crate::peers::tell_asked;
 use crate::stage::{Source, TestEngine};
 use crate::words::{RowError, tell};
 use bt_disk::Loss;
+use bt_engine::{ReopenError, reopen};
 use bt_lanes::Lanes;
 use bt_machine::StartError;
-use bt_runs::{ReopenError, reopen};
 use std::alloc::{AllocError, Global};
 use std::fmt::Write;
 

@@ -20,7 +20,8 @@ use Rattle.bt_machine.specs.Step.{Step}
 abbrev pub IsSound : {D : Type 0} → Conduct D → (List ℕ → List ℕ)
     → EngineState → List (Option D) → Type 0
 IsSound {D} conduct dig s disks = (file : ℕ) (f : FileState) (k : Facts) (d : D) → IsFile s file f k
-    → slice_get disks file ≡ Some (Some d) → conduct.honest d → AreRight dig k (conduct.history d).now.bytes f.states
+    → slice_get disks file ≡ Some (Some d) → conduct.honest d
+    → AreRight dig k (conduct.history d).now.bytes f.states
 
 -- It is so at the beginning: without a log no block is marked, and with one each was read,
 abbrev pub StartsSound : {D : Type 0} → Conduct D → (List ℕ → List ℕ) → Type 0

@@ -19,8 +19,9 @@ use bt_check::{
     BUFFER_LEN, Digests, Fault, PieceSize, digest_reader, fault_name, found_path, is_device_fault,
     told,
 };
+use bt_devices::Watched;
 use bt_meta::{Made, MakeError, make_torrent, torrents_are_made_from_files};
-use bt_progress::{FileCall, Watch, Watched};
+use bt_progress::{FileCall, Watch};
 use bt_words::MakeTask;
 use std::alloc::{AllocError, Global};
 use std::fs::{self, Metadata};

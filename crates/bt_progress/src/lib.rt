@@ -1,7 +1,5 @@
-//! How far long work is, and which call on a file failed: what a program tells of it beside its results.
-//!
-//! Readers and devices are wrapped, and tell it to a `Watch`; to every contract a wrapped one is what it has
-//! inside. The `Console` of the program is a `Watch` that writes to standard error.
+//! How far long work is, and which call on a file failed: what a program tells of it beside its results, to a
+//! `Watch`. The `Console` of the program is a `Watch` that writes to standard error.
 #![tactic(auto)]
 
 mod console;
@@ -12,7 +10,6 @@ mod line;
 mod meter;
 mod screen;
 mod watch;
-mod watched;
 
 pub use console::Console;
 pub use escape::{escaped, escaped_lines};
@@ -22,4 +19,3 @@ pub use line::progress_line;
 pub use meter::Meter;
 pub use screen::is_due;
 pub use watch::{Unwatched, Watch};
-pub use watched::Watched;

@@ -110,7 +110,8 @@ module _ {D : Type 0} (conduct : Conduct D) where
   AttachKeeps = (infohash torrent : List ℕ) (old new : D) (result : Result LogText LogError) (t : ℕ)
       (text : LogText) → length infohash ≡ digest_length → conduct.honest old
       → Opens conduct torrent old result new
-      → IsTextKeptSince (conduct.history old) t infohash text → IsTextKeptSince (conduct.history new) t infohash text
+      → IsTextKeptSince (conduct.history old) t infohash text
+      → IsTextKeptSince (conduct.history new) t infohash text
 
   abbrev pub ReloadKeeps : Type 0
   ReloadKeeps = (old new : LogView D) (result : Result ⊤ LogError) (t : ℕ) (text : LogText)
@@ -135,14 +136,14 @@ module _ {D : Type 0} (conduct : Conduct D) where
   -- Which text the device of a log holds, after each call on an honest device.
 
   abbrev pub AttachHolds : Type 0
-  AttachHolds = (infohash : List ℕ) (old : D) (log : LogView D) → length infohash ≡ digest_length → conduct.honest old
-      → IsAttached conduct infohash old log
+  AttachHolds = (infohash : List ℕ) (old : D) (log : LogView D)
+      → length infohash ≡ digest_length → conduct.honest old → IsAttached conduct infohash old log
       → (text : LogText) × (log.hints ≡ hints_in text) × Holds log text text
 
   -- what is read goes on from the text that was held, whatever lies behind it
   abbrev pub ReloadHolds : Type 0
-  ReloadHolds = (old new : LogView D) (result : Result ⊤ LogError) (kept text : LogText) → conduct.honest old.disk
-      → IsReloaded conduct old result new → Holds old kept text
+  ReloadHolds = (old new : LogView D) (result : Result ⊤ LogError) (kept text : LogText)
+      → conduct.honest old.disk → IsReloaded conduct old result new → Holds old kept text
       → MatchResult result
       (λ _. (read : LogText) × (new.hints ≡ hints_in read) × Holds new read read × GoesOn text read)
       (λ cause. Holds new kept text × IsNotOfBytes cause)

@@ -10,3 +10,6 @@ pub mod Takes
 pub mod Pauses
 pub mod Whole
 pub mod OwnSteps
+pub mod Turns
+pub mod Sessions
+pub mod Unflushed

@@ -5,3 +5,7 @@ pub mod Ends
 pub mod LawSteps
 pub mod Parts
 pub mod PeerSteps
+pub mod PeerEnd
+pub mod Link
+pub mod Peer
+pub mod Peers

@@ -1,5 +1,6 @@
 //! A session with one peer: its bytes are fed to an engine, and what the engine sends to it is written, over
-//! any reader and any writer.
+//! any reader and any writer. And peers that are dialled one after the other, each for a session, until the
+//! engine is complete.
 #![tactic(auto)]
 
 mod calls;
@@ -7,6 +8,10 @@ mod end;
 mod flushes;
 mod frames;
 mod law;
+mod link;
+mod peer;
+mod peer_end;
+mod peers;
 mod room;
 mod session;
 mod turn;
@@ -14,4 +19,8 @@ mod turn;
 pub use bt_engine::Engine;
 pub use end::SessionEnd;
 pub use law::sessions_are_runs;
+pub use link::Link;
+pub use peer::{meet_peer, meet_peer_with_flushes};
+pub use peer_end::{PeerEnd, end_text};
+pub use peers::{run_peers, run_peers_with_flushes};
 pub use session::{run_session, run_session_with_flushes};

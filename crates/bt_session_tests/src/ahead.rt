@@ -2,8 +2,8 @@
 
 use crate::bytes::tell_given;
 use crate::words::{RowError, Words, tell_answer};
-use bt_ahead::{DigestCache, ReadAheadDisk};
 use bt_connection::{AheadRoom, ReadAhead};
+use bt_devices::{DigestCache, ReadAheadDisk};
 use bt_disk::{Disk, FaultDisk, MemoryDisk};
 use bt_tree::BLOCK_LEN;
 use std::alloc::{AllocError, Global};

@@ -4,7 +4,7 @@ ghost use Rattle.std.specs.List.{AllPairs};
 
 use crate::words::{RowError, Words, tell_answer};
 use bt_disk::MemoryDisk;
-use bt_recovery::take_proofs;
+use bt_engine_recall::take_proofs;
 use bt_resume::ResumeLog;
 use bt_sparse::SparseTree;
 use bt_tree::{Geometry, Hash32, Plain};

@@ -1,6 +1,6 @@
 //! Runs lists of events and sessions with peers on engines whose files lie in memory, the peers' bytes too; tries peers in turn, opens
 //! sockets of this machine with itself, passes conversations through a reader and a writer of `bt_connection`, reads ahead by
-//! that and `bt_ahead`, and lets trees take the proofs of logs, as the rows of `stdin` say. `stdout` has what they are to answer. README.md
+//! that and `bt_devices`, and lets trees take the proofs of logs, as the rows of `stdin` say. `stdout` has what they are to answer. README.md
 //! tells the rows.
 #![tactic(auto)]
 

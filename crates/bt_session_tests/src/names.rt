@@ -1,6 +1,6 @@
 //! A network that stands in for the host's, in which a name has several addresses.
 
-use bt_peers::Link;
+use bt_session::Link;
 use bt_sockets::{IDLE_SECONDS, Passage, TcpLink, listen, port_of};
 use std::io::{self, ErrorKind};
 use std::net::{Ipv4Addr, Net, OpenListener, SocketAddr};

@@ -5,7 +5,7 @@ use crate::engine::TestEngine;
 use crate::scene::{Act, Scene, SceneNet};
 use crate::sessions::tell_end;
 use crate::words::{RowError, Words, tell_answer};
-use bt_peers::{Link, PeerEnd, end_text, meet_peer};
+use bt_session::{Link, PeerEnd, end_text, meet_peer};
 use bt_sockets::{IDLE_SECONDS, Passage, SESSION_TURNS, TcpLink, listen, serve};
 use std::alloc::{AllocError, Global};
 use std::fmt::Write;

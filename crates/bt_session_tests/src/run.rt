@@ -2,8 +2,8 @@
 
 use crate::answers::tell_answer;
 use crate::engine::{TestEngine, tell_reports};
+use bt_engine::run_as_promised;
 use bt_machine::{Answer, Event};
-use bt_runs::run_as_promised;
 use std::alloc::{AllocError, Global};
 use std::fmt::Write;
 

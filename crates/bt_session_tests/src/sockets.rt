@@ -7,7 +7,7 @@ use crate::plays::play_row;
 use crate::sessions::tell_end;
 use bt_connection::ShortBlocks;
 use bt_meta::Torrent;
-use bt_peers::{Link, PeerEnd, end_text};
+use bt_session::{Link, PeerEnd, end_text};
 use bt_sockets::{
     IDLE_SECONDS, Passage, Shared, StreamReader, StreamWriter, TcpLink, listen, port_of, serve,
 };

@@ -2,8 +2,8 @@
 use Rattle.std.specs.Prelude.{ℕ, false, List, Option, IfSome}
 use Rattle.bt_disk.specs.Conduct.{Conduct}
 use Rattle.bt_machine.specs.State.{EngineView}
-use Rattle.bt_peers.specs.declared.end.PeerEnd.{PeerEnd}
-use Rattle.bt_peers.specs.Peer.{EndsAs}
+use Rattle.bt_session.specs.declared.peer_end.PeerEnd.{PeerEnd}
+use Rattle.bt_session.specs.Peer.{EndsAs}
 
 -- It was ready for a session, which gave such a reader and writer, or was gone already, and ended as follows
 -- from that. The session goes on behind the last block too.

@@ -1,6 +1,6 @@
 //! A peer that is reached over TCP.
 ghost use Rattle.std.specs.Prelude.{◌≡◌, ◌+◌, ◌-◌, ◌<◌, ◌^◌, IfOk, IfSome};
-ghost use Rattle.bt_peers.specs.Link.{failure_count};
+ghost use Rattle.bt_session.specs.Link.{failure_count};
 ghost use Rattle.bt_sockets.specs.Link.{LeadToSamePeer, undialled};
 ghost use Rattle.bt_sockets.specs.Stream.{AreNew};
 ghost use Rattle.bt_sockets.specs.StreamSteps.{IsAddressOf};
@@ -8,7 +8,7 @@ ghost use Rattle.bt_sockets.specs.StreamSteps.{IsAddressOf};
 use crate::passage::Passage;
 use crate::stream::{StreamReader, StreamWriter, Terms, both_ways, connected};
 use crate::timing::Role;
-use bt_peers::Link;
+use bt_session::Link;
 use std::io;
 use std::marker::Model;
 use std::net::{Net, SocketAddr};

@@ -2,7 +2,7 @@
 ghost use Rattle.std.specs.Prelude.{[], ◌≡◌, ◌↔◌, IsTrue, IfOk, IfErr, OnErr};
 ghost use Rattle.std.specs.IoError.{raw_os_error};
 ghost use Rattle.bt_check.specs.Fault.{device};
-ghost use Rattle.bt_runs.specs.Leads.{LeadsTo};
+ghost use Rattle.bt_engine.specs.Leads.{LeadsTo};
 ghost use Rattle.bt_sockets.specs.Listener.{IsServed};
 ghost use Rattle.bt_sockets.specs.ListenerSteps.{IsNoListener};
 ghost use Rattle.bt_sockets.specs.Stream.{AreNew};
@@ -12,7 +12,7 @@ use crate::stream::{StreamReader, StreamWriter, Terms, both_ways};
 use crate::timing::Role;
 use bt_check::Fault;
 use bt_disk::Disk;
-use bt_peers::{Engine, PeerEnd, meet_peer};
+use bt_session::{Engine, PeerEnd, meet_peer};
 use bt_tree::NodeHash;
 use std::alloc::Global;
 use std::io::{self, ErrorKind, Read, Write};

@@ -2,8 +2,8 @@
 
 use crate::timed_stream::EARLY_LEN;
 use crate::timing::Timing;
-use bt_ahead::{Alarm, DigestCache};
 use bt_connection::{AheadRoom, FrameRoom, Padding, Requests, Room, ShortBlocks};
+use bt_devices::{Alarm, DigestCache};
 use std::alloc::{AllocError, Global};
 use std::cell::RefCell;
 

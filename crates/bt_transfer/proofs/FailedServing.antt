@@ -16,7 +16,7 @@ use Rattle.bt_machine.specs.declared.error.FlushError.{FlushError}
 use Rattle.bt_machine.specs.declared.error.FlushError.TheVariants.{Device, LogFull}
 use Rattle.bt_machine.specs.declared.event.Event.TheVariants.{Flush}
 use Rattle.bt_machine.specs.declared.event.Answer.TheVariants.{Flushed}
-use Rattle.bt_runs.specs.Leads.{LeadsTo, both}
+use Rattle.bt_engine.specs.Leads.{LeadsTo, both}
 use Rattle.bt_transfer.specs.Connections.{FailsToServe, IsRefusedAs}
 use Rattle.bt_transfer.specs.Seed.{FailsToSeed, HasFilledLog, seed_use}
 use Rattle.bt_transfer.proofs.EndFaults.{call_not_full, of_fault}

@@ -10,7 +10,7 @@ use Rattle.bt_machine.specs.View.{StepsTo}
 use Rattle.bt_machine.specs.declared.error.FlushError.{FlushError}
 use Rattle.bt_machine.specs.declared.event.Event.TheVariants.{Flush}
 use Rattle.bt_machine.specs.declared.event.Answer.TheVariants.{Flushed}
-use Rattle.bt_peers.specs.declared.end.PeerEnd.{PeerEnd}
+use Rattle.bt_session.specs.declared.peer_end.PeerEnd.{PeerEnd}
 use Rattle.bt_transfer.specs.Fetch.{TriesAndSyncs, Turns, behind, among}
 use Rattle.bt_transfer.specs.FetchSteps.{BreaksOff, FailsToSync, refused, unwritten}
 use Rattle.bt_transfer.proofs.EndFaults.{of_fault}

@@ -6,13 +6,13 @@ use Rattle.std.proofs.lemmas.List.Elements.{All-map}
 use Rattle.bt_disk.specs.Conduct.{Conduct}
 use Rattle.bt_machine.specs.State.{EngineView}
 use Rattle.bt_machine.specs.declared.error.FlushError.{FlushError}
-use Rattle.bt_peers.specs.declared.end.PeerEnd.{PeerEnd}
-use Rattle.bt_peers.specs.declared.end.PeerEnd.TheVariants.{Untried, Unreachable, Refused, Session}
-use Rattle.bt_peers.specs.Peer.{EndsAs, EndsAsWithFlushes}
-use Rattle.bt_peers.specs.Peers.{InTurn, InTurnWithFlushes, IsDialled, IsTried, IsTriedWithFlushes, Trial, TrialWithFlushes}
-use Rattle.bt_peers.specs.Peers.InTurn.{none_left, complete, tried}
-use Rattle.bt_peers.specs.Peers.InTurnWithFlushes.{none_left as no_more, complete as is_complete, tried as went, stopped}
-use Rattle.bt_peers.proofs.Unflushed.{unflushed_end, unflushed_turns}
+use Rattle.bt_session.specs.declared.peer_end.PeerEnd.{PeerEnd}
+use Rattle.bt_session.specs.declared.peer_end.PeerEnd.TheVariants.{Untried, Unreachable, Refused, Session}
+use Rattle.bt_session.specs.Peer.{EndsAs, EndsAsWithFlushes}
+use Rattle.bt_session.specs.Peers.{InTurn, InTurnWithFlushes, IsDialled, IsTried, IsTriedWithFlushes, Trial, TrialWithFlushes}
+use Rattle.bt_session.specs.Peers.InTurn.{none_left, complete, tried}
+use Rattle.bt_session.specs.Peers.InTurnWithFlushes.{none_left as no_more, complete as is_complete, tried as went, stopped}
+use Rattle.bt_session.proofs.Unflushed.{unflushed_end, unflushed_turns}
 use Rattle.bt_wire.specs.declared.message.Ask.{Ask}
 use Rattle.bt_sockets.specs.Link.{Dials, undialled}
 use Rattle.bt_sockets.specs.Listener.{IsServed}

@@ -14,11 +14,11 @@ use Rattle.bt_machine.specs.State.{EngineView}
 use Rattle.bt_machine.specs.View.{StepsTo}
 use Rattle.bt_session.specs.Session.{Session, begins, goes_on}
 use Rattle.bt_session.specs.declared.end.SessionEnd.{SessionEnd}
-use Rattle.bt_peers.specs.declared.end.PeerEnd.{PeerEnd}
-use Rattle.bt_peers.specs.declared.end.PeerEnd.TheVariants.{Untried, Unreachable, Refused, Session as HadSession}
-use Rattle.bt_peers.specs.Peer.{HasSessionWithFlushes, IsFlushedWhere, IsFlushedSession, behind, within, EndsAsWithFlushes}
-use Rattle.bt_peers.specs.Peers.{InTurnWithFlushes, IsTriedWithFlushes}
-use Rattle.bt_peers.specs.Peers.InTurnWithFlushes.{none_left, complete, tried, stopped}
+use Rattle.bt_session.specs.declared.peer_end.PeerEnd.{PeerEnd}
+use Rattle.bt_session.specs.declared.peer_end.PeerEnd.TheVariants.{Untried, Unreachable, Refused, Session as HadSession}
+use Rattle.bt_session.specs.Peer.{HasSessionWithFlushes, IsFlushedWhere, IsFlushedSession, behind, within, EndsAsWithFlushes}
+use Rattle.bt_session.specs.Peers.{InTurnWithFlushes, IsTriedWithFlushes}
+use Rattle.bt_session.specs.Peers.InTurnWithFlushes.{none_left, complete, tried, stopped}
 use Rattle.bt_files.specs.Store.{IsFlushFault, flush_fault}
 use Rattle.bt_files.proofs.Unlogged.{flush_fails}
 

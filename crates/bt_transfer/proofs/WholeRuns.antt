@@ -16,8 +16,8 @@ use Rattle.bt_machine.specs.State.{EngineState, EngineView}
 use Rattle.bt_machine.specs.Blocks.{is_complete}
 use Rattle.bt_machine.specs.Report.{all_complete}
 use Rattle.bt_machine.proofs.Lists.{and_true, contains_cases, contains_none, range_contains, some_below}
-use Rattle.bt_runs.specs.Leads.{LeadsTo, both}
-use Rattle.bt_runs.specs.WholeRuns.{HasWholeRun, WhatLeadsOnIsWhole}
+use Rattle.bt_engine.specs.Leads.{LeadsTo, both}
+use Rattle.bt_engine.specs.WholeRuns.{HasWholeRun, WhatLeadsOnIsWhole}
 use Rattle.bt_transfer.specs.Fetch.{EndsFetch, HasFetchedOverTcp}
 use Rattle.bt_files.specs.Report.{IsCalledComplete}
 use Rattle.bt_transfer.specs.Seed.{EndsSeed, HasListened}

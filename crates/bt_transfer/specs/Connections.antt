@@ -13,9 +13,9 @@ use Rattle.bt_machine.specs.declared.event.Event.TheVariants.{Flush}
 use Rattle.bt_machine.specs.declared.event.Answer.TheVariants.{Flushed}
 use Rattle.bt_machine.specs.State.{EngineView}
 use Rattle.bt_machine.specs.View.{StepsTo}
-use Rattle.bt_runs.specs.Leads.{LeadsTo}
-use Rattle.bt_peers.specs.End.{end_text}
-use Rattle.bt_peers.specs.declared.end.PeerEnd.{PeerEnd}
+use Rattle.bt_engine.specs.Leads.{LeadsTo}
+use Rattle.bt_session.specs.PeerEnd.{end_text}
+use Rattle.bt_session.specs.declared.peer_end.PeerEnd.{PeerEnd}
 use Rattle.bt_transfer.specs.OverTcp.{Meeting, MeetsOverTcp}
 
 -- One after the other is served.

@@ -14,10 +14,10 @@ use Rattle.bt_machine.specs.Opening.{BeginsOn}
 use Rattle.bt_machine.specs.State.{EngineView}
 use Rattle.bt_machine.specs.View.{StepsTo}
 use Rattle.bt_connection.specs.ShortBlocks.{short_blocks_of}
-use Rattle.bt_peers.specs.Peers.{InTurn, InTurnWithFlushes}
-use Rattle.bt_peers.specs.declared.end.PeerEnd.{PeerEnd}
+use Rattle.bt_session.specs.Peers.{InTurn, InTurnWithFlushes}
+use Rattle.bt_session.specs.declared.peer_end.PeerEnd.{PeerEnd}
 use Rattle.bt_wire.specs.declared.message.Ask.{Ask}
-use Rattle.bt_runs.specs.WholeRuns.{IsFileMarkedOnPath, HasWholeRun}
+use Rattle.bt_engine.specs.WholeRuns.{IsFileMarkedOnPath, HasWholeRun}
 use Rattle.bt_sockets.specs.Link.{Dials, undialled}
 use Rattle.bt_files.specs.DataFiles.{DeviceView}
 use Rattle.bt_files.specs.declared.file_use.FileUse.TheVariants.{Fetch}

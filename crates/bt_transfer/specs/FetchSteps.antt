@@ -7,8 +7,8 @@ use Rattle.bt_files.specs.OpenFolder.{IsCallFault}
 use Rattle.bt_files.specs.Store.{flush_fault}
 use Rattle.bt_machine.specs.declared.error.FlushError.{FlushError}
 use Rattle.bt_machine.specs.State.{EngineView}
-use Rattle.bt_peers.specs.declared.end.PeerEnd.{PeerEnd}
-use Rattle.bt_runs.specs.Leads.{LeadsTo}
+use Rattle.bt_session.specs.declared.peer_end.PeerEnd.{PeerEnd}
+use Rattle.bt_engine.specs.Leads.{LeadsTo}
 use Rattle.bt_transfer.specs.Fetch.{TriesAndSyncs, Turns}
 
 -- Peers were tried in turn, and a flush among them or behind them was refused, which is told as this fault.

@@ -2,8 +2,8 @@
 use Rattle.std.specs.Prelude.{⊤, ℕ, ◌^◌, List}
 use Rattle.bt_disk.specs.Conduct.{Conduct}
 use Rattle.bt_machine.specs.State.{EngineView}
-use Rattle.bt_peers.specs.Peers.{IsTried, IsTriedWithFlushes, Trial, TrialWithFlushes}
-use Rattle.bt_peers.specs.declared.end.PeerEnd.{PeerEnd}
+use Rattle.bt_session.specs.Peers.{IsTried, IsTriedWithFlushes, Trial, TrialWithFlushes}
+use Rattle.bt_session.specs.declared.peer_end.PeerEnd.{PeerEnd}
 use Rattle.bt_sockets.specs.Link.{Dials}
 use Rattle.bt_sockets.specs.Listener.{IsServed}
 

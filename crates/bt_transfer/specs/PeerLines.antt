@@ -3,9 +3,9 @@ use Rattle.std.specs.Prelude.{[], ℕ, ◌++◌, if◌then◌else◌, Bool, true
 use Rattle.std.specs.Fmt.{decimal}
 use Rattle.std.specs.List.{flat_map, zip}
 use Rattle.bt_check.specs.Display.{line_text}
-use Rattle.bt_peers.specs.End.{end_text}
-use Rattle.bt_peers.specs.declared.end.PeerEnd.{PeerEnd}
-use Rattle.bt_peers.specs.declared.end.PeerEnd.TheVariants.{Untried}
+use Rattle.bt_session.specs.PeerEnd.{end_text}
+use Rattle.bt_session.specs.declared.peer_end.PeerEnd.{PeerEnd}
+use Rattle.bt_session.specs.declared.peer_end.PeerEnd.TheVariants.{Untried}
 use Rattle.bt_words.specs.declared.peer.Peer.{Peer}
 
 abbrev pub is_tried : PeerEnd → Bool

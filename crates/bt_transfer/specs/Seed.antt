@@ -15,8 +15,8 @@ use Rattle.bt_machine.specs.Opening.{BeginsOn}
 use Rattle.bt_machine.specs.State.{EngineView}
 use Rattle.bt_machine.specs.View.{StepsTo}
 use Rattle.bt_meta.specs.Torrent.{Metainfo}
-use Rattle.bt_runs.specs.Leads.{LeadsTo}
-use Rattle.bt_runs.specs.WholeRuns.{HasWholeRun}
+use Rattle.bt_engine.specs.Leads.{LeadsTo}
+use Rattle.bt_engine.specs.WholeRuns.{HasWholeRun}
 use Rattle.bt_files.specs.DataFiles.{DeviceView}
 use Rattle.bt_files.specs.OpenFolder.{IsCallFault}
 use Rattle.bt_files.specs.Report.{engine_report}

@@ -3,7 +3,7 @@ ghost use Rattle.std.specs.Prelude.{[], ◌≡◌, ◌⊎◌, ◌++◌, ◌-◌,
 ghost use Rattle.std.specs.Io.KnownBytes.{Appends};
 ghost use Rattle.bt_check.specs.Fault.{device, out_of_memory};
 ghost use Rattle.bt_files.specs.Ending.{IsEndFault};
-ghost use Rattle.bt_runs.specs.Leads.{LeadsTo};
+ghost use Rattle.bt_engine.specs.Leads.{LeadsTo};
 ghost use Rattle.bt_transfer.specs.Connections.{FailsToServe, HasServed, MeetsAndSyncs, served_line};
 ghost use Rattle.bt_transfer.specs.OverTcp.{MeetsOverTcp};
 
@@ -12,7 +12,7 @@ use bt_check::{Fault, print};
 use bt_disk::Disk;
 use bt_engine::Engine;
 use bt_files::finish;
-use bt_peers::{PeerEnd, end_text};
+use bt_session::{PeerEnd, end_text};
 use bt_sockets::{IDLE_SECONDS, serve};
 use bt_tree::NodeHash;
 use std::alloc::{AllocError, Global};

@@ -1,8 +1,8 @@
 //! What the devices of a store share with its connections.
 ghost use Rattle.std.specs.Prelude.{◌≡◌};
 
+use bt_devices::Seal;
 use bt_files::{DeviceContext, FileUse};
-use bt_folder::Seal;
 use bt_sockets::Shared;
 
 /// What connections and devices share, as the devices have it, whose files are opened for a use. The log has a seal of

@@ -5,7 +5,7 @@ ghost use Rattle.bt_check.specs.Fault.{device, out_of_memory};
 ghost use Rattle.bt_transfer.specs.PeerLines.{is_tried, peer_line, peer_lines, peer_text};
 
 use bt_check::{Fault, print};
-use bt_peers::{PeerEnd, end_text};
+use bt_session::{PeerEnd, end_text};
 use bt_words::Peer;
 use std::alloc::{AllocError, Global};
 use std::io::Write;

@@ -31,17 +31,17 @@ pub use Rattle.bt_engine.specs.Run
 pub use Rattle.bt_engine.specs.Standing
 -- a log, and an engine that begins with it
 pub use Rattle.bt_resume.specs.ResumeLog
-pub use Rattle.bt_runs.specs.Reopening
+pub use Rattle.bt_engine.specs.Reopening
 -- lists of events, and the messages that they send
-pub use Rattle.bt_runs.specs.Flushes
-pub use Rattle.bt_runs.specs.Leads
-pub use Rattle.bt_runs.specs.Promises
-pub use Rattle.bt_runs.specs.WholeRuns
+pub use Rattle.bt_engine.specs.Flushes
+pub use Rattle.bt_engine.specs.Leads
+pub use Rattle.bt_engine.specs.Promises
+pub use Rattle.bt_engine.specs.WholeRuns
 pub use Rattle.bt_wire.specs.Message
 -- sessions and peers
 pub use Rattle.bt_session.specs.Ends
 pub use Rattle.bt_session.specs.Progress
-pub use Rattle.bt_peers.specs.End
-pub use Rattle.bt_peers.specs.Link
-pub use Rattle.bt_peers.specs.Peer
-pub use Rattle.bt_peers.specs.Peers
+pub use Rattle.bt_session.specs.PeerEnd
+pub use Rattle.bt_session.specs.Link
+pub use Rattle.bt_session.specs.Peer
+pub use Rattle.bt_session.specs.Peers

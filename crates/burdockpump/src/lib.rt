@@ -25,25 +25,26 @@ pub use bt_engine::{
 };
 
 // A log, with which an engine begins where another one was stopped.
+pub use bt_engine::{ReopenError, ReopenRefused, reopen};
 pub use bt_resume::{LogError, ResumeLog};
-pub use bt_runs::{ReopenError, ReopenRefused, reopen};
 
 // A session with one peer, over any reader and writer.
 pub use bt_engine::{ConnectError, Why};
 pub use bt_session::{SessionEnd, run_session, run_session_with_flushes};
 
 // Peers that are dialled, one after the other.
-pub use bt_peers::{
+pub use bt_session::{
     Link, PeerEnd, end_text, meet_peer, meet_peer_with_flushes, run_peers, run_peers_with_flushes,
 };
 
 // Several peers at a time: the caller gives the engine each event, and sends what it answers.
 pub use bt_book::BlockId;
-pub use bt_engine::{Answer, EngineError, Event, Frame, Note, Output, PeerKey, run_events};
-pub use bt_runs::run_as_promised;
+pub use bt_engine::{
+    Answer, EngineError, Event, Frame, Note, Output, PeerKey, run_as_promised, run_events,
+};
 pub use bt_wire::{Bytes, Handshake, Message, fits, write_handshake, write_message};
 
 // Laws, for proofs: functions that do nothing, whose contracts say what is promised of all runs.
+pub use bt_engine::{flushed_blocks_stay, what_leads_on_stands, whole_runs_keep_promises};
 pub use bt_machine::events_send_what_fits;
-pub use bt_runs::{flushed_blocks_stay, what_leads_on_stands, whole_runs_keep_promises};
 pub use bt_session::sessions_are_runs;

@@ -1,4 +1,4 @@
-use Rattle.bt_state.proofs.Lists.{get_read}
+use Rattle.bt_engine_state.proofs.Lists.{get_read}
 use Rattle.bt_engine.proofs.Handled.{lost_at}
 use Rattle.bt_engine.proofs.event.drop_peer.Goals as goal
 

@@ -1,7 +1,7 @@
 use Rattle.std.proofs.Common.{[], None, refl}
 use Rattle.bt_machine.proofs.Pairs.{contains_some}
-use Rattle.bt_state.specs.Parts.{state_of, peer_of}
-use Rattle.bt_state.proofs.Lists.{get_mapped}
+use Rattle.bt_engine_state.specs.Parts.{state_of, peer_of}
+use Rattle.bt_engine_state.proofs.Lists.{get_mapped}
 use Rattle.bt_engine.specs.declared.event.Handled.TheVariants.{Closed, Stays}
 use Rattle.bt_engine.specs.declared.event.Reply.TheVariants.{Nothing}
 use Rattle.bt_engine.proofs.Handled.{handled_by, no_calls}

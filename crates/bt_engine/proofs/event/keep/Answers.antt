@@ -7,11 +7,11 @@ use Rattle.bt_machine.specs.FollowUp.{FollowsUp}
 use Rattle.bt_machine.specs.Output.{Sent, haves}
 use Rattle.bt_machine.specs.State.{PeerState, EngineState, Hint}
 use Rattle.bt_machine.proofs.Lists.{some_is}
-use Rattle.bt_state.specs.Parts.{state_of, peer_of}
-use Rattle.bt_state.specs.Ties.{IsTied}
-use Rattle.bt_state.proofs.Lists.{get_read, get_mapped}
-use Rattle.bt_state.proofs.Ties.{tied_logged}
-use Rattle.bt_state.specs.declared.parts.Parts.{Parts}
+use Rattle.bt_engine_state.specs.Parts.{state_of, peer_of}
+use Rattle.bt_engine_state.specs.Ties.{IsTied}
+use Rattle.bt_engine_state.proofs.Lists.{get_read, get_mapped}
+use Rattle.bt_engine_state.proofs.Ties.{tied_logged}
+use Rattle.bt_engine_state.specs.declared.parts.Parts.{Parts}
 use Rattle.bt_engine.specs.EventSteps.{sent_by, notes_in}
 use Rattle.bt_engine.specs.NewsSteps.{TellMarks}
 use Rattle.bt_engine.specs.PendingSteps.{marks_in, with_hints, AreInside}

@@ -5,8 +5,8 @@ use Rattle.bt_machine.specs.Orderly.{IsOrderly}
 use Rattle.bt_machine.specs.Output.{Output}
 use Rattle.bt_machine.specs.Shape.{IsShaped}
 use Rattle.bt_machine.specs.State.{EngineState}
-use Rattle.bt_state.specs.Parts.{state_of, disks_of}
-use Rattle.bt_state.specs.declared.parts.Parts.{Parts}
+use Rattle.bt_engine_state.specs.Parts.{state_of, disks_of}
+use Rattle.bt_engine_state.specs.declared.parts.Parts.{Parts}
 use Rattle.bt_engine.specs.EventSteps.{GoesOn}
 use Rattle.bt_engine.proofs.event.take_event.Goals as goal
 

@@ -1,6 +1,6 @@
 use Rattle.std.proofs.Common.{List, Option, sym, subst, arith}
 use Rattle.bt_machine.specs.Devices.{HaveCalls}
-use Rattle.bt_state.specs.Parts.{state_of, disks_of}
+use Rattle.bt_engine_state.specs.Parts.{state_of, disks_of}
 use Rattle.bt_engine.proofs.Events.{shaped_then, there_then, as_many, told_then, stays_on, closes_on}
 use Rattle.bt_engine.proofs.event.take_in_room.Goals as goal
 

@@ -1,7 +1,7 @@
 use Rattle.std.proofs.Common.{Ok, sym, subst}
 use Rattle.bt_machine.specs.Output.{Output}
 use Rattle.bt_machine.specs.Peers.{StepConnect}
-use Rattle.bt_state.specs.Parts.{state_of}
+use Rattle.bt_engine_state.specs.Parts.{state_of}
 use Rattle.bt_engine.proofs.greeting.connect.Goals as goal
 
 pub returns-in-Ok-connect-clause-step : goal.returns-in-Ok-connect-clause-step

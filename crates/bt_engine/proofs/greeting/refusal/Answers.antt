@@ -1,8 +1,8 @@
 use Rattle.std.proofs.Common.{◌≡◌, List, length, refl, sym, ap, ◌∙◌, arith}
 use Rattle.std.proofs.lemmas.List.{length-map}
 use Rattle.bt_machine.specs.Peers.{full}
-use Rattle.bt_state.specs.Parts.{state_of, peer_of}
-use Rattle.bt_state.specs.declared.peer.Peer.{Peer}
+use Rattle.bt_engine_state.specs.Parts.{state_of, peer_of}
+use Rattle.bt_engine_state.specs.declared.peer.Peer.{Peer}
 use Rattle.bt_engine.proofs.greeting.refusal.Goals as goal
 
 pub returns-then-as_slice-ge-MAX_PEERS : goal.returns-then-as_slice-ge-MAX_PEERS

@@ -4,9 +4,9 @@ use Rattle.std.proofs.lemmas.List.{append-nil, map_more, take_all}
 use Rattle.bt_machine.specs.Output.{Sent, sent_to}
 use Rattle.bt_machine.specs.Blocks.{is_whole}
 use Rattle.bt_wire.specs.declared.message.Message.TheVariants.{Have}
-use Rattle.bt_state.specs.Parts.{state_of}
-use Rattle.bt_state.specs.declared.peer.Peer.{Peer}
-use Rattle.bt_state.proofs.Lists.{get_at}
+use Rattle.bt_engine_state.specs.Parts.{state_of}
+use Rattle.bt_engine_state.specs.declared.peer.Peer.{Peer}
+use Rattle.bt_engine_state.proofs.Lists.{get_at}
 use Rattle.bt_engine.proofs.Announcements.{have_to, haves_alike, whole_is}
 use Rattle.bt_engine.proofs.news.announce_piece.Goals as goal
 

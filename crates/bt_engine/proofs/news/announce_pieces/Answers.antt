@@ -9,7 +9,7 @@ use Rattle.bt_machine.specs.declared.answer.Note.{Note}
 use Rattle.bt_machine.specs.declared.answer.Note.TheVariants.{Marked}
 use Rattle.bt_machine.specs.Blocks.{is_whole}
 use Rattle.bt_machine.specs.Output.{sent_to}
-use Rattle.bt_state.specs.Parts.{state_of}
+use Rattle.bt_engine_state.specs.Parts.{state_of}
 use Rattle.bt_machine.proofs.Pairs.{contains_at}
 use Rattle.bt_engine.specs.NewsSteps.{marked_piece, unless_last}
 use Rattle.bt_engine.proofs.NewWholes.{has_block, piece_inside, whole_news}

@@ -2,7 +2,7 @@ use Rattle.std.proofs.Common.{◌≡◌, ◌+◌, ◌*◌, ◌≤◌, ◌++◌, 
 use Rattle.bt_wire.specs.declared.message.Message.TheVariants.{Have}
 use Rattle.bt_machine.specs.Blocks.{is_whole}
 use Rattle.bt_machine.specs.Output.{sent_to}
-use Rattle.bt_state.specs.Parts.{state_of}
+use Rattle.bt_engine_state.specs.Parts.{state_of}
 use Rattle.bt_engine.specs.NewsSteps.{marked_piece}
 use Rattle.bt_engine.proofs.NewWholes.{numbers_after}
 use Rattle.bt_engine.proofs.Announcements.{told}

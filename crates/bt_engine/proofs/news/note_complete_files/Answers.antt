@@ -2,7 +2,7 @@ use Rattle.std.proofs.Common.{[], ◌∷◌, ◌++◌, ◌<◌, ◌≤◌, List,
 use Rattle.bt_machine.specs.declared.answer.Note.{Note}
 use Rattle.bt_machine.specs.declared.answer.Note.TheVariants.{Complete}
 use Rattle.bt_machine.specs.Blocks.{is_complete}
-use Rattle.bt_state.specs.Parts.{state_of}
+use Rattle.bt_engine_state.specs.Parts.{state_of}
 use Rattle.std.proofs.lemmas.List.{append-nil}
 use Rattle.bt_engine.specs.NewsSteps.{marked_file, unless_last, notes_if_complete}
 use Rattle.bt_engine.proofs.NewWholes.{complete_news}

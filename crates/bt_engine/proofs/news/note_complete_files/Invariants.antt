@@ -1,7 +1,7 @@
 use Rattle.std.proofs.Common.{[], ◌∷◌, ◌≡◌, ◌+◌, ◌≤◌, ◌++◌, drop, None, vec_len, vec_capacity}
 use Rattle.bt_machine.specs.declared.answer.Note.TheVariants.{Complete}
 use Rattle.bt_machine.specs.Blocks.{is_complete}
-use Rattle.bt_state.specs.Parts.{state_of}
+use Rattle.bt_engine_state.specs.Parts.{state_of}
 use Rattle.bt_engine.specs.NewsSteps.{marked_file}
 use Rattle.bt_engine.proofs.NewWholes.{numbers_after}
 use Rattle.bt_engine.proofs.Announcements.{told, Begins}

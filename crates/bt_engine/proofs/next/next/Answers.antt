@@ -1,13 +1,13 @@
 use Rattle.std.proofs.Common.{[], List, Option, option_map, refl, sym, ap, ◌∙◌, subst}
 use Rattle.bt_machine.specs.Devices.{HaveCalls}
 use Rattle.bt_machine.specs.Next.{no_peer, without_peer}
-use Rattle.bt_state.specs.declared.open_log.OpenLog.{OpenLog}
+use Rattle.bt_engine_state.specs.declared.open_log.OpenLog.{OpenLog}
 use Rattle.bt_machine.specs.Orderly.{IsOrderly}
 use Rattle.bt_machine.specs.State.{EngineState}
 use Rattle.bt_machine.proofs.Orderly.{stream_order}
-use Rattle.bt_follow_up.proofs.FollowUps.{shaped_again}
-use Rattle.bt_state.specs.Parts.{state_of, disks_of}
-use Rattle.bt_state.proofs.Ties.{no_peer_of, peer_at}
+use Rattle.bt_engine_after.proofs.FollowUps.{shaped_again}
+use Rattle.bt_engine_state.specs.Parts.{state_of, disks_of}
+use Rattle.bt_engine_state.proofs.Ties.{no_peer_of, peer_at}
 use Rattle.bt_engine.proofs.Events.{waits_so, goes_so, drops_event, drops_unread, has_not_failed, faulty_so}
 use Rattle.bt_engine.proofs.Handled.{no_calls}
 use Rattle.bt_engine.proofs.next.next.Goals as goal

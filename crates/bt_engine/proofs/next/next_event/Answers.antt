@@ -1,7 +1,7 @@
 use Rattle.std.proofs.Common.{refl}
-use Rattle.bt_state.specs.Parts.{peer_of}
-use Rattle.bt_state.proofs.Lists.{get_mapped, get_read}
-use Rattle.bt_state.proofs.Ties.{tied_set, state_set}
+use Rattle.bt_engine_state.specs.Parts.{peer_of}
+use Rattle.bt_engine_state.proofs.Lists.{get_mapped, get_read}
+use Rattle.bt_engine_state.proofs.Ties.{tied_set, state_set}
 use Rattle.bt_engine.proofs.Handled.{if_ok, if_err}
 use Rattle.bt_engine.proofs.next.next_event.Goals as goal
 

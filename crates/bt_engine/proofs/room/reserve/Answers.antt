@@ -1,8 +1,8 @@
 use Rattle.std.proofs.Common.{◌+◌, ◌*◌, List, length, sym, ap, ◌∙◌, subst, arith}
 use Rattle.bt_book.specs.Book.{max_askers}
-use Rattle.bt_follow_up.specs.AfterEvent.{max_frames}
-use Rattle.bt_state.specs.declared.peer.Peer.{Peer}
-use Rattle.bt_state.specs.declared.parts.Parts.{Parts}
+use Rattle.bt_engine_after.specs.AfterEvent.{max_frames}
+use Rattle.bt_engine_state.specs.declared.peer.Peer.{Peer}
+use Rattle.bt_engine_state.specs.declared.parts.Parts.{Parts}
 use Rattle.bt_engine.specs.RoomSteps.{IsNoteBound, HasRoom}
 use Rattle.bt_engine.specs.declared.room.Room.{Room}
 use Rattle.bt_engine.proofs.Handled.{bound_logged}

@@ -3,7 +3,7 @@ use Rattle.std.proofs.lemmas.List.{length-map}
 use Rattle.bt_meta.specs.Files.{file_of}
 use Rattle.bt_meta.specs.Torrent.{Metainfo}
 use Rattle.bt_machine.specs.declared.event.Event.TheVariants.{Adopt}
-use Rattle.bt_runs.specs.Leads.{LeadsTo, none, one, both}
+use Rattle.bt_engine.specs.Leads.{LeadsTo, none, one, both}
 use Rattle.bt_files.proofs.Adoptions.{IsTaking, keeps_torrent, taken_all, taking_more, taking_none, taking_passed}
 use Rattle.bt_files.proofs.adoption.adopt_files.Goals.{then-is_filled+in_ok-adopt_file, else-is_filled}
 use Rattle.bt_files.proofs.adoption.adopt_files.Goals as goal

@@ -1,6 +1,6 @@
 -- The files so far were seen to, by events.
 use Rattle.std.proofs.Common.{◌≡◌, length}
-use Rattle.bt_runs.specs.Leads.{LeadsTo}
+use Rattle.bt_engine.specs.Leads.{LeadsTo}
 use Rattle.bt_files.proofs.Adoptions.{IsTaking}
 use Rattle.bt_files.proofs.adoption.adopt_files.Given as goal
 

@@ -1,6 +1,6 @@
 use Rattle.std.proofs.Common.{refl}
 use Rattle.sha2.specs.Sha256.{sha256}
-use Rattle.bt_runs.specs.Leads.{none}
+use Rattle.bt_engine.specs.Leads.{none}
 use Rattle.bt_files.proofs.Adoptions.{takes_none}
 use Rattle.bt_files.proofs.Starting.{started}
 use Rattle.bt_files.proofs.store.begin_with_log.Goals as goal

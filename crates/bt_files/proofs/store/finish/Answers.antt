@@ -1,6 +1,6 @@
 use Rattle.std.proofs.Common.{sym, subst}
 use Rattle.bt_machine.specs.declared.event.Event.TheVariants.{Flush}
-use Rattle.bt_runs.specs.Leads.{one}
+use Rattle.bt_engine.specs.Leads.{one}
 use Rattle.bt_files.specs.Store.{IsFlushFault}
 use Rattle.bt_files.proofs.Unlogged.{flush_fails, same_but_pending}
 use Rattle.bt_files.proofs.store.finish.Goals as goal

@@ -3,7 +3,7 @@ use Rattle.std.proofs.lemmas.List.{length-map}
 use Rattle.bt_meta.specs.Files.{file_of}
 use Rattle.bt_meta.specs.Torrent.{Metainfo}
 use Rattle.bt_machine.specs.declared.event.Event.TheVariants.{Adopt}
-use Rattle.bt_runs.specs.Leads.{LeadsTo, none, one, both}
+use Rattle.bt_engine.specs.Leads.{LeadsTo, none, one, both}
 use Rattle.bt_files.proofs.Waits.{IsSeeing, seeing_none, seeing_passed, seeing_taken, seeing_torrent}
 use Rattle.bt_files.proofs.waiting.adopt_waiting.Goals.{then-is_whole_waiting+in_ok-adopt_file, else-is_whole_waiting}
 use Rattle.bt_files.proofs.waiting.adopt_waiting.Goals as goal

@@ -1,6 +1,6 @@
 -- The files so far were seen to, by events.
 use Rattle.std.proofs.Common.{◌≡◌, length}
-use Rattle.bt_runs.specs.Leads.{LeadsTo}
+use Rattle.bt_engine.specs.Leads.{LeadsTo}
 use Rattle.bt_files.proofs.Waits.{IsSeeing}
 use Rattle.bt_files.proofs.waiting.adopt_waiting.Given as goal
 

@@ -1,7 +1,7 @@
 use Rattle.std.proofs.Common.{◌≡◌, Option, Result, Ok, Err, IfOk, IfSome, sym, subst}
 use Rattle.std.specs.Result.{result_ok}
 use Rattle.bt_sockets.specs.Stream.{AreNewWays, AreNew}
-use Rattle.bt_runs.specs.Leads.{none}
+use Rattle.bt_engine.specs.Leads.{none}
 use Rattle.bt_sockets.proofs.listener.serve.Goals as goal
 
 -- what holds of the value, at something, holds of the one that is there

@@ -1,6 +1,6 @@
 use Rattle.std.proofs.Common.{inl, ap, ◌∙◌}
 use Rattle.bt_machine.specs.State.{EngineState}
-use Rattle.bt_runs.specs.Leads.{both}
+use Rattle.bt_engine.specs.Leads.{both}
 use Rattle.bt_files.specs.Ending.{IsEndFault}
 use Rattle.bt_files.proofs.Faults.{call_ends, passed_on}
 use Rattle.bt_files.proofs.Unlogged.{flush_fault_before}

@@ -1,5 +1,5 @@
 use Rattle.std.proofs.Common.{◌+◌, refl, arith}
-use Rattle.bt_runs.specs.Leads.{none, both}
+use Rattle.bt_engine.specs.Leads.{none, both}
 use Rattle.bt_transfer.specs.OverTcp.{MeetsOverTcp}
 use Rattle.bt_transfer.proofs.ConnectionLines.{served_more, served_none}
 use Rattle.bt_transfer.proofs.connections.serve_count.Goals as goal

@@ -1,5 +1,5 @@
 use Rattle.std.proofs.Common.{refl}
-use Rattle.bt_runs.specs.Leads.{none, both}
+use Rattle.bt_engine.specs.Leads.{none, both}
 use Rattle.bt_transfer.specs.Connections.{MeetsAndSyncs}
 use Rattle.bt_transfer.proofs.FailedServing.{fails_later}
 use Rattle.bt_transfer.proofs.ConnectionLines.{served_more, served_none}

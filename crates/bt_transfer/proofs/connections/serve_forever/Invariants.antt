@@ -1,6 +1,6 @@
 -- So many connections were served, by events, with a line for each, and no peer is connected.
 use Rattle.std.proofs.Common.{[], ◌≡◌}
-use Rattle.bt_runs.specs.Leads.{LeadsTo}
+use Rattle.bt_engine.specs.Leads.{LeadsTo}
 use Rattle.bt_transfer.specs.Connections.{HasServed, MeetsAndSyncs}
 use Rattle.bt_transfer.proofs.connections.serve_forever.Given as goal
 

@@ -1,7 +1,7 @@
 use Rattle.std.proofs.Common.{Option, option_map, refl, ap}
 use Rattle.bt_machine.specs.declared.event.Event.TheVariants.{Feed}
 use Rattle.bt_machine.specs.declared.event.Answer.TheVariants.{Fed}
-use Rattle.bt_state.specs.declared.open_log.OpenLog.{OpenLog}
+use Rattle.bt_engine_state.specs.declared.open_log.OpenLog.{OpenLog}
 use Rattle.bt_engine.specs.Kept.{view_of}
 use Rattle.bt_engine.proofs.Keeping.{steps_without, kept_after}
 use Rattle.bt_engine.proofs.engine.Engine.feed.Goals as goal

@@ -1,5 +1,5 @@
 use Rattle.std.proofs.Common.{ap}
-use Rattle.bt_start.specs.Starting.{answer_of}
+use Rattle.bt_engine_start.specs.Starting.{answer_of}
 use Rattle.bt_engine.specs.Kept.{view_of}
 use Rattle.bt_engine.proofs.Reopenings.{reopened}
 use Rattle.bt_engine.proofs.engine.Engine.start.Goals as goal

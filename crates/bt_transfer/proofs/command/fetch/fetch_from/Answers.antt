@@ -1,6 +1,6 @@
 use Rattle.std.proofs.Common.{ap, ◌∙◌}
 use Rattle.bt_connection.specs.ShortBlocks.{short_blocks_of}
-use Rattle.bt_runs.specs.Leads.{none}
+use Rattle.bt_engine.specs.Leads.{none}
 use Rattle.bt_transfer.specs.Fetch.{links_of}
 use Rattle.bt_transfer.proofs.OverTcp.{fetched_over_tcp, links_undialled}
 use Rattle.bt_transfer.proofs.command.fetch.fetch_from.Goals as goal

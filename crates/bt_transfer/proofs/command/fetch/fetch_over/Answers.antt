@@ -1,8 +1,8 @@
 use Rattle.std.proofs.Common.{List, inl, refl, subst, ◌∙◌}
 use Rattle.std.proofs.lemmas.List.{with_items_is}
 use Rattle.std.specs.Io.KnownBytes.{Appends}
-use Rattle.bt_peers.specs.declared.end.PeerEnd.{PeerEnd}
-use Rattle.bt_runs.specs.Leads.{none, both}
+use Rattle.bt_session.specs.declared.peer_end.PeerEnd.{PeerEnd}
+use Rattle.bt_engine.specs.Leads.{none, both}
 use Rattle.bt_files.specs.Ending.{IsEndFault}
 use Rattle.bt_files.proofs.Adoptions.{adoption_fault}
 use Rattle.bt_files.proofs.Faults.{call_ends, err_weaker, ok_weaker, passed_on}

@@ -1,7 +1,7 @@
 use Rattle.std.proofs.Common.{sym, ap, subst, ◌∙◌}
 use Rattle.bt_machine.specs.State.{EngineState}
-use Rattle.bt_peers.specs.Peers.{InTurnWithFlushes, IsTriedWithFlushes}
-use Rattle.bt_runs.specs.Leads.{both}
+use Rattle.bt_session.specs.Peers.{InTurnWithFlushes, IsTriedWithFlushes}
+use Rattle.bt_engine.specs.Leads.{both}
 use Rattle.bt_files.specs.Store.{IsFlushFault}
 use Rattle.bt_files.proofs.Faults.{err_weaker}
 use Rattle.bt_files.proofs.Unlogged.{flush_fault_before}

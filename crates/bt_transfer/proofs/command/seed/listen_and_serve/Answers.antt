@@ -1,5 +1,5 @@
 use Rattle.std.proofs.Common.{inl, inr, refl}
-use Rattle.bt_runs.specs.Leads.{none}
+use Rattle.bt_engine.specs.Leads.{none}
 use Rattle.bt_files.specs.Ending.{IsEndFault}
 use Rattle.bt_files.proofs.Faults.{call_ends, err_weaker, passed_on}
 use Rattle.bt_transfer.proofs.Listening.{listened}

@@ -1,5 +1,5 @@
 use Rattle.std.proofs.Common.{inl, rules}
-use Rattle.bt_runs.specs.Leads.{both}
+use Rattle.bt_engine.specs.Leads.{both}
 use Rattle.bt_files.specs.Ending.{IsEndFault}
 use Rattle.bt_files.proofs.Faults.{call_ends, err_weaker, passed_on}
 use Rattle.bt_files.proofs.Unlogged.{flush_fault_before}

@@ -1,5 +1,0 @@
-use Rattle.std.proofs.Common.{rules}
-use Rattle.bt_ahead.proofs.hash.look_up.Goals as goal
-
-pub returns : goal.returns
-returns c = search rules

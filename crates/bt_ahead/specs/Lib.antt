@@ -1,3 +1,0 @@
-pub mod Cache
-pub mod CacheSteps
-pub mod Disk

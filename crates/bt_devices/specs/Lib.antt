@@ -1,0 +1,4 @@
+pub mod Cache
+pub mod CacheSteps
+pub mod Disk
+pub mod SealedDisk

@@ -1,0 +1,25 @@
+use Rattle.std.proofs.Common.{inl, inr}
+use Rattle.bt_engine_state.proofs.Lists.{get_read}
+use Rattle.bt_engine_after.proofs.OpenBlocks.{shut_asks, asks}
+use Rattle.bt_engine_after.proofs.asking.ask_blocks.Goals as goal
+use Rattle.bt_engine_after.proofs.asking.ask_blocks.Goals.{then-peer-via-then-peer, then-peer-via-else-peer+then-not-peer}
+
+pub returns-then-peer-clause-asked : goal.returns-then-peer-clause-asked
+returns-then-peer-clause-asked g c =
+    let old = c.args.parts.now in
+    let p = c.index-peer.result.now in
+    let here = get_read old.peers.items c.args.index p c.requires.there c.index-peer.ensures in
+    elim c.then-peer.branch [
+      | then-peer-via-then-peer w ↦ rw (w.parts-is, c.new.ensures) (shut_asks old c.args.index p c.requires.tied c.keeps_laws.ensures here (inl w.if-peer.true))
+      | then-peer-via-else-peer+then-not-peer w ↦ rw (w.parts-is, c.new.ensures) (shut_asks old c.args.index p c.requires.tied c.keeps_laws.ensures here (inr w.if-not-peer.true))
+    ]
+
+pub returns-clause-asked : goal.returns-clause-asked
+returns-clause-asked g c =
+    let old = c.args.parts.now in
+    let p = c.index-peer.result.now in
+    let here = get_read old.peers.items c.args.index p c.requires.there c.index-peer.ensures in
+    let e = c.ask_all-blocks.ensures in
+    asks old c.args.index p c.requires.tied c.keeps_laws.ensures here c.requires.shaped c.if-peer.false c.if-not-peer.false
+    (λ b r inside h. h.1) c.ask_all-blocks.result.items c.ask_all-blocks.new.self e.asked e.others e.can e.distinct e.held
+    (c.keeps_laws-2.ensures.short p.key) e.all

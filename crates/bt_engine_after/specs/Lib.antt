@@ -1,0 +1,9 @@
+pub mod AfterEvent
+pub mod HeldSteps
+pub mod KnownPiecesSteps
+pub mod SendingSteps
+pub mod InterestSteps
+pub mod HashRequestsSteps
+pub mod AskingSteps
+pub mod DevicesSteps
+pub mod ServingSteps

@@ -1,0 +1,17 @@
+pub mod Peer
+pub mod Message
+pub mod HashRequestSteps
+pub mod SettlingSteps
+pub mod NoteRooms
+pub mod RunSteps
+pub mod HintSteps
+pub mod LearningSteps
+pub mod Hashes
+pub mod HashesSteps
+pub mod SlotSteps
+pub mod SpansSteps
+pub mod ServingSteps
+pub mod Piece
+pub mod PieceSteps
+pub mod Request
+pub mod RequestSteps

@@ -1,0 +1,131 @@
+//! Hashes that come (BEP 52): the tree of their root learns them, the blocks that waited for them are read
+//! back, and the request book and the counts follow.
+ghost use Rattle.std.specs.Prelude.{◌≡◌, ◌+◌, ◌*◌, ◌<◌, ◌≤◌, ℕ, IfOk, IfErr, IfSome, length, map, vec_len};
+ghost use Rattle.bt_meta.specs.Limits.{max_file_count};
+ghost use Rattle.bt_book.specs.Book.{asked_of, peers_of};
+ghost use Rattle.bt_book.specs.declared.names.PeerKey.{PeerKey};
+ghost use Rattle.bt_sparse.specs.Answer.{max_run_length};
+ghost use Rattle.bt_resume.specs.Hint.{CanBeRead};
+ghost use Rattle.bt_machine.specs.Shape.{IsShaped};
+ghost use Rattle.bt_machine.specs.State.{EngineState};
+ghost use Rattle.bt_engine_state.specs.BlockChange.{AreFollowed};
+ghost use Rattle.bt_engine_state.specs.Parts.{state_of};
+ghost use Rattle.bt_engine_state.specs.Ties.{IsTied};
+ghost use Rattle.bt_engine_messages.specs.NoteRooms.{note_count};
+ghost use Rattle.bt_engine_messages.specs.Hashes.{TakesHashes, IsNoteRoom, hint_in};
+ghost use Rattle.bt_engine_messages.specs.HashesSteps.{IsNoteOf, HasNoted, IsBehind};
+
+use crate::hints::hint_for;
+use crate::learning::{Learnt, learn_hashes, settled_count};
+use crate::message::resolved_hash_state;
+use crate::runs::room_for;
+use bt_disk::Disk;
+use bt_engine_state::{Parts, follow_block};
+use bt_hashreq::HashKey;
+use bt_machine::{HashState, Note};
+use bt_sparse::MAX_RUN_LENGTH;
+use bt_store::BlockState;
+use bt_tree::NodeHash;
+use std::alloc::{AllocError, Global};
+
+/// Takes hashes that come from the peer at `index`: the tree of their root learns them, and then the blocks
+/// of their run that waited are read back in every file of the root. Where the peer is asked for these
+/// hashes, it may be asked for others. With a log, the hint that it is to keep of them is given, which can be
+/// read back. Errors: out of memory, and nothing changes then.
+pub fn take_hashes<D: Disk + Drop, H: NodeHash>(
+    alloc: Global,
+    parts: &mut Parts<D, H>,
+    index: usize,
+    key: &HashKey,
+    digests: &[u8],
+) -> Result<Learnt, AllocError>
+    requires tied { IsTied parts.old }
+    requires shaped { IsShaped parts.old.torrent (state_of parts.old) }
+    requires inside { index < vec_len parts.old.peers }
+    requires there { index < length parts.old.peers.items }
+    ensures takes { IfOk result (λ learnt. TakesHashes D.conduct H.digest
+        parts.old index key.now digests.now learnt parts.new) }
+    ensures readable { IfOk result (λ learnt. IfSome (hint_in learnt) CanBeRead) }
+    ensures few { IfOk result (λ learnt.
+        (room : ℕ) → IsNoteRoom parts.old key.now room → note_count learnt ≤ room) }
+    ensures peers { map (λ p. p.key) parts.new.peers.items ≡ map (λ p. p.key) parts.old.peers.items }
+    ensures len { vec_len parts.new.peers ≡ vec_len parts.old.peers }
+    ensures torrent { parts.new.torrent ≡ parts.old.torrent }
+    ensures log { parts.new.log ≡ parts.old.log }
+    ensures tied { IsTied parts.new }
+    ensures kept { IfErr result (λ _. parts.new ≡ parts.old) }
+{
+    // A clause of this call says how many files there are at most.
+    let _ = parts.torrent.files();
+    let hint = hint_for(alloc, &parts.log, key, digests)?;
+    let waits = parts.counts.waiting > 0;
+    match learn_hashes(
+        alloc,
+        &mut parts.slots,
+        &mut parts.trees,
+        &parts.roots,
+        key,
+        digests,
+        hint,
+        waits,
+    )? {
+        Learnt::Refused(why) => Ok(Learnt::Refused(why)),
+        Learnt::Settled(notes, kept) => {
+            let peer = &mut parts.peers[index];
+            peer.hash = resolved_hash_state(peer.hash, *key, HashState::Idle);
+            follow_notes(parts, &notes);
+            Ok(Learnt::Settled(notes, kept))
+        }
+    }
+}
+
+/// How many notes hashes of this key come to at most.
+pub fn room_for_notes<D: Disk + Drop, H: NodeHash>(parts: &Parts<D, H>, key: &HashKey) -> usize
+    requires tied { IsTied parts.now }
+    requires shaped { IsShaped parts.now.torrent (state_of parts.now) }
+    ensures room { IsNoteRoom parts.now key.now result }
+    ensures small { result ≤ (max_run_length + 1) * max_file_count }
+{
+    // A clause of this call says how many files there are at most.
+    let _ = parts.torrent.files();
+    match parts.roots.tree_of(&key.root) {
+        Some(index) => room_for(
+            &parts.slots,
+            &parts.roots,
+            index as usize,
+            settled_count(key).min(MAX_RUN_LENGTH),
+            parts.counts.waiting > 0,
+        ),
+        None => 0,
+    }
+}
+
+/// Brings the request book and the counts in line with the blocks that these notes name.
+fn follow_notes<D: Disk + Drop, H: NodeHash>(parts: &mut Parts<D, H>, notes: &[Note])
+    requires { IsBehind parts.old.book.wanted parts.old.counts notes.now (state_of parts.old) }
+    ensures followed { AreFollowed (state_of parts.old) parts.new.book.wanted parts.new.counts }
+    ensures asked { (key : PeerKey) → asked_of parts.new.book key ≡ asked_of parts.old.book key }
+    ensures peers { peers_of parts.new.book ≡ peers_of parts.old.book }
+    ensures others { parts.new ≡ record parts.old { book = parts.new.book; counts = parts.new.counts } }
+{
+    for note in notes {
+        follow_note(parts, note);
+    }
+}
+
+/// The same of one note.
+fn follow_note<D: Disk + Drop, H: NodeHash>(parts: &mut Parts<D, H>, note: &Note)
+    requires { HasNoted parts.old.torrent parts.old.book.wanted parts.old.counts note.now }
+    ensures followed { (s t : EngineState) → s.torrent ≡ parts.old.torrent
+        → AreFollowed s parts.old.book.wanted parts.old.counts → IsNoteOf s note.now t
+        → AreFollowed t parts.new.book.wanted parts.new.counts }
+    ensures asked { (key : PeerKey) → asked_of parts.new.book key ≡ asked_of parts.old.book key }
+    ensures peers { peers_of parts.new.book ≡ peers_of parts.old.book }
+    ensures others { parts.new ≡ record parts.old { book = parts.new.book; counts = parts.new.counts } }
+{
+    match note {
+        Note::Marked(block) => follow_block(parts, *block, BlockState::Waiting, BlockState::Marked),
+        Note::Freed(block) => follow_block(parts, *block, BlockState::Waiting, BlockState::Missing),
+        _ => {}
+    }
+}

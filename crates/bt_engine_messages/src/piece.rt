@@ -1,0 +1,150 @@
+//! A piece message (BEP 3): bytes that are all of a block that the peer is asked for are given to the file's
+//! store, and any others are stale.
+ghost use Rattle.std.specs.Prelude.{◌≡◌, ◌<◌, Some, length, map, vec_len};
+ghost use Rattle.bt_machine.specs.Arrival.{HasPutEffect};
+ghost use Rattle.bt_machine.specs.Blocks.{state_at};
+ghost use Rattle.bt_machine.specs.Shape.{IsShaped};
+ghost use Rattle.bt_engine_state.specs.Parts.{state_of};
+ghost use Rattle.bt_engine_state.specs.Ties.{IsTied};
+ghost use Rattle.bt_engine_messages.specs.Piece.{TakesPiece, effect_of, cancels_to};
+ghost use Rattle.bt_engine_messages.specs.PieceSteps.{CanPut, IsBlockOf, IsOfMissing, PutsBlock, PutsInSlot, state_after};
+
+use crate::spans::block_of;
+use arrayvec::ArrayVec;
+use bt_book::{BlockId, MAX_ASKERS, PeerKey};
+use bt_disk::Disk;
+use bt_engine_state::{Parts, Slot, follow_block};
+use bt_machine::{Note, Why};
+use bt_sparse::SparseTree;
+use bt_store::{BlockState, Put, StoreError};
+use bt_tree::NodeHash;
+use bt_wire::Ask;
+
+/// What is said of a message that came.
+#[derive(Debug, Drop)]
+pub enum Effect {
+    /// The peer stays, and this is noted.
+    Noted(Note),
+    /// The block is stored, and this is noted. These other peers, in the order of their keys, were asked for
+    /// it, too: each is sent a cancel of this range.
+    Stored(Note, Ask, ArrayVec<PeerKey, MAX_ASKERS>),
+    /// The peer is closed.
+    Closed(Why),
+}
+
+/// Takes bytes of a piece, from the byte `begin` on, that come from the peer at `index`: where they are all
+/// of a block that it is asked for, they are put into the file's store, and it is asked for it no more; once
+/// they are stored, nobody is.
+pub fn take_piece<D: Disk + Drop, H: NodeHash>(
+    parts: &mut Parts<D, H>,
+    index: usize,
+    piece: u32,
+    begin: u32,
+    bytes: &[u8],
+) -> Effect
+    requires tied { IsTied parts.old }
+    requires shaped { IsShaped parts.old.torrent (state_of parts.old) }
+    requires inside { index < vec_len parts.old.peers }
+    requires there { index < length parts.old.peers.items }
+    ensures takes { TakesPiece D.conduct H.digest parts.old index piece begin bytes.now
+        result parts.new }
+    ensures torrent { parts.new.torrent ≡ parts.old.torrent }
+    ensures log { parts.new.log ≡ parts.old.log }
+    ensures peers { map (λ p. p.key) parts.new.peers.items ≡ map (λ p. p.key) parts.old.peers.items }
+    ensures len { vec_len parts.new.peers ≡ vec_len parts.old.peers }
+    ensures tied { IsTied parts.new }
+{
+    let Some(block) = block_of(&parts.torrent, piece, begin, bytes) else {
+        return Effect::Noted(Note::Stale);
+    };
+    let peer = &mut parts.peers[index];
+    parts.book.keeps_laws();
+    if !parts.book.came(peer.key, block) {
+        return Effect::Noted(Note::Stale);
+    }
+    peer.payload = peer.payload.saturating_add(bytes.len() as u64);
+    let ask = Ask {
+        piece,
+        begin,
+        length: bytes.len() as u32,
+    };
+    put_block(parts, block, ask, bytes)
+}
+
+/// Puts a missing block, which came as this range, into the store of its file, and says what became of it.
+/// Where it is stored, nobody is asked for it any longer.
+fn put_block<D: Disk + Drop, H: NodeHash>(
+    parts: &mut Parts<D, H>,
+    block: BlockId,
+    ask: Ask,
+    bytes: &[u8],
+) -> Effect
+    requires tied { IsTied parts.old }
+    requires shaped { IsShaped parts.old.torrent (state_of parts.old) }
+    requires missing { state_at (state_of parts.old) block ≡ Some BlockState.Missing }
+    requires whole { IsBlockOf parts.old.torrent block bytes.now }
+    ensures puts { PutsBlock D.conduct H.digest parts.old block ask bytes.now result
+        parts.new }
+    ensures torrent { parts.new.torrent ≡ parts.old.torrent }
+    ensures log { parts.new.log ≡ parts.old.log }
+    ensures peers { parts.new.peers ≡ parts.old.peers }
+    ensures tied { IsTied parts.new }
+{
+    let answer = put_in_slot(&mut parts.slots, &parts.trees, block, bytes);
+    let others = parts.book.asked(block);
+    follow_block(parts, block, BlockState::Missing, state_after(answer));
+    effect_of(answer, block, ask, others)
+}
+
+/// Puts a missing block, of which these are all bytes, into the store of its file.
+fn put_in_slot<D: Disk + Drop, H: NodeHash>(
+    slots: &mut [Slot<D, H>],
+    trees: &[SparseTree<H>],
+    block: BlockId,
+    bytes: &[u8],
+) -> Result<Put, StoreError>
+    requires inside { block.file < length slots.old }
+    requires can { CanPut slots.old trees.now block bytes.now }
+    ensures { PutsInSlot D.conduct H.digest slots.old trees.now block bytes.now result
+        slots.new }
+{
+    let slot = &mut slots[block.file as usize];
+    let Some(store) = &mut slot.store else {
+        unreachable!();
+    };
+    let tree = &trees[slot.tree as usize];
+    store.put(tree, block.block, bytes)
+}
+
+/// The state of a missing block of which all bytes came, by what its store answered.
+fn state_after(answer: Result<Put, StoreError>) -> BlockState
+    ensures { result ≡ state_after answer }
+{
+    match answer {
+        Ok(Put::Marked) => BlockState::Marked,
+        Ok(Put::Waiting) => BlockState::Waiting,
+        Ok(Put::Already) => BlockState::Missing,
+        Ok(Put::Wrong) => BlockState::Missing,
+        Err(_) => BlockState::Missing,
+    }
+}
+
+/// What is said of a missing block of which all bytes came, by what its store answered.
+fn effect_of(
+    answer: Result<Put, StoreError>,
+    block: BlockId,
+    ask: Ask,
+    others: ArrayVec<PeerKey, MAX_ASKERS>,
+) -> Effect
+    requires { IsOfMissing answer }
+    ensures { HasPutEffect block (cancels_to ask others.items) answer (effect_of result) }
+{
+    match answer {
+        Ok(Put::Marked) => Effect::Stored(Note::Marked(block), ask, others),
+        Ok(Put::Waiting) => Effect::Stored(Note::Waiting(block), ask, others),
+        Ok(Put::Wrong) => Effect::Closed(Why::WrongBlock),
+        Ok(Put::Already) => unreachable!(),
+        Err(StoreError::Range) => unreachable!(),
+        Err(StoreError::Device) => Effect::Noted(Note::Device(block.file)),
+    }
+}

@@ -1,0 +1,6 @@
+pub mod Recallings
+pub mod Takings
+pub mod Follows
+pub mod Readings
+pub mod FileRecallings
+pub mod Recovers

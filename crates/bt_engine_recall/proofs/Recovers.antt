@@ -1,0 +1,184 @@
+-- The files of an engine are restored in its parts.
+use Rattle.bt_machine.proofs.Base.{[], ◌≡◌, ℕ, ◌≤◌, inl, inr, List, length, map, replicate, Option, Some, None, refl, sym, ap, ◌∙◌, subst, arith, slice_get, option_map, option_map_or, range_with_len, length-map, length-replicate, cases_lt, max_peers, BlockState, Missing, Facts, History}
+use Rattle.std.specs.Global.{Vec}
+use Rattle.std.specs.Vec.{vec_capacity, with_items}
+use Rattle.std.proofs.lemmas.Simd.{map-map}
+use Rattle.std.proofs.lemmas.Option.{slice_get_past, slice_get-map}
+use Rattle.bt_book.specs.Book.{BookState, peers_of}
+use Rattle.bt_resume.specs.declared.hint.Hint.{Hint}
+use Rattle.bt_store.specs.FileStore.{StoreView, new_states}
+use Rattle.bt_machine.specs.Devices.{HaveCalls}
+use Rattle.bt_machine.specs.Recovery.{RestoresFiles}
+use Rattle.bt_machine.specs.Restart.{KeepsPlaces}
+use Rattle.bt_machine.specs.Shape.{IsShaped}
+use Rattle.bt_machine.specs.State.{EngineState, FileState, PeerState}
+use Rattle.bt_machine.proofs.Lists.{some_is, get_some, get_map, map_some}
+use Rattle.bt_engine_state.specs.BlockChange.{AreFollowed}
+use Rattle.bt_engine_state.specs.Parts.{state_of, disks_of, file_of, peer_of}
+use Rattle.bt_engine_state.specs.Ties.{IsTied, HaveRoots, LeavesStay}
+use Rattle.bt_engine_state.specs.declared.peer.Peer.{Peer}
+use Rattle.bt_engine_state.specs.declared.slot.Slot.{Slot}
+use Rattle.bt_engine_state.specs.declared.parts.Parts.{Parts}
+use Rattle.bt_engine_state.proofs.BlockChanges.{EachFits, followed_alike, followed_tied, tied_followed}
+use Rattle.bt_engine_state.proofs.Leaves.{leaves_by, still}
+use Rattle.bt_engine_state.proofs.Lists.{get_mapped}
+use Rattle.bt_engine_recall.specs.FollowingSteps.{missing_file, missing_from, FollowsTo}
+use Rattle.bt_engine_recall.specs.Recovering.{RecoversFiles, AreMissing}
+use Rattle.bt_engine_recall.specs.RestoringSteps.{tree_and_length, block_total, HaveTrees, RestoresSlots}
+use Rattle.bt_engine_recall.proofs.FileRecallings.{same_lists}
+use Rattle.bt_disk.specs.Conduct.{Conduct}
+
+-- ---- a slot whose blocks are missing
+
+missing_states : {D H : Type 0} (slot : Slot D H) → ((store : StoreView D) → slot.store ≡ Some store → store.states ≡ new_states store.file_length)
+    → replicate (block_total slot) Missing ≡ (file_of slot).states
+missing_states {D} slot missing = by slot.store refl
+  where
+    by : (o : Option (StoreView D)) → slot.store ≡ o
+        → replicate (length (option_map_or (λ store. store.states) o [])) Missing ≡ option_map_or (λ store. store.states) o []
+    by None has = refl
+    by (Some store) has =
+        let new = missing store has in
+        ap (λ n. replicate n Missing) (ap (λ (xs : List BlockState). length xs) new ∙ length-replicate _ Missing) ∙ sym new
+
+-- ---- slots that were lent and made
+
+pub seen_alike : {D H X : Type 0} (f : Slot D H → X) (old : Vec (Slot D H)) {lent made : List (Slot D H)} → (with_items old made).items ≡ made
+    → map f made ≡ map f lent → lent ≡ old.items → map f (with_items old made).items ≡ map f old.items
+seen_alike f old are same lends = ap (map f) are ∙ same ∙ ap (map f) lends
+
+pub restored_alike : {D H : Type 0} {conduct : Conduct D} {dig : List ℕ → List ℕ} {hints more : List Hint} {trees ks : List Facts}
+    {lent made old new : List (Slot D H)} → hints ≡ more → trees ≡ ks → lent ≡ old → new ≡ made
+    → RestoresSlots conduct dig hints trees lent made → RestoresSlots conduct dig more ks old new
+restored_alike {D} {H} {conduct} {dig} {hints} {more} {trees} {ks} {lent} {made} {old} {new} a b c d restored =
+    subst (λ hs. RestoresSlots conduct dig hs ks old new) a
+    (subst (λ ts. RestoresSlots conduct dig hints ts old new) b
+    (subst (λ xs. RestoresSlots conduct dig hints trees xs new) c
+    (subst (λ xs. RestoresSlots conduct dig hints trees lent xs) (sym d) restored)))
+
+-- the files of tied parts have their trees
+pub trees_of_tied : {D H : Type 0} {parts : Parts D H} → IsTied parts → HaveTrees parts.trees.items parts.slots.items
+trees_of_tied {D} {H} {parts} tied file slot at n long =
+    let store = map_some (λ (s : StoreView D). s.file_length) slot.store long in
+    let of = (tied.each file slot at).some store.0 store.1 in
+    (of.facts, of.stands, of.same ∙ store.2)
+
+module _ {D H : Type 0} (old : Parts D H) (slots : Vec (Slot D H)) (named : map tree_and_length slots.items ≡ map tree_and_length old.slots.items)
+    (sized : map block_total slots.items ≡ map block_total old.slots.items) where
+  abbrev pub mid : Parts D H
+  mid = record old { slots = slots }
+
+  pub as_many : length slots.items ≡ length old.slots.items
+  as_many =
+      sym (length-map slots.items (λ (s : Slot D H). tree_and_length s)) ∙ ap (λ (xs : List (ℕ × Option ℕ)). length xs) named
+      ∙ length-map old.slots.items (λ (s : Slot D H). tree_and_length s)
+
+  -- the slot that stood there
+  slot_was : (i : ℕ) {slot : Slot D H} → slice_get slots.items i ≡ Some slot
+      → (was : Slot D H) × (slice_get old.slots.items i ≡ Some was) × (tree_and_length was ≡ tree_and_length slot)
+  slot_was i at = get_map tree_and_length old.slots.items i (ap (λ (xs : List (ℕ × Option ℕ)). slice_get xs i) (sym named) ∙ get_mapped tree_and_length slots.items i at)
+
+  -- and the slot that stands there
+  slot_is : (i : ℕ) {was : Slot D H} → slice_get old.slots.items i ≡ Some was
+      → (slot : Slot D H) × (slice_get slots.items i ≡ Some slot) × (tree_and_length slot ≡ tree_and_length was)
+  slot_is i at = get_map tree_and_length slots.items i (ap (λ (xs : List (ℕ × Option ℕ)). slice_get xs i) named ∙ get_mapped tree_and_length old.slots.items i at)
+
+  same_total : (i : ℕ) {was slot : Slot D H} → slice_get old.slots.items i ≡ Some was → slice_get slots.items i ≡ Some slot → block_total slot ≡ block_total was
+  same_total i at here =
+      some_is (sym (get_mapped block_total slots.items i here) ∙ ap (λ (xs : List ℕ). slice_get xs i) sized ∙ get_mapped block_total old.slots.items i at)
+
+  module _ (missing : AreMissing old.slots.items) where
+    abbrev emptied : List FileState
+    emptied = map missing_file (map file_of slots.items)
+
+    emptied_at : (i : ℕ) (o : Option (Slot D H)) → slice_get old.slots.items i ≡ o → slice_get emptied i ≡ option_map file_of o
+    emptied_at i None none = elim (cases_lt i (length old.slots.items)) [
+      | inl lt ↦ absurd (let slot = get_some old.slots.items i lt in let clash = sym none ∙ slot.1 in cc)
+      | inr past ↦ slice_get_past emptied i (omega (arith, past, as_many, length-map slots.items file_of, length-map (map file_of slots.items) missing_file))
+    ]
+    emptied_at i (Some was) at =
+        let slot = slot_is i at in
+        get_mapped missing_file (map file_of slots.items) i (get_mapped file_of slots.items i slot.1)
+        ∙ ap (λ p. Some (record { tree = p.0; states = replicate (block_total slot.0) Missing })) slot.2
+        ∙ ap (λ n. Some (record { tree = was.tree; states = replicate n Missing })) (same_total i at slot.1)
+        ∙ ap (λ states. Some (record { tree = was.tree; states = states })) (missing_states was (λ store has. missing i was store at has))
+
+    all_emptied : emptied ≡ map file_of old.slots.items
+    all_emptied = same_lists emptied (map file_of old.slots.items)
+        (λ i. emptied_at i (slice_get old.slots.items i) refl ∙ sym (slice_get-map file_of old.slots.items i))
+
+    pub follows_first : IsTied old → IsShaped old.torrent (state_of old) → FollowsTo 0 mid
+    follows_first tied shaped = followed_alike (missing_from 0 (state_of mid)) (followed_tied old tied shaped) refl all_emptied
+
+  fits_then : IsTied old → EachFits old.torrent.files old.trees.items slots.items
+  fits_then tied i slot at =
+      let was = slot_was i at in
+      let fit = tied.each i was.0 was.1 in
+      let lengths : option_map (λ (s : StoreView D). s.file_length) was.0.store ≡ option_map (λ s. s.file_length) slot.store = ap (λ p. p.1) was.2 in
+      record {
+        file = fit.file;
+        listed = fit.listed;
+        empty = λ none. fit.empty (none_before was.0.store (lengths ∙ ap (option_map (λ (s : StoreView D). s.file_length)) none));
+        some = λ store has. (
+            let before = map_some (λ (s : StoreView D). s.file_length) was.0.store (lengths ∙ ap (option_map (λ (s : StoreView D). s.file_length)) has) in
+            let of = fit.some before.0 before.1 in
+            record {
+              facts = of.facts;
+              stands = ap (λ (p : ℕ × Option ℕ). slice_get old.trees.items p.0) (sym was.2) ∙ of.stands;
+              same = of.same ∙ before.2;
+              long = sym before.2 ∙ of.long;
+            }
+            );
+      }
+    where
+      none_before : (o : Option (StoreView D)) → option_map (λ s. s.file_length) o ≡ None → o ≡ None
+      none_before None e = refl
+      none_before (Some store) e = absurd cc
+
+  module _ (new : Parts D H) (others : new ≡ record mid { book = new.book; counts = new.counts }) where
+    leaves_then : LeavesStay (state_of old) (state_of new)
+    leaves_then = leaves_by (state_of old) (state_of new)
+        (λ file g at. (
+        let slot = get_map file_of slots.items file (sym (ap (λ (p : Parts D H). slice_get (map file_of p.slots.items) file) others) ∙ at) in
+        let was = slot_was file slot.1 in
+        (file_of was.0, get_mapped file_of old.slots.items file was.1, sym (ap (λ (f : FileState). f.tree) slot.2) ∙ ap (λ (p : ℕ × Option ℕ). p.0) (sym was.2))
+        ))
+        (λ tree j at. (j, sym (ap (λ (p : Parts D H). slice_get p.trees.items tree) others) ∙ at, still j))
+
+    pub tied_then : IsTied old → peers_of new.book ≡ peers_of old.book → AreFollowed (state_of mid) new.book.wanted new.counts → IsTied new
+    tied_then tied peers follows =
+        tied_followed old new tied (ap (λ (p : Parts D H). p.torrent) others) (ap (λ (p : Parts D H). map (λ q. q.key) p.peers.items) others)
+        (subst (λ (p : Parts D H). max_peers ≤ vec_capacity p.peers) (sym others) tied.room) peers (ap (λ (p : Parts D H). length p.slots.items) others ∙ as_many)
+        (subst (λ (p : Parts D H). EachFits p.torrent.files p.trees.items p.slots.items) (sym others) (fits_then tied))
+        (subst (λ (p : Parts D H). HaveRoots p) (sym others) tied.roots)
+        (followed_alike (state_of new) follows (ap (λ (p : Parts D H). p.torrent) others) (ap (λ (p : Parts D H). map file_of p.slots.items) others))
+        (ap (λ (p : Parts D H). p.known) others) leaves_then
+
+    no_peers : (peers : List Peer) → peers ≡ [] → (b c : BookState) → map (peer_of b) peers ≡ map (peer_of c) peers
+    no_peers peers none b c = ap (map (peer_of b)) none ∙ ap (map (peer_of c)) (sym none)
+
+    state_then : old.peers.items ≡ [] → state_of new ≡ record (state_of old) { files = map file_of slots.items }
+    state_then alone =
+        ap (λ (p : Parts D H). state_of p) others
+        ∙ ap (λ (ps : List PeerState). record (state_of old) { files = map file_of slots.items; peers = ps }) (no_peers old.peers.items alone new.book old.book)
+
+    pub recovers : {conduct : Conduct D} {dig : List ℕ → List ℕ} → old.peers.items ≡ []
+        → RestoresSlots conduct dig (state_of old).hints old.trees.items old.slots.items slots.items
+        → RecoversFiles conduct dig old new
+    recovers {conduct} {dig} alone restored = record {
+      calls = restored.calls;
+      made = subst (λ (p : Parts D H). HaveCalls conduct (disks_of old) restored.calls (disks_of p)) (sym others) restored.made;
+      restores = subst (λ (s : EngineState). RestoresFiles dig (state_of old).hints (range_with_len 0 (length (state_of old).files)) (state_of old) restored.calls s)
+          (sym (state_then alone))
+          (subst (λ n. RestoresFiles dig (state_of old).hints (range_with_len 0 n) (state_of old) restored.calls (record (state_of old) { files = map file_of slots.items }))
+          (sym (length-map old.slots.items file_of)) (restored.restores (state_of old) refl refl));
+    }
+
+    tree_numbers : map (λ f. f.tree) (map file_of slots.items) ≡ map (λ f. f.tree) (map file_of old.slots.items)
+    tree_numbers =
+        map-map (λ (f : FileState). f.tree) file_of slots.items ∙ sym (map-map (λ (p : ℕ × Option ℕ). p.0) tree_and_length slots.items)
+        ∙ ap (map (λ (p : ℕ × Option ℕ). p.0)) named ∙ map-map (λ (p : ℕ × Option ℕ). p.0) tree_and_length old.slots.items
+        ∙ sym (map-map (λ (f : FileState). f.tree) file_of old.slots.items)
+
+    pub places : old.peers.items ≡ [] → KeepsPlaces (state_of old) (state_of new)
+    places alone = subst (λ (s : EngineState). KeepsPlaces (state_of old) s) (sym (state_then alone)) (record { roots = refl; lengths = refl; trees = tree_numbers })

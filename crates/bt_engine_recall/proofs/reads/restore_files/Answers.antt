@@ -1,0 +1,27 @@
+use Rattle.std.proofs.Common.{◌∙◌}
+use Rattle.bt_resume.specs.LogText.{hints_in}
+use Rattle.bt_engine_recall.proofs.Readings.{have_still, all_restored, slots_kept, sizes_kept}
+use Rattle.bt_engine_recall.proofs.reads.restore_files.Goals as goal
+
+pub settle_files-requires : goal.settle_files-requires
+settle_files-requires g c =
+    let d = g.D.Disk in
+    have_still d.conduct g.H.NodeHash.digest (hints_in c.args.hints.now) c.args.trees.now c.args.slots.now c.recall_marks.new.slots c.recall_marks.ensures c.requires.trees
+
+pub returns-clause-restores : goal.returns-clause-restores
+returns-clause-restores g c =
+    let d = g.D.Disk in
+    all_restored d.conduct g.H.NodeHash.digest (hints_in c.args.hints.now) c.args.trees.now c.args.slots.now c.recall_marks.new.slots c.recall_marks.ensures c.requires.trees
+    c.settle_files.new.slots c.settle_files.ensures (c.settle_files.auto.slots ∙ c.recall_marks.auto.slots) c.requires.missing
+
+pub returns-clause-kept : goal.returns-clause-kept
+returns-clause-kept g c =
+    let d = g.D.Disk in
+    slots_kept d.conduct g.H.NodeHash.digest (hints_in c.args.hints.now) c.args.trees.now c.args.slots.now c.recall_marks.new.slots c.recall_marks.ensures c.requires.trees
+    c.settle_files.new.slots c.settle_files.ensures (c.settle_files.auto.slots ∙ c.recall_marks.auto.slots) c.requires.missing
+
+pub returns-clause-sizes : goal.returns-clause-sizes
+returns-clause-sizes g c =
+    let d = g.D.Disk in
+    sizes_kept d.conduct g.H.NodeHash.digest (hints_in c.args.hints.now) c.args.trees.now c.args.slots.now c.recall_marks.new.slots c.recall_marks.ensures c.requires.trees
+    c.settle_files.new.slots c.settle_files.ensures (c.settle_files.auto.slots ∙ c.recall_marks.auto.slots) c.requires.missing

@@ -1,0 +1,9 @@
+pub mod Recalling
+pub mod Taking
+pub mod TakingSteps
+pub mod Recovering
+-- what only private functions cite
+pub mod FollowingSteps
+pub mod MarksSteps
+pub mod ReadsSteps
+pub mod RestoringSteps

@@ -1,0 +1,23 @@
+-- The files of an engine are restored, in its parts.
+use Rattle.std.specs.Prelude.{◌≡◌, ℕ, List, length, Some, slice_get}
+use Rattle.std.specs.List.{range_with_len}
+use Rattle.bt_disk.specs.Conduct.{Conduct}
+use Rattle.bt_store.specs.FileStore.{StoreView, new_states}
+use Rattle.bt_machine.specs.Devices.{DeviceCalls, HaveCalls}
+use Rattle.bt_machine.specs.Recovery.{RestoresFiles}
+use Rattle.bt_engine_state.specs.Parts.{state_of, disks_of}
+use Rattle.bt_engine_state.specs.declared.slot.Slot.{Slot}
+use Rattle.bt_engine_state.specs.declared.parts.Parts.{Parts}
+
+-- all blocks are missing
+abbrev pub AreMissing : {D H : Type 0} → List (Slot D H) → Type 0
+AreMissing {D} {H} slots = (file : ℕ) (slot : Slot D H) (store : StoreView D)
+    → slice_get slots file ≡ Some slot → slot.store ≡ Some store → store.states ≡ new_states store.file_length
+
+-- the machine restores its files, by the hints that were last read from its log
+pub record RecoversFiles {D H : Type 0} (conduct : Conduct D)
+    (dig : List ℕ → List ℕ) (old new : Parts D H) : Type 0 where
+  pub calls : DeviceCalls
+  pub made : HaveCalls conduct (disks_of old) calls (disks_of new)
+  pub restores : RestoresFiles dig (state_of old).hints (range_with_len 0 (length (state_of old).files))
+      (state_of old) calls (state_of new)

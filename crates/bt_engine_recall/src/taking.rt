@@ -1,0 +1,99 @@
+//! The proofs among a log's hints are taken by the trees of their roots, and those that no tree can take are
+//! passed.
+ghost use Rattle.std.specs.Prelude.{◌≡◌, ◌≢◌, List, OnOk, IfErr, map};
+ghost use Rattle.std.specs.List.{AllPairs};
+ghost use Rattle.bt_resume.specs.Law.{Begin};
+ghost use Rattle.bt_resume.specs.LogText.{hints_in};
+ghost use Rattle.bt_resume.specs.declared.hint.Hint.{Hint};
+ghost use Rattle.bt_machine.specs.Recovery.{TakesProof};
+ghost use Rattle.bt_engine_recall.specs.Taking.{TakeHints};
+ghost use Rattle.bt_engine_recall.specs.TakingSteps.{roots_of, ArePlaces, TakeProof};
+
+use crate::places::{place_of, places_of_roots};
+use bt_hashreq::{HashKey, to_claim};
+use bt_resume::{Hints, LentHint};
+use bt_sparse::{ProofError, SparseTree};
+use bt_tree::{Hash32, NodeHash};
+use std::alloc::{AllocError, Global};
+use std::collections::BTreeMap;
+
+/// Each proof of a log's hints, in their order, is taken by the tree of its root, where it can be accepted.
+/// Marks are passed, and so are proofs of which no claim can be made, and those of other roots. It goes once
+/// over the trees and the hints, and looks each root up in a map.
+///
+/// Errors: out of memory, and then the trees have taken the proofs of some first hints, and none of those behind.
+pub fn take_proofs<H: NodeHash>(
+    alloc: Global,
+    trees: &mut [SparseTree<H>],
+    hints: &Hints,
+) -> Result<(), AllocError>
+    requires apart { AllPairs (λ j k. j.root ≢ k.root) trees.old }
+    ensures taken { OnOk result (TakeHints H.digest (hints_in hints.now) trees.old trees.new) }
+    ensures refused { IfErr result (λ _. (first : List Hint) × Begin first (hints_in hints.now)
+        × TakeHints H.digest first trees.old trees.new) }
+    ensures roots { map (λ k. k.root) trees.new ≡ map (λ k. k.root) trees.old }
+    ensures lengths { map (λ k. k.file_length) trees.new ≡ map (λ k. k.file_length) trees.old }
+{
+    let places = places_of_roots(alloc, trees)?;
+    for hint in hints.iter() {
+        if let LentHint::Proof(key, digests) = hint {
+            take_proof(alloc, trees, &places, &key, digests)?;
+        }
+    }
+    Ok(())
+}
+
+/// The tree of a proof's root takes it, where there is one and it can. Errors: out of memory, and then nothing
+/// has changed.
+fn take_proof<H: NodeHash>(
+    alloc: Global,
+    trees: &mut [SparseTree<H>],
+    places: &BTreeMap<Hash32, usize>,
+    key: &HashKey,
+    digests: &[Hash32],
+) -> Result<(), AllocError>
+    requires places { ArePlaces (roots_of trees.old) places.now }
+    ensures taken { OnOk result (TakeProof H.digest key.now digests.now trees.old trees.new) }
+    ensures refused { IfErr result (λ _. trees.new ≡ trees.old) }
+    ensures roots { map (λ k. k.root) trees.new ≡ map (λ k. k.root) trees.old }
+    ensures lengths { map (λ k. k.file_length) trees.new ≡ map (λ k. k.file_length) trees.old }
+{
+    match place_of(trees, places, &key.root) {
+        Some(place) => take_where_acceptable(alloc, &mut trees[place], key, digests),
+        None => Ok(()),
+    }
+}
+
+/// A tree takes a proof of its root, where it can. Errors: out of memory, and then nothing has changed.
+fn take_where_acceptable<H: NodeHash>(
+    alloc: Global,
+    tree: &mut SparseTree<H>,
+    key: &HashKey,
+    digests: &[Hash32],
+) -> Result<(), AllocError>
+    requires root { tree.old.root ≡ key.now.root }
+    ensures taken { OnOk result (TakesProof H.digest tree.old key.now digests.now tree.new) }
+    ensures refused { IfErr result (λ _. tree.new ≡ tree.old) }
+    ensures root { tree.new.root ≡ tree.old.root }
+    ensures length { tree.new.file_length ≡ tree.old.file_length }
+{
+    let claim = match to_claim(alloc, key, digests.as_flattened()) {
+        Ok(claim) => claim,
+        Err(fault) => return passed_unless_memory(fault),
+    };
+    match tree.accept(&claim) {
+        Ok(_) => Ok(()),
+        Err(fault) => passed_unless_memory(fault),
+    }
+}
+
+/// A proof that is refused is passed, unless memory was.
+fn passed_unless_memory(fault: ProofError) -> Result<(), AllocError>
+    ensures passed { OnOk result (fault ≢ ProofError.OutOfMemory) }
+    ensures memory { IfErr result (λ _. fault ≡ ProofError.OutOfMemory) }
+{
+    match fault {
+        ProofError::OutOfMemory => Err(AllocError),
+        _ => Ok(()),
+    }
+}

@@ -1,0 +1,22 @@
+use Rattle.std.proofs.Common.{List, ℕ, ◌≢◌, sym, ap, ◌∙◌, subst}
+use Rattle.std.specs.List.{AllPairs}
+use Rattle.std.proofs.lemmas.List.{with_items_is}
+use Rattle.bt_sparse.specs.SparseTree.{Facts}
+use Rattle.bt_engine_state.specs.Parts.{hints_of}
+use Rattle.bt_engine_start.specs.Trees.{AreTreesOf}
+use Rattle.bt_engine_restart.proofs.Logs.{made_apart, trees_from}
+use Rattle.bt_engine_restart.proofs.with_log.made_from_log.Goals as goal
+
+pub take_proofs-requires : goal.take_proofs-requires
+take_proofs-requires g c =
+    let parts = c.args.parts.now in
+    let made = subst (λ (ns : List ℕ). AreTreesOf g.H.NodeHash.digest parts.torrent ns c.in_ok-trees.trees.items) c.deref.ensures.value c.in_ok-trees.ensures in
+    record { apart = subst (λ (ks : List Facts). AllPairs (λ j k. j.root ≢ k.root) ks) (sym c.deref_mut.ensures.value) (made_apart c.requires.tied c.requires.shaped made) }
+
+pub returns-clause-trees : goal.returns-clause-trees
+returns-clause-trees g c =
+    let trees = c.in_ok-trees.trees in
+    let made = c.take_proofs.new.trees in
+    trees_from trees c.in_ok-trees.ensures c.deref.ensures.value c.deref_mut.ensures.value
+    (with_items_is trees made (c.take_proofs.auto.trees ∙ c.deref_mut.ensures.len)) c.in_ok-take_proofs.ensures.taken
+    (c.hints.ensures ∙ sym (ap hints_of c.in-Some.is)) c.take_proofs.ensures.roots c.take_proofs.ensures.lengths

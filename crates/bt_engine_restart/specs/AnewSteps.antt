@@ -1,0 +1,12 @@
+-- Files that are cleared. No public contract cites it.
+use Rattle.std.specs.Option.{option_map}
+use Rattle.bt_store.specs.FileStore.{StoreView, new_states}
+use Rattle.bt_engine_state.specs.declared.slot.Slot.{Slot}
+
+-- the store, all blocks of which are missing; its device stays
+abbrev pub cleared_store : {D : Type 0} → StoreView D → StoreView D
+cleared_store store = record store { states = new_states store.file_length }
+
+-- the slot with such a store, where it has one; its tree stays
+abbrev pub cleared : {D H : Type 0} → Slot D H → Slot D H
+cleared slot = record slot { store = option_map cleared_store slot.store }

@@ -1,0 +1,9 @@
+use Rattle.std.proofs.Common.{◌≡◌, length}
+use Rattle.bt_engine_start.specs.Books.{AreRunSizes}
+use Rattle.bt_engine_start.proofs.piece_sizes.piece_sizes.Given as goal
+
+abbrev pub invariant-loop-piece : goal.invariant-loop-piece
+invariant-loop-piece l = record {
+  size : length l.sizes.items ≡ l.piece;
+  each : AreRunSizes l.torrent l.sizes.items;
+}

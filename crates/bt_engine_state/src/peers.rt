@@ -1,0 +1,76 @@
+//! Peers by their keys: where one stands, bytes that come from it, and its leaving.
+ghost use Rattle.std.specs.Prelude.{◌≡◌, ◌<◌, IfSome, IfNone, length, vec_len};
+ghost use Rattle.bt_machine.specs.Orderly.{IsOrderly};
+ghost use Rattle.bt_machine.specs.Peers.{StepFeed, StepLost};
+ghost use Rattle.bt_engine_state.specs.Parts.{state_of, disks_of, IsPeerAt, LacksPeer};
+ghost use Rattle.bt_engine_state.specs.Ties.{IsTied};
+
+use crate::parts::Parts;
+use bt_book::PeerKey;
+use bt_disk::Disk;
+use bt_machine::EngineError;
+use bt_tree::NodeHash;
+use bt_wire::WireError;
+
+/// Where the peer of a key stands, if it stands.
+pub fn index_of<D: Disk + Drop, H: NodeHash>(parts: &Parts<D, H>, key: PeerKey) -> Option<usize>
+    ensures some { IfSome result (IsPeerAt parts.now.peers.items key) }
+    ensures inside { IfSome result (λ i. i < vec_len parts.now.peers) }
+    ensures none { IfNone result (LacksPeer parts.now.peers.items key) }
+{
+    for (index, peer) in parts.peers.iter().enumerate() {
+        if peer.key.0 == key.0 {
+            return Some(index);
+        }
+    }
+    None
+}
+
+/// Puts bytes behind those of a peer that no event was taken from.
+pub fn feed<D: Disk + Drop, H: NodeHash>(
+    parts: &mut Parts<D, H>,
+    key: PeerKey,
+    bytes: &[u8],
+) -> Result<(), EngineError>
+    requires tied { IsTied parts.old }
+    requires orderly { IsOrderly (state_of parts.old) }
+    ensures step { StepFeed (state_of parts.old) key bytes.now result (state_of parts.new) }
+    ensures devices { disks_of parts.new ≡ disks_of parts.old }
+    ensures torrent { parts.new.torrent ≡ parts.old.torrent }
+    ensures log { parts.new.log ≡ parts.old.log }
+    ensures tied { IsTied parts.new }
+{
+    let Some(index) = index_of(parts, key) else {
+        return Err(EngineError::NoPeer);
+    };
+    let peer = &mut parts.peers[index];
+    match peer.cutter.feed(bytes) {
+        Ok(()) => Ok(()),
+        Err(WireError::OutOfMemory) => Err(EngineError::OutOfMemory),
+        // a peer whose stream showed a fault has gone
+        Err(WireError::Failed) => unreachable!(),
+        // the bytes are looked at when an event is taken
+        Err(WireError::BadProtocol | WireError::TooLong | WireError::BadLength) => unreachable!(),
+    }
+}
+
+/// Lets a peer go. What it was asked for may be asked of others.
+pub fn lost<D: Disk + Drop, H: NodeHash>(
+    parts: &mut Parts<D, H>,
+    key: PeerKey,
+) -> Result<(), EngineError>
+    requires { IsTied parts.old }
+    ensures step { StepLost (state_of parts.old) key result (state_of parts.new) }
+    ensures devices { disks_of parts.new ≡ disks_of parts.old }
+    ensures torrent { parts.new.torrent ≡ parts.old.torrent }
+    ensures log { parts.new.log ≡ parts.old.log }
+    ensures tied { IsTied parts.new }
+{
+    let Some(index) = index_of(parts, key) else {
+        return Err(EngineError::NoPeer);
+    };
+    parts.book.keeps_laws();
+    parts.book.lost(key);
+    parts.peers.remove(index);
+    Ok(())
+}

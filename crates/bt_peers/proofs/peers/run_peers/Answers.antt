@@ -1,7 +1,0 @@
-use Rattle.bt_peers.proofs.Unflushed.{unflushed_turns}
-use Rattle.bt_peers.proofs.peers.run_peers.Goals as goal
-
-pub returns-clause-peers : goal.returns-clause-peers
-returns-clause-peers g c =
-    unflushed_turns g.D.Disk.conduct g.H.NodeHash.digest g.L.Link.dials g.L.Link.failures g.L.Link.gives g.L.R.Read.remaining
-    g.L.W.Write.contents c.args.turns c.run_peers_with_flushes.ensures.peers

@@ -1,4 +1,0 @@
-pub mod End
-pub mod Link
-pub mod Peer
-pub mod Peers

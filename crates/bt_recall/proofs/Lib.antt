@@ -1,4 +1,0 @@
-pub mod Follows
-pub mod Readings
-pub mod Recallings
-pub mod Recovers

@@ -1,2 +1,0 @@
-pub mod Recallings
-pub mod Takings

@@ -1,3 +1,0 @@
-pub mod Recalling
-pub mod Taking
-pub mod TakingSteps

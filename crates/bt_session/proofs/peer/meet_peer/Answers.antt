@@ -1,0 +1,7 @@
+use Rattle.bt_session.proofs.Unflushed.{unflushed_end}
+use Rattle.bt_session.proofs.peer.meet_peer.Goals as goal
+
+pub returns-clause-ended : goal.returns-clause-ended
+returns-clause-ended g c =
+    (unflushed_end g.D.Disk.conduct g.H.NodeHash.digest g.R.Read.remaining g.W.Write.contents c.args.until_complete c.args.turns
+    _ _ _ _ _ c.meet_peer_with_flushes-end.ensures.ended).1

@@ -1,0 +1,58 @@
+use Rattle.std.proofs.Common.{Err, rules, refl}
+use Rattle.bt_machine.specs.declared.event.Event.TheVariants.{Connect}
+use Rattle.bt_engine.specs.Leads.{none, one, both}
+use Rattle.bt_session.specs.declared.end.SessionEnd.TheVariants.{ReadFault}
+use Rattle.bt_session.specs.Peer.{behind, within}
+use Rattle.bt_session.proofs.Unflushed.{flushed_end}
+use Rattle.bt_session.proofs.Sessions.{session_leads}
+use Rattle.bt_session.proofs.peer.meet_peer_with_flushes.Goals as goal
+
+pub returns-in_default-clause-ended : goal.returns-in_default-clause-ended
+returns-in_default-clause-ended g c = search rules
+
+pub returns-in_default-clause-run : goal.returns-in_default-clause-run
+returns-in_default-clause-run g c = none c.args.engine.now
+
+pub returns-in_default-clause-stands : goal.returns-in_default-clause-stands
+returns-in_default-clause-stands g c =
+    c.what_leads_on_stands.ensures c.args.engine.now c.args.engine.now c.keeps_laws.ensures.sound (none c.args.engine.now)
+
+pub returns-in-Ok-Ok-clause-ended : goal.returns-in-Ok-Ok-clause-ended
+returns-in-Ok-Ok-clause-ended g c =
+    flushed_end g.D.Disk.conduct g.H.NodeHash.digest g.R.Read.remaining g.W.Write.contents c.args.until_complete c.args.flush_every c.args.turns c.args.reached _ c.args.engine.now c.flush_behind.new.engine c.in-Ok-Ok.end c.flush_behind.result c.in-Some.is
+    (behind c.run_session_with_flushes.new.engine (record { left = _; written = _; session = rw c.in-Ok-Ok.field-0-is at c.in-Ok-Ok.ensures.session })
+    c.flush_behind.ensures.flushed)
+
+pub returns-in-Ok-Ok-clause-run : goal.returns-in-Ok-Ok-clause-run
+returns-in-Ok-Ok-clause-run g c =
+    both c.args.engine.now c.run_session_with_flushes.new.engine c.flush_behind.new.engine
+    (session_leads g.D.Disk.conduct g.H.NodeHash.digest _ _ _ c.args.engine.now c.run_session_with_flushes.new.engine _ _ _ _ _
+    c.in-Ok-Ok.ensures.session)
+    c.flush_behind.ensures.run
+
+pub returns-in-Ok-Ok-clause-stands : goal.returns-in-Ok-Ok-clause-stands
+returns-in-Ok-Ok-clause-stands g c =
+    c.what_leads_on_stands.ensures c.args.engine.now c.flush_behind.new.engine c.keeps_laws.ensures.sound
+    (both c.args.engine.now c.run_session_with_flushes.new.engine c.flush_behind.new.engine
+    (session_leads g.D.Disk.conduct g.H.NodeHash.digest _ _ _ c.args.engine.now c.run_session_with_flushes.new.engine _ _ _ _ _
+    c.in-Ok-Ok.ensures.session)
+    c.flush_behind.ensures.run)
+
+pub returns-in-Ok-Err-clause-ended : goal.returns-in-Ok-Err-clause-ended
+returns-in-Ok-Err-clause-ended g c =
+    flushed_end g.D.Disk.conduct g.H.NodeHash.digest g.R.Read.remaining g.W.Write.contents c.args.until_complete c.args.flush_every c.args.turns c.args.reached _ c.args.engine.now c.run_session_with_flushes.new.engine ReadFault (Err c.in-Ok-Err.error) c.in-Some.is
+    (within c.in-Ok-Err.error (record { left = _; written = _; session = rw c.in-Ok-Err.field-0-is at c.in-Ok-Err.ensures.session }) refl refl)
+
+pub returns-in-Ok-Err-clause-run : goal.returns-in-Ok-Err-clause-run
+returns-in-Ok-Err-clause-run g c =
+    session_leads g.D.Disk.conduct g.H.NodeHash.digest _ _ _ c.args.engine.now c.run_session_with_flushes.new.engine _ _ _ _ _
+    c.in-Ok-Err.ensures.session
+
+pub returns-in-Ok-Err-clause-stands : goal.returns-in-Ok-Err-clause-stands
+returns-in-Ok-Err-clause-stands g c = c.in-Ok-Err.ensures.stands
+
+pub returns-clause-run : goal.returns-clause-run
+returns-clause-run g c = one c.args.engine.now c.run_session_with_flushes.new.engine Connect _ (λ e. absurd cc) c.in-Err.ensures.refused
+
+pub returns-clause-stands : goal.returns-clause-stands
+returns-clause-stands g c = c.in-Err.ensures.stands

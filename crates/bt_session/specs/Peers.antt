@@ -1,0 +1,78 @@
+-- Peers that are tried one after the other, until the engine is complete.
+use Rattle.std.specs.Prelude.{[], ℕ, ◌≡◌, ◌+◌, true, false, List, ◌∷◌, length, replicate, Option, IfSome, Result, Ok, Err}
+use Rattle.bt_disk.specs.Conduct.{Conduct}
+use Rattle.bt_machine.specs.declared.error.FlushError.{FlushError}
+use Rattle.bt_machine.specs.Report.{all_complete}
+use Rattle.bt_machine.specs.State.{EngineView}
+use Rattle.bt_session.specs.declared.peer_end.PeerEnd.{PeerEnd}
+use Rattle.bt_session.specs.declared.peer_end.PeerEnd.TheVariants.{Untried}
+use Rattle.bt_session.specs.Link.{failure_count}
+use Rattle.bt_session.specs.Peer.{EndsAs, EndsAsWithFlushes}
+
+-- A link was dialled once, and reached its peer by a reader and a writer, or did not.
+pub record IsDialled {L R W : Type 0} (dials failures : L → ℕ) (gives : L → R → W → Type 0) (old : L)
+    (reached : Option (R × W)) (new : L) : Type 0 where
+  pub once : dials new ≡ dials old + 1
+  pub failed : failures new ≡ failures old + failure_count reached
+  pub given : IfSome reached (λ ways. gives old ways.0 ways.1)
+
+-- A peer is tried: its link is dialled once; where that reaches it, it has a session until the engine is
+-- complete, of so many turns at most.
+pub record IsTried {D L R W : Type 0} (conduct : Conduct D)
+    (dig : List ℕ → List ℕ) (dials failures : L → ℕ) (gives : L → R → W → Type 0)
+    (remaining : R → Option (List ℕ)) (contents : W → Option (List ℕ)) (turns : ℕ) (old : EngineView D)
+    (link : L) (end : PeerEnd) (after : L) (new : EngineView D) : Type 0 where
+  pub reached : Option (R × W)
+  pub dialled : IsDialled dials failures gives link reached after
+  pub ended : EndsAs conduct dig remaining contents true turns reached old end new
+
+-- what is said of one peer: of the engine and its link, its end, and both afterwards
+abbrev pub Trial : (D L : Type 0) → Type 1
+Trial D L = EngineView D → L → PeerEnd → L → EngineView D → Type 0
+
+-- One after the other is tried, as long as one is left and the engine is not complete. The links behind them
+-- are as they were, and their ends are Untried.
+pub data InTurn {D L : Type 0} (Try : Trial D L)
+    : EngineView D → List L → List PeerEnd → List L → EngineView D → Type 0 where
+  none_left : (engine : EngineView D) → InTurn Try engine [] [] [] engine
+  complete : (engine : EngineView D) (links : List L) → all_complete engine.state ≡ true
+      → InTurn Try engine links (replicate (length links) Untried) links engine
+  tried : (old mid new : EngineView D) (link after : L) (end : PeerEnd) (links rest : List L)
+      (ends : List PeerEnd) → all_complete old.state ≡ false → Try old link end after mid
+      → InTurn Try mid links ends rest new
+      → InTurn Try old (link ∷ links) (end ∷ ends) (after ∷ rest) new
+
+-- ---- with flushes
+
+-- The same of a peer in whose session the engine is flushed behind each `every`-th turn, and then behind the
+-- session, or never where that is 0; and what the last of these flushes answered.
+pub record IsTriedWithFlushes {D L R W : Type 0} (conduct : Conduct D) (dig : List ℕ → List ℕ)
+    (dials failures : L → ℕ) (gives : L → R → W → Type 0)
+    (remaining : R → Option (List ℕ)) (contents : W → Option (List ℕ)) (every turns : ℕ) (old : EngineView D)
+    (link : L) (end : PeerEnd) (answer : Result (Unit {0}) FlushError) (after : L) (new : EngineView D)
+    : Type 0 where
+  pub reached : Option (R × W)
+  pub dialled : IsDialled dials failures gives link reached after
+  pub ended : EndsAsWithFlushes conduct dig remaining contents true every turns reached old end
+      answer new
+
+-- what is said of one peer: of the engine and its link, its end and what the last flush answered, and both
+-- afterwards
+abbrev pub TrialWithFlushes : (D L : Type 0) → Type 1
+TrialWithFlushes D L = EngineView D → L → PeerEnd → Result (Unit {0}) FlushError → L → EngineView D → Type 0
+
+-- One after the other is tried, as long as one is left, the engine is not complete, and no flush was refused.
+pub data InTurnWithFlushes {D L : Type 0} (Try : TrialWithFlushes D L)
+    : EngineView D → List L → List PeerEnd → List L → Result (Unit {0}) FlushError → EngineView D
+    → Type 0 where
+  none_left : (engine : EngineView D) → InTurnWithFlushes Try engine [] [] [] (Ok tt) engine
+  complete : (engine : EngineView D) (links : List L) → all_complete engine.state ≡ true
+      → InTurnWithFlushes Try engine links (replicate (length links) Untried) links (Ok tt) engine
+  tried : (old mid new : EngineView D) (link after : L) (end : PeerEnd) (links rest : List L)
+      (ends : List PeerEnd) (answer : Result (Unit {0}) FlushError) → all_complete old.state ≡ false
+      → Try old link end (Ok tt) after mid → InTurnWithFlushes Try mid links ends rest answer new
+      → InTurnWithFlushes Try old (link ∷ links) (end ∷ ends) (after ∷ rest) answer new
+  stopped : (old new : EngineView D) (link after : L) (end : PeerEnd) (links : List L) (error : FlushError)
+      → all_complete old.state ≡ false → Try old link end (Err error) after new
+      → InTurnWithFlushes Try old (link ∷ links) (end ∷ replicate (length links) Untried) (after ∷ links)
+      (Err error) new

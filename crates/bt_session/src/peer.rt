@@ -1,0 +1,90 @@
+//! One peer.
+ghost use Rattle.std.specs.Prelude.{[], ◌≡◌, ◌==◌, not};
+ghost use Rattle.bt_engine.specs.Leads.{LeadsTo, Stands};
+ghost use Rattle.bt_session.specs.Peer.{EndsAs, EndsAsWithFlushes, IsFlushedWhere};
+
+use crate::end::SessionEnd;
+use crate::peer_end::PeerEnd;
+use crate::session::run_session_with_flushes;
+use bt_disk::Disk;
+use bt_engine::{Engine, what_leads_on_stands};
+use bt_machine::FlushError;
+use bt_tree::NodeHash;
+use std::alloc::Global;
+use std::io::{Read, Write};
+
+/// Has a session with a peer that was reached, which gave what is read from it and written to it.
+pub fn meet_peer<D: Disk + Drop, H: NodeHash, R: Read + Drop, W: Write + Drop>(
+    alloc: Global,
+    engine: &mut Engine<D, H>,
+    reached: Option<(R, W)>,
+    until_complete: bool,
+    turns: u64,
+) -> PeerEnd
+    requires no_peer { engine.old.state.peers ≡ [] }
+    ensures ended { EndsAs D.conduct H.digest R.remaining W.contents until_complete
+        turns reached engine.old result engine.new }
+    ensures gone { engine.new.state.peers ≡ [] }
+    ensures run { LeadsTo D.conduct H.digest engine.old engine.new }
+    ensures stands { Stands D.conduct engine.old engine.new }
+{
+    // It is never flushed.
+    let (end, _) = meet_peer_with_flushes(alloc, engine, reached, until_complete, turns, 0);
+    end
+}
+
+/// The same as `meet_peer`, but that the engine is flushed in the session, behind each turn whose number is a
+/// multiple of `flush_every`, and behind the session; and never where that is 0. Gives what the last of these
+/// flushes answered, Ok where there was none. One that is refused ends the session, which is told then as one
+/// whose reader failed.
+pub fn meet_peer_with_flushes<D: Disk + Drop, H: NodeHash, R: Read + Drop, W: Write + Drop>(
+    alloc: Global,
+    engine: &mut Engine<D, H>,
+    reached: Option<(R, W)>,
+    until_complete: bool,
+    turns: u64,
+    flush_every: u64,
+) -> (PeerEnd, Result<(), FlushError>)
+    requires no_peer { engine.old.state.peers ≡ [] }
+    ensures ended { EndsAsWithFlushes D.conduct H.digest R.remaining W.contents
+        until_complete flush_every turns reached engine.old result.0 result.1 engine.new }
+    ensures gone { engine.new.state.peers ≡ [] }
+    ensures run { LeadsTo D.conduct H.digest engine.old engine.new }
+    ensures stands { Stands D.conduct engine.old engine.new }
+{
+    what_leads_on_stands::<D, H>(engine.hash());
+    engine.keeps_laws();
+    let Some((mut reader, mut writer)) = reached else {
+        return (PeerEnd::Unreachable, Ok(()));
+    };
+    match run_session_with_flushes(
+        alloc,
+        engine,
+        &mut reader,
+        &mut writer,
+        until_complete,
+        turns,
+        flush_every,
+    ) {
+        Ok(Ok(end)) => (PeerEnd::Session(end), flush_behind(engine, flush_every)),
+        Ok(Err(error)) => (PeerEnd::Session(SessionEnd::ReadFault), Err(error)),
+        Err(error) => (PeerEnd::Refused(error), Ok(())),
+    }
+}
+
+/// Flushes an engine behind a session, unless it is never flushed.
+fn flush_behind<D: Disk + Drop, H: NodeHash>(
+    engine: &mut Engine<D, H>,
+    flush_every: u64,
+) -> Result<(), FlushError>
+    requires no_peer { engine.old.state.peers ≡ [] }
+    ensures flushed { IsFlushedWhere D.conduct H.digest (not (flush_every == 0)) engine.old
+        result engine.new }
+    ensures gone { engine.new.state.peers ≡ [] }
+    ensures run { LeadsTo D.conduct H.digest engine.old engine.new }
+{
+    if flush_every == 0 {
+        return Ok(());
+    }
+    engine.flush()
+}

@@ -1,0 +1,95 @@
+//! Peers in their turns.
+ghost use Rattle.std.specs.Prelude.{[], ◌≡◌, length, All};
+ghost use Rattle.bt_engine.specs.Leads.{LeadsTo, Stands};
+ghost use Rattle.bt_session.specs.Peers.{IsTried, InTurn, IsTriedWithFlushes, InTurnWithFlushes};
+
+use crate::link::Link;
+use crate::peer::meet_peer_with_flushes;
+use crate::peer_end::PeerEnd;
+use bt_disk::Disk;
+use bt_engine::{Engine, what_leads_on_stands};
+use bt_machine::FlushError;
+use bt_tree::NodeHash;
+use std::alloc::Global;
+
+/// Dials each peer in its turn, once, until the engine is complete. A peer that is reached has a session
+/// until then, of so many turns at most. `ends` is what came of each: Untried behind the last that was
+/// dialled.
+pub fn run_peers<D: Disk + Drop, H: NodeHash, L: Link>(
+    alloc: Global,
+    engine: &mut Engine<D, H>,
+    links: &mut [L],
+    ends: &mut [PeerEnd],
+    turns: u64,
+)
+    requires same_length { length links.old ≡ length ends.old }
+    requires undialled { All (λ link. L.dials link ≡ 0) links.old }
+    requires no_peer { engine.old.state.peers ≡ [] }
+    ensures peers { InTurn (IsTried D.conduct H.digest L.dials L.failures L.gives
+        L.R.remaining L.W.contents turns) engine.old links.old ends.new links.new engine.new }
+    ensures gone { engine.new.state.peers ≡ [] }
+    ensures run { LeadsTo D.conduct H.digest engine.old engine.new }
+    ensures stands { Stands D.conduct engine.old engine.new }
+{
+    // It is never flushed, so no flush is refused.
+    let _ = run_peers_with_flushes(alloc, engine, links, ends, turns, 0);
+}
+
+/// The same as `run_peers`, but that the engine is flushed in each session, behind each turn whose number is
+/// a multiple of `flush_every`, and behind each session; and never where that is 0.
+///
+/// Errors: a flush was refused. No further peer is dialled then; and a session that it ended is told as one
+/// whose reader failed.
+pub fn run_peers_with_flushes<D: Disk + Drop, H: NodeHash, L: Link>(
+    alloc: Global,
+    engine: &mut Engine<D, H>,
+    links: &mut [L],
+    ends: &mut [PeerEnd],
+    turns: u64,
+    flush_every: u64,
+) -> Result<(), FlushError>
+    requires same_length { length links.old ≡ length ends.old }
+    requires undialled { All (λ link. L.dials link ≡ 0) links.old }
+    requires no_peer { engine.old.state.peers ≡ [] }
+    ensures peers { InTurnWithFlushes (IsTriedWithFlushes D.conduct H.digest L.dials
+        L.failures L.gives L.R.remaining L.W.contents flush_every turns) engine.old links.old ends.new
+        links.new result engine.new }
+    ensures gone { engine.new.state.peers ≡ [] }
+    ensures run { LeadsTo D.conduct H.digest engine.old engine.new }
+    ensures stands { Stands D.conduct engine.old engine.new }
+{
+    what_leads_on_stands::<D, H>(engine.hash());
+    engine.keeps_laws();
+    ends.fill(PeerEnd::Untried);
+    for (i, link) in links.iter_mut().enumerate() {
+        if engine.is_complete() {
+            break;
+        }
+        try_peer(alloc, engine, link, &mut ends[i], turns, flush_every)?;
+    }
+    Ok(())
+}
+
+/// Dials a peer, and has a session with it until the engine is complete, where it is reached; with flushes, and
+/// with its end in place of the one that stood there. Errors: a flush was refused.
+fn try_peer<D: Disk + Drop, H: NodeHash, L: Link>(
+    alloc: Global,
+    engine: &mut Engine<D, H>,
+    link: &mut L,
+    end: &mut PeerEnd,
+    turns: u64,
+    flush_every: u64,
+) -> Result<(), FlushError>
+    requires undialled { L.dials link.old ≡ 0 }
+    requires no_peer { engine.old.state.peers ≡ [] }
+    ensures tried { IsTriedWithFlushes D.conduct H.digest L.dials L.failures L.gives
+        L.R.remaining L.W.contents flush_every turns engine.old link.old end.new result link.new
+        engine.new }
+    ensures gone { engine.new.state.peers ≡ [] }
+    ensures run { LeadsTo D.conduct H.digest engine.old engine.new }
+{
+    let reached = link.dial();
+    let (met, flushed) = meet_peer_with_flushes(alloc, engine, reached, true, turns, flush_every);
+    *end = met;
+    flushed
+}

@@ -1,9 +1,0 @@
-use Rattle.std.proofs.Common.{◌≡◌, length}
-use Rattle.bt_start.specs.Books.{AreRunSizes}
-use Rattle.bt_start.proofs.piece_sizes.piece_sizes.Given as goal
-
-abbrev pub invariant-loop-piece : goal.invariant-loop-piece
-invariant-loop-piece l = record {
-  size : length l.sizes.items ≡ l.piece;
-  each : AreRunSizes l.torrent l.sizes.items;
-}

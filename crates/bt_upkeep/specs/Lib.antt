@@ -1,2 +1,0 @@
-pub mod DevicesSteps
-pub mod ServingSteps
