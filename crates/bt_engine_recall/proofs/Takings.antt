@@ -14,14 +14,13 @@ use Rattle.bt_sparse.specs.Acceptance.{IsRefused, IsAcceptable, DiffersBelow, sh
 use Rattle.bt_sparse.specs.declared.claim.ProofError.{ProofError}
 use Rattle.bt_sparse.specs.declared.claim.ProofError.TheVariants.{OutOfMemory}
 use Rattle.bt_hashreq.specs.Claim.{IsClaimBy, IsNoClaim, digests_in, shape as no_shape, count as no_count, no_memory as no_room}
-use Rattle.bt_resume.specs.Law.{Begin}
 use Rattle.bt_resume.specs.declared.hint.Hint.{Hint}
 use Rattle.bt_resume.specs.declared.hint.Hint.TheVariants.{Proof, Marks}
 use Rattle.bt_machine.proofs.Lists.{some_is, same_some, some_below, get_map, set_same, set_other}
 use Rattle.bt_machine.proofs.Nodes.{value_covers, value_padding, cases_node, value_inside}
 use Rattle.bt_machine.proofs.Pairs.{to_pairs, pairs_at}
 use Rattle.bt_machine.specs.Recovery.{claim_of_proof, IsProofFor, TakesProof, accepted, passed, TakesHints}
-use Rattle.bt_engine_recall.specs.Taking.{TakeHints}
+use Rattle.bt_engine_recall.specs.Taking.{TakeFirstHints, TakeHints}
 use Rattle.bt_engine_recall.specs.TakingSteps.{Places, place_of, roots_of, ArePlaces, TakeProof}
 
 -- ---- digests, one behind the other
@@ -252,6 +251,18 @@ abbrev pub HaveTaken : (List ℕ → List ℕ) → (all rest : List Hint) → (o
 HaveTaken dig all rest old now = (first : List Hint) × (all ≡ first ++ rest)
     × ((t : ℕ) (k : Facts) → slice_get old t ≡ Some k → (j : Facts) × (slice_get now t ≡ Some j) × TakesHints dig k first j)
 
+-- no hint, of which nothing is taken
+module _ (dig : List ℕ → List ℕ) (trees : List Facts) where
+  none_of_none : TakeHints dig [] trees trees
+  none_of_none = record { count = refl; each = λ t k at. (k, at, refl) }
+
+  pub all_of_none : (all : List Hint) → all ≡ [] → TakeHints dig all trees trees
+  all_of_none all none = subst (λ (hs : List Hint). TakeHints dig hs trees trees) (sym none) none_of_none
+
+  pub none_of_some : (all : List Hint) → all ≢ [] → TakeFirstHints dig all trees trees
+  none_of_some [] some = absurd (some refl)
+  none_of_some (next ∷ rest) some = record { first = []; next = next; rest = rest; are_all = refl; taken = none_of_none }
+
 module _ (dig : List ℕ → List ℕ) (all rest : List Hint) (old now : List Facts) where
   pub taken_none : rest ≡ all → HaveTaken dig all rest old old
   taken_none is = ([], sym is, λ t k at. (k, at, refl))
@@ -287,8 +298,14 @@ module _ (dig : List ℕ → List ℕ) (all rest : List Hint) (old now : List Fa
       each = before.2;
     }
 
-    pub taken_some : HaveTaken dig all rest old now → (first : List Hint) × Begin first all × TakeHints dig first old now
-    taken_some before = (before.0, (rest, before.1), taken_by before)
+    pub taken_some : HaveTaken dig all rest old now → {next : Hint} {more : List Hint} → rest ≡ next ∷ more → TakeFirstHints dig all old now
+    taken_some before {next} {more} is = record {
+      first = before.0;
+      next = next;
+      rest = more;
+      are_all = before.1 ∙ ap (λ (hs : List Hint). before.0 ++ hs) is;
+      taken = taken_by before;
+    }
 
     pub taken_all : rest ≡ [] → HaveTaken dig all rest old now → TakeHints dig all old now
     taken_all none before =

@@ -1,12 +1,10 @@
 //! The proofs among a log's hints are taken by the trees of their roots, and those that no tree can take are
 //! passed.
-ghost use Rattle.std.specs.Prelude.{◌≡◌, ◌≢◌, List, OnOk, IfErr, map};
+ghost use Rattle.std.specs.Prelude.{◌≡◌, ◌≢◌, OnOk, IfErr, map};
 ghost use Rattle.std.specs.List.{AllPairs};
-ghost use Rattle.bt_resume.specs.Law.{Begin};
 ghost use Rattle.bt_resume.specs.LogText.{hints_in};
-ghost use Rattle.bt_resume.specs.declared.hint.Hint.{Hint};
 ghost use Rattle.bt_machine.specs.Recovery.{TakesProof};
-ghost use Rattle.bt_engine_recall.specs.Taking.{TakeHints};
+ghost use Rattle.bt_engine_recall.specs.Taking.{TakeFirstHints, TakeHints};
 ghost use Rattle.bt_engine_recall.specs.TakingSteps.{roots_of, ArePlaces, TakeProof};
 
 use crate::places::{place_of, places_of_roots};
@@ -19,9 +17,10 @@ use std::collections::BTreeMap;
 
 /// Each proof of a log's hints, in their order, is taken by the tree of its root, where it can be accepted.
 /// Marks are passed, and so are proofs of which no claim can be made, and those of other roots. It goes once
-/// over the trees and the hints, and looks each root up in a map.
+/// over the trees and the hints, and looks each root up in a map. Where there is no hint it takes no memory.
 ///
-/// Errors: out of memory, and then the trees have taken the proofs of some first hints, and none of those behind.
+/// Errors: out of memory, and then the trees have taken the proofs of some first hints, and none of those
+/// behind, of which there is at least one.
 pub fn take_proofs<H: NodeHash>(
     alloc: Global,
     trees: &mut [SparseTree<H>],
@@ -29,11 +28,13 @@ pub fn take_proofs<H: NodeHash>(
 ) -> Result<(), AllocError>
     requires apart { AllPairs (λ j k. j.root ≢ k.root) trees.old }
     ensures taken { OnOk result (TakeHints H.digest (hints_in hints.now) trees.old trees.new) }
-    ensures refused { IfErr result (λ _. (first : List Hint) × Begin first (hints_in hints.now)
-        × TakeHints H.digest first trees.old trees.new) }
+    ensures refused { IfErr result (λ _. TakeFirstHints H.digest (hints_in hints.now) trees.old trees.new) }
     ensures roots { map (λ k. k.root) trees.new ≡ map (λ k. k.root) trees.old }
     ensures lengths { map (λ k. k.file_length) trees.new ≡ map (λ k. k.file_length) trees.old }
 {
+    if hints.is_empty() {
+        return Ok(());
+    }
     let places = places_of_roots(alloc, trees)?;
     for hint in hints.iter() {
         if let LentHint::Proof(key, digests) = hint {

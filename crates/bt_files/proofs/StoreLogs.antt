@@ -11,6 +11,6 @@ use Rattle.bt_files.specs.StoreLog.{IsLogAt}
 pub log_is_own : (torrent : Metainfo) (path : Option (Bor (List ℕ))) (log : Option (LogView LogDiskView)) → IsLogAt torrent path log
     → IfSome log (λ l. l.infohash ≡ torrent.infohash)
 log_is_own torrent None None at = tt
-log_is_own torrent (Some path) (Some log) at = ap (λ (l : LogView LogDiskView). l.infohash) at.log_is
+log_is_own torrent (Some path) (Some log) at = ap (λ (l : LogView LogDiskView). l.infohash) at.1.log_is
 log_is_own torrent None (Some log) at = absurd at
 log_is_own torrent (Some path) None at = tt

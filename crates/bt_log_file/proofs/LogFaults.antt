@@ -1,6 +1,6 @@
 -- Why a log is not opened in a file, by why one of its steps failed.
 use Rattle.std.proofs.Common.{◌≡◌, inl, inr, ℕ, List, Option, Result, Ok, Err, IfErr, sym, subst}
-use Rattle.std.specs.Prelude.{IsErrAnd, OnOk}
+use Rattle.std.specs.Prelude.{IfOk, IsErrAnd, OnOk}
 use Rattle.bt_disk.specs.declared.opening.FileIdentity.{FileIdentity}
 use Rattle.bt_folder.specs.declared.known_files.KnownFiles.{KnownFiles}
 use Rattle.bt_meta.specs.Files.{File}
@@ -39,6 +39,11 @@ module _ (known : KnownFiles) (identity : Option FileIdentity) (torrent : Metain
 pub where_ok : {T E : Type 0} (r : Result T E) (P : Type 0) → P → OnOk r P
 where_ok (Ok x) P holds = holds
 where_ok (Err it) P holds = tt
+
+pub where_both : {T E : Type 0} (r : Result T E) (P : T → Type 0) (A : Type 0) (Q : T → Type 0) → ((x : T) → P x → A → Q x)
+    → IfOk r P → OnOk r A → IfOk r Q
+where_both (Ok x) P A Q gives holds also = gives x holds also
+where_both (Err it) P A Q gives holds also = tt
 
 pub where_err : {T : Type 0} (r : Result T Fault) (P Q : Fault → Type 0) → ((fault : Fault) → P fault → Q fault) → IfErr r P → IfErr r Q
 where_err (Ok x) P Q gives holds = tt

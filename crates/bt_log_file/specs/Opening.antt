@@ -7,6 +7,7 @@ use Rattle.bt_folder.specs.declared.folder_names.ListingError.TheVariants.{Devic
 use Rattle.bt_folder.specs.declared.known_files.KnownFiles.{KnownFiles}
 use Rattle.bt_meta.specs.Files.{File}
 use Rattle.bt_meta.specs.Torrent.{Metainfo}
+use Rattle.bt_resume.specs.ResumeLog.{LogView, IsAttached}
 use Rattle.bt_check.specs.Fault.{device, log_among_files, out_of_memory}
 use Rattle.bt_check.specs.declared.fault.Fault.{Fault}
 use Rattle.bt_log_file.specs.Attaching.{IsAttachFault}
@@ -32,9 +33,17 @@ pub record AddsFile (before : KnownFiles) (identity : Option FileIdentity) (afte
   pub further : IfSome identity (λ file. ¬ IsKnown before file)
   pub added : IsAdded before identity after
 
--- a file was added that was none of those before, where the system tells them apart
-abbrev pub AddsFurther : KnownFiles → KnownFiles → Type 0
-AddsFurther before after = (identity : Option FileIdentity) × AddsFile before identity after
+-- the log of a torrent on a new device of the file at a path, of which the system tells this
+abbrev pub IsLogIn : Metainfo → List ℕ → Option FileIdentity → LogView LogDiskView → Type 0
+IsLogIn torrent path identity log =
+    IsAttached device_conduct torrent.infohash (new_log_device path identity) log
+
+-- so it is, and that very file was added, which was none of those before where the system tells them apart
+pub record IsFurtherLog (before : KnownFiles) (torrent : Metainfo) (path : List ℕ)
+    (after : KnownFiles) (log : LogView LogDiskView) : Type 0 where
+  pub identity : Option FileIdentity
+  pub is_log : IsLogIn torrent path identity log
+  pub adds : AddsFile before identity after
 
 -- memory was refused, or the file is one of those before
 abbrev pub IsFileFault : KnownFiles → Option FileIdentity → Fault → Type 0
@@ -59,7 +68,8 @@ IsLogFaultOf known identity torrent path disk fault =
     ⊎ ((fault ≡ log_among_files) × IsAmongFiles known identity torrent.files path)
     ⊎ IsAttachFault device_conduct torrent.infohash disk fault
 
--- why a log is not opened in the file at a path, whatever the system tells of it
+-- why a log is not opened in the file at a path, whatever the system tells of that file
 abbrev pub IsLogFault : KnownFiles → Metainfo → List ℕ → Fault → Type 0
 IsLogFault known torrent path fault =
-    (identity : Option FileIdentity) × IsLogFaultOf known identity torrent path (new_log_device path) fault
+    (identity : Option FileIdentity)
+    × IsLogFaultOf known identity torrent path (new_log_device path identity) fault

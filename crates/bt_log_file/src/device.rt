@@ -44,13 +44,13 @@ pub(crate) fn open_device<'a, R: Files + AllocGlobal + Clone + Drop, P: Watch>(
     context: LogContext<'a>,
     path: &str,
 ) -> Result<OpenedLog<LogDisk<'a, R, P>>, Fault>
-    ensures device { IfOk result (λ log. log.disk ≡ new_log_device path.now) }
+    ensures device { IfOk result (λ log. log.disk ≡ new_log_device path.now log.opening.identity) }
     ensures fault { IfErr result IsCallFault }
 {
     let name = fault_name(rt.alloc(), watch, path)?;
-    let file = told(rt.alloc(), watch, FileCall::Open, path, open_file(rt, path))?;
-    let opening = file.opening();
-    let disk = Watched::with_alarm(device_of(context, file), watch, name, context.alarm);
+    let opened = told(rt.alloc(), watch, FileCall::Open, path, open_file(rt, path))?;
+    let OpenedLog { disk, opening } = opened;
+    let disk = Watched::with_alarm(device_of(context, disk), watch, name, context.alarm);
     Ok(OpenedLog { disk, opening })
 }
 
@@ -59,14 +59,17 @@ pub(crate) fn open_device<'a, R: Files + AllocGlobal + Clone + Drop, P: Watch>(
 fn open_file<R: Files + AllocGlobal + Clone + Drop>(
     rt: &R,
     path: &str,
-) -> Result<PooledDisk<R>, Fault>
-    ensures file { IfOk result (λ file. file ≡ new_log_file path.now) }
+) -> Result<OpenedLog<PooledDisk<R>>, Fault>
+    ensures file { IfOk result (λ log. log.disk ≡ new_log_file path.now log.opening.identity) }
     ensures fault { IfErr result IsCallFault }
 {
     let path = String::from_str(rt.alloc(), path)?;
     let mut pool = HandlePool::new(rt.alloc(), rt.clone()?, 1)?;
     match pool.writing(path) {
-        Ok(file) => Ok(file),
+        Ok(file) => Ok(OpenedLog {
+            opening: file.opening(),
+            disk: file,
+        }),
         Err(_) => Err(Fault::Device),
     }
 }

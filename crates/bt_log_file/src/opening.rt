@@ -4,9 +4,9 @@ ghost use Rattle.std.specs.Bool.{OnFalse};
 ghost use Rattle.bt_folder.specs.KnownFiles.{IsKnown};
 ghost use Rattle.bt_meta.specs.Files.{file_of};
 ghost use Rattle.bt_resume.specs.ResumeLog.{IsAttached};
-ghost use Rattle.bt_log_file.specs.Device.{device_conduct, new_log_device};
+ghost use Rattle.bt_log_file.specs.Device.{device_conduct};
 ghost use Rattle.bt_log_file.specs.Names.{HasNameOfFile};
-ghost use Rattle.bt_log_file.specs.Opening.{AddsFile, AddsFurther, IsAdded, IsCallFault, IsFileFault, IsLogFault, IsLogFaultOf, IsNameFault, listing_fault};
+ghost use Rattle.bt_log_file.specs.Opening.{AddsFile, IsAdded, IsCallFault, IsFileFault, IsFurtherLog, IsLogFault, IsLogFaultOf, IsNameFault, listing_fault};
 
 use crate::attaching::attach_log;
 use crate::device::{LogContext, LogDisk, OpenedLog, open_device};
@@ -39,9 +39,7 @@ pub fn open_log<'a, R: Files + AllocGlobal + Clone + Drop, P: Watch>(
     torrent: &Torrent,
     path: &str,
 ) -> Result<ResumeLog<LogDisk<'a, R, P>>, Fault>
-    ensures log { IfOk result
-        (IsAttached device_conduct torrent.now.infohash (new_log_device path.now)) }
-    ensures further { OnOk result (AddsFurther known.old known.new) }
+    ensures log { IfOk result (IsFurtherLog known.old torrent.now path.now known.new) }
     ensures fault { IfErr result (IsLogFault known.old torrent.now path.now) }
 {
     let opened = open_device(rt, watch, context, path)?;

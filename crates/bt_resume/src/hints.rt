@@ -1,5 +1,5 @@
 //! The hints of a log, in memory.
-ghost use Rattle.std.specs.Prelude.{◌≡◌, ◌+◌, ◌≤◌, max, ◌++◌, IfOk, IfErr, vec_len, vec_capacity};
+ghost use Rattle.std.specs.Prelude.{◌≡◌, ◌+◌, ◌≤◌, max, ◌++◌, IfOk, IfErr, OnOk, vec_len, vec_capacity};
 ghost use Rattle.bt_resume.specs.OneSpelling.{IsSpelling, IsSpelling-prop};
 
 use crate::hint::{Format, LentHint};
@@ -123,6 +123,7 @@ fn add_bytes(bytes: &mut Vec<u8>, more: &[u8], room: usize) -> Result<(), AllocE
 /// less, and at least for those that come.
 fn make_room(bytes: &mut Vec<u8>, more: usize, room: usize) -> Result<(), AllocError>
     ensures same { bytes.new.items ≡ bytes.old.items }
+    ensures enough { OnOk result (vec_len bytes.old + more ≤ vec_capacity bytes.new) }
     ensures room { IfOk result (λ _. vec_capacity bytes.new ≤ max (vec_capacity bytes.old)
         (max room (vec_len bytes.old + more))) }
 {

@@ -1,8 +1,9 @@
-use Rattle.std.proofs.Common.{◌∷◌, refl, sym, ap, ◌∙◌, subst}
+use Rattle.std.proofs.Common.{◌≡◌, ◌≢◌, [], ◌∷◌, refl, sym, ap, ◌∙◌, subst, rules}
+use Rattle.std.proofs.lemmas.Grind.{common_steps}
 use Rattle.bt_resume.specs.LogText.{hints_in}
 use Rattle.bt_resume.specs.LentHint.{hint_of}
-use Rattle.bt_engine_recall.specs.Taking.{TakeHints}
-use Rattle.bt_engine_recall.proofs.Takings.{if_err, taken_none, taken_proof, taken_marks, taken_some, taken_all}
+use Rattle.bt_engine_recall.specs.Taking.{TakeFirstHints}
+use Rattle.bt_engine_recall.proofs.Takings.{if_err, all_of_none, none_of_some, taken_none, taken_proof, taken_marks, taken_some, taken_all}
 use Rattle.bt_engine_recall.proofs.taking.take_proofs.Goals as goal
 
 pub loop-hint-init : goal.loop-hint-init
@@ -37,21 +38,25 @@ loop-hint-preserved g c = record {
       c.loop-hint.invariant.taken;
 }
 
+pub returns-then-is_empty-clause-taken : goal.returns-then-is_empty-clause-taken
+returns-then-is_empty-clause-taken g c =
+    let none : hints_in c.args.hints.now ≡ [] = search (rules, common_steps) in
+    all_of_none g.H.NodeHash.digest c.args.trees.now (hints_in c.args.hints.now) none
+
 pub returns-in_err-places-clause-refused : goal.returns-in_err-places-clause-refused
 returns-in_err-places-clause-refused g c =
-    let dig = g.H.NodeHash.digest in
-    let all = hints_in c.args.hints.now in
-    let trees = c.args.trees.now in
-    if_err c.from_residual.result (taken_some dig all all trees trees refl (taken_none dig all all trees trees refl))
+    let some : hints_in c.args.hints.now ≢ [] = search (rules, common_steps) in
+    if_err c.from_residual.result (none_of_some g.H.NodeHash.digest c.args.trees.now (hints_in c.args.hints.now) some)
 
 pub returns-in_err-take_proof-clause-refused : goal.returns-in_err-take_proof-clause-refused
 returns-in_err-take_proof-clause-refused g c =
     let dig = g.H.NodeHash.digest in
     let trees = c.args.trees.now in
+    let all = hints_in c.args.hints.now in
     let before =
-    taken_some dig (hints_in c.args.hints.now) c.loop-hint.hint-iterator trees c.loop-hint.trees c.loop-hint.invariant.roots c.loop-hint.invariant.taken in
+    taken_some dig all c.loop-hint.hint-iterator trees c.loop-hint.trees c.loop-hint.invariant.roots c.loop-hint.invariant.taken c.in-Some.ensures.steps in
     if_err c.from_residual-in_err-take_proof.result
-    (before.0, before.1, subst (λ now. TakeHints dig before.0 trees now) (sym c.in_err-take_proof.ensures.refused) before.2)
+    (subst (λ now. TakeFirstHints dig all trees now) (sym c.in_err-take_proof.ensures.refused) before)
 
 pub returns-clause-taken : goal.returns-clause-taken
 returns-clause-taken g c =

@@ -5,7 +5,8 @@ use Rattle.bt_files.proofs.store_log.open_log_at.Goals as goal
 
 pub returns-in_ok-opened-in-Some-clause-log : goal.returns-in_ok-opened-in-Some-clause-log
 returns-in_ok-opened-in-Some-clause-log g c =
-    subst (λ log. IsLogAt c.args.torrent.now log (Some c.in_ok-opened-in-Some.opened)) (sym c.in-Some.is) c.in_ok-opened-in-Some.ensures.log
+    let opened = c.in_ok-opened-in-Some.ensures.log in
+    subst (λ log. IsLogAt c.args.torrent.now log (Some c.in_ok-opened-in-Some.opened)) (sym c.in-Some.is) (opened.identity, opened.is_log)
 
 pub returns-in_err-opened-in-Some-clause-fault : goal.returns-in_err-opened-in-Some-clause-fault
 returns-in_err-opened-in-Some-clause-fault g c =

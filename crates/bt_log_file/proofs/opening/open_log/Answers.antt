@@ -1,9 +1,8 @@
-use Rattle.std.proofs.Common.{None, IfOk, inl, subst}
-use Rattle.std.proofs.lemmas.Result.{on_ok_weaker}
+use Rattle.std.proofs.Common.{None, inl, subst}
 use Rattle.bt_resume.specs.ResumeLog.{IsAttached}
 use Rattle.bt_log_file.specs.Device.{LogDiskView, device_conduct}
-use Rattle.bt_log_file.specs.Opening.{IsLogFault, IsLogFaultOf}
-use Rattle.bt_log_file.proofs.LogFaults.{passed_on, where_err}
+use Rattle.bt_log_file.specs.Opening.{AddsFile, IsFurtherLog, IsLogFault, IsLogFaultOf}
+use Rattle.bt_log_file.proofs.LogFaults.{passed_on, where_both, where_err}
 use Rattle.bt_log_file.proofs.opening.open_log.Goals as goal
 
 pub returns-in_err-opened-clause-fault : goal.returns-in_err-opened-clause-fault
@@ -13,11 +12,16 @@ returns-in_err-opened-clause-fault g c =
 
 pub returns-clause-log : goal.returns-clause-log
 returns-clause-log g c =
-    subst (λ (d : LogDiskView). IfOk c.open_in_file.result (IsAttached device_conduct c.args.torrent.now.infohash d))
-    c.in_ok-opened.ensures.device c.open_in_file.ensures.log
-
-pub returns-clause-further : goal.returns-clause-further
-returns-clause-further g c = on_ok_weaker c.open_in_file.result (λ adds. (c.in_ok-opened.opened.opening.identity, adds)) c.open_in_file.ensures.further
+    let identity = c.in_ok-opened.opened.opening.identity in
+    let on = IsAttached device_conduct c.args.torrent.now.infohash in
+    let after = c.open_in_file.new.known in
+    where_both c.open_in_file.result (on c.in_ok-opened.opened.disk) (AddsFile c.args.known.now identity after)
+    (IsFurtherLog c.args.known.now c.args.torrent.now c.args.path.now after)
+    (λ log attached adds. record {
+      identity = identity;
+      is_log = subst (λ (d : LogDiskView). on d log) c.in_ok-opened.ensures.device attached;
+      adds = adds;
+    }) c.open_in_file.ensures.log c.open_in_file.ensures.further
 
 pub returns-clause-fault : goal.returns-clause-fault
 returns-clause-fault g c =
