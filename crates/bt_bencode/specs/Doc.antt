@@ -5,7 +5,7 @@ use Rattle.std.specs.Int.{w64}
 use Rattle.std.specs.Ordering.{nat_cmp}
 use Rattle.std.specs.Cmp.Lexicographic.{slice_cmp}
 use Rattle.std.specs.declared.cmp.Ordering.TheVariants.{Less}
-use Rattle.bt_bencode.specs.Letters.{max_nesting}
+use Rattle.bt_bencode.specs.declared.reader.TheConstants.{MAX_NESTING}
 use Rattle.bt_bencode.specs.Value.{Data, integer, string, list, dictionary}
 use Rattle.bt_bencode.specs.Value.{Items, no_items, item, Entries, no_entries, entry}
 
@@ -73,4 +73,4 @@ pub record IsCanonicalWithin (n : ℕ) (d : Data) : Type 0 where
   pub integers : HasSmallIntegers d
 
 abbrev pub IsCanonical : Data → Type 0
-IsCanonical = IsCanonicalWithin max_nesting
+IsCanonical = IsCanonicalWithin MAX_NESTING

@@ -27,7 +27,3 @@ minus = 45
 
 abbrev pub digit_zero : ℕ
 digit_zero = 48
-
--- how many lists and dictionaries may lie in one another; BEP 3 sets no limit
-abbrev pub max_nesting : ℕ
-max_nesting = 128

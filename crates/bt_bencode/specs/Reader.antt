@@ -4,7 +4,8 @@ use Rattle.std.specs.Prelude.{length, take, drop, slice_index, Option, None, Som
 use Rattle.std.specs.Int.{w64}
 use Rattle.std.specs.Char.{IsAsciiDigit}
 use Rattle.std.specs.Str.Parse.{IsNumeral, digits_value}
-use Rattle.bt_bencode.specs.Letters.{letter_i, letter_l, letter_d, letter_e, colon, minus, max_nesting}
+use Rattle.bt_bencode.specs.Letters.{letter_i, letter_l, letter_d, letter_e, colon, minus}
+use Rattle.bt_bencode.specs.declared.reader.TheConstants.{MAX_NESTING}
 use Rattle.bt_bencode.specs.Value.{Data, list, dictionary, Items, Entries, no_entries, entry}
 use Rattle.bt_bencode.specs.Spelling.{string_spelling, spelling_of, items_spelling, entries_spelling}
 use Rattle.bt_bencode.specs.Doc.{IsBefore, IsCanonicalWithin, IsCanonical}
@@ -78,7 +79,7 @@ pub data Stops : ℕ → List ℕ → Fault → List ℕ → Type 0 where
 -- the first fault of the bytes as one value's whole spelling, and its offset
 pub data IsFirstFault (bytes : List ℕ) : Fault → ℕ → Type 0 where
   in_the_value : (f : Fault) (offset : ℕ) → offset ≤ length bytes
-      → Stops max_nesting bytes f (drop offset bytes)
+      → Stops MAX_NESTING bytes f (drop offset bytes)
       → IsFirstFault bytes f offset
   behind_the_value : (d : Data) (offset : ℕ) → IsCanonical d → offset < length bytes
       → spelling_of d ++ drop offset bytes ≡ bytes

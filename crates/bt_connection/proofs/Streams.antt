@@ -3,7 +3,8 @@ use Rattle.std.proofs.Common.{◌≡◌, ◌≤◌, ◌+◌, ℕ, suc, true, inr
 use Rattle.std.proofs.lemmas.List.{append_assoc, append-nil}
 use Rattle.std.specs.Int.{w32, to_be_bytes}
 use Rattle.bt_wire.specs.Message.{Body, body, body_of, frame_spelling, length_field}
-use Rattle.bt_wire.specs.Limits.{max_length_field, handshake_length}
+use Rattle.bt_wire.specs.declared.message.TheConstants.{MAX_LENGTH_FIELD}
+use Rattle.bt_wire.specs.declared.handshake.TheConstants.{HANDSHAKE_LEN}
 use Rattle.bt_wire.specs.Event.{IsEvent, IsSent, HasNoEvent}
 use Rattle.bt_wire.specs.Frames.{IsFrame}
 use Rattle.bt_wire.specs.Law.{IsStream, StreamsHaveOneReading}
@@ -26,7 +27,7 @@ use Rattle.bt_connection.proofs.Sendable.{sendable_in, sendable_out}
 
 -- ---- an event behind a handshake is a frame
 
-spelled_frame : (b : Option Body) → length_field b ≤ max_length_field → IsFrame (frame_spelling b)
+spelled_frame : (b : Option Body) → length_field b ≤ MAX_LENGTH_FIELD → IsFrame (frame_spelling b)
 spelled_frame None few = record { body = []; limit = omega arith; spelled = refl }
 spelled_frame (Some b) few = record {
   body = b.kind ∷ b.payload;
@@ -119,4 +120,4 @@ module _ (law : StreamsHaveOneReading) (torrent : Metainfo) (side : Side) where
 pub gives_streams : StreamsHaveOneReading → GivesStreams
 gives_streams law torrent side parts left came bytes rest come split are =
     let on = given_on torrent side parts new_flow left no_frame (inr refl) come in
-    (on.0, on.1, events law torrent side left.unread (drop handshake_length (all_came parts)) on.0 came bytes rest on.2 split are)
+    (on.0, on.1, events law torrent side left.unread (drop HANDSHAKE_LEN (all_came parts)) on.0 came bytes rest on.2 split are)

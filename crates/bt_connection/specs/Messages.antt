@@ -1,11 +1,12 @@
 -- The messages of a peer, one behind the other (BEP 3), and those that may carry a whole block.
 use Rattle.std.specs.Prelude.{◌≡◌, ℕ, ◌+◌, ◌≤◌, List, [], ◌++◌, length, get_or}
-use Rattle.bt_wire.specs.Limits.{piece_kind, block_message_length}
+use Rattle.bt_wire.specs.Limits.{piece_kind}
+use Rattle.bt_wire.specs.declared.frames.TheConstants.{BLOCK_MESSAGE_LEN}
 use Rattle.bt_wire.specs.Frames.{IsFrame, HasNoMessage, message_length}
 
 -- a message that begins so may carry a whole block, as far as its length and its kind are there
 pub record MayCarryBlock (bytes : List ℕ) : Type 0 where
-  pub size : 4 ≤ length bytes → message_length bytes ≡ block_message_length
+  pub size : 4 ≤ length bytes → message_length bytes ≡ BLOCK_MESSAGE_LEN
   pub kind : 5 ≤ length bytes → get_or bytes 4 0 ≡ piece_kind
 
 -- no message is whole at the front of these bytes, and the one that begins there may carry a whole block

@@ -1,7 +1,7 @@
 -- What a peer sends, read as its engine is to get it, and what an engine sends, written as its peer is to get it.
 use Rattle.std.specs.Prelude.{◌≡◌, ℕ, ◌<◌, ◌≤◌, List, [], ◌++◌, Option, length, take, drop}
 use Rattle.std.specs.Io.KnownBytes.{Appends, Consumes, IsAtEnd, Keeps}
-use Rattle.bt_wire.specs.Limits.{block_message_length}
+use Rattle.bt_wire.specs.declared.frames.TheConstants.{BLOCK_MESSAGE_LEN}
 use Rattle.bt_wire.specs.declared.message.Ask.{Ask}
 use Rattle.bt_connection.specs.declared.translation.Side.{Side}
 use Rattle.bt_connection.specs.Flow.{Flow, flow, new_flow}
@@ -42,7 +42,7 @@ new_padded side inner blocks =
 -- how many bytes there is room for, and the reader behind gives at most at a time: a message with a whole
 -- block
 abbrev pub frame_room_length : ℕ
-frame_room_length = block_message_length
+frame_room_length = BLOCK_MESSAGE_LEN
 
 -- the reader behind gave these bytes, and what is given on of them waits
 pub record TakesPart {R : Type 0} (remaining : R → Option (List ℕ)) (old : PaddedState R) (part : List ℕ)

@@ -5,11 +5,8 @@ use Rattle.bt_tree.specs.Limits.{full_block_length}
 use Rattle.bt_wire.specs.declared.message.Ask.{Ask}
 use Rattle.bt_wire.specs.declared.message.Message.{Message}
 use Rattle.bt_wire.specs.declared.message.Message.TheVariants.{Request, Piece}
+use Rattle.bt_connection.specs.declared.padding.TheConstants.{MAX_REMEMBERED}
 use Rattle.bt_connection.specs.ShortBlocks.{padded}
-
--- how many requests are remembered at most
-abbrev pub max_remembered : ℕ
-max_remembered = 1024
 
 -- What is remembered of a peer: the requests that were given on shortened and that no piece has answered yet,
 -- from the oldest on.
@@ -21,7 +18,7 @@ new_memory = []
 
 -- with one request more; beyond the limit the oldest is forgotten
 abbrev pub with_asked : Memory → Ask → Memory
-with_asked asked ask = drop (length asked - (max_remembered - 1)) asked ++ ask ∷ []
+with_asked asked ask = drop (length asked - (MAX_REMEMBERED - 1)) asked ++ ask ∷ []
 
 -- the first of these that is the request is taken out
 pub record IsTaken (old : Memory) (ask : Ask) (new : Memory) : Type 0 where

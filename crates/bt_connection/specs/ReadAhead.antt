@@ -1,7 +1,7 @@
 -- What a peer sends, read ahead of its engine.
 use Rattle.std.specs.Prelude.{◌≡◌, ℕ, ◌-◌, ◌<◌, ◌≤◌, ◌⊎◌, min, List, [], ◌++◌, Option, length, take, drop}
 use Rattle.std.specs.Io.KnownBytes.{Consumes, IsAtEnd, prepend_known}
-use Rattle.bt_wire.specs.Limits.{handshake_length}
+use Rattle.bt_wire.specs.declared.handshake.TheConstants.{HANDSHAKE_LEN}
 use Rattle.bt_connection.specs.Messages.{IsHeld, Leads}
 
 -- how many bytes there is room for: eight messages of a whole block each, and a part of one more
@@ -18,7 +18,7 @@ pub record ReaderState (R : Type 0) : Type 0 where
 
 -- at a connection's begin
 abbrev pub new_reader : {R : Type 0} → R → ReaderState R
-new_reader inner = record { inner = inner; waiting = []; ready = 0; owed = handshake_length }
+new_reader inner = record { inner = inner; waiting = []; ready = 0; owed = HANDSHAKE_LEN }
 
 -- what is to be read of it: what waits, and then what the reader behind has left
 abbrev pub reader_remaining : {R : Type 0} → (R → Option (List ℕ)) → ReaderState R → Option (List ℕ)

@@ -1,6 +1,6 @@
 -- What follows for streams of bytes.
 use Rattle.std.specs.Prelude.{◌≡◌, ◌≢◌, true, ℕ, List, [], ◌∷◌, ◌++◌, length, take, drop, flat_map}
-use Rattle.bt_wire.specs.Limits.{handshake_length}
+use Rattle.bt_wire.specs.declared.handshake.TheConstants.{HANDSHAKE_LEN}
 use Rattle.bt_wire.specs.Event.{IsEvent}
 use Rattle.bt_wire.specs.Frames.{IsFrame}
 use Rattle.bt_wire.specs.declared.message.Ask.{Ask}
@@ -71,6 +71,6 @@ abbrev pub GivesStreams : Type 0
 GivesStreams = (torrent : Metainfo) (side : Side) (parts : List Part) (left : Flow) (came : List WireEvent)
     (bytes rest : List ℕ)
     → Come (short_blocks_of torrent) side new_flow parts left
-    → drop handshake_length (all_came parts) ≡ bytes ++ rest → AreEvents came bytes
-    → (given : List ℕ) × (all_given parts ≡ take handshake_length (all_came parts) ++ given)
+    → drop HANDSHAKE_LEN (all_came parts) ≡ bytes ++ rest → AreEvents came bytes
+    → (given : List ℕ) × (all_given parts ≡ take HANDSHAKE_LEN (all_came parts) ++ given)
     × GivesEvents (short_blocks_of torrent) side left.unread came rest given

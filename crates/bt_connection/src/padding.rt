@@ -27,14 +27,15 @@ pub struct Padding {
 
 impl Model for Padding {
     ghost use Rattle.std.specs.Prelude.{◌≤◌, length, vec_capacity};
-    ghost use Rattle.bt_connection.specs.Padding.{Memory, max_remembered};
+    ghost use Rattle.bt_connection.specs.Padding.{Memory};
+    ghost use Rattle.bt_connection.specs.declared.padding.TheConstants.{MAX_REMEMBERED};
 
     ghost Value = { Memory };
 
     ghost view = { λ p. p.asked.items };
 
     ghost invariant = { λ p.
-        (length p.asked.items ≤ max_remembered) × (max_remembered ≤ vec_capacity p.asked) };
+        (length p.asked.items ≤ MAX_REMEMBERED) × (MAX_REMEMBERED ≤ vec_capacity p.asked) };
 }
 
 impl Padding {

@@ -4,7 +4,7 @@ ghost use Rattle.std.specs.Prelude.{◌≡◌, ◌≤◌, ℕ, List, [], ◌++�
 ghost use Rattle.std.specs.Bool.{OnTrue, OnFalse};
 ghost use Rattle.std.specs.Io.{ReadsAtMost, WritesAtMost};
 ghost use Rattle.std.specs.Io.KnownBytes.{Appends, Keeps, WriteAppends, ReadConsumes};
-ghost use Rattle.bt_wire.specs.Limits.{request_length};
+ghost use Rattle.bt_wire.specs.declared.frames.TheConstants.{REQUEST_LEN};
 ghost use Rattle.bt_wire.specs.Frames.{IsRequest};
 ghost use Rattle.bt_connection.specs.Requests.{AreRequests, SendsRequests, IsHeldOrWritten, IsReadBehind};
 
@@ -79,8 +79,8 @@ impl Requests {
 
 /// Whether these bytes begin with a request.
 fn begins_request(bytes: &[u8]) -> bool
-    ensures whole { OnTrue result (request_length ≤ length bytes.now) }
-    ensures request { OnTrue result (IsRequest (take request_length bytes.now)) }
+    ensures whole { OnTrue result (REQUEST_LEN ≤ length bytes.now) }
+    ensures request { OnTrue result (IsRequest (take REQUEST_LEN bytes.now)) }
 {
     if bytes.len() < REQUEST_LEN {
         return false;

@@ -4,7 +4,7 @@ use Rattle.std.specs.List.{AllZip}
 use Rattle.std.specs.BTreeMap.{get}
 use Rattle.bt_meta.specs.Files.{File}
 use Rattle.bt_check.specs.TreeSteps.{key_cmp, tree_key}
-use Rattle.bt_parts.specs.Limits.{max_total}
+use Rattle.bt_parts.specs.declared.cut.TheConstants.{MAX_TOTAL}
 use Rattle.bt_jobs.specs.Plan.{IsCutOf, has_twin, place_of, total_of}
 use Rattle.bt_jobs.specs.declared.plan.Places.{Places}
 use Rattle.bt_jobs.specs.declared.plan.Plan.{Plan}
@@ -23,4 +23,4 @@ pub record ArePlacesOf (files : List File) (places : Places) : Type 0 where
 pub record IsPlanOf (layer : ℕ) (files : List File) (plan : Plan) : Type 0 where
   pub total : plan.total ≡ total_of files
   pub cuts : AllZip (IsCutOf layer files) files plan.cuts.items
-  pub few : plan.total ≤ max_total
+  pub few : plan.total ≤ MAX_TOTAL

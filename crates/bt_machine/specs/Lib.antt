@@ -5,6 +5,7 @@ pub mod Devices
 pub mod LogCalls
 pub mod Blocks
 pub mod Output
+pub mod Why
 -- wire events
 pub mod Spans
 pub mod Settling

@@ -1,4 +1,3 @@
-pub mod Limits
 pub mod Run
 pub mod Field
 pub mod Line

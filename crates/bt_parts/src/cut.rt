@@ -1,11 +1,12 @@
 //! The parts of a check, and what a file is cut into.
 ghost use Rattle.std.specs.Prelude.{◌≡◌, ◌<◌, ◌≤◌, IfSome, IfNone};
-ghost use Rattle.bt_parts.specs.Limits.{max_parts};
+ghost use Rattle.bt_parts.specs.declared.cut.TheConstants.{MAX_PARTS};
 
 /// How many parts there may be.
 pub const MAX_PARTS: u32 = 64;
 
-/// How many bytes may be counted in all. A torrent has fewer: at most 2^16 files of at most 2^40 bytes.
+/// How many bytes may be counted in all: twice as many as the 2^16 files of a torrent have where each is as
+/// long as may be, 2^40 bytes. As many times this as there are parts is a number of 64 bits.
 pub const MAX_TOTAL: u64 = 1 << 57;
 
 /// One of the parts of a check.
@@ -16,14 +17,14 @@ pub struct Part {
     /// How many there are.
     pub count: u32,
     ghost inside: { index < count },
-    ghost few: { count ≤ max_parts },
+    ghost few: { count ≤ MAX_PARTS },
 }
 
 impl Part {
     /// The part of this number: none where there is no such, or there are too many.
     pub fn new(index: u32, count: u32) -> Option<Part>
         ensures some { IfSome result (λ part. (part.index ≡ index) × (part.count ≡ count)) }
-        ensures none { IfNone result (index < count → ¬ (count ≤ max_parts)) }
+        ensures none { IfNone result (index < count → ¬ (count ≤ MAX_PARTS)) }
     {
         if index >= count || count > MAX_PARTS {
             return None;

@@ -1,14 +1,14 @@
 //! How the blocks of a torrent's files are divided among the parts of a check.
 ghost use Rattle.std.specs.Prelude.{◌≡◌, ◌+◌, ◌<◌, ◌≤◌, ◌↔◌, IsTrue};
 ghost use Rattle.bt_parts.specs.Division.{IsFirstIn, cut_at, edge_of};
-ghost use Rattle.bt_parts.specs.Limits.{max_parts, max_total};
+ghost use Rattle.bt_parts.specs.declared.cut.TheConstants.{MAX_PARTS, MAX_TOTAL};
 
 use crate::cut::{Cut, Part, Share};
 use bt_tree::BLOCK_LEN;
 
 /// The share that a part has of a file, where so many bytes are counted in all.
 pub fn share_of(part: Part, total: u64, file: Cut) -> Share
-    requires limit { total ≤ max_total }
+    requires limit { total ≤ MAX_TOTAL }
     requires inside { file.place < total }
     ensures from { result.from ≡ cut_at file (edge_of total part.count part.index) }
     ensures to { result.to ≡ cut_at file (edge_of total part.count (part.index + 1)) }
@@ -25,8 +25,8 @@ pub fn share_of(part: Part, total: u64, file: Cut) -> Share
 
 /// The number of the byte at which a part begins, and the one before it ends.
 fn edge_of(total: u64, count: u32, index: u32) -> u64
-    requires limit { total ≤ max_total }
-    requires few { index ≤ max_parts }
+    requires limit { total ≤ MAX_TOTAL }
+    requires few { index ≤ MAX_PARTS }
     requires some { 0 < count }
     ensures { result ≡ edge_of total count index }
 {

@@ -10,7 +10,6 @@ use Rattle.bt_machine.specs.declared.answer.Frame.TheVariants.{Hello, Message}
 use Rattle.bt_machine.specs.declared.answer.Note.{Note}
 use Rattle.bt_machine.specs.declared.answer.Note.TheVariants.{Marked, Waiting, Freed, Damaged, Device, Stale, Complete}
 use Rattle.bt_machine.specs.declared.answer.Why.{Why}
-use Rattle.bt_machine.specs.declared.answer.Why.TheVariants.{Wire, WrongTorrent, BadPiece, BadBitfield, BadRequest, WrongBlock, UnknownRoot, Proof}
 use Rattle.bt_machine.specs.declared.error.ConnectError.{ConnectError}
 use Rattle.bt_machine.specs.declared.error.ConnectError.TheVariants.{Full, SerialsSpent, OutOfMemory as no_peer_memory}
 use Rattle.bt_machine.specs.declared.error.EngineError.{EngineError}
@@ -29,6 +28,7 @@ use Rattle.bt_machine.specs.Frames.{CanBeWritten}
 use Rattle.bt_machine.specs.Output.{Sent, Output}
 use Rattle.bt_machine.specs.Report.{report}
 use Rattle.bt_machine.specs.State.{EngineState}
+use Rattle.bt_machine.specs.Why.{code_of}
 
 -- a line with its end, one line feed
 abbrev pub line_text : List ℕ → List ℕ
@@ -45,19 +45,9 @@ frame_words (Message message) = encode_lower (message_spelling message)
 abbrev pub send_line : Sent → List ℕ
 send_line sent = line_text (codes "send " ++ decimal sent.0.0 ++ codes " " ++ frame_words sent.1)
 
-abbrev pub close_code : Why → List ℕ
-close_code (Wire fault) = codes "C1"
-close_code WrongTorrent = codes "C2"
-close_code BadPiece = codes "C3"
-close_code BadBitfield = codes "C4"
-close_code BadRequest = codes "C5"
-close_code WrongBlock = codes "C6"
-close_code UnknownRoot = codes "C7"
-close_code (Proof fault) = codes "C8"
-
 abbrev pub close_text : Option Why → List ℕ
 close_text None = []
-close_text (Some why) = line_text (codes "close " ++ close_code why)
+close_text (Some why) = line_text (codes "close " ++ code_of why)
 
 -- a file, and a block of it
 abbrev pub block_words : BlockId → List ℕ

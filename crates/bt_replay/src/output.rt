@@ -1,7 +1,7 @@
 //! The lines that tell what an event sent and noted.
 ghost use Rattle.std.specs.Prelude.{◌≡◌, ◌++◌, OnOk, IfOk, flat_map, string_bytes};
 ghost use Rattle.bt_machine.specs.Frames.{CanBeWritten};
-ghost use Rattle.bt_replay.specs.Answer.{AllFit, block_line, close_code, close_text, frame_words, sent_with, note_line, output_text, send_line};
+ghost use Rattle.bt_replay.specs.Answer.{AllFit, block_line, close_text, frame_words, sent_with, note_line, output_text, send_line};
 
 use bt_book::{BlockId, PeerKey};
 use bt_machine::{Frame, Note, Output, Why};
@@ -62,24 +62,8 @@ fn push_close(text: &mut String, close: Option<Why>) -> Result<(), AllocError>
     ensures { OnOk result (string_bytes text.new ≡ string_bytes text.old ++ close_text close) }
 {
     match close {
-        Some(why) => writeln!(text, "close {}", close_code(why)),
+        Some(why) => writeln!(text, "close {}", why.code()),
         None => Ok(()),
-    }
-}
-
-/// The code of a cause.
-fn close_code(why: Why) -> &'static str
-    ensures { result.now ≡ close_code why }
-{
-    match why {
-        Why::Wire(_) => "C1",
-        Why::WrongTorrent => "C2",
-        Why::BadPiece => "C3",
-        Why::BadBitfield => "C4",
-        Why::BadRequest => "C5",
-        Why::WrongBlock => "C6",
-        Why::UnknownRoot => "C7",
-        Why::Proof(_) => "C8",
     }
 }
 

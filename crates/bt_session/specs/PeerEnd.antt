@@ -1,21 +1,15 @@
 -- The words for how it ended with a peer.
-use Rattle.std.specs.Prelude.{ℕ, List, codes}
+use Rattle.std.specs.Prelude.{ℕ, ◌++◌, List, codes}
 use Rattle.bt_machine.specs.declared.answer.Why.{Why}
-use Rattle.bt_machine.specs.declared.answer.Why.TheVariants.{Wire, WrongTorrent, BadPiece, BadBitfield, BadRequest, WrongBlock, UnknownRoot, Proof}
+use Rattle.bt_machine.specs.Why.{code_of}
 use Rattle.bt_session.specs.declared.end.SessionEnd.{SessionEnd}
 use Rattle.bt_session.specs.declared.end.SessionEnd.TheVariants.{Complete, Ended, Closed, TurnsSpent, ReadFault, WriteFault, Memory}
 use Rattle.bt_session.specs.declared.peer_end.PeerEnd.{PeerEnd}
 use Rattle.bt_session.specs.declared.peer_end.PeerEnd.TheVariants.{Untried, Unreachable, Refused, Session}
 
+-- closed, and the code of the cause
 abbrev pub close_text : Why → List ℕ
-close_text (Wire fault) = codes "closed C1"
-close_text WrongTorrent = codes "closed C2"
-close_text BadPiece = codes "closed C3"
-close_text BadBitfield = codes "closed C4"
-close_text BadRequest = codes "closed C5"
-close_text WrongBlock = codes "closed C6"
-close_text UnknownRoot = codes "closed C7"
-close_text (Proof fault) = codes "closed C8"
+close_text why = codes "closed " ++ code_of why
 
 abbrev pub session_text : SessionEnd → List ℕ
 session_text Complete = codes "complete"

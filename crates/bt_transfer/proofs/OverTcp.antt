@@ -17,7 +17,8 @@ use Rattle.bt_wire.specs.declared.message.Ask.{Ask}
 use Rattle.bt_sockets.specs.Link.{Dials, undialled}
 use Rattle.bt_sockets.specs.Listener.{IsServed}
 use Rattle.bt_transfer.specs.Fetch.{HasFetched, TriesAndSyncs, Turns, TurnsOverTcp, among, behind, flush_turns, links_of}
-use Rattle.bt_transfer.specs.OverTcp.{MeetsOverTcp, TriesOverTcp, TriesWithFlushesOverTcp, session_turns}
+use Rattle.bt_transfer.specs.OverTcp.{MeetsOverTcp, TriesOverTcp, TriesWithFlushesOverTcp}
+use Rattle.bt_sockets.specs.declared.listener.TheConstants.{SESSION_TURNS}
 use Rattle.bt_words.specs.declared.peer.Peer.{Peer}
 
 -- the bytes of a reader and a writer
@@ -62,12 +63,12 @@ module _ {D : Type 0} (conduct : Conduct D) (dig : List ℕ → List ℕ) where
 
   -- a connection that is served
   pub served_by_bytes : {R W : Type 0} (gives : R → W → Type 0) (remaining : R → Option (List ℕ)) (contents : W → Option (List ℕ)) (old : EngineView D) (end : PeerEnd)
-      (new : EngineView D) → IsServed conduct dig gives remaining contents session_turns old end new
+      (new : EngineView D) → IsServed conduct dig gives remaining contents SESSION_TURNS old end new
       → MeetsOverTcp conduct dig old end new
   served_by_bytes gives remaining contents old end new served = record {
     reached = by_bytes remaining contents served.reached;
     given = some_ways remaining contents served.reached;
-    ended = ends_by_bytes remaining contents _ session_turns served.reached old end new served.ended;
+    ended = ends_by_bytes remaining contents _ SESSION_TURNS served.reached old end new served.ended;
   }
 
   dialled_by_bytes : {R W : Type 0} (gives : Dials → R → W → Type 0) (remaining : R → Option (List ℕ)) (contents : W → Option (List ℕ)) (link : Dials)
@@ -80,24 +81,24 @@ module _ {D : Type 0} (conduct : Conduct D) (dig : List ℕ → List ℕ) where
   -- a peer that is tried
   pub tried_by_bytes : {R W : Type 0} (gives : Dials → R → W → Type 0) (remaining : R → Option (List ℕ)) (contents : W → Option (List ℕ)) (old : EngineView D)
       (link : Dials) (end : PeerEnd) (after : Dials) (new : EngineView D)
-      → IsTried conduct dig (λ (l : Dials). l.all) (λ (l : Dials). l.failed) gives remaining contents session_turns old link end after new
+      → IsTried conduct dig (λ (l : Dials). l.all) (λ (l : Dials). l.failed) gives remaining contents SESSION_TURNS old link end after new
       → TriesOverTcp conduct dig old link end after new
   tried_by_bytes gives remaining contents old link end after new t = record {
     reached = by_bytes remaining contents t.reached;
     dialled = dialled_by_bytes gives remaining contents link t.reached after t.dialled;
-    ended = ends_by_bytes remaining contents _ session_turns t.reached old end new t.ended;
+    ended = ends_by_bytes remaining contents _ SESSION_TURNS t.reached old end new t.ended;
   }
 
   -- and one in whose session the engine is flushed
   flushed_by_bytes : {R W : Type 0} (gives : Dials → R → W → Type 0) (remaining : R → Option (List ℕ)) (contents : W → Option (List ℕ)) (every : ℕ)
       (old : EngineView D) (link : Dials) (end : PeerEnd) (answer : Result (Unit {0}) FlushError) (after : Dials) (new : EngineView D)
-      → IsTriedWithFlushes conduct dig (λ (l : Dials). l.all) (λ (l : Dials). l.failed) gives remaining contents every session_turns
+      → IsTriedWithFlushes conduct dig (λ (l : Dials). l.all) (λ (l : Dials). l.failed) gives remaining contents every SESSION_TURNS
       old link end answer after new
       → TriesWithFlushesOverTcp conduct dig every old link end answer after new
   flushed_by_bytes gives remaining contents every old link end answer after new t = record {
     reached = by_bytes remaining contents t.reached;
     dialled = dialled_by_bytes gives remaining contents link t.reached after t.dialled;
-    ended = flushed_ends_by_bytes remaining contents _ every session_turns t.reached old end answer new t.ended;
+    ended = flushed_ends_by_bytes remaining contents _ every SESSION_TURNS t.reached old end answer new t.ended;
   }
 
   -- where the engine is never flushed, no flush is refused
@@ -139,13 +140,13 @@ flushed_in_turn_by Try To carry (stopped old new link after end links error not_
 turns_over_tcp : {D R W : Type 0} (conduct : Conduct D) (dig : List ℕ → List ℕ)
     (gives : Dials → R → W → Type 0) (remaining : R → Option (List ℕ)) (contents : W → Option (List ℕ)) (log : Option (Bor (List ℕ)))
     (old : EngineView D) (links : List Dials) (ends : List PeerEnd) (rest : List Dials) (answer : Result (Unit {0}) FlushError) (new : EngineView D)
-    → InTurnWithFlushes (IsTriedWithFlushes conduct dig (λ (l : Dials). l.all) (λ (l : Dials). l.failed) gives remaining contents (flush_turns log) session_turns)
+    → InTurnWithFlushes (IsTriedWithFlushes conduct dig (λ (l : Dials). l.all) (λ (l : Dials). l.failed) gives remaining contents (flush_turns log) SESSION_TURNS)
     old links ends rest answer new
     → TurnsOverTcp conduct dig log old links ends rest answer new
 turns_over_tcp conduct dig gives remaining contents None old links ends rest answer new turns = (
-  unflushed_answer conduct dig (λ (l : Dials). l.all) (λ (l : Dials). l.failed) gives remaining contents session_turns turns,
+  unflushed_answer conduct dig (λ (l : Dials). l.all) (λ (l : Dials). l.failed) gives remaining contents SESSION_TURNS turns,
   in_turn_by _ (TriesOverTcp conduct dig) (tried_by_bytes conduct dig gives remaining contents)
-      (unflushed_turns conduct dig (λ (l : Dials). l.all) (λ (l : Dials). l.failed) gives remaining contents session_turns turns),
+      (unflushed_turns conduct dig (λ (l : Dials). l.all) (λ (l : Dials). l.failed) gives remaining contents SESSION_TURNS turns),
 )
 turns_over_tcp conduct dig gives remaining contents (Some path) old links ends rest answer new turns =
     flushed_in_turn_by _ (TriesWithFlushesOverTcp conduct dig (flush_turns (Some path)))
@@ -187,7 +188,7 @@ pub fetched_over_tcp : {D R W : Type 0} (conduct : Conduct D) (dig : List ℕ �
     (gives : Dials → R → W → Type 0) (remaining : R → Option (List ℕ)) (contents : W → Option (List ℕ)) (short : List Ask) (peers : List Peer)
     (log : Option (Bor (List ℕ))) (every : ℕ) (old : EngineView D) (links : List Dials) (before now : Option (List ℕ)) (status : ℕ) (rest : List Dials) (new : EngineView D)
     → links ≡ links_of short peers → every ≡ flush_turns log
-    → HasFetched (InTurnWithFlushes (IsTriedWithFlushes conduct dig (λ (l : Dials). l.all) (λ (l : Dials). l.failed) gives remaining contents every session_turns))
+    → HasFetched (InTurnWithFlushes (IsTriedWithFlushes conduct dig (λ (l : Dials). l.all) (λ (l : Dials). l.failed) gives remaining contents every SESSION_TURNS))
     conduct dig peers old links before now status rest new
     → HasFetched (TurnsOverTcp conduct dig log) conduct dig peers old (links_of short peers) before now status rest new
 fetched_over_tcp conduct dig gives remaining contents short peers log every old links before now status rest new are often fetched =
@@ -195,7 +196,7 @@ fetched_over_tcp conduct dig gives remaining contents short peers log every old 
     (fetched_by _ (TurnsOverTcp conduct dig log) (turns_over_tcp conduct dig gives remaining contents log)
     conduct dig peers old links before now status rest new
     (subst (λ n. HasFetched (InTurnWithFlushes
-    (IsTriedWithFlushes conduct dig (λ (l : Dials). l.all) (λ (l : Dials). l.failed) gives remaining contents n session_turns))
+    (IsTriedWithFlushes conduct dig (λ (l : Dials). l.all) (λ (l : Dials). l.failed) gives remaining contents n SESSION_TURNS))
     conduct dig peers old links before now status rest new) often fetched))
 
 -- none of these links was dialled

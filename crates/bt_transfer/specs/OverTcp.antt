@@ -1,29 +1,26 @@
 -- Peers over TCP. What a socket gives is some bytes, and it takes some: it is known by these alone.
-use Rattle.std.specs.Prelude.{⊤, ℕ, ◌^◌, List}
+use Rattle.std.specs.Prelude.{⊤, ℕ, List}
 use Rattle.bt_disk.specs.Conduct.{Conduct}
 use Rattle.bt_machine.specs.State.{EngineView}
 use Rattle.bt_session.specs.Peers.{IsTried, IsTriedWithFlushes, Trial, TrialWithFlushes}
 use Rattle.bt_session.specs.declared.peer_end.PeerEnd.{PeerEnd}
 use Rattle.bt_sockets.specs.Link.{Dials}
 use Rattle.bt_sockets.specs.Listener.{IsServed}
-
--- a session takes so many turns at most
-abbrev pub session_turns : ℕ
-session_turns = 2 ^ 32
+use Rattle.bt_sockets.specs.declared.listener.TheConstants.{SESSION_TURNS}
 
 -- a peer is tried, over a link of which the dials are counted
 abbrev pub TriesOverTcp : {D : Type 0} → Conduct D → (List ℕ → List ℕ)
     → Trial D Dials
 TriesOverTcp conduct dig =
     IsTried conduct dig (λ link. link.all) (λ link. link.failed) (λ link given taken. ⊤)
-    (λ bytes. bytes) (λ bytes. bytes) session_turns
+    (λ bytes. bytes) (λ bytes. bytes) SESSION_TURNS
 
 -- the same, and the engine is flushed behind each `every`-th turn of the session, and behind the session
 abbrev pub TriesWithFlushesOverTcp : {D : Type 0} → Conduct D
     → (List ℕ → List ℕ) → (every : ℕ) → TrialWithFlushes D Dials
 TriesWithFlushesOverTcp conduct dig every =
     IsTriedWithFlushes conduct dig (λ link. link.all) (λ link. link.failed)
-    (λ link given taken. ⊤) (λ bytes. bytes) (λ bytes. bytes) every session_turns
+    (λ link given taken. ⊤) (λ bytes. bytes) (λ bytes. bytes) every SESSION_TURNS
 
 -- what is said of one connection: of the engine before, the peer's end and the engine afterwards
 abbrev pub Meeting : (D : Type 0) → Type 1
@@ -33,5 +30,5 @@ Meeting D = EngineView D → PeerEnd → EngineView D → Type 0
 abbrev pub MeetsOverTcp : {D : Type 0} → Conduct D → (List ℕ → List ℕ)
     → Meeting D
 MeetsOverTcp conduct dig old end new =
-    IsServed conduct dig (λ given taken. ⊤) (λ bytes. bytes) (λ bytes. bytes) session_turns
+    IsServed conduct dig (λ given taken. ⊤) (λ bytes. bytes) (λ bytes. bytes) SESSION_TURNS
     old end new

@@ -5,7 +5,7 @@ use Rattle.bt_wire.specs.declared.handshake.Handshake.{Handshake}
 use Rattle.bt_wire.specs.declared.event.WireEvent.{WireEvent}
 use Rattle.bt_wire.specs.declared.event.WireEvent.TheVariants.{Hello, Message, Skipped}
 use Rattle.bt_wire.specs.Handshake.{protocol, handshake_with, IsHandshake}
-use Rattle.bt_wire.specs.Limits.{max_length_field}
+use Rattle.bt_wire.specs.declared.message.TheConstants.{MAX_LENGTH_FIELD}
 use Rattle.bt_wire.specs.Message.{Body, body, body_of, length_field, frame_spelling}
 use Rattle.bt_wire.specs.Event.{IsEvent}
 use Rattle.bt_wire.proofs.SameFrames.{parts, same_frame, SameFrame}
@@ -45,7 +45,7 @@ same_hello g h x y r s g-is h-is x-eight y-eight e =
 -- what an event of a stream that has its handshake has in common: a frame
 pub record IsFrame (bytes : List ℕ) : Type 0 where
   pub body : Option Body
-  pub limit : length_field body ≤ max_length_field
+  pub limit : length_field body ≤ MAX_LENGTH_FIELD
   pub spelled : bytes ≡ frame_spelling body
 
 pub event_frame : (e : WireEvent) (bytes : List ℕ) → IsEvent true e bytes → IsFrame bytes
@@ -54,10 +54,10 @@ event_frame (Message m) bytes event = record { body = body_of m; limit = event.f
 event_frame (Skipped kind) bytes event =
     record { body = body kind event.payload; limit = event.limit; spelled = event.spelled }
 
-pub fits_number : (b : Option Body) → length_field b ≤ max_length_field → length_field b < 2 ^ 32
+pub fits_number : (b : Option Body) → length_field b ≤ MAX_LENGTH_FIELD → length_field b < 2 ^ 32
 fits_number b limit = omega arith
 
-frames_at : (b c : Option Body) (p q r s : List ℕ) → length_field b ≤ max_length_field → length_field c ≤ max_length_field
+frames_at : (b c : Option Body) (p q r s : List ℕ) → length_field b ≤ MAX_LENGTH_FIELD → length_field c ≤ MAX_LENGTH_FIELD
     → p ≡ frame_spelling b → q ≡ frame_spelling c → p ++ r ≡ q ++ s → SameFrame b c r s
 frames_at b c p q r s b-fits c-fits p-is q-is e =
     same_frame b c r s (fits_number b b-fits) (fits_number c c-fits)

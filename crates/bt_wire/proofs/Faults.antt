@@ -7,7 +7,7 @@ use Rattle.bt_wire.specs.declared.event.WireEvent.TheVariants.{Hello, Message, S
 use Rattle.bt_wire.specs.declared.event.WireError.{WireError}
 use Rattle.bt_wire.specs.declared.event.WireError.TheVariants.{BadProtocol, TooLong, BadLength}
 use Rattle.bt_wire.specs.Handshake.{protocol}
-use Rattle.bt_wire.specs.Limits.{max_length_field}
+use Rattle.bt_wire.specs.declared.message.TheConstants.{MAX_LENGTH_FIELD}
 use Rattle.bt_wire.specs.Message.{Body, body, body_of, length_field, frame_spelling}
 use Rattle.bt_wire.specs.Event.{IsEvent, HasNoEvent, ShowsFault, ShowsBadProtocol, ShowsTooLong, ShowsBadLength}
 use Rattle.bt_wire.proofs.SameFrames.{same_number}
@@ -43,7 +43,7 @@ fault_stays true unread more BadLength shown = record {
 fault_stays _ unread more _ shown = absurd shown
 
 -- the length field of a frame at the front
-pub frame_field : (b : Option Body) (field : ℕ) (bytes rest more : List ℕ) → length_field b ≤ max_length_field → field < 2 ^ 32
+pub frame_field : (b : Option Body) (field : ℕ) (bytes rest more : List ℕ) → length_field b ≤ MAX_LENGTH_FIELD → field < 2 ^ 32
     → bytes ≡ frame_spelling b → to_be_bytes w32 field ++ more ≡ bytes ++ rest → field ≡ length_field b
 frame_field None field bytes rest more limit fits spelled e =
     same_number field 0 more rest fits (omega arith) (e ∙ ap (λ xs. xs ++ rest) spelled)
@@ -56,7 +56,7 @@ record KindOf (kind size : ℕ) (b : Option Body) : Type 0 where
   body_is : b ≡ body kind payload
   size_is : length payload ≡ size
 
-frame_kind : (b : Option Body) (kind size : ℕ) (bytes rest more : List ℕ) → length_field b ≤ max_length_field → 1 + size ≤ max_length_field
+frame_kind : (b : Option Body) (kind size : ℕ) (bytes rest more : List ℕ) → length_field b ≤ MAX_LENGTH_FIELD → 1 + size ≤ MAX_LENGTH_FIELD
     → bytes ≡ frame_spelling b → to_be_bytes w32 (1 + size) ++ kind ∷ more ≡ bytes ++ rest → KindOf kind size b
 frame_kind None kind size bytes rest more limit fits spelled e =
     let zero : 1 + size ≡ 0 = frame_field None (1 + size) bytes rest (kind ∷ more) limit (omega (arith, fits)) spelled e in

@@ -2,7 +2,7 @@
 use Rattle.std.proofs.Common.{◌≡◌, ℕ, true, suc, ◌+◌, ◌-◌, ◌≤◌, ◌<◌, Option, Some, None, List, ◌∷◌, ◌++◌, length, take, drop, slice_index, sym, ◌∙◌, ap, subst, arith}
 use Rattle.std.specs.Int.{w32, to_be_bytes}
 use Rattle.std.proofs.lemmas.List.{length-drop, length-take-le, take-append-drop, drop_more, take_rest}
-use Rattle.bt_wire.specs.Limits.{max_length_field}
+use Rattle.bt_wire.specs.declared.message.TheConstants.{MAX_LENGTH_FIELD}
 use Rattle.bt_wire.specs.declared.message.Message.{Message as Sent}
 use Rattle.bt_wire.specs.Message.{Body, body, length_field, frame_spelling, CarriesBytes}
 use Rattle.bt_wire.specs.Event.{IsSent, ShowsBadLength}
@@ -20,7 +20,7 @@ kind_is : (unread : List ℕ) (field : ℕ) → to_be_bytes w32 field ≡ take 4
 kind_is unread field number more = front_is unread field number ∙ ap (λ xs. to_be_bytes w32 field ++ xs) (drop_more unread 4 0 more)
 
 pub shows_bad_length : (unread : List ℕ) (size : ℕ) → to_be_bytes w32 (1 + size) ≡ take 4 unread → 4 < length unread
-    → 1 + size ≤ max_length_field → IsMisfit (slice_index unread 4) size → ShowsBadLength unread
+    → 1 + size ≤ MAX_LENGTH_FIELD → IsMisfit (slice_index unread 4) size → ShowsBadLength unread
 shows_bad_length unread size number more limit misfit = record {
   kind = slice_index unread 4;
   size = size;
@@ -38,7 +38,7 @@ body_front unread size number inside =
     let count : 5 + size ≡ suc (suc (suc (suc (suc size)))) = omega arith in
     ap (λ n. take n unread) count ∙ ap (λ xs. take (suc (suc (suc (suc (suc size))))) xs) (kind_is unread (1 + size) number (omega arith))
 
-pub begins_body : (unread : List ℕ) (size : ℕ) → to_be_bytes w32 (1 + size) ≡ take 4 unread → 1 + size ≤ max_length_field
+pub begins_body : (unread : List ℕ) (size : ℕ) → to_be_bytes w32 (1 + size) ≡ take 4 unread → 1 + size ≤ MAX_LENGTH_FIELD
     → 5 + size ≤ length unread → FitsKind (slice_index unread 4) size → BeginsLawfulFrame unread (5 + size)
 begins_body unread size number limit inside fits =
     let payload : List ℕ = take size (drop 5 unread) in
@@ -69,12 +69,12 @@ lawful_size frame lawful long =
     (frame_size lawful.body lawful.fits (subst (λ (xs : List ℕ). 4 < length xs) lawful.spelled long)))
 
 -- a whole frame whose kind and payload are a message's is that message's
-sent_frame : (b : Option Body) → length_field b ≤ max_length_field → 4 < length (frame_spelling b)
+sent_frame : (b : Option Body) → length_field b ≤ MAX_LENGTH_FIELD → 4 < length (frame_spelling b)
     → (m : Sent) → IsMessageOf (slice_index (frame_spelling b) 4) (drop 5 (frame_spelling b)) m → IsSent m (frame_spelling b)
 sent_frame None limit long m is = absurd (omega arith)
 sent_frame (Some b) limit long m is = record {
   is_message = is.is_message;
-  fits = record { limit = subst (λ (it : Option Body). length_field it ≤ max_length_field) (sym is.body_is) limit; whole = is.whole };
+  fits = record { limit = subst (λ (it : Option Body). length_field it ≤ MAX_LENGTH_FIELD) (sym is.body_is) limit; whole = is.whole };
   spelled = ap frame_spelling (sym is.body_is);
 }
 

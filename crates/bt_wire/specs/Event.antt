@@ -1,7 +1,8 @@
 -- What a stream of the peer wire says (BEP 3): a handshake and then messages, each in bytes of its own.
 use Rattle.std.specs.Prelude.{◌≡◌, ◌≢◌, ℕ, ◌+◌, ◌^◌, ◌<◌, ◌≤◌, Bool, true, false, List, ◌∷◌, ◌++◌, length, slice_index}
 use Rattle.std.specs.Int.{w32, to_be_bytes}
-use Rattle.bt_wire.specs.Limits.{reserved_length, max_length_field}
+use Rattle.bt_wire.specs.Limits.{reserved_length}
+use Rattle.bt_wire.specs.declared.message.TheConstants.{MAX_LENGTH_FIELD}
 use Rattle.bt_wire.specs.Handshake.{protocol, handshake_with, IsHandshake}
 use Rattle.bt_wire.specs.Message.{IsMessage, Fits, IsKnownKind, HasPayloadLength, body, frame_spelling, message_spelling}
 use Rattle.bt_wire.specs.declared.handshake.Handshake.{Handshake}
@@ -28,7 +29,7 @@ pub record IsSent (m : Sent) (bytes : List ℕ) : Type 0 where
 pub record IsSkipped (kind : ℕ) (bytes : List ℕ) : Type 0 where
   pub payload : List ℕ
   pub unknown : ¬ IsKnownKind kind
-  pub limit : 1 + length payload ≤ max_length_field
+  pub limit : 1 + length payload ≤ MAX_LENGTH_FIELD
   pub spelled : bytes ≡ frame_spelling (body kind payload)
 
 -- the bytes of an event: a handshake where none has come, else a message
@@ -55,7 +56,7 @@ pub record ShowsTooLong (unread : List ℕ) : Type 0 where
   pub field : ℕ
   pub rest : List ℕ
   pub number : field < 2 ^ 32
-  pub above : max_length_field < field
+  pub above : MAX_LENGTH_FIELD < field
   pub front : unread ≡ to_be_bytes w32 field ++ rest
 
 -- a length field and a kind are there, and no message of that kind has that length
@@ -63,7 +64,7 @@ pub record ShowsBadLength (unread : List ℕ) : Type 0 where
   pub kind : ℕ
   pub size : ℕ
   pub rest : List ℕ
-  pub limit : 1 + size ≤ max_length_field
+  pub limit : 1 + size ≤ MAX_LENGTH_FIELD
   pub known : IsKnownKind kind
   pub misfit : ¬ HasPayloadLength kind size
   pub front : unread ≡ to_be_bytes w32 (1 + size) ++ kind ∷ rest

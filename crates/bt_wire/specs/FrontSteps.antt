@@ -1,6 +1,7 @@
 -- What stands at the front of the unread bytes.
 use Rattle.std.specs.Prelude.{◌≡◌, ◌⊎◌, ℕ, ◌≤◌, Bool, true, false, Option, Some, None, List, length, take}
-use Rattle.bt_wire.specs.Limits.{max_length_field, handshake_length}
+use Rattle.bt_wire.specs.declared.message.TheConstants.{MAX_LENGTH_FIELD}
+use Rattle.bt_wire.specs.declared.handshake.TheConstants.{HANDSHAKE_LEN}
 use Rattle.bt_wire.specs.Message.{Body, length_field, frame_spelling, IsKnownKind, HasPayloadLength, CarriesBytes}
 use Rattle.bt_wire.specs.Event.{IsEvent, HasNoEvent, ShowsFault, ShowsNoFault}
 use Rattle.bt_wire.specs.declared.handshake.Handshake.{Handshake}
@@ -25,7 +26,7 @@ FitsBody (Some b) = FitsKind b.kind (length b.payload)
 -- a frame that shows no fault
 pub record IsLawfulFrame (bytes : List ℕ) : Type 0 where
   pub body : Option Body
-  pub limit : length_field body ≤ max_length_field
+  pub limit : length_field body ≤ MAX_LENGTH_FIELD
   pub fits : FitsBody body
   pub spelled : bytes ≡ frame_spelling body
 
@@ -45,7 +46,7 @@ BeginsWith greeted unread first = BeginsEvent greeted unread first.0 first.1
 
 -- the first bytes are this handshake
 abbrev pub BeginsHandshake : List ℕ → Handshake → Type 0
-BeginsHandshake unread h = BeginsEvent false unread (Hello h) handshake_length
+BeginsHandshake unread h = BeginsEvent false unread (Hello h) HANDSHAKE_LEN
 
 -- neither an event is there nor a fault
 pub record IsPartial (greeted : Bool) (unread : List ℕ) : Type 0 where

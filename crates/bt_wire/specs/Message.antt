@@ -3,7 +3,8 @@ use Rattle.std.specs.Prelude.{◌≡◌, ℕ, ◌+◌, ◌%◌, ◌^◌, ◌<◌
 use Rattle.std.specs.Int.{w32, to_be_bytes}
 use Rattle.bt_tree.specs.Limits.{digest_length}
 use Rattle.bt_hashreq.specs.Key.{key_spelling, IsKey}
-use Rattle.bt_wire.specs.Limits.{max_length_field, request_kind, piece_kind}
+use Rattle.bt_wire.specs.Limits.{request_kind, piece_kind}
+use Rattle.bt_wire.specs.declared.message.TheConstants.{MAX_LENGTH_FIELD}
 use Rattle.bt_wire.specs.declared.message.Ask.{Ask}
 use Rattle.bt_wire.specs.declared.message.Message.{Message}
 use Rattle.bt_wire.specs.declared.message.Message.TheVariants.{KeepAlive, Choke, Unchoke, Interested, NotInterested, Have, Bitfield, Request, Piece, Cancel, HashRequest, Hashes, HashReject}
@@ -56,7 +57,7 @@ HasWholeDigests _ = Unit {0}
 
 -- a message that can be sent
 pub record Fits (m : Message) : Type 0 where
-  pub limit : length_field (body_of m) ≤ max_length_field
+  pub limit : length_field (body_of m) ≤ MAX_LENGTH_FIELD
   pub whole : HasWholeDigests m
 
 pub record IsAsk (a : Ask) : Type 0 where

@@ -1,7 +1,7 @@
 //! The frames of a peer's stream (BEP 3, "peer messages"; BEP 52): the kinds of messages, their lengths, and what is a
 //! request and a piece. Who looks at a stream without cutting it takes these from here.
 ghost use Rattle.std.specs.Prelude.{◌≡◌, ◌+◌, ◌-◌, ◌≤◌, ℕ, List, length, IfSome, IfNone};
-ghost use Rattle.bt_wire.specs.Limits.{max_length_field};
+ghost use Rattle.bt_wire.specs.declared.message.TheConstants.{MAX_LENGTH_FIELD};
 ghost use Rattle.bt_wire.specs.Event.{IsSent};
 ghost use Rattle.bt_wire.specs.Frames.{IsFrame, BeginsFrame, BeginsWithField, HasNoMessage, IsPieceOf, message_length};
 ghost use Rattle.bt_wire.specs.declared.message.Ask.{Ask};
@@ -103,7 +103,7 @@ pub fn read_request(frame: &[u8]) -> Option<Ask>
 /// The range of the block that a frame is the piece of.
 pub fn read_piece(frame: &[u8]) -> Option<Ask>
     requires frame { IsFrame frame.now }
-    requires few { length frame.now ≤ 4 + max_length_field }
+    requires few { length frame.now ≤ 4 + MAX_LENGTH_FIELD }
     ensures some { IfSome result (IsPieceOf frame.now) }
     ensures none { IfNone result ((piece begin : ℕ) (bytes : List ℕ)
         → ¬ IsSent (Piece piece begin bytes) frame.now) }

@@ -21,5 +21,5 @@ pub use law::{
     cuts_are_streams, cutting_makes_no_difference, faults_stand_alone, streams_have_one_reading,
     writing_is_read,
 };
-pub use message::{Ask, Message, fits};
+pub use message::{Ask, MAX_LENGTH_FIELD, Message, fits};
 pub use writer::write_message;

@@ -7,7 +7,7 @@ use crate::bytes::Bytes;
 use bt_hashreq::HashKey;
 
 /// The greatest length field of a message, a limit of this project.
-pub(crate) const MAX_LENGTH_FIELD: usize = 1 << 20;
+pub const MAX_LENGTH_FIELD: usize = 1 << 20;
 
 /// A range of a piece's bytes, as a request or a cancel names it (BEP 3).
 #[derive(Clone, Copy, Debug, PartialEq, Eq)]

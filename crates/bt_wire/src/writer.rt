@@ -1,6 +1,6 @@
 //! How a message is written: its length field, its kind and its payload (BEP 3, BEP 52).
 ghost use Rattle.std.specs.Prelude.{◌≡◌, ◌+◌, ◌≤◌, ◌++◌, length, take, IfOk};
-ghost use Rattle.bt_wire.specs.Limits.{max_length_field};
+ghost use Rattle.bt_wire.specs.declared.message.TheConstants.{MAX_LENGTH_FIELD};
 ghost use Rattle.std.specs.Int.{w32, to_be_bytes};
 ghost use Rattle.bt_wire.specs.Message.{Fits, ask_spelling, body, frame_spelling, message_spelling};
 
@@ -46,7 +46,7 @@ pub fn write_message(alloc: Global, message: &Message) -> Result<Vec<u8>, AllocE
 
 /// The bytes of a message of this kind, whose payload is the two runs.
 fn frame(alloc: Global, kind: u8, front: &[u8], back: &[u8]) -> Result<Vec<u8>, AllocError>
-    requires { 1 + length (front.now ++ back.now) ≤ max_length_field }
+    requires { 1 + length (front.now ++ back.now) ≤ MAX_LENGTH_FIELD }
     ensures { IfOk result (λ bytes. bytes.items ≡ frame_spelling (body kind (front.now ++ back.now))) }
 {
     let len = 1 + front.len() + back.len();

@@ -7,7 +7,7 @@ use Rattle.std.specs.Str.{NoCharPasses}
 use Rattle.std.specs.Str.Parse.{digits_value}
 use Rattle.std.specs.Str.Pattern.{HasCharAt}
 use Rattle.bt_parts.specs.declared.cut.Part.{Part}
-use Rattle.bt_parts.specs.Limits.{max_parts}
+use Rattle.bt_parts.specs.declared.cut.TheConstants.{MAX_PARTS}
 use Rattle.bt_words.specs.Values.{IsNumber, IsPartWord}
 
 pub none_then : {X : Type 0} (o : Option X) (P Q : Type 0) → (P → Q) → IfNone o P → IfNone o Q
@@ -52,7 +52,7 @@ module _ (word first second : List ℕ) (spelled : word ≡ first ++ 47 ∷ seco
   no_count none part is = none part.count (subst (λ t. IsNumber 32 t part.count) (sym (parts_are part is).1) is.count)
 
   -- two numbers that are those of no part
-  pub no_part : (index count : ℕ) → IsNumber 32 first index → IsNumber 32 second count → (index < count → ¬ (count ≤ max_parts)) → (part : Part)
+  pub no_part : (index count : ℕ) → IsNumber 32 first index → IsNumber 32 second count → (index < count → ¬ (count ≤ MAX_PARTS)) → (part : Part)
       → ¬ IsPartWord word part
   no_part index count index_is count_is none part is =
       let same = parts_are part is in

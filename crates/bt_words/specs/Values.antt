@@ -3,7 +3,7 @@ use Rattle.std.specs.Prelude.{◌≡◌, ◌≢◌, ℕ, ◌^◌, ◌<◌, ◌�
 use Rattle.std.specs.Net.Grammar.{IsIpText}
 use Rattle.std.specs.Str.Parse.{IsNumeral, digits_value}
 use Rattle.std.specs.declared.net.ip_addr.IpAddr.{IpAddr}
-use Rattle.bt_parts.specs.Limits.{max_parts}
+use Rattle.bt_parts.specs.declared.cut.TheConstants.{MAX_PARTS}
 use Rattle.bt_parts.specs.declared.cut.Part.{Part}
 use Rattle.bt_words.specs.declared.peer.Peer.{Peer}
 
@@ -17,7 +17,7 @@ pub record IsNumber (bits : ℕ) (text : List ℕ) (n : ℕ) : Type 0 where
 pub record IsJobs (text : List ℕ) (n : ℕ) : Type 0 where
   pub number : IsNumber 32 text n
   pub some : 0 < n
-  pub few : n ≤ max_parts
+  pub few : n ≤ MAX_PARTS
 
 -- a word `I/N`: the part of number I, from 0 on, of N in all. So the slash, 47, stands between the two.
 pub record IsPartWord (word : List ℕ) (part : Part) : Type 0 where

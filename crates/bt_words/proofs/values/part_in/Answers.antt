@@ -1,6 +1,6 @@
 use Rattle.std.proofs.Common.{◌<◌, ◌≤◌}
 use Rattle.bt_parts.specs.declared.cut.Part.{Part}
-use Rattle.bt_parts.specs.Limits.{max_parts}
+use Rattle.bt_parts.specs.declared.cut.TheConstants.{MAX_PARTS}
 use Rattle.bt_words.specs.Values.{IsPartWord}
 use Rattle.bt_words.proofs.PeerWords.{none_always}
 use Rattle.bt_words.proofs.PartWords.{cut_at, none_then, uncut, no_count, no_index, no_part, no_slash}
@@ -33,5 +33,5 @@ returns-clause-none c =
     let count = c.in_ok-count.count in
     let split = c.in_ok-first.ensures.cases in
     let cut = cut_at word first second split.0 split.1 split.2.0 split.2.1 split.3 split.4 in
-    none_then c.new.result (index < count → ¬ (count ≤ max_parts)) ((part : Part) → ¬ IsPartWord word part)
+    none_then c.new.result (index < count → ¬ (count ≤ MAX_PARTS)) ((part : Part) → ¬ IsPartWord word part)
     (no_part word first second cut.0 cut.1 index count c.in_ok-index.ensures.some c.in_ok-count.ensures.some) c.new.ensures.none
