@@ -1,5 +1,5 @@
 //! Hash trees that files of one root and length share.
-ghost use Rattle.std.specs.Prelude.{◌≡◌, ◌<◌, ◌↔◌, [], ◌∷◌, ℕ, List, Option, map, length, IfOk, IsTrue};
+ghost use Rattle.std.specs.Prelude.{◌≡◌, ◌↔◌, [], ◌∷◌, ℕ, List, Option, map, length, IfOk, IsTrue};
 ghost use Rattle.bt_tree.specs.Blocks.{IsFileLength};
 ghost use Rattle.bt_meta.specs.Files.{File, file_of};
 ghost use Rattle.bt_check.specs.Check.{CheckedFile, IsFileFinding};

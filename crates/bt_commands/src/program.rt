@@ -1,9 +1,9 @@
 //! The program, over any runtime, reader and writers.
-ghost use Rattle.std.specs.Prelude.{◌≡◌, ◌≢◌, ◌≤◌, ◌⊎◌, map, string_bytes, IfOk, IfErr, OnOk};
+ghost use Rattle.std.specs.Prelude.{◌≡◌, ◌≢◌, ◌≤◌, ◌⊎◌, map, string_bytes, IfOk, IfErr};
 ghost use Rattle.std.specs.Io.KnownBytes.{Keeps};
 ghost use Rattle.std.specs.Process.{exit_status};
 ghost use Rattle.clap.specs.Words.{kind_of};
-ghost use Rattle.bt_check.specs.Fault.{device, out_of_memory, status_of, words_fault};
+ghost use Rattle.bt_check.specs.Fault.{out_of_memory, status_of, words_fault};
 ghost use Rattle.bt_words.specs.CommandLine.{IsTaskOf};
 ghost use Rattle.bt_commands.specs.Program.{FillsLog, IsCheckResult, IsDone, IsExplanation, IsFetchResult, IsJoinedResult, IsMakeResult, IsPartResult, IsRun, IsSeedResult, IsShowResult, IsStart, IsTaskEnd, IsWholeResult, Writes};
 ghost use Rattle.bt_commands.specs.ProgramSteps.{status_after};

@@ -1,12 +1,12 @@
 -- What a reader takes of the one behind it and gives, and what a writer takes and gives on.
 use Rattle.std.proofs.Common.{◌≡◌, ◌<◌, ◌+◌, ℕ, List, [], ◌++◌, take, length, Option, Some, sym, ◌∙◌, ap, subst, arith, take_at, length-append}
 use Rattle.std.specs.Prelude.{min}
-use Rattle.std.specs.Io.KnownBytes.{Appends, IsAtEnd}
+use Rattle.std.specs.Io.KnownBytes.{Appends}
 use Rattle.bt_wire.specs.declared.message.Ask.{Ask}
 use Rattle.bt_connection.specs.declared.translation.Side.{Side}
 use Rattle.bt_connection.specs.Flow.{Flow}
 use Rattle.bt_connection.proofs.Parts.{nil_of}
-use Rattle.bt_connection.specs.Padded.{PaddedState, DirectionState, padded_state, TakesPart, TakesParts, one_more, IsFilled, IsRead, IsWritten}
+use Rattle.bt_connection.specs.Padded.{PaddedState, DirectionState, padded_state, TakesParts, one_more, IsFilled, IsRead, IsWritten}
 use Rattle.bt_connection.specs.Translation.{Receives}
 use Rattle.bt_connection.specs.TranslationSteps.{IsCollected}
 

@@ -5,7 +5,6 @@ use Rattle.bt_disk.specs.FileDisk.{Access, absent, reading, writing}
 use Rattle.bt_disk.specs.declared.opening.FileIdentity.{FileIdentity}
 use Rattle.bt_disk.specs.declared.pool.Use.{Use}
 use Rattle.bt_disk.specs.declared.pool.Use.TheVariants.{Absent, Reading, Writing}
-use Rattle.bt_disk.specs.Conduct.{Conduct}
 
 abbrev pub access_of_use : Use → Access
 access_of_use Absent = absent

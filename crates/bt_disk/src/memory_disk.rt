@@ -1,5 +1,5 @@
 //! A device in memory.
-ghost use Rattle.std.specs.Prelude.{◌≡◌, ◌++◌, ◌∷◌, ◌↔◌, ◌≤◌, [], IfOk, IsOk, OnErr, drop, length};
+ghost use Rattle.std.specs.Prelude.{◌≡◌, ◌↔◌, ◌≤◌, [], IfOk, IsOk, OnErr, drop, length};
 ghost use Rattle.bt_disk.specs.State.{IsImage};
 
 use crate::disk::{DeviceFault, Disk, counted_fault};

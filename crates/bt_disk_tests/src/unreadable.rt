@@ -1,5 +1,5 @@
 //! A device that says how long it is, and of which no read succeeds but one of its first bytes.
-ghost use Rattle.std.specs.Prelude.{◌≡◌, []};
+ghost use Rattle.std.specs.Prelude.{◌≡◌};
 ghost use Rattle.bt_disk.specs.Limits.{one_more};
 
 use bt_disk::{DeviceFault, Disk};

@@ -1,5 +1,5 @@
 -- What a flush that answered Ok has kept, no later stop loses.
-use Rattle.bt_machine.proofs.Base.{[], ◌≡◌, ℕ, List, ◌∷◌, ◌++◌, Option, Some, Ok, refl, sym, ap, ◌∙◌, subst, slice_get, History, Facts, block_length}
+use Rattle.bt_machine.proofs.Base.{[], ◌≡◌, ℕ, List, ◌∷◌, ◌++◌, Option, Some, Ok, refl, sym, ap, ◌∙◌, subst, slice_get, Facts, block_length}
 use Rattle.std.specs.Prelude.{flat_map}
 use Rattle.bt_disk.specs.Conduct.{Conduct}
 use Rattle.bt_disk.specs.History.{moment_of}

@@ -1,5 +1,5 @@
 -- What the functions of one message do is what is said of an event that was handled.
-use Rattle.bt_machine.proofs.Base.{[], ◌≡◌, ℕ, ◌<◌, inl, inr, true, List, length, Option, Some, Ok, Err, Result, refl, sym, ap, ◌∙◌, subst, arith, slice_get, length-map, History, PeerKey, WireEvent}
+use Rattle.bt_machine.proofs.Base.{[], ◌≡◌, ℕ, ◌<◌, inl, inr, true, List, length, Option, Some, Ok, Err, Result, refl, sym, ap, ◌∙◌, subst, arith, slice_get, length-map, PeerKey, WireEvent}
 use Rattle.std.specs.Prelude.{IfOk, IfErr}
 use Rattle.std.specs.Option.{option_to_list}
 use Rattle.std.proofs.lemmas.Bool.{cases_eq}

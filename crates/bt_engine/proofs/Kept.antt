@@ -2,7 +2,7 @@
 use Rattle.std.specs.Prelude.{OnOk, OnErr, flat_map}
 use Rattle.std.proofs.lemmas.List.Elements.{All-nil}
 use Rattle.std.specs.declared.alloc.AllocError.{AllocError}
-use Rattle.bt_machine.proofs.Base.{[], ◌≡◌, ℕ, List, length, take, Result, Ok, Err, sym, ap, ◌∙◌, History, file_root, File, Facts, IsLawful, ◌≢◌}
+use Rattle.bt_machine.proofs.Base.{[], ◌≡◌, ℕ, List, length, take, Result, Ok, Err, sym, ap, ◌∙◌, file_root, File, Facts, IsLawful, ◌≢◌}
 use Rattle.bt_tree.specs.Law.{RootsTellFiles}
 use Rattle.bt_machine.specs.Headline.{IsPublished}
 use Rattle.bt_machine.specs.Law.{AreRooted, StepKeepsRooted, RightIsChecked, StepMarksByBytes, RunSendsReadBytes}

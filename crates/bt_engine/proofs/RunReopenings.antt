@@ -5,10 +5,9 @@ use Rattle.bt_disk.specs.Conduct.{Conduct}
 use Rattle.bt_meta.specs.Torrent.{Metainfo}
 use Rattle.bt_resume.specs.ResumeLog.{LogView, Opens, IsAttached}
 use Rattle.bt_resume.specs.declared.error.LogError.{LogError}
-use Rattle.bt_machine.specs.declared.error.StartError.{StartError}
 use Rattle.bt_machine.specs.declared.error.StartError.TheVariants.{DiskCount, OtherLog, OutOfMemory}
 use Rattle.bt_machine.specs.declared.error.StartRefused.{StartRefused}
-use Rattle.bt_machine.specs.Opening.{AnswersStart, BeginsOn, HandsBack, starts, other_count, other_log, no_memory}
+use Rattle.bt_machine.specs.Opening.{AnswersStart, BeginsOn, starts, other_count, other_log, no_memory}
 use Rattle.bt_machine.specs.Reopening.{FlushedLogsAreKept}
 use Rattle.bt_machine.specs.Start.{device_count}
 use Rattle.bt_machine.specs.State.{EngineView}

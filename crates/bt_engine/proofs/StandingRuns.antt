@@ -1,19 +1,16 @@
 -- Events that are no restart lose nothing.
 use Rattle.std.specs.Prelude.{flat_map, OnOk}
 use Rattle.std.proofs.lemmas.List.Elements.{All-nil, All-push}
-use Rattle.std.proofs.Common.{[], ◌≡◌, ◌≢◌, List, ◌∷◌, ℕ, Result, Ok, Err}
+use Rattle.std.proofs.Common.{[], ◌≢◌, List, ◌∷◌, ℕ, Result, Ok, Err}
 use Rattle.bt_disk.specs.Conduct.{Conduct}
 use Rattle.bt_resume.specs.Law.{ReloadStands, AppendStands, FlushStands}
 use Rattle.bt_machine.specs.LogCalls.{EventCalls}
-use Rattle.bt_machine.specs.Sound.{IsSound}
 use Rattle.bt_machine.specs.State.{EngineView}
 use Rattle.bt_machine.specs.Survival.{RunKeepsImages, FlushKeepsBlocks}
 use Rattle.bt_machine.specs.Reopening.{FlushKeepsHints}
-use Rattle.bt_machine.specs.Unmarks.{HasNoRestart, RunKeepsMarks}
-use Rattle.bt_machine.specs.View.{StepsTo, RunsTo, NoEventsRun, OneMoreEventRuns}
-use Rattle.bt_machine.specs.declared.event.Event.{Event}
+use Rattle.bt_machine.specs.Unmarks.{RunKeepsMarks}
+use Rattle.bt_machine.specs.View.{StepsTo, NoEventsRun, OneMoreEventRuns}
 use Rattle.bt_machine.specs.declared.event.Event.TheVariants.{Flush, Restart}
-use Rattle.bt_machine.specs.declared.event.Answer.{Answer}
 use Rattle.bt_machine.specs.declared.event.Answer.TheVariants.{Flushed}
 use Rattle.bt_machine.specs.declared.error.FlushError.{FlushError}
 use Rattle.bt_machine.proofs.LogCalls.{calls_stand, logs_are}

@@ -2,7 +2,7 @@
 use Rattle.std.specs.List.{list_all}
 use Rattle.std.specs.Prelude.{◌↔◌}
 use Rattle.bt_store.specs.BlockStates.{is_marked}
-use Rattle.bt_machine.proofs.Base.{[], ◌≡◌, ℕ, zero, suc, ◌<◌, inl, inr, true, List, ◌∷◌, length, replicate, Option, Some, None, refl, sym, ap, ◌∙◌, subst, arith, slice_get, History, File, Metainfo, IsLawful, BlockState, Missing, Waiting, Marked, BlockId, block_count}
+use Rattle.bt_machine.proofs.Base.{[], ◌≡◌, ℕ, zero, suc, ◌<◌, inl, inr, true, List, ◌∷◌, length, replicate, Option, Some, None, refl, sym, ap, ◌∙◌, subst, arith, slice_get, File, Metainfo, IsLawful, BlockState, Missing, Waiting, Marked, BlockId, block_count}
 use Rattle.bt_machine.specs.Blocks.{block_id, is_complete}
 use Rattle.bt_machine.specs.Headline.{CompleteFilesArePublished}
 use Rattle.bt_machine.specs.Law.{AreRooted, StartsRooted, StepKeepsRooted, RightIsChecked, StartMarksByBytes, StepMarksByBytes, RunSendsReadBytes}

@@ -1,6 +1,6 @@
 //! The engine of a torrent: its start, one call for each event of the machine of `bt_machine`, and calls that
 //! tell how it stands.
-ghost use Rattle.std.specs.Prelude.{◌≡◌, IfOk, OnOk, option_map, slice_get};
+ghost use Rattle.std.specs.Prelude.{◌≡◌, ◌≤◌, length, take, IfOk, OnOk, option_map, slice_get};
 ghost use Rattle.std.specs.Option.{option_and_then, option_copied};
 ghost use Rattle.sha2.specs.Sha256.{sha256};
 ghost use Rattle.bt_meta.specs.Torrent.{IsLawful};
@@ -109,6 +109,27 @@ impl<D: Disk + Drop, H: NodeHash> Engine<D, H> {
         steps_keep_laws::<D, H>(self.hash);
         events_stand::<D, H>(self.hash);
         bt_engine_state::feed(&mut self.parts, peer, bytes)
+    }
+
+    /// The same event as `feed` with the first `count` bytes of a buffer. The engine may take the buffer in
+    /// exchange for another, and copies no byte then: so the buffer may hold other bytes afterwards, but it does
+    /// not get shorter.
+    pub fn feed_buffer(
+        &mut self,
+        peer: PeerKey,
+        buffer: &mut Vec<u8>,
+        count: usize,
+    ) -> Result<(), EngineError>
+        requires within { count ≤ length buffer.old.items }
+        ensures step { StepsTo D.conduct H.digest
+            self.old (Event.Feed peer (take count buffer.old.items)) (Answer.Fed result) self.new }
+        ensures stands { Stands D.conduct self.old self.new }
+        ensures devices { self.new.disks ≡ self.old.disks }
+        ensures long { length buffer.old.items ≤ length buffer.new.items }
+    {
+        steps_keep_laws::<D, H>(self.hash);
+        events_stand::<D, H>(self.hash);
+        bt_engine_state::feed_buffer(&mut self.parts, peer, buffer, count)
     }
 
     /// Takes the next wire event of a peer, and does what follows from it: what is to be sent, and to whom;

@@ -1,5 +1,5 @@
 -- The event in which what the device of a file has is taken in.
-use Rattle.bt_machine.proofs.Base.{[], ◌≡◌, ◌≢◌, ℕ, zero, suc, Bool, false, ◌<◌, ◌≤◌, List, ◌∷◌, ◌++◌, length, map, flat_map, Option, Some, None, Result, Ok, Err, refl, sym, ap, ◌∙◌, subst, arith, append-nil, length-map, slice_get, option_map_or, History, Facts, Adopted, BlockState, max_peers, block_count, blocks_of}
+use Rattle.bt_machine.proofs.Base.{[], ◌≡◌, ◌≢◌, ℕ, zero, suc, Bool, false, ◌<◌, ◌≤◌, List, ◌∷◌, ◌++◌, length, map, flat_map, Option, Some, None, Result, Ok, Err, refl, sym, ap, ◌∙◌, subst, arith, append-nil, length-map, slice_get, option_map_or, Facts, Adopted, BlockState, max_peers, block_count, blocks_of}
 use Rattle.std.specs.Prelude.{IsTrue}
 use Rattle.std.specs.Vec.{vec_capacity}
 use Rattle.bt_store.specs.FileStore.{StoreView}

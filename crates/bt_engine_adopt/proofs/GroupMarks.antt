@@ -1,5 +1,5 @@
 -- What a group of blocks leaves for a log, by how it was taken in.
-use Rattle.bt_machine.proofs.Base.{[], ◌≡◌, ℕ, ◌+◌, ◌-◌, ◌*◌, ◌/◌, ◌^◌, ◌<◌, ◌≤◌, ◌⊎◌, inl, inr, min, Bool, true, false, ◌&&◌, if◌then◌else◌, List, ◌∷◌, ◌++◌, length, filter, flat_map, IsSome, refl, sym, ap, ◌∙◌, subst, arith, cases_lt, lt-ltb, pow_pos, div-add-mod, range_with_len, Contains, Facts, blocks_of, value_at, none, known, accepted, not_accepted as refused, short, unread, Adopts, Adopted, IsUnknownGroup, BlockRead, BlockState, HashKey, History}
+use Rattle.bt_machine.proofs.Base.{[], ◌≡◌, ℕ, ◌+◌, ◌-◌, ◌*◌, ◌/◌, ◌^◌, ◌<◌, ◌≤◌, ◌⊎◌, inl, inr, min, Bool, true, false, ◌&&◌, if◌then◌else◌, List, ◌∷◌, ◌++◌, length, filter, flat_map, IsSome, refl, sym, ap, ◌∙◌, subst, arith, cases_lt, lt-ltb, pow_pos, div-add-mod, range_with_len, Contains, Facts, blocks_of, value_at, none, known, accepted, not_accepted as refused, short, unread, Adopts, Adopted, IsUnknownGroup, BlockRead, BlockState, HashKey}
 use Rattle.std.specs.Prelude.{nat_lt}
 use Rattle.std.specs.List.{AllZip}
 use Rattle.bt_sparse.specs.Anchor.{IsAnchor}

@@ -1,5 +1,5 @@
 -- A file is left out, changes, and is counted in again, while no peer is connected.
-use Rattle.bt_machine.proofs.Base.{[], ◌≡◌, ℕ, Bool, List, length, map, refl, sym, ap, ◌∙◌, subst, History, Adopted}
+use Rattle.bt_machine.proofs.Base.{[], ◌≡◌, ℕ, Bool, List, length, map, refl, sym, ap, ◌∙◌, subst, Adopted}
 use Rattle.bt_book.specs.Book.{BookState, peers_of}
 use Rattle.bt_machine.specs.State.{EngineState, PeerState}
 use Rattle.bt_machine.specs.Devices.{DeviceCalls, HaveCalls}

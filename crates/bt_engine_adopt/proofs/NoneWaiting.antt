@@ -1,5 +1,5 @@
 -- Where no block waits, there is nothing to settle in other files.
-use Rattle.bt_machine.proofs.Base.{[], ◌≡◌, ℕ, ◌<◌, Bool, true, false, not, ◌&&◌, ◌==◌, if◌then◌else◌, List, ◌++◌, map, flat_map, Some, refl, sym, ap, ◌∙◌, arith, slice_get, Facts, History, waiting_blocks}
+use Rattle.bt_machine.proofs.Base.{[], ◌≡◌, ℕ, ◌<◌, Bool, true, false, not, ◌&&◌, ◌==◌, if◌then◌else◌, List, ◌++◌, map, flat_map, Some, refl, sym, ap, ◌∙◌, arith, slice_get, Facts, waiting_blocks}
 use Rattle.std.proofs.lemmas.List.Elements.{filter_agree}
 use Rattle.bt_store.proofs.Reviews.{nothing_waits}
 use Rattle.bt_machine.proofs.Lists.{get_some}

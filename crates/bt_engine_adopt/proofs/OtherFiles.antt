@@ -1,5 +1,5 @@
 -- The files of a tree but one are settled, one after the other.
-use Rattle.bt_machine.proofs.Base.{[], ◌≡◌, ◌≢◌, ℕ, ◌+◌, ◌<◌, ◌≤◌, inl, inr, Bool, true, false, not, ◌&&◌, if◌then◌else◌, List, ◌++◌, length, get_or, Some, refl, slice_get, sym, ap, ◌∙◌, subst, arith, ◌==◌, eq-eqb, lt-ltb, le-ltb, cases_lt, length-map, History}
+use Rattle.bt_machine.proofs.Base.{[], ◌≡◌, ◌≢◌, ℕ, ◌+◌, ◌<◌, ◌≤◌, inl, inr, Bool, true, false, not, ◌&&◌, if◌then◌else◌, List, ◌++◌, length, get_or, Some, refl, slice_get, sym, ap, ◌∙◌, subst, arith, ◌==◌, eq-eqb, lt-ltb, le-ltb, cases_lt, length-map}
 use Rattle.std.proofs.lemmas.Bool.{cases_eq, ne_eqb}
 use Rattle.bt_machine.proofs.Lists.{get_some, get_map}
 use Rattle.bt_machine.specs.State.{FileState}

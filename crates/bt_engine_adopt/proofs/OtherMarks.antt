@@ -1,5 +1,5 @@
 -- Blocks that wait, and what is left of them for a log once they are settled.
-use Rattle.bt_machine.proofs.Base.{[], ◌≡◌, ◌≢◌, ℕ, zero, suc, ◌+◌, ◌-◌, ◌<◌, ◌≤◌, inl, inr, Bool, true, false, not, cond, if◌then◌else◌, ◌==◌, List, ◌∷◌, ◌++◌, length, map, take, get_or, filter, flat_map, Option, Some, None, is_some, refl, sym, ap, ◌∙◌, subst, arith, append-nil, length-map, filter-append, slice_get, option_map_or, range_with_len, cases_lt, eq-eqb, eqb-true, is_waiting, is_waiting_at, BlockState, Missing, Waiting, Marked, BlockId, History}
+use Rattle.bt_machine.proofs.Base.{[], ◌≡◌, ◌≢◌, ℕ, zero, suc, ◌+◌, ◌-◌, ◌<◌, ◌≤◌, inl, inr, Bool, true, false, not, cond, if◌then◌else◌, ◌==◌, List, ◌∷◌, ◌++◌, length, map, take, get_or, filter, flat_map, Option, Some, None, is_some, refl, sym, ap, ◌∙◌, subst, arith, append-nil, length-map, filter-append, slice_get, option_map_or, range_with_len, cases_lt, eq-eqb, eqb-true, is_waiting, is_waiting_at, BlockState, Missing, Waiting, Marked, BlockId}
 use Rattle.std.specs.List.{count_by}
 use Rattle.std.proofs.lemmas.Bool.{ne_eqb}
 use Rattle.std.proofs.lemmas.List.{map-append}

@@ -1,5 +1,5 @@
 -- A file's slot whose store has changed, and the tree of a file that has grown.
-use Rattle.bt_machine.proofs.Base.{[], ◌≡◌, ℕ, ◌<◌, inl, inr, Bool, is_some, List, ◌∷◌, ◌++◌, length, map, flat_map, replicate, get_or, Option, Result, Ok, Err, Some, None, refl, sym, ap, ◌∙◌, subst, arith, length-set, slice_get, slice_set, option_map_or, Facts, History, BlockRead, call_of, BlockState, Marked, Adopted, block_count, blocks_of}
+use Rattle.bt_machine.proofs.Base.{[], ◌≡◌, ℕ, ◌<◌, inl, inr, Bool, is_some, List, ◌∷◌, ◌++◌, length, map, flat_map, replicate, get_or, Option, Result, Ok, Err, Some, None, refl, sym, ap, ◌∙◌, subst, arith, length-set, slice_get, slice_set, option_map_or, Facts, BlockRead, call_of, BlockState, Marked, Adopted, block_count, blocks_of}
 use Rattle.std.specs.Prelude.{IfOk, IfErr}
 use Rattle.std.proofs.lemmas.Bool.{cases_eq}
 use Rattle.std.proofs.lemmas.List.{map-append}

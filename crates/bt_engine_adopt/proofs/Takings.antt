@@ -1,5 +1,5 @@
 -- Groups of a file that are taken in one after the other.
-use Rattle.bt_machine.proofs.Base.{[], ◌≡◌, ℕ, ◌<◌, ◌≤◌, Bool, true, List, ◌∷◌, ◌++◌, length, map, Result, Ok, Err, refl, sym, ap, ◌∙◌, subst, arith, append-nil, if◌then◌else◌, slice_set, inl, inr, Facts, blocks_of, IsRooted, block_count, History, BlockRead, call_of, Adopts, known, accepted, Adopted, BlockState}
+use Rattle.bt_machine.proofs.Base.{[], ◌≡◌, ℕ, ◌<◌, ◌≤◌, Bool, true, List, ◌∷◌, ◌++◌, length, map, Result, Ok, Err, refl, sym, ap, ◌∙◌, subst, arith, append-nil, if◌then◌else◌, slice_set, inl, inr, Facts, blocks_of, IsRooted, block_count, BlockRead, call_of, Adopts, known, accepted, Adopted, BlockState}
 use Rattle.std.specs.Prelude.{IfErr}
 use Rattle.std.specs.List.{AllZip}
 use Rattle.std.proofs.lemmas.List.{map-append}

@@ -2,9 +2,7 @@
 //! that were.
 ghost use Rattle.std.specs.Prelude.{◌≡◌, ◌+◌, ◌<◌, ◌≤◌, ◌++◌, min, flat_map, filter, All, IfOk, OnOk, length};
 ghost use Rattle.std.specs.Int.{div_ceil};
-ghost use Rattle.std.specs.List.{range_with_len};
 ghost use Rattle.bt_tree.specs.Limits.{max_block_count};
-ghost use Rattle.bt_resume.specs.Hint.{IsRun};
 ghost use Rattle.bt_store.specs.Review.{is_marked_at, is_waiting_at};
 ghost use Rattle.bt_machine.specs.Hints.{add_hints};
 ghost use Rattle.bt_engine_adopt.specs.MarksSteps.{is_of, blocks_of_kind, unmarked_blocks, marks_in, run_blocks, AreRuns, EndBefore, most_hints};

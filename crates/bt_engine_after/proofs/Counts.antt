@@ -1,16 +1,16 @@
 -- What is counted in the book and in the machine: who is asked for a block, and how many blocks are missing.
-use Rattle.bt_machine.proofs.Base.{[], ◌≡◌, ℕ, zero, suc, ◌<◌, inl, inr, Bool, true, false, List, ◌∷◌, map, Option, Some, None, refl, sym, ap, ◌∙◌, arith, subst, slice_get, BlockId, PeerKey, is_block, Missing, Waiting, Marked}
+use Rattle.bt_machine.proofs.Base.{[], ◌≡◌, ℕ, zero, suc, Bool, true, false, List, ◌∷◌, map, Option, Some, None, refl, sym, ap, ◌∙◌, arith, slice_get, BlockId, PeerKey, is_block, Missing, Waiting, Marked}
 use Rattle.std.proofs.Common.{cond, get_or, ltb}
 use Rattle.std.specs.Prelude.{count_by, sum_by, option_and_then}
 use Rattle.std.specs.Option.{option_map_or}
 use Rattle.std.proofs.lemmas.List.Sums.{sum_by-cons}
-use Rattle.std.proofs.lemmas.Bool.{cases_Bool, true≢false}
+use Rattle.std.proofs.lemmas.Bool.{true≢false}
 use Rattle.bt_store.specs.declared.block_states.BlockState.{BlockState}
-use Rattle.bt_book.specs.Book.{BookState, IsBook, asked_of, peers_of, pair_count, wanted_count}
-use Rattle.bt_book.specs.Blocks.{Blocks, member, member_count}
+use Rattle.bt_book.specs.Book.{BookState, IsBook, asked_of, pair_count, wanted_count}
+use Rattle.bt_book.specs.Blocks.{member_count}
 use Rattle.bt_book.proofs.Listed.{pairs_of_peers}
 use Rattle.bt_book.proofs.Members.{equal_sets}
-use Rattle.bt_machine.specs.State.{PeerState, FileState, EngineState}
+use Rattle.bt_machine.specs.State.{FileState}
 use Rattle.bt_machine.specs.Blocks.{state_at, is_asked, is_missing, asker_count, missing_count}
 use Rattle.bt_engine_state.specs.Parts.{state_of, peer_of}
 use Rattle.bt_engine_state.specs.Ties.{IsTied}

@@ -1,5 +1,5 @@
 -- Slots whose devices are synced, one after the other.
-use Rattle.bt_machine.proofs.Base.{[], ◌≡◌, ℕ, suc, ◌+◌, ◌-◌, ◌<◌, ◌≤◌, Bool, true, false, not, ◌==◌, cond, List, ◌∷◌, ◌++◌, length, map, filter, Option, Some, None, option_map_or, option_map, slice_get, slice_set, Ok, Err, refl, sym, ap, ◌∙◌, subst, arith, range_with_len, filter-append, append-nil, length-map, History, Call}
+use Rattle.bt_machine.proofs.Base.{[], ◌≡◌, ℕ, suc, ◌+◌, ◌-◌, ◌<◌, ◌≤◌, Bool, true, false, not, ◌==◌, cond, List, ◌∷◌, ◌++◌, length, map, filter, Option, Some, None, option_map_or, option_map, slice_get, slice_set, Ok, Err, refl, sym, ap, ◌∙◌, subst, arith, range_with_len, filter-append, append-nil, length-map, Call}
 use Rattle.std.proofs.lemmas.Bool.{ne_eqb}
 use Rattle.std.proofs.lemmas.List.{map-append}
 use Rattle.bt_disk.specs.Calls.{HasCalls}

@@ -1,5 +1,5 @@
 -- The three rules one after the other.
-use Rattle.bt_machine.proofs.Base.{◌≡◌, ℕ, zero, suc, inl, inr, List, [], ◌∷◌, ◌++◌, get_or, Option, Some, refl, sym, ap, ◌∙◌, subst, slice_get, slice_set, All, Contains, BlockId, PeerKey, Metainfo}
+use Rattle.bt_machine.proofs.Base.{◌≡◌, ℕ, zero, suc, inl, inr, List, [], ◌∷◌, ◌++◌, get_or, Option, Some, refl, sym, ap, ◌∙◌, subst, slice_get, slice_set, All, BlockId, PeerKey, Metainfo}
 use Rattle.std.proofs.Common.{append_assoc, cond, ltb, count_by, arith}
 use Rattle.bt_machine.proofs.Lists.{some_is, set_same}
 use Rattle.bt_machine.proofs.Pairs.{contains_at}

@@ -20,7 +20,7 @@ use Rattle.bt_engine_state.specs.declared.peer.Peer.{Peer}
 use Rattle.bt_engine_state.proofs.Lists.{get_read}
 use Rattle.bt_engine_state.specs.PieceSets.{without}
 use Rattle.bt_engine_state.proofs.Leaves.{knows_more}
-use Rattle.bt_engine_state.proofs.OutsidePieces.{bit_without, not_in, in_other}
+use Rattle.bt_engine_state.proofs.OutsidePieces.{bit_without, in_other}
 use Rattle.bt_engine_state.proofs.Ties.{tied_known}
 use Rattle.bt_engine_after.specs.HeldSteps.{LiesIn, IsFirstPiece, HasNoBlock}
 use Rattle.bt_engine_after.specs.HashRequestsSteps.{IsUnknownFrom}

@@ -1,5 +1,5 @@
 -- What waits is written to a log, behind the syncs of the data devices.
-use Rattle.bt_machine.proofs.Base.{[], ◌≡◌, ℕ, Bool, List, ◌∷◌, ◌++◌, is_some, Option, Some, None, option_map, Result, Ok, Err, refl, sym, ap, ◌∙◌, subst, History}
+use Rattle.bt_machine.proofs.Base.{[], ◌≡◌, Bool, List, ◌∷◌, ◌++◌, is_some, Option, Some, None, option_map, Result, Ok, Err, refl, sym, ap, ◌∙◌, subst}
 use Rattle.std.specs.Prelude.{IsErrAnd}
 use Rattle.bt_resume.specs.ResumeLog.{LogView}
 use Rattle.bt_resume.specs.declared.hint.Hint.{Hint}

@@ -1,7 +1,7 @@
 -- The blocks that the book gives a peer are those that the machine asks it for.
 use Rattle.bt_machine.proofs.Base.{◌≡◌, ◌≢◌, ℕ, ◌+◌, ◌<◌, ◌≤◌, ◌⊎◌, inl, inr, Bool, true, false, List, [], ◌++◌, length, map, Option, Some, refl, sym, ap, ◌∙◌, arith, subst, slice_get, Contains, All, BlockId, PeerKey, append-nil, length-append, AllPairs, cases_lt}
 use Rattle.std.specs.Prelude.{count_by}
-use Rattle.bt_machine.proofs.Lists.{contains_map, contains_none, map_contains, set_id}
+use Rattle.bt_machine.proofs.Lists.{contains_none, map_contains, set_id}
 use Rattle.bt_machine.proofs.Pairs.{contains_some}
 use Rattle.bt_book.specs.Book.{BookState, IsBook, IsJoined, CanAsk, asked_of, KeepsOthers, max_requests, max_askers}
 use Rattle.bt_book.specs.Blocks.{GivesFirst, is_block, member}

@@ -1,5 +1,5 @@
 -- The parts of an engine of which only devices and the log changed.
-use Rattle.bt_machine.proofs.Base.{◌≡◌, ℕ, List, [], ◌∷◌, length, map, Option, Some, None, option_map, option_map_or, slice_get, refl, sym, ap, ◌∙◌, BlockState, length-map, subst, History, Result}
+use Rattle.bt_machine.proofs.Base.{◌≡◌, ℕ, List, [], ◌∷◌, length, map, Option, Some, None, option_map, option_map_or, slice_get, refl, sym, ap, ◌∙◌, BlockState, length-map, subst, Result}
 use Rattle.bt_meta.specs.Files.{File}
 use Rattle.bt_sparse.specs.SparseTree.{Facts}
 use Rattle.bt_store.specs.FileStore.{StoreView}

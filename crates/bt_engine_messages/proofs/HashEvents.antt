@@ -1,5 +1,5 @@
 -- Hashes that come, over the parts of an engine.
-use Rattle.bt_machine.proofs.Base.{[], ◌≡◌, ◌≢◌, ℕ, ◌<◌, inl, inr, AllPairs, cases_lt, lt-ltb, false, sum_by, List, length, map, is_some, Option, Some, None, refl, sym, ap, ◌∙◌, subst, arith, slice_get, option_map, PeerKey, Facts, History, HashKey}
+use Rattle.bt_machine.proofs.Base.{[], ◌≡◌, ◌≢◌, ℕ, ◌<◌, inl, inr, AllPairs, cases_lt, lt-ltb, false, sum_by, List, length, map, is_some, Option, Some, None, refl, sym, ap, ◌∙◌, subst, arith, slice_get, option_map, PeerKey, Facts, HashKey}
 use Rattle.std.specs.Global.{Vec}
 use Rattle.std.specs.Prelude.{nat_lt}
 use Rattle.std.specs.Vec.{with_item, with_items, vec_len}

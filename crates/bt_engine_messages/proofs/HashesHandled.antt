@@ -1,5 +1,5 @@
 -- Hashes that change these trees and files are taken so by the machine.
-use Rattle.bt_machine.proofs.Base.{◌≡◌, ◌≢◌, ℕ, zero, suc, ◌+◌, ◌<◌, ◌≤◌, inl, inr, Bool, true, false, List, [], ◌∷◌, ◌++◌, length, map, flat_map, filter, Option, Some, None, refl, sym, ap, ◌∙◌, subst, arith, ◌==◌, eq-eqb, eqb-true, slice_get, slice_set, option_map, Contains, filter-append, length-map, range_with_len, append-nil, Facts, History, Call, BlockRead, call_of, HashKey, cases_lt}
+use Rattle.bt_machine.proofs.Base.{◌≡◌, ◌≢◌, ℕ, zero, suc, ◌+◌, ◌<◌, ◌≤◌, inl, inr, Bool, true, false, List, [], ◌∷◌, ◌++◌, length, map, flat_map, filter, Option, Some, None, refl, sym, ap, ◌∙◌, subst, arith, ◌==◌, eq-eqb, eqb-true, slice_get, slice_set, option_map, Contains, filter-append, length-map, range_with_len, append-nil, Facts, Call, BlockRead, call_of, HashKey, cases_lt}
 use Rattle.std.proofs.lemmas.List.{map-append}
 use Rattle.bt_disk.specs.Calls.{HasCalls}
 use Rattle.bt_disk.proofs.CallLists.{has_none}

@@ -1,5 +1,5 @@
 -- Blocks that were settled, note by note: each note leads to an engine in which one more block has another state.
-use Rattle.bt_machine.proofs.Base.{[], ◌≡◌, ◌≢◌, ℕ, zero, suc, ◌+◌, ◌<◌, ◌≤◌, Bool, true, false, cond, List, ◌∷◌, ◌++◌, length, map, flat_map, Some, refl, sym, ap, ◌∙◌, subst, arith, ◌==◌, inl, inr, length-map, slice_get, slice_set, Contains, range_with_len, Facts, History, BlockRead, given, failed, block_of, is_right, fault_count, waiting_blocks, Missing, Waiting, Marked}
+use Rattle.bt_machine.proofs.Base.{[], ◌≡◌, ◌≢◌, ℕ, zero, suc, ◌+◌, ◌<◌, ◌≤◌, Bool, true, false, cond, List, ◌∷◌, ◌++◌, length, map, flat_map, Some, refl, sym, ap, ◌∙◌, subst, arith, ◌==◌, inl, inr, length-map, slice_get, slice_set, Contains, range_with_len, Facts, BlockRead, given, failed, block_of, is_right, fault_count, waiting_blocks, Missing, Waiting, Marked}
 use Rattle.std.specs.Prelude.{nat_lt}
 use Rattle.std.proofs.Common.{append_assoc}
 use Rattle.std.proofs.lemmas.Bool.{cases_eq, cases_lt}

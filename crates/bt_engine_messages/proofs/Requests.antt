@@ -1,5 +1,5 @@
 -- A request for a range of a piece, in the parts of an engine.
-use Rattle.bt_machine.proofs.Base.{[], ◌≡◌, ◌≢◌, ℕ, ◌+◌, ◌-◌, ◌^◌, min, Bool, true, false, List, ◌∷◌, ◌++◌, map, Some, refl, sym, ap, ◌∙◌, subst, slice_get, slice_set, option_and_then, option_map_or, Option, None, Contains, Contains-append_right, Span, Facts, BlockRead, given, failed, call_of, IsRight, BlockState, Missing, Marked, History, Ask, Piece, PeerKey}
+use Rattle.bt_machine.proofs.Base.{[], ◌≡◌, ◌≢◌, ℕ, ◌+◌, ◌-◌, ◌^◌, min, Bool, true, false, List, ◌∷◌, ◌++◌, map, Some, refl, sym, ap, ◌∙◌, subst, slice_get, slice_set, option_and_then, Contains, Contains-append_right, Span, Facts, BlockRead, given, failed, call_of, IsRight, BlockState, Missing, Marked, Ask, Piece, PeerKey}
 use Rattle.std.specs.Global.{Vec}
 use Rattle.std.specs.Vec.{with_item}
 use Rattle.std.specs.Bool.{OnFalse}

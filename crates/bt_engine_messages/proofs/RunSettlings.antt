@@ -1,5 +1,5 @@
 -- The blocks of a run, settled file by file.
-use Rattle.bt_machine.proofs.Base.{◌≡◌, ◌≢◌, ℕ, zero, suc, ◌+◌, ◌-◌, ◌<◌, ◌≤◌, min, ◌⊎◌, inl, inr, Bool, true, false, cond, ◌&&◌, List, [], ◌∷◌, ◌++◌, length, map, filter, flat_map, take, drop, Option, Some, None, is_some, refl, sym, ap, ◌∙◌, subst, arith, ◌==◌, eq-eqb, eqb-true, slice_get, slice_set, option_map_or, if◌then◌else◌, is_waiting, range_with_len, filter-append, append-nil, length-set, Facts, value_at, History, BlockRead, call_of, judged, waiting_blocks, is_waiting_at, BlockState, cases_lt, option_map, get_or, All, sum_by}
+use Rattle.bt_machine.proofs.Base.{◌≡◌, ◌≢◌, ℕ, zero, suc, ◌+◌, ◌-◌, ◌<◌, ◌≤◌, min, ◌⊎◌, inl, inr, Bool, true, false, cond, ◌&&◌, List, [], ◌∷◌, ◌++◌, length, map, filter, flat_map, take, drop, Option, Some, None, is_some, refl, sym, ap, ◌∙◌, subst, arith, ◌==◌, eq-eqb, eqb-true, slice_get, slice_set, option_map_or, if◌then◌else◌, is_waiting, range_with_len, filter-append, append-nil, length-set, Facts, value_at, BlockRead, call_of, judged, waiting_blocks, is_waiting_at, BlockState, cases_lt, option_map, get_or, All, sum_by}
 use Rattle.std.proofs.Common.{append_assoc}
 use Rattle.std.proofs.lemmas.Grind.{flat_map-append}
 use Rattle.std.proofs.lemmas.Bool.{cases_eq}

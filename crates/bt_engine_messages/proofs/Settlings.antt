@@ -1,5 +1,5 @@
 -- Blocks that are read back: which they are, how many at most, and what their states tell of each read.
-use Rattle.bt_machine.proofs.Base.{◌≡◌, ◌≢◌, ℕ, zero, suc, ◌+◌, ◌-◌, ◌<◌, ◌≤◌, Bool, true, false, cond, ◌&&◌, List, [], ◌∷◌, ◌++◌, length, map, filter, drop, Option, Some, None, is_some, refl, sym, ap, ◌∙◌, subst, arith, slice_get, option_map_or, AllPairs, Contains, range_with_len, length-range_with_len, length-filter, filter-append, Facts, value_at, History, BlockRead, given, failed, block_of, is_right, judged, fault_count, waiting_blocks, is_waiting, is_waiting_at, BlockState, Missing, Marked, append-nil}
+use Rattle.bt_machine.proofs.Base.{◌≡◌, ◌≢◌, ℕ, zero, suc, ◌+◌, ◌-◌, ◌<◌, ◌≤◌, Bool, true, false, cond, ◌&&◌, List, [], ◌∷◌, ◌++◌, length, map, filter, drop, Option, Some, None, is_some, refl, sym, ap, ◌∙◌, subst, arith, slice_get, option_map_or, AllPairs, Contains, range_with_len, length-range_with_len, length-filter, filter-append, Facts, value_at, BlockRead, given, failed, block_of, is_right, judged, fault_count, waiting_blocks, is_waiting, is_waiting_at, BlockState, Missing, Marked, append-nil}
 use Rattle.std.specs.Prelude.{nat_lt}
 use Rattle.std.proofs.Common.{append_assoc}
 use Rattle.std.specs.List.{count_by}

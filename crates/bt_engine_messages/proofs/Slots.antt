@@ -1,5 +1,5 @@
 -- A file's store that is read or written in its slot.
-use Rattle.bt_machine.proofs.Base.{◌≡◌, ℕ, ◌<◌, List, length, Some, None, sym, ap, ◌∙◌, arith, subst, slice_get, slice_set, BlockId, History, Facts, Missing, BlockState, Result, Ok, Err, Put, StoreError, Already, Wrong, PutMarked, PutWaiting, Range, DeviceFault, PutIsDue, calls_of_put, states_after_put, Span, refl}
+use Rattle.bt_machine.proofs.Base.{◌≡◌, ℕ, ◌<◌, List, length, Some, None, sym, ap, ◌∙◌, arith, subst, slice_get, slice_set, BlockId, Facts, Missing, BlockState, Result, Ok, Err, Put, StoreError, Already, Wrong, PutMarked, PutWaiting, Range, DeviceFault, PutIsDue, calls_of_put, states_after_put, Span, refl}
 use Rattle.std.specs.Prelude.{slice_index_or}
 use Rattle.std.proofs.lemmas.Option.{get_or_from_slice_get}
 use Rattle.bt_machine.proofs.Lists.{some_below, some_is}

@@ -1,5 +1,5 @@
 -- Reads of the one block or the two that a span lies in.
-use Rattle.bt_machine.proofs.Base.{◌≡◌, ◌≢◌, ℕ, ◌+◌, ◌-◌, ◌*◌, ◌/◌, ◌%◌, ◌≤◌, ◌⊎◌, inl, inr, List, [], ◌∷◌, ◌++◌, length, take, drop, map, flat_map, Option, Some, None, Ok, Err, refl, sym, ap, ◌∙◌, subst, arith, slice_set, Contains, cond, nat_eq, range_with_len, append-nil, All, IsPlace, Span, Facts, BlockRead, given, failed, call_of, IsRight, BlockState, Missing, block_length, History, Metainfo, IsLawfulFile, eq-eqb, take-append-add, length-take-le, take-take}
+use Rattle.bt_machine.proofs.Base.{◌≡◌, ◌≢◌, ℕ, ◌+◌, ◌-◌, ◌*◌, ◌/◌, ◌%◌, ◌≤◌, ◌⊎◌, inl, inr, List, [], ◌∷◌, ◌++◌, length, take, drop, map, flat_map, Option, Some, None, Ok, Err, refl, sym, ap, ◌∙◌, subst, arith, slice_set, Contains, cond, nat_eq, range_with_len, append-nil, All, IsPlace, Span, Facts, BlockRead, given, failed, call_of, IsRight, BlockState, Missing, block_length, Metainfo, IsLawfulFile, eq-eqb, take-append-add, length-take-le, take-take}
 use Rattle.std.specs.Prelude.{IfSome}
 use Rattle.std.proofs.lemmas.Bool.{ne_eqb, cases_eq}
 use Rattle.std.proofs.lemmas.List.Elements.{All-get_or}

@@ -1,5 +1,5 @@
 -- The parts of an engine in which the store of one file is another.
-use Rattle.bt_machine.proofs.Base.{◌≡◌, ◌≢◌, ◌≤◌, ℕ, List, length, map, Some, refl, sym, ap, ◌∙◌, subst, slice_get, slice_set, length-set, Call, History, Facts, BlockId, BlockState, Missing, PeerKey}
+use Rattle.bt_machine.proofs.Base.{◌≡◌, ◌≢◌, ◌≤◌, ℕ, List, length, map, Some, refl, sym, ap, ◌∙◌, subst, slice_get, slice_set, length-set, Call, Facts, BlockId, BlockState, Missing, PeerKey}
 use Rattle.std.specs.Vec.{vec_capacity}
 use Rattle.bt_machine.proofs.Lists.{set_id}
 use Rattle.bt_disk.specs.Calls.{HasCalls}

@@ -1,5 +1,5 @@
 -- A missing block that is put into its file's store, in the parts of an engine.
-use Rattle.bt_machine.proofs.Base.{◌≡◌, ℕ, List, Some, refl, sym, ap, ◌∙◌, subst, slice_get, slice_set, option_and_then, map, History, BlockId, BlockState, Missing, Result, Ok, Err, Put, StoreError, Already, Wrong, PutMarked, PutWaiting, PeerKey, calls_of_put, states_after_put}
+use Rattle.bt_machine.proofs.Base.{◌≡◌, ℕ, List, Some, refl, sym, ap, ◌∙◌, subst, slice_get, slice_set, option_and_then, map, BlockId, BlockState, Missing, Result, Ok, Err, Put, StoreError, Already, Wrong, PutMarked, PutWaiting, PeerKey, calls_of_put, states_after_put}
 use Rattle.bt_machine.proofs.Lists.{set_id}
 use Rattle.bt_store.specs.Arrival.{IsBlock}
 use Rattle.bt_book.specs.Book.{asked_of}

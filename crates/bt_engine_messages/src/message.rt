@@ -5,7 +5,7 @@ ghost use Rattle.bt_meta.specs.Torrent.{total_pieces};
 ghost use Rattle.bt_book.specs.Book.{asked_of, peers_of, KeepsOthers};
 ghost use Rattle.bt_machine.specs.State.{EngineState, PeerState};
 ghost use Rattle.bt_machine.specs.HashMessages.{Resolves};
-ghost use Rattle.bt_engine_state.specs.Parts.{state_of, disks_of};
+ghost use Rattle.bt_engine_state.specs.Parts.{disks_of};
 ghost use Rattle.bt_engine_state.specs.Ties.{IsTied};
 ghost use Rattle.bt_engine_messages.specs.Peer.{IsPeerOf, KnowsPieces};
 ghost use Rattle.bt_engine_messages.specs.Message.{IsOfPeer, IsPeerEvent, HandlesOfPeer, TakesMessage, TakesHave, TakesBitfield, asked_after};

@@ -1,7 +1,6 @@
 //! Which block the bytes of a piece message are all of, where in a file a requested range lies, and which
 //! block or two it lies in.
-ghost use Rattle.std.specs.Prelude.{◌≡◌, ◌+◌, ◌*◌, ◌≤◌, IfNone, IfSome, ℕ, length};
-ghost use Rattle.bt_tree.specs.Limits.{full_block_length};
+ghost use Rattle.std.specs.Prelude.{◌≡◌, ◌+◌, IfNone, IfSome, length};
 ghost use Rattle.bt_meta.specs.Place.{IsPlace};
 ghost use Rattle.bt_machine.specs.Spans.{IsRangeOf, first_block, last_block};
 ghost use Rattle.bt_engine_messages.specs.SpansSteps.{IsShortSpan};

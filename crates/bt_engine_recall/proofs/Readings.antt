@@ -1,5 +1,5 @@
 -- What reads of the blocks that wait make of files.
-use Rattle.bt_machine.proofs.Base.{[], ◌≡◌, ℕ, zero, suc, ◌+◌, ◌<◌, ◌≤◌, inl, inr, ◌&&◌, is_some, Bool, true, false, cond, List, ◌∷◌, ◌++◌, length, map, filter, take, drop, replicate, Option, Some, None, refl, sym, ap, ◌∙◌, subst, arith, slice_get, slice_set, option_map, option_map_or, range_with_len, length-replicate, get_or_default, All, Contains, cases_lt, block_count, Facts, value_at, History, BlockRead, block_of, call_of, judged, is_waiting, is_waiting_at, waiting_blocks, BlockState, Missing}
+use Rattle.bt_machine.proofs.Base.{[], ◌≡◌, ℕ, zero, suc, ◌+◌, ◌<◌, ◌≤◌, inl, inr, ◌&&◌, is_some, Bool, true, false, cond, List, ◌∷◌, ◌++◌, length, map, filter, take, drop, replicate, Option, Some, None, refl, sym, ap, ◌∙◌, subst, arith, slice_get, slice_set, option_map, option_map_or, range_with_len, length-replicate, get_or_default, All, Contains, cases_lt, block_count, Facts, value_at, BlockRead, block_of, call_of, judged, is_waiting, is_waiting_at, waiting_blocks, BlockState, Missing}
 use Rattle.std.proofs.lemmas.Bool.{cases_eq}
 use Rattle.std.proofs.lemmas.Option.{slice_get-map, slice_get_past}
 use Rattle.bt_resume.specs.declared.hint.Hint.{Hint}

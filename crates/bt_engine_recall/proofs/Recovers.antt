@@ -1,5 +1,5 @@
 -- The files of an engine are restored in its parts.
-use Rattle.bt_machine.proofs.Base.{[], ◌≡◌, ℕ, ◌≤◌, inl, inr, List, length, map, replicate, Option, Some, None, refl, sym, ap, ◌∙◌, subst, arith, slice_get, option_map, option_map_or, range_with_len, length-map, length-replicate, cases_lt, max_peers, BlockState, Missing, Facts, History}
+use Rattle.bt_machine.proofs.Base.{[], ◌≡◌, ℕ, ◌≤◌, inl, inr, List, length, map, replicate, Option, Some, None, refl, sym, ap, ◌∙◌, subst, arith, slice_get, option_map, option_map_or, range_with_len, length-map, length-replicate, cases_lt, max_peers, BlockState, Missing, Facts}
 use Rattle.std.specs.Global.{Vec}
 use Rattle.std.specs.Vec.{vec_capacity, with_items}
 use Rattle.std.proofs.lemmas.Simd.{map-map}

@@ -1,6 +1,6 @@
 -- A restart with a log is the machine's.
 use Rattle.std.specs.Prelude.{IfErr}
-use Rattle.bt_machine.proofs.Base.{[], ◌≡◌, ℕ, is_some, Bool, false, List, ◌∷◌, length, Option, Some, None, Result, Ok, Err, refl, sym, ap, ◌∙◌, subst, option_map, range_with_len, History}
+use Rattle.bt_machine.proofs.Base.{[], ◌≡◌, ℕ, is_some, Bool, false, List, ◌∷◌, length, Option, Some, None, Result, Ok, Err, refl, sym, ap, ◌∙◌, subst, option_map, range_with_len}
 use Rattle.bt_resume.specs.ResumeLog.{LogView}
 use Rattle.bt_resume.specs.declared.hint.Hint.{Hint}
 use Rattle.bt_resume.specs.declared.error.LogError.{LogError}

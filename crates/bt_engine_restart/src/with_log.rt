@@ -1,5 +1,5 @@
 //! All is begun anew from a log.
-ghost use Rattle.std.specs.Prelude.{[], ◌≡◌, IfOk, IfErr, IsSome, map, option_map};
+ghost use Rattle.std.specs.Prelude.{[], ◌≡◌, IfOk, IfErr, IsSome, option_map};
 ghost use Rattle.sha2.specs.Sha256.{sha256};
 ghost use Rattle.bt_machine.specs.Shape.{IsShaped};
 ghost use Rattle.bt_engine_state.specs.Parts.{state_of, disks_of, log_of, pending_of};

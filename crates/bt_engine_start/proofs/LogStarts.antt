@@ -1,5 +1,5 @@
 -- An engine begins with a log.
-use Rattle.bt_machine.proofs.Base.{[], ◌≡◌, ℕ, true, List, ◌∷◌, length, map, Option, Some, refl, sym, ap, ◌∙◌, subst, option_map, option_map_or, range_with_len, Facts, History}
+use Rattle.bt_machine.proofs.Base.{[], ◌≡◌, ℕ, true, List, ◌∷◌, length, map, Option, Some, refl, sym, ap, ◌∙◌, subst, option_map, option_map_or, range_with_len, Facts}
 use Rattle.std.specs.Global.{Vec}
 use Rattle.std.specs.Vec.{with_items}
 use Rattle.bt_meta.specs.Torrent.{Metainfo, IsLawful}

@@ -1,5 +1,5 @@
 -- Files that lead to the next of their root, found from the last file back.
-use Rattle.bt_machine.proofs.Base.{◌≡◌, ℕ, ◌+◌, ◌-◌, ◌<◌, ◌≤◌, inl, inr, Bool, true, false, cond, List, length, Some, None, refl, sym, ap, ◌∙◌, subst, arith, slice_get, slice_set, ◌==◌, ◌≢◌, eq-eqb, eqb-true, cases_lt, File}
+use Rattle.bt_machine.proofs.Base.{◌≡◌, ℕ, ◌+◌, ◌<◌, ◌≤◌, inl, inr, Bool, true, false, cond, List, length, Some, None, refl, sym, ap, ◌∙◌, subst, arith, slice_get, slice_set, ◌==◌, ◌≢◌, eq-eqb, eqb-true, cases_lt, File}
 use Rattle.std.specs.Prelude.{unwrap_or}
 use Rattle.std.specs.Ordering.{is_eq, nat_cmp}
 use Rattle.std.specs.Cmp.Lexicographic.{slice_cmp}

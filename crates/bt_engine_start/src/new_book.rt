@@ -1,5 +1,5 @@
 //! A request book that wants all blocks of all files.
-ghost use Rattle.std.specs.Prelude.{◌≡◌, ◌<◌, ◌≤◌, [], IfOk, false, true, length, map, replicate, slice_get, slice_set, Some};
+ghost use Rattle.std.specs.Prelude.{◌≡◌, ◌≤◌, [], IfOk, false, true, length, map, replicate, slice_get, slice_set, Some};
 
 use bt_book::{BlockId, Book};
 use std::alloc::{AllocError, Global};

@@ -1,6 +1,6 @@
 //! The hash tree with which a file begins (BEP 52): it knows the piece layer, where the torrent has the
 //! file's, and else the root alone.
-ghost use Rattle.std.specs.Prelude.{◌≡◌, ◌<◌, IfOk};
+ghost use Rattle.std.specs.Prelude.{◌≡◌, IfOk};
 ghost use Rattle.sha2.specs.Sha256.{sha256};
 ghost use Rattle.bt_meta.specs.Files.{file_of};
 ghost use Rattle.bt_meta.specs.Torrent.{IsLawfulFile};

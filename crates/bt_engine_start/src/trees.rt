@@ -1,6 +1,6 @@
 //! The trees with which an engine begins, one for each root, made from what the torrent has of the root's
 //! first file.
-ghost use Rattle.std.specs.Prelude.{◌≡◌, ◌≤◌, IfOk, length};
+ghost use Rattle.std.specs.Prelude.{◌≡◌, IfOk, length};
 ghost use Rattle.sha2.specs.Sha256.{sha256};
 ghost use Rattle.bt_engine_state.specs.Ties.{EachIsFirst};
 ghost use Rattle.bt_engine_start.specs.Trees.{AreTreesOf};

@@ -1,5 +1,5 @@
 -- The calls of one file's device are calls of all devices.
-use Rattle.bt_machine.proofs.Base.{[], ◌≡◌, ◌≢◌, ℕ, ◌⊎◌, inl, inr, Bool, true, false, List, ◌∷◌, length, map, Option, Some, None, refl, sym, ap, ◌∙◌, arith, subst, slice_get, slice_set, filter, ◌==◌, eqb-true, eq-eqb, length-set, Call, History, ◌++◌, filter-append, Contains-append_cases}
+use Rattle.bt_machine.proofs.Base.{[], ◌≡◌, ◌≢◌, ℕ, ◌⊎◌, inl, inr, Bool, true, false, List, ◌∷◌, length, map, Option, Some, None, refl, sym, ap, ◌∙◌, arith, subst, slice_get, slice_set, filter, ◌==◌, eqb-true, eq-eqb, length-set, Call, ◌++◌, filter-append, Contains-append_cases}
 use Rattle.std.specs.Prelude.{◌↔◌}
 use Rattle.bt_machine.proofs.Lists.{set_other, set_same, contains_map, some_below, get_some}
 use Rattle.bt_disk.specs.Calls.{HasCalls}

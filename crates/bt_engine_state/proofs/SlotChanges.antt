@@ -1,5 +1,5 @@
 -- A slot whose store has become another.
-use Rattle.bt_machine.proofs.Base.{[], ◌≡◌, ◌≢◌, ℕ, zero, suc, inl, inr, List, ◌∷◌, length, map, Option, Some, refl, sym, ap, ◌∙◌, subst, slice_get, slice_set, option_and_then, option_map, option_map_or, BlockId, BlockState, Facts, File, Call, History, length-set, ◌++◌, ◌+◌, take, drop, arith, ◌<◌}
+use Rattle.bt_machine.proofs.Base.{[], ◌≡◌, ◌≢◌, ℕ, zero, suc, inl, inr, List, ◌∷◌, length, map, Option, Some, refl, sym, ap, ◌∙◌, subst, slice_get, slice_set, option_and_then, option_map, option_map_or, BlockId, BlockState, Facts, File, Call, length-set, ◌++◌, ◌+◌, take, drop, arith, ◌<◌}
 use Rattle.std.proofs.Common.{add-one}
 use Rattle.std.proofs.lemmas.Bool.{cases_eq}
 use Rattle.bt_disk.specs.Calls.{HasCalls}

@@ -1,5 +1,5 @@
 -- How many blocks wait: the count follows a block that has another state, is never great, and tells where none waits.
-use Rattle.bt_machine.proofs.Base.{[], ◌≡◌, ◌≢◌, ℕ, suc, ◌+◌, ◌-◌, ◌*◌, ◌<◌, ◌≤◌, inl, inr, Bool, true, false, List, ◌∷◌, length, Option, Some, refl, sym, ap, ◌∙◌, arith, slice_get, Contains, BlockId, BlockState, File, IsLaidOut, IsLawfulFile, All, option_and_then, option_map_or, is_waiting}
+use Rattle.bt_machine.proofs.Base.{[], ◌≡◌, ◌≢◌, ℕ, suc, ◌+◌, ◌-◌, ◌*◌, ◌<◌, ◌≤◌, inl, inr, Bool, true, false, List, ◌∷◌, length, Option, refl, sym, ap, ◌∙◌, arith, slice_get, Contains, BlockId, BlockState, File, IsLaidOut, IsLawfulFile, All, option_and_then, option_map_or, is_waiting}
 use Rattle.std.specs.Prelude.{count_by}
 use Rattle.std.proofs.lemmas.Option.{get_or_from_slice_get}
 use Rattle.std.proofs.lemmas.List.Sums.{count_by-le-length}

@@ -1,6 +1,6 @@
 //! Whether bytes have bits, and bits that others lack. Vectors tell it of 64 bytes in a small part of the time
 //! that single bytes take, of which no back end makes vectors.
-ghost use Rattle.std.specs.Prelude.{◌≡◌, ◌↔◌, ◌+◌, ◌≤◌, length, IsTrue};
+ghost use Rattle.std.specs.Prelude.{◌↔◌, ◌+◌, ◌≤◌, length, IsTrue};
 ghost use Rattle.bt_engine_state.specs.ComparisonSteps.{AddsNothing, HasNoBit};
 
 use std::simd::u8x64;

@@ -23,7 +23,7 @@ pub use counts::Counts;
 pub use open_log::OpenLog;
 pub use parts::Parts;
 pub use peer::Peer;
-pub use peers::{feed, index_of, lost};
+pub use peers::{feed, feed_buffer, index_of, lost};
 pub use piece_set::PieceSet;
 pub use reports::{disk, is_complete, peer_count, report};
 pub use roots::Roots;

@@ -1,5 +1,5 @@
 //! Peers by their keys: where one stands, bytes that come from it, and its leaving.
-ghost use Rattle.std.specs.Prelude.{◌≡◌, ◌<◌, IfSome, IfNone, length, vec_len};
+ghost use Rattle.std.specs.Prelude.{◌≡◌, ◌<◌, ◌≤◌, IfSome, IfNone, length, take, vec_len};
 ghost use Rattle.bt_machine.specs.Orderly.{IsOrderly};
 ghost use Rattle.bt_machine.specs.Peers.{StepFeed, StepLost};
 ghost use Rattle.bt_engine_state.specs.Parts.{state_of, disks_of, IsPeerAt, LacksPeer};
@@ -50,6 +50,38 @@ pub fn feed<D: Disk + Drop, H: NodeHash>(
         // a peer whose stream showed a fault has gone
         Err(WireError::Failed) => unreachable!(),
         // the bytes are looked at when an event is taken
+        Err(WireError::BadProtocol | WireError::TooLong | WireError::BadLength) => unreachable!(),
+    }
+}
+
+/// Puts the first `count` bytes of a buffer behind those of a peer that no event was taken from. The buffer
+/// may be exchanged for another, which is not shorter.
+pub fn feed_buffer<D: Disk + Drop, H: NodeHash>(
+    parts: &mut Parts<D, H>,
+    key: PeerKey,
+    buffer: &mut Vec<u8>,
+    count: usize,
+) -> Result<(), EngineError>
+    requires tied { IsTied parts.old }
+    requires orderly { IsOrderly (state_of parts.old) }
+    requires within { count ≤ length buffer.old.items }
+    ensures step { StepFeed (state_of parts.old) key (take count buffer.old.items) result
+        (state_of parts.new) }
+    ensures devices { disks_of parts.new ≡ disks_of parts.old }
+    ensures torrent { parts.new.torrent ≡ parts.old.torrent }
+    ensures log { parts.new.log ≡ parts.old.log }
+    ensures tied { IsTied parts.new }
+    ensures long { length buffer.old.items ≤ length buffer.new.items }
+{
+    let Some(index) = index_of(parts, key) else {
+        return Err(EngineError::NoPeer);
+    };
+    let peer = &mut parts.peers[index];
+    match peer.cutter.feed_buffer(buffer, count) {
+        Ok(()) => Ok(()),
+        Err(WireError::OutOfMemory) => Err(EngineError::OutOfMemory),
+        // as in `feed`
+        Err(WireError::Failed) => unreachable!(),
         Err(WireError::BadProtocol | WireError::TooLong | WireError::BadLength) => unreachable!(),
     }
 }

@@ -1,6 +1,6 @@
 //! A set of pieces in the bytes of a bitfield (BEP 3), in which a search passes 512 pieces at once or eight.
 ghost use Rattle.std.specs.List.{All};
-ghost use Rattle.std.specs.Prelude.{◌≡◌, ◌↔◌, ℕ, ◌+◌, ◌-◌, ◌*◌, ◌<◌, ◌≤◌, true, false, length, replicate, slice_index_or, slice_set, take, IfOk, IfSome, IfNone, IsTrue};
+ghost use Rattle.std.specs.Prelude.{◌≡◌, ◌↔◌, ℕ, ◌+◌, ◌-◌, ◌*◌, ◌<◌, true, false, length, replicate, slice_index_or, slice_set, take, IfOk, IfSome, IfNone, IsTrue};
 ghost use Rattle.std.specs.Int.{div_ceil, bit_at};
 ghost use Rattle.bt_book.specs.BitSet.{IsNext, HasNoneFrom};
 ghost use Rattle.bt_machine.specs.WireEvents.{bits_in};

@@ -1,6 +1,6 @@
 //! What the digests that come with a key claim (BEP 52, "hashes"): how many the key names, first those of the
 //! run and then those of the uncles.
-ghost use Rattle.std.specs.Prelude.{◌≡◌, ◌↔◌, ◌≤◌, IsSome, IsTrue, IfOk, IfErr, IfSome};
+ghost use Rattle.std.specs.Prelude.{◌≡◌, ◌↔◌, ◌≤◌, IsSome, IfOk, IfErr, IfSome};
 ghost use Rattle.bt_tree.specs.TreeShape.{height_of};
 ghost use Rattle.bt_sparse.specs.Answer.{answer_size};
 ghost use Rattle.bt_hashreq.specs.Claim.{IsRunLength, HasShape, IsClaimBy, IsNoClaim};

@@ -1,5 +1,5 @@
 //! Which key to ask a peer for (BEP 52, "hash request"), so that the leaf of a block becomes known.
-ghost use Rattle.std.specs.Prelude.{◌≡◌, ◌<◌, ◌↔◌, IsSome, IsNone, IfSome};
+ghost use Rattle.std.specs.Prelude.{◌<◌, ◌↔◌, IsSome, IsNone, IfSome};
 ghost use Rattle.bt_sparse.specs.SparseTree.{held_at, blocks_of};
 ghost use Rattle.bt_hashreq.specs.Request.{IsPlan};
 

@@ -1,5 +1,5 @@
 -- The device of a log's file.
-use Rattle.std.specs.Prelude.{ℕ, List, [], Option, false}
+use Rattle.std.specs.Prelude.{ℕ, List, Option, false}
 use Rattle.bt_devices.specs.Disk.{AheadView, ahead_conduct, new_ahead}
 use Rattle.bt_disk.specs.FileDisk.{writing}
 use Rattle.bt_disk.specs.Conduct.{Conduct}

@@ -1,5 +1,5 @@
 -- The log backs the engine, from its start over all events.
-use Rattle.bt_machine.proofs.Base.{[], ◌≡◌, ◌≢◌, ℕ, ◌⊎◌, inl, inr, Bool, true, false, List, ◌∷◌, ◌++◌, flat_map, length, Option, Some, None, Result, Ok, Err, refl, sym, ap, ◌∙◌, subst, append-nil, History, IsDigest, KeepsRooted, Metainfo, IsLawful, Facts}
+use Rattle.bt_machine.proofs.Base.{[], ◌≡◌, ◌≢◌, ℕ, ◌⊎◌, inl, inr, Bool, true, false, List, ◌∷◌, ◌++◌, flat_map, length, Option, Some, None, Result, Ok, Err, refl, sym, ap, ◌∙◌, subst, append-nil, IsDigest, KeepsRooted, Metainfo, IsLawful, Facts}
 use Rattle.bt_resume.specs.LogText.{LogText, hints_in, with_hints}
 use Rattle.bt_tree.specs.Limits.{digest_length}
 use Rattle.bt_resume.specs.ResumeLog.{LogView, IsAttached, Opens, opened, unmeasured, made as made_anew, unwritten as no_write, unsynced}

@@ -1,5 +1,5 @@
 -- What a crash leaves of blocks that are not missing.
-use Rattle.bt_machine.proofs.Base.{[], ◌≡◌, ◌≢◌, ℕ, ◌+◌, ◌*◌, ◌<◌, ◌≤◌, ◌⊎◌, inl, inr, List, length, Some, ap, subst, arith, slice_get, Contains, All, cases_lt, block_length, IsImage, History, Call, bytes_written, write_fault, length_set, resize_fault, Spares, CallsKeepBytes, Missing}
+use Rattle.bt_machine.proofs.Base.{[], ◌≡◌, ◌≢◌, ℕ, ◌+◌, ◌*◌, ◌<◌, ◌≤◌, ◌⊎◌, inl, inr, List, length, Some, ap, subst, arith, slice_get, Contains, All, cases_lt, block_length, IsImage, Call, bytes_written, write_fault, length_set, resize_fault, Spares, CallsKeepBytes, Missing}
 use Rattle.bt_machine.proofs.Machine.{Digest, EngineState, calls_of, IsFile, KeepsBytes, StepKeepsImages}
 use Rattle.bt_machine.proofs.Lists.{some_below, contains_none, contains_cases}
 use Rattle.bt_machine.proofs.Pairs.{contains_at}

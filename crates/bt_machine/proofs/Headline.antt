@@ -1,5 +1,5 @@
 -- A complete file on an honest device is the published one.
-use Rattle.bt_machine.proofs.Base.{◌≡◌, ℕ, length, take, sym, ap, ◌∙◌, History, file_root, AdoptMarksByBytes, RootsTellFiles, LayersAreSound, RootsAreSound, KeepsRooted, File, Facts}
+use Rattle.bt_machine.proofs.Base.{◌≡◌, length, take, sym, ap, ◌∙◌, file_root, AdoptMarksByBytes, RootsTellFiles, LayersAreSound, RootsAreSound, KeepsRooted, File, Facts}
 use Rattle.bt_machine.proofs.Machine.{Digest, Begins, bare, with_log, BeginsOn, bare_on, with_log_on, HasFile, IsPublished, CompleteFilesArePublished}
 use Rattle.bt_machine.proofs.Lists.{same_some}
 use Rattle.bt_machine.proofs.Rooted.{run_rooted}

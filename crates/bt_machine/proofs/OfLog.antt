@@ -1,5 +1,5 @@
 -- An engine and its log go together.
-use Rattle.bt_machine.proofs.Base.{[], ◌≡◌, ◌≢◌, ℕ, inl, inr, true, false, List, ◌∷◌, ◌++◌, flat_map, Option, Some, None, Result, refl, sym, ap, ◌∙◌, subst, ⊤, History}
+use Rattle.bt_machine.proofs.Base.{[], ◌≡◌, ◌≢◌, inl, inr, true, false, List, ◌∷◌, ◌++◌, flat_map, Option, Some, None, Result, refl, sym, ap, ◌∙◌, subst, ⊤}
 use Rattle.bt_resume.specs.ResumeLog.{LogView}
 use Rattle.bt_resume.specs.declared.hint.Hint.{Hint}
 use Rattle.bt_resume.specs.declared.error.AppendError.TheVariants.{Full, Device as AppendDevice}

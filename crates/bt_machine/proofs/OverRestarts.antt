@@ -1,5 +1,5 @@
 -- What a flush kept of a marked block stands over restarts too, where no read of theirs failed.
-use Rattle.bt_machine.proofs.Base.{[], ◌≡◌, ℕ, ◌<◌, ◌≤◌, inl, inr, true, List, ◌∷◌, ◌++◌, length, flat_map, Option, Some, Result, Ok, sym, ap, ◌∙◌, subst, arith, slice_get, Contains, block_length, AdoptMarksByBytes, CallsKeepBytes, IsImage, IsRight, BlockRead, given, block_of, call_of, Missing, Marked, BlockId, Facts, Call, History}
+use Rattle.bt_machine.proofs.Base.{[], ◌≡◌, ℕ, ◌<◌, ◌≤◌, inl, inr, true, List, ◌∷◌, ◌++◌, length, flat_map, Option, Some, Result, Ok, sym, ap, ◌∙◌, subst, arith, slice_get, Contains, block_length, AdoptMarksByBytes, CallsKeepBytes, IsImage, IsRight, BlockRead, given, block_of, call_of, Missing, Marked, BlockId, Facts, Call}
 use Rattle.bt_disk.specs.Limits.{max_count}
 use Rattle.bt_disk.specs.Calls.{HasCalls, IsRead, read_fault, count_after_call, count_after_calls}
 use Rattle.bt_resume.specs.LogText.{LogText, hints_in}

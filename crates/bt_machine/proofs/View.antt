@@ -1,5 +1,5 @@
 -- Lists of events of an engine with its devices, put together.
-use Rattle.bt_machine.proofs.Base.{[], ℕ, List, ◌∷◌, ◌++◌, Option, Some, None, refl, subst, append-nil, History}
+use Rattle.bt_machine.proofs.Base.{[], ℕ, List, ◌∷◌, ◌++◌, Option, Some, None, refl, subst, append-nil}
 use Rattle.bt_machine.proofs.Machine.{EngineState, EventCalls, LogCall, HaveLogCalls, RunOn, Event, Answer}
 use Rattle.std.proofs.lemmas.List.Concat.{flat_map-append}
 use Rattle.bt_resume.specs.ResumeLog.{LogView}

@@ -1,5 +1,5 @@
 -- Lemmas on what is made of a folder, and why no torrent is made of it.
-use Rattle.std.proofs.Common.{◌≡◌, ℕ, ◌⊎◌, inl, inr, List, Result, Ok, Err, IfOk, IfErr, map, refl, sym, subst}
+use Rattle.std.proofs.Common.{◌≡◌, ℕ, inl, inr, List, Result, Ok, Err, IfOk, IfErr, map, refl, sym, subst}
 use Rattle.std.specs.List.{All}
 use Rattle.bt_meta.specs.Faults.{first_fault}
 use Rattle.bt_meta.specs.GivenFiles.{given_of}

@@ -1,5 +1,5 @@
 //! The limits on a torrent's files, by what is known of them before they are read.
-ghost use Rattle.std.specs.Prelude.{◌≡◌, ◌+◌, ◌≤◌, ◌^◌, IfOk, OnOk};
+ghost use Rattle.std.specs.Prelude.{◌≡◌, ◌+◌, ◌≤◌, IfOk, OnOk};
 ghost use Rattle.std.specs.Result.{result_err};
 ghost use Rattle.bt_meta.specs.Files.{piece_count};
 ghost use Rattle.bt_meta.specs.Limits.{max_file_count, max_piece_count};

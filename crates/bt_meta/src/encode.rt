@@ -1,13 +1,7 @@
 //! The value that a torrent spells (BEP 52, "metainfo files").
-ghost use Rattle.std.specs.Prelude.{◌≡◌, ◌≢◌, ℕ, ◌<◌, ◌≤◌, ◌^◌, List, [], ◌∷◌, ◌++◌, map, IfOk, IfErr, OnOk, OnErr, string_bytes};
-ghost use Rattle.std.specs.Option.{option_map};
+ghost use Rattle.std.specs.Prelude.{◌≡◌, ◌≤◌, List, [], ◌∷◌, ◌++◌, map, IfOk, IfErr, OnOk, string_bytes};
 ghost use Rattle.std.specs.List.{All};
-ghost use Rattle.std.specs.Ordering.{nat_cmp};
-ghost use Rattle.std.specs.Cmp.Lexicographic.{slice_cmp};
-ghost use Rattle.std.specs.BTreeMap.{get};
-ghost use Rattle.bt_bencode.specs.Dictionary.{first_value_of};
-ghost use Rattle.bt_bencode.specs.Doc.{EntriesAscend};
-ghost use Rattle.bt_bencode.specs.Value.{Entries, string, dictionary, no_entries, entry};
+ghost use Rattle.bt_bencode.specs.Value.{Entries, no_entries, entry};
 ghost use Rattle.bt_bencode.specs.Value.{data_of, entries_of};
 ghost use Rattle.bt_tree.specs.Limits.{max_file_length};
 ghost use Rattle.bt_meta.specs.GivenFiles.{Given, given_of, HaveTreePaths};

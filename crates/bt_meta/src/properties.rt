@@ -1,5 +1,5 @@
 //! What is read of one entry of a file tree.
-ghost use Rattle.std.specs.Prelude.{◌≡◌, ℕ, IfOk, IfErr, OnOk, MatchResult, option_copied, None, Some, if◌then◌else◌};
+ghost use Rattle.std.specs.Prelude.{◌≡◌, IfErr, OnOk, MatchResult, option_copied, None, Some, if◌then◌else◌};
 ghost use Rattle.bt_bencode.specs.Value.{data_of};
 ghost use Rattle.bt_meta.specs.Files.{length_in, root_in};
 ghost use Rattle.bt_meta.specs.Faults.{first_of, property_checks, is_path_element, is_dots as is_dots_element, has_lawful_length, has_lawful_root};

@@ -1,5 +1,5 @@
 //! Reading torrents.
-ghost use Rattle.std.specs.Prelude.{◌≡◌, ℕ, map, codes, IfOk, IfErr, MatchResult, Option, None, Some, IsSome, if◌then◌else◌};
+ghost use Rattle.std.specs.Prelude.{◌≡◌, map, codes, IfOk, IfErr, MatchResult, Option, None, Some, IsSome, if◌then◌else◌};
 ghost use Rattle.std.specs.Result.{result_err};
 ghost use Rattle.sha2.specs.Sha256.{sha256};
 ghost use Rattle.bt_bencode.specs.Spelling.{spelling_of};

@@ -1,6 +1,6 @@
 //! The walk over a file tree, in tree order.
-ghost use Rattle.std.specs.Prelude.{◌≡◌, ℕ, ◌+◌, ◌*◌, ◌<◌, ◌≤◌, ◌++◌, ◌∷◌, [], List, map, IfOk, OnOk, IfErr, MatchOption, MatchResult, string_bytes, true, false};
-ghost use Rattle.bt_bencode.specs.Value.{data_of, entries_of};
+ghost use Rattle.std.specs.Prelude.{◌≡◌, ◌+◌, ◌∷◌, [], List, OnOk, IfErr, MatchOption, MatchResult, true, false};
+ghost use Rattle.bt_bencode.specs.Value.{data_of};
 ghost use Rattle.bt_meta.specs.TreeEntries.{tree_entries_below};
 ghost use Rattle.bt_meta.specs.Faults.{first_of, is_node, is_piece_length, tree_checks};
 ghost use Rattle.bt_meta.specs.ReaderSteps.{Refuses, IsListing};

@@ -1,5 +1,5 @@
 //! Making torrents.
-ghost use Rattle.std.specs.Prelude.{◌≡◌, ℕ, ◌^◌, ◌<◌, ◌≤◌, ◌++◌, ◌∷◌, [], ◌⊎◌, List, map, IfOk, OnOk, IfErr, MatchResult, string_bytes, None, true, false};
+ghost use Rattle.std.specs.Prelude.{◌≡◌, ◌≤◌, ◌++◌, ◌∷◌, [], ◌⊎◌, List, map, IfOk, OnOk, IfErr, MatchResult, string_bytes, None, true, false};
 ghost use Rattle.std.specs.List.{All};
 ghost use Rattle.std.specs.List.Sorted.{IsSortedBy};
 ghost use Rattle.std.specs.Result.{result_err};

@@ -1,5 +1,5 @@
 //! Runs that several parts told of one file are joined to what a check of the whole file finds.
-ghost use Rattle.std.specs.Prelude.{◌≡◌, ◌++◌, ◌≤◌, List, IfSome, IfNone, take};
+ghost use Rattle.std.specs.Prelude.{◌≡◌, ◌++◌, ◌≤◌, List, IfSome, IfNone};
 ghost use Rattle.bt_check.specs.declared.data_file.Finding.{Finding as Found};
 ghost use Rattle.bt_parts.specs.Join.{BeginsElsewhere, IsJoined};
 ghost use Rattle.bt_parts.specs.JoinSteps.{Continues};

@@ -1,5 +1,5 @@
 -- What a whole script comes to.
-use Rattle.std.specs.Prelude.{◌≡◌, ℕ, ◌+◌, ◌-◌, ◌==◌, ◌&&◌, if◌then◌else◌, nat_lt, List, ◌∷◌, map, filter_map, length, take, slice_index, Option, Some, None, Result, Ok, Err, ⊤}
+use Rattle.std.specs.Prelude.{◌≡◌, ℕ, ◌+◌, ◌-◌, ◌==◌, ◌&&◌, if◌then◌else◌, nat_lt, List, ◌∷◌, map, filter_map, length, take, slice_index, Option, Some, None, Result, Ok, Err}
 use Rattle.std.specs.Io.KnownBytes.{Keeps}
 use Rattle.sha2.specs.Sha256.{sha256}
 use Rattle.bt_disk.specs.Conduct.{Conduct}

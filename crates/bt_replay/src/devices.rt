@@ -1,5 +1,5 @@
 //! The devices that a script names.
-ghost use Rattle.std.specs.Prelude.{◌≡◌, ◌-◌, ◌<◌, List, map, IfOk, Option};
+ghost use Rattle.std.specs.Prelude.{◌≡◌, List, map, IfOk, Option};
 ghost use Rattle.std.specs.Bool.{OnTrue, OnFalse};
 ghost use Rattle.bt_meta.specs.Files.{file_of};
 ghost use Rattle.bt_replay.specs.Devices.{Device as Told, Sets, first_device, set_file, with_setting, zero_device};

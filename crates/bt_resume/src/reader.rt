@@ -1,5 +1,5 @@
 //! How hints are read.
-ghost use Rattle.std.specs.Prelude.{◌≡◌, ◌≢◌, ◌≤◌, ◌%◌, List, ◌∷◌, ◌++◌, [], length, take, All, IfSome, IfNone};
+ghost use Rattle.std.specs.Prelude.{◌≡◌, ◌≢◌, ◌≤◌, ◌%◌, List, ◌∷◌, [], length, take, All, IfSome, IfNone};
 ghost use Rattle.std.specs.Bool.{OnTrue, OnFalse};
 ghost use Rattle.bt_tree.specs.Limits.{digest_length};
 ghost use Rattle.bt_hashreq.specs.Key.{key_length, key_spelling, IsKey};

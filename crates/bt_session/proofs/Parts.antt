@@ -1,8 +1,8 @@
 -- What one event, and a write of what it sends, does to a session.
-use Rattle.std.proofs.Common.{[], ◌≡◌, ℕ, ◌+◌, ◌≤◌, inl, inr, Bool, List, ◌∷◌, length, take, Option, Some, None, refl, sym, ap, ◌∙◌, subst, arith}
-use Rattle.std.proofs.KnownBytes.{Appends-nil, Consumes-nil, Keeps-refl}
+use Rattle.std.proofs.Common.{[], ◌≡◌, ℕ, ◌+◌, ◌≤◌, inl, inr, Bool, List, ◌∷◌, Option, Some, None, refl, sym, ap, ◌∙◌, subst, arith}
+use Rattle.std.proofs.KnownBytes.{Consumes-nil, Keeps-refl}
 use Rattle.std.specs.Prelude.{Result, Ok, Err, MatchResult}
-use Rattle.std.specs.Io.KnownBytes.{Consumes, Keeps}
+use Rattle.std.specs.Io.KnownBytes.{Consumes}
 use Rattle.std.specs.List.{count_by}
 use Rattle.bt_disk.specs.Conduct.{Conduct}
 use Rattle.bt_book.specs.declared.names.PeerKey.{PeerKey}
@@ -13,7 +13,7 @@ use Rattle.bt_machine.specs.Law.{sent_by}
 use Rattle.bt_machine.specs.State.{EngineState, EngineView}
 use Rattle.bt_machine.specs.View.{StepsTo}
 use Rattle.bt_session.specs.declared.end.SessionEnd.{SessionEnd}
-use Rattle.bt_session.specs.declared.end.SessionEnd.TheVariants.{Complete, Closed, WriteFault, Memory}
+use Rattle.bt_session.specs.declared.end.SessionEnd.TheVariants.{Closed, WriteFault, Memory}
 use Rattle.bt_session.specs.Frames.{frames_to, AreWritten}
 use Rattle.bt_session.specs.Session.{Follows, IsDone, is_turn}
 use Rattle.bt_session.specs.Progress.{HasRun, Place, place, fed_by, AllWritten, SomeWritten, IsUnknown}

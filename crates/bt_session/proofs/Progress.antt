@@ -1,5 +1,5 @@
 -- A session that goes on by one event.
-use Rattle.std.proofs.Common.{[], ◌≡◌, ℕ, ◌+◌, ◌≤◌, Bool, List, ◌∷◌, ◌++◌, length, take, Option, refl, sym, ap, ◌∙◌, subst, cond, append-nil, arith}
+use Rattle.std.proofs.Common.{[], ◌≡◌, ℕ, ◌+◌, Bool, List, ◌∷◌, ◌++◌, length, take, Option, refl, sym, ap, ◌∙◌, subst, cond, append-nil, arith}
 use Rattle.std.proofs.lemmas.List.{take-append-le, take_all}
 use Rattle.std.proofs.lemmas.List.Sums.{sum_by-append}
 use Rattle.std.proofs.lemmas.Grind.{flat_map-append}

@@ -13,7 +13,7 @@ use Rattle.bt_session.specs.Ends.{IsSessionWithFlushes}
 use Rattle.bt_session.specs.Progress.{place}
 use Rattle.bt_session.specs.Session.{Session, begins, goes_on}
 use Rattle.bt_session.proofs.Standing.{no_restart}
-use Rattle.bt_engine.specs.Leads.{LeadsTo, none, one, both}
+use Rattle.bt_engine.specs.Leads.{LeadsTo, one, both}
 use Rattle.bt_session.specs.Peer.{IsFlushedWhere}
 
 -- a flush connects no peer

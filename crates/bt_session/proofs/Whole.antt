@@ -1,6 +1,6 @@
 -- How a session begins, and how its turns are spent.
-use Rattle.std.proofs.Common.{[], ◌≡◌, ℕ, ◌≤◌, inl, Bool, List, Option, Some, None, refl, subst, arith}
-use Rattle.std.specs.Prelude.{Result, Ok, Err, MatchResult, MatchOption}
+use Rattle.std.proofs.Common.{◌≡◌, ℕ, inl, Bool, List, Option, Some, None, refl, subst, arith}
+use Rattle.std.specs.Prelude.{Ok, Err, MatchOption}
 use Rattle.bt_disk.specs.Conduct.{Conduct}
 use Rattle.bt_book.specs.declared.names.PeerKey.{PeerKey}
 use Rattle.bt_machine.specs.declared.event.Event.TheVariants.{Connect}

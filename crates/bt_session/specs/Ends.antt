@@ -10,7 +10,6 @@ use Rattle.bt_machine.specs.declared.error.FlushError.{FlushError}
 use Rattle.bt_machine.specs.declared.event.Event.TheVariants.{Lost}
 use Rattle.bt_machine.specs.declared.event.Answer.{Answer}
 use Rattle.bt_machine.specs.declared.event.Answer.TheVariants.{Connected, Fed, Stepped, Lost as LostAnswer, Rechoked, Flushed}
-use Rattle.bt_machine.specs.Output.{Output}
 use Rattle.bt_machine.specs.State.{EngineState, EngineView}
 use Rattle.bt_machine.specs.View.{StepsTo}
 use Rattle.bt_session.specs.declared.end.SessionEnd.{SessionEnd}

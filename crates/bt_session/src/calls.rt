@@ -1,5 +1,5 @@
 //! The calls of an engine with one peer: each is an event of the machine, and leaves the peer or takes it.
-ghost use Rattle.std.specs.Prelude.{[], ◌≡◌, IfOk, IfErr, OnErr};
+ghost use Rattle.std.specs.Prelude.{[], ◌≡◌, ◌≤◌, length, take, IfOk, IfErr, OnErr};
 ghost use Rattle.bt_machine.specs.declared.error.EngineError.TheVariants.{OutOfMemory};
 ghost use Rattle.bt_machine.specs.declared.event.Event.TheVariants.{Connect, Feed, Next, Lost, Rechoke, Flush};
 ghost use Rattle.bt_machine.specs.declared.event.Answer.TheVariants.{Connected, Fed, Stepped, Lost as LostAnswer, Rechoked, Flushed};
@@ -33,19 +33,23 @@ pub(crate) fn connect<D: Disk + Drop, H: NodeHash>(
     engine.connect()
 }
 
-/// Feeds bytes of the peer, all or none. Errors: out of memory.
+/// Feeds the first `count` bytes of a buffer, all or none, which are the peer's. The buffer may hold other
+/// bytes afterwards, and does not get shorter. Errors: out of memory.
 pub(crate) fn feed<D: Disk + Drop, H: NodeHash>(
     engine: &mut Engine<D, H>,
     key: PeerKey,
-    bytes: &[u8],
+    buffer: &mut Vec<u8>,
+    count: usize,
 ) -> Result<(), EngineError>
     requires alone { IsAlone key engine.old.state }
-    ensures step { StepsTo D.conduct H.digest engine.old (Feed key bytes.now) (Fed result)
-        engine.new }
+    requires within { count ≤ length buffer.old.items }
+    ensures step { StepsTo D.conduct H.digest engine.old
+        (Feed key (take count buffer.old.items)) (Fed result) engine.new }
     ensures alone { IsAlone key engine.new.state }
     ensures refused { IfErr result (λ error. error ≡ OutOfMemory) }
+    ensures long { length buffer.old.items ≤ length buffer.new.items }
 {
-    engine.feed(key, bytes)
+    engine.feed_buffer(key, buffer, count)
 }
 
 /// Takes the next wire event of the peer. Errors: out of memory, and the peer is gone.

@@ -7,6 +7,7 @@ mod calls;
 mod end;
 mod flushes;
 mod frames;
+mod incoming;
 mod law;
 mod link;
 mod peer;

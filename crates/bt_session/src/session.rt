@@ -1,5 +1,5 @@
 //! A whole session.
-ghost use Rattle.std.specs.Prelude.{[], ◌≡◌, ℕ, IfOk, IfErr, OnOk, OnErr};
+ghost use Rattle.std.specs.Prelude.{[], ◌≡◌, IfOk, IfErr, OnErr};
 ghost use Rattle.bt_machine.specs.declared.event.Event.TheVariants.{Connect};
 ghost use Rattle.bt_machine.specs.declared.event.Answer.TheVariants.{Connected};
 ghost use Rattle.bt_machine.specs.State.{EngineView};
@@ -94,11 +94,38 @@ pub fn run_session_with_flushes<D: Disk + Drop, H: NodeHash, R: Read, W: Write>(
         until_complete,
         flush_every,
     };
-    let mut room = Room::new(alloc);
-    let end = converse(engine, partner, &greeting, reader, writer, &mut room, turns);
+    let end = serve(alloc, engine, partner, &greeting, reader, writer, turns);
     // A peer that was closed is gone already.
     let _ = remove(engine, key);
     Ok(end)
+}
+
+/// Makes the buffers of the session, and converses with the peer to its end, which is Memory where memory for
+/// them is refused. Errors: a flush was refused, which was the end.
+fn serve<D: Disk + Drop, H: NodeHash, R: Read, W: Write>(
+    alloc: Global,
+    engine: &mut Engine<D, H>,
+    partner: Partner,
+    greeting: &Output,
+    reader: &mut R,
+    writer: &mut W,
+    turns: u64,
+) -> Result<SessionEnd, FlushError>
+    requires alone { IsAlone partner.key engine.old.state }
+    requires fit { AllFit greeting.now.send }
+    ensures ends { (first : EngineView D)
+        → StepsTo D.conduct H.digest first Connect
+        (Connected (Ok (partner.key, greeting.now))) engine.old
+        → HasEnded D.conduct H.digest partner.key partner.until_complete
+        partner.flush_every turns
+        (place first (R.remaining reader.old) (W.contents writer.old)) result
+        (place engine.new (R.remaining reader.new) (W.contents writer.new)) }
+    ensures no_other { HasNoOther partner.key engine.new.state }
+{
+    match Room::new(alloc) {
+        Ok(mut room) => converse(engine, partner, greeting, reader, writer, &mut room, turns),
+        Err(_) => Ok(SessionEnd::Memory),
+    }
 }
 
 /// Greets the peer, and takes turns with it to the session's end. Errors: a flush was refused, which was the

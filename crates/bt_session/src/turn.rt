@@ -1,24 +1,23 @@
 //! The turns of a session: what a reader gives is fed, its wire events are taken, the peers to serve are
 //! chosen anew; and what these send is written.
-ghost use Rattle.std.specs.Prelude.{◌≡◌, ◌+◌, ◌<◌, ℕ, List, Option, length, IfOk, IfErr, OnErr, OnOk};
-ghost use Rattle.std.specs.Io.KnownBytes.{Keeps};
+ghost use Rattle.std.specs.Prelude.{◌+◌, ℕ, List, Option, IfOk, OnOk};
 ghost use Rattle.bt_machine.specs.declared.event.Event.TheVariants.{Next, Rechoke};
-ghost use Rattle.bt_session.specs.declared.end.SessionEnd.TheVariants.{ReadFault};
 ghost use Rattle.bt_session.specs.Progress.{place};
 ghost use Rattle.bt_session.specs.Ends.{IsBetweenTurns};
-ghost use Rattle.bt_session.specs.Parts.{Awaits, IsTurnOver, IsPart, IsGiven, event_after, EndsAfter};
+ghost use Rattle.bt_session.specs.Parts.{Awaits, IsTurnOver, IsPart, event_after, EndsAfter};
 ghost use Rattle.bt_session.specs.PeerSteps.{IsAlone, HasNoOther, StaysAlone};
 
-use crate::calls::{feed, next, rechoke};
+use crate::calls::{next, rechoke};
 use crate::end::SessionEnd;
 use crate::frames::write_frames;
-use crate::room::{READ_LEN, Room};
+use crate::incoming::Incoming;
+use crate::room::Room;
 use bt_book::PeerKey;
 use bt_disk::Disk;
 use bt_engine::Engine;
 use bt_machine::Why;
 use bt_tree::NodeHash;
-use std::io::{ErrorKind, Read, Write};
+use std::io::{Read, Write};
 
 /// The peer of a session, whether it goes on until all files are complete only, and behind how many turns the
 /// engine is flushed; 0 for never.
@@ -56,7 +55,7 @@ fn receive<D: Disk + Drop, H: NodeHash, R: Read>(
     engine: &mut Engine<D, H>,
     partner: Partner,
     reader: &mut R,
-    buffer: &mut [u8; READ_LEN],
+    incoming: &mut Incoming,
 ) -> Result<(), SessionEnd>
     requires alone { IsAlone partner.key engine.old.state }
     ensures part { (contents : Option (List ℕ))
@@ -67,34 +66,14 @@ fn receive<D: Disk + Drop, H: NodeHash, R: Read>(
         (place engine.new (R.remaining reader.new) contents) }
     ensures alone { IsAlone partner.key engine.new.state }
 {
-    let count = read_some(reader, buffer)?;
+    let count = incoming.read(reader)?;
     if count == 0 {
         return Err(SessionEnd::Ended);
     }
-    match feed(engine, partner.key, &buffer[..count]) {
+    match incoming.feed(engine, partner.key, count) {
         Ok(()) => Ok(()),
         Err(_) => Err(SessionEnd::Memory),
     }
-}
-
-/// Reads once, and says how many bytes came: none where there are no more. A read that was interrupted is
-/// made again. Errors: ReadFault, and none of the reader's bytes is lost.
-fn read_some<R: Read>(reader: &mut R, buffer: &mut [u8]) -> Result<usize, SessionEnd>
-    requires some { 0 < length buffer.old }
-    ensures given { IfOk result (λ count. IsGiven (R.remaining reader.old) (R.remaining reader.new) count
-        buffer.new) }
-    ensures kept { OnErr result (Keeps (R.remaining reader.old) (R.remaining reader.new)) }
-    ensures fault { IfErr result (λ end. end ≡ ReadFault) }
-{
-    // A bound, so that it ends whatever the system gives.
-    for _ in 0..u64::MAX {
-        match reader.read(buffer) {
-            Ok(count) => return Ok(count),
-            Err(error) if error.kind() == ErrorKind::Interrupted => {}
-            Err(_) => return Err(SessionEnd::ReadFault),
-        }
-    }
-    Err(SessionEnd::ReadFault)
 }
 
 /// Takes the peer's wire events, until none has come whole. Errors: the session ended.

@@ -1,5 +1,5 @@
 -- What the pairs of a claim show of a tree: whether their padding is right, and the highest difference.
-use Rattle.std.proofs.Common.{◌≡◌, ℕ, ◌+◌, ◌-◌, ◌*◌, ◌/◌, ◌<◌, ◌≤◌, ◌⊎◌, inl, inr, Bool, true, false, eqb, ltb, cond, ◌||◌, ◌&&◌, List, [], ◌∷◌, ◌++◌, length, take, get_or, Option, Some, None, refl, sym, ◌∙◌, subst, arith}
+use Rattle.std.proofs.Common.{◌≡◌, ℕ, ◌+◌, ◌-◌, ◌*◌, ◌/◌, ◌<◌, ◌≤◌, ◌⊎◌, inl, inr, Bool, true, false, eqb, ltb, cond, ◌||◌, ◌&&◌, List, [], ◌∷◌, length, take, get_or, Option, Some, None, refl, sym, ◌∙◌, subst, arith}
 use Rattle.std.specs.List.{All}
 use Rattle.std.specs.Option.{unwrap_or, MatchOption, IfSome}
 use Rattle.std.proofs.lemmas.Bool.Decides.{nat_tests}

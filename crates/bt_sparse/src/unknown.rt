@@ -1,5 +1,5 @@
 //! The search for the next block whose leaf is not known.
-ghost use Rattle.std.specs.Prelude.{◌≡◌, IfSome, IfNone};
+ghost use Rattle.std.specs.Prelude.{IfSome, IfNone};
 ghost use Rattle.bt_sparse.specs.SparseTree.{blocks_of};
 ghost use Rattle.bt_sparse.specs.Unknown.{HoldsLeaves, IsNextUnknown};
 

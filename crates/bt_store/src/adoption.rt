@@ -1,14 +1,13 @@
 //! The adoption of what a device already has, a group of blocks a call: leaves that are known judge the
 //! blocks, and where the leaves are unknown, the blocks' digests are claimed of the tree.
-ghost use Rattle.std.specs.Prelude.{◌≡◌, ℕ, ◌+◌, ◌-◌, ◌*◌, ◌/◌, ◌^◌, ◌<◌, ◌≤◌, ◌⊎◌, List, [], true, IfOk, IfErr, IsSome, None, map, length, replicate, slice_get};
-ghost use Rattle.bt_tree.specs.Limits.{full_block_length, max_block_count, max_height};
+ghost use Rattle.std.specs.Prelude.{◌≡◌, ◌+◌, ◌<◌, ◌≤◌, List, true, IfOk, IfErr, IsSome, None, length, replicate};
+ghost use Rattle.bt_tree.specs.Limits.{max_block_count, max_height};
 ghost use Rattle.bt_tree.specs.Blocks.{block_count};
 ghost use Rattle.bt_tree.specs.Tree.{padding_digest};
-ghost use Rattle.bt_disk.specs.Calls.{HasCalls};
-ghost use Rattle.bt_sparse.specs.SparseTree.{Facts, blocks_of, held_at, value_at};
+ghost use Rattle.bt_sparse.specs.SparseTree.{blocks_of, value_at};
 ghost use Rattle.bt_sparse.specs.Anchor.{IsAnchor};
 ghost use Rattle.bt_store.specs.BlockReads.{BlockRead};
-ghost use Rattle.bt_store.specs.Adoption.{IsKnownGroup, IsUnknownGroup, marked_group, IsAdopted, StopsAdopting};
+ghost use Rattle.bt_store.specs.Adoption.{IsAdopted, StopsAdopting};
 ghost use Rattle.bt_store.specs.AdoptionSteps.{AdoptsGroup};
 ghost use Rattle.bt_store.specs.GroupsSteps.{IsGroupRead};
 

@@ -1,8 +1,7 @@
 //! The store of one file's blocks on a device: how it is made, what it knows, and its calls that read and
 //! write no block.
-ghost use Rattle.std.specs.Prelude.{◌≡◌, ◌≤◌, ◌↔◌, ◌∷◌, [], IsTrue, IfOk, IfErr, length, slice_get};
+ghost use Rattle.std.specs.Prelude.{◌≡◌, ◌↔◌, ◌∷◌, [], IsTrue, IfOk, IfErr, length, slice_get};
 ghost use Rattle.std.specs.List.{All, count_by};
-ghost use Rattle.bt_tree.specs.Limits.{max_block_count};
 ghost use Rattle.bt_tree.specs.Blocks.{block_count};
 ghost use Rattle.bt_disk.specs.Calls.{HasCalls, sync_call};
 ghost use Rattle.bt_store.specs.BlockStates.{is_marked, is_waiting};

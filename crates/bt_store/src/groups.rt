@@ -1,6 +1,6 @@
 //! The steps in which a group of blocks is adopted: which blocks it has, how they are read, how their leaves
 //! are claimed of the tree, and how they are marked.
-ghost use Rattle.std.specs.Prelude.{◌≡◌, ℕ, ◌+◌, ◌-◌, ◌*◌, ◌^◌, ◌<◌, ◌≤◌, ◌≢◌, List, IsSome, IfOk, OnErr, length, replicate};
+ghost use Rattle.std.specs.Prelude.{◌≡◌, ◌+◌, ◌-◌, ◌*◌, ◌^◌, ◌<◌, ◌≤◌, ◌≢◌, List, IsSome, IfOk, OnErr, length, replicate};
 ghost use Rattle.std.specs.Bool.{OnTrue, OnFalse};
 ghost use Rattle.bt_tree.specs.Limits.{full_block_length, max_block_count, max_height};
 ghost use Rattle.bt_tree.specs.Blocks.{block_count};

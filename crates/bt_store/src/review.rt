@@ -1,10 +1,9 @@
 //! Blocks that are read and judged by their leaves: those that wait, once their leaf is known, and those that
 //! are marked, to see whether they still are right.
-ghost use Rattle.std.specs.Prelude.{◌≡◌, ℕ, ◌+◌, ◌-◌, ◌*◌, ◌^◌, ◌<◌, ◌≤◌, List, IfOk, IfErr, IsTrue, length, nat_lt, true, false};
+ghost use Rattle.std.specs.Prelude.{◌≡◌, ℕ, ◌+◌, ◌-◌, ◌*◌, ◌^◌, ◌<◌, ◌≤◌, List, IfOk, IfErr, length, true, false};
 ghost use Rattle.std.specs.List.{range_with_len};
 ghost use Rattle.bt_tree.specs.Limits.{full_block_length, max_block_count};
 ghost use Rattle.bt_tree.specs.Blocks.{block_count};
-ghost use Rattle.bt_sparse.specs.SparseTree.{value_at};
 ghost use Rattle.bt_store.specs.BlockReads.{BlockRead, IsJudged, right_count, wrong_count, fault_count};
 ghost use Rattle.bt_store.specs.Review.{waiting_blocks, marked_blocks};
 ghost use Rattle.bt_store.specs.ReviewSteps.{is_chosen, chosen_blocks, forgives, verdict_of, after_verdict, judged_found, tally_of, IsTallyOf, tally_sum, added};

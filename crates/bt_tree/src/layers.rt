@@ -1,6 +1,6 @@
 //! A layer of a tree as bytes, as a torrent's `piece layers` have it (BEP 52): which root it gives, and
 //! whether it is a layer of a tree with a given root.
-ghost use Rattle.std.specs.Prelude.{◌≡◌, ◌≢◌, ◌-◌, ◌^◌, ◌≤◌, ◌↔◌, length, IsOk};
+ghost use Rattle.std.specs.Prelude.{◌≡◌, ◌≢◌, ◌-◌, ◌↔◌, IsOk};
 ghost use Rattle.bt_tree.specs.Blocks.{block_count};
 ghost use Rattle.bt_tree.specs.TreeShape.{height_of};
 ghost use Rattle.bt_tree.specs.Layers.{IsLayer, HasLayerSize, fold_of, layer_digests};

@@ -1,12 +1,13 @@
 //! The cutter of a peer's stream: it is fed bytes in parts of any size, and gives the handshake and the
 //! messages, each once it is whole.
-ghost use Rattle.std.specs.Prelude.{◌≡◌, ◌+◌, ◌-◌, ◌≤◌, length, drop, false, IfOk, IfErr, OnOk, OnErr};
+ghost use Rattle.std.specs.Prelude.{◌≡◌, ◌+◌, ◌-◌, ◌≤◌, length, drop, take, false, IsTrue, IfOk, IfErr, OnOk, OnErr};
 ghost use Rattle.bt_wire.specs.Cutter.{new_stream, fed, IsAnswer, IsRefusal, IsFeedRefusal};
 
 use crate::event::{WireError, WireEvent};
 use crate::front::first_event;
 use std::alloc::Global;
 use std::marker::Model;
+use std::mem;
 
 /// The most bytes that a buffer has room for whatever is unread.
 const KEPT_ROOM: usize = 1 << 17;
@@ -66,6 +67,32 @@ impl Cutter {
         Ok(())
     }
 
+    /// Puts the first `count` bytes of a buffer behind the unread ones, all or none, as `feed` does. Where none
+    /// is unread and the cutter's own buffer is at least as long, the two are exchanged, and no byte is copied.
+    /// So the buffer may hold other bytes afterwards; it does not get shorter.
+    ///
+    /// Errors: `Failed` after `next` returned a fault of the stream; `OutOfMemory`. Neither changes the
+    /// cutter.
+    pub fn feed_buffer(&mut self, buffer: &mut Vec<u8>, count: usize) -> Result<(), WireError>
+        requires within { count ≤ length buffer.old.items }
+        ensures fed { OnOk result (self.new ≡ fed self.old (take count buffer.old.items)) }
+        ensures running { OnOk result (self.old.failed ≡ false) }
+        ensures refused { IfErr result (IsFeedRefusal self.old) }
+        ensures kept { OnErr result (self.new ≡ self.old) }
+        ensures long { length buffer.old.items ≤ length buffer.new.items }
+    {
+        if self.failed {
+            return Err(WireError::Failed);
+        }
+        if self.start < self.bytes.len() || !is_exchanged(&self.bytes, buffer) {
+            return self.feed(&buffer[..count]);
+        }
+        mem::swap(&mut self.bytes, buffer);
+        self.bytes.truncate(count);
+        self.start = 0;
+        Ok(())
+    }
+
     /// Takes the first event from the unread bytes; None where no event is whole and no fault shows.
     ///
     /// Errors: `BadProtocol`, `TooLong` or `BadLength` as soon as the bytes show that fault, and `Failed`
@@ -99,6 +126,14 @@ impl Cutter {
     {
         self.bytes.capacity()
     }
+}
+
+/// Whether a cutter takes a buffer in exchange for its own, where nothing in that is unread: its own is at
+/// least as long, and the other has no more room than is kept.
+fn is_exchanged(own: &Vec<u8>, buffer: &Vec<u8>) -> bool
+    ensures { IsTrue result → length buffer.now.items ≤ length own.now.items }
+{
+    buffer.len() <= own.len() && buffer.capacity() <= KEPT_ROOM
 }
 
 /// Drops the first `start` bytes where they are at least half. Returns where the others begin.

@@ -1,7 +1,6 @@
 //! The handshake or the message with which unread bytes begin (BEP 3), or the fault that they show.
-ghost use Rattle.std.specs.Prelude.{◌≡◌, ◌+◌, ◌≤◌, ◌<◌, ◌↔◌, true, false, length, take, drop, slice_index, IsNone, IsTrue, IfSome, IfNone, IfOk, IfErr};
+ghost use Rattle.std.specs.Prelude.{◌+◌, ◌<◌, ◌↔◌, true, false, IsTrue, IfSome, IfNone, IfOk, IfErr};
 ghost use Rattle.std.specs.Bool.{OnTrue, OnFalse};
-ghost use Rattle.std.specs.Int.{w32, to_be_bytes};
 ghost use Rattle.bt_wire.specs.Event.{IsEvent, ShowsBadProtocol, ShowsFault};
 ghost use Rattle.bt_wire.specs.FrontSteps.{FitsKind, IsMisfit, IsLawfulFrame, BeginsLawfulFrame, BeginsHandshake, BeginsWith, HasFrame, IsPartial, IsFrontRefusal};
 

@@ -1,5 +1,5 @@
 //! How a message is written: its length field, its kind and its payload (BEP 3, BEP 52).
-ghost use Rattle.std.specs.Prelude.{◌≡◌, ◌+◌, ◌≤◌, ◌++◌, length, take, IfOk};
+ghost use Rattle.std.specs.Prelude.{◌≡◌, ◌+◌, ◌≤◌, ◌++◌, length, IfOk};
 ghost use Rattle.bt_wire.specs.declared.message.TheConstants.{MAX_LENGTH_FIELD};
 ghost use Rattle.std.specs.Int.{w32, to_be_bytes};
 ghost use Rattle.bt_wire.specs.Message.{Fits, ask_spelling, body, frame_spelling, message_spelling};

@@ -1,5 +1,5 @@
 //! The choice of the peers to serve.
-ghost use Rattle.std.specs.Prelude.{◌≢◌, All, Bool};
+ghost use Rattle.std.specs.Prelude.{◌≢◌, All};
 ghost use Rattle.std.specs.Bool.{OnTrue};
 ghost use Rattle.bt_book.specs.Choking.{HaveOwnKeys};
 

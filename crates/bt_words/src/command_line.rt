@@ -4,7 +4,7 @@ ghost use Rattle.std.specs.Bool.{Decides};
 ghost use Rattle.std.specs.Borrow.{Bor};
 ghost use Rattle.std.specs.List.{AllZip};
 ghost use Rattle.clap.specs.Words.{all_of, app_of, first_of, found_of, kind_of, rows_of, subcommand_rows_of};
-ghost use Rattle.bt_words.specs.CommandLine.{AsksFor, IsTaskOf, IsNoTaskOf, IsTaskIn, IsMakeTaskIn, IsSeedTaskIn, IsServiceIn, IsServingIn, IsFetchTaskIn, IsLogBeside, IsLogIn, IsSourceIn, IsFlagIn, IsGiven, IsWorkIn, HasJobs};
+ghost use Rattle.bt_words.specs.CommandLine.{AsksFor, IsTaskOf, IsNoTaskOf, IsTaskIn, IsMakeTaskIn, IsServiceIn, IsServingIn, IsLogBeside, IsLogIn, IsSourceIn, IsFlagIn, IsGiven, IsWorkIn, HasJobs};
 ghost use Rattle.bt_words.specs.CommandLineSteps.{AreWordsOf, IsRefusalFor, TellsOf};
 ghost use Rattle.bt_words.specs.Subcommands.{program_app};
 ghost use Rattle.bt_words.specs.Values.{IsPeerWord};

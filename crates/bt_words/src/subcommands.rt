@@ -1,5 +1,5 @@
 //! The commands of the program, and the words of each.
-ghost use Rattle.std.specs.Prelude.{◌≡◌, false, codes, map, IfOk};
+ghost use Rattle.std.specs.Prelude.{◌≡◌, false, map, IfOk};
 ghost use Rattle.clap.specs.Words.{app_of, new_app, rule_of, with_rule, with_subcommand};
 ghost use Rattle.clap.specs.declared.builder.command.Command.TheViews.{out-Command as fields_of};
 ghost use Rattle.bt_words.specs.Subcommands.{with_version, with_demands, command_app, top_app, program_app};

@@ -1,5 +1,5 @@
-use Rattle.std.proofs.Common.{List, refl, sym, ap, ◌∙◌, subst}
-use Rattle.bt_resume.specs.ResumeLog.{LogView, IsAttached, Opens}
+use Rattle.std.proofs.Common.{refl, ap, ◌∙◌}
+use Rattle.bt_resume.specs.ResumeLog.{LogView}
 use Rattle.bt_engine.specs.Reopening.{unopened}
 use Rattle.bt_engine.proofs.RunReopenings.{ok_reopened, err_unstarted, refuses_none}
 use Rattle.bt_engine.proofs.reopening.reopen.Goals as goal

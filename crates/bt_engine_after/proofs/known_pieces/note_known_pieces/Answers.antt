@@ -1,10 +1,8 @@
-use Rattle.std.proofs.Common.{◌≡◌, ◌<◌, List, Some, length, slice_get, refl, sym, ap, ◌∙◌, subst, arith}
+use Rattle.std.proofs.Common.{◌<◌, refl, sym, subst, arith}
 use Rattle.bt_book.specs.BitSet.{IsNext, HasNoneFrom}
 use Rattle.bt_engine_state.specs.Parts.{state_of}
 use Rattle.bt_engine_state.specs.PieceSets.{without}
-use Rattle.bt_engine_state.specs.declared.parts.Parts.{Parts}
 use Rattle.bt_engine_state.specs.declared.peer.Peer.{Peer}
-use Rattle.bt_engine_state.proofs.Lists.{get_read}
 use Rattle.bt_machine.specs.State.{EngineState}
 use Rattle.bt_meta.specs.Torrent.{total_pieces}
 use Rattle.bt_engine_after.specs.KnownPiecesSteps.{IsKnown}

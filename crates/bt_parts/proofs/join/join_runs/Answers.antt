@@ -1,7 +1,7 @@
 use Rattle.std.proofs.Common.{inl, inr, arith, refl}
 use Rattle.bt_parts.proofs.Chains.{elsewhere_at, joined_whole, joining_begun, joining_more, never_whole, none_so, not_whole}
 use Rattle.bt_parts.proofs.join.join_runs.Goals as goal
-use Rattle.bt_parts.proofs.join.join_runs.Goals.{then-loop-count-test+else-runs-count, else-loop-count-test, then-count-eq0-via-then-count-eq0, then-count-eq0-via-else-count-eq0+then-joined-blocks}
+use Rattle.bt_parts.proofs.join.join_runs.Goals.{then-loop-count-test+else-runs-count, else-loop-count-test}
 
 pub loop-count-init : goal.loop-count-init
 loop-count-init c = (joining_begun c.args.file c.args.blocks _ refl refl refl refl refl, omega arith)

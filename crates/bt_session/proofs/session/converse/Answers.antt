@@ -1,4 +1,4 @@
-use Rattle.std.proofs.Common.{◌≡◌, Some, None, ap, sym}
+use Rattle.std.proofs.Common.{◌≡◌, Some, None, ap}
 use Rattle.bt_machine.specs.Output.{Output}
 use Rattle.bt_session.specs.Progress.{place}
 use Rattle.bt_session.proofs.Takes.{fits_too}

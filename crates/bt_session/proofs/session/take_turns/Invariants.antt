@@ -1,5 +1,4 @@
 -- The peer is there, and so far the session goes on, one turn after the other.
-use Rattle.std.proofs.Common.{ℕ}
 use Rattle.bt_session.specs.Progress.{Place, place}
 use Rattle.bt_session.specs.Ends.{IsBetweenTurns}
 use Rattle.bt_session.specs.Parts.{GoesOn}

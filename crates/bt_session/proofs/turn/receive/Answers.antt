@@ -1,5 +1,4 @@
-use Rattle.std.proofs.Common.{◌≡◌, length, rules, arith}
-use Rattle.std.proofs.lemmas.Grind.{common_steps}
+use Rattle.std.proofs.Common.{refl}
 use Rattle.std.proofs.lemmas.Result.{err_from_is_err_and}
 use Rattle.bt_session.proofs.Receives.{read_failed, read_ended, fed_part}
 use Rattle.bt_session.proofs.turn.receive.Goals as goal
@@ -18,12 +17,16 @@ returns-then-count-eq0-clause-part g c contents every given taken first h few =
 
 pub returns-in-Ok-clause-part : goal.returns-in-Ok-clause-part
 returns-in-Ok-clause-part g c contents every given taken first h few =
-    let all : length c.read_some.new.buffer ≡ 16384 = search rules in
-    fed_part g.D.Disk.conduct g.H.NodeHash.digest _ _ _ given taken first _ _ _ _ contents _ c.read_some.new.buffer _ _
-    c.in-Ok.ensures.step c.in-Ok.ensures.refused c.in_ok-count.ensures.given c.if-count-eq0.false all (grind (arith, common_steps)) h few
+    fed_part g.D.Disk.conduct g.H.NodeHash.digest _ _ _ given taken first _ _ _ _ contents _ c.read.new.self _ _
+    c.in-Ok.ensures.step c.in-Ok.ensures.refused c.in_ok-count.ensures.given c.if-count-eq0.false c.in_ok-count.ensures.whole refl h few
 
 pub returns-in-Err-clause-part : goal.returns-in-Err-clause-part
 returns-in-Err-clause-part g c contents every given taken first h few =
-    let all : length c.read_some.new.buffer ≡ 16384 = search rules in
-    fed_part g.D.Disk.conduct g.H.NodeHash.digest _ _ _ given taken first _ _ _ _ contents _ c.read_some.new.buffer _ _
-    c.in-Err.ensures.step c.in-Err.ensures.refused c.in_ok-count.ensures.given c.if-count-eq0.false all (grind (arith, common_steps)) h few
+    fed_part g.D.Disk.conduct g.H.NodeHash.digest _ _ _ given taken first _ _ _ _ contents _ c.read.new.self _ _
+    c.in-Err.ensures.step c.in-Err.ensures.refused c.in_ok-count.ensures.given c.if-count-eq0.false c.in_ok-count.ensures.whole refl h few
+
+pub feed-requires : goal.feed-requires
+feed-requires g c = record {
+  alone = c.requires.alone;
+  within = c.in_ok-count.ensures.given.within;
+}

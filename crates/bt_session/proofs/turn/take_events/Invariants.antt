@@ -1,5 +1,5 @@
 -- The peer is there, and so far the session goes on.
-use Rattle.std.proofs.Common.{ℕ, ◌≤◌, List, Option}
+use Rattle.std.proofs.Common.{ℕ, List, Option}
 use Rattle.bt_machine.specs.declared.event.Event.TheVariants.{Next}
 use Rattle.bt_session.specs.Progress.{Place, place}
 use Rattle.bt_session.specs.Parts.{GoesOn, Awaits}

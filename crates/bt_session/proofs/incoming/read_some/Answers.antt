@@ -1,6 +1,6 @@
 use Rattle.std.proofs.Common.{◌<◌, length, arith}
 use Rattle.bt_session.proofs.Consumed.{kept_then}
-use Rattle.bt_session.proofs.turn.read_some.Goals as goal
+use Rattle.bt_session.proofs.incoming.read_some.Goals as goal
 
 pub returns-in-Ok-clause-given : goal.returns-in-Ok-clause-given
 returns-in-Ok-clause-given g c =

@@ -1,6 +1,6 @@
 -- A read that was interrupted took nothing.
 use Rattle.std.specs.Io.KnownBytes.{Keeps}
-use Rattle.bt_session.proofs.turn.read_some.Given as goal
+use Rattle.bt_session.proofs.incoming.read_some.Given as goal
 
 abbrev pub invariant-loop : goal.invariant-loop
 invariant-loop g l = Keeps (g.R.Read.remaining l.initial.reader) (g.R.Read.remaining l.reader)
