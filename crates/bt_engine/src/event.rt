@@ -1,14 +1,13 @@
 //! A wire event of a peer: what it does by itself, and what follows from it.
-ghost use Rattle.std.specs.Prelude.{◌≡◌, ◌+◌, ◌≤◌, ◌<◌, ◌++◌, ℕ, Some, IfOk, IfErr, IfSome, length, vec_len, vec_capacity};
+ghost use Rattle.std.specs.Prelude.{◌≡◌, ◌+◌, ◌≤◌, ◌++◌, ℕ, Some, IfOk, IfErr, IfSome, length, vec_len, vec_capacity};
 ghost use Rattle.bt_book.specs.Book.{max_askers};
 ghost use Rattle.bt_resume.specs.Hint.{CanBeRead};
 ghost use Rattle.bt_machine.specs.State.{EngineState, PeerState};
 ghost use Rattle.bt_machine.specs.Devices.{DeviceCalls, HaveCalls};
 ghost use Rattle.bt_machine.specs.Next.{without_peer};
 ghost use Rattle.bt_machine.specs.Orderly.{IsOrderly};
-ghost use Rattle.bt_machine.specs.Shape.{IsShaped};
-ghost use Rattle.bt_engine_state.specs.Parts.{state_of, disks_of, log_of};
-ghost use Rattle.bt_engine_state.specs.Ties.{IsTied};
+ghost use Rattle.bt_engine_state.specs.Parts.{state_of, disks_of};
+ghost use Rattle.bt_engine_state.specs.Handling.{IsTiedAt, IsSoundAt, KeepsLog, KeepsDevices, KeepsWritten};
 ghost use Rattle.bt_engine_messages.specs.Message.{IsPeerEvent};
 ghost use Rattle.bt_engine_messages.specs.Hashes.{IsNoteRoom};
 ghost use Rattle.bt_engine_messages.specs.Piece.{cancels_to};
@@ -68,20 +67,15 @@ pub(crate) fn take_event<D: Disk + Drop, H: NodeHash>(
     index: usize,
     event: &WireEvent,
 ) -> Result<Output, AllocError>
-    requires tied { IsTied parts.old }
-    requires shaped { IsShaped parts.old.torrent (state_of parts.old) }
+    requires peer { IsSoundAt parts.old index }
     requires orderly { IsOrderly (state_of parts.old) }
-    requires inside { index < vec_len parts.old.peers }
-    requires there { index < length parts.old.peers.items }
     ensures step { IfOk result (λ out. (calls : DeviceCalls)
         × HaveCalls D.conduct (disks_of parts.old) calls (disks_of parts.new)
         × GoesOn H.digest index event.now calls out (state_of parts.old) (state_of parts.new)) }
     ensures state { IfErr result (λ _. state_of parts.new ≡ state_of parts.old) }
     ensures devices { IfErr result (λ _. disks_of parts.new ≡ disks_of parts.old) }
     ensures peers { IfErr result (λ _. parts.new.peers ≡ parts.old.peers) }
-    ensures log { log_of parts.new ≡ log_of parts.old }
-    ensures torrent { parts.new.torrent ≡ parts.old.torrent }
-    ensures tied { IsTied parts.new }
+    ensures rest { KeepsWritten parts.old parts.new }
 {
     let room = reserve(alloc, parts, event)?;
     take_in_room(alloc, parts, index, event, room)
@@ -96,19 +90,14 @@ fn take_in_room<D: Disk + Drop, H: NodeHash>(
     event: &WireEvent,
     room: Room,
 ) -> Result<Output, AllocError>
-    requires tied { IsTied parts.old }
-    requires shaped { IsShaped parts.old.torrent (state_of parts.old) }
+    requires peer { IsSoundAt parts.old index }
     requires orderly { IsOrderly (state_of parts.old) }
-    requires inside { index < vec_len parts.old.peers }
-    requires there { index < length parts.old.peers.items }
     requires room { HasRoomFor parts.old event.now room }
     ensures step { IfOk result (λ out. (calls : DeviceCalls)
         × HaveCalls D.conduct (disks_of parts.old) calls (disks_of parts.new)
         × GoesOn H.digest index event.now calls out (state_of parts.old) (state_of parts.new)) }
     ensures kept { IfErr result (λ _. parts.new ≡ parts.old) }
-    ensures log { log_of parts.new ≡ log_of parts.old }
-    ensures torrent { parts.new.torrent ≡ parts.old.torrent }
-    ensures tied { IsTied parts.new }
+    ensures rest { KeepsWritten parts.old parts.new }
 {
     match handle(alloc, parts, index, event)? {
         Handled::Closed(why) => Ok(close(alloc, parts, index, why)),
@@ -123,15 +112,10 @@ pub(crate) fn close<D: Disk + Drop, H: NodeHash>(
     index: usize,
     why: Why,
 ) -> Output
-    requires tied { IsTied parts.old }
-    requires inside { index < vec_len parts.old.peers }
-    requires there { index < length parts.old.peers.items }
+    requires { IsTiedAt parts.old index }
     ensures is { result ≡ closed_output why }
     ensures gone { state_of parts.new ≡ without_peer index (state_of parts.old) }
-    ensures devices { disks_of parts.new ≡ disks_of parts.old }
-    ensures torrent { parts.new.torrent ≡ parts.old.torrent }
-    ensures log { parts.new.log ≡ parts.old.log }
-    ensures tied { IsTied parts.new }
+    ensures rest { KeepsDevices parts.old parts.new }
 {
     drop_peer(parts, index);
     Output {
@@ -143,14 +127,9 @@ pub(crate) fn close<D: Disk + Drop, H: NodeHash>(
 
 /// Lets the peer at an index go. What it was asked for may be asked of others.
 pub(crate) fn drop_peer<D: Disk + Drop, H: NodeHash>(parts: &mut Parts<D, H>, index: usize)
-    requires tied { IsTied parts.old }
-    requires inside { index < vec_len parts.old.peers }
-    requires there { index < length parts.old.peers.items }
+    requires { IsTiedAt parts.old index }
     ensures gone { state_of parts.new ≡ without_peer index (state_of parts.old) }
-    ensures devices { disks_of parts.new ≡ disks_of parts.old }
-    ensures torrent { parts.new.torrent ≡ parts.old.torrent }
-    ensures log { parts.new.log ≡ parts.old.log }
-    ensures tied { IsTied parts.new }
+    ensures rest { KeepsDevices parts.old parts.new }
 {
     let key = parts.peers[index].key;
     let _ = bt_engine_state::lost(parts, key);
@@ -166,10 +145,7 @@ fn keep<D: Disk + Drop, H: NodeHash>(
     proof: Option<Hint>,
     room: Room,
 ) -> Output
-    requires tied { IsTied parts.old }
-    requires shaped { IsShaped parts.old.torrent (state_of parts.old) }
-    requires inside { index < vec_len parts.old.peers }
-    requires there { index < length parts.old.peers.items }
+    requires peer { IsSoundAt parts.old index }
     requires told { (old : EngineState) × TellMarks old (state_of parts.old) (notes_in reply) }
     requires room { (bound : ℕ) × (reply_count reply ≤ bound)
         × HasRoom bound (length parts.old.peers.items) room × HasHintRoom (bound + 1) parts.old.log }
@@ -177,9 +153,7 @@ fn keep<D: Disk + Drop, H: NodeHash>(
     ensures follows { FollowsReply H.digest (state_of parts.old) index reply proof result
         (state_of parts.new) }
     ensures devices { disks_of parts.new ≡ disks_of parts.old }
-    ensures log { log_of parts.new ≡ log_of parts.old }
-    ensures torrent { parts.new.torrent ≡ parts.old.torrent }
-    ensures tied { IsTied parts.new }
+    ensures rest { KeepsWritten parts.old parts.new }
 {
     // What every torrent keeps to.
     parts.torrent.keeps_laws();
@@ -243,20 +217,15 @@ fn handle<D: Disk + Drop, H: NodeHash>(
     index: usize,
     event: &WireEvent,
 ) -> Result<Handled, AllocError>
-    requires tied { IsTied parts.old }
-    requires shaped { IsShaped parts.old.torrent (state_of parts.old) }
+    requires peer { IsSoundAt parts.old index }
     requires orderly { IsOrderly (state_of parts.old) }
-    requires inside { index < vec_len parts.old.peers }
-    requires there { index < length parts.old.peers.items }
     ensures handled { IfOk result (λ handled. IsHandled D.conduct H.digest
         parts.old index event.now handled parts.new) }
     ensures few { IfOk result (λ handled. (bound : ℕ) → IsNoteBound parts.old event.now bound
         → note_count handled ≤ bound) }
     ensures readable { IfOk result IsReadable }
     ensures kept { IfErr result (λ _. parts.new ≡ parts.old) }
-    ensures torrent { parts.new.torrent ≡ parts.old.torrent }
-    ensures log { parts.new.log ≡ parts.old.log }
-    ensures tied { IsTied parts.new }
+    ensures rest { KeepsLog parts.old parts.new }
 {
     match event {
         WireEvent::Message(message) => match message {
@@ -283,18 +252,14 @@ fn handle_own<D: Disk + Drop, H: NodeHash>(
     index: usize,
     event: &WireEvent,
 ) -> Handled
-    requires tied { IsTied parts.old }
+    requires peer { IsTiedAt parts.old index }
     requires orderly { IsOrderly (state_of parts.old) }
-    requires inside { index < vec_len parts.old.peers }
-    requires there { index < length parts.old.peers.items }
     requires own { IsPeerEvent event.now }
     ensures handled { IsHandled D.conduct H.digest parts.old index event.now result
         parts.new }
     ensures few { note_count result ≡ 0 }
     ensures readable { IsReadable result }
-    ensures torrent { parts.new.torrent ≡ parts.old.torrent }
-    ensures log { parts.new.log ≡ parts.old.log }
-    ensures tied { IsTied parts.new }
+    ensures rest { KeepsLog parts.old parts.new }
 {
     match take_peer_event(parts, index, event) {
         Some(why) => Handled::Closed(why),
@@ -310,17 +275,12 @@ fn handle_piece<D: Disk + Drop, H: NodeHash>(
     begin: u32,
     bytes: &Bytes,
 ) -> Handled
-    requires tied { IsTied parts.old }
-    requires shaped { IsShaped parts.old.torrent (state_of parts.old) }
-    requires inside { index < vec_len parts.old.peers }
-    requires there { index < length parts.old.peers.items }
+    requires { IsSoundAt parts.old index }
     ensures handled { IsHandled D.conduct H.digest parts.old index
         (WireEvent.Message (Message.Piece piece begin bytes.now)) result parts.new }
     ensures few { note_count result ≤ 1 }
     ensures readable { IsReadable result }
-    ensures torrent { parts.new.torrent ≡ parts.old.torrent }
-    ensures log { parts.new.log ≡ parts.old.log }
-    ensures tied { IsTied parts.new }
+    ensures rest { KeepsLog parts.old parts.new }
 {
     match take_piece(parts, index, piece, begin, bytes.as_slice()) {
         Effect::Noted(note) => Handled::Stays(Reply::Noted(note), None),
@@ -336,18 +296,13 @@ fn handle_request<D: Disk + Drop, H: NodeHash>(
     index: usize,
     ask: Ask,
 ) -> Result<Handled, AllocError>
-    requires tied { IsTied parts.old }
-    requires shaped { IsShaped parts.old.torrent (state_of parts.old) }
-    requires inside { index < vec_len parts.old.peers }
-    requires there { index < length parts.old.peers.items }
+    requires { IsSoundAt parts.old index }
     ensures handled { IfOk result (λ handled. IsHandled D.conduct H.digest parts.old index
         (WireEvent.Message (Message.Request ask)) handled parts.new) }
     ensures few { IfOk result (λ handled. note_count handled ≤ 1) }
     ensures readable { IfOk result IsReadable }
     ensures kept { IfErr result (λ _. parts.new ≡ parts.old) }
-    ensures torrent { parts.new.torrent ≡ parts.old.torrent }
-    ensures log { parts.new.log ≡ parts.old.log }
-    ensures tied { IsTied parts.new }
+    ensures rest { KeepsLog parts.old parts.new }
 {
     match take_request(alloc, parts, index, ask)? {
         Served::Nothing => Ok(Handled::Stays(Reply::Nothing, None)),
@@ -372,19 +327,14 @@ fn handle_hashes<D: Disk + Drop, H: NodeHash>(
     key: &HashKey,
     digests: &Bytes,
 ) -> Result<Handled, AllocError>
-    requires tied { IsTied parts.old }
-    requires shaped { IsShaped parts.old.torrent (state_of parts.old) }
-    requires inside { index < vec_len parts.old.peers }
-    requires there { index < length parts.old.peers.items }
+    requires { IsSoundAt parts.old index }
     ensures handled { IfOk result (λ handled. IsHandled D.conduct H.digest parts.old index
         (WireEvent.Message (Message.Hashes key.now digests.now)) handled parts.new) }
     ensures few { IfOk result (λ handled. (bound : ℕ) → IsNoteRoom parts.old key.now bound
         → note_count handled ≤ bound) }
     ensures readable { IfOk result IsReadable }
     ensures kept { IfErr result (λ _. parts.new ≡ parts.old) }
-    ensures torrent { parts.new.torrent ≡ parts.old.torrent }
-    ensures log { parts.new.log ≡ parts.old.log }
-    ensures tied { IsTied parts.new }
+    ensures rest { KeepsLog parts.old parts.new }
 {
     match take_hashes(alloc, parts, index, key, digests.as_slice())? {
         Learnt::Refused(why) => Ok(Handled::Closed(why)),

@@ -2,8 +2,9 @@
 ghost use Rattle.std.specs.Prelude.{◌≡◌, Err};
 ghost use Rattle.bt_machine.specs.Orderly.{IsOrderly};
 ghost use Rattle.bt_machine.specs.Peers.{StepConnect, our_handshake};
-ghost use Rattle.bt_engine_state.specs.Parts.{state_of, disks_of};
+ghost use Rattle.bt_engine_state.specs.Parts.{state_of};
 ghost use Rattle.bt_engine_state.specs.Ties.{IsTied};
+ghost use Rattle.bt_engine_state.specs.Handling.{KeepsDevices};
 ghost use Rattle.bt_engine.specs.GreetingSteps.{HasTwo, IsGreeting};
 
 use bt_book::PeerKey;
@@ -26,10 +27,7 @@ pub(crate) fn connect<D: Disk + Drop, H: NodeHash>(
     requires tied { IsTied parts.old }
     requires orderly { IsOrderly (state_of parts.old) }
     ensures step { StepConnect (state_of parts.old) result (state_of parts.new) }
-    ensures devices { disks_of parts.new ≡ disks_of parts.old }
-    ensures torrent { parts.new.torrent ≡ parts.old.torrent }
-    ensures log { parts.new.log ≡ parts.old.log }
-    ensures tied { IsTied parts.new }
+    ensures rest { KeepsDevices parts.old parts.new }
 {
     let Ok(send) = Vec::with_capacity(alloc, 2) else {
         return Err(refusal(parts));

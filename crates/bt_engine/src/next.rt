@@ -1,12 +1,11 @@
 //! The next wire event of a peer.
-ghost use Rattle.std.specs.Prelude.{◌≡◌, ◌<◌, IfOk, IfErr, length, vec_len};
+ghost use Rattle.std.specs.Prelude.{IfOk, IfErr};
 ghost use Rattle.bt_wire.specs.Cutter.{IsAnswer, IsRefusal};
 ghost use Rattle.bt_machine.specs.Devices.{DeviceCalls, HaveCalls};
 ghost use Rattle.bt_machine.specs.Next.{StepNext};
 ghost use Rattle.bt_machine.specs.Orderly.{IsOrderly};
-ghost use Rattle.bt_machine.specs.Shape.{IsShaped};
-ghost use Rattle.bt_engine_state.specs.Parts.{state_of, disks_of, log_of};
-ghost use Rattle.bt_engine_state.specs.Ties.{IsTied};
+ghost use Rattle.bt_engine_state.specs.Parts.{state_of, disks_of};
+ghost use Rattle.bt_engine_state.specs.Handling.{IsSound, IsTiedAt, KeepsDevices, KeepsWritten};
 ghost use Rattle.bt_engine.specs.NextSteps.{IsCut};
 
 use crate::event::{close, drop_peer, take_event};
@@ -25,15 +24,12 @@ pub(crate) fn next<D: Disk + Drop, H: NodeHash>(
     parts: &mut Parts<D, H>,
     key: PeerKey,
 ) -> Result<Option<Output>, EngineError>
-    requires tied { IsTied parts.old }
-    requires shaped { IsShaped parts.old.torrent (state_of parts.old) }
+    requires sound { IsSound parts.old }
     requires orderly { IsOrderly (state_of parts.old) }
     ensures step { (calls : DeviceCalls)
         × HaveCalls D.conduct (disks_of parts.old) calls (disks_of parts.new)
         × StepNext H.digest (state_of parts.old) key calls result (state_of parts.new) }
-    ensures torrent { parts.new.torrent ≡ parts.old.torrent }
-    ensures log { log_of parts.new ≡ log_of parts.old }
-    ensures tied { IsTied parts.new }
+    ensures rest { KeepsWritten parts.old parts.new }
 {
     let Some(index) = index_of(parts, key) else {
         return Err(EngineError::NoPeer);
@@ -64,19 +60,13 @@ fn next_event<D: Disk + Drop, H: NodeHash>(
     parts: &mut Parts<D, H>,
     index: usize,
 ) -> Result<Option<WireEvent>, WireError>
-    requires tied { IsTied parts.old }
-    requires inside { index < vec_len parts.old.peers }
-    requires there { index < length parts.old.peers.items }
+    requires { IsTiedAt parts.old index }
     ensures found { IfOk result (λ found. IsCut (state_of parts.old) index
         (λ was now. IsAnswer was found now) (state_of parts.new)) }
     ensures refused { IfErr result (λ error. IsCut (state_of parts.old) index
         (λ was now. IsRefusal was error now) (state_of parts.new)) }
-    ensures devices { disks_of parts.new ≡ disks_of parts.old }
-    ensures torrent { parts.new.torrent ≡ parts.old.torrent }
-    ensures log { parts.new.log ≡ parts.old.log }
-    ensures tied { IsTied parts.new }
-    ensures inside { index < vec_len parts.new.peers }
-    ensures there { index < length parts.new.peers.items }
+    ensures rest { KeepsDevices parts.old parts.new }
+    ensures peer { IsTiedAt parts.new index }
 {
     let peer = &mut parts.peers[index];
     peer.cutter.next()

@@ -1,9 +1,9 @@
 //! Room for what a wire event sends and notes. It is made before the event changes anything.
 ghost use Rattle.std.specs.Prelude.{◌≡◌, ◌^◌, ◌≤◌, IfOk, IfErr};
 ghost use Rattle.bt_machine.specs.Orderly.{IsOrderly};
-ghost use Rattle.bt_machine.specs.Shape.{IsShaped};
 ghost use Rattle.bt_engine_state.specs.Parts.{state_of, log_of};
 ghost use Rattle.bt_engine_state.specs.Ties.{IsTied};
+ghost use Rattle.bt_engine_state.specs.Handling.{IsSound};
 ghost use Rattle.bt_engine.specs.RoomSteps.{IsNoteBound, HasRoomFor};
 
 use crate::pending::reserve_hints;
@@ -33,8 +33,7 @@ pub(crate) fn reserve<D: Disk + Drop, H: NodeHash>(
     parts: &mut Parts<D, H>,
     event: &WireEvent,
 ) -> Result<Room, AllocError>
-    requires tied { IsTied parts.old }
-    requires shaped { IsShaped parts.old.torrent (state_of parts.old) }
+    requires sound { IsSound parts.old }
     requires orderly { IsOrderly (state_of parts.old) }
     ensures room { IfOk result (HasRoomFor parts.new event.now) }
     ensures kept { IfErr result (λ _. parts.new ≡ parts.old) }
@@ -53,8 +52,7 @@ pub(crate) fn reserve<D: Disk + Drop, H: NodeHash>(
 
 /// How many notes the event has at most, without those of complete files.
 fn note_bound<D: Disk + Drop, H: NodeHash>(parts: &Parts<D, H>, event: &WireEvent) -> usize
-    requires tied { IsTied parts.now }
-    requires shaped { IsShaped parts.now.torrent (state_of parts.now) }
+    requires { IsSound parts.now }
     ensures bound { IsNoteBound parts.now event.now result }
     ensures small { result ≤ 2 ^ 26 }
 {

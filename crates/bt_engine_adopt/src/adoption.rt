@@ -3,10 +3,9 @@
 ghost use Rattle.std.specs.Prelude.{[], ◌≡◌, ◌<◌, ◌↔◌, IsTrue, IfOk, IfErr, length, vec_len};
 ghost use Rattle.bt_machine.specs.Devices.{DeviceCalls, HaveCalls};
 ghost use Rattle.bt_machine.specs.Blocks.{states_of};
-ghost use Rattle.bt_machine.specs.Shape.{IsShaped};
 ghost use Rattle.bt_machine.specs.Adopting.{StepAdopt};
-ghost use Rattle.bt_engine_state.specs.Parts.{state_of, disks_of, log_of};
-ghost use Rattle.bt_engine_state.specs.Ties.{IsTied};
+ghost use Rattle.bt_engine_state.specs.Parts.{state_of, disks_of};
+ghost use Rattle.bt_engine_state.specs.Handling.{IsSound, KeepsWritten};
 ghost use Rattle.bt_engine_adopt.specs.PartsSteps.{AreFit, AreInLine, KeepsRest, ChangesFile};
 ghost use Rattle.bt_engine_adopt.specs.AdoptionSteps.{AdoptsIn, StopsIn};
 
@@ -34,15 +33,12 @@ pub fn adopt<D: Disk + Drop, H: NodeHash>(
     parts: &mut Parts<D, H>,
     file: u32,
 ) -> Result<Adopted, AdoptError>
-    requires tied { IsTied parts.old }
-    requires shaped { IsShaped parts.old.torrent (state_of parts.old) }
+    requires { IsSound parts.old }
     ensures step { (calls : DeviceCalls)
         × HaveCalls D.conduct (disks_of parts.old) calls (disks_of parts.new)
         × StepAdopt H.digest (state_of parts.old) file calls result (state_of parts.new) }
-    ensures torrent { parts.new.torrent ≡ parts.old.torrent }
+    ensures rest { KeepsWritten parts.old parts.new }
     ensures peers { parts.new.peers ≡ parts.old.peers }
-    ensures log { log_of parts.new ≡ log_of parts.old }
-    ensures tied { IsTied parts.new }
 {
     if file as usize >= parts.slots.len() {
         return Err(AdoptError::NoFile);

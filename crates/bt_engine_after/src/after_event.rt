@@ -1,8 +1,7 @@
 //! All that follows from an event for one peer, in its order: our interest, a hash request, block requests.
-ghost use Rattle.std.specs.Prelude.{◌≡◌, ◌+◌, ◌<◌, ◌≤◌, length, map, vec_len, vec_capacity};
-ghost use Rattle.bt_machine.specs.Shape.{IsShaped};
-ghost use Rattle.bt_engine_state.specs.Parts.{state_of, disks_of};
-ghost use Rattle.bt_engine_state.specs.Ties.{IsTied};
+ghost use Rattle.std.specs.Prelude.{◌+◌, ◌≤◌, vec_len, vec_capacity};
+ghost use Rattle.bt_engine_state.specs.Parts.{state_of};
+ghost use Rattle.bt_engine_state.specs.Handling.{IsSoundAt, KeepsDevices, KeepsKeys};
 ghost use Rattle.bt_engine_after.specs.AfterEvent.{SendsFollowUp, max_frames};
 
 use crate::asking::ask_blocks;
@@ -26,21 +25,14 @@ pub fn follow_up<D: Disk + Drop, H: NodeHash>(
     index: usize,
     send: &mut Vec<(PeerKey, Frame)>,
 )
-    requires tied { IsTied parts.old }
-    requires shaped { IsShaped parts.old.torrent (state_of parts.old) }
-    requires here { index < vec_len parts.old.peers }
-    requires there { index < length parts.old.peers.items }
+    requires peer { IsSoundAt parts.old index }
     requires room { vec_len send.old + max_frames ≤ vec_capacity send.old }
     ensures follows { SendsFollowUp H.digest (state_of parts.old) index send.old.items
         send.new.items (state_of parts.new) }
     ensures few { vec_len send.new ≤ vec_len send.old + max_frames }
     ensures capacity { vec_capacity send.old ≤ vec_capacity send.new }
-    ensures devices { disks_of parts.new ≡ disks_of parts.old }
-    ensures torrent { parts.new.torrent ≡ parts.old.torrent }
-    ensures log { parts.new.log ≡ parts.old.log }
-    ensures keys { map (λ p. p.key) parts.new.peers.items ≡ map (λ p. p.key) parts.old.peers.items }
-    ensures peers { vec_len parts.new.peers ≡ vec_len parts.old.peers }
-    ensures tied { IsTied parts.new }
+    ensures rest { KeepsDevices parts.old parts.new }
+    ensures keys { KeepsKeys parts.old parts.new }
 {
     let key = parts.peers[index].key;
     let interest = tell_interest(parts, index);

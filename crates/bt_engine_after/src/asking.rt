@@ -1,8 +1,7 @@
 //! The blocks that a peer is asked for.
-ghost use Rattle.std.specs.Prelude.{◌≡◌, ◌<◌, length, vec_len};
-ghost use Rattle.bt_machine.specs.Shape.{IsShaped};
-ghost use Rattle.bt_engine_state.specs.Parts.{state_of, disks_of};
-ghost use Rattle.bt_engine_state.specs.Ties.{IsTied};
+ghost use Rattle.std.specs.Prelude.{◌≡◌, ◌<◌};
+ghost use Rattle.bt_engine_state.specs.Parts.{state_of};
+ghost use Rattle.bt_engine_state.specs.Handling.{IsSoundAt, KeepsDevices};
 ghost use Rattle.bt_engine_after.specs.HeldSteps.{IsNextHeld};
 ghost use Rattle.bt_engine_after.specs.AskingSteps.{AreBlocksAsked};
 
@@ -20,16 +19,10 @@ pub(crate) fn ask_blocks<D: Disk + Drop, H: NodeHash>(
     parts: &mut Parts<D, H>,
     index: usize,
 ) -> ArrayVec<BlockId, MAX_REQUESTS>
-    requires tied { IsTied parts.old }
-    requires shaped { IsShaped parts.old.torrent (state_of parts.old) }
-    requires here { index < vec_len parts.old.peers }
-    requires there { index < length parts.old.peers.items }
+    requires { IsSoundAt parts.old index }
     ensures asked { AreBlocksAsked (state_of parts.old) index result.items (state_of parts.new) }
-    ensures devices { disks_of parts.new ≡ disks_of parts.old }
-    ensures torrent { parts.new.torrent ≡ parts.old.torrent }
-    ensures log { parts.new.log ≡ parts.old.log }
+    ensures rest { KeepsDevices parts.old parts.new }
     ensures peers { parts.new.peers ≡ parts.old.peers }
-    ensures tied { IsTied parts.new }
 {
     parts.book.keeps_laws();
     let peer = &parts.peers[index];

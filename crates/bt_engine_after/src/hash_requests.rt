@@ -1,13 +1,12 @@
 //! The hashes that a peer is asked for (BEP 52, "hash request").
-ghost use Rattle.std.specs.Prelude.{◌≡◌, ◌<◌, ◌≤◌, IfSome, IfNone, Some, length, map, vec_len};
+ghost use Rattle.std.specs.Prelude.{◌≡◌, ◌≤◌, IfSome, IfNone, Some};
 ghost use Rattle.bt_tree.specs.Limits.{max_block_count};
 ghost use Rattle.bt_meta.specs.PieceBlocks.{HasBlock};
 ghost use Rattle.bt_machine.specs.State.{PeerState};
 ghost use Rattle.bt_machine.specs.Blocks.{tree_of, is_marked_in};
-ghost use Rattle.bt_machine.specs.Shape.{IsShaped};
 ghost use Rattle.bt_machine.specs.FollowUp.{IsLeastNeed};
-ghost use Rattle.bt_engine_state.specs.Parts.{state_of, disks_of};
-ghost use Rattle.bt_engine_state.specs.Ties.{IsTied};
+ghost use Rattle.bt_engine_state.specs.Parts.{state_of};
+ghost use Rattle.bt_engine_state.specs.Handling.{IsSound, IsSoundAt, KeepsDevices, KeepsKeys};
 ghost use Rattle.bt_engine_after.specs.HashRequestsSteps.{AreHashesRequested, AsksForLeast, NeedsNoLeaf, IsUnknownFrom};
 
 use crate::held::next_outside;
@@ -29,18 +28,11 @@ pub(crate) fn request_hashes<D: Disk + Drop, H: NodeHash>(
     parts: &mut Parts<D, H>,
     index: usize,
 ) -> Option<Message>
-    requires tied { IsTied parts.old }
-    requires shaped { IsShaped parts.old.torrent (state_of parts.old) }
-    requires here { index < vec_len parts.old.peers }
-    requires there { index < length parts.old.peers.items }
+    requires { IsSoundAt parts.old index }
     ensures requested { AreHashesRequested H.digest (state_of parts.old) index result
         (state_of parts.new) }
-    ensures devices { disks_of parts.new ≡ disks_of parts.old }
-    ensures torrent { parts.new.torrent ≡ parts.old.torrent }
-    ensures log { parts.new.log ≡ parts.old.log }
-    ensures keys { map (λ p. p.key) parts.new.peers.items ≡ map (λ p. p.key) parts.old.peers.items }
-    ensures peers { vec_len parts.new.peers ≡ vec_len parts.old.peers }
-    ensures tied { IsTied parts.new }
+    ensures rest { KeepsDevices parts.old parts.new }
+    ensures keys { KeepsKeys parts.old parts.new }
 {
     let peer = &parts.peers[index];
     let HashState::Idle = peer.hash else {
@@ -55,8 +47,7 @@ pub(crate) fn request_hashes<D: Disk + Drop, H: NodeHash>(
 
 /// The key to ask for, of a peer that has these pieces. None where no leaf is needed.
 fn next_key<D: Disk + Drop, H: NodeHash>(parts: &Parts<D, H>, has: &PieceSet) -> Option<HashKey>
-    requires tied { IsTied parts.now }
-    requires shaped { IsShaped parts.now.torrent (state_of parts.now) }
+    requires { IsSound parts.now }
     ensures some { IfSome result (λ key. (p : PeerState) → p.has ≡ has.now
         → AsksForLeast H.digest (state_of parts.now) p key) }
     ensures none { IfNone result ((p : PeerState) → p.has ≡ has.now
@@ -70,8 +61,7 @@ fn next_key<D: Disk + Drop, H: NodeHash>(parts: &Parts<D, H>, has: &PieceSet) ->
 /// that the peer has, in a piece that may have an unknown leaf, to the next unknown leaf, and from that to
 /// the next such block. A marked block has a known leaf, so that it is passed by these leaps.
 fn least_need<D: Disk + Drop, H: NodeHash>(parts: &Parts<D, H>, has: &PieceSet) -> Option<BlockId>
-    requires tied { IsTied parts.now }
-    requires shaped { IsShaped parts.now.torrent (state_of parts.now) }
+    requires { IsSound parts.now }
     ensures block { IfSome result (λ b. HasBlock parts.now.torrent b.file b.block) }
     ensures some { IfSome result (λ b. (p : PeerState) → p.has ≡ has.now
         → IsLeastNeed H.digest (state_of parts.now) p b) }
@@ -95,8 +85,7 @@ fn least_need<D: Disk + Drop, H: NodeHash>(parts: &Parts<D, H>, has: &PieceSet) 
 /// The first block of the file, from this one on, whose leaf is unknown; how many blocks the file has where
 /// each leaf from there on is known.
 pub(crate) fn next_unknown<D: Disk + Drop, H: NodeHash>(parts: &Parts<D, H>, block: BlockId) -> u32
-    requires tied { IsTied parts.now }
-    requires shaped { IsShaped parts.now.torrent (state_of parts.now) }
+    requires sound { IsSound parts.now }
     requires has { HasBlock parts.now.torrent block.file block.block }
     ensures unknown { IsUnknownFrom H.digest (state_of parts.now) block result }
     ensures limit { result ≤ max_block_count }
@@ -108,8 +97,7 @@ pub(crate) fn next_unknown<D: Disk + Drop, H: NodeHash>(parts: &Parts<D, H>, blo
 
 /// The tree of the block's file.
 fn tree_at<D: Disk + Drop, H: NodeHash>(parts: &Parts<D, H>, block: BlockId) -> &SparseTree<H>
-    requires tied { IsTied parts.now }
-    requires shaped { IsShaped parts.now.torrent (state_of parts.now) }
+    requires sound { IsSound parts.now }
     requires has { HasBlock parts.now.torrent block.file block.block }
     ensures { tree_of (state_of parts.now) block.file ≡ Some result.now }
 {

@@ -1,10 +1,9 @@
 //! Whether we are interested in a peer (BEP 3).
-ghost use Rattle.std.specs.Prelude.{◌≡◌, ◌<◌, ◌↔◌, IsTrue, length, map, vec_len};
+ghost use Rattle.std.specs.Prelude.{◌≡◌, ◌↔◌, IsTrue};
 ghost use Rattle.bt_machine.specs.State.{PeerState};
-ghost use Rattle.bt_machine.specs.Shape.{IsShaped};
 ghost use Rattle.bt_machine.specs.FollowUp.{IsInteresting, interest_sent};
-ghost use Rattle.bt_engine_state.specs.Parts.{state_of, disks_of};
-ghost use Rattle.bt_engine_state.specs.Ties.{IsTied};
+ghost use Rattle.bt_engine_state.specs.Parts.{state_of};
+ghost use Rattle.bt_engine_state.specs.Handling.{IsSound, IsSoundAt, KeepsDevices, KeepsKeys};
 ghost use Rattle.bt_engine_after.specs.HeldSteps.{IsNextHeld};
 ghost use Rattle.bt_engine_after.specs.SendingSteps.{frames_of};
 ghost use Rattle.bt_engine_after.specs.InterestSteps.{IsInterestTold};
@@ -21,17 +20,10 @@ pub(crate) fn tell_interest<D: Disk + Drop, H: NodeHash>(
     parts: &mut Parts<D, H>,
     index: usize,
 ) -> Option<Message>
-    requires tied { IsTied parts.old }
-    requires shaped { IsShaped parts.old.torrent (state_of parts.old) }
-    requires here { index < vec_len parts.old.peers }
-    requires there { index < length parts.old.peers.items }
+    requires { IsSoundAt parts.old index }
     ensures told { IsInterestTold (state_of parts.old) index result (state_of parts.new) }
-    ensures devices { disks_of parts.new ≡ disks_of parts.old }
-    ensures torrent { parts.new.torrent ≡ parts.old.torrent }
-    ensures log { parts.new.log ≡ parts.old.log }
-    ensures keys { map (λ p. p.key) parts.new.peers.items ≡ map (λ p. p.key) parts.old.peers.items }
-    ensures peers { vec_len parts.new.peers ≡ vec_len parts.old.peers }
-    ensures tied { IsTied parts.new }
+    ensures rest { KeepsDevices parts.old parts.new }
+    ensures keys { KeepsKeys parts.old parts.new }
 {
     let interested = is_interesting(parts, &parts.peers[index].has);
     let peer = &mut parts.peers[index];
@@ -55,8 +47,7 @@ fn change_of_interest(was_interested: bool, interested: bool) -> Option<Message>
 
 /// Whether a piece of the set holds a missing block.
 fn is_interesting<D: Disk + Drop, H: NodeHash>(parts: &Parts<D, H>, has: &PieceSet) -> bool
-    requires tied { IsTied parts.now }
-    requires shaped { IsShaped parts.now.torrent (state_of parts.now) }
+    requires { IsSound parts.now }
     ensures { (p : PeerState) → p.has ≡ has.now → IsTrue result ↔ IsInteresting (state_of parts.now) p }
 {
     let torrent = &parts.torrent;

@@ -4,10 +4,10 @@ ghost use Rattle.bt_book.specs.Book.{BookState};
 ghost use Rattle.bt_book.specs.Choking.{IsChoice};
 ghost use Rattle.bt_machine.specs.Orderly.{IsOrderly};
 ghost use Rattle.bt_machine.specs.Rechoke.{StepRechoke, rechoked, chokes_sent, choking_sent, standing_of};
-ghost use Rattle.bt_machine.specs.Shape.{IsShaped};
 ghost use Rattle.bt_machine.specs.State.{PeerState};
-ghost use Rattle.bt_engine_state.specs.Parts.{state_of, disks_of, peer_of};
+ghost use Rattle.bt_engine_state.specs.Parts.{state_of, peer_of};
 ghost use Rattle.bt_engine_state.specs.Ties.{IsTied};
+ghost use Rattle.bt_engine_state.specs.Handling.{IsSound, KeepsDevices};
 ghost use Rattle.bt_engine_after.specs.AfterEvent.{max_frames};
 ghost use Rattle.bt_engine_after.specs.ServingSteps.{standing_at, is_served, served_peer, served_sent, message_sent, SendsAllFollowUps};
 
@@ -29,14 +29,10 @@ pub fn rechoke<D: Disk + Drop, H: NodeHash>(
     alloc: Global,
     parts: &mut Parts<D, H>,
 ) -> Result<Output, AllocError>
-    requires tied { IsTied parts.old }
-    requires shaped { IsShaped parts.old.torrent (state_of parts.old) }
+    requires sound { IsSound parts.old }
     requires orderly { IsOrderly (state_of parts.old) }
     ensures step { StepRechoke H.digest (state_of parts.old) result (state_of parts.new) }
-    ensures devices { disks_of parts.new ≡ disks_of parts.old }
-    ensures torrent { parts.new.torrent ≡ parts.old.torrent }
-    ensures log { parts.new.log ≡ parts.old.log }
-    ensures tied { IsTied parts.new }
+    ensures rest { KeepsDevices parts.old parts.new }
 {
     let standings = standings(alloc, &parts.peers)?;
     let mut send = Vec::with_capacity(alloc, FRAMES_PER_PEER * parts.peers.len())?;
@@ -79,10 +75,7 @@ fn begin_turn<D: Disk + Drop, H: NodeHash>(
     ensures sent { send.new.items ≡ send.old.items ++ chokes_sent (state_of parts.old) }
     ensures few { vec_len send.new ≤ vec_len send.old + length parts.old.peers.items }
     ensures capacity { vec_capacity send.old ≤ vec_capacity send.new }
-    ensures devices { disks_of parts.new ≡ disks_of parts.old }
-    ensures torrent { parts.new.torrent ≡ parts.old.torrent }
-    ensures log { parts.new.log ≡ parts.old.log }
-    ensures tied { IsTied parts.new }
+    ensures rest { KeepsDevices parts.old parts.new }
 {
     serve(&mut parts.peers, served, send);
     parts.turn = parts.turn.wrapping_add(1);
@@ -141,15 +134,11 @@ fn follow_up_all<D: Disk + Drop, H: NodeHash>(
     parts: &mut Parts<D, H>,
     send: &mut Vec<(PeerKey, Frame)>,
 )
-    requires tied { IsTied parts.old }
-    requires shaped { IsShaped parts.old.torrent (state_of parts.old) }
+    requires sound { IsSound parts.old }
     requires room { vec_len send.old + max_frames * length parts.old.peers.items ≤ vec_capacity send.old }
     ensures follows { SendsAllFollowUps H.digest (state_of parts.old) send.old.items send.new.items
         (state_of parts.new) }
-    ensures devices { disks_of parts.new ≡ disks_of parts.old }
-    ensures torrent { parts.new.torrent ≡ parts.old.torrent }
-    ensures log { parts.new.log ≡ parts.old.log }
-    ensures tied { IsTied parts.new }
+    ensures rest { KeepsDevices parts.old parts.new }
 {
     for index in 0..parts.peers.len() {
         follow_up(parts, index, send);

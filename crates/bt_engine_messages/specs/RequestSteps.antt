@@ -1,5 +1,5 @@
 -- How a span is read from the store of its file.
-use Rattle.std.specs.Prelude.{◌≡◌, ℕ, false, List, Some, slice_get}
+use Rattle.std.specs.Prelude.{◌≡◌, ◌<◌, ℕ, false, length, List, Some, slice_get, vec_len}
 use Rattle.bt_disk.specs.Conduct.{Conduct}
 use Rattle.bt_meta.specs.Place.{IsPlace}
 use Rattle.bt_meta.specs.declared.torrent.Span.{Span}
@@ -23,6 +23,8 @@ pub record IsLookedAt {D H : Type 0} (old : Parts D H) (i : ℕ) (ask : Ask) (sp
   pub peer : Peer
   pub tied : IsTied old
   pub shaped : IsShaped old.torrent (state_of old)
+  pub inside : i < vec_len old.peers
+  pub there : i < length old.peers.items
   pub here : slice_get old.peers.items i ≡ Some peer
   pub open_to : peer.am_choking ≡ false
   pub place : IsPlace old.torrent ask.piece ask.begin ask.length span

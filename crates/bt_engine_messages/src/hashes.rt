@@ -1,16 +1,15 @@
 //! Hashes that come (BEP 52): the tree of their root learns them, the blocks that waited for them are read
 //! back, and the request book and the counts follow.
-ghost use Rattle.std.specs.Prelude.{◌≡◌, ◌+◌, ◌*◌, ◌<◌, ◌≤◌, ℕ, IfOk, IfErr, IfSome, length, map, vec_len};
+ghost use Rattle.std.specs.Prelude.{◌≡◌, ◌+◌, ◌*◌, ◌≤◌, ℕ, IfOk, IfErr, IfSome};
 ghost use Rattle.bt_meta.specs.Limits.{max_file_count};
 ghost use Rattle.bt_book.specs.Book.{asked_of, peers_of};
 ghost use Rattle.bt_book.specs.declared.names.PeerKey.{PeerKey};
 ghost use Rattle.bt_sparse.specs.Answer.{max_run_length};
 ghost use Rattle.bt_resume.specs.Hint.{CanBeRead};
-ghost use Rattle.bt_machine.specs.Shape.{IsShaped};
 ghost use Rattle.bt_machine.specs.State.{EngineState};
 ghost use Rattle.bt_engine_state.specs.BlockChange.{AreFollowed};
 ghost use Rattle.bt_engine_state.specs.Parts.{state_of};
-ghost use Rattle.bt_engine_state.specs.Ties.{IsTied};
+ghost use Rattle.bt_engine_state.specs.Handling.{IsSound, IsSoundAt, KeepsLog, KeepsKeys};
 ghost use Rattle.bt_engine_messages.specs.NoteRooms.{note_count};
 ghost use Rattle.bt_engine_messages.specs.Hashes.{TakesHashes, IsNoteRoom, hint_in};
 ghost use Rattle.bt_engine_messages.specs.HashesSteps.{IsNoteOf, HasNoted, IsBehind};
@@ -39,20 +38,14 @@ pub fn take_hashes<D: Disk + Drop, H: NodeHash>(
     key: &HashKey,
     digests: &[u8],
 ) -> Result<Learnt, AllocError>
-    requires tied { IsTied parts.old }
-    requires shaped { IsShaped parts.old.torrent (state_of parts.old) }
-    requires inside { index < vec_len parts.old.peers }
-    requires there { index < length parts.old.peers.items }
+    requires { IsSoundAt parts.old index }
     ensures takes { IfOk result (λ learnt. TakesHashes D.conduct H.digest
         parts.old index key.now digests.now learnt parts.new) }
     ensures readable { IfOk result (λ learnt. IfSome (hint_in learnt) CanBeRead) }
     ensures few { IfOk result (λ learnt.
         (room : ℕ) → IsNoteRoom parts.old key.now room → note_count learnt ≤ room) }
-    ensures peers { map (λ p. p.key) parts.new.peers.items ≡ map (λ p. p.key) parts.old.peers.items }
-    ensures len { vec_len parts.new.peers ≡ vec_len parts.old.peers }
-    ensures torrent { parts.new.torrent ≡ parts.old.torrent }
-    ensures log { parts.new.log ≡ parts.old.log }
-    ensures tied { IsTied parts.new }
+    ensures keys { KeepsKeys parts.old parts.new }
+    ensures rest { KeepsLog parts.old parts.new }
     ensures kept { IfErr result (λ _. parts.new ≡ parts.old) }
 {
     // A clause of this call says how many files there are at most.
@@ -81,8 +74,7 @@ pub fn take_hashes<D: Disk + Drop, H: NodeHash>(
 
 /// How many notes hashes of this key come to at most.
 pub fn room_for_notes<D: Disk + Drop, H: NodeHash>(parts: &Parts<D, H>, key: &HashKey) -> usize
-    requires tied { IsTied parts.now }
-    requires shaped { IsShaped parts.now.torrent (state_of parts.now) }
+    requires { IsSound parts.now }
     ensures room { IsNoteRoom parts.now key.now result }
     ensures small { result ≤ (max_run_length + 1) * max_file_count }
 {

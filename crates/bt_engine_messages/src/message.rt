@@ -1,12 +1,11 @@
 //! Wire events that change their peer alone, or nothing: handshakes, and messages that neither ask for data
 //! or hashes nor bring them (BEP 3, BEP 52).
-ghost use Rattle.std.specs.Prelude.{◌≡◌, ◌<◌, ℕ, List, Some, length, slice_get, vec_len};
+ghost use Rattle.std.specs.Prelude.{◌≡◌, ℕ, List, Some, length, slice_get};
 ghost use Rattle.bt_meta.specs.Torrent.{total_pieces};
 ghost use Rattle.bt_book.specs.Book.{asked_of, peers_of, KeepsOthers};
 ghost use Rattle.bt_machine.specs.State.{EngineState, PeerState};
 ghost use Rattle.bt_machine.specs.HashMessages.{Resolves};
-ghost use Rattle.bt_engine_state.specs.Parts.{disks_of};
-ghost use Rattle.bt_engine_state.specs.Ties.{IsTied};
+ghost use Rattle.bt_engine_state.specs.Handling.{IsTiedAt, KeepsDevices};
 ghost use Rattle.bt_engine_messages.specs.Peer.{IsPeerOf, KnowsPieces};
 ghost use Rattle.bt_engine_messages.specs.Message.{IsOfPeer, IsPeerEvent, HandlesOfPeer, TakesMessage, TakesHave, TakesBitfield, asked_after};
 
@@ -26,16 +25,11 @@ pub fn take_peer_event<D: Disk + Drop, H: NodeHash>(
     index: usize,
     event: &WireEvent,
 ) -> Option<Why>
-    requires tied { IsTied parts.old }
-    requires inside { index < vec_len parts.old.peers }
-    requires there { index < length parts.old.peers.items }
+    requires peer { IsTiedAt parts.old index }
     requires pieces { KnowsPieces parts.old.torrent parts.old.peers.items index }
     requires own { IsPeerEvent event.now }
     ensures step { HandlesOfPeer parts.old index event.now result parts.new }
-    ensures devices { disks_of parts.new ≡ disks_of parts.old }
-    ensures torrent { parts.new.torrent ≡ parts.old.torrent }
-    ensures log { parts.new.log ≡ parts.old.log }
-    ensures tied { IsTied parts.new }
+    ensures rest { KeepsDevices parts.old parts.new }
 {
     match event {
         WireEvent::Hello(handshake) => hello_fault(&parts.torrent, handshake),
@@ -50,16 +44,11 @@ fn take_message<D: Disk + Drop, H: NodeHash>(
     index: usize,
     message: &Message,
 ) -> Option<Why>
-    requires tied { IsTied parts.old }
-    requires inside { index < vec_len parts.old.peers }
-    requires there { index < length parts.old.peers.items }
+    requires peer { IsTiedAt parts.old index }
     requires pieces { KnowsPieces parts.old.torrent parts.old.peers.items index }
     requires own { IsOfPeer message.now }
     ensures step { HandlesOfPeer parts.old index (WireEvent.Message message.now) result parts.new }
-    ensures devices { disks_of parts.new ≡ disks_of parts.old }
-    ensures torrent { parts.new.torrent ≡ parts.old.torrent }
-    ensures log { parts.new.log ≡ parts.old.log }
-    ensures tied { IsTied parts.new }
+    ensures rest { KeepsDevices parts.old parts.new }
 {
     let pieces = parts.torrent.pieces();
     let peer = &mut parts.peers[index];

@@ -1,11 +1,10 @@
 //! A piece message (BEP 3): bytes that are all of a block that the peer is asked for are given to the file's
 //! store, and any others are stale.
-ghost use Rattle.std.specs.Prelude.{◌≡◌, ◌<◌, Some, length, map, vec_len};
+ghost use Rattle.std.specs.Prelude.{◌≡◌, ◌<◌, Some, length};
 ghost use Rattle.bt_machine.specs.Arrival.{HasPutEffect};
 ghost use Rattle.bt_machine.specs.Blocks.{state_at};
-ghost use Rattle.bt_machine.specs.Shape.{IsShaped};
 ghost use Rattle.bt_engine_state.specs.Parts.{state_of};
-ghost use Rattle.bt_engine_state.specs.Ties.{IsTied};
+ghost use Rattle.bt_engine_state.specs.Handling.{IsSound, IsSoundAt, KeepsLog, KeepsKeys};
 ghost use Rattle.bt_engine_messages.specs.Piece.{TakesPiece, effect_of, cancels_to};
 ghost use Rattle.bt_engine_messages.specs.PieceSteps.{CanPut, IsBlockOf, IsOfMissing, PutsBlock, PutsInSlot, state_after};
 
@@ -42,17 +41,11 @@ pub fn take_piece<D: Disk + Drop, H: NodeHash>(
     begin: u32,
     bytes: &[u8],
 ) -> Effect
-    requires tied { IsTied parts.old }
-    requires shaped { IsShaped parts.old.torrent (state_of parts.old) }
-    requires inside { index < vec_len parts.old.peers }
-    requires there { index < length parts.old.peers.items }
+    requires { IsSoundAt parts.old index }
     ensures takes { TakesPiece D.conduct H.digest parts.old index piece begin bytes.now
         result parts.new }
-    ensures torrent { parts.new.torrent ≡ parts.old.torrent }
-    ensures log { parts.new.log ≡ parts.old.log }
-    ensures peers { map (λ p. p.key) parts.new.peers.items ≡ map (λ p. p.key) parts.old.peers.items }
-    ensures len { vec_len parts.new.peers ≡ vec_len parts.old.peers }
-    ensures tied { IsTied parts.new }
+    ensures rest { KeepsLog parts.old parts.new }
+    ensures keys { KeepsKeys parts.old parts.new }
 {
     let Some(block) = block_of(&parts.torrent, piece, begin, bytes) else {
         return Effect::Noted(Note::Stale);
@@ -79,16 +72,13 @@ fn put_block<D: Disk + Drop, H: NodeHash>(
     ask: Ask,
     bytes: &[u8],
 ) -> Effect
-    requires tied { IsTied parts.old }
-    requires shaped { IsShaped parts.old.torrent (state_of parts.old) }
+    requires sound { IsSound parts.old }
     requires missing { state_at (state_of parts.old) block ≡ Some BlockState.Missing }
     requires whole { IsBlockOf parts.old.torrent block bytes.now }
     ensures puts { PutsBlock D.conduct H.digest parts.old block ask bytes.now result
         parts.new }
-    ensures torrent { parts.new.torrent ≡ parts.old.torrent }
-    ensures log { parts.new.log ≡ parts.old.log }
+    ensures rest { KeepsLog parts.old parts.new }
     ensures peers { parts.new.peers ≡ parts.old.peers }
-    ensures tied { IsTied parts.new }
 {
     let answer = put_in_slot(&mut parts.slots, &parts.trees, block, bytes);
     let others = parts.book.asked(block);

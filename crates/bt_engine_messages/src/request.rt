@@ -1,12 +1,11 @@
 //! Requests for a range of a piece (BEP 3): which are ignored, which close their peer, and which are served.
 //! A block that is found damaged is missing from then on.
-ghost use Rattle.std.specs.Prelude.{◌≡◌, ◌≢◌, ◌<◌, IfErr, IfOk, Some, length, map, vec_len};
+ghost use Rattle.std.specs.Prelude.{◌≡◌, ◌≢◌, ◌<◌, IfErr, IfOk, Some, length};
 ghost use Rattle.std.specs.Bool.{OnFalse, OnTrue};
 ghost use Rattle.bt_machine.specs.Blocks.{block_id, state_at};
 ghost use Rattle.bt_machine.specs.Request.{AreMarked};
-ghost use Rattle.bt_machine.specs.Shape.{IsShaped};
 ghost use Rattle.bt_engine_state.specs.Parts.{state_of};
-ghost use Rattle.bt_engine_state.specs.Ties.{IsTied};
+ghost use Rattle.bt_engine_state.specs.Handling.{IsSoundAt, KeepsLog, KeepsKeys};
 ghost use Rattle.bt_engine_messages.specs.Request.{IsToServe, TakesRequest};
 ghost use Rattle.bt_engine_messages.specs.RequestSteps.{CanRead, IsLookedAt, SendsFromSlot, StopsInSlot};
 ghost use Rattle.bt_engine_messages.specs.ServingSteps.{IsRoomFor};
@@ -47,19 +46,13 @@ pub fn take_request<D: Disk + Drop, H: NodeHash>(
     index: usize,
     ask: Ask,
 ) -> Result<Served, AllocError>
-    requires tied { IsTied parts.old }
-    requires shaped { IsShaped parts.old.torrent (state_of parts.old) }
-    requires inside { index < vec_len parts.old.peers }
-    requires there { index < length parts.old.peers.items }
+    requires { IsSoundAt parts.old index }
     ensures takes { IfOk result (λ served.
         TakesRequest D.conduct H.digest parts.old index ask served parts.new) }
     ensures kept { IfErr result (λ _. parts.new ≡ parts.old) }
     ensures needed { IfErr result (λ _. IsToServe (state_of parts.old) index ask) }
-    ensures torrent { parts.new.torrent ≡ parts.old.torrent }
-    ensures log { parts.new.log ≡ parts.old.log }
-    ensures peers { map (λ p. p.key) parts.new.peers.items ≡ map (λ p. p.key) parts.old.peers.items }
-    ensures len { vec_len parts.new.peers ≡ vec_len parts.old.peers }
-    ensures tied { IsTied parts.new }
+    ensures rest { KeepsLog parts.old parts.new }
+    ensures keys { KeepsKeys parts.old parts.new }
 {
     if parts.peers[index].am_choking {
         return Ok(Served::Nothing);
@@ -84,16 +77,11 @@ fn serve<D: Disk + Drop, H: NodeHash>(
     room: Room,
 ) -> Served
     requires looked { IsLookedAt parts.old index ask span }
-    requires inside { index < vec_len parts.old.peers }
-    requires there { index < length parts.old.peers.items }
     requires short { IsShortSpan span }
     requires room { IsRoomFor span room }
     ensures takes { TakesRequest D.conduct H.digest parts.old index ask result parts.new }
-    ensures torrent { parts.new.torrent ≡ parts.old.torrent }
-    ensures log { parts.new.log ≡ parts.old.log }
-    ensures peers { map (λ p. p.key) parts.new.peers.items ≡ map (λ p. p.key) parts.old.peers.items }
-    ensures len { vec_len parts.new.peers ≡ vec_len parts.old.peers }
-    ensures tied { IsTied parts.new }
+    ensures rest { KeepsLog parts.old parts.new }
+    ensures keys { KeepsKeys parts.old parts.new }
 {
     match read_slot(&mut parts.slots, &parts.trees, span, room) {
         Ok(bytes) => {

@@ -5,9 +5,9 @@ ghost use Rattle.sha2.specs.Sha256.{sha256};
 ghost use Rattle.bt_machine.specs.LogCalls.{no_calls};
 ghost use Rattle.bt_machine.specs.Recovery.{Recovers};
 ghost use Rattle.bt_machine.specs.Restart.{StepRestart, KeepsPlaces};
-ghost use Rattle.bt_machine.specs.Shape.{IsShaped};
-ghost use Rattle.bt_engine_state.specs.Parts.{state_of, disks_of};
+ghost use Rattle.bt_engine_state.specs.Parts.{state_of};
 ghost use Rattle.bt_engine_state.specs.Ties.{IsTied};
+ghost use Rattle.bt_engine_state.specs.Handling.{IsSound, KeepsDevices};
 ghost use Rattle.bt_engine_start.specs.Books.{AreNewBooks};
 ghost use Rattle.bt_engine_start.specs.Trees.{AreTreesOf};
 ghost use Rattle.bt_engine_restart.specs.AnewSteps.{cleared};
@@ -31,15 +31,11 @@ pub(crate) fn restart_bare<D: Disk + Drop, H: NodeHash>(
     parts: &mut Parts<D, H>,
 ) -> Result<(), RestartError>
     requires digest { H.digest ≡ sha256 }
-    requires tied { IsTied parts.old }
+    requires sound { IsSound parts.old }
     requires unlogged { parts.old.log ≡ None }
-    requires shaped { IsShaped parts.old.torrent (state_of parts.old) }
     ensures step { StepRestart H.digest (state_of parts.old) no_calls result (state_of parts.new) }
     ensures refused { IfErr result (λ _. parts.new ≡ parts.old) }
-    ensures devices { disks_of parts.new ≡ disks_of parts.old }
-    ensures torrent { parts.new.torrent ≡ parts.old.torrent }
-    ensures log { parts.new.log ≡ parts.old.log }
-    ensures tied { IsTied parts.new }
+    ensures rest { KeepsDevices parts.old parts.new }
 {
     match made_anew(alloc, hash, parts) {
         Ok((trees, books)) => {
@@ -73,17 +69,13 @@ fn begin_again<D: Disk + Drop, H: NodeHash>(
     trees: Vec<SparseTree<H>>,
     books: Books,
 )
-    requires tied { IsTied parts.old }
+    requires sound { IsSound parts.old }
     requires unlogged { parts.old.log ≡ None }
-    requires shaped { IsShaped parts.old.torrent (state_of parts.old) }
     requires trees { AreTreesOf H.digest parts.old.torrent parts.old.roots.first_files.items trees.items }
     requires books { AreNewBooks parts.old.torrent books }
     ensures recovers { Recovers H.digest (state_of parts.old) [] [] (state_of parts.new) }
     ensures places { KeepsPlaces (state_of parts.old) (state_of parts.new) }
-    ensures devices { disks_of parts.new ≡ disks_of parts.old }
-    ensures torrent { parts.new.torrent ≡ parts.old.torrent }
-    ensures log { parts.new.log ≡ parts.old.log }
-    ensures tied { IsTied parts.new }
+    ensures rest { KeepsDevices parts.old parts.new }
 {
     blocks_and_ranges_agree();
     parts.torrent.keeps_laws();

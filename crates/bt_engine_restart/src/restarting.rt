@@ -1,9 +1,8 @@
 //! All is begun anew, with a log or without.
 ghost use Rattle.std.specs.Prelude.{◌≡◌, IfErr};
 ghost use Rattle.sha2.specs.Sha256.{sha256};
-ghost use Rattle.bt_machine.specs.Shape.{IsShaped};
-ghost use Rattle.bt_engine_state.specs.Parts.{state_of};
 ghost use Rattle.bt_engine_state.specs.Ties.{IsTied};
+ghost use Rattle.bt_engine_state.specs.Handling.{IsSound};
 ghost use Rattle.bt_engine_restart.specs.Restarting.{RestartsWith};
 
 use crate::anew::restart_bare;
@@ -27,8 +26,7 @@ pub fn restart<D: Disk + Drop, H: NodeHash>(
     parts: &mut Parts<D, H>,
 ) -> Result<(), RestartError>
     requires digest { H.digest ≡ sha256 }
-    requires tied { IsTied parts.old }
-    requires shaped { IsShaped parts.old.torrent (state_of parts.old) }
+    requires sound { IsSound parts.old }
     ensures step { RestartsWith D.conduct H.digest parts.old result parts.new }
     ensures refused { IfErr result (λ _. parts.new ≡ record parts.old { log = parts.new.log }) }
     ensures torrent { parts.new.torrent ≡ parts.old.torrent }

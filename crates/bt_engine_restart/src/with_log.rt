@@ -2,8 +2,9 @@
 ghost use Rattle.std.specs.Prelude.{[], ◌≡◌, IfOk, IfErr, IsSome, option_map};
 ghost use Rattle.sha2.specs.Sha256.{sha256};
 ghost use Rattle.bt_machine.specs.Shape.{IsShaped};
-ghost use Rattle.bt_engine_state.specs.Parts.{state_of, disks_of, log_of, pending_of};
+ghost use Rattle.bt_engine_state.specs.Parts.{state_of, disks_of, pending_of};
 ghost use Rattle.bt_engine_state.specs.Ties.{IsTied};
+ghost use Rattle.bt_engine_state.specs.Handling.{IsSound, KeepsWritten};
 ghost use Rattle.bt_engine_start.specs.Books.{AreNewBooks};
 ghost use Rattle.bt_engine_recall.specs.Recovering.{AreMissing};
 ghost use Rattle.bt_engine_restart.specs.Restarting.{RestartsWith};
@@ -34,8 +35,7 @@ pub(crate) fn restart_with_log<D: Disk + Drop, H: NodeHash>(
     parts: &mut Parts<D, H>,
 ) -> Result<(), RestartError>
     requires digest { H.digest ≡ sha256 }
-    requires tied { IsTied parts.old }
-    requires shaped { IsShaped parts.old.torrent (state_of parts.old) }
+    requires sound { IsSound parts.old }
     requires logged { IsSome parts.old.log }
     ensures step { RestartsWith D.conduct H.digest parts.old result parts.new }
     ensures refused { IfErr result (λ _. parts.new ≡ record parts.old { log = parts.new.log }) }
@@ -74,8 +74,7 @@ fn made_from_log<D: Disk + Drop, H: NodeHash>(
     parts: &Parts<D, H>,
 ) -> Result<(Vec<SparseTree<H>>, Books), AllocError>
     requires digest { H.digest ≡ sha256 }
-    requires tied { IsTied parts.now }
-    requires shaped { IsShaped parts.now.torrent (state_of parts.now) }
+    requires sound { IsSound parts.now }
     requires logged { IsSome parts.now.log }
     ensures trees { IfOk result (λ made. AreTreesFrom H.digest parts.now made.0.items) }
     ensures books { IfOk result (λ made. AreNewBooks parts.now.torrent made.1) }
@@ -94,18 +93,15 @@ fn begin_with_log<D: Disk + Drop, H: NodeHash>(
     trees: Vec<SparseTree<H>>,
     books: Books,
 )
-    requires tied { IsTied parts.old }
-    requires shaped { IsShaped parts.old.torrent (state_of parts.old) }
+    requires sound { IsSound parts.old }
     requires trees { AreTreesFrom H.digest parts.old trees.items }
     requires books { AreNewBooks parts.old.torrent books }
     ensures begun { HasBegun H.digest parts.old parts.new }
     ensures missing { AreMissing parts.new.slots.items }
     ensures alone { parts.new.peers.items ≡ [] }
     ensures devices { disks_of parts.new ≡ disks_of parts.old }
-    ensures log { log_of parts.new ≡ log_of parts.old }
-    ensures torrent { parts.new.torrent ≡ parts.old.torrent }
+    ensures rest { KeepsWritten parts.old parts.new }
     ensures shaped { IsShaped parts.new.torrent (state_of parts.new) }
-    ensures tied { IsTied parts.new }
 {
     blocks_and_ranges_agree();
     parts.torrent.keeps_laws();

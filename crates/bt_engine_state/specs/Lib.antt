@@ -4,6 +4,7 @@ pub mod PieceSetSteps
 pub mod ComparisonSteps
 pub mod Roots
 pub mod Ties
+pub mod Handling
 pub mod Connection
 pub mod BlockChange
 pub mod BlockChangeSteps

@@ -6,8 +6,9 @@ ghost use Rattle.bt_book.specs.Book.{max_peers};
 ghost use Rattle.bt_machine.specs.Orderly.{IsOrderly};
 ghost use Rattle.bt_machine.specs.Peers.{StepConnect};
 ghost use Rattle.bt_engine_state.specs.Connection.{peer_with, HasJoined, greeted};
-ghost use Rattle.bt_engine_state.specs.Parts.{state_of, disks_of};
+ghost use Rattle.bt_engine_state.specs.Parts.{state_of};
 ghost use Rattle.bt_engine_state.specs.Ties.{IsTied};
+ghost use Rattle.bt_engine_state.specs.Handling.{KeepsDevices};
 
 use crate::greeting::bitfield;
 use crate::parts::Parts;
@@ -32,10 +33,7 @@ pub fn connect<D: Disk + Drop, H: NodeHash>(
     requires orderly { IsOrderly (state_of parts.old) }
     ensures step { StepConnect (state_of parts.old) (greeted (state_of parts.old) result)
         (state_of parts.new) }
-    ensures devices { disks_of parts.new ≡ disks_of parts.old }
-    ensures torrent { parts.new.torrent ≡ parts.old.torrent }
-    ensures log { parts.new.log ≡ parts.old.log }
-    ensures tied { IsTied parts.new }
+    ensures rest { KeepsDevices parts.old parts.new }
 {
     if parts.peers.len() >= MAX_PEERS {
         return Err(ConnectError::Full);
@@ -65,10 +63,7 @@ fn join<D: Disk + Drop, H: NodeHash>(
     requires key { parts.old.last_key + 1 < 2 ^ 64 }
     requires none { has ≡ replicate (total_pieces parts.old.torrent) false }
     ensures joined { HasJoined (state_of parts.old) result (state_of parts.new) }
-    ensures devices { disks_of parts.new ≡ disks_of parts.old }
-    ensures torrent { parts.new.torrent ≡ parts.old.torrent }
-    ensures log { parts.new.log ≡ parts.old.log }
-    ensures tied { IsTied parts.new }
+    ensures rest { KeepsDevices parts.old parts.new }
 {
     let key = PeerKey(parts.last_key + 1);
     parts.last_key += 1;

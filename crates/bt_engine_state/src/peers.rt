@@ -1,9 +1,10 @@
 //! Peers by their keys: where one stands, bytes that come from it, and its leaving.
-ghost use Rattle.std.specs.Prelude.{◌≡◌, ◌<◌, ◌≤◌, IfSome, IfNone, length, take, vec_len};
+ghost use Rattle.std.specs.Prelude.{◌<◌, ◌≤◌, IfSome, IfNone, length, take, vec_len};
 ghost use Rattle.bt_machine.specs.Orderly.{IsOrderly};
 ghost use Rattle.bt_machine.specs.Peers.{StepFeed, StepLost};
-ghost use Rattle.bt_engine_state.specs.Parts.{state_of, disks_of, IsPeerAt, LacksPeer};
+ghost use Rattle.bt_engine_state.specs.Parts.{state_of, IsPeerAt, LacksPeer};
 ghost use Rattle.bt_engine_state.specs.Ties.{IsTied};
+ghost use Rattle.bt_engine_state.specs.Handling.{KeepsDevices};
 
 use crate::parts::Parts;
 use bt_book::PeerKey;
@@ -35,10 +36,7 @@ pub fn feed<D: Disk + Drop, H: NodeHash>(
     requires tied { IsTied parts.old }
     requires orderly { IsOrderly (state_of parts.old) }
     ensures step { StepFeed (state_of parts.old) key bytes.now result (state_of parts.new) }
-    ensures devices { disks_of parts.new ≡ disks_of parts.old }
-    ensures torrent { parts.new.torrent ≡ parts.old.torrent }
-    ensures log { parts.new.log ≡ parts.old.log }
-    ensures tied { IsTied parts.new }
+    ensures rest { KeepsDevices parts.old parts.new }
 {
     let Some(index) = index_of(parts, key) else {
         return Err(EngineError::NoPeer);
@@ -67,10 +65,7 @@ pub fn feed_buffer<D: Disk + Drop, H: NodeHash>(
     requires within { count ≤ length buffer.old.items }
     ensures step { StepFeed (state_of parts.old) key (take count buffer.old.items) result
         (state_of parts.new) }
-    ensures devices { disks_of parts.new ≡ disks_of parts.old }
-    ensures torrent { parts.new.torrent ≡ parts.old.torrent }
-    ensures log { parts.new.log ≡ parts.old.log }
-    ensures tied { IsTied parts.new }
+    ensures rest { KeepsDevices parts.old parts.new }
     ensures long { length buffer.old.items ≤ length buffer.new.items }
 {
     let Some(index) = index_of(parts, key) else {
@@ -93,10 +88,7 @@ pub fn lost<D: Disk + Drop, H: NodeHash>(
 ) -> Result<(), EngineError>
     requires { IsTied parts.old }
     ensures step { StepLost (state_of parts.old) key result (state_of parts.new) }
-    ensures devices { disks_of parts.new ≡ disks_of parts.old }
-    ensures torrent { parts.new.torrent ≡ parts.old.torrent }
-    ensures log { parts.new.log ≡ parts.old.log }
-    ensures tied { IsTied parts.new }
+    ensures rest { KeepsDevices parts.old parts.new }
 {
     let Some(index) = index_of(parts, key) else {
         return Err(EngineError::NoPeer);

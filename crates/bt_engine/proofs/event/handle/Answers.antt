@@ -10,7 +10,7 @@ pub returns-in_ok-message-in-HashRequest-clause-handled : goal.returns-in_ok-mes
 returns-in_ok-message-in-HashRequest-clause-handled g c =
     rw (c.in-Message.is, c.in-HashRequest.is) (
     handled_by g.D.Disk.conduct g.H.NodeHash.digest c.args.parts.now c.args.parts.now c.args.index (Message (HashRequest c.in-HashRequest.key))
-    (Stays (Sends c.in_ok-message-in-HashRequest.message) None) [] [] (λ on. refl) c.requires.there
+    (Stays (Sends c.in_ok-message-in-HashRequest.message) None) [] [] (λ on. refl) c.requires.peer.there
     (no_calls g.D.Disk.conduct g.H.NodeHash.digest c.args.parts.now c.args.parts.now refl)
     (λ p here. c.in_ok-message-in-HashRequest.ensures c.args.index p)
     )

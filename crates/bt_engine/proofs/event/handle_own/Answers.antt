@@ -15,13 +15,13 @@ take_peer_event-requires-clause-pieces g c = λ p here.
 pub returns-in-Some-clause-handled : goal.returns-in-Some-clause-handled
 returns-in-Some-clause-handled g c =
     handled_by g.D.Disk.conduct g.H.NodeHash.digest c.args.parts.now c.take_peer_event.new.parts c.args.index c.args.event.now
-    (Closed c.in-Some.why) [] [] (λ on. refl) c.requires.there
-    (no_calls g.D.Disk.conduct g.H.NodeHash.digest c.args.parts.now c.take_peer_event.new.parts c.take_peer_event.ensures.devices)
+    (Closed c.in-Some.why) [] [] (λ on. refl) c.requires.peer.there
+    (no_calls g.D.Disk.conduct g.H.NodeHash.digest c.args.parts.now c.take_peer_event.new.parts c.take_peer_event.ensures.rest.devices)
     (λ p here. c.in-Some.ensures.step g.H.NodeHash.digest p here)
 
 pub returns-in-None-clause-handled : goal.returns-in-None-clause-handled
 returns-in-None-clause-handled g c =
     handled_by g.D.Disk.conduct g.H.NodeHash.digest c.args.parts.now c.take_peer_event.new.parts c.args.index c.args.event.now
-    (Stays Nothing None) [] [] (λ on. refl) c.requires.there
-    (no_calls g.D.Disk.conduct g.H.NodeHash.digest c.args.parts.now c.take_peer_event.new.parts c.take_peer_event.ensures.devices)
+    (Stays Nothing None) [] [] (λ on. refl) c.requires.peer.there
+    (no_calls g.D.Disk.conduct g.H.NodeHash.digest c.args.parts.now c.take_peer_event.new.parts c.take_peer_event.ensures.rest.devices)
     (λ p here. c.in-None.ensures.step g.H.NodeHash.digest p here)

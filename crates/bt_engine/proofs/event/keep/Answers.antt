@@ -1,16 +1,18 @@
 use Rattle.bt_machine.specs.Blocks.{new_complete_files}
 use Rattle.bt_machine.specs.declared.answer.Note.TheVariants.{Complete}
-use Rattle.std.proofs.Common.{◌≡◌, ◌++◌, List, map, length, sym, ap, ◌∙◌, subst, arith}
+use Rattle.std.proofs.Common.{◌≡◌, ◌<◌, ◌++◌, List, Option, map, option_map, length, sym, ap, ◌∙◌, subst, arith}
 use Rattle.std.specs.Option.{option_to_list}
+use Rattle.std.specs.Vec.{vec_len}
 use Rattle.bt_machine.specs.declared.answer.Note.{Note}
 use Rattle.bt_machine.specs.FollowUp.{FollowsUp}
 use Rattle.bt_machine.specs.Output.{Sent, haves}
 use Rattle.bt_machine.specs.State.{PeerState, EngineState, Hint}
 use Rattle.bt_machine.proofs.Lists.{some_is}
-use Rattle.bt_engine_state.specs.Parts.{state_of, peer_of}
+use Rattle.bt_engine_state.specs.Parts.{state_of, disks_of, peer_of}
 use Rattle.bt_engine_state.specs.Ties.{IsTied}
 use Rattle.bt_engine_state.proofs.Lists.{get_read, get_mapped}
 use Rattle.bt_engine_state.proofs.Ties.{tied_logged}
+use Rattle.bt_engine_state.specs.declared.open_log.OpenLog.{OpenLog}
 use Rattle.bt_engine_state.specs.declared.parts.Parts.{Parts}
 use Rattle.bt_engine.specs.EventSteps.{sent_by, notes_in}
 use Rattle.bt_engine.specs.NewsSteps.{TellMarks}
@@ -39,14 +41,29 @@ record_hints-requires-clause-inside g c =
     let all = c.note_complete_files.ensures.noted told.0 (subst (λ (ns : List Note). TellMarks told.0 (state_of c.args.parts.now) ns) (sym noted) told.1)
     ∙ ap (λ (ns : List Note). ns ++ map (λ file. Complete file) (new_complete_files told.0 (state_of c.args.parts.now))) noted in
     subst (λ (ns : List Note). AreInside ns) (sym (c.deref.ensures.value ∙ all))
-    (inside_alike (notes_in reply) (new_complete_files told.0 (state_of c.args.parts.now)) (are_inside told.1 c.requires.shaped c.keeps_laws.ensures.each))
+    (inside_alike (notes_in reply) (new_complete_files told.0 (state_of c.args.parts.now)) (are_inside told.1 c.requires.peer.shaped c.keeps_laws.ensures.each))
 
-pub follow_up-requires-clause-tied : goal.follow_up-requires-clause-tied
-follow_up-requires-clause-tied g c =
-    subst (λ (p : Parts g.row.D.Denot g.row.H.Denot). IsTied p) (sym c.record_hints.ensures.others) (tied_logged c.args.parts.now c.record_hints.new.parts.log c.requires.tied)
+pub follow_up-requires-clause-peer : goal.follow_up-requires-clause-peer
+follow_up-requires-clause-peer g c =
+    let same = sym c.record_hints.ensures.others in
+    record {
+      tied = subst (λ (p : Parts g.row.D.Denot g.row.H.Denot). IsTied p) same (tied_logged c.args.parts.now c.record_hints.new.parts.log c.requires.peer.tied);
+      shaped = shape_recorded _ c.record_hints.ensures.state c.requires.peer.shaped;
+      inside = subst (λ (p : Parts g.row.D.Denot g.row.H.Denot). c.args.index < vec_len p.peers) same c.requires.peer.inside;
+      there = subst (λ (p : Parts g.row.D.Denot g.row.H.Denot). c.args.index < length p.peers.items) same c.requires.peer.there;
+    }
 
-pub follow_up-requires-clause-shaped : goal.follow_up-requires-clause-shaped
-follow_up-requires-clause-shaped g c = shape_recorded _ c.record_hints.ensures.state c.requires.shaped
+pub returns-clause-devices : goal.returns-clause-devices
+returns-clause-devices g c =
+    c.follow_up.ensures.rest.devices ∙ ap (λ (p : Parts g.row.D.Denot g.row.H.Denot). disks_of p) c.record_hints.ensures.others
+
+pub returns-clause-rest : goal.returns-clause-rest
+returns-clause-rest g c = record {
+  torrent = c.follow_up.ensures.rest.torrent ∙ ap (λ (p : Parts g.row.D.Denot g.row.H.Denot). p.torrent) c.record_hints.ensures.others;
+  log = ap (λ (log : Option (OpenLog g.row.D.Denot)). option_map (λ opened. opened.log) log) c.follow_up.ensures.rest.log
+      ∙ c.record_hints.ensures.log;
+  tied = c.follow_up.ensures.rest.tied;
+}
 
 pub returns-clause-follows : goal.returns-clause-follows
 returns-clause-follows g c =
@@ -63,7 +80,7 @@ returns-clause-follows g c =
           let is = c.record_hints.ensures.state ∙ ap (λ (hints : List Hint). with_hints (state_of parts) (option_to_list c.args.proof ++ hints)) told in
           subst (λ (s : EngineState). FollowsUp g.H.NodeHash.digest s c.args.index follows.sent (state_of c.follow_up.new.parts)) is follows.follows),
       λ old peer marks here.
-          let read = get_mapped (peer_of parts.book) parts.peers.items c.args.index (get_read parts.peers.items c.args.index c.index.result.now c.requires.there c.index.ensures) in
+          let read = get_mapped (peer_of parts.book) parts.peers.items c.args.index (get_read parts.peers.items c.args.index c.index.result.now c.requires.peer.there c.index.ensures) in
           let key : peer.key ≡ c.index.result.now.key = ap (λ (p : PeerState). p.key) (some_is (sym here ∙ read)) in
           let sent : c.put_reply.new.send.items ≡ sent_by peer reply =
           c.put_reply.ensures.sent peer key ∙ ap (λ (ss : List Sent). ss ++ sent_by peer reply) room.nothing_sent in

@@ -1,5 +1,6 @@
-use Rattle.std.proofs.Common.{List, Option, sym, ap, subst}
+use Rattle.std.proofs.Common.{◌<◌, List, Option, length, sym, ap, ◌∙◌, subst}
 use Rattle.std.specs.Prelude.{IfOk}
+use Rattle.std.specs.Vec.{vec_len}
 use Rattle.bt_machine.specs.Devices.{DeviceCalls, HaveCalls}
 use Rattle.bt_machine.specs.Orderly.{IsOrderly}
 use Rattle.bt_machine.specs.Output.{Output}
@@ -10,8 +11,29 @@ use Rattle.bt_engine_state.specs.declared.parts.Parts.{Parts}
 use Rattle.bt_engine.specs.EventSteps.{GoesOn}
 use Rattle.bt_engine.proofs.event.take_event.Goals as goal
 
-pub take_in_room-requires-clause-shaped : goal.take_in_room-requires-clause-shaped
-take_in_room-requires-clause-shaped g c = subst (λ (s : EngineState). IsShaped s.torrent s) (sym c.reserve.ensures.state) c.requires.shaped
+pub take_in_room-requires-clause-peer : goal.take_in_room-requires-clause-peer
+take_in_room-requires-clause-peer g c =
+    let same = sym c.reserve.ensures.others in
+    record {
+      tied = c.reserve.ensures.tied;
+      shaped = subst (λ (s : EngineState). IsShaped s.torrent s) (sym c.reserve.ensures.state) c.requires.peer.shaped;
+      inside = subst (λ (p : Parts g.row.D.Denot g.row.H.Denot). c.args.index < vec_len p.peers) same c.requires.peer.inside;
+      there = subst (λ (p : Parts g.row.D.Denot g.row.H.Denot). c.args.index < length p.peers.items) same c.requires.peer.there;
+    }
+
+pub returns-in_err-room-clause-rest : goal.returns-in_err-room-clause-rest
+returns-in_err-room-clause-rest g c = record {
+  torrent = ap (λ (p : Parts g.row.D.Denot g.row.H.Denot). p.torrent) c.reserve.ensures.others;
+  log = c.reserve.ensures.log;
+  tied = c.reserve.ensures.tied;
+}
+
+pub returns-clause-rest : goal.returns-clause-rest
+returns-clause-rest g c = record {
+  torrent = c.take_in_room.ensures.rest.torrent ∙ ap (λ (p : Parts g.row.D.Denot g.row.H.Denot). p.torrent) c.reserve.ensures.others;
+  log = c.take_in_room.ensures.rest.log ∙ c.reserve.ensures.log;
+  tied = c.take_in_room.ensures.rest.tied;
+}
 
 pub take_in_room-requires-clause-orderly : goal.take_in_room-requires-clause-orderly
 take_in_room-requires-clause-orderly g c = subst (λ (s : EngineState). IsOrderly s) (sym c.reserve.ensures.state) c.requires.orderly

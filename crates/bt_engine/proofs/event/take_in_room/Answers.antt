@@ -1,27 +1,24 @@
-use Rattle.std.proofs.Common.{List, Option, sym, subst, arith}
+use Rattle.std.proofs.Common.{List, Option, option_map, sym, ap, ◌∙◌, subst, arith}
 use Rattle.bt_machine.specs.Devices.{HaveCalls}
 use Rattle.bt_engine_state.specs.Parts.{state_of, disks_of}
+use Rattle.bt_engine_state.specs.declared.open_log.OpenLog.{OpenLog}
 use Rattle.bt_engine.proofs.Events.{shaped_then, there_then, as_many, told_then, stays_on, closes_on}
 use Rattle.bt_engine.proofs.event.take_in_room.Goals as goal
 
-pub close-requires-clause-inside : goal.close-requires-clause-inside
-close-requires-clause-inside g c =
+pub close-requires : goal.close-requires
+close-requires g c =
     let lt = there_then c.in_ok-why.ensures.handled c.requires.orderly in
-    omega (arith, lt, c.handle.new.parts.peers.ok.0)
+    record { tied = c.handle.ensures.rest.tied; inside = omega (arith, lt, c.handle.new.parts.peers.ok.0); there = lt }
 
-pub close-requires-clause-there : goal.close-requires-clause-there
-close-requires-clause-there g c = there_then c.in_ok-why.ensures.handled c.requires.orderly
-
-pub keep-requires-clause-shaped : goal.keep-requires-clause-shaped
-keep-requires-clause-shaped g c = shaped_then c.in_ok-why.ensures.handled c.requires.orderly c.requires.shaped c.handle.ensures.torrent
-
-pub keep-requires-clause-inside : goal.keep-requires-clause-inside
-keep-requires-clause-inside g c =
+pub keep-requires-clause-peer : goal.keep-requires-clause-peer
+keep-requires-clause-peer g c =
     let lt = there_then c.in_ok-why.ensures.handled c.requires.orderly in
-    omega (arith, lt, c.handle.new.parts.peers.ok.0)
-
-pub keep-requires-clause-there : goal.keep-requires-clause-there
-keep-requires-clause-there g c = there_then c.in_ok-why.ensures.handled c.requires.orderly
+    record {
+      tied = c.handle.ensures.rest.tied;
+      shaped = shaped_then c.in_ok-why.ensures.handled c.requires.orderly c.requires.peer.shaped c.handle.ensures.rest.torrent;
+      inside = omega (arith, lt, c.handle.new.parts.peers.ok.0);
+      there = lt;
+    }
 
 pub keep-requires-clause-told : goal.keep-requires-clause-told
 keep-requires-clause-told g c =
@@ -33,13 +30,34 @@ keep-requires-clause-room g c =
     let room = c.requires.room in
     let h = c.in_ok-why.ensures.handled in
     let few = rw c.in-Stays.is at c.in_ok-why.ensures.few in
-    (room.0, few room.0 room.1, rw (as_many h c.requires.orderly) room.2, rw c.handle.ensures.log room.3)
+    (room.0, few room.0 room.1, rw (as_many h c.requires.orderly) room.2, rw c.handle.ensures.rest.log room.3)
+
+pub returns-in_err-why-clause-rest : goal.returns-in_err-why-clause-rest
+returns-in_err-why-clause-rest g c = record {
+  torrent = c.handle.ensures.rest.torrent;
+  log = ap (λ (log : Option (OpenLog g.row.D.Denot)). option_map (λ opened. opened.log) log) c.handle.ensures.rest.log;
+  tied = c.handle.ensures.rest.tied;
+}
+
+pub returns-in-Closed-clause-rest : goal.returns-in-Closed-clause-rest
+returns-in-Closed-clause-rest g c = record {
+  torrent = c.close.ensures.rest.torrent ∙ c.handle.ensures.rest.torrent;
+  log = ap (λ (log : Option (OpenLog g.row.D.Denot)). option_map (λ opened. opened.log) log) (c.close.ensures.rest.log ∙ c.handle.ensures.rest.log);
+  tied = c.close.ensures.rest.tied;
+}
+
+pub returns-in-Stays-clause-rest : goal.returns-in-Stays-clause-rest
+returns-in-Stays-clause-rest g c = record {
+  torrent = c.keep.ensures.rest.torrent ∙ c.handle.ensures.rest.torrent;
+  log = c.keep.ensures.rest.log ∙ ap (λ (log : Option (OpenLog g.row.D.Denot)). option_map (λ opened. opened.log) log) c.handle.ensures.rest.log;
+  tied = c.keep.ensures.rest.tied;
+}
 
 pub returns-in-Closed-clause-step : goal.returns-in-Closed-clause-step
 returns-in-Closed-clause-step g c =
     let h = rw c.in-Closed.is at c.in_ok-why.ensures.handled in
     let made = subst (λ (ds : List (Option g.row.D.Denot)). HaveCalls g.D.Disk.conduct (disks_of c.args.parts.now) h.calls ds)
-    (sym c.close.ensures.devices) h.made in
+    (sym c.close.ensures.rest.devices) h.made in
     (h.calls, made, closes_on c.close.new.parts h c.requires.orderly c.close.ensures.is c.close.ensures.gone)
 
 pub returns-in-Stays-clause-step : goal.returns-in-Stays-clause-step

@@ -24,7 +24,7 @@ loop-note-init g c = (refl, omega arith, omega arith)
 
 pub marked_piece-requires : goal.marked_piece-requires
 marked_piece-requires g c = λ b is.
-    has_block c.requires.told.1 c.requires.shaped b (subst (λ (n : Note). Contains c.args.notes.now n) is (contains_at c.args.notes.now c.loop-note.note-index blank c.loop-note-test.true))
+    has_block c.requires.told.1 c.requires.sound.shaped b (subst (λ (n : Note). Contains c.args.notes.now n) is (contains_at c.args.notes.now c.loop-note.note-index blank c.loop-note-test.true))
 
 pub loop-note-preserved-in_default : goal.loop-note-preserved-in_default
 loop-note-preserved-in_default g c =
@@ -43,7 +43,7 @@ announce_piece-requires-clause-inside g c =
     let size : IsPieceLength c.args.parts.now.torrent.piece_length = subst (λ n. IsPieceLength n) c.piece_length.ensures.said c.piece_length.ensures.lawful in
     let lay : IsLaidOut c.args.parts.now.torrent.piece_length c.args.parts.now.torrent.files =
     subst (λ (fs : List File). IsLaidOut c.args.parts.now.torrent.piece_length fs) c.files.ensures.said c.files.ensures.laid_out in
-    piece_inside c.requires.told.1 c.requires.shaped size lay (get_or c.args.notes.now c.loop-note.note-index blank) c.in-Some.piece
+    piece_inside c.requires.told.1 c.requires.sound.shaped size lay (get_or c.args.notes.now c.loop-note.note-index blank) c.in-Some.piece
     (contains_at c.args.notes.now c.loop-note.note-index blank c.loop-note-test.true)
     (sym c.marked_piece.ensures ∙ unless_some c.marked_piece.result c.loop-note.last (sym c.unless_last.ensures ∙ c.in-Some.is))
 
@@ -78,7 +78,7 @@ returns-clause-sent g c = λ old told_so.
     subst (λ (fs : List File). IsLaidOut c.args.parts.now.torrent.piece_length fs) c.files.ensures.said c.files.ensures.laid_out in
     finished (is_whole s) (λ piece. map (λ p. sent_to p (Have piece)) s.peers)
     (marked_piece c.args.parts.now.torrent) c.loop-note.last c.args.notes.now c.loop-note.note-index c.loop-note.send.items _ c.loop-note-test.false c.loop-note.invariant.0
-    ∙ ap (λ ks. c.args.send.now.items ++ flat_map (λ piece. map (λ p. sent_to p (Have piece)) s.peers) ks) (sym (whole_news told_so c.requires.shaped size lay c.whole_pieces_are_marked.ensures.blocks))
+    ∙ ap (λ ks. c.args.send.now.items ++ flat_map (λ piece. map (λ p. sent_to p (Have piece)) s.peers) ks) (sym (whole_news told_so c.requires.sound.shaped size lay c.whole_pieces_are_marked.ensures.blocks))
 
 pub returns-clause-few : goal.returns-clause-few
 returns-clause-few g c =

@@ -1,4 +1,6 @@
-use Rattle.std.proofs.Common.{refl}
+use Rattle.std.proofs.Common.{refl, arith}
+use Rattle.std.proofs.Math.ListN.{length-set}
+use Rattle.bt_engine_state.specs.declared.peer.Peer.{Peer}
 use Rattle.bt_engine_state.specs.Parts.{peer_of}
 use Rattle.bt_engine_state.proofs.Lists.{get_mapped, get_read}
 use Rattle.bt_engine_state.proofs.Ties.{tied_set, state_set}
@@ -31,8 +33,24 @@ returns-clause-refused g c =
       after = state_set old c.args.index (record p { cutter = c.next.new.self }) c.requires.tied at refl;
     })
 
-pub returns-clause-tied : goal.returns-clause-tied
-returns-clause-tied g c =
+pub returns-clause-rest : goal.returns-clause-rest
+returns-clause-rest g c =
     let p = c.index_mut-peer.result.now in
     let at = get_read c.args.parts.now.peers.items c.args.index p c.requires.there c.index_mut-peer.ensures.value in
-    tied_set c.args.parts.now c.args.index (record p { cutter = c.next.new.self }) c.requires.tied at refl
+    record {
+      devices = refl;
+      torrent = refl;
+      log = refl;
+      tied = tied_set c.args.parts.now c.args.index (record p { cutter = c.next.new.self }) c.requires.tied at refl;
+    }
+
+pub returns-clause-peer : goal.returns-clause-peer
+returns-clause-peer g c =
+    let p = c.index_mut-peer.result.now in
+    let at = get_read c.args.parts.now.peers.items c.args.index p c.requires.there c.index_mut-peer.ensures.value in
+    let q : Peer = record p { cutter = c.next.new.self } in
+    record {
+      tied = tied_set c.args.parts.now c.args.index q c.requires.tied at refl;
+      inside = c.requires.inside;
+      there = omega (arith, c.requires.there, length-set c.args.parts.now.peers.items c.args.index q);
+    }

@@ -1,12 +1,24 @@
 use Rattle.std.proofs.Common.{◌+◌, ◌*◌, List, length, sym, ap, ◌∙◌, subst, arith}
 use Rattle.bt_book.specs.Book.{max_askers}
 use Rattle.bt_engine_after.specs.AfterEvent.{max_frames}
+use Rattle.bt_engine_state.specs.Ties.{IsTied}
+use Rattle.bt_engine_state.proofs.Ties.{tied_logged}
 use Rattle.bt_engine_state.specs.declared.peer.Peer.{Peer}
 use Rattle.bt_engine_state.specs.declared.parts.Parts.{Parts}
 use Rattle.bt_engine.specs.RoomSteps.{IsNoteBound, HasRoom}
 use Rattle.bt_engine.specs.declared.room.Room.{Room}
 use Rattle.bt_engine.proofs.Handled.{bound_logged}
 use Rattle.bt_engine.proofs.room.reserve.Goals as goal
+
+pub returns-clause-tied : goal.returns-clause-tied
+returns-clause-tied g c =
+    subst (λ (p : Parts g.row.D.Denot g.row.H.Denot). IsTied p) (sym c.reserve_hints.ensures.others)
+    (tied_logged c.args.parts.now c.reserve_hints.new.parts.log c.requires.sound.tied)
+
+pub returns-in_err-reserve_hints-clause-tied : goal.returns-in_err-reserve_hints-clause-tied
+returns-in_err-reserve_hints-clause-tied g c =
+    subst (λ (p : Parts g.row.D.Denot g.row.H.Denot). IsTied p) (sym c.reserve_hints.ensures.others)
+    (tied_logged c.args.parts.now c.reserve_hints.new.parts.log c.requires.sound.tied)
 
 pub returns-clause-room : goal.returns-clause-room
 returns-clause-room g c =

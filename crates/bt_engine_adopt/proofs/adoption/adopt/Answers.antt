@@ -26,17 +26,15 @@ adopt_file-requires-clause-in_line g c = in_line_first c.args.parts.now c.requir
 pub returns-in_default-clause-step : goal.returns-in_default-clause-step
 returns-in_default-clause-step g c = steps_stopped c.args.parts.now c.args.file (alone_if c.has_peer.ensures.1 c.if-has_peer.false) c.in_default.ensures.stop
 
-pub returns-in_default-clause-torrent : goal.returns-in_default-clause-torrent
-returns-in_default-clause-torrent g c = ap (λ (p : Parts g.row.D.Denot g.row.H.Denot). p.torrent) c.adopt_file.ensures.rest.others
-
 pub returns-in_default-clause-peers : goal.returns-in_default-clause-peers
 returns-in_default-clause-peers g c = ap (λ (p : Parts g.row.D.Denot g.row.H.Denot). p.peers) c.adopt_file.ensures.rest.others
 
-pub returns-in_default-clause-log : goal.returns-in_default-clause-log
-returns-in_default-clause-log g c = c.adopt_file.ensures.rest.log
-
-pub returns-in_default-clause-tied : goal.returns-in_default-clause-tied
-returns-in_default-clause-tied g c = tied_last c.args.parts.now c.requires.tied c.adopt_file.new.parts c.adopt_file.ensures.rest c.adopt_file.ensures.in_line
+pub returns-in_default-clause-rest : goal.returns-in_default-clause-rest
+returns-in_default-clause-rest g c = record {
+  torrent = ap (λ (p : Parts g.row.D.Denot g.row.H.Denot). p.torrent) c.adopt_file.ensures.rest.others;
+  log = c.adopt_file.ensures.rest.log;
+  tied = tied_last c.args.parts.now c.requires.tied c.adopt_file.new.parts c.adopt_file.ensures.rest c.adopt_file.ensures.in_line;
+}
 
 pub settle_recorded-requires-clause-alone : goal.settle_recorded-requires-clause-alone
 settle_recorded-requires-clause-alone g c =
@@ -67,20 +65,18 @@ returns-in_default-settle_recorded-clause-step g c =
     steps_unsettled old c.args.file here (omega (arith, c.if-block_count-eq0.false, c.block_count.ensures)) c.settle_recorded.new.parts (alone_if c.has_peer.ensures.1 c.if-has_peer.false)
     c.in-Ok.ensures.ok c.adopt_file.ensures.rest c.adopt_file.ensures.in_line c.in_default-settle_recorded.ensures.refused c.in_default-settle_recorded.ensures.pending
 
-pub returns-in_default-settle_recorded-clause-torrent : goal.returns-in_default-settle_recorded-clause-torrent
-returns-in_default-settle_recorded-clause-torrent g c =
-    ap (λ (p : Parts g.row.D.Denot g.row.H.Denot). p.torrent) (rest_then c.adopt_file.ensures.rest c.settle_recorded.ensures.rest).others
-
 pub returns-in_default-settle_recorded-clause-peers : goal.returns-in_default-settle_recorded-clause-peers
 returns-in_default-settle_recorded-clause-peers g c =
     ap (λ (p : Parts g.row.D.Denot g.row.H.Denot). p.peers) (rest_then c.adopt_file.ensures.rest c.settle_recorded.ensures.rest).others
 
-pub returns-in_default-settle_recorded-clause-log : goal.returns-in_default-settle_recorded-clause-log
-returns-in_default-settle_recorded-clause-log g c = (rest_then c.adopt_file.ensures.rest c.settle_recorded.ensures.rest).log
-
-pub returns-in_default-settle_recorded-clause-tied : goal.returns-in_default-settle_recorded-clause-tied
-returns-in_default-settle_recorded-clause-tied g c =
-    tied_last c.args.parts.now c.requires.tied c.settle_recorded.new.parts (rest_then c.adopt_file.ensures.rest c.settle_recorded.ensures.rest) c.settle_recorded.ensures.in_line
+pub returns-in_default-settle_recorded-clause-rest : goal.returns-in_default-settle_recorded-clause-rest
+returns-in_default-settle_recorded-clause-rest g c =
+    let rest = rest_then c.adopt_file.ensures.rest c.settle_recorded.ensures.rest in
+    record {
+      torrent = ap (λ (p : Parts g.row.D.Denot g.row.H.Denot). p.torrent) rest.others;
+      log = rest.log;
+      tied = tied_last c.args.parts.now c.requires.tied c.settle_recorded.new.parts rest c.settle_recorded.ensures.in_line;
+    }
 
 pub returns-clause-step : goal.returns-clause-step
 returns-clause-step g c =
@@ -89,17 +85,15 @@ returns-clause-step g c =
     steps_adopted old c.args.file here (omega (arith, c.if-block_count-eq0.false, c.block_count.ensures)) c.settle_recorded.new.parts (alone_if c.has_peer.ensures.1 c.if-has_peer.false)
     c.requires.tied c.requires.shaped c.in-Ok.ensures.ok c.adopt_file.ensures.rest c.in-Ok-settle_recorded.ensures.settles
 
-pub returns-clause-torrent : goal.returns-clause-torrent
-returns-clause-torrent g c =
-    ap (λ (p : Parts g.row.D.Denot g.row.H.Denot). p.torrent) (rest_then c.adopt_file.ensures.rest c.settle_recorded.ensures.rest).others
-
 pub returns-clause-peers : goal.returns-clause-peers
 returns-clause-peers g c =
     ap (λ (p : Parts g.row.D.Denot g.row.H.Denot). p.peers) (rest_then c.adopt_file.ensures.rest c.settle_recorded.ensures.rest).others
 
-pub returns-clause-log : goal.returns-clause-log
-returns-clause-log g c = (rest_then c.adopt_file.ensures.rest c.settle_recorded.ensures.rest).log
-
-pub returns-clause-tied : goal.returns-clause-tied
-returns-clause-tied g c =
-    tied_last c.args.parts.now c.requires.tied c.settle_recorded.new.parts (rest_then c.adopt_file.ensures.rest c.settle_recorded.ensures.rest) c.settle_recorded.ensures.in_line
+pub returns-clause-rest : goal.returns-clause-rest
+returns-clause-rest g c =
+    let rest = rest_then c.adopt_file.ensures.rest c.settle_recorded.ensures.rest in
+    record {
+      torrent = ap (λ (p : Parts g.row.D.Denot g.row.H.Denot). p.torrent) rest.others;
+      log = rest.log;
+      tied = tied_last c.args.parts.now c.requires.tied c.settle_recorded.new.parts rest c.settle_recorded.ensures.in_line;
+    }

@@ -12,7 +12,7 @@ use Rattle.bt_engine_state.specs.declared.parts.Parts.{Parts}
 use Rattle.bt_engine_state.proofs.Lists.{get_read}
 use Rattle.bt_engine_state.proofs.Ties.{tied_set}
 use Rattle.bt_engine_after.specs.HashRequestsSteps.{AreHashesRequested}
-use Rattle.bt_engine_after.proofs.KnownPieces.{state_same}
+use Rattle.bt_engine_after.proofs.KnownPieces.{state_same, shaped_same}
 use Rattle.bt_engine_after.proofs.HashRequests.{sends_none, sends_one}
 use Rattle.bt_engine_after.proofs.hash_requests.request_hashes.Goals as goal
 
@@ -22,6 +22,12 @@ returns-in_default-clause-requested g c =
     let p = c.index-peer.result.now in
     let here = get_read old.peers.items c.args.index p c.requires.there c.index-peer.ensures in
     sends_none g.H.NodeHash.digest old c.args.index p c.requires.tied here (λ idle. absurd (c.in_default.not-Idle idle))
+
+pub next_key-requires : goal.next_key-requires
+next_key-requires g c = record {
+  tied = c.note_known_pieces.ensures.tied;
+  shaped = shaped_same c.args.parts.now c.note_known_pieces.new.parts c.note_known_pieces.ensures.others c.requires.shaped;
+}
 
 pub returns-in_err-key : goal.returns-in_err-key
 returns-in_err-key g c =
@@ -36,12 +42,16 @@ returns-in_err-key g c =
       requested = rw c.from_residual.ensures
           (subst (λ (s : EngineState). AreHashesRequested g.H.NodeHash.digest s i None (state_of mid)) (state_same old mid others)
           (sends_none g.H.NodeHash.digest mid i q c.note_known_pieces.ensures.tied here (λ idle. c.in_err-key.ensures.none (peer_of mid.book q) refl)));
-      devices = ap (λ (x : Parts _ _). disks_of x) others;
-      torrent = ap (λ (x : Parts _ _). x.torrent) others;
-      log = ap (λ (x : Parts _ _). x.log) others;
-      keys = ap (λ (x : Parts _ _). map (λ (r : Peer). r.key) x.peers.items) others;
-      peers = ap (λ (x : Parts _ _). vec_len x.peers) others;
-      tied = c.note_known_pieces.ensures.tied;
+      rest = record {
+        devices = ap (λ (x : Parts _ _). disks_of x) others;
+        torrent = ap (λ (x : Parts _ _). x.torrent) others;
+        log = ap (λ (x : Parts _ _). x.log) others;
+        tied = c.note_known_pieces.ensures.tied;
+      };
+      keys = record {
+        keys = ap (λ (x : Parts _ _). map (λ (r : Peer). r.key) x.peers.items) others;
+        len = ap (λ (x : Parts _ _). vec_len x.peers) others;
+      };
     }
 
 pub returns : goal.returns
@@ -63,10 +73,14 @@ returns g c =
           (state_same old mid others)
           (sends_one g.H.NodeHash.digest mid i p c.note_known_pieces.ensures.tied here key (ap (λ (q : Peer). q.hash) was ∙ c.in-Idle.is)
           (c.in_ok-key.ensures.some (peer_of mid.book p) (ap (λ (q : Peer). q.has) same)));
-      devices = ap (λ (x : Parts _ _). disks_of x) others;
-      torrent = ap (λ (x : Parts _ _). x.torrent) others;
-      log = ap (λ (x : Parts _ _). x.log) others;
-      keys = map_set (λ (q : Peer). q.key) mid.peers.items i asked here refl ∙ ap (λ (x : Parts _ _). map (λ (r : Peer). r.key) x.peers.items) others;
-      peers = ap (λ (x : Parts _ _). vec_len x.peers) others;
-      tied = tied_set mid i asked c.note_known_pieces.ensures.tied here refl;
+      rest = record {
+        devices = ap (λ (x : Parts _ _). disks_of x) others;
+        torrent = ap (λ (x : Parts _ _). x.torrent) others;
+        log = ap (λ (x : Parts _ _). x.log) others;
+        tied = tied_set mid i asked c.note_known_pieces.ensures.tied here refl;
+      };
+      keys = record {
+        keys = map_set (λ (q : Peer). q.key) mid.peers.items i asked here refl ∙ ap (λ (x : Parts _ _). map (λ (r : Peer). r.key) x.peers.items) others;
+        len = ap (λ (x : Parts _ _). vec_len x.peers) others;
+      };
     }

@@ -26,16 +26,24 @@ returns-clause-told g c =
       now = state_set old i (record p { am_interested = c.is_interesting-interested.result }) c.requires.tied here refl;
     }
 
-pub returns-clause-tied : goal.returns-clause-tied
-returns-clause-tied g c =
+pub returns-clause-rest : goal.returns-clause-rest
+returns-clause-rest g c =
     let old = c.args.parts.now in
     let p = c.index_mut-peer.result.now in
     let here = get_read old.peers.items c.args.index p c.requires.there c.index_mut-peer.ensures.value in
-    tied_set old c.args.index (record p { am_interested = c.is_interesting-interested.result }) c.requires.tied here refl
+    record {
+      devices = refl;
+      torrent = refl;
+      log = refl;
+      tied = tied_set old c.args.index (record p { am_interested = c.is_interesting-interested.result }) c.requires.tied here refl;
+    }
 
 pub returns-clause-keys : goal.returns-clause-keys
 returns-clause-keys g c =
     let peers = c.args.parts.now.peers.items in
     let p = c.index_mut-peer.result.now in
-    map_set (λ (q : Peer). q.key) peers c.args.index (record p { am_interested = c.is_interesting-interested.result })
-    (get_read peers c.args.index p c.requires.there c.index_mut-peer.ensures.value) refl
+    record {
+      keys = map_set (λ (q : Peer). q.key) peers c.args.index (record p { am_interested = c.is_interesting-interested.result })
+          (get_read peers c.args.index p c.requires.there c.index_mut-peer.ensures.value) refl;
+      len = refl;
+    }

@@ -17,8 +17,11 @@ loop-piece-init g c = record {
   passed = λ peer at. none_left_yet peer.has c.args.parts.now.known;
 }
 
-pub known_to-end-requires-clause-shaped : goal.known_to-end-requires-clause-shaped
-known_to-end-requires-clause-shaped g c = shaped_same c.args.parts.now c.loop-piece.parts c.loop-piece.invariant.others c.requires.shaped
+pub known_to-end-requires : goal.known_to-end-requires
+known_to-end-requires g c = record {
+  tied = c.loop-piece.invariant.tied;
+  shaped = shaped_same c.args.parts.now c.loop-piece.parts c.loop-piece.invariant.others c.requires.shaped;
+}
 
 pub loop-piece-smaller : goal.loop-piece-smaller
 loop-piece-smaller g c = omega (arith, c.in-Some.ensures.some.after, c.if-end-piece.false, c.known_to-end.type_inv, c.loop-piece.invariant.fits)

@@ -6,17 +6,17 @@ use Rattle.bt_engine_after.proofs.serving.follow_up_all.Goals as goal
 
 pub loop-index-init : goal.loop-index-init
 loop-index-init g c = record {
-  followed = none_followed g.H.NodeHash.digest c.args.parts.now c.args.send.now.items c.requires.tied c.requires.shaped;
+  followed = none_followed g.H.NodeHash.digest c.args.parts.now c.args.send.now.items c.requires.sound.tied c.requires.sound.shaped;
   room = omega (arith, c.requires.room);
 }
 
-pub follow_up-requires-clause-here : goal.follow_up-requires-clause-here
-follow_up-requires-clause-here g c =
-    omega (arith, c.loop-index-test.true, c.len-index-end.ensures, c.args.parts.now.peers.ok.0, c.loop-index.parts.peers.ok.0, c.loop-index.invariant.followed.count)
-
-pub follow_up-requires-clause-there : goal.follow_up-requires-clause-there
-follow_up-requires-clause-there g c =
-    omega (arith, c.loop-index-test.true, c.len-index-end.ensures, c.args.parts.now.peers.ok.0, c.loop-index.invariant.followed.count)
+pub follow_up-requires-clause-peer : goal.follow_up-requires-clause-peer
+follow_up-requires-clause-peer g c = record {
+  tied = c.loop-index.invariant.followed.tied;
+  shaped = c.loop-index.invariant.followed.shaped;
+  inside = omega (arith, c.loop-index-test.true, c.len-index-end.ensures, c.args.parts.now.peers.ok.0, c.loop-index.parts.peers.ok.0, c.loop-index.invariant.followed.count);
+  there = omega (arith, c.loop-index-test.true, c.len-index-end.ensures, c.args.parts.now.peers.ok.0, c.loop-index.invariant.followed.count);
+}
 
 pub follow_up-requires-clause-room : goal.follow_up-requires-clause-room
 follow_up-requires-clause-room g c =
@@ -25,8 +25,8 @@ follow_up-requires-clause-room g c =
 pub loop-index-preserved : goal.loop-index-preserved
 loop-index-preserved g c = record {
   followed = one_followed g.H.NodeHash.digest c.args.parts.now c.args.send.now.items c.loop-index.index c.loop-index.parts c.follow_up.new.parts
-      c.loop-index.send.items c.follow_up.new.send.items c.loop-index.invariant.followed c.follow_up.ensures.follows c.follow_up.ensures.devices
-      c.follow_up.ensures.torrent c.follow_up.ensures.log c.follow_up.ensures.keys c.follow_up.ensures.tied;
+      c.loop-index.send.items c.follow_up.new.send.items c.loop-index.invariant.followed c.follow_up.ensures.follows c.follow_up.ensures.rest.devices
+      c.follow_up.ensures.rest.torrent c.follow_up.ensures.rest.log c.follow_up.ensures.keys.keys c.follow_up.ensures.rest.tied;
   room = omega (
     arith,
     c.loop-index-test.true,
@@ -37,6 +37,11 @@ loop-index-preserved g c = record {
     c.follow_up.ensures.capacity,
   );
 }
+
+pub returns-clause-rest : goal.returns-clause-rest
+returns-clause-rest g c =
+    let followed = c.loop-index.invariant.followed in
+    record { devices = followed.devices; torrent = followed.torrent; log = followed.log; tied = followed.tied }
 
 pub returns-clause-follows : goal.returns-clause-follows
 returns-clause-follows g c =

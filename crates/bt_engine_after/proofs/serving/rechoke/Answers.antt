@@ -12,7 +12,7 @@ use Rattle.bt_engine_after.proofs.serving.rechoke.Goals as goal
 pub choose-served-requires : goal.choose-served-requires
 choose-served-requires g c =
     let all = c.deref-2.ensures.value ∙ c.in_ok-standings.ensures ∙ ap (map standing_at) c.deref.ensures.value in
-    subst (λ (standings : List Standing). HaveOwnKeys standings) (sym all) (own_keys c.args.parts.now.peers.items c.requires.tied.in_order)
+    subst (λ (standings : List Standing). HaveOwnKeys standings) (sym all) (own_keys c.args.parts.now.peers.items c.requires.sound.tied.in_order)
 
 pub begin_turn-requires-clause-choice : goal.begin_turn-requires-clause-choice
 begin_turn-requires-clause-choice g c =
@@ -21,10 +21,23 @@ begin_turn-requires-clause-choice g c =
     rw c.as_slice.ensures.value (subst (λ (standings : List Standing). IsChoice standings old.turn c.choose-served.result.items)
     (all ∙ sym (same_standings old.book old.peers.items)) c.choose-served.ensures)
 
-pub follow_up_all-requires-clause-shaped : goal.follow_up_all-requires-clause-shaped
-follow_up_all-requires-clause-shaped g c =
-    subst (λ (m : Metainfo). IsShaped m (state_of c.begin_turn.new.parts)) (sym c.begin_turn.ensures.torrent)
-    (shape_begun g.H.NodeHash.digest (state_of c.args.parts.now) (state_of c.begin_turn.new.parts) c.begin_turn.ensures.state c.requires.shaped)
+pub follow_up_all-requires-clause-sound : goal.follow_up_all-requires-clause-sound
+follow_up_all-requires-clause-sound g c = record {
+  tied = c.begin_turn.ensures.rest.tied;
+  shaped = subst (λ (m : Metainfo). IsShaped m (state_of c.begin_turn.new.parts)) (sym c.begin_turn.ensures.rest.torrent)
+      (shape_begun g.H.NodeHash.digest (state_of c.args.parts.now) (state_of c.begin_turn.new.parts) c.begin_turn.ensures.state c.requires.sound.shaped);
+}
+
+pub returns-clause-rest : goal.returns-clause-rest
+returns-clause-rest g c =
+    let begun = c.begin_turn.ensures.rest in
+    let followed = c.follow_up_all.ensures.rest in
+    record {
+      devices = followed.devices ∙ begun.devices;
+      torrent = followed.torrent ∙ begun.torrent;
+      log = followed.log ∙ begun.log;
+      tied = followed.tied;
+    }
 
 pub returns-clause-step : goal.returns-clause-step
 returns-clause-step g c =

@@ -41,13 +41,13 @@ returns-in_err-why-clause-kept g c =
     (parts_kept old n.trees n.slots (c.learn_hashes.auto.trees ∙ c.deref_mut-2.ensures.len) (c.in_err-why.ensures.trees ∙ c.deref_mut-2.ensures.value)
     (c.learn_hashes.auto.slots ∙ c.deref_mut.ensures.len) (c.in_err-why.ensures.slots ∙ c.deref_mut.ensures.value))
 
-pub returns-in_err-why-clause-tied : goal.returns-in_err-why-clause-tied
-returns-in_err-why-clause-tied g c =
+pub returns-in_err-why-clause-rest : goal.returns-in_err-why-clause-rest
+returns-in_err-why-clause-rest g c =
     let old = c.args.parts.now in
     let n = c.learn_hashes.new in
     let same = parts_kept old n.trees n.slots (c.learn_hashes.auto.trees ∙ c.deref_mut-2.ensures.len) (c.in_err-why.ensures.trees ∙ c.deref_mut-2.ensures.value)
     (c.learn_hashes.auto.slots ∙ c.deref_mut.ensures.len) (c.in_err-why.ensures.slots ∙ c.deref_mut.ensures.value) in
-    subst (λ (x : Parts g.row.D.Denot g.row.H.Denot). IsTied x) (sym same) c.requires.tied
+    record { torrent = refl; log = refl; tied = subst (λ (x : Parts g.row.D.Denot g.row.H.Denot). IsTied x) (sym same) c.requires.tied }
 
 pub returns-in-Refused-clause-takes : goal.returns-in-Refused-clause-takes
 returns-in-Refused-clause-takes g c =
@@ -62,8 +62,8 @@ returns-in-Refused-clause-takes g c =
     takes_refused d.conduct dig c.args.key.now c.args.digests.now old
     (record old { trees = with_items old.trees n.trees; slots = with_items old.slots n.slots }) c.args.index c.in-Refused.why same changes.0
 
-pub returns-in-Refused-clause-tied : goal.returns-in-Refused-clause-tied
-returns-in-Refused-clause-tied g c =
+pub returns-in-Refused-clause-rest : goal.returns-in-Refused-clause-rest
+returns-in-Refused-clause-rest g c =
     let d = g.D.Disk in
     let old = c.args.parts.now in
     let n = c.learn_hashes.new in
@@ -71,7 +71,7 @@ returns-in-Refused-clause-tied g c =
     c.in_ok-why.field-0 (Refused c.in-Refused.why) n.trees n.slots c.deref_mut-2.ensures.value c.deref_mut.ensures.value c.in-Refused.is c.in_ok-why.ensures.changes in
     let same = parts_kept old n.trees n.slots (c.learn_hashes.auto.trees ∙ c.deref_mut-2.ensures.len) changes.1
     (c.learn_hashes.auto.slots ∙ c.deref_mut.ensures.len) changes.2 in
-    subst (λ (x : Parts g.row.D.Denot g.row.H.Denot). IsTied x) (sym same) c.requires.tied
+    record { torrent = refl; log = refl; tied = subst (λ (x : Parts g.row.D.Denot g.row.H.Denot). IsTied x) (sym same) c.requires.tied }
 
 pub follow_notes-requires : goal.follow_notes-requires
 follow_notes-requires g c =
@@ -138,16 +138,19 @@ returns-in-Settled-clause-few g c = λ room enough.
     (c.in_ok-why.ensures.few room
     (room_of c.args.parts.now c.deref_mut-2.result.now c.deref_mut.result.now c.args.key.now room c.deref_mut-2.ensures.value c.deref_mut.ensures.value enough))
 
-pub returns-in-Settled-clause-peers : goal.returns-in-Settled-clause-peers
-returns-in-Settled-clause-peers g c =
+pub returns-in-Settled-clause-keys : goal.returns-in-Settled-clause-keys
+returns-in-Settled-clause-keys g c =
     let old = c.args.parts.now in
     let p = c.index_mut-peer.result.now in
     let q : Peer = record p { hash = c.resolved_hash_state-peer.result } in
-    ap (λ (x : Parts g.row.D.Denot g.row.H.Denot). map (λ (r : Peer). r.key) x.peers.items) c.follow_notes.ensures.others
-    ∙ map_set (λ (r : Peer). r.key) old.peers.items c.args.index q (get_read old.peers.items c.args.index p c.requires.there c.index_mut-peer.ensures.value) refl
+    record {
+      keys = ap (λ (x : Parts g.row.D.Denot g.row.H.Denot). map (λ (r : Peer). r.key) x.peers.items) c.follow_notes.ensures.others
+          ∙ map_set (λ (r : Peer). r.key) old.peers.items c.args.index q (get_read old.peers.items c.args.index p c.requires.there c.index_mut-peer.ensures.value) refl;
+      len = ap (λ (x : Parts g.row.D.Denot g.row.H.Denot). x.peers.len) c.follow_notes.ensures.others;
+    }
 
-pub returns-in-Settled-clause-tied : goal.returns-in-Settled-clause-tied
-returns-in-Settled-clause-tied g c =
+pub returns-in-Settled-clause-rest : goal.returns-in-Settled-clause-rest
+returns-in-Settled-clause-rest g c =
     let d = g.D.Disk in
     let dig = g.H.NodeHash.digest in
     let key = c.args.key.now in
@@ -163,9 +166,13 @@ returns-in-Settled-clause-tied g c =
     record old { trees = with_items old.trees n.trees; slots = with_items old.slots n.slots; book = new.book; counts = new.counts } in
     let p = c.index_mut-peer.result.now in
     let q : Peer = record p { hash = c.resolved_hash_state-peer.result } in
-    subst (λ (x : Parts g.row.D.Denot g.row.H.Denot). IsTied x) (sym c.follow_notes.ensures.others)
-    (tied_learnt d.conduct dig key digests old c.requires.tied notes n.trees n.slots l next c.args.index q
-    (get_read old.peers.items c.args.index p c.requires.there c.index_mut-peer.ensures.value) refl
-    (with_items_is old.trees n.trees (c.learn_hashes.auto.trees ∙ c.deref_mut-2.ensures.len))
-    (with_items_is old.slots n.slots (c.learn_hashes.auto.slots ∙ c.deref_mut.ensures.len))
-    c.follow_notes.ensures.peers c.follow_notes.ensures.followed)
+    record {
+      torrent = ap (λ (x : Parts g.row.D.Denot g.row.H.Denot). x.torrent) c.follow_notes.ensures.others;
+      log = ap (λ (x : Parts g.row.D.Denot g.row.H.Denot). x.log) c.follow_notes.ensures.others;
+      tied = subst (λ (x : Parts g.row.D.Denot g.row.H.Denot). IsTied x) (sym c.follow_notes.ensures.others)
+          (tied_learnt d.conduct dig key digests old c.requires.tied notes n.trees n.slots l next c.args.index q
+          (get_read old.peers.items c.args.index p c.requires.there c.index_mut-peer.ensures.value) refl
+          (with_items_is old.trees n.trees (c.learn_hashes.auto.trees ∙ c.deref_mut-2.ensures.len))
+          (with_items_is old.slots n.slots (c.learn_hashes.auto.slots ∙ c.deref_mut.ensures.len))
+          c.follow_notes.ensures.peers c.follow_notes.ensures.followed);
+    }

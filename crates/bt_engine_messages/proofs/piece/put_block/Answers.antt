@@ -1,5 +1,6 @@
 use Rattle.std.proofs.Common.{ap, ◌∙◌}
 use Rattle.std.specs.Vec.{with_items}
+use Rattle.bt_engine_state.specs.declared.parts.Parts.{Parts}
 use Rattle.bt_engine_messages.proofs.Slots.{below_slots, puts_of}
 use Rattle.bt_engine_messages.proofs.StoreChanges.{has_changed, tied_new}
 use Rattle.bt_engine_messages.proofs.Storing.{can_put, put_changes, puts_block}
@@ -7,18 +8,18 @@ use Rattle.bt_engine_messages.proofs.piece.put_block.Goals as goal
 
 pub put_in_slot-answer-requires-clause-inside : goal.put_in_slot-answer-requires-clause-inside
 put_in_slot-answer-requires-clause-inside g c =
-    rw c.deref_mut.ensures.value (below_slots (can_put c.args.parts.now c.args.block c.args.bytes.now c.requires.tied c.requires.missing c.requires.whole).has_store)
+    rw c.deref_mut.ensures.value (below_slots (can_put c.args.parts.now c.args.block c.args.bytes.now c.requires.sound.tied c.requires.missing c.requires.whole).has_store)
 
 pub put_in_slot-answer-requires-clause-can : goal.put_in_slot-answer-requires-clause-can
 put_in_slot-answer-requires-clause-can g c =
-    rw (c.deref_mut.ensures.value, c.deref.ensures.value) (can_put c.args.parts.now c.args.block c.args.bytes.now c.requires.tied c.requires.missing c.requires.whole)
+    rw (c.deref_mut.ensures.value, c.deref.ensures.value) (can_put c.args.parts.now c.args.block c.args.bytes.now c.requires.sound.tied c.requires.missing c.requires.whole)
 
 pub follow_block-requires : goal.follow_block-requires
 follow_block-requires g c =
     let old = c.args.parts.now in
     let a = c.put_in_slot-answer in
     let puts = puts_of old.slots old.trees a.ensures c.deref_mut.ensures.value c.deref.ensures.value (a.auto.slots ∙ c.deref_mut.ensures.len) in
-    has_changed (put_changes old (record old { slots = with_items old.slots a.new.slots }) c.requires.tied c.requires.shaped c.requires.missing puts c.state_after.ensures)
+    has_changed (put_changes old (record old { slots = with_items old.slots a.new.slots }) c.requires.sound.tied c.requires.sound.shaped c.requires.missing puts c.state_after.ensures)
 
 pub effect_of-requires : goal.effect_of-requires
 effect_of-requires g c = c.put_in_slot-answer.ensures.of_missing
@@ -32,10 +33,12 @@ returns g c =
     let f = c.follow_block.ensures in
     let new = c.follow_block.new.parts in
     record {
-      puts = puts_block old next c.requires.tied c.requires.shaped c.requires.missing puts c.state_after.ensures new f.others f.asked c.asked-others.result.items
+      puts = puts_block old next c.requires.sound.tied c.requires.sound.shaped c.requires.missing puts c.state_after.ensures new f.others f.asked c.asked-others.result.items
           (record { ascending = c.asked-others.ensures.ascending; exact = c.asked-others.ensures.exact }) c.args.ask c.effect_of.result c.effect_of.ensures;
-      torrent = ap (λ p. p.torrent) f.others;
-      log = ap (λ p. p.log) f.others;
+      rest = record {
+        torrent = ap (λ (p : Parts _ _). p.torrent) f.others;
+        log = ap (λ (p : Parts _ _). p.log) f.others;
+        tied = tied_new (put_changes old next c.requires.sound.tied c.requires.sound.shaped c.requires.missing puts c.state_after.ensures) new f.others f.asked f.peers f.followed;
+      };
       peers = ap (λ p. p.peers) f.others;
-      tied = tied_new (put_changes old next c.requires.tied c.requires.shaped c.requires.missing puts c.state_after.ensures) new f.others f.asked f.peers f.followed;
     }

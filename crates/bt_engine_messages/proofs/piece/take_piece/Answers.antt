@@ -24,9 +24,11 @@ put_block-requires g c =
     let here = get_read old.peers.items c.args.index p c.requires.there c.index_mut-peer.ensures.value in
     let b = c.in-Some.block in
     record {
-      tied = tied_mid old c.args.index b c.came.new.self c.saturating_add-peer.result c.requires.tied here c.came.ensures.others
-          (ap (λ (book : BookState). book.wanted) c.came.ensures.now) c.came.ensures.peers;
-      shaped = shaped_mid old c.args.index b c.came.new.self c.saturating_add-peer.result c.requires.tied here c.came.ensures.others c.requires.shaped;
+      sound = record {
+        tied = tied_mid old c.args.index b c.came.new.self c.saturating_add-peer.result c.requires.tied here c.came.ensures.others
+            (ap (λ (book : BookState). book.wanted) c.came.ensures.now) c.came.ensures.peers;
+        shaped = shaped_mid old c.args.index b c.came.new.self c.saturating_add-peer.result c.requires.tied here c.came.ensures.others c.requires.shaped;
+      };
       missing = pair_missing old p.key b c.requires.tied c.keeps_laws.ensures (c.if-not-came.ensures.was.0 refl);
       whole = is_block_of old.torrent c.args.piece c.args.begin c.args.bytes.now b c.in-Some.ensures.some;
     }
@@ -45,12 +47,12 @@ returns g c =
             c.args.piece c.args.begin c.args.bytes.now puts.calls _ _ x at c.in-Some.ensures.some (c.if-not-came.ensures.was.0 refl) c.came.ensures.asked
             (omega (arith, c.saturating_add-peer.ensures)) puts.others puts.askers puts.puts,
       );
-      torrent = c.put_block.ensures.torrent;
-      log = c.put_block.ensures.log;
-      peers = ap (λ (peers : Vec Peer). map (λ (p : Peer). p.key) peers.items) c.put_block.ensures.peers
-          ∙ keys_mid old c.args.index b c.came.new.self c.saturating_add-peer.result c.requires.tied here c.came.ensures.others;
-      len = ap (λ (peers : Vec Peer). peers.len) c.put_block.ensures.peers;
-      tied = c.put_block.ensures.tied;
+      rest = record { torrent = c.put_block.ensures.rest.torrent; log = c.put_block.ensures.rest.log; tied = c.put_block.ensures.rest.tied };
+      keys = record {
+        keys = ap (λ (peers : Vec Peer). map (λ (p : Peer). p.key) peers.items) c.put_block.ensures.peers
+            ∙ keys_mid old c.args.index b c.came.new.self c.saturating_add-peer.result c.requires.tied here c.came.ensures.others;
+        len = ap (λ (peers : Vec Peer). peers.len) c.put_block.ensures.peers;
+      };
     }
 
 pub returns-then-not-came : goal.returns-then-not-came
@@ -66,9 +68,6 @@ returns-then-not-came g c =
             c.args.bytes.now b x at (λ d whole. c.block_of.ensures.one d b whole c.in-Some.ensures.some)
             (λ pair. absurd (let f = c.if-not-came.ensures.was.1 pair in cc)),
       );
-      torrent = refl;
-      log = refl;
-      peers = ap (λ (ps : List Peer). map (λ (p : Peer). p.key) ps) (set_id old.peers.items c.args.index here);
-      len = refl;
-      tied = tied_still old c.args.index c.came.new.self c.requires.tied here c.if-not-came.ensures.kept;
+      rest = record { torrent = refl; log = refl; tied = tied_still old c.args.index c.came.new.self c.requires.tied here c.if-not-came.ensures.kept };
+      keys = record { keys = ap (λ (ps : List Peer). map (λ (p : Peer). p.key) ps) (set_id old.peers.items c.args.index here); len = refl };
     }

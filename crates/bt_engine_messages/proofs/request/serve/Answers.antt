@@ -19,6 +19,9 @@ pub read_slot-requires-clause-marked : goal.read_slot-requires-clause-marked
 read_slot-requires-clause-marked g c =
     rw (c.deref_mut.ensures.value, c.deref.ensures.value) (can_read c.args.parts.now c.args.span c.requires.looked.tied c.requires.short c.requires.looked.are)
 
+pub index_mut-peer-requires : goal.index_mut-peer-requires
+index_mut-peer-requires g c = c.requires.looked.inside
+
 pub follow_block-requires : goal.follow_block-requires
 follow_block-requires g c =
     let old = c.args.parts.now in
@@ -30,7 +33,7 @@ pub returns-in-Ok : goal.returns-in-Ok
 returns-in-Ok g c =
     let old = c.args.parts.now in
     let p = c.index_mut-peer.result.now in
-    let there = get_read old.peers.items c.args.index p c.requires.there c.index_mut-peer.ensures.value in
+    let there = get_read old.peers.items c.args.index p c.requires.looked.there c.index_mut-peer.ensures.value in
     let was = c.requires.looked in
     let look : IsLookedAt old c.args.index c.args.ask c.args.span = record was {
       peer = p;
@@ -41,11 +44,11 @@ returns-in-Ok g c =
     let r = sends_of old.slots old.trees c.in-Ok.ensures.right c.deref_mut.ensures.value c.deref.ensures.value (c.read_slot.auto.slots ∙ c.deref_mut.ensures.len) in
     record {
       takes = takes_sent look next c.in-Ok.bytes c.saturating_add-peer.result r (omega (arith, c.saturating_add-peer.ensures));
-      torrent = refl;
-      log = refl;
-      peers = map_set (λ (p : Peer). p.key) old.peers.items c.args.index (record p { payload = c.saturating_add-peer.result }) there refl;
-      len = refl;
-      tied = tied_sent look next c.in-Ok.bytes c.saturating_add-peer.result r;
+      rest = record { torrent = refl; log = refl; tied = tied_sent look next c.in-Ok.bytes c.saturating_add-peer.result r };
+      keys = record {
+        keys = map_set (λ (p : Peer). p.key) old.peers.items c.args.index (record p { payload = c.saturating_add-peer.result }) there refl;
+        len = refl;
+      };
     }
 
 pub returns-in-Err-Damaged : goal.returns-in-Err-Damaged
@@ -58,11 +61,15 @@ returns-in-Err-Damaged g c =
     let new = c.follow_block.new.parts in
     record {
       takes = takes_damaged look next r new f.others f.asked;
-      torrent = ap (λ (p : Parts _ _). p.torrent) f.others;
-      log = ap (λ (p : Parts _ _). p.log) f.others;
-      peers = ap (λ (p : Parts _ _). map (λ (q : Peer). q.key) p.peers.items) f.others;
-      len = ap (λ (p : Parts _ _). p.peers.len) f.others;
-      tied = tied_new (damage_changes look next r) new f.others f.asked f.peers f.followed;
+      rest = record {
+        torrent = ap (λ (p : Parts _ _). p.torrent) f.others;
+        log = ap (λ (p : Parts _ _). p.log) f.others;
+        tied = tied_new (damage_changes look next r) new f.others f.asked f.peers f.followed;
+      };
+      keys = record {
+        keys = ap (λ (p : Parts _ _). map (λ (q : Peer). q.key) p.peers.items) f.others;
+        len = ap (λ (p : Parts _ _). p.peers.len) f.others;
+      };
     }
 
 pub returns-in-Err-Device : goal.returns-in-Err-Device
@@ -72,9 +79,6 @@ returns-in-Err-Device g c =
     let r = stops_of old.slots old.trees (rw c.in-Err-Device.field-0-is at c.in-Err-Device.ensures.wrong) c.deref_mut.ensures.value c.deref.ensures.value (c.read_slot.auto.slots ∙ c.deref_mut.ensures.len) in
     record {
       takes = takes_device c.requires.looked next r;
-      torrent = refl;
-      log = refl;
-      peers = refl;
-      len = refl;
-      tied = tied_device c.requires.looked next r;
+      rest = record { torrent = refl; log = refl; tied = tied_device c.requires.looked next r };
+      keys = record { keys = refl; len = refl };
     }

@@ -11,7 +11,7 @@ pub take_proofs-requires : goal.take_proofs-requires
 take_proofs-requires g c =
     let parts = c.args.parts.now in
     let made = subst (λ (ns : List ℕ). AreTreesOf g.H.NodeHash.digest parts.torrent ns c.in_ok-trees.trees.items) c.deref.ensures.value c.in_ok-trees.ensures in
-    record { apart = subst (λ (ks : List Facts). AllPairs (λ j k. j.root ≢ k.root) ks) (sym c.deref_mut.ensures.value) (made_apart c.requires.tied c.requires.shaped made) }
+    record { apart = subst (λ (ks : List Facts). AllPairs (λ j k. j.root ≢ k.root) ks) (sym c.deref_mut.ensures.value) (made_apart c.requires.sound.tied c.requires.sound.shaped made) }
 
 pub returns-clause-trees : goal.returns-clause-trees
 returns-clause-trees g c =

@@ -7,23 +7,23 @@ returns-in-Err-clause-step g c =
     let d = g.D.Disk in
     steps_unread d.conduct g.H.NodeHash.digest c.args.parts.now c.in-Err.ensures
 
-pub made_from_log-requires-clause-tied : goal.made_from_log-requires-clause-tied
-made_from_log-requires-clause-tied g c = tied_with_log c.args.parts.now c.read_again.new.log c.requires.tied
+pub made_from_log-requires-clause-sound : goal.made_from_log-requires-clause-sound
+made_from_log-requires-clause-sound g c = record {
+  tied = tied_with_log c.args.parts.now c.read_again.new.log c.requires.sound.tied;
+  shaped = shaped_with_log c.args.parts.now c.read_again.new.log c.requires.sound.shaped;
+}
 
-pub made_from_log-requires-clause-shaped : goal.made_from_log-requires-clause-shaped
-made_from_log-requires-clause-shaped g c = shaped_with_log c.args.parts.now c.read_again.new.log c.requires.shaped
-
-pub begin_with_log-requires-clause-tied : goal.begin_with_log-requires-clause-tied
-begin_with_log-requires-clause-tied g c = tied_with_log c.args.parts.now c.read_again.new.log c.requires.tied
-
-pub begin_with_log-requires-clause-shaped : goal.begin_with_log-requires-clause-shaped
-begin_with_log-requires-clause-shaped g c = shaped_with_log c.args.parts.now c.read_again.new.log c.requires.shaped
+pub begin_with_log-requires-clause-sound : goal.begin_with_log-requires-clause-sound
+begin_with_log-requires-clause-sound g c = record {
+  tied = tied_with_log c.args.parts.now c.read_again.new.log c.requires.sound.tied;
+  shaped = shaped_with_log c.args.parts.now c.read_again.new.log c.requires.sound.shaped;
+}
 
 pub returns-in-Ok-clause-step : goal.returns-in-Ok-clause-step
 returns-in-Ok-clause-step g c =
     let d = g.D.Disk in
     steps_begun d.conduct g.H.NodeHash.digest c.args.parts.now c.in_default.ensures c.begin_with_log.ensures.begun c.begin_with_log.ensures.devices
-    c.begin_with_log.ensures.log c.recover_files.ensures.recovers c.recover_files.ensures.places c.recover_files.ensures.log
+    c.begin_with_log.ensures.rest.log c.recover_files.ensures.recovers c.recover_files.ensures.places c.recover_files.ensures.log
 
 pub returns-in-Err-made_from_log-clause-step : goal.returns-in-Err-made_from_log-clause-step
 returns-in-Err-made_from_log-clause-step g c =
@@ -31,4 +31,4 @@ returns-in-Err-made_from_log-clause-step g c =
     steps_refused d.conduct g.H.NodeHash.digest c.args.parts.now c.in_default.ensures
 
 pub returns-in-Err-made_from_log-clause-tied : goal.returns-in-Err-made_from_log-clause-tied
-returns-in-Err-made_from_log-clause-tied g c = tied_with_log c.args.parts.now c.read_again.new.log c.requires.tied
+returns-in-Err-made_from_log-clause-tied g c = tied_with_log c.args.parts.now c.read_again.new.log c.requires.sound.tied

@@ -30,8 +30,8 @@ returns-clause-joined g c =
           c.join.ensures.others asked);
     }
 
-pub returns-clause-tied : goal.returns-clause-tied
-returns-clause-tied g c =
+pub returns-clause-rest : goal.returns-clause-rest
+returns-clause-rest g c =
     let old = c.args.parts.now in
     let key : PeerKey = record { 0 = old.last_key + 1 } in
     let tied = c.requires.tied in
@@ -43,5 +43,10 @@ returns-clause-tied g c =
     let peers = rw pushed at c.push.ensures.items in
     let is = c.new_peer.ensures ∙ ap (peer_with key) c.requires.none in
     let items = peers ∙ ap (λ (p : Peer). old.peers.items ++ p ∷ []) is in
-    tied_joined old key tied orderly refl (record old { peers = c.push.new.self; book = c.join.new.self; last_key = old.last_key + 1 }) items
-    refl refl refl refl refl refl book (omega (arith, tied.room, c.push.ensures.capacity))
+    record {
+      devices = refl;
+      torrent = refl;
+      log = refl;
+      tied = tied_joined old key tied orderly refl (record old { peers = c.push.new.self; book = c.join.new.self; last_key = old.last_key + 1 }) items
+          refl refl refl refl refl refl book (omega (arith, tied.room, c.push.ensures.capacity));
+    }

@@ -38,11 +38,16 @@ returns-in-Err-OutOfMemory-clause-step g c =
     ∙ ap (λ (s : Stream). with_peer (state_of old) c.in-Some.index (record (peer_of old.book p) { stream = s })) c.in-Err-OutOfMemory.ensures.kept
     ∙ ap (λ (ps : List PeerState). record (state_of old) { peers = ps }) (set_id (state_of old).peers c.in-Some.index here))
 
-pub returns-in-Err-OutOfMemory-clause-tied : goal.returns-in-Err-OutOfMemory-clause-tied
-returns-in-Err-OutOfMemory-clause-tied g c =
+pub returns-in-Err-OutOfMemory-clause-rest : goal.returns-in-Err-OutOfMemory-clause-rest
+returns-in-Err-OutOfMemory-clause-rest g c =
     let p = c.index_mut-peer.result.now in
     let at = found_at p c.in-Some.ensures.some c.index_mut-peer.ensures.value in
-    tied_set c.args.parts.now c.in-Some.index (record p { cutter = c.feed_buffer.new.self }) c.requires.tied at.0 refl
+    record {
+      devices = refl;
+      torrent = refl;
+      log = refl;
+      tied = tied_set c.args.parts.now c.in-Some.index (record p { cutter = c.feed_buffer.new.self }) c.requires.tied at.0 refl;
+    }
 
 pub returns-in-Ok-clause-step : goal.returns-in-Ok-clause-step
 returns-in-Ok-clause-step g c =
@@ -54,8 +59,13 @@ returns-in-Ok-clause-step g c =
     (state_set old c.in-Some.index (record p { cutter = c.feed_buffer.new.self }) c.requires.tied at.0 refl
     ∙ ap (λ (s : Stream). with_peer (state_of old) c.in-Some.index (record (peer_of old.book p) { stream = s })) c.in-Ok.ensures.fed)
 
-pub returns-in-Ok-clause-tied : goal.returns-in-Ok-clause-tied
-returns-in-Ok-clause-tied g c =
+pub returns-in-Ok-clause-rest : goal.returns-in-Ok-clause-rest
+returns-in-Ok-clause-rest g c =
     let p = c.index_mut-peer.result.now in
     let at = found_at p c.in-Some.ensures.some c.index_mut-peer.ensures.value in
-    tied_set c.args.parts.now c.in-Some.index (record p { cutter = c.feed_buffer.new.self }) c.requires.tied at.0 refl
+    record {
+      devices = refl;
+      torrent = refl;
+      log = refl;
+      tied = tied_set c.args.parts.now c.in-Some.index (record p { cutter = c.feed_buffer.new.self }) c.requires.tied at.0 refl;
+    }

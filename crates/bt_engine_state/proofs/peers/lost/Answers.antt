@@ -26,13 +26,18 @@ returns-clause-step g c =
     ∙ peers_removed old.book c.lost.new.self old.peers.items c.in-Some.index c.requires.in_order at.here
     (λ k apart. c.lost.ensures.others k (λ same. apart (same ∙ sym (ap (λ k. k.0) at.same_key))))))
 
-pub returns-clause-tied : goal.returns-clause-tied
-returns-clause-tied g c =
+pub returns-clause-rest : goal.returns-clause-rest
+returns-clause-rest g c =
     let old = c.args.parts.now in
     let at = c.in-Some.ensures.some in
-    tied_again old _ c.requires refl refl refl refl refl refl (ap (λ (b : BookState). b.wanted) c.lost.ensures.now)
-    (ap (λ (ps : List Peer). map (λ p. p.key) ps) c.remove.ensures.items
-    ∙ keys_left old.peers.items old.book.peers c.args.key c.in-Some.index c.requires.joined at.here at.same_key (c.keeps_laws.ensures.once c.args.key)
-    ∙ ap (λ (b : BookState). map (λ r. r.peer) b.peers) (sym c.lost.ensures.now))
-    (rw c.remove.ensures.items (all_pairs_remove (λ (p q : Peer). p.key.0 < q.key.0) old.peers.items c.in-Some.index (some_below _ _ at.here) c.requires.in_order))
-    (rw c.remove.ensures.capacity c.requires.room)
+    record {
+      devices = refl;
+      torrent = refl;
+      log = refl;
+      tied = tied_again old _ c.requires refl refl refl refl refl refl (ap (λ (b : BookState). b.wanted) c.lost.ensures.now)
+          (ap (λ (ps : List Peer). map (λ p. p.key) ps) c.remove.ensures.items
+          ∙ keys_left old.peers.items old.book.peers c.args.key c.in-Some.index c.requires.joined at.here at.same_key (c.keeps_laws.ensures.once c.args.key)
+          ∙ ap (λ (b : BookState). map (λ r. r.peer) b.peers) (sym c.lost.ensures.now))
+          (rw c.remove.ensures.items (all_pairs_remove (λ (p q : Peer). p.key.0 < q.key.0) old.peers.items c.in-Some.index (some_below _ _ at.here) c.requires.in_order))
+          (rw c.remove.ensures.capacity c.requires.room);
+    }

@@ -11,15 +11,15 @@ invariant_of-self g c =
     let step = c.adopt.ensures.step in
     kept_after g.D.Disk.conduct g.H.NodeHash.digest c.self.inside.parts c.adopt.new.parts (Adopt c.args.file) (Adopted c.adopt.result)
     laws.shaped laws.orderly laws.sparse laws.rooted laws.sound c.self.invariant (steps_with g.D.Disk.conduct g.H.NodeHash.digest c.self.inside.parts c.adopt.new.parts (Adopt c.args.file) (Adopted c.adopt.result)
-    step.0 (c.adopt.result, refl, refl, step.2) step.1 c.adopt.ensures.log)
-    c.adopt.ensures.torrent c.adopt.ensures.tied
+    step.0 (c.adopt.result, refl, refl, step.2) step.1 c.adopt.ensures.rest.log)
+    c.adopt.ensures.rest.torrent c.adopt.ensures.rest.tied
 
 pub returns-clause-step : goal.returns-clause-step
 returns-clause-step g c = (let step = c.adopt.ensures.step in rw (← c.self.view_is) (steps_with g.D.Disk.conduct g.H.NodeHash.digest c.self.inside.parts c.adopt.new.parts (Adopt c.args.file) (Adopted c.adopt.result)
-    step.0 (c.adopt.result, refl, refl, step.2) step.1 c.adopt.ensures.log))
+    step.0 (c.adopt.result, refl, refl, step.2) step.1 c.adopt.ensures.rest.log))
 
 pub returns-clause-stands : goal.returns-clause-stands
 returns-clause-stands g c = rw (← c.self.view_is) (
     c.events_stand.ensures.steps (view_of c.self.inside.parts) (view_of c.adopt.new.parts) (Adopt c.args.file) (Adopted c.adopt.result) (λ e. absurd cc) c.self.invariant.sound
     (steps_with g.D.Disk.conduct g.H.NodeHash.digest c.self.inside.parts c.adopt.new.parts (Adopt c.args.file) (Adopted c.adopt.result)
-    c.adopt.ensures.step.0 (c.adopt.result, refl, refl, c.adopt.ensures.step.2) c.adopt.ensures.step.1 c.adopt.ensures.log))
+    c.adopt.ensures.step.0 (c.adopt.result, refl, refl, c.adopt.ensures.step.2) c.adopt.ensures.step.1 c.adopt.ensures.rest.log))

@@ -12,19 +12,19 @@ invariant_of-self g c =
     kept_after g.D.Disk.conduct g.H.NodeHash.digest c.self.inside.parts c.feed.new.parts (Feed c.args.peer c.args.bytes.now) (Fed c.feed.result)
     laws.shaped laws.orderly laws.sparse laws.rooted laws.sound c.self.invariant
     (steps_without g.D.Disk.conduct g.H.NodeHash.digest c.self.inside.parts c.feed.new.parts (Feed c.args.peer c.args.bytes.now) (Fed c.feed.result)
-    (c.feed.result, refl, refl, c.feed.ensures.step) c.feed.ensures.devices
-    (ap (λ (log : Option (OpenLog g.row.D.Denot)). option_map (λ opened. opened.log) log) c.feed.ensures.log))
-    c.feed.ensures.torrent c.feed.ensures.tied
+    (c.feed.result, refl, refl, c.feed.ensures.step) c.feed.ensures.rest.devices
+    (ap (λ (log : Option (OpenLog g.row.D.Denot)). option_map (λ opened. opened.log) log) c.feed.ensures.rest.log))
+    c.feed.ensures.rest.torrent c.feed.ensures.rest.tied
 
 pub returns-clause-step : goal.returns-clause-step
 returns-clause-step g c = rw (← c.self.view_is) (
     steps_without g.D.Disk.conduct g.H.NodeHash.digest c.self.inside.parts c.feed.new.parts (Feed c.args.peer c.args.bytes.now) (Fed c.feed.result)
-    (c.feed.result, refl, refl, c.feed.ensures.step) c.feed.ensures.devices
-    (ap (λ (log : Option (OpenLog g.row.D.Denot)). option_map (λ opened. opened.log) log) c.feed.ensures.log))
+    (c.feed.result, refl, refl, c.feed.ensures.step) c.feed.ensures.rest.devices
+    (ap (λ (log : Option (OpenLog g.row.D.Denot)). option_map (λ opened. opened.log) log) c.feed.ensures.rest.log))
 
 pub returns-clause-stands : goal.returns-clause-stands
 returns-clause-stands g c = rw (← c.self.view_is) (
     c.events_stand.ensures.steps (view_of c.self.inside.parts) (view_of c.feed.new.parts) (Feed c.args.peer c.args.bytes.now) (Fed c.feed.result) (λ e. absurd cc) c.self.invariant.sound
     (steps_without g.D.Disk.conduct g.H.NodeHash.digest c.self.inside.parts c.feed.new.parts (Feed c.args.peer c.args.bytes.now) (Fed c.feed.result)
-    (c.feed.result, refl, refl, c.feed.ensures.step) c.feed.ensures.devices
-    (ap (λ (log : Option (OpenLog g.row.D.Denot)). option_map (λ opened. opened.log) log) c.feed.ensures.log)))
+    (c.feed.result, refl, refl, c.feed.ensures.step) c.feed.ensures.rest.devices
+    (ap (λ (log : Option (OpenLog g.row.D.Denot)). option_map (λ opened. opened.log) log) c.feed.ensures.rest.log)))

@@ -12,19 +12,19 @@ invariant_of-self g c =
     kept_after g.D.Disk.conduct g.H.NodeHash.digest c.self.inside.parts c.feed_buffer.new.parts (Feed c.args.peer (take c.args.count c.args.buffer.now.items)) (Fed c.feed_buffer.result)
     laws.shaped laws.orderly laws.sparse laws.rooted laws.sound c.self.invariant
     (steps_without g.D.Disk.conduct g.H.NodeHash.digest c.self.inside.parts c.feed_buffer.new.parts (Feed c.args.peer (take c.args.count c.args.buffer.now.items)) (Fed c.feed_buffer.result)
-    (c.feed_buffer.result, refl, refl, c.feed_buffer.ensures.step) c.feed_buffer.ensures.devices
-    (ap (λ (log : Option (OpenLog g.row.D.Denot)). option_map (λ opened. opened.log) log) c.feed_buffer.ensures.log))
-    c.feed_buffer.ensures.torrent c.feed_buffer.ensures.tied
+    (c.feed_buffer.result, refl, refl, c.feed_buffer.ensures.step) c.feed_buffer.ensures.rest.devices
+    (ap (λ (log : Option (OpenLog g.row.D.Denot)). option_map (λ opened. opened.log) log) c.feed_buffer.ensures.rest.log))
+    c.feed_buffer.ensures.rest.torrent c.feed_buffer.ensures.rest.tied
 
 pub returns-clause-step : goal.returns-clause-step
 returns-clause-step g c = rw (← c.self.view_is) (
     steps_without g.D.Disk.conduct g.H.NodeHash.digest c.self.inside.parts c.feed_buffer.new.parts (Feed c.args.peer (take c.args.count c.args.buffer.now.items)) (Fed c.feed_buffer.result)
-    (c.feed_buffer.result, refl, refl, c.feed_buffer.ensures.step) c.feed_buffer.ensures.devices
-    (ap (λ (log : Option (OpenLog g.row.D.Denot)). option_map (λ opened. opened.log) log) c.feed_buffer.ensures.log))
+    (c.feed_buffer.result, refl, refl, c.feed_buffer.ensures.step) c.feed_buffer.ensures.rest.devices
+    (ap (λ (log : Option (OpenLog g.row.D.Denot)). option_map (λ opened. opened.log) log) c.feed_buffer.ensures.rest.log))
 
 pub returns-clause-stands : goal.returns-clause-stands
 returns-clause-stands g c = rw (← c.self.view_is) (
     c.events_stand.ensures.steps (view_of c.self.inside.parts) (view_of c.feed_buffer.new.parts) (Feed c.args.peer (take c.args.count c.args.buffer.now.items)) (Fed c.feed_buffer.result) (λ e. absurd cc) c.self.invariant.sound
     (steps_without g.D.Disk.conduct g.H.NodeHash.digest c.self.inside.parts c.feed_buffer.new.parts (Feed c.args.peer (take c.args.count c.args.buffer.now.items)) (Fed c.feed_buffer.result)
-    (c.feed_buffer.result, refl, refl, c.feed_buffer.ensures.step) c.feed_buffer.ensures.devices
-    (ap (λ (log : Option (OpenLog g.row.D.Denot)). option_map (λ opened. opened.log) log) c.feed_buffer.ensures.log)))
+    (c.feed_buffer.result, refl, refl, c.feed_buffer.ensures.step) c.feed_buffer.ensures.rest.devices
+    (ap (λ (log : Option (OpenLog g.row.D.Denot)). option_map (λ opened. opened.log) log) c.feed_buffer.ensures.rest.log)))
