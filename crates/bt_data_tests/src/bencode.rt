@@ -1,7 +1,7 @@
 //! Values and their spellings.
 
 use crate::bytes::push_text;
-use crate::words::Words;
+use crate::names::Words;
 use bt_bencode::{Value, field, parse, write};
 use std::alloc::{AllocError, Global};
 use std::fmt::Write;

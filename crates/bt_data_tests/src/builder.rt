@@ -1,7 +1,7 @@
 //! A builder of a root, call by call.
 
-use crate::bytes::push_hex;
-use crate::words::Words;
+use crate::names::Words;
+use bt_rows::push_hex;
 use bt_tree::{Geometry, Hash32, Plain, RootBuilder, Shape};
 use std::alloc::{AllocError, Global};
 use std::fmt::Write;
@@ -46,7 +46,7 @@ fn call_row(
 ) -> Result<(), AllocError> {
     match name {
         "push" => push_row(alloc, builder, words, out),
-        "finish" => push_root(out, &builder.finish()),
+        "finish" => push_root(alloc, out, &builder.finish()),
         _ => {
             words.are_wrong();
             Ok(())
@@ -68,9 +68,13 @@ fn push_row(
 }
 
 /// A root, or why there is none.
-pub fn push_root(out: &mut String, root: &Result<Hash32, Shape>) -> Result<(), AllocError> {
+pub fn push_root(
+    alloc: Global,
+    out: &mut String,
+    root: &Result<Hash32, Shape>,
+) -> Result<(), AllocError> {
     match root {
-        Ok(root) => push_hex(out, root),
+        Ok(root) => push_hex(alloc, out, root),
         Err(error) => write!(out, "{error}"),
     }
 }

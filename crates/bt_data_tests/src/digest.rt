@@ -1,8 +1,9 @@
 //! Digests, one by one and by eights, of `Plain` and then of `Lanes`.
 
-use crate::bytes::{push_digests, push_hex};
-use crate::words::Words;
+use crate::bytes::push_shown;
+use crate::names::Words;
 use bt_lanes::{Lanes, digest_many};
+use bt_rows::push_hex;
 use bt_tree::{Hash32, NodeHash, Plain, pad};
 use std::alloc::{AllocError, Global};
 
@@ -10,7 +11,7 @@ pub fn digest_row(alloc: Global, words: &mut Words, out: &mut String) -> Result<
     match words.word() {
         "one" => one_row(alloc, words, out),
         "pair" => pair_row(alloc, words, out),
-        "pad" => pad_row(words, out),
+        "pad" => pad_row(alloc, words, out),
         "blocks" => blocks_row(alloc, words, out),
         "pairs" => pairs_row(alloc, words, out),
         "many" => many_row(alloc, words, out),
@@ -22,29 +23,39 @@ pub fn digest_row(alloc: Global, words: &mut Words, out: &mut String) -> Result<
 }
 
 /// What `Plain` gives, and then what `Lanes` gives.
-fn push_both(out: &mut String, plain: &Hash32, lanes: &Hash32) -> Result<(), AllocError> {
-    push_hex(out, plain)?;
+fn push_both(
+    alloc: Global,
+    out: &mut String,
+    plain: &Hash32,
+    lanes: &Hash32,
+) -> Result<(), AllocError> {
+    push_hex(alloc, out, plain)?;
     out.push_str(" and ")?;
-    push_hex(out, lanes)
+    push_hex(alloc, out, lanes)
 }
 
 /// The digest of bytes.
 fn one_row(alloc: Global, words: &mut Words, out: &mut String) -> Result<(), AllocError> {
     let bytes = words.bytes(alloc)?;
-    push_both(out, &Plain.block(&bytes), &Lanes.block(&bytes))
+    push_both(alloc, out, &Plain.block(&bytes), &Lanes.block(&bytes))
 }
 
 /// The digest of two digests.
 fn pair_row(alloc: Global, words: &mut Words, out: &mut String) -> Result<(), AllocError> {
-    let left = words.digest(alloc)?;
-    let right = words.digest(alloc)?;
-    push_both(out, &Plain.pair(&left, &right), &Lanes.pair(&left, &right))
+    let left = words.array(alloc)?;
+    let right = words.array(alloc)?;
+    push_both(
+        alloc,
+        out,
+        &Plain.pair(&left, &right),
+        &Lanes.pair(&left, &right),
+    )
 }
 
 /// The digest of a node of padding.
-fn pad_row(words: &mut Words, out: &mut String) -> Result<(), AllocError> {
+fn pad_row(alloc: Global, words: &mut Words, out: &mut String) -> Result<(), AllocError> {
     let layer = words.number().min(255) as u8;
-    push_both(out, &pad(Plain, layer), &pad(Lanes, layer))
+    push_both(alloc, out, &pad(Plain, layer), &pad(Lanes, layer))
 }
 
 /// The digests of eight blocks that lie one after the other.
@@ -59,8 +70,7 @@ fn blocks_row(alloc: Global, words: &mut Words, out: &mut String) -> Result<(), 
 }
 
 fn push_eight(alloc: Global, out: &mut String, digests: &[Hash32]) -> Result<(), AllocError> {
-    let mut bytes = Vec::new(alloc);
-    push_digests(out, &mut bytes, digests)
+    push_shown(alloc, out, digests.as_flattened())
 }
 
 /// The digests of eight pairs of digests, of 64 bytes each.

@@ -1,9 +1,9 @@
 //! Torrents that are made.
 
 use crate::bytes::push_shown;
+use crate::names::Words;
 use crate::stage::Objects;
 use crate::torrent::take;
-use crate::words::Words;
 use bt_meta::{Made, Torrent, make, read_torrent};
 use bt_tree::Hash32;
 use std::alloc::{AllocError, Global};
@@ -35,7 +35,7 @@ fn files_row(
     let count = words.number();
     let path = words.bytes(alloc)?;
     let length = words.long();
-    let root = words.digest(alloc)?;
+    let root = words.array(alloc)?;
     let layer = words.bytes(alloc)?;
     let Ok(path) = str::from_utf8(&path) else {
         return out.push_str("no path");
@@ -126,7 +126,7 @@ fn read_back(
     text: &[u8],
     out: &mut String,
 ) -> Result<(), AllocError> {
-    push_shown(out, text)?;
+    push_shown(alloc, out, text)?;
     out.push_str(" is ")?;
-    take(torrent, read_torrent(alloc, text), out)
+    take(alloc, torrent, read_torrent(alloc, text), out)
 }

@@ -1,6 +1,10 @@
 //! Bytes that rows call by a name.
 
+use bt_rows::NotedWords;
 use std::alloc::{AllocError, Global};
+
+/// The words of a row, which spell bytes by names too.
+pub type Words<'a> = NotedWords<'a, Names>;
 
 /// Names, with the bytes of each.
 #[derive(Drop)]

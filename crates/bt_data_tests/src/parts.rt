@@ -1,31 +1,33 @@
 //! The bytes that a word spells.
 
 use crate::names::Names;
+use bt_rows::{Spelling, push_run, range_of};
 use std::alloc::{AllocError, Global};
 
-/// Adds the bytes that a word spells: parts that are joined by `+`; none, where it is `-`. False where it
-/// spells none.
-pub fn push_word(
+impl Spelling for Names {
+    /// Words are parts that are joined by `+`.
+    fn spelled(&self, alloc: Global, word: &str) -> Result<Option<Vec<u8>>, AllocError> {
+        let mut bytes = Vec::new(alloc);
+        if word == "-" || push_parts(alloc, self, &mut bytes, word)? {
+            return Ok(Some(bytes));
+        }
+        Ok(None)
+    }
+}
+
+/// Adds the bytes of all parts. False where one of them is none.
+fn push_parts(
     alloc: Global,
     names: &Names,
     bytes: &mut Vec<u8>,
     word: &str,
 ) -> Result<bool, AllocError> {
-    if word == "-" {
-        return Ok(true);
-    }
-    let mut rest = word;
-    for _ in 0..word.len() {
-        let (part, more) = rest.split_once('+').unwrap_or((rest, ""));
+    for part in word.split('+') {
         if !push_part(alloc, names, bytes, part)? {
             return Ok(false);
         }
-        if part.len() == rest.len() {
-            return Ok(true);
-        }
-        rest = more;
     }
-    Ok(false)
+    Ok(!word.is_empty())
 }
 
 /// Adds the bytes of a part, as often as it says.
@@ -55,16 +57,6 @@ fn push_often(
         Err(_) => return Ok(false),
     }
     Ok(is_part)
-}
-
-fn push_run(bytes: &mut Vec<u8>, run: &[u8], count: u32) -> Result<(), AllocError> {
-    if let [byte] = run {
-        return bytes.resize(bytes.len().saturating_add(count as usize), *byte);
-    }
-    for _ in 0..count {
-        bytes.extend_from_slice(run)?;
-    }
-    Ok(())
 }
 
 /// Adds the bytes of what its first letter says: bytes in base 16, a name, part of a file, or numbers; else
@@ -114,15 +106,6 @@ fn push_named(names: &Names, bytes: &mut Vec<u8>, name: &str) -> Result<bool, Al
             Ok(true)
         }
         None => Ok(false),
-    }
-}
-
-/// The numbers of `FROM..END`; none, where it is no range.
-fn range_of(text: &str) -> Option<(u32, u32)> {
-    let (from, end) = text.split_once("..")?;
-    match (from.parse::<u32>(), end.parse::<u32>()) {
-        (Ok(from), Ok(end)) => Some((from, end)),
-        _ => None,
     }
 }
 

@@ -1,7 +1,7 @@
 //! A check in parts: what a part has of a file, the lines by which it tells, and how runs are joined.
 
 use crate::bytes::push_text;
-use crate::words::Words;
+use crate::names::Words;
 use bt_parts::{Cut, MAX_TOTAL, Part, Run, join_runs, push_line, run_in, share_of};
 use std::alloc::{AllocError, Global};
 use std::fmt::Write;

@@ -4,16 +4,14 @@ use crate::bencode::bencode_row;
 use crate::builder::builder_row;
 use crate::digest::digest_row;
 use crate::make::make_row;
-use crate::names::Names;
-use crate::parts::push_word;
+use crate::names::{Names, Words};
 use crate::shares::part_row;
 use crate::torrent::{laws_row, texts_row, torrent_row};
 use crate::tree::tree_row;
-use crate::words::Words;
 use bt_meta::{Made, Torrent};
+use bt_rows::{Rows, Spelling, not_understood};
 use bt_tree::{Plain, RootBuilder};
 use std::alloc::{AllocError, Global};
-use std::fmt::Write;
 
 /// What the rows work on.
 #[derive(Drop)]
@@ -43,47 +41,26 @@ impl Stage {
             },
         }
     }
+}
 
-    /// Adds what a row answers. One that begins with `#` is told as it is, and what is no row says so.
-    pub fn answer(&mut self, alloc: Global, row: &str, out: &mut String) -> Result<(), AllocError> {
-        if row.is_empty() || row.starts_with('#') {
-            return out.push_str(row);
-        }
+impl Rows for Stage {
+    fn answer(&mut self, alloc: Global, row: &str) -> Result<String, AllocError> {
         match row.strip_prefix("let ") {
-            Some(rest) => let_row(alloc, &mut self.names, rest, out),
-            None => call_row(alloc, &self.names, &mut self.objects, row, out),
+            Some(rest) => let_row(alloc, &mut self.names, row, rest),
+            None => call_row(alloc, &self.names, &mut self.objects, row),
         }
     }
 }
 
 /// Gives bytes a name.
-fn let_row(
-    alloc: Global,
-    names: &mut Names,
-    row: &str,
-    out: &mut String,
-) -> Result<(), AllocError> {
-    let (name, word) = row.split_once(' ').unwrap_or((row, ""));
-    match bytes_of(alloc, names, word)? {
-        Some(bytes) => {
-            push_count(out, bytes.len())?;
-            names.add(alloc, name, bytes)
-        }
-        None => write!(out, "not understood: let {row}"),
-    }
-}
-
-fn push_count(out: &mut String, count: usize) -> Result<(), AllocError> {
-    write!(out, "{count} bytes")
-}
-
-/// The bytes that a word spells. None where it spells none.
-fn bytes_of(alloc: Global, names: &Names, word: &str) -> Result<Option<Vec<u8>>, AllocError> {
-    let mut bytes = Vec::new(alloc);
-    if push_word(alloc, names, &mut bytes, word)? {
-        return Ok(Some(bytes));
-    }
-    Ok(None)
+fn let_row(alloc: Global, names: &mut Names, row: &str, words: &str) -> Result<String, AllocError> {
+    let (name, word) = words.split_once(' ').unwrap_or((words, ""));
+    let Some(bytes) = names.spelled(alloc, word)? else {
+        return not_understood(alloc, row);
+    };
+    let count = bytes.len();
+    names.add(alloc, name, bytes)?;
+    format!(in alloc; "{count} bytes")
 }
 
 fn call_row(
@@ -91,15 +68,14 @@ fn call_row(
     names: &Names,
     objects: &mut Objects,
     row: &str,
-    out: &mut String,
-) -> Result<(), AllocError> {
+) -> Result<String, AllocError> {
+    let mut out = String::new(alloc);
     let mut words = Words::new(names, row);
-    named_row(alloc, objects, &mut words, out)?;
-    if !words.are_read() {
-        out.clear();
-        return write!(out, "not understood: {row}");
+    named_row(alloc, objects, &mut words, &mut out)?;
+    if words.are_read() {
+        return Ok(out);
     }
-    Ok(())
+    not_understood(alloc, row)
 }
 
 fn named_row(

@@ -1,13 +1,14 @@
 //! Torrents that are read, and what lies where in them.
 
-use crate::bytes::{push_hex, push_shown, push_text};
-use crate::words::Words;
+use crate::bytes::{push_shown, push_text};
+use crate::names::Words;
 use bt_bencode::{BencodeError, first_fault_is_one, spellings_are_prefix_free};
 use bt_meta::{
     FileEntry, FilePath, MakeError, MetaError, Torrent, block_ranges_are_places,
     blocks_and_ranges_agree, layers_are_of_trees, read_info, read_torrent,
 };
 use bt_parts::{lines_are_read_back, shares_are_whole, sums_are_whole};
+use bt_rows::push_hex;
 use bt_tree::LayerError;
 use std::alloc::{AllocError, Global};
 use std::fmt::Write;
@@ -21,11 +22,11 @@ pub fn torrent_row(
     match words.word() {
         "read" => {
             let text = words.bytes(alloc)?;
-            take(torrent, read_torrent(alloc, &text), out)
+            take(alloc, torrent, read_torrent(alloc, &text), out)
         }
         "info" => {
             let text = words.bytes(alloc)?;
-            take(torrent, read_info(alloc, &text), out)
+            take(alloc, torrent, read_info(alloc, &text), out)
         }
         "prefixes" => prefixes_row(alloc, words, out),
         name => place_row(torrent, name, words, out),
@@ -34,13 +35,14 @@ pub fn torrent_row(
 
 /// Tells of a torrent, and keeps it; or why there is none.
 pub fn take(
+    alloc: Global,
     place: &mut Option<Torrent>,
     read: Result<Torrent, MetaError>,
     out: &mut String,
 ) -> Result<(), AllocError> {
     match read {
         Ok(torrent) => {
-            push_torrent(out, &torrent)?;
+            push_torrent(alloc, out, &torrent)?;
             *place = Some(torrent);
             Ok(())
         }
@@ -49,7 +51,7 @@ pub fn take(
 }
 
 /// Its name, its pieces and its infohash, and each file.
-fn push_torrent(out: &mut String, torrent: &Torrent) -> Result<(), AllocError> {
+fn push_torrent(alloc: Global, out: &mut String, torrent: &Torrent) -> Result<(), AllocError> {
     push_text(out, torrent.name())?;
     write!(
         out,
@@ -57,21 +59,21 @@ fn push_torrent(out: &mut String, torrent: &Torrent) -> Result<(), AllocError> {
         torrent.pieces(),
         torrent.piece_length()
     )?;
-    push_hex(out, &torrent.infohash())?;
+    push_hex(alloc, out, &torrent.infohash())?;
     for file in torrent.files() {
-        push_file(out, file)?;
+        push_file(alloc, out, file)?;
     }
     Ok(())
 }
 
 /// Its path, its length, its root, its first piece and its layer.
-fn push_file(out: &mut String, file: &FileEntry) -> Result<(), AllocError> {
+fn push_file(alloc: Global, out: &mut String, file: &FileEntry) -> Result<(), AllocError> {
     out.push_str("; ")?;
     push_path(out, &file.path)?;
     write!(out, " {} bytes of ", file.length)?;
-    push_hex(out, &file.root)?;
+    push_hex(alloc, out, &file.root)?;
     write!(out, " from piece {}, layer ", file.first_piece)?;
-    push_shown(out, &file.layer)
+    push_shown(alloc, out, &file.layer)
 }
 
 fn push_path(out: &mut String, path: &FilePath) -> Result<(), AllocError> {

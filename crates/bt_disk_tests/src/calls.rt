@@ -1,9 +1,9 @@
 //! The five calls of a device. They are made in functions without a contract, so that no proof here carries a
 //! clause of theirs.
 
-use crate::bytes::tell_bytes;
-use crate::words::{RowError, Words, tell, tell_whether};
+use crate::bytes::{tell_bytes, tell_whether};
 use bt_disk::{DeviceFault, Disk};
+use bt_rows::{RowError, Words, tell};
 use std::alloc::Global;
 use std::fmt::Write;
 

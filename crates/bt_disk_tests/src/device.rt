@@ -2,13 +2,13 @@
 ghost use Rattle.std.specs.Prelude.{◌<◌, ◌-◌, ◌^◌};
 ghost use Rattle.std.specs.Bool.{OnTrue};
 
-use crate::bytes::tell_bytes;
+use crate::bytes::{tell_bytes, tell_whether};
 use crate::calls::call_row;
 use crate::shop::Shop;
 use crate::system::{System, SystemFile};
-use crate::words::{RowError, Words, tell, tell_whether};
 use bt_devices::{Seal, SealedDisk};
 use bt_disk::{FaultDisk, FileDisk, Loss, MemoryDisk, Opening, PooledDisk};
+use bt_rows::{RowError, Words, put, tell};
 use std::alloc::Global;
 use std::fmt::Write;
 use std::fs::File;
@@ -24,12 +24,6 @@ pub enum Device<'a> {
     Pooled(PooledDisk<HostRuntime>),
     SystemFile(FileDisk<SystemFile<'a>>),
     SystemPooled(PooledDisk<System<'a>>),
-}
-
-/// Puts a value in the place of another. Only here is one dropped that was there, so that no other proof has to
-/// do with it.
-pub fn put<T: Drop>(place: &mut T, value: T) {
-    *place = value;
 }
 
 /// A new device, or a call of the one that is there.

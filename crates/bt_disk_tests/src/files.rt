@@ -1,8 +1,8 @@
 //! Files of the system that rows make, and what the system itself says of them.
 
-use crate::bytes::tell_bytes;
+use crate::bytes::{tell_bytes, tell_whether};
 use crate::shop::{Shop, is_opened};
-use crate::words::{RowError, Words, tell, tell_whether};
+use bt_rows::{RowError, Words, tell};
 use std::alloc::{AllocError, Global};
 use std::fs::{self, Permissions};
 use std::io::{self, PipeReader, PipeWriter};

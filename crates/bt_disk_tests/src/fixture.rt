@@ -3,8 +3,8 @@
 ghost use Rattle.std.specs.Prelude.{◌≡◌};
 ghost use Rattle.std.specs.Bool.{OnTrue};
 
-use crate::words::RowError;
 use bt_disk::{FaultDisk, MemoryDisk};
+use bt_rows::RowError;
 use bt_sparse::{AnswerError, Claim, SparseTree};
 use bt_store::{Adopted, BlockState, FileStore, Put, ReadError, Rechecked, Settled, StoreError};
 use bt_tree::{BLOCK_LEN, Hash32, NodeHash};

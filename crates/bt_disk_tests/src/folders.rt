@@ -1,9 +1,10 @@
 //! What `bt_folder` does with folders, and with files that have several names.
 
+use crate::bytes::tell_whether;
 use crate::shop::Shop;
-use crate::words::{RowError, Words, tell, tell_whether};
 use bt_disk::{FileDisk, FileIdentity, Opening};
 use bt_folder::{CasePaths, FolderNames, KnownFiles, ListingError, make_folders, sync_folder};
+use bt_rows::{RowError, Words, tell};
 use std::alloc::{AllocError, Global};
 use std::fs;
 

@@ -1,9 +1,9 @@
 //! Hints as words.
 
 use crate::bytes::tell_bytes;
-use crate::words::{RowError, Words, tell};
 use bt_hashreq::HashKey;
 use bt_resume::{Hint, Hints, LentHint};
+use bt_rows::{RowError, Words, tell};
 use bt_sparse::Digests;
 use bt_tree::Hash32;
 use std::alloc::Global;

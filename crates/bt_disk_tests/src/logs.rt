@@ -1,12 +1,12 @@
 //! Logs of hints, on devices in memory.
 
 use crate::calls::tell_done;
-use crate::device::{Device, put, taken};
+use crate::device::{Device, taken};
 use crate::hints::{proof_from, run_from, tell_count, tell_hints};
 use crate::unreadable::Unreadable;
-use crate::words::{RowError, Words, tell};
 use bt_disk::{DeviceFault, Disk, FaultDisk, MemoryDisk};
 use bt_resume::{AppendError, Hint, Hints, LogError, Refused, ResumeLog};
+use bt_rows::{RowError, Words, put, tell};
 use bt_tree::Hash32;
 use std::alloc::Global;
 use std::fmt::Write;

@@ -2,8 +2,8 @@
 ghost use Rattle.std.specs.Prelude.{◌<◌};
 
 use crate::shop::Shop;
-use crate::words::{RowError, Words, tell};
 use bt_disk::{DeviceFault, Disk, HandlePool, PooledDisk};
+use bt_rows::{RowError, Words, tell};
 use std::alloc::AllocError;
 
 /// As many files of the folder as the row says, each with a byte of its own at the place of its number, in a

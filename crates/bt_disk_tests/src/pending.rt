@@ -1,11 +1,12 @@
 //! Hints that wait to be written to a log.
 
+use crate::bytes::tell_whether;
 use crate::hints::{proof_from, run_from};
 use crate::logs::Log;
-use crate::words::{RowError, Words, tell, tell_whether};
 use bt_disk::Disk;
 use bt_engine_pending::{FlushError, Pending};
 use bt_resume::{Hint, ResumeLog};
+use bt_rows::{RowError, Words, tell};
 use std::alloc::{AllocError, Global};
 use std::fmt::Write;
 

@@ -2,15 +2,15 @@
 //! of the files.
 ghost use Rattle.std.specs.Prelude.{◌<◌};
 
-use crate::device::{Device, put};
+use crate::device::Device;
 use crate::files::{disk_row, path_of};
 use crate::folders::folder_row;
 use crate::many::many_row;
 use crate::system::{Counts, System, manner_of};
-use crate::words::{RowError, Words, tell};
 use bt_devices::Seal;
 use bt_disk::{DeviceFault, FileDisk, HandlePool, PooledDisk};
 use bt_folder::{CaseNames, KnownFiles};
+use bt_rows::{RowError, Words, put, tell};
 use std::alloc::{AllocError, Global};
 use std::fs::Files;
 

@@ -1,14 +1,14 @@
 //! What the rows so far have made, and the first word of a row.
 
-use crate::device::{Device, device_row, put};
+use crate::device::{Device, device_row};
 use crate::logs::{Log, log_row};
 use crate::pending::pending_row;
 use crate::shop::{Shop, shop_row};
 use crate::store::{Store, store_row};
 use crate::system::Counts;
-use crate::words::{RowError, Words};
 use bt_devices::Seal;
 use bt_engine_pending::Pending;
+use bt_rows::{RowError, Rows, Words, put, whole_answer};
 use std::alloc::{AllocError, Global};
 
 /// What the rows work on: three devices, a store and a log, which take the first of them, and the hints that wait
@@ -34,17 +34,6 @@ impl<'a> Stage<'a> {
             log: Log::Empty,
             pending: Pending::new(rt.alloc()),
             shop: Shop::new(rt, counts, seal, top),
-        }
-    }
-
-    /// What a row answers. One that begins with `#` is told as it is.
-    pub fn answer(&mut self, alloc: Global, row: &str) -> Result<String, AllocError> {
-        if row.is_empty() || row.starts_with('#') {
-            return String::from_str(alloc, row);
-        }
-        match row.strip_prefix("times ") {
-            Some(rest) => self.times(alloc, rest),
-            None => self.once(alloc, row),
         }
     }
 
@@ -83,13 +72,15 @@ impl<'a> Stage<'a> {
 
     /// What a row answers; what is no row says so.
     fn once(&mut self, alloc: Global, row: &str) -> Result<String, AllocError> {
-        let mut out = String::new(alloc);
         let mut words = Words::new(row);
-        match self.row(&mut words, &mut out) {
-            Ok(()) if words.is_at_end() => Ok(out),
-            Ok(()) | Err(RowError::Unread) => format!(in alloc; "not understood: {row}"),
-            Err(RowError::Memory(error)) => Err(error),
-        }
+        let answer = self.row_answer(alloc, &mut words);
+        whole_answer(alloc, row, &words, answer)
+    }
+
+    fn row_answer(&mut self, alloc: Global, words: &mut Words) -> Result<String, RowError> {
+        let mut out = String::new(alloc);
+        self.row(words, &mut out)?;
+        Ok(out)
     }
 
     fn row(&mut self, words: &mut Words, out: &mut String) -> Result<(), RowError> {
@@ -138,5 +129,14 @@ impl<'a> Stage<'a> {
         put(&mut self.second, Device::Empty);
         put(&mut self.third, Device::Empty);
         self.shop.system_row(words, out)
+    }
+}
+
+impl Rows for Stage<'_> {
+    fn answer(&mut self, alloc: Global, row: &str) -> Result<String, AllocError> {
+        match row.strip_prefix("times ") {
+            Some(rest) => self.times(alloc, rest),
+            None => self.once(alloc, row),
+        }
     }
 }

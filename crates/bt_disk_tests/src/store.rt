@@ -1,11 +1,11 @@
 //! Stores of blocks.
 
-use crate::bytes::tell_bytes;
+use crate::bytes::{tell_bytes, tell_whether};
 use crate::calls::tell_done;
-use crate::device::{Device, put, taken_faulty};
+use crate::device::{Device, taken_faulty};
 use crate::fixture::{Fixture, make_fixture};
-use crate::words::{RowError, Words, tell, tell_whether};
 use bt_lanes::Lanes;
+use bt_rows::{RowError, Words, put, tell};
 use bt_sparse::{Claim, Digests, SparseTree};
 use bt_store::{Adopted, BlockState, Put, ReadError, Rechecked, Settled, StoreError};
 use bt_tree::{BLOCK_LEN, Geometry, Hash32, NodeHash, Plain};

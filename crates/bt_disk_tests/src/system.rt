@@ -1,6 +1,6 @@
 //! A system that stands in for the host's, of which calls may fail or do a part of what they are asked for.
 
-use crate::words::RowError;
+use bt_rows::RowError;
 use std::alloc::Allocator;
 use std::cell::Cell;
 use std::fmt::Write;

@@ -1,5 +1,6 @@
 -- The parts of a check as processes.
-use Rattle.std.specs.Prelude.{◌≡◌, ◌≢◌, ℕ, ◌⊎◌, ◌++◌, ◌∷◌, List, Bool, ℤ, pos, Option, Some, IfSome, codes}
+use Rattle.std.specs.Prelude.{◌≡◌, ◌≢◌, ℕ, ◌⊎◌, ◌++◌, [], ◌∷◌, List, Bool, if◌then◌else◌, ℤ, pos, Option, Some, IfSome, codes}
+use Rattle.std.specs.Fmt.{decimal}
 use Rattle.std.specs.Process.{child_status, exit_code}
 use Rattle.std.specs.declared.process.child.Child.{Child}
 use Rattle.std.specs.declared.process.status.ExitStatus.{ExitStatus}

@@ -1,8 +1,8 @@
 //! Events of an engine that no peer brings, each by its row, and how far its files are.
 
 use crate::stage::TestEngine;
-use crate::words::{RowError, Words, tell};
 use bt_machine::{AdoptError, FileReport};
+use bt_rows::{RowError, Words, tell};
 use bt_store::Adopted;
 use std::fmt::Write;
 

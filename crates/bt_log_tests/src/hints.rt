@@ -1,11 +1,11 @@
 //! The hints that a log's device has.
 
-use crate::bytes::{tell_bytes, tell_hex};
+use crate::bytes::tell_bytes;
 use crate::device::TestDisk;
-use crate::words::{RowError, tell};
 use bt_disk::MemoryDisk;
 use bt_hashreq::HashKey;
 use bt_resume::{Hints, LentHint, LogError, ResumeLog};
+use bt_rows::{RowError, push_hex, tell};
 use bt_tree::Hash32;
 use std::alloc::{AllocError, Global};
 use std::fmt::Write;
@@ -56,7 +56,7 @@ fn tell_proof(
     digests: &[Hash32],
 ) -> Result<(), RowError> {
     tell(out, "\nproof ")?;
-    tell_hex(alloc, out, &key.root)?;
+    push_hex(alloc, out, &key.root)?;
     tell_numbers(out, key)?;
     tell_bytes(alloc, out, digests.as_flattened())
 }

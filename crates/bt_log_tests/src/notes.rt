@@ -1,8 +1,8 @@
 //! What came of a peer's event, in words.
 
-use crate::words::{RowError, tell};
 use bt_book::BlockId;
 use bt_machine::{Note, Output, Why};
+use bt_rows::{RowError, tell};
 use std::fmt::Write;
 
 /// What was noted, or why the peer is closed. What is sent is not told.

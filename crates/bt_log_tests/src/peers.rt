@@ -2,10 +2,11 @@
 
 use crate::notes::tell_output;
 use crate::stage::TestEngine;
-use crate::words::{RowError, Words, tell};
 use bt_book::PeerKey;
+use bt_hashreq::HashKey;
 use bt_machine::{EngineError, Frame};
 use bt_meta::Torrent;
+use bt_rows::{RowError, Words, tell};
 use bt_tree::BLOCK_LEN;
 use bt_wire::{Bytes, Handshake, Message, fits, write_handshake, write_message};
 use std::alloc::{AllocError, Global};
@@ -112,6 +113,27 @@ fn tell_request(out: &mut String, frame: &Frame) -> Result<(), RowError> {
     }
 }
 
+/// The key of a peer.
+fn peer_from(words: &mut Words) -> Result<PeerKey, RowError> {
+    Ok(PeerKey(words.long()?))
+}
+
+/// The key of the next words: root, base, index, length and layers.
+fn key_from(alloc: Global, words: &mut Words) -> Result<HashKey, RowError> {
+    let root = words.digest(alloc)?;
+    let base = words.number()?;
+    let index = words.number()?;
+    let length = words.number()?;
+    let layers = words.number()?;
+    Ok(HashKey {
+        root,
+        base,
+        index,
+        length,
+        layers,
+    })
+}
+
 /// Hashes come from a peer: its key, that of the hashes, and the digests' bytes.
 pub fn hashes_row(
     alloc: Global,
@@ -119,8 +141,8 @@ pub fn hashes_row(
     words: &mut Words,
     out: &mut String,
 ) -> Result<(), RowError> {
-    let peer = words.peer()?;
-    let key = words.key(alloc)?;
+    let peer = peer_from(words)?;
+    let key = key_from(alloc, words)?;
     let digests = words.bytes(alloc)?;
     let bytes = message_bytes(alloc, &Message::Hashes(key, Bytes::new(digests)))?;
     take_in(engine, peer, &bytes, out)
@@ -133,7 +155,7 @@ pub fn piece_row(
     words: &mut Words,
     out: &mut String,
 ) -> Result<(), RowError> {
-    let peer = words.peer()?;
+    let peer = peer_from(words)?;
     let piece = words.number()?;
     let begin = words.number()?;
     let bytes = Bytes::new(words.bytes(alloc)?);
@@ -188,7 +210,7 @@ pub fn lost_row(
     words: &mut Words,
     out: &mut String,
 ) -> Result<(), RowError> {
-    match engine.lost(words.peer()?) {
+    match engine.lost(peer_from(words)?) {
         Ok(()) => tell(out, "done"),
         Err(cause) => Ok(write!(out, "refused {cause}")?),
     }

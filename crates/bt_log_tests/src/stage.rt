@@ -7,12 +7,12 @@ use crate::fill::fill;
 use crate::hints::{tell_log, tell_refusal};
 use crate::peers::{connect_row, hashes_row, lost_row, piece_row};
 use crate::stops::{Stopped, stop_row, tell_not_reopened};
-use crate::words::{RowError, Words, tell};
 use bt_engine::{Engine, ReopenRefused, reopen};
 use bt_lanes::Lanes;
 use bt_machine::{StartError, StartRefused};
 use bt_meta::{MetaError, Torrent, read_info, read_torrent};
 use bt_resume::{LogError, Refused, ResumeLog};
+use bt_rows::{RowError, Rows, Words, put, tell, whole_answer};
 use bt_tree::Hash32;
 use std::alloc::{AllocError, Global};
 use std::fmt::Write;
@@ -65,12 +65,6 @@ pub struct Stage {
     engine: Option<TestEngine>,
 }
 
-/// Puts a value in the place of another. Only here is one dropped that was there, so that no other proof has to
-/// do with it.
-fn put<T: Drop>(place: &mut T, value: T) {
-    *place = value;
-}
-
 impl Stage {
     pub fn new(alloc: Global) -> Self {
         Stage {
@@ -88,18 +82,10 @@ impl Stage {
         }
     }
 
-    /// What a row answers. One that begins with `#` is told as it is.
-    pub fn answer(&mut self, alloc: Global, row: &str) -> Result<String, AllocError> {
-        if row.is_empty() || row.starts_with('#') {
-            return String::from_str(alloc, row);
-        }
-        let mut out = String::new(alloc);
-        let mut words = Words::new(row);
-        match self.row(&mut words, &mut out) {
-            Ok(()) if words.is_at_end() => Ok(out),
-            Ok(()) | Err(RowError::Unread) => format!(in alloc; "not understood: {row}"),
-            Err(RowError::Memory(error)) => Err(error),
-        }
+    fn row_answer(&mut self, words: &mut Words) -> Result<String, RowError> {
+        let mut out = String::new(self.alloc);
+        self.row(words, &mut out)?;
+        Ok(out)
     }
 
     fn row(&mut self, words: &mut Words, out: &mut String) -> Result<(), RowError> {
@@ -318,6 +304,14 @@ impl Stage {
             "report" => report_row(engine, words, out),
             _ => Err(RowError::Unread),
         }
+    }
+}
+
+impl Rows for Stage {
+    fn answer(&mut self, alloc: Global, row: &str) -> Result<String, AllocError> {
+        let mut words = Words::new(row);
+        let answer = self.row_answer(&mut words);
+        whole_answer(alloc, row, &words, answer)
     }
 }
 

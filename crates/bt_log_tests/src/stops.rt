@@ -4,11 +4,11 @@ use crate::device::TestDisk;
 use crate::hints::tell_refusal;
 use crate::peers::tell_asked;
 use crate::stage::{Source, TestEngine};
-use crate::words::{RowError, tell};
 use bt_disk::Loss;
 use bt_engine::{ReopenError, reopen};
 use bt_lanes::Lanes;
 use bt_machine::StartError;
+use bt_rows::{RowError, tell};
 use std::alloc::{AllocError, Global};
 use std::fmt::Write;
 

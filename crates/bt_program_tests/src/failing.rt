@@ -1,10 +1,10 @@
 //! Runs of the program over stand-ins, which fail or give little.
 
-use crate::bytes::bytes_of;
 use crate::device::{Device, Failing};
 use crate::streams::{Lost, NEVER, Slow};
 use bt_commands::run;
 use bt_progress::Unwatched;
+use bt_rows::bytes_of;
 use std::io::{self, ErrorKind, Read, Write};
 
 /// The words for the calls that fail.

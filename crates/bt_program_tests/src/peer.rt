@@ -1,6 +1,6 @@
 //! A peer that says what a row has it say.
 
-use crate::bytes::bytes_of;
+use bt_rows::bytes_of;
 use std::alloc::Global;
 use std::io;
 use std::io::{ErrorKind, Read, Write};

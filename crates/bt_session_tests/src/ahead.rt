@@ -1,10 +1,10 @@
 //! Blocks that are read ahead, of what a peer sends and of a device.
 
 use crate::bytes::tell_given;
-use crate::words::{RowError, Words, tell_answer};
 use bt_connection::{AheadRoom, ReadAhead};
 use bt_devices::{DigestCache, ReadAheadDisk};
 use bt_disk::{Disk, FaultDisk, MemoryDisk};
+use bt_rows::{RowError, Words, whole_answer};
 use bt_tree::BLOCK_LEN;
 use std::alloc::{AllocError, Global};
 use std::cell::RefCell;
@@ -18,7 +18,8 @@ const MOST_READ: usize = 0x1_0000;
 pub fn ahead_row(alloc: Global, row: &str, out: &mut String) -> Result<(), AllocError> {
     let mut words = Words::new(row);
     let answer = answer_of(alloc, &mut words);
-    tell_answer(answer, words.is_at_end(), row, out)
+    let answer = whole_answer(alloc, row, &words, answer)?;
+    writeln!(out, "{answer}")
 }
 
 fn answer_of(alloc: Global, words: &mut Words) -> Result<String, RowError> {

@@ -1,11 +1,11 @@
 //! What events answer, in words.
 
-use crate::bytes::tell_hex;
 use bt_book::{BlockId, PeerKey};
 use bt_machine::{
     AdoptError, Answer, ConnectError, EngineError, FlushError, Frame, Note, Output, RestartError,
     Why,
 };
+use bt_rows::push_hex;
 use bt_store::Adopted;
 use bt_wire::{Message, fits, write_message};
 use std::alloc::{AllocError, Global};
@@ -134,7 +134,7 @@ fn tell_message(alloc: Global, out: &mut String, message: &Message) -> Result<()
         return out.push_str("what does not fit");
     }
     let bytes = write_message(alloc, message)?;
-    tell_hex(alloc, out, &bytes)
+    push_hex(alloc, out, &bytes)
 }
 
 fn tell_closed(out: &mut String, why: &Why) -> Result<(), AllocError> {

@@ -2,8 +2,8 @@
 ghost use Rattle.std.specs.Prelude.{◌<◌, ◌-◌, ◌^◌};
 ghost use Rattle.std.specs.Bool.{OnTrue};
 
-use crate::bytes::bytes_of;
 use crate::engine::{TestDisk, memory_disk};
+use bt_rows::bytes_of;
 use std::alloc::{AllocError, Global};
 
 /// What the device of a file is to be.

@@ -1,11 +1,11 @@
 //! An engine on devices in memory, over eight lanes.
 
-use crate::bytes::bytes_of;
 use bt_disk::{FaultDisk, MemoryDisk};
 use bt_engine::{Engine, StartError};
 use bt_lanes::Lanes;
 use bt_machine::FileReport;
 use bt_meta::{Torrent, read_torrent};
+use bt_rows::bytes_of;
 use std::alloc::{AllocError, Global};
 use std::fmt::Write;
 

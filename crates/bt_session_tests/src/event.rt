@@ -1,8 +1,8 @@
 //! The events, each by its line.
 
-use crate::bytes::bytes_of;
 use bt_engine::PeerKey;
 use bt_machine::Event;
+use bt_rows::bytes_of;
 use bt_wire::Bytes;
 use std::alloc::{AllocError, Global};
 

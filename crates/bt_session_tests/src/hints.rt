@@ -2,19 +2,21 @@
 ghost use Rattle.std.specs.Prelude.{◌≢◌, IfOk};
 ghost use Rattle.std.specs.List.{AllPairs};
 
-use crate::words::{RowError, Words, tell_answer};
 use bt_disk::MemoryDisk;
 use bt_engine_recall::take_proofs;
 use bt_resume::ResumeLog;
+use bt_rows::{RowError, Words, whole_answer};
 use bt_sparse::SparseTree;
-use bt_tree::{Geometry, Hash32, Plain};
+use bt_tree::Plain;
 use std::alloc::{AllocError, Global};
+use std::fmt::Write;
 
 /// Adds what a row answers. What is no row says so.
 pub fn hints_row(alloc: Global, row: &str, out: &mut String) -> Result<(), AllocError> {
     let mut words = Words::new(row);
     let answer = answer_of(alloc, &mut words);
-    tell_answer(answer, words.is_at_end(), row, out)
+    let answer = whole_answer(alloc, row, &words, answer)?;
+    writeln!(out, "{answer}")
 }
 
 /// Two trees take the proofs of a log of these bytes.
@@ -60,19 +62,9 @@ fn both(
 
 /// The tree of a file of so many bytes, of which the root alone is known.
 fn tree_from(alloc: Global, words: &mut Words) -> Result<SparseTree<Plain>, RowError> {
-    let Some(geometry) = Geometry::new(u64::from(words.number()?)) else {
-        return Err(RowError::Unread);
-    };
-    let root = root_from(alloc, words)?;
+    let geometry = words.geometry()?;
+    let root = words.digest(alloc)?;
     Ok(SparseTree::new(alloc, Plain, geometry, root)?)
-}
-
-fn root_from(alloc: Global, words: &mut Words) -> Result<Hash32, RowError> {
-    let bytes = words.bytes(alloc)?;
-    match bytes.as_chunks::<32>() {
-        ([root], []) => Ok(*root),
-        _ => Err(RowError::Unread),
-    }
 }
 
 /// Tells of each tree which leaves it knows once it has taken the log's proofs.

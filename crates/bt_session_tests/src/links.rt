@@ -1,9 +1,9 @@
 //! Peers that are tried in turn.
 ghost use Rattle.std.specs.Prelude.{◌≡◌, ◌≤◌, IfSome};
 
-use crate::bytes::bytes_of;
 use crate::engine::TestEngine;
 use bt_machine::FlushError;
+use bt_rows::bytes_of;
 use bt_session::{Link, PeerEnd, SessionEnd, end_text, run_peers, run_peers_with_flushes};
 use std::alloc::{AllocError, Global};
 use std::fmt::Write;

@@ -6,6 +6,7 @@ use crate::event::{byte_events, event_of};
 use crate::run::Run;
 use bt_machine::Event;
 use bt_meta::{FileEntry, Torrent};
+use bt_rows::put;
 use std::alloc::{AllocError, Global};
 use std::fmt::Write;
 use std::mem;
@@ -81,7 +82,7 @@ impl Lists {
         word: &str,
         out: &mut String,
     ) -> Result<(), AllocError> {
-        self.put(Lists::Empty);
+        put(self, Lists::Empty);
         match torrent_of(alloc, word, out)? {
             Some(torrent) => self.put_torrent(alloc, torrent),
             None => Ok(()),
@@ -90,13 +91,8 @@ impl Lists {
 
     fn put_torrent(&mut self, alloc: Global, torrent: Torrent) -> Result<(), AllocError> {
         let devices = new_devices(alloc, &torrent)?;
-        self.put(Lists::Beginning(Beginning { torrent, devices }));
+        put(self, Lists::Beginning(Beginning { torrent, devices }));
         Ok(())
-    }
-
-    /// Only here is dropped what was there.
-    fn put(&mut self, lists: Lists) {
-        *self = lists;
     }
 
     fn set_device(
@@ -133,7 +129,7 @@ impl Lists {
             Lists::Beginning(beginning) => started(alloc, beginning)?,
             lists => lists,
         };
-        self.put(lists);
+        put(self, lists);
         Ok(())
     }
 }

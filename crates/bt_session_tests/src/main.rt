@@ -26,7 +26,6 @@ mod sockets;
 mod stage;
 mod talk;
 mod talks;
-mod words;
 
 use stage::Stage;
 use std::alloc::{AllocError, Global};

@@ -4,7 +4,7 @@ ghost use Rattle.std.specs.Prelude.{[], ◌≡◌};
 use crate::engine::TestEngine;
 use crate::scene::{Act, Scene, SceneNet};
 use crate::sessions::tell_end;
-use crate::words::{RowError, Words, tell_answer};
+use bt_rows::{RowError, Words, whole_answer};
 use bt_session::{Link, PeerEnd, end_text, meet_peer};
 use bt_sockets::{IDLE_SECONDS, Passage, SESSION_TURNS, TcpLink, listen, serve};
 use std::alloc::{AllocError, Global};
@@ -35,7 +35,8 @@ pub fn play_row(
 ) -> Result<(), AllocError> {
     let mut words = Words::new(row);
     let answer = answer_of(alloc, passage, engine, &mut words);
-    tell_answer(answer, words.is_at_end(), row, out)
+    let answer = whole_answer(alloc, row, &words, answer)?;
+    writeln!(out, "{answer}")
 }
 
 fn answer_of(

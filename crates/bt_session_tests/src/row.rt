@@ -1,7 +1,7 @@
 //! The row of a session.
 
-use crate::bytes::bytes_of;
 use crate::partner::Reading;
+use bt_rows::bytes_of;
 use std::alloc::{AllocError, Global};
 
 /// What a row says of a session.

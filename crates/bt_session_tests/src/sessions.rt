@@ -1,6 +1,5 @@
 //! Sessions, and the engine that they run on.
 
-use crate::bytes::{bytes_of, tell_digest, tell_hex};
 use crate::device::with_fault;
 use crate::engine::{TestDisk, TestEngine, memory_disk, start, tell_reports, torrent_of};
 use crate::flushes::{flushing_peers_row, flushing_row};
@@ -9,6 +8,7 @@ use crate::partner::{TestReader, TestWriter};
 use crate::row::{Row, row_of};
 use bt_machine::{ConnectError, Why};
 use bt_meta::Torrent;
+use bt_rows::{bytes_of, push_digest, push_hex, put};
 use bt_session::{SessionEnd, run_session};
 use std::alloc::{AllocError, Global};
 use std::fmt::Write;
@@ -36,18 +36,13 @@ impl Sessions {
         out: &mut String,
     ) -> Result<(), AllocError> {
         if name == "torrent" {
-            self.put(None);
+            put(&mut self.engine, None);
             return self.begin(alloc, rest, out);
         }
         match &mut self.engine {
             Some(engine) => engine_row(alloc, engine, name, rest, out),
             None => out.push_str("no engine\n"),
         }
-    }
-
-    /// Only here is dropped what was there.
-    fn put(&mut self, engine: Option<TestEngine>) {
-        self.engine = engine;
     }
 
     /// Starts the engine of a torrent, on the devices that these words say.
@@ -81,7 +76,7 @@ impl Sessions {
     ) -> Result<(), AllocError> {
         match start(alloc, torrent, disks) {
             Ok(engine) => {
-                self.put(Some(engine));
+                put(&mut self.engine, Some(engine));
                 Ok(())
             }
             Err(cause) => writeln!(out, "refused {cause}"),
@@ -267,10 +262,10 @@ fn tell_why(out: &mut String, why: &Why) -> Result<(), AllocError> {
 fn tell_written(alloc: Global, out: &mut String, bytes: &[u8]) -> Result<(), AllocError> {
     write!(out, "{} bytes ", bytes.len())?;
     if bytes.len() <= MOST_SHOWN {
-        tell_hex(alloc, out, bytes)?;
+        push_hex(alloc, out, bytes)?;
     } else {
         out.push_str("of ")?;
-        tell_digest(alloc, out, bytes)?;
+        push_digest(alloc, out, bytes)?;
     }
     out.push_str("\n")
 }

@@ -6,6 +6,7 @@ use crate::lists::Lists;
 use crate::sessions::Sessions;
 use crate::sockets::socket_row;
 use crate::talks::Talks;
+use bt_rows::is_comment;
 use std::alloc::{AllocError, Global};
 use std::fmt::Write;
 
@@ -34,7 +35,7 @@ impl<'a> Stage<'a> {
             return self.lists.answer(alloc, event, out);
         }
         self.finish(alloc, out)?;
-        if row.is_empty() || row.starts_with('#') {
+        if is_comment(row) {
             return writeln!(out, "{row}");
         }
         self.other_row(alloc, row, out)

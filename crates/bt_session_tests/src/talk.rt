@@ -2,9 +2,9 @@
 
 use crate::bytes::tell_given;
 use crate::ends::{Queue, Sink, Source};
-use crate::words::{RowError, Words};
 use bt_connection::{FrameRoom, Padded, Padding, ShortBlocks, Side};
 use bt_meta::Torrent;
+use bt_rows::{RowError, Words};
 use std::alloc::{AllocError, Global};
 use std::cell::RefCell;
 use std::collections::VecDeque;

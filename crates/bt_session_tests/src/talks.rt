@@ -1,9 +1,10 @@
 //! Conversations, and the torrent that they are of.
 
 use crate::talk::talk_row;
-use crate::words::{RowError, Words, tell_answer};
 use bt_meta::{Torrent, read_info};
+use bt_rows::{RowError, Words, whole_answer};
 use std::alloc::{AllocError, Global};
+use std::fmt::Write;
 
 /// What the rows so far have made.
 #[derive(Drop)]
@@ -20,7 +21,8 @@ impl Talks {
     pub fn answer(&mut self, alloc: Global, row: &str, out: &mut String) -> Result<(), AllocError> {
         let mut words = Words::new(row);
         let answer = self.row(alloc, &mut words);
-        tell_answer(answer, words.is_at_end(), row, out)
+        let answer = whole_answer(alloc, row, &words, answer)?;
+        writeln!(out, "{answer}")
     }
 
     fn row(&mut self, alloc: Global, words: &mut Words) -> Result<String, RowError> {

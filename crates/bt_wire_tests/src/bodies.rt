@@ -1,8 +1,9 @@
 //! The pages and the ordered map run the same claims, and are to answer alike.
 
+use crate::bytes::Words;
 use crate::map_body::{MapTree, map_accept, map_known, new_map_tree};
 use crate::tree::{accept, claim_from, known, push_outcome};
-use crate::words::Words;
+use bt_rows::put;
 use bt_sparse::{Claim, SparseTree};
 use bt_tree::{Geometry, Hash32, Plain};
 use std::alloc::{AllocError, Global};
@@ -40,15 +41,10 @@ fn new_row(
     let geometry = Geometry::new(words.long());
     let root = words.array(alloc)?;
     match geometry {
-        Some(geometry) => put(bodies, new_bodies(alloc, geometry, &root)?),
+        Some(geometry) => put(bodies, Some(new_bodies(alloc, geometry, &root)?)),
         None => words.are_wrong(),
     }
     out.push_str("two trees")
-}
-
-/// Only here is dropped what was there.
-fn put(place: &mut Option<Bodies>, bodies: Bodies) {
-    *place = Some(bodies);
 }
 
 fn new_bodies(alloc: Global, geometry: Geometry, root: &Hash32) -> Result<Bodies, AllocError> {

@@ -1,8 +1,7 @@
 //! Calls of a book of requests.
 
-use crate::bytes::push_yes_or_no;
+use crate::bytes::{Words, push_yes_or_no};
 use crate::held::{ask, ask_all, ask_next, held_from, wants};
-use crate::words::Words;
 use bt_book::{BlockId, Book, PeerKey};
 use std::alloc::{AllocError, Global};
 use std::fmt::Write;

@@ -1,7 +1,7 @@
 //! Streams, whole and in parts.
 
+use crate::bytes::Words;
 use crate::message::push_event;
-use crate::words::Words;
 use bt_wire::{Cutter, WireError, WireEvent};
 use std::alloc::{AllocError, Global};
 use std::fmt::Write;

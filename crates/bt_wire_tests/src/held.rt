@@ -1,7 +1,7 @@
 //! Which blocks a peer has.
 
 use crate::book::Requests;
-use crate::words::Words;
+use crate::bytes::Words;
 use arrayvec::ArrayVec;
 use bt_book::{BlockId, MAX_REQUESTS, PeerKey};
 

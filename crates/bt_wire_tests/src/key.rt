@@ -1,8 +1,8 @@
 //! Keys of hash messages, and what is claimed with them.
 
-use crate::bytes::{push_digests, push_each, push_hex, push_shown};
-use crate::words::Words;
+use crate::bytes::{Words, push_digests, push_each, push_shown};
 use bt_hashreq::{HashKey, read_key, to_claim, write_key};
+use bt_rows::push_hex;
 use bt_sparse::Claim;
 use std::alloc::{AllocError, Global};
 use std::fmt::Write;

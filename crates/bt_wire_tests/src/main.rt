@@ -14,28 +14,11 @@ mod random;
 mod serve;
 mod stage;
 mod tree;
-mod words;
 
+use bt_rows::print_answers;
 use stage::Stage;
 use std::io;
 
 fn main(rt: HostRuntime) -> io::Result<()> {
-    let mut stage = Stage::new(rt.alloc())?;
-    let printed = print_lines(&rt, &mut stage);
-    drop(stage);
-    printed
-}
-
-fn print_lines(rt: &HostRuntime, stage: &mut Stage) -> io::Result<()> {
-    for line in rt.lines(rt.alloc()) {
-        let line = line?;
-        print_line(rt, stage, line.as_str())?;
-    }
-    Ok(())
-}
-
-fn print_line(rt: &HostRuntime, stage: &mut Stage, row: &str) -> io::Result<()> {
-    let mut out = String::new(rt.alloc());
-    stage.answer(rt.alloc(), row, &mut out)?;
-    println!(rt; "{out}")
+    print_answers(&rt, Stage::new(rt.alloc())?)
 }

@@ -1,9 +1,9 @@
 //! Handshakes and messages, in words and from words.
 
-use crate::bytes::{push_digests, push_each, push_hex, push_shown};
+use crate::bytes::{Words, push_digests, push_each, push_shown};
 use crate::key::{key_from, push_key};
-use crate::words::Words;
 use bt_hashreq::HashKey;
+use bt_rows::push_hex;
 use bt_sparse::{Digests, ProofError};
 use bt_wire::{
     Ask, Bytes, Handshake, Message, WireError, WireEvent, fits, write_handshake, write_message,

@@ -1,8 +1,8 @@
 //! Random calls of a book.
 
 use crate::book::{Requests, came, join, push_all, push_askers};
+use crate::bytes::Words;
 use crate::held::{Held, ask, ask_all, ask_next, wants};
-use crate::words::Words;
 use bt_book::{BlockId, PeerKey};
 use std::alloc::AllocError;
 use std::fmt::Write;

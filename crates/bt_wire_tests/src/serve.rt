@@ -3,7 +3,7 @@ ghost use Rattle.std.specs.Prelude.{◌≢◌, All};
 ghost use Rattle.std.specs.Bool.{OnTrue};
 ghost use Rattle.bt_book.specs.Choking.{HaveOwnKeys};
 
-use crate::words::Words;
+use crate::bytes::Words;
 use bt_book::{PeerKey, Standing, choose};
 use std::alloc::{AllocError, Global};
 use std::fmt::Write;

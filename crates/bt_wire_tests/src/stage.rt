@@ -2,16 +2,16 @@
 
 use crate::bodies::{Bodies, bodies_row};
 use crate::book::{Requests, book_row};
+use crate::bytes::Words;
 use crate::cutter::{Stream, cuts_row, cutter_row, new_stream, stream_row};
 use crate::key::key_row;
 use crate::message::{hello_row, list_row, texts_row, write_row};
 use crate::random::{Mix, Random, random_row};
 use crate::serve::serve_row;
 use crate::tree::{Tree, tree_row};
-use crate::words::Words;
 use bt_book::Book;
+use bt_rows::{Hexadecimal, Rows, not_understood};
 use std::alloc::{AllocError, Global};
-use std::fmt::Write;
 
 /// What the rows work on.
 #[derive(Drop)]
@@ -33,20 +33,6 @@ impl Stage {
             tree: Tree::Empty,
             bodies: None,
         })
-    }
-
-    /// Adds what a row answers. One that begins with `#` is told as it is, and what is no row says so.
-    pub fn answer(&mut self, alloc: Global, row: &str, out: &mut String) -> Result<(), AllocError> {
-        if row.is_empty() || row.starts_with('#') {
-            return out.push_str(row);
-        }
-        let mut words = Words::new(row);
-        self.row(alloc, &mut words, out)?;
-        if words.are_read() {
-            return Ok(());
-        }
-        out.clear();
-        write!(out, "not understood: {row}")
     }
 
     fn row(
@@ -75,5 +61,17 @@ impl Stage {
                 Ok(())
             }
         }
+    }
+}
+
+impl Rows for Stage {
+    fn answer(&mut self, alloc: Global, row: &str) -> Result<String, AllocError> {
+        let mut out = String::new(alloc);
+        let mut words = Words::new(&Hexadecimal, row);
+        self.row(alloc, &mut words, &mut out)?;
+        if words.are_read() {
+            return Ok(out);
+        }
+        not_understood(alloc, row)
     }
 }

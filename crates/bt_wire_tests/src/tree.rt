@@ -1,10 +1,10 @@
 //! Trees of which some nodes are known. They are called through functions without a contract, so that no
 //! proof here carries a clause of theirs.
 
-use crate::bytes::{push_digests, push_hex, push_shown};
+use crate::bytes::{Words, push_digests, push_shown};
 use crate::key::{key_from, push_key};
-use crate::words::Words;
 use bt_hashreq::{HashKey, plan, to_claim};
+use bt_rows::{push_hex, put};
 use bt_sparse::{AnswerError, Claim, Digests, ProofError, SparseTree};
 use bt_tree::{Geometry, Hash32, LayerError, NodeHash, Plain, Weak};
 use std::alloc::{AllocError, Global};
@@ -31,11 +31,6 @@ pub fn tree_row(
         "layer" => layer_row(alloc, tree, words, out),
         name => any_tree_row(alloc, tree, name, words, out),
     }
-}
-
-/// Only here is dropped what was there.
-fn put(place: &mut Tree, tree: Tree) {
-    *place = tree;
 }
 
 fn plain_row(

@@ -1,4 +1,4 @@
-use Rattle.std.proofs.Common.{◌≡◌, ◌∷◌, ◌++◌, codes, decimal, ap, ◌∙◌}
+use Rattle.std.proofs.Common.{◌≡◌, ◌∷◌, ◌++◌, [], codes, decimal, ap, ◌∙◌}
 use Rattle.bt_jobs.specs.Children.{info_words}
 use Rattle.bt_jobs.proofs.Words.{words_joined}
 use Rattle.bt_jobs.proofs.children.part_command.Goals as goal

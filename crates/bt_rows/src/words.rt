@@ -1,16 +1,18 @@
 //! The words of a row.
 
-use crate::bytes::bytes_of;
-use bt_book::PeerKey;
-use bt_hashreq::HashKey;
-use bt_tree::Hash32;
+use crate::bytes::{Hexadecimal, Spelling};
+use bt_tree::{Geometry, Hash32};
 use std::alloc::{AllocError, AllocFailed, Global};
+use std::io;
 
 /// Why a row has no answer.
 #[derive(Drop)]
 pub enum RowError {
     /// It is no row, or a word of it is not what stands there.
     Unread,
+    /// A read or a write failed.
+    Failed,
+    /// There is no memory for it.
     Memory(AllocError),
 }
 
@@ -26,17 +28,25 @@ impl<T: Drop> From<AllocFailed<T>> for RowError {
     }
 }
 
+impl From<io::Error> for RowError {
+    fn from(_error: io::Error) -> Self {
+        RowError::Failed
+    }
+}
+
 /// The words of a row that are not read yet.
-#[derive(Drop)]
+#[derive(Clone, Copy)]
 pub struct Words<'a> {
     rest: &'a str,
 }
 
 impl<'a> Words<'a> {
+    /// All words of a row.
     pub fn new(row: &'a str) -> Self {
         Words { rest: row }
     }
 
+    /// Whether none is left.
     pub fn is_at_end(&self) -> bool {
         self.rest.is_empty()
     }
@@ -48,52 +58,46 @@ impl<'a> Words<'a> {
         word
     }
 
+    /// The number that the next word is.
     pub fn number(&mut self) -> Result<u32, RowError> {
         self.word().parse::<u32>().or(Err(RowError::Unread))
     }
 
+    /// The same of a longer number.
     pub fn long(&mut self) -> Result<u64, RowError> {
         self.word().parse::<u64>().or(Err(RowError::Unread))
     }
 
-    /// The key of a peer.
-    pub fn peer(&mut self) -> Result<PeerKey, RowError> {
-        Ok(PeerKey(self.long()?))
+    /// The shape of a file of so many bytes.
+    pub fn geometry(&mut self) -> Result<Geometry, RowError> {
+        Geometry::new(self.long()?).ok_or(RowError::Unread)
     }
 
     /// The bytes that the next word spells.
     pub fn bytes(&mut self, alloc: Global) -> Result<Vec<u8>, RowError> {
-        bytes_of(alloc, self.word())
+        let word = self.word();
+        match Hexadecimal.spelled(alloc, word)? {
+            Some(bytes) => Ok(bytes),
+            None => Err(RowError::Unread),
+        }
     }
 
+    /// The digest that the next word spells.
     pub fn digest(&mut self, alloc: Global) -> Result<Hash32, RowError> {
         let bytes = self.bytes(alloc)?;
-        if bytes.len() != 32 {
+        match bytes.as_chunks::<32>() {
+            ([digest], []) => Ok(*digest),
+            _ => Err(RowError::Unread),
+        }
+    }
+
+    /// Digests, one after the other.
+    pub fn digests(&mut self, alloc: Global) -> Result<Vec<Hash32>, RowError> {
+        let bytes = self.bytes(alloc)?;
+        let (digests, rest) = bytes.as_chunks::<32>();
+        if !rest.is_empty() {
             return Err(RowError::Unread);
         }
-        let mut digest = [0; 32];
-        digest.copy_from_slice(&bytes);
-        Ok(digest)
+        Ok(Vec::from_slice(alloc, digests)?)
     }
-
-    /// The key of the next words: root, base, index, length and layers.
-    pub fn key(&mut self, alloc: Global) -> Result<HashKey, RowError> {
-        let root = self.digest(alloc)?;
-        let base = self.number()?;
-        let index = self.number()?;
-        let length = self.number()?;
-        let layers = self.number()?;
-        Ok(HashKey {
-            root,
-            base,
-            index,
-            length,
-            layers,
-        })
-    }
-}
-
-/// Answers in the driver's own words.
-pub fn tell(out: &mut String, text: &str) -> Result<(), RowError> {
-    Ok(out.push_str(text)?)
 }

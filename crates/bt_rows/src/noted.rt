@@ -1,39 +1,42 @@
-//! The words of a row.
+//! The words of a row in a program that goes on where one is wrong, and notes it. So the functions of its
+//! rows have fewer ways out, which makes their proofs cheaper.
 
-use crate::bytes::push_word;
+use crate::bytes::Spelling;
+use crate::words::Words;
 use bt_tree::Hash32;
 use std::alloc::{AllocError, Global};
 
-/// The words of a row that are not read yet.
+/// The words of a row that are not read yet, and whether one was not what stands there.
 #[derive(Drop)]
-pub struct Words<'a> {
-    rest: &'a str,
-    /// Whether a word was not what stands there.
+pub struct NotedWords<'a, S> {
+    words: Words<'a>,
+    spelling: &'a S,
     wrong: bool,
 }
 
-impl<'a> Words<'a> {
-    pub fn new(row: &'a str) -> Self {
-        Words {
-            rest: row,
+impl<'a, S: Spelling> NotedWords<'a, S> {
+    /// All words of a row, which spell bytes so.
+    pub fn new(spelling: &'a S, row: &'a str) -> Self {
+        NotedWords {
+            words: Words::new(row),
+            spelling,
             wrong: false,
         }
     }
 
+    /// Whether none is left.
     pub fn is_at_end(&self) -> bool {
-        self.rest.is_empty()
+        self.words.is_at_end()
     }
 
     /// Whether each word was read, and none is left.
     pub fn are_read(&self) -> bool {
-        self.rest.is_empty() && !self.wrong
+        self.words.is_at_end() && !self.wrong
     }
 
     /// The next word; an empty one at the end.
     pub fn word(&mut self) -> &'a str {
-        let (word, rest) = self.rest.split_once(' ').unwrap_or((self.rest, ""));
-        self.rest = rest;
-        word
+        self.words.word()
     }
 
     /// Notes that the word read last is not what stands there.
@@ -41,48 +44,40 @@ impl<'a> Words<'a> {
         self.wrong = true;
     }
 
-    /// The number that the next word is; 0 where it is none.
-    pub fn number(&mut self) -> u32 {
-        match self.word().parse::<u32>() {
-            Ok(number) => number,
-            Err(_) => {
+    /// What was read; where nothing was, the other value, and the word is wrong.
+    fn noted<T: Drop>(&mut self, read: Option<T>, other: T) -> T {
+        match read {
+            Some(value) => value,
+            None => {
                 self.wrong = true;
-                0
+                other
             }
         }
+    }
+
+    /// The number that the next word is; 0 where it is none.
+    pub fn number(&mut self) -> u32 {
+        let number = self.words.number().ok();
+        self.noted(number, 0)
     }
 
     /// The same of a longer number.
     pub fn long(&mut self) -> u64 {
-        match self.word().parse::<u64>() {
-            Ok(number) => number,
-            Err(_) => {
-                self.wrong = true;
-                0
-            }
-        }
+        let number = self.words.long().ok();
+        self.noted(number, 0)
     }
 
-    /// The bytes that the next word spells.
+    /// The bytes that the next word spells; none where it is wrong.
     pub fn bytes(&mut self, alloc: Global) -> Result<Vec<u8>, AllocError> {
-        let word = self.word();
-        let mut bytes = Vec::new(alloc);
-        if !push_word(alloc, &mut bytes, word)? {
-            self.wrong = true;
-        }
-        Ok(bytes)
+        let word = self.words.word();
+        let bytes = self.spelling.spelled(alloc, word)?;
+        Ok(self.noted(bytes, Vec::new(alloc)))
     }
 
     /// As many bytes as are wanted; zeros where the next word spells another number of them.
     pub fn array<const N: usize>(&mut self, alloc: Global) -> Result<[u8; N], AllocError> {
         let bytes = self.bytes(alloc)?;
-        match array_of(&bytes) {
-            Some(array) => Ok(array),
-            None => {
-                self.wrong = true;
-                Ok([0; N])
-            }
-        }
+        Ok(self.noted(array_of(&bytes), [0; N]))
     }
 
     /// Digests, one after the other.
