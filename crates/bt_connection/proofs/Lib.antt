@@ -12,9 +12,10 @@ pub mod Passages
 pub mod Readers
 -- reading ahead
 pub mod Ranges
+pub mod Longs
 pub mod Orders
 pub mod Leading
 pub mod ReadsAhead
--- room, and requests that are held
-pub mod RoomReads
+pub mod LongReads
+-- requests that are held
 pub mod WholeRequests

@@ -1,5 +1,5 @@
 -- Parts of a list from one place to another.
-use Rattle.std.proofs.Common.{◌≡◌, ◌≤◌, ℕ, ◌+◌, ◌-◌, List, ◌++◌, take, drop, length, slice_range, sym, ◌∙◌, ap, arith, length-drop, drop-drop, take-append-drop}
+use Rattle.std.proofs.Common.{◌≡◌, ◌≤◌, ℕ, ◌+◌, ◌-◌, List, ◌++◌, take, drop, length, slice_range, refl, sym, ◌∙◌, ap, arith, append_assoc, length-append, length-take, length-drop, drop-drop, take_at, take-append-drop}
 use Rattle.std.proofs.lemmas.List.{drop-take, length-take-le}
 use lib.Seq.{take-add}
 
@@ -12,15 +12,6 @@ advanced xs start count end fits =
     ap (λ (k : ℕ). drop count (take k (drop start xs))) whole
     ∙ drop-take count rest (drop start xs)
     ∙ ap (λ (l : List ℕ). take rest l) (drop-drop count start xs)
-
--- its first elements, and the others
-pub parted : (xs front : List ℕ) (start count end : ℕ) → start + count ≤ end → front ≡ take count (slice_range xs start end)
-    → slice_range xs start end ≡ front ++ slice_range xs (start + count) end
-parted xs front start count end fits first =
-    let all = slice_range xs start end in
-    sym (take-append-drop count all)
-    ∙ ap (λ (l : List ℕ). l ++ drop count all) (sym first)
-    ∙ ap (λ (l : List ℕ). front ++ l) (advanced xs start count end fits)
 
 -- what stands in front, with the elements behind it
 pub joined : (xs front : List ℕ) (size count : ℕ) → take size xs ≡ front
@@ -36,3 +27,34 @@ length_behind xs size count fits = length-take-le count (drop size xs) (omega (a
 
 pub length_range : (xs : List ℕ) (start end : ℕ) → end ≤ length xs → length (slice_range xs start end) ≡ end - start
 length_range xs start end within = length-take-le (end - start) (drop start xs) (omega (arith, length-drop start xs))
+
+-- a part that takes the place of what is in front
+pub held_in : (xs part : List ℕ) → slice_range (take 0 xs ++ part ++ drop (0 + length part) xs) 0 (length part) ≡ part
+held_in xs part =
+    let whole : length part - 0 ≡ length part = omega arith in
+    ap (λ (k : ℕ). take k (part ++ drop (0 + length part) xs)) whole ∙ take_at part (drop (0 + length part) xs) (length part) refl
+
+-- the first of them go to two places
+pub shared : (old front mid other new : List ℕ) (rest : ℕ) → old ≡ front ++ mid → other ≡ take rest mid → new ≡ drop rest mid
+    → old ≡ front ++ other ++ new
+shared old front mid other new rest is part left =
+    is
+    ∙ ap (λ (l : List ℕ). front ++ l) (sym (take-append-drop rest mid))
+    ∙ sym (append_assoc front (take rest mid) (drop rest mid))
+    ∙ ap (λ (l : List ℕ). front ++ l ++ drop rest mid) (sym part)
+    ∙ ap (λ (l : List ℕ). front ++ other ++ l) (sym left)
+
+pub shared_size : (old front mid other : List ℕ) (len count : ℕ) → old ≡ front ++ mid → other ≡ take (len - count) mid → length front ≡ count
+    → count ≤ len → len ≤ length old → length (front ++ other) ≡ len
+shared_size old front mid other len count is part size few room =
+    omega (
+      arith,
+      ap (λ (l : List ℕ). length l) is,
+      length-append front mid,
+      ap (λ (l : List ℕ). length l) part,
+      length-take (len - count) mid,
+      length-append front other,
+      size,
+      few,
+      room,
+    )

@@ -7,7 +7,7 @@ use Rattle.std.specs.Io.KnownBytes.{Consumes, Keeps, IsAtEnd, prepend_known}
 use Rattle.bt_connection.specs.ReadAhead.{ReaderState, Takes, IsFilled, IsGiven, IsRead, LosesNothing, reader_remaining}
 
 -- bytes came behind those that wait, and then the first were given
-given_of : (before after : Option (List ℕ)) (old came front new : List ℕ) → Consumes before after came → old ++ came ≡ front ++ new
+pub given_of : (before after : Option (List ℕ)) (old came front new : List ℕ) → Consumes before after came → old ++ came ≡ front ++ new
     → Consumes (prepend_known old before) (prepend_known new after) front
 given_of None after old came front new lost same = tt
 given_of (Some x) None old came front new lost same = absurd lost

@@ -1,7 +1,7 @@
 -- What one read of the reader behind does.
-use Rattle.std.specs.Prelude.{◌≡◌, ℕ, ◌<◌, List, Option, length, take}
+use Rattle.std.specs.Prelude.{◌≡◌, ℕ, ◌<◌, List, ◌++◌, Option, length, take}
 use Rattle.std.specs.Io.KnownBytes.{IsAtEnd, Keeps}
-use Rattle.bt_connection.specs.Messages.{Leads}
+use Rattle.bt_connection.specs.Messages.{Leads, IsBlockLong}
 use Rattle.bt_connection.specs.ReadAhead.{ahead_room_length, ReaderState, Takes}
 
 -- so many bytes came, none at the end, where all that waits may be given
@@ -19,3 +19,10 @@ pub record IsRefilled {R : Type 0} (remaining : R → Option (List ℕ)) (old : 
 pub record KeepsAll {R : Type 0} (remaining : R → Option (List ℕ)) (old new : ReaderState R) : Type 0 where
   pub kept : Keeps (remaining old.inner) (remaining new.inner)
   pub others : new ≡ record old { inner = new.inner }
+
+-- a message as long as a piece with a whole block is given, which was the first
+pub record IsLongGiven {R : Type 0} (old : ReaderState R) (message : List ℕ) (new : ReaderState R)
+    : Type 0 where
+  pub long : IsBlockLong message
+  pub first : old.waiting ≡ message ++ new.waiting
+  pub inner : new.inner ≡ old.inner

@@ -4,6 +4,7 @@ use Rattle.std.specs.Io.KnownBytes.{Consumes, IsAtEnd}
 use Rattle.bt_wire.specs.Frames.{BeginsFrame}
 use Rattle.bt_wire.specs.declared.message.Ask.{Ask}
 use Rattle.bt_connection.specs.declared.translation.Side.{Side}
+use Rattle.bt_connection.specs.declared.translation.Side.TheVariants.{Peer}
 use Rattle.bt_connection.specs.Flow.{flow, Waits}
 use Rattle.bt_connection.specs.FrameSteps.{IsMissing}
 use Rattle.bt_connection.specs.Padded.{frame_room_length, DirectionState}
@@ -26,6 +27,12 @@ IsApart passing unread = (passing ≡ 0) ⊎ (unread ≡ [])
 abbrev pub IsOrderly : (passing : ℕ) → (room : List ℕ) → (ready : ℕ) → Type 0
 IsOrderly passing room ready =
     (ready ≤ length room) × Waits (drop ready room) × IsApart passing (drop ready room)
+
+-- a message of the peer is to come next, and none of another waits
+pub record IsBetween (d : DirectionState) : Type 0 where
+  pub side : d.side ≡ Peer
+  pub waiting : d.waiting ≡ []
+  pub flow : d.flow ≡ flow 0 []
 
 -- so many bytes are taken next at most: some of those that pass, or what is missing of a frame
 pub record IsWanted (d : DirectionState) (most : ℕ) : Type 0 where

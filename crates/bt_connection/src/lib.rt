@@ -2,7 +2,6 @@
 //! reader or writer.
 #![tactic(auto)]
 
-mod ahead_room;
 mod alarm_reader;
 mod frame;
 mod law;
@@ -15,7 +14,6 @@ mod room;
 mod short_blocks;
 mod translation;
 
-pub use ahead_room::AheadRoom;
 pub use alarm_reader::AlarmReader;
 pub use law::{
     given_on_can_be_sent, gives_streams, pads_what_was_asked, plain_passes_through,
@@ -23,7 +21,7 @@ pub use law::{
 };
 pub use padded::Padded;
 pub use padding::Padding;
-pub use read_ahead::ReadAhead;
+pub use read_ahead::{AheadRoom, ReadAhead};
 pub use requests::{HoldingWriter, Requests, SendingReader};
 pub use room::Room;
 pub use short_blocks::ShortBlocks;

@@ -1,27 +1,62 @@
 //! The messages in a run of bytes (BEP 3), and the whole blocks that they carry.
-ghost use Rattle.std.specs.Prelude.{◌≡◌, ◌↔◌, ◌<◌, ◌≤◌, length, take, drop, IfSome, IsTrue};
+ghost use Rattle.std.specs.Prelude.{◌≡◌, ◌↔◌, ◌*◌, ◌<◌, ◌≤◌, length, take, drop, IfSome, IsTrue};
 ghost use Rattle.std.specs.Bool.{OnFalse};
 ghost use Rattle.bt_tree.specs.Limits.{full_block_length};
 ghost use Rattle.bt_wire.specs.Frames.{HasNoMessage};
-ghost use Rattle.bt_connection.specs.Messages.{AreMessages, MayCarryBlock, Leads};
-ghost use Rattle.bt_connection.specs.MessageSteps.{IsCut};
+ghost use Rattle.bt_wire.specs.declared.frames.TheConstants.{BLOCK_MESSAGE_LEN};
+ghost use Rattle.bt_connection.specs.Messages.{AreMessages, BeginWithLong, MayCarryBlock, Leads};
+ghost use Rattle.bt_connection.specs.MessageSteps.{HasLong, IsCounted, IsCut};
 
 use bt_devices::DigestCache;
 use bt_wire::frames::{
     BLOCK_MESSAGE_LEN, LENGTH_LEN, PIECE, PIECE_HEAD_LEN, first_message, message_len,
 };
 
-/// How many bytes the messages in front have that are whole.
-fn whole_messages(bytes: &[u8]) -> usize
-    ensures within { result ≤ length bytes.now }
-    ensures messages { AreMessages (take result bytes.now) }
-    ensures part { HasNoMessage (drop result bytes.now) }
+/// Messages one behind the other.
+#[derive(Clone, Copy)]
+struct Run {
+    /// They have so many bytes.
+    len: usize,
+    /// The first so many of them are as long as a piece with a whole block.
+    long: usize,
+}
+
+/// The messages in front that are whole, each of which is looked at once.
+fn whole_messages(bytes: &[u8]) -> Run
+    ensures within { result.len ≤ length bytes.now }
+    ensures messages { AreMessages (take result.len bytes.now) }
+    ensures part { HasNoMessage (drop result.len bytes.now) }
+    ensures long { BeginWithLong result.long bytes.now }
+    ensures few { BLOCK_MESSAGE_LEN * result.long ≤ result.len }
 {
     let mut at = 0;
+    let mut long = 0;
     'messages: while let Some(len) = first_message(&bytes[at..]) {
+        long = counted(long, at, len);
         at += len;
     }
-    at
+    Run { len: at, long }
+}
+
+/// How many messages in front are as long as a piece with a whole block, where so many were, and one of this
+/// length stands behind so many bytes.
+fn counted(long: usize, at: usize, len: usize) -> usize
+    requires { BLOCK_MESSAGE_LEN * long ≤ at }
+    ensures { IsCounted long at len result }
+{
+    if len == BLOCK_MESSAGE_LEN && at == long * BLOCK_MESSAGE_LEN {
+        long + 1
+    } else {
+        long
+    }
+}
+
+/// How many of these messages stand in front, where so many bytes stand before them.
+fn in_front(before: usize, long: usize) -> usize
+    ensures none { 0 < before → result ≡ 0 }
+    ensures same { before ≡ 0 → result ≡ long }
+{
+    if before == 0 { long } else { 0 }
 }
 
 /// Whether the message that begins so may carry a whole block.
@@ -43,8 +78,10 @@ fn may_carry_block(part: &[u8]) -> bool
 pub(crate) struct Cut {
     /// Behind so many bytes messages begin.
     pub(crate) begin: usize,
-    /// So many bytes may be given.
+    /// So many bytes may be given,
     pub(crate) ready: usize,
+    /// of which so many messages in front are as long as a piece with a whole block.
+    pub(crate) long: usize,
     /// So many bytes are to come of a message that is given as it comes.
     pub(crate) owed: usize,
 }
@@ -55,20 +92,25 @@ pub(crate) struct Cut {
 fn cut_messages(owed: usize, bytes: &[u8]) -> Cut
     ensures cut { IsCut bytes.now result }
     ensures leads { Leads owed (take result.ready bytes.now) result.owed }
+    ensures long { HasLong bytes.now result.ready result.long }
 {
     let begin = owed.min(bytes.len());
-    let whole = begin + whole_messages(&bytes[begin..]);
+    let run = whole_messages(&bytes[begin..]);
+    let long = in_front(begin, run.long);
+    let whole = begin + run.len;
     let part = &bytes[whole..];
     if may_carry_block(part) {
         return Cut {
             begin,
             ready: whole,
+            long,
             owed: owed - begin,
         };
     }
     Cut {
         begin,
         ready: bytes.len(),
+        long,
         owed: message_len(part) - part.len(),
     }
 }
@@ -79,11 +121,13 @@ pub(crate) fn cut_behind(count: usize, owed: usize, bytes: &[u8]) -> Cut
     ensures cut { IsCut bytes.now result }
     ensures leads { 0 < count → Leads owed (take result.ready bytes.now) result.owed }
     ensures ended { count ≡ 0 → result.ready ≡ length bytes.now }
+    ensures long { HasLong bytes.now result.ready result.long }
 {
     if count == 0 {
         return Cut {
             begin: bytes.len(),
             ready: bytes.len(),
+            long: 0,
             owed: usize::MAX,
         };
     }

@@ -1,11 +1,13 @@
 //! The reader and the writer of a connection, as its engine has them.
-ghost use Rattle.std.specs.Prelude.{◌≡◌, ◌≢◌, None, IfOk, IfErr};
+ghost use Rattle.std.specs.Prelude.{◌≡◌, ◌≢◌, ◌<◌, None, IfOk, IfErr, OnErr};
 ghost use Rattle.std.specs.Io.{ReadsAtMost, WritesAtMost};
 ghost use Rattle.std.specs.Io.KnownBytes.{Keeps, ReadConsumes, WriteAppends};
 ghost use Rattle.std.specs.IoError.{error_kind};
-ghost use Rattle.bt_connection.specs.Padded.{new_padded, IsRead, IsInterrupted, IsWritten, IsFlushed};
+ghost use Rattle.bt_connection.specs.Padded.{new_padded, IsRead, IsInterrupted, IsWritten, IsFlushed, LosesNothing};
+ghost use Rattle.bt_connection.specs.ReadAhead.{reader_remaining};
 
 use crate::padding::Padding;
+use crate::read_ahead::ReadAhead;
 use crate::short_blocks::ShortBlocks;
 use crate::translation::{Direction, FrameRoom, Side};
 use bt_wire::HANDSHAKE_LEN;
@@ -56,13 +58,10 @@ impl<'a, T> Padded<'a, T> {
     }
 }
 
-// What is to come depends on what is remembered by then, so it is not known.
-impl<'a, R: Read> Read for Padded<'a, R> {
-    /// Reads until something waits to be given, or to the end. Errors: those of the reader behind. After each the read
-    /// may be made again, and nothing is lost.
-    fn read(&mut self, buffer: &mut [u8]) -> io::Result<usize>
+impl<'a, R: Read> Padded<'a, R> {
+    /// Reads until something waits to be given, or to the end, and looks at each message. Errors: as `read`.
+    fn read_each(&mut self, buffer: &mut [u8]) -> io::Result<usize>
         ensures bound { ReadsAtMost result buffer.new }
-        ensures bytes { ReadConsumes None None result buffer.new }
         ensures given { IfOk result (λ count. IsRead R.remaining self.old count buffer.new self.new) }
         ensures again { IfErr result (λ error. error_kind error ≡ ErrorKind.Interrupted
             → IsInterrupted R.remaining self.old self.new) }
@@ -74,6 +73,45 @@ impl<'a, R: Read> Read for Padded<'a, R> {
             }
         }
         Err(io::Error::from(ErrorKind::TimedOut))
+    }
+}
+
+impl<'a, R: Read> Padded<'a, ReadAhead<'a, R>> {
+    /// Gives of a message that is longer than a request, where the reader behind knows that one comes next,
+    /// and says how many bytes. Else it gives none. Errors: those of the reader behind.
+    fn read_long(&mut self, buffer: &mut [u8]) -> io::Result<usize>
+        ensures bound { ReadsAtMost result buffer.new }
+        ensures given { IfOk result (λ count. 0 < count
+            → IsRead (reader_remaining R.remaining) self.old count buffer.new self.new) }
+        ensures none { IfOk result (λ count. count ≡ 0
+            → LosesNothing (reader_remaining R.remaining) self.old self.new) }
+        ensures kept { OnErr result (LosesNothing (reader_remaining R.remaining) self.old self.new) }
+    {
+        if buffer.is_empty() || !self.direction.is_between() {
+            return Ok(0);
+        }
+        self.inner.fill()?;
+        Ok(self.direction.pass_long(&mut self.inner, buffer))
+    }
+}
+
+// What is to come depends on what is remembered by then, so it is not known.
+impl<'a, R: Read> Read for Padded<'a, ReadAhead<'a, R>> {
+    /// Reads until something waits to be given, or to the end. Errors: those of the reader behind. After each the read
+    /// may be made again, and nothing is lost.
+    fn read(&mut self, buffer: &mut [u8]) -> io::Result<usize>
+        ensures bound { ReadsAtMost result buffer.new }
+        ensures bytes { ReadConsumes None None result buffer.new }
+        ensures given { IfOk result (λ count.
+            IsRead (reader_remaining R.remaining) self.old count buffer.new self.new) }
+        ensures again { IfErr result (λ error. error_kind error ≡ ErrorKind.Interrupted
+            → IsInterrupted (reader_remaining R.remaining) self.old self.new) }
+    {
+        let count = self.read_long(buffer)?;
+        if count > 0 {
+            return Ok(count);
+        }
+        self.read_each(buffer)
     }
 }
 

@@ -1,18 +1,27 @@
 //! What a peer sends, read ahead of its engine.
-ghost use Rattle.std.specs.Prelude.{◌≡◌, ◌↔◌, ◌<◌, IsTrue, IfOk, OnOk, OnErr};
+ghost use Rattle.std.specs.Prelude.{◌≡◌, ◌↔◌, ◌++◌, ◌<◌, ◌≤◌, length, take, IsTrue, IfOk, OnOk, OnErr};
 ghost use Rattle.std.specs.Io.{ReadsAtMost};
 ghost use Rattle.std.specs.Io.KnownBytes.{ReadConsumes};
 ghost use Rattle.bt_connection.specs.ReadAhead.{new_reader, reader_remaining, HoldsBlockAlone, IsFilled, IsGiven, IsRead, LosesNothing};
-ghost use Rattle.bt_connection.specs.ReadAheadSteps.{IsRefilled, KeepsAll};
+ghost use Rattle.bt_connection.specs.ReadAheadSteps.{IsRefilled, KeepsAll, IsLongGiven};
 
-use crate::ahead_room::AheadRoom;
 use crate::messages::{cut_behind, fill_from};
+use crate::room::Room;
+use crate::translation::FrameRoom;
 use bt_devices::DigestCache;
 use bt_wire::HANDSHAKE_LEN;
+use bt_wire::frames::BLOCK_MESSAGE_LEN;
 use std::cell::{RefCell, RefMut};
 use std::io;
 use std::io::Read;
 use std::marker::Model;
+
+/// For so many bytes there is room (`ahead_room_length`): eight messages of a whole block each, and a part
+/// of one more.
+const ROOM_LEN: usize = 135_168;
+
+/// Room for bytes that are read and not given yet.
+pub type AheadRoom = Room<ROOM_LEN>;
 
 /// A reader of what a peer sends, which reads ahead of its engine, and has the blocks in it digested eight at
 /// a time, before the engine asks for their digests one by one.
@@ -26,8 +35,10 @@ pub struct ReadAhead<'a, R> {
     inner: R,
     cache: &'a RefCell<DigestCache>,
     room: RefMut<'a, AheadRoom>,
-    /// So many of the bytes in the room may be given.
+    /// So many of the bytes in the room may be given,
     ready: usize,
+    /// of which so many messages in front are as long as a piece with a whole block.
+    long: usize,
     /// So many bytes are to come of a message that is given as it comes; then all in the room may be given.
     owed: usize,
 }
@@ -35,6 +46,7 @@ pub struct ReadAhead<'a, R> {
 impl<'a, R> Model for ReadAhead<'a, R> {
     ghost use Rattle.std.specs.RefCell.{ref_mut_value};
     ghost use Rattle.bt_connection.specs.ReadAhead.{ReaderState, IsOrderly};
+    ghost use Rattle.bt_connection.specs.MessageSteps.{HasLong};
 
     ghost Value = { ReaderState R };
 
@@ -45,7 +57,8 @@ impl<'a, R> Model for ReadAhead<'a, R> {
       owed = r.owed;
     } };
 
-    ghost invariant = { λ r. IsOrderly (ref_mut_value r.room) r.ready };
+    ghost invariant = { λ r.
+        IsOrderly (ref_mut_value r.room) r.ready × HasLong (ref_mut_value r.room) r.ready r.long };
 }
 
 impl<'a, R: Drop> ReadAhead<'a, R> {
@@ -59,6 +72,7 @@ impl<'a, R: Drop> ReadAhead<'a, R> {
             cache,
             room,
             ready: 0,
+            long: 0,
             // The handshake is given as it comes.
             owed: HANDSHAKE_LEN,
         }
@@ -80,6 +94,27 @@ impl<'a, R> ReadAhead<'a, R> {
     {
         let count = self.room.give(self.ready, buffer);
         self.ready -= count;
+        self.long = 0;
+        count
+    }
+
+    /// Gives the first message, where it is known to be as long as a piece with a whole block: as many of
+    /// its bytes as there is room for, and says how many; the others take the place of what is in another
+    /// room. Else nothing is done.
+    pub(crate) fn give_long(&mut self, buffer: &mut [u8], other: &mut FrameRoom) -> usize
+        requires { 0 < length buffer.old }
+        ensures given { 0 < result
+            → IsLongGiven self.old (take result buffer.new ++ other.new) self.new }
+        ensures within { result ≤ length buffer.new }
+        ensures none { result ≡ 0 → self.new ≡ self.old }
+        ensures kept { result ≡ 0 → other.new ≡ other.old }
+    {
+        if self.long == 0 {
+            return 0;
+        }
+        let count = self.room.give_to(BLOCK_MESSAGE_LEN, buffer, other);
+        self.ready -= BLOCK_MESSAGE_LEN;
+        self.long -= 1;
         count
     }
 }
@@ -93,17 +128,19 @@ impl<'a, R: Read> ReadAhead<'a, R> {
         ensures kept { OnErr result (KeepsAll R.remaining self.old self.new) }
         ensures held { HoldsBlockAlone self.new }
     {
-        let count = self.room.read_from(&mut self.inner)?;
+        let most = ROOM_LEN - self.room.as_slice().len();
+        let count = self.room.read_from(&mut self.inner, most)?;
         let waiting = self.room.as_slice();
         let cut = cut_behind(count, self.owed, waiting);
         digest_ahead(self.cache, &waiting[cut.begin..cut.ready]);
         self.ready = cut.ready;
+        self.long = cut.long;
         self.owed = cut.owed;
         Ok(count)
     }
 
     /// Reads until something may be given, or to the end. Errors: those of `refill`.
-    fn fill(&mut self) -> io::Result<()>
+    pub(crate) fn fill(&mut self) -> io::Result<()>
         ensures filled { OnOk result (IsFilled R.remaining self.old self.new) }
         ensures kept { OnErr result (LosesNothing R.remaining self.old self.new) }
         ensures held { OnErr result (HoldsBlockAlone self.new) }

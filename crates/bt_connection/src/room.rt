@@ -11,18 +11,19 @@ use std::marker::Model;
 #[derive(Drop)]
 pub struct Room<const LEN: usize> {
     bytes: Vec<u8>,
-    /// The first so many of these are in it.
-    len: usize,
+    /// Those from `start` to `end` are in it, so none is moved where some are given.
+    start: usize,
+    end: usize,
 }
 
 impl<const LEN: usize> Model for Room<LEN> {
-    ghost use Rattle.std.specs.Prelude.{◌≡◌, ◌≤◌, ℕ, List, length, take};
+    ghost use Rattle.std.specs.Prelude.{◌≡◌, ◌≤◌, ℕ, List, length, slice_range};
 
     ghost Value = { List ℕ };
 
-    ghost view = { λ r. take r.len r.bytes.items };
+    ghost view = { λ r. slice_range r.bytes.items r.start r.end };
 
-    ghost invariant = { λ r. (r.len ≤ LEN) × (length r.bytes.items ≡ LEN) };
+    ghost invariant = { λ r. (r.start ≤ r.end) × (r.end ≤ LEN) × (length r.bytes.items ≡ LEN) };
 }
 
 impl<const LEN: usize> Room<LEN> {
@@ -31,14 +32,19 @@ impl<const LEN: usize> Room<LEN> {
         ensures { IfOk result (λ room. room ≡ []) }
     {
         let bytes = vec![in alloc; 0; LEN]?;
-        Ok(Room { bytes, len: 0 })
+        Ok(Room {
+            bytes,
+            start: 0,
+            end: 0,
+        })
     }
 
     /// Forgets the bytes, as for a connection that begins.
     pub fn clear(&mut self)
         ensures { self.new ≡ [] }
     {
-        self.len = 0;
+        self.start = 0;
+        self.end = 0;
     }
 
     /// The bytes, lent.
@@ -46,7 +52,7 @@ impl<const LEN: usize> Room<LEN> {
         ensures value { result.now ≡ self.now }
         ensures few { length self.now ≤ LEN }
     {
-        &self.bytes[..self.len]
+        &self.bytes[self.start..self.end]
     }
 
     /// Reads once, so many bytes at most, and says how many came. Errors: those of the reader.
@@ -59,9 +65,12 @@ impl<const LEN: usize> Room<LEN> {
         ensures kept { OnErr result (Keeps (R.remaining from.old) (R.remaining from.new)) }
         ensures same { OnErr result (self.new ≡ self.old) }
     {
-        let held = self.len;
-        let count = read_behind(from, self.bytes.as_mut_slice(), held, most)?;
-        self.len = held + count;
+        let (start, end) = (self.start, self.end);
+        move_to_front(&mut self.bytes, start, end);
+        self.start = 0;
+        self.end = end - start;
+        let count = read_behind(from, self.bytes.as_mut_slice(), end - start, most)?;
+        self.end += count;
         Ok(count)
     }
 
@@ -70,15 +79,18 @@ impl<const LEN: usize> Room<LEN> {
         requires { at + length part.now ≤ length self.old }
         ensures { self.new ≡ take at self.old ++ part.now ++ drop (at + length part.now) self.old }
     {
-        put_over(self.bytes.as_mut_slice(), at, part);
+        put_over(&mut self.bytes[self.start..self.end], at, part);
     }
 
     /// Fills the room with zeros behind the bytes.
     pub fn fill(&mut self)
         ensures { self.new ≡ self.old ++ replicate (LEN - length self.old) 0 }
     {
-        fill_behind(self.bytes.as_mut_slice(), self.len);
-        self.len = LEN;
+        let (start, end) = (self.start, self.end);
+        move_to_front(&mut self.bytes, start, end);
+        fill_behind(self.bytes.as_mut_slice(), end - start);
+        self.start = 0;
+        self.end = LEN;
     }
 
     /// Gives the first of them, at most `most`, as many as the buffer has room for, and says how many.
@@ -86,6 +98,7 @@ impl<const LEN: usize> Room<LEN> {
         requires { most ≤ length self.old }
         ensures count { result ≡ min most (length buffer.old) }
         ensures given { self.old ≡ take result buffer.new ++ self.new }
+        ensures few { length self.old ≤ LEN }
     {
         let count = most.min(buffer.len());
         buffer[..count].copy_from_slice(&self.as_slice()[..count]);
@@ -93,13 +106,56 @@ impl<const LEN: usize> Room<LEN> {
         count
     }
 
+    /// Gives the first `len` of them: as many as the buffer has room for, and says how many; the others
+    /// take the place of what is in another room.
+    pub fn give_to<const OTHER: usize>(
+        &mut self,
+        len: usize,
+        buffer: &mut [u8],
+        other: &mut Room<OTHER>,
+    ) -> usize
+        requires few { len ≤ length self.old }
+        requires fits { len ≤ OTHER }
+        ensures count { result ≡ min len (length buffer.old) }
+        ensures given { self.old ≡ take result buffer.new ++ other.new ++ self.new }
+        ensures size { length (take result buffer.new ++ other.new) ≡ len }
+        ensures within { length self.old ≤ LEN }
+    {
+        let count = self.give(len, buffer);
+        let rest = len - count;
+        other.hold(&self.as_slice()[..rest]);
+        self.drop_front(rest);
+        count
+    }
+
+    /// Has these bytes in it, and no others.
+    fn hold(&mut self, part: &[u8])
+        requires { length part.now ≤ LEN }
+        ensures { self.new ≡ part.now }
+    {
+        put_over(self.bytes.as_mut_slice(), 0, part);
+        self.start = 0;
+        self.end = part.len();
+    }
+
     /// Drops so many bytes in front.
     pub fn drop_front(&mut self, count: usize)
         requires { count ≤ length self.old }
         ensures { self.new ≡ drop count self.old }
     {
-        move_to_front(self.bytes.as_mut_slice(), count, self.len);
-        self.len -= count;
+        self.start += count;
+    }
+}
+
+/// Moves the bytes from `start` to `end` to the front.
+fn move_to_front(bytes: &mut Vec<u8>, start: usize, end: usize)
+    requires order { start ≤ end }
+    requires within { end ≤ length bytes.old.items }
+    ensures moved { take (end - start) bytes.new.items ≡ slice_range bytes.old.items start end }
+    ensures size { length bytes.new.items ≡ length bytes.old.items }
+{
+    if start > 0 {
+        bytes.copy_within(start..end, 0);
     }
 }
 
@@ -136,16 +192,4 @@ fn fill_behind(bytes: &mut [u8], held: usize)
     ensures { bytes.new ≡ take held bytes.old ++ replicate (length bytes.old - held) 0 }
 {
     bytes[held..].fill(0);
-}
-
-/// Moves the bytes from `start` to `end` to the front.
-fn move_to_front(bytes: &mut [u8], start: usize, end: usize)
-    requires order { start ≤ end }
-    requires within { end ≤ length bytes.old }
-    ensures moved { take (end - start) bytes.new ≡ slice_range bytes.old start end }
-    ensures size { length bytes.new ≡ length bytes.old }
-{
-    if start > 0 {
-        bytes.copy_within(start..end, 0);
-    }
 }

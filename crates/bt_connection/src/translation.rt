@@ -1,11 +1,13 @@
 //! Bytes between a peer and an engine, in any parts.
-ghost use Rattle.std.specs.Prelude.{◌≡◌, ◌≢◌, [], ◌++◌, min, length, take, IfOk, OnOk, OnErr};
+ghost use Rattle.std.specs.Prelude.{◌≡◌, ◌≢◌, ◌<◌, ◌≤◌, [], ◌++◌, min, length, take, IfOk, OnOk, OnErr};
 ghost use Rattle.std.specs.Bool.{OnTrue, OnFalse};
 ghost use Rattle.std.specs.Io.KnownBytes.{Appends, Keeps};
-ghost use Rattle.bt_connection.specs.TranslationSteps.{EndsWithFrame, IsCollected, IsWanted, SettlesBy};
+ghost use Rattle.bt_connection.specs.ReadAheadSteps.{IsLongGiven};
+ghost use Rattle.bt_connection.specs.TranslationSteps.{EndsWithFrame, IsBetween, IsCollected, IsWanted, SettlesBy};
 
 use crate::frame::{Front, front_of, missing_of};
 use crate::padding::Padding;
+use crate::read_ahead::ReadAhead;
 use crate::room::Room;
 use crate::short_blocks::ShortBlocks;
 use bt_wire::frames::BLOCK_MESSAGE_LEN;
@@ -60,6 +62,33 @@ impl<'a> Direction<'a> {
         ensures none { OnFalse result (self.now.waiting ≡ []) }
     {
         self.ready > 0
+    }
+
+    /// Whether a message of the peer is to come next, and none of another waits.
+    pub(crate) fn is_between(&self) -> bool
+        ensures { OnTrue result (IsBetween self.now) }
+    {
+        self.side == Side::Peer
+            && self.ready == 0
+            && self.passing == 0
+            && self.room.as_slice().is_empty()
+    }
+
+    /// Lets a message pass that is longer than a request, where the reader knows that one comes next: gives
+    /// as many of its bytes as there is room for, and says how many; the others wait. Else nothing is done.
+    pub(crate) fn pass_long<R>(&mut self, from: &mut ReadAhead<'_, R>, buffer: &mut [u8]) -> usize
+        requires room { 0 < length buffer.old }
+        requires between { IsBetween self.old }
+        ensures passed { 0 < result
+            → IsLongGiven from.old (take result buffer.new ++ self.new.waiting) from.new }
+        ensures within { result ≤ length buffer.new }
+        ensures others { self.new ≡ record self.old { waiting = self.new.waiting } }
+        ensures none { result ≡ 0 → from.new ≡ from.old }
+        ensures kept { result ≡ 0 → self.new.waiting ≡ [] }
+    {
+        let count = from.give_long(buffer, &mut *self.room);
+        self.ready = self.room.as_slice().len();
+        count
     }
 
     /// Reads once, of what passes or is missing of a frame, and says how many bytes came; what is given on waits then.

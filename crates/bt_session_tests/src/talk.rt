@@ -2,7 +2,8 @@
 
 use crate::bytes::tell_given;
 use crate::ends::{Queue, Sink, Source};
-use bt_connection::{FrameRoom, Padded, Padding, ShortBlocks, Side};
+use bt_connection::{AheadRoom, FrameRoom, Padded, Padding, ReadAhead, ShortBlocks, Side};
+use bt_devices::DigestCache;
 use bt_meta::Torrent;
 use bt_rows::{RowError, Words};
 use std::alloc::{AllocError, Global};
@@ -32,6 +33,8 @@ fn one_text(alloc: Global, whole: String, one_by_one: &str) -> Result<String, Al
 struct Line {
     from_peer: Queue,
     to_peer: Queue,
+    digests: RefCell<DigestCache>,
+    ahead: RefCell<AheadRoom>,
     incoming: RefCell<FrameRoom>,
     outgoing: RefCell<FrameRoom>,
 }
@@ -41,6 +44,8 @@ impl Line {
         Ok(Line {
             from_peer: RefCell::new(VecDeque::new(alloc)),
             to_peer: RefCell::new(VecDeque::new(alloc)),
+            digests: RefCell::new(DigestCache::new(alloc)?),
+            ahead: RefCell::new(AheadRoom::new(alloc)?),
             incoming: RefCell::new(FrameRoom::new(alloc)?),
             outgoing: RefCell::new(FrameRoom::new(alloc)?),
         })
@@ -75,10 +80,12 @@ fn new_conversation<'a>(
     let sink = Sink {
         queue: &line.to_peer,
     };
+    let ahead = line.ahead.try_borrow_mut()?;
     let incoming = line.incoming.try_borrow_mut()?;
     let outgoing = line.outgoing.try_borrow_mut()?;
+    let read = ReadAhead::new(source, &line.digests, ahead);
     Ok(Conversation {
-        reader: Padded::new(Side::Peer, source, blocks, padding, incoming),
+        reader: Padded::new(Side::Peer, read, blocks, padding, incoming),
         writer: Padded::new(Side::Engine, sink, blocks, padding, outgoing),
         line,
         padding,
@@ -89,7 +96,7 @@ fn new_conversation<'a>(
 /// The two ends of a conversation, whose bytes come all at once, or one by one.
 #[derive(Drop)]
 struct Conversation<'a> {
-    reader: Padded<'a, Source<'a>>,
+    reader: Padded<'a, ReadAhead<'a, Source<'a>>>,
     writer: Padded<'a, Sink<'a>>,
     line: &'a Line,
     padding: &'a RefCell<Padding>,

@@ -1,16 +1,17 @@
 use Rattle.std.proofs.Common.{◌≡◌, ◌≤◌, ℕ, ◌+◌, ◌-◌, List, length, take, drop, sym, ap, subst, arith, length-drop, drop-drop}
 use Rattle.std.proofs.lemmas.List.{take_rest}
 use Rattle.bt_wire.specs.Frames.{message_length, HasNoMessage}
-use Rattle.bt_connection.specs.Messages.{AreMessages, Leads}
+use Rattle.bt_connection.specs.Messages.{AreMessages, BeginWithLong, Leads}
 use Rattle.bt_connection.proofs.Leading.{leads_into, leads_cut}
+use Rattle.bt_connection.proofs.Longs.{long_in_front}
 use Rattle.bt_connection.proofs.messages.cut_messages.Goals as goal
 
 pub returns-then-may_carry_block-clause-leads : goal.returns-then-may_carry_block-clause-leads
 returns-then-may_carry_block-clause-leads c =
-    let found = c.whole_messages.ensures in
+    let found = c.whole_messages-run.ensures in
     let bytes = c.args.bytes.now in
     let begin = c.min-begin.result in
-    let count = c.whole_messages.result in
+    let count = c.whole_messages-run.result.len in
     let behind = take_rest bytes begin in
     leads_cut bytes c.args.owed begin count c.min-begin.ensures
     (subst (λ (b : List ℕ). count ≤ length b) behind found.within)
@@ -18,11 +19,11 @@ returns-then-may_carry_block-clause-leads c =
 
 pub returns-clause-leads : goal.returns-clause-leads
 returns-clause-leads c =
-    let found = c.whole_messages.ensures in
+    let found = c.whole_messages-run.ensures in
     let bytes = c.args.bytes.now in
     let owed = c.args.owed in
     let begin = c.min-begin.result in
-    let count = c.whole_messages.result in
+    let count = c.whole_messages-run.result.len in
     let front = take_rest bytes begin in
     let behind = take_rest bytes (begin + count) in
     let four : 4 ≤ length (drop (begin + count) bytes)
@@ -44,3 +45,23 @@ returns-clause-leads c =
     (subst (λ (b : List ℕ). Leads owed all_given (message_length b - length b)) (sym behind)
     (subst (λ (n : ℕ). Leads owed all_given (message_length (drop n bytes) - length (drop n bytes))) (sym same)
     (leads_into bytes owed count within all there long)))
+
+pub returns-then-may_carry_block-clause-long : goal.returns-then-may_carry_block-clause-long
+returns-then-may_carry_block-clause-long c =
+    let found = c.whole_messages-run.ensures in
+    let run = c.whole_messages-run.result in
+    let bytes = c.args.bytes.now in
+    let begin = c.min-begin.result in
+    long_in_front bytes begin run.len run.long c.in_front-long.result (begin + run.len) c.in_front-long.ensures.none c.in_front-long.ensures.same
+    (subst (λ (b : List ℕ). BeginWithLong run.long b) (take_rest bytes begin) found.long) found.few (omega arith)
+
+pub returns-clause-long : goal.returns-clause-long
+returns-clause-long c =
+    let found = c.whole_messages-run.ensures in
+    let run = c.whole_messages-run.result in
+    let bytes = c.args.bytes.now in
+    let begin = c.min-begin.result in
+    let within = subst (λ (b : List ℕ). run.len ≤ length b) (take_rest bytes begin) found.within in
+    long_in_front bytes begin run.len run.long c.in_front-long.result (length bytes) c.in_front-long.ensures.none c.in_front-long.ensures.same
+    (subst (λ (b : List ℕ). BeginWithLong run.long b) (take_rest bytes begin) found.long) found.few
+    (omega (arith, within, c.min-begin.ensures, length-drop begin bytes))

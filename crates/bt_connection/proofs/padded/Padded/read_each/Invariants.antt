@@ -1,7 +1,7 @@
 -- What came so far.
 use Rattle.std.proofs.Common.{ℕ, List}
 use Rattle.bt_connection.specs.Padded.{padded_state, TakesParts}
-use Rattle.bt_connection.proofs.padded.PaddedRead.read.Given as goal
+use Rattle.bt_connection.proofs.padded.Padded.read_each.Given as goal
 
 abbrev pub invariant-loop : goal.invariant-loop
 invariant-loop g l =

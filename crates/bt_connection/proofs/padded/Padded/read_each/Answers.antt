@@ -2,8 +2,8 @@ use Rattle.std.proofs.Common.{[], ◌++◌, ap, subst}
 use Rattle.std.proofs.lemmas.Result.{err_from_is_err_and}
 use Rattle.bt_connection.specs.Padded.{IsFilled, PaddedState, DirectionState, padded_state, TakesParts, none_yet}
 use Rattle.bt_connection.proofs.Readers.{part_more, given_of}
-use Rattle.bt_connection.proofs.padded.PaddedRead.read.Goals as goal
-use Rattle.bt_connection.proofs.padded.PaddedRead.read.Goals.{then-is_ready-via-then-is_ready, then-is_ready-via-else-is_ready+in_ok-collect+then-branch-eq0}
+use Rattle.bt_connection.proofs.padded.Padded.read_each.Goals as goal
+use Rattle.bt_connection.proofs.padded.Padded.read_each.Goals.{then-is_ready-via-then-is_ready, then-is_ready-via-else-is_ready+in_ok-collect+then-branch-eq0}
 
 pub loop-init : goal.loop-init
 loop-init g c = ([], none_yet)
