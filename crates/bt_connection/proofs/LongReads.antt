@@ -1,6 +1,6 @@
 -- A message that is longer than a request passes as it is.
 use Rattle.std.proofs.Common.{◌≡◌, ◌<◌, ◌-◌, ℕ, List, [], ◌++◌, take, length, Option, Some, None, refl, sym, ◌∙◌, ap, subst, arith, append-nil}
-use Rattle.std.specs.Io.KnownBytes.{Consumes, Keeps}
+use Rattle.std.specs.Io.KnownBytes.{Consumes, Keeps, IsAtEnd}
 use Rattle.bt_wire.specs.Message.{message_spelling}
 use Rattle.bt_wire.specs.declared.message.Ask.{Ask}
 use Rattle.bt_connection.specs.declared.translation.Side.{Side}
@@ -8,12 +8,12 @@ use Rattle.bt_connection.specs.declared.translation.Side.TheVariants.{Peer}
 use Rattle.bt_connection.specs.Flow.{Flow, flow}
 use Rattle.bt_connection.specs.Messages.{IsBlockLong}
 use Rattle.bt_connection.specs.Padding.{other}
-use Rattle.bt_connection.specs.Padded.{PaddedState, DirectionState, padded_state, TakesPart, TakesParts, none_yet, one_more, IsRead, IsInterrupted, LosesNothing}
+use Rattle.bt_connection.specs.Padded.{PaddedState, DirectionState, padded_state, TakesPart, TakesParts, none_yet, one_more, IsRead, KeepsWhatCame, LosesNothing}
 use Rattle.bt_connection.specs.ReadAhead.{ReaderState, reader_remaining, IsFilled as IsReadAhead}
 use Rattle.bt_connection.specs.ReadAheadSteps.{IsLongGiven}
 use Rattle.bt_connection.specs.Translation.{Gives, Receives, settles, translated, passes}
 use Rattle.bt_connection.specs.TranslationSteps.{IsBetween}
-use Rattle.bt_connection.proofs.ReadsAhead.{given_of}
+use Rattle.bt_connection.proofs.ReadsAhead.{given_of, filled_keeps, filled_ends}
 
 -- ---- one message
 
@@ -102,7 +102,7 @@ module _ {R : Type 0} (remaining : R → Option (List ℕ)) (old mid : PaddedSta
     ended = read.ended;
   }
 
-  pub again_after : (new : PaddedState R) → IsInterrupted remaining mid new → IsInterrupted remaining old new
+  pub again_after : (new : PaddedState R) → KeepsWhatCame remaining mid new → KeepsWhatCame remaining old new
   again_after new again = record {
     came = again.came;
     mid = again.mid;
@@ -110,5 +110,28 @@ module _ {R : Type 0} (remaining : R → Option (List ℕ)) (old mid : PaddedSta
     loses_nothing = again.loses_nothing;
   }
 
-  pub again_at_once : IsInterrupted remaining old mid
+  pub again_at_once : KeepsWhatCame remaining old mid
   again_at_once = record { came = []; mid = old; takes = none_yet; loses_nothing = loses }
+
+-- ---- at the end of the reader behind
+
+module _ {R : Type 0} (remaining : R → Option (List ℕ)) where
+  ended_read : (p : PaddedState R) (buffer : List ℕ) → p.waiting ≡ [] → IsAtEnd (remaining p.inner) → IsRead remaining p 0 buffer p
+  ended_read p buffer none at_end = record {
+    filled = p;
+    fills = record { came = []; takes = none_yet; ended = λ waits. at_end };
+    gives = record { first = refl; all = λ given room. none; others = refl };
+    ended = λ given room. at_end;
+  }
+
+module _ {R : Type 0} (remaining : R → Option (List ℕ)) where
+  -- none is given where nothing may be given of what was read ahead
+  pub end_read : (inner filled : ReaderState R) (d : DirectionState) (buffer : List ℕ) → IsReadAhead remaining inner filled
+      → d.waiting ≡ [] → filled.ready ≡ 0
+      → IsRead (reader_remaining remaining) (padded_state inner d) 0 buffer (padded_state filled d)
+  end_read inner filled d buffer fills none unready =
+      let old : PaddedState (ReaderState R) = padded_state inner d in
+      let mid : PaddedState (ReaderState R) = padded_state filled d in
+      let loses : LosesNothing (reader_remaining remaining) old mid = record { kept = filled_keeps remaining inner filled fills; others = refl } in
+      read_after (reader_remaining remaining) old mid loses 0 buffer mid
+      (ended_read (reader_remaining remaining) mid buffer none (filled_ends remaining inner filled fills unready))

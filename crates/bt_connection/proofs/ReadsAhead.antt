@@ -76,6 +76,19 @@ module _ {R : Type 0} (remaining : R → Option (List ℕ)) where
   nothing_lost old new loses =
       kept_of (remaining old.inner) (remaining new.inner) old.waiting loses.came new.waiting loses.takes.lost loses.takes.waits
 
+  -- until something may be given, or to the end, none of what is to come is lost
+  pub filled_keeps : (old filled : ReaderState R) → IsFilled remaining old filled
+      → Keeps (reader_remaining remaining old) (reader_remaining remaining filled)
+  filled_keeps old filled fills =
+      kept_of (remaining old.inner) (remaining filled.inner) old.waiting fills.came filled.waiting fills.takes.lost fills.takes.waits
+
+  -- and none is to come where nothing may be given
+  pub filled_ends : (old filled : ReaderState R) → IsFilled remaining old filled → filled.ready ≡ 0
+      → IsAtEnd (reader_remaining remaining filled)
+  filled_ends old filled fills none =
+      let at_end = fills.ended none in
+      end_of (remaining filled.inner) filled.waiting at_end.1 at_end.0
+
   -- an error of the reader behind, after other bytes came
   pub lost_after : (first now new : ReaderState R) (came : List ℕ) → Takes remaining first came now → KeepsAll remaining now new
       → first.ready ≡ 0 → now.ready ≡ 0 → first.owed ≡ now.owed → LosesNothing remaining first new

@@ -89,8 +89,8 @@ pub record LosesNothing {R : Type 0} (remaining : R → Option (List ℕ)) (old 
   pub kept : Keeps (remaining old.inner) (remaining new.inner)
   pub others : new ≡ record old { inner = new.inner }
 
--- What an interrupted read leaves, after which a caller reads again: what came before waits, all of it.
-pub record IsInterrupted {R : Type 0} (remaining : R → Option (List ℕ)) (old new : PaddedState R)
+-- What a failed read leaves, after which the read may be made again: what came before waits, all of it.
+pub record KeepsWhatCame {R : Type 0} (remaining : R → Option (List ℕ)) (old new : PaddedState R)
     : Type 0 where
   pub came : List ℕ
   pub mid : PaddedState R

@@ -3,9 +3,11 @@
 #![tactic(auto)]
 
 mod alarm_reader;
+mod blocks;
 mod frame;
 mod law;
 mod messages;
+mod observer;
 mod padded;
 mod padding;
 mod read_ahead;
@@ -19,6 +21,7 @@ pub use law::{
     given_on_can_be_sent, gives_streams, pads_what_was_asked, plain_passes_through,
     remembers_short_blocks, short_blocks_are_last, zeros_lie_behind_the_end,
 };
+pub use observer::{Arrival, Observer};
 pub use padded::Padded;
 pub use padding::Padding;
 pub use read_ahead::{AheadRoom, ReadAhead};

@@ -1,11 +1,12 @@
 //! The reader and the writer of a connection, as its engine has them.
-ghost use Rattle.std.specs.Prelude.{◌≡◌, ◌≢◌, ◌<◌, None, IfOk, IfErr, OnErr};
+ghost use Rattle.std.specs.Prelude.{◌≡◌, ◌≢◌, ◌≤◌, None, length, IfOk, IfErr, IfSome, IfNone, OnErr};
 ghost use Rattle.std.specs.Io.{ReadsAtMost, WritesAtMost};
 ghost use Rattle.std.specs.Io.KnownBytes.{Keeps, ReadConsumes, WriteAppends};
 ghost use Rattle.std.specs.IoError.{error_kind};
-ghost use Rattle.bt_connection.specs.Padded.{new_padded, IsRead, IsInterrupted, IsWritten, IsFlushed, LosesNothing};
+ghost use Rattle.bt_connection.specs.Padded.{new_padded, IsRead, KeepsWhatCame, IsWritten, IsFlushed, LosesNothing};
 ghost use Rattle.bt_connection.specs.ReadAhead.{reader_remaining};
 
+use crate::observer::Observer;
 use crate::padding::Padding;
 use crate::read_ahead::ReadAhead;
 use crate::short_blocks::ShortBlocks;
@@ -63,8 +64,7 @@ impl<'a, R: Read> Padded<'a, R> {
     fn read_each(&mut self, buffer: &mut [u8]) -> io::Result<usize>
         ensures bound { ReadsAtMost result buffer.new }
         ensures given { IfOk result (λ count. IsRead R.remaining self.old count buffer.new self.new) }
-        ensures again { IfErr result (λ error. error_kind error ≡ ErrorKind.Interrupted
-            → IsInterrupted R.remaining self.old self.new) }
+        ensures again { OnErr result (KeepsWhatCame R.remaining self.old self.new) }
     {
         // A bound, so that it ends whatever the system gives.
         for _ in 0..u64::MAX {
@@ -76,27 +76,35 @@ impl<'a, R: Read> Padded<'a, R> {
     }
 }
 
-impl<'a, R: Read> Padded<'a, ReadAhead<'a, R>> {
-    /// Gives of a message that is longer than a request, where the reader behind knows that one comes next,
-    /// and says how many bytes. Else it gives none. Errors: those of the reader behind.
-    fn read_long(&mut self, buffer: &mut [u8]) -> io::Result<usize>
-        ensures bound { ReadsAtMost result buffer.new }
-        ensures given { IfOk result (λ count. 0 < count
-            → IsRead (reader_remaining R.remaining) self.old count buffer.new self.new) }
-        ensures none { IfOk result (λ count. count ≡ 0
-            → LosesNothing (reader_remaining R.remaining) self.old self.new) }
+impl<'a, R: Read, O: Observer> Padded<'a, ReadAhead<'a, R, O>> {
+    /// Gives of a message that is longer than a request, where the reader behind knows that one comes next, and
+    /// says how many bytes; or says 0, where that reader is at its end. None: something else comes, or it is not
+    /// known. Errors: those of the reader behind.
+    fn read_long(&mut self, buffer: &mut [u8]) -> io::Result<Option<usize>>
+        ensures bound { IfOk result (λ found. IfSome found (λ count. count ≤ length buffer.new)) }
+        ensures given { IfOk result (λ found. IfSome found (λ count.
+            IsRead (reader_remaining R.remaining) self.old count buffer.new self.new)) }
+        ensures none { IfOk result (λ found. IfNone found
+            (LosesNothing (reader_remaining R.remaining) self.old self.new)) }
         ensures kept { OnErr result (LosesNothing (reader_remaining R.remaining) self.old self.new) }
     {
         if buffer.is_empty() || !self.direction.is_between() {
-            return Ok(0);
+            return Ok(None);
         }
         self.inner.fill()?;
-        Ok(self.direction.pass_long(&mut self.inner, buffer))
+        if !self.inner.is_ready() {
+            return Ok(Some(0));
+        }
+        let count = self.direction.pass_long(&mut self.inner, buffer);
+        if count == 0 {
+            return Ok(None);
+        }
+        Ok(Some(count))
     }
 }
 
 // What is to come depends on what is remembered by then, so it is not known.
-impl<'a, R: Read> Read for Padded<'a, ReadAhead<'a, R>> {
+impl<'a, R: Read, O: Observer> Read for Padded<'a, ReadAhead<'a, R, O>> {
     /// Reads until something waits to be given, or to the end. Errors: those of the reader behind. After each the read
     /// may be made again, and nothing is lost.
     fn read(&mut self, buffer: &mut [u8]) -> io::Result<usize>
@@ -104,14 +112,12 @@ impl<'a, R: Read> Read for Padded<'a, ReadAhead<'a, R>> {
         ensures bytes { ReadConsumes None None result buffer.new }
         ensures given { IfOk result (λ count.
             IsRead (reader_remaining R.remaining) self.old count buffer.new self.new) }
-        ensures again { IfErr result (λ error. error_kind error ≡ ErrorKind.Interrupted
-            → IsInterrupted (reader_remaining R.remaining) self.old self.new) }
+        ensures again { OnErr result (KeepsWhatCame (reader_remaining R.remaining) self.old self.new) }
     {
-        let count = self.read_long(buffer)?;
-        if count > 0 {
-            return Ok(count);
+        match self.read_long(buffer)? {
+            Some(count) => Ok(count),
+            None => self.read_each(buffer),
         }
-        self.read_each(buffer)
     }
 }
 

@@ -5,7 +5,9 @@ ghost use Rattle.std.specs.Io.KnownBytes.{ReadConsumes};
 ghost use Rattle.bt_connection.specs.ReadAhead.{new_reader, reader_remaining, HoldsBlockAlone, IsFilled, IsGiven, IsRead, LosesNothing};
 ghost use Rattle.bt_connection.specs.ReadAheadSteps.{IsRefilled, KeepsAll, IsLongGiven};
 
-use crate::messages::{cut_behind, fill_from};
+use crate::blocks::Blocks;
+use crate::messages::cut_behind;
+use crate::observer::{Observer, Rest};
 use crate::room::Room;
 use crate::translation::FrameRoom;
 use bt_devices::DigestCache;
@@ -23,17 +25,18 @@ const ROOM_LEN: usize = 135_168;
 /// Room for bytes that are read and not given yet.
 pub type AheadRoom = Room<ROOM_LEN>;
 
-/// A reader of what a peer sends, which reads ahead of its engine, and has the blocks in it digested eight at
-/// a time, before the engine asks for their digests one by one.
+/// A reader of what a peer sends, which reads ahead of its engine, tells an observer what comes, and has the blocks
+/// in it digested eight at a time, before the engine asks for their digests one by one.
 ///
 /// It gives just the bytes of the reader behind, in order, whatever they are. Those of a message that may carry
 /// a whole block wait until it is whole or the reader behind has ended; all others may be given as they come,
 /// since they may show a fault. While something may be given, that reader is not asked, since it could wait for
 /// ever.
 #[derive(Drop)]
-pub struct ReadAhead<'a, R> {
+pub struct ReadAhead<'a, R, O> {
     inner: R,
     cache: &'a RefCell<DigestCache>,
+    observer: &'a O,
     room: RefMut<'a, AheadRoom>,
     /// So many of the bytes in the room may be given,
     ready: usize,
@@ -41,9 +44,11 @@ pub struct ReadAhead<'a, R> {
     long: usize,
     /// So many bytes are to come of a message that is given as it comes; then all in the room may be given.
     owed: usize,
+    /// What these bytes are.
+    rest: Rest,
 }
 
-impl<'a, R> Model for ReadAhead<'a, R> {
+impl<'a, R, O> Model for ReadAhead<'a, R, O> {
     ghost use Rattle.std.specs.RefCell.{ref_mut_value};
     ghost use Rattle.bt_connection.specs.ReadAhead.{ReaderState, IsOrderly};
     ghost use Rattle.bt_connection.specs.MessageSteps.{HasLong};
@@ -61,27 +66,34 @@ impl<'a, R> Model for ReadAhead<'a, R> {
         IsOrderly (ref_mut_value r.room) r.ready × HasLong (ref_mut_value r.room) r.ready r.long };
 }
 
-impl<'a, R: Drop> ReadAhead<'a, R> {
+impl<'a, R: Drop, O> ReadAhead<'a, R, O> {
     /// A reader at a connection's begin. What is in the room is forgotten. It takes no memory.
-    pub fn new(inner: R, cache: &'a RefCell<DigestCache>, mut room: RefMut<'a, AheadRoom>) -> Self
+    pub fn new(
+        inner: R,
+        cache: &'a RefCell<DigestCache>,
+        observer: &'a O,
+        mut room: RefMut<'a, AheadRoom>,
+    ) -> Self
         ensures { result ≡ new_reader inner }
     {
         room.clear();
         ReadAhead {
             inner,
             cache,
+            observer,
             room,
             ready: 0,
             long: 0,
             // The handshake is given as it comes.
             owed: HANDSHAKE_LEN,
+            rest: Rest::Handshake,
         }
     }
 }
 
-impl<'a, R> ReadAhead<'a, R> {
+impl<'a, R, O> ReadAhead<'a, R, O> {
     /// Whether something may be given.
-    fn is_ready(&self) -> bool
+    pub(crate) fn is_ready(&self) -> bool
         ensures { IsTrue result ↔ (0 < self.now.ready) }
     {
         self.ready > 0
@@ -119,9 +131,9 @@ impl<'a, R> ReadAhead<'a, R> {
     }
 }
 
-impl<'a, R: Read> ReadAhead<'a, R> {
-    /// Reads once, and looks what may be given now: how many bytes came, none at the end. The blocks among
-    /// them are digested. Errors: those of the reader behind.
+impl<'a, R: Read, O: Observer> ReadAhead<'a, R, O> {
+    /// Reads once, and looks what may be given now: how many bytes came, none at the end. What came is told, and
+    /// the blocks in it are digested. Errors: those of the reader behind.
     fn refill(&mut self) -> io::Result<usize>
         requires { self.old.ready ≡ 0 }
         ensures refilled { IfOk result (λ count. IsRefilled R.remaining self.old count self.new) }
@@ -131,11 +143,12 @@ impl<'a, R: Read> ReadAhead<'a, R> {
         let most = ROOM_LEN - self.room.as_slice().len();
         let count = self.room.read_from(&mut self.inner, most)?;
         let waiting = self.room.as_slice();
-        let cut = cut_behind(count, self.owed, waiting);
-        digest_ahead(self.cache, &waiting[cut.begin..cut.ready]);
+        let cut = cut_behind(count, self.owed, self.rest, waiting, self.observer);
+        digest_ahead(self.cache, &waiting[cut.begin..cut.ready], &cut.blocks);
         self.ready = cut.ready;
         self.long = cut.long;
         self.owed = cut.owed;
+        self.rest = cut.rest;
         Ok(count)
     }
 
@@ -154,7 +167,7 @@ impl<'a, R: Read> ReadAhead<'a, R> {
     }
 }
 
-impl<'a, R: Read> Read for ReadAhead<'a, R> {
+impl<'a, R: Read, O: Observer> Read for ReadAhead<'a, R, O> {
     ghost remaining = { reader_remaining R.remaining };
 
     /// Errors: those of the reader behind. After each of them, Interrupted too, the read may be made again,
@@ -172,10 +185,10 @@ impl<'a, R: Read> Read for ReadAhead<'a, R> {
     }
 }
 
-/// Has whole blocks in these messages digested, where there are enough of them. Where the cache is in use
-/// nothing is done.
-fn digest_ahead(cache: &RefCell<DigestCache>, messages: &[u8]) {
+/// Has these blocks of messages digested, where there are enough of them. Where the cache is in use nothing is
+/// done.
+fn digest_ahead(cache: &RefCell<DigestCache>, messages: &[u8], blocks: &Blocks) {
     if let Ok(mut guard) = cache.try_borrow_mut() {
-        fill_from(&mut *guard, messages);
+        blocks.fill(&mut *guard, messages);
     }
 }

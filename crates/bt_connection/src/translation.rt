@@ -76,7 +76,11 @@ impl<'a> Direction<'a> {
 
     /// Lets a message pass that is longer than a request, where the reader knows that one comes next: gives
     /// as many of its bytes as there is room for, and says how many; the others wait. Else nothing is done.
-    pub(crate) fn pass_long<R>(&mut self, from: &mut ReadAhead<'_, R>, buffer: &mut [u8]) -> usize
+    pub(crate) fn pass_long<R, O>(
+        &mut self,
+        from: &mut ReadAhead<'_, R, O>,
+        buffer: &mut [u8],
+    ) -> usize
         requires room { 0 < length buffer.old }
         requires between { IsBetween self.old }
         ensures passed { 0 < result

@@ -1,13 +1,14 @@
 //! Blocks that are read ahead, of what a peer sends and of a device.
 
 use crate::bytes::tell_given;
-use bt_connection::{AheadRoom, ReadAhead};
+use crate::notes::{Notes, Untold};
+use bt_connection::{AheadRoom, Observer, ReadAhead};
 use bt_devices::{DigestCache, ReadAheadDisk};
 use bt_disk::{Disk, FaultDisk, MemoryDisk};
 use bt_rows::{RowError, Words, whole_answer};
 use bt_tree::BLOCK_LEN;
 use std::alloc::{AllocError, Global};
-use std::cell::RefCell;
+use std::cell::{Cell, RefCell};
 use std::fmt::Write;
 use std::io::{self, Read};
 
@@ -26,22 +27,26 @@ fn answer_of(alloc: Global, words: &mut Words) -> Result<String, RowError> {
     match words.word() {
         "read" => read_row(alloc, words, true),
         "unwanted" => read_row(alloc, words, false),
+        "told" => told_row(alloc, words),
         "device" => device_row(alloc, words),
         _ => Err(RowError::Unread),
     }
 }
 
-/// Bytes of which a read gives so many at most.
+/// Bytes of which a read gives so many at most, and how many it gave.
 #[derive(Drop)]
 struct Parts<'a> {
     rest: &'a [u8],
     most: usize,
+    given: &'a Cell<usize>,
 }
 
 impl Read for Parts<'_> {
     fn read(&mut self, buffer: &mut [u8]) -> io::Result<usize> {
-        let count = buffer.len().min(self.most);
-        self.rest.read(&mut buffer[..count])
+        let most = buffer.len().min(self.most);
+        let count = self.rest.read(&mut buffer[..most])?;
+        self.given.set(self.given.get().saturating_add(count));
+        Ok(count)
     }
 }
 
@@ -51,10 +56,10 @@ fn read_row(alloc: Global, words: &mut Words, wanted: bool) -> Result<String, Ro
     let most = words.number()? as usize;
     let room = words.number()? as usize;
     let bytes = words.bytes(alloc)?;
-    told_read(alloc, most, room, &bytes, wanted)
+    digested_read(alloc, most, room, &bytes, wanted)
 }
 
-fn told_read(
+fn digested_read(
     alloc: Global,
     most: usize,
     room: usize,
@@ -66,23 +71,45 @@ fn told_read(
         let _ = is_found(&digests, &[]);
     }
     let lent = RefCell::new(AheadRoom::new(alloc)?);
+    let count = Cell::new(0);
+    let parts = Parts {
+        rest: bytes,
+        most,
+        given: &count,
+    };
     let mut given = Vec::new(alloc);
-    read_all(
-        &digests,
-        &lent,
-        Parts { rest: bytes, most },
-        room,
-        &mut given,
-    )?;
+    read_all(&digests, &Untold, &lent, parts, room, &mut given)?;
     let mut text = String::new(alloc);
     tell_given(alloc, &mut text, &given)?;
     tell_found(&digests, &mut text)?;
     Ok(text)
 }
 
+/// What an observer is told of bytes that come in parts, and behind how many of them.
+fn told_row(alloc: Global, words: &mut Words) -> Result<String, RowError> {
+    let most = words.number()? as usize;
+    let bytes = words.bytes(alloc)?;
+    let digests = RefCell::new(DigestCache::new(alloc)?);
+    let lent = RefCell::new(AheadRoom::new(alloc)?);
+    let count = Cell::new(0);
+    let notes = Notes::new(alloc, &count);
+    let parts = Parts {
+        rest: &bytes,
+        most,
+        given: &count,
+    };
+    let mut given = Vec::new(alloc);
+    read_all(&digests, &notes, &lent, parts, MOST_READ, &mut given)?;
+    if given.as_slice() != bytes.as_slice() {
+        return Err(RowError::Failed);
+    }
+    notes.text(alloc)
+}
+
 /// Reads all, by reads of so many bytes at most.
-fn read_all<'a>(
+fn read_all<'a, O: Observer>(
     digests: &'a RefCell<DigestCache>,
+    observer: &'a O,
     lent: &'a RefCell<AheadRoom>,
     parts: Parts<'a>,
     room: usize,
@@ -91,7 +118,7 @@ fn read_all<'a>(
     let Ok(waiting) = lent.try_borrow_mut() else {
         return Err(RowError::Failed);
     };
-    let mut reader = ReadAhead::new(parts, digests, waiting);
+    let mut reader = ReadAhead::new(parts, digests, observer, waiting);
     let mut buffer = [0; MOST_READ];
     let end = room.min(buffer.len());
     for _ in 0..u64::MAX {

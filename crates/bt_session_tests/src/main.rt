@@ -16,6 +16,7 @@ mod hints;
 mod links;
 mod lists;
 mod names;
+mod notes;
 mod partner;
 mod plays;
 mod row;

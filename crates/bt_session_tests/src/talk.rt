@@ -2,6 +2,7 @@
 
 use crate::bytes::tell_given;
 use crate::ends::{Queue, Sink, Source};
+use crate::notes::Untold;
 use bt_connection::{AheadRoom, FrameRoom, Padded, Padding, ReadAhead, ShortBlocks, Side};
 use bt_devices::DigestCache;
 use bt_meta::Torrent;
@@ -34,6 +35,7 @@ struct Line {
     from_peer: Queue,
     to_peer: Queue,
     digests: RefCell<DigestCache>,
+    observer: Untold,
     ahead: RefCell<AheadRoom>,
     incoming: RefCell<FrameRoom>,
     outgoing: RefCell<FrameRoom>,
@@ -45,6 +47,7 @@ impl Line {
             from_peer: RefCell::new(VecDeque::new(alloc)),
             to_peer: RefCell::new(VecDeque::new(alloc)),
             digests: RefCell::new(DigestCache::new(alloc)?),
+            observer: Untold,
             ahead: RefCell::new(AheadRoom::new(alloc)?),
             incoming: RefCell::new(FrameRoom::new(alloc)?),
             outgoing: RefCell::new(FrameRoom::new(alloc)?),
@@ -83,7 +86,7 @@ fn new_conversation<'a>(
     let ahead = line.ahead.try_borrow_mut()?;
     let incoming = line.incoming.try_borrow_mut()?;
     let outgoing = line.outgoing.try_borrow_mut()?;
-    let read = ReadAhead::new(source, &line.digests, ahead);
+    let read = ReadAhead::new(source, &line.digests, &line.observer, ahead);
     Ok(Conversation {
         reader: Padded::new(Side::Peer, read, blocks, padding, incoming),
         writer: Padded::new(Side::Engine, sink, blocks, padding, outgoing),
@@ -96,7 +99,7 @@ fn new_conversation<'a>(
 /// The two ends of a conversation, whose bytes come all at once, or one by one.
 #[derive(Drop)]
 struct Conversation<'a> {
-    reader: Padded<'a, ReadAhead<'a, Source<'a>>>,
+    reader: Padded<'a, ReadAhead<'a, Source<'a>, Untold>>,
     writer: Padded<'a, Sink<'a>>,
     line: &'a Line,
     padding: &'a RefCell<Padding>,

@@ -9,9 +9,9 @@ use Rattle.bt_sockets.specs.declared.timing.Role.TheVariants.{Fetch, Serve}
 abbrev pub HavePassed : ℕ → Instant → Instant → Type 0
 HavePassed seconds since now = seconds * 1000000000 ≤ instant_nanos now - instant_nanos since
 
--- the peer came by itself, and its handshake has not passed
+-- the peer came by itself, and its handshake has not come
 abbrev pub IsStranger : Times → Type 0
-IsStranger times = (times.role ≡ Serve) × (times.incoming.is_greeted ≡ false)
+IsStranger times = (times.role ≡ Serve) × (times.is_greeted ≡ false)
 
 -- Blocks are fetched from the peer, which has all pieces: no block of them is wanted any more, it refused
 -- hashes, and no request is open.

@@ -3,8 +3,8 @@
 
 mod link;
 mod listener;
+mod outgoing;
 mod passage;
-mod passing;
 mod stream;
 mod timed_stream;
 mod timing;

@@ -5,7 +5,7 @@ ghost use Rattle.bt_sockets.specs.StreamSteps.{IsAddressOf, IsTextOf, bracketed}
 
 use crate::passage::{Passage, Shared};
 use crate::timed_stream::{EARLY_LEN, TimedStream, set_turns};
-use crate::timing::Role;
+use crate::timing::{Role, Timing};
 use bt_connection::{
     AlarmReader, HoldingWriter, Padded, Padding, ReadAhead, Requests, Room, SendingReader, Side,
 };
@@ -24,7 +24,7 @@ pub const IDLE_SECONDS: u64 = 120;
 /// What is read from a connection, as its engine gets it.
 pub type StreamReader<'a, S, C> = Padded<
     'a,
-    ReadAhead<'a, AlarmReader<'a, SendingReader<'a, TimedStream<'a, S, C>>>>,
+    ReadAhead<'a, AlarmReader<'a, SendingReader<'a, TimedStream<'a, S, C>>>, Timing>,
 >;
 
 /// What is written to a connection, as its peer gets it.
@@ -107,7 +107,7 @@ pub(crate) fn both_ways<'a, S: Read + Write + OpenStream + Drop, C: Clock>(
     let reading = TimedStream::new(stream, clock, terms.idle, &shared.timing, &shared.early);
     let sending = SendingReader::new(reading, &shared.requests);
     let heard = AlarmReader::new(sending, &shared.alarm);
-    let ahead = ReadAhead::new(heard, &shared.digests, room);
+    let ahead = ReadAhead::new(heard, &shared.digests, &shared.timing, room);
     let reader = Padded::new(Side::Peer, ahead, short_blocks, &shared.padding, incoming);
     let writing = TimedStream::new(clone, clock, terms.idle, &shared.timing, &shared.early);
     let holding = HoldingWriter::new(writing, &shared.requests);

@@ -4,7 +4,7 @@ ghost use Rattle.std.specs.Io.{ReadsAtMost};
 ghost use Rattle.std.specs.Io.KnownBytes.{ReadConsumes};
 ghost use Rattle.bt_connection.specs.Room.{IsTakenIn};
 
-use crate::timing::{Timing, Way};
+use crate::timing::Timing;
 use bt_connection::Room;
 use bt_wire::frames::BLOCK_MESSAGE_LEN;
 use std::cell::RefCell;
@@ -88,10 +88,17 @@ impl<'a, S, C: Clock> TimedStream<'a, S, C> {
         }
     }
 
-    /// Notes bytes that have passed.
-    fn note(&self, way: Way, bytes: &[u8]) {
+    /// Notes that bytes have come.
+    fn note_in(&self) {
         if let Ok(now) = Instant::now(self.clock) {
-            self.timing.pass(way, bytes, now);
+            self.timing.pass_in(now);
+        }
+    }
+
+    /// Notes bytes that went out.
+    fn note_out(&self, bytes: &[u8]) {
+        if let Ok(now) = Instant::now(self.clock) {
+            self.timing.pass_out(bytes, now);
         }
     }
 }
@@ -186,7 +193,7 @@ impl<'a, S: Read, C: Clock> Read for TimedStream<'a, S, C> {
         }
         let count = give_early(self.early, buffer);
         if count > 0 {
-            self.note(Way::In, &buffer[..count]);
+            self.note_in();
             return Ok(count);
         }
         self.wait_for_bytes(buffer, begun)
@@ -203,7 +210,7 @@ impl<'a, S: Read, C: Clock> TimedStream<'a, S, C> {
         'waiting: for _ in 0..u64::MAX {
             match self.inner.read(buffer) {
                 Ok(count) => {
-                    self.note(Way::In, &buffer[..count]);
+                    self.note_in();
                     return Ok(count);
                 }
                 Err(error) if is_again(error.kind()) && self.may_wait(begun) => {}
@@ -223,7 +230,7 @@ impl<'a, S: Read + Write + OpenStream, C: Clock> Write for TimedStream<'a, S, C>
         'waiting: for _ in 0..u64::MAX {
             match self.inner.write(bytes) {
                 Ok(count) => {
-                    self.note(Way::Out, &bytes[..count]);
+                    self.note_out(&bytes[..count]);
                     return Ok(count);
                 }
                 Err(error) if is_again(error.kind()) && self.may_wait(begun) => {}

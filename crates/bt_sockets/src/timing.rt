@@ -2,10 +2,10 @@
 ghost use Rattle.std.specs.Prelude.{◌≡◌, ◌↔◌, ◌⊎◌, ◌-◌, ◌<◌, IsTrue};
 ghost use Rattle.bt_sockets.specs.TimingSteps.{HavePassed, IsSpent, IsStranger};
 
-use crate::passing::{Passed, Passing};
+use crate::outgoing::Outgoing;
+use bt_connection::{Arrival, Observer};
 use bt_wire::frames::{
-    BITFIELD, CHOKE, HASH_REJECT, HASH_REQUEST, HASHES, HAVE, INTERESTED, NOT_INTERESTED, PIECE,
-    REQUEST,
+    CHOKE, HASH_REJECT, HASH_REQUEST, HASHES, HAVE, INTERESTED, NOT_INTERESTED, PIECE, REQUEST,
 };
 use std::cell::Cell;
 use std::time::{Duration, Instant};
@@ -30,20 +30,15 @@ pub enum Role {
     Serve,
 }
 
-/// Which way bytes go.
-#[derive(Clone, Copy, Debug, PartialEq, Eq)]
-pub(crate) enum Way {
-    /// From the peer.
-    In,
-    /// To the peer.
-    Out,
-}
-
 /// What has passed over a connection, and when.
 #[derive(Clone, Copy)]
 struct Times {
     role: Role,
     begun: Instant,
+    /// When the last bytes came.
+    last: Instant,
+    /// Whether the peer's handshake came.
+    is_greeted: bool,
     /// When something passed last that is of use.
     used: Instant,
     /// So many requests of blocks are open,
@@ -62,8 +57,7 @@ struct Times {
     had: u64,
     /// Whether another message came when a block was overdue.
     is_overdue: bool,
-    incoming: Passing,
-    outgoing: Passing,
+    outgoing: Outgoing,
 }
 
 impl Times {
@@ -71,6 +65,8 @@ impl Times {
         Times {
             role,
             begun: now,
+            last: now,
+            is_greeted: false,
             used: now,
             pending: 0,
             asked: now,
@@ -80,8 +76,7 @@ impl Times {
             pieces: u64::from(pieces),
             had: 0,
             is_overdue: false,
-            incoming: Passing::new(),
-            outgoing: Passing::new(),
+            outgoing: Outgoing::new(),
         }
     }
 
@@ -113,38 +108,29 @@ impl Times {
     fn is_stranger(&self) -> bool
         ensures { IsTrue result ↔ IsStranger self.now }
     {
-        self.role == Role::Serve && !self.incoming.is_greeted()
+        self.role == Role::Serve && !self.is_greeted
     }
 
-    /// Notes bytes that have passed.
-    fn pass(&mut self, way: Way, bytes: &[u8], now: Instant) {
+    /// Notes what came, by the last bytes that did.
+    fn came(&mut self, arrival: Arrival) {
+        match arrival {
+            Arrival::Handshake => self.is_greeted = true,
+            Arrival::KeepAlive => self.look_for_block(self.last),
+            Arrival::Bits(count) => self.note_pieces(count),
+            Arrival::Message(PIECE) => self.block_came(self.last),
+            Arrival::Message(kind) => self.other_came(kind, self.last),
+        }
+    }
+
+    /// Notes bytes that went out.
+    fn pass_out(&mut self, bytes: &[u8], now: Instant) {
         let mut rest = bytes;
         'passing: while !rest.is_empty() {
-            let kind = self.passing(way).payload_kind();
-            let (count, passed) = self.passing(way).pass(rest);
-            if way == Way::In && kind == Some(BITFIELD) {
-                self.note_pieces(bit_count(&rest[..count]));
+            let (count, whole) = self.outgoing.pass(rest);
+            if let Some(kind) = whole {
+                self.went(kind, now);
             }
-            self.note(way, passed, now);
             rest = &rest[count..];
-        }
-    }
-
-    fn passing(&mut self, way: Way) -> &mut Passing {
-        match way {
-            Way::In => &mut self.incoming,
-            Way::Out => &mut self.outgoing,
-        }
-    }
-
-    fn note(&mut self, way: Way, passed: Passed, now: Instant) {
-        match (way, passed) {
-            (_, Passed::Part | Passed::Handshake) => {}
-            (Way::In, Passed::Message(PIECE)) => self.block_came(now),
-            (Way::In, Passed::Message(kind)) => self.other_came(kind, now),
-            (Way::In, Passed::KeepAlive) => self.look_for_block(now),
-            (Way::Out, Passed::Message(kind)) => self.went(kind, now),
-            (Way::Out, Passed::KeepAlive) => {}
         }
     }
 
@@ -211,15 +197,6 @@ impl Times {
     }
 }
 
-/// How many bits are set.
-fn bit_count(bytes: &[u8]) -> u64 {
-    let mut count: u64 = 0;
-    for byte in bytes {
-        count = count.saturating_add(u64::from(byte.count_ones()));
-    }
-    count
-}
-
 /// Whether so many seconds have passed since.
 fn has_passed(since: Instant, seconds: u64, now: Instant) -> bool
     ensures { IsTrue result ↔ HavePassed seconds since now }
@@ -263,10 +240,27 @@ impl Timing {
         }
     }
 
-    /// Notes bytes that have passed.
-    pub(crate) fn pass(&self, way: Way, bytes: &[u8], now: Instant) {
+    /// Notes that bytes come now. What they are is told next (`Observer`).
+    pub(crate) fn pass_in(&self, now: Instant) {
         if let Some(mut times) = self.times.get() {
-            times.pass(way, bytes, now);
+            times.last = now;
+            self.times.set(Some(times));
+        }
+    }
+
+    /// Notes bytes that went out.
+    pub(crate) fn pass_out(&self, bytes: &[u8], now: Instant) {
+        if let Some(mut times) = self.times.get() {
+            times.pass_out(bytes, now);
+            self.times.set(Some(times));
+        }
+    }
+}
+
+impl Observer for Timing {
+    fn came(&self, arrival: Arrival) {
+        if let Some(mut times) = self.times.get() {
+            times.came(arrival);
             self.times.set(Some(times));
         }
     }

@@ -7,7 +7,7 @@ use Rattle.bt_connection.proofs.Longs.{long_in_front}
 use Rattle.bt_connection.proofs.messages.cut_messages.Goals as goal
 
 pub returns-then-may_carry_block-clause-leads : goal.returns-then-may_carry_block-clause-leads
-returns-then-may_carry_block-clause-leads c =
+returns-then-may_carry_block-clause-leads g c =
     let found = c.whole_messages-run.ensures in
     let bytes = c.args.bytes.now in
     let begin = c.min-begin.result in
@@ -18,7 +18,7 @@ returns-then-may_carry_block-clause-leads c =
     (subst (λ (b : List ℕ). AreMessages (take count b)) behind found.messages)
 
 pub returns-clause-leads : goal.returns-clause-leads
-returns-clause-leads c =
+returns-clause-leads g c =
     let found = c.whole_messages-run.ensures in
     let bytes = c.args.bytes.now in
     let owed = c.args.owed in
@@ -47,7 +47,7 @@ returns-clause-leads c =
     (leads_into bytes owed count within all there long)))
 
 pub returns-then-may_carry_block-clause-long : goal.returns-then-may_carry_block-clause-long
-returns-then-may_carry_block-clause-long c =
+returns-then-may_carry_block-clause-long g c =
     let found = c.whole_messages-run.ensures in
     let run = c.whole_messages-run.result in
     let bytes = c.args.bytes.now in
@@ -56,7 +56,7 @@ returns-then-may_carry_block-clause-long c =
     (subst (λ (b : List ℕ). BeginWithLong run.long b) (take_rest bytes begin) found.long) found.few (omega arith)
 
 pub returns-clause-long : goal.returns-clause-long
-returns-clause-long c =
+returns-clause-long g c =
     let found = c.whole_messages-run.ensures in
     let run = c.whole_messages-run.result in
     let bytes = c.args.bytes.now in

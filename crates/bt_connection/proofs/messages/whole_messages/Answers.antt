@@ -7,10 +7,10 @@ use Rattle.bt_connection.proofs.Longs.{long_more, long_few}
 use Rattle.bt_connection.proofs.messages.whole_messages.Goals as goal
 
 pub messages-init : goal.messages-init
-messages-init c = record { within = omega arith; messages = no_message; long = tt; few = omega arith }
+messages-init g c = record { within = omega arith; messages = no_message; long = tt; few = omega arith }
 
 pub messages-preserved : goal.messages-preserved
-messages-preserved c =
+messages-preserved g c =
     let bytes = c.args.bytes.now in
     let begins : BeginsFrame (drop c.messages.at bytes) c.in-Some.len
     = subst (λ (b : List ℕ). BeginsFrame b c.in-Some.len) (take_rest bytes c.messages.at) c.in-Some.ensures.whole in

@@ -4,7 +4,7 @@ use Rattle.bt_connection.specs.Messages.{AreMessages, BeginWithLong}
 use Rattle.bt_connection.proofs.messages.whole_messages.Given as goal
 
 abbrev pub invariant-messages : goal.invariant-messages
-invariant-messages l = record {
+invariant-messages g l = record {
   within : l.at ≤ length l.bytes;
   messages : AreMessages (take l.at l.bytes);
   long : BeginWithLong l.long l.bytes;
@@ -12,4 +12,4 @@ invariant-messages l = record {
 }
 
 abbrev pub decreases-messages : goal.decreases-messages
-decreases-messages l = length l.bytes - l.at
+decreases-messages g l = length l.bytes - l.at

@@ -1,4 +1,5 @@
-use Rattle.std.proofs.Common.{[], ◌++◌, ap, subst}
+use Rattle.std.proofs.Common.{[], ◌++◌, refl, ap, subst}
+use Rattle.std.proofs.KnownBytes.{Keeps-refl}
 use Rattle.std.proofs.lemmas.Result.{err_from_is_err_and}
 use Rattle.bt_connection.specs.Padded.{IsFilled, PaddedState, DirectionState, padded_state, TakesParts, none_yet}
 use Rattle.bt_connection.proofs.Readers.{part_more, given_of}
@@ -47,7 +48,7 @@ returns-in_err-collect-clause-again g c =
     let so = c.loop.invariant in
     let last = c.loop.self-inside in
     let p = err_from_is_err_and c.from_residual.result c.from_residual.ensures.1 in
-    rw (p.1, p.2) (λ kind. record {
+    rw p.1 (record {
       came = so.0;
       mid = padded_state last.inner last.direction;
       takes = subst (λ (q : PaddedState _). TakesParts g.R.Read.remaining q so.0 (padded_state last.inner last.direction)) c.self.view_is so.1;
@@ -56,3 +57,15 @@ returns-in_err-collect-clause-again g c =
         others = ap (λ (d : DirectionState). padded_state c.collect.new.from d) c.in_err-collect.ensures.same;
       };
     })
+
+pub returns-clause-again : goal.returns-clause-again
+returns-clause-again g c =
+    let so = c.loop.invariant in
+    let last = c.loop.self-inside in
+    let mid = padded_state last.inner last.direction in
+    record {
+      came = so.0;
+      mid = mid;
+      takes = subst (λ (q : PaddedState _). TakesParts g.R.Read.remaining q so.0 mid) c.self.view_is so.1;
+      loses_nothing = record { kept = Keeps-refl (g.R.Read.remaining last.inner); others = refl };
+    }

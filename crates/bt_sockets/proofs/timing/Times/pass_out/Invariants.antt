@@ -1,5 +1,5 @@
 use Rattle.std.proofs.Common.{length}
-use Rattle.bt_sockets.proofs.timing.Times.pass.Given as goal
+use Rattle.bt_sockets.proofs.timing.Times.pass_out.Given as goal
 
 abbrev pub decreases-passing : goal.decreases-passing
 decreases-passing l = length l.rest
