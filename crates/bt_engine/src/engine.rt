@@ -1,6 +1,6 @@
 //! The engine of a torrent: its start, one call for each event of the machine of `bt_machine`, and calls that
 //! tell how it stands.
-ghost use Rattle.std.specs.Prelude.{◌≡◌, ◌≤◌, length, take, IfOk, OnOk, option_map, slice_get};
+ghost use Rattle.std.specs.Prelude.{◌≡◌, ◌≤◌, length, take, IfOk, OnOk, OnErr, option_map, slice_get};
 ghost use Rattle.std.specs.Option.{option_and_then, option_copied};
 ghost use Rattle.sha2.specs.Sha256.{sha256};
 ghost use Rattle.bt_meta.specs.Torrent.{IsLawful};
@@ -100,6 +100,8 @@ impl<D: Disk + Drop, H: NodeHash> Engine<D, H> {
     }
 
     /// Puts bytes behind those of a peer that no event was taken from, all or none.
+    ///
+    /// Errors, which change nothing: no peer has the key; out of memory.
     pub fn feed(&mut self, peer: PeerKey, bytes: &[u8]) -> Result<(), EngineError>
         ensures step { StepsTo D.conduct H.digest
             self.old (Event.Feed peer bytes.now) (Answer.Fed result) self.new }
@@ -114,6 +116,8 @@ impl<D: Disk + Drop, H: NodeHash> Engine<D, H> {
     /// The same event as `feed` with the first `count` bytes of a buffer. The engine may take the buffer in
     /// exchange for another, and copies no byte then: so the buffer may hold other bytes afterwards, but it does
     /// not get shorter.
+    ///
+    /// Errors, which change neither the engine nor the buffer: no peer has the key; out of memory.
     pub fn feed_buffer(
         &mut self,
         peer: PeerKey,
@@ -125,6 +129,7 @@ impl<D: Disk + Drop, H: NodeHash> Engine<D, H> {
             self.old (Event.Feed peer (take count buffer.old.items)) (Answer.Fed result) self.new }
         ensures stands { Stands D.conduct self.old self.new }
         ensures devices { self.new.disks ≡ self.old.disks }
+        ensures unchanged { OnErr result (buffer.new.items ≡ buffer.old.items) }
         ensures long { length buffer.old.items ≤ length buffer.new.items }
     {
         steps_keep_laws::<D, H>(self.hash);
@@ -147,7 +152,7 @@ impl<D: Disk + Drop, H: NodeHash> Engine<D, H> {
         next(self.alloc, &mut self.parts, peer)
     }
 
-    /// Lets a peer go. What it was asked for may be asked of others.
+    /// Lets a peer go. What it was asked for may be asked of others. Errors: no peer has the key.
     pub fn lost(&mut self, peer: PeerKey) -> Result<(), EngineError>
         ensures step { StepsTo D.conduct H.digest
             self.old (Event.Lost peer) (Answer.Lost result) self.new }

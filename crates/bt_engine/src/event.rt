@@ -7,7 +7,7 @@ ghost use Rattle.bt_machine.specs.Devices.{DeviceCalls, HaveCalls};
 ghost use Rattle.bt_machine.specs.Next.{without_peer};
 ghost use Rattle.bt_machine.specs.Orderly.{IsOrderly};
 ghost use Rattle.bt_engine_state.specs.Parts.{state_of, disks_of};
-ghost use Rattle.bt_engine_state.specs.Handling.{IsTiedAt, IsSoundAt, KeepsLog, KeepsDevices, KeepsWritten};
+ghost use Rattle.bt_engine_state.specs.Handling.{IsTiedAt, AreInShapeAt, KeepsLog, KeepsDevices, KeepsWritten};
 ghost use Rattle.bt_engine_messages.specs.Message.{IsPeerEvent};
 ghost use Rattle.bt_engine_messages.specs.Hashes.{IsNoteRoom};
 ghost use Rattle.bt_engine_messages.specs.Piece.{cancels_to};
@@ -67,7 +67,7 @@ pub(crate) fn take_event<D: Disk + Drop, H: NodeHash>(
     index: usize,
     event: &WireEvent,
 ) -> Result<Output, AllocError>
-    requires peer { IsSoundAt parts.old index }
+    requires peer { AreInShapeAt parts.old index }
     requires orderly { IsOrderly (state_of parts.old) }
     ensures step { IfOk result (λ out. (calls : DeviceCalls)
         × HaveCalls D.conduct (disks_of parts.old) calls (disks_of parts.new)
@@ -90,7 +90,7 @@ fn take_in_room<D: Disk + Drop, H: NodeHash>(
     event: &WireEvent,
     room: Room,
 ) -> Result<Output, AllocError>
-    requires peer { IsSoundAt parts.old index }
+    requires peer { AreInShapeAt parts.old index }
     requires orderly { IsOrderly (state_of parts.old) }
     requires room { HasRoomFor parts.old event.now room }
     ensures step { IfOk result (λ out. (calls : DeviceCalls)
@@ -145,7 +145,7 @@ fn keep<D: Disk + Drop, H: NodeHash>(
     proof: Option<Hint>,
     room: Room,
 ) -> Output
-    requires peer { IsSoundAt parts.old index }
+    requires peer { AreInShapeAt parts.old index }
     requires told { (old : EngineState) × TellMarks old (state_of parts.old) (notes_in reply) }
     requires room { (bound : ℕ) × (reply_count reply ≤ bound)
         × HasRoom bound (length parts.old.peers.items) room × HasHintRoom (bound + 1) parts.old.log }
@@ -217,7 +217,7 @@ fn handle<D: Disk + Drop, H: NodeHash>(
     index: usize,
     event: &WireEvent,
 ) -> Result<Handled, AllocError>
-    requires peer { IsSoundAt parts.old index }
+    requires peer { AreInShapeAt parts.old index }
     requires orderly { IsOrderly (state_of parts.old) }
     ensures handled { IfOk result (λ handled. IsHandled D.conduct H.digest
         parts.old index event.now handled parts.new) }
@@ -275,7 +275,7 @@ fn handle_piece<D: Disk + Drop, H: NodeHash>(
     begin: u32,
     bytes: &Bytes,
 ) -> Handled
-    requires { IsSoundAt parts.old index }
+    requires { AreInShapeAt parts.old index }
     ensures handled { IsHandled D.conduct H.digest parts.old index
         (WireEvent.Message (Message.Piece piece begin bytes.now)) result parts.new }
     ensures few { note_count result ≤ 1 }
@@ -296,7 +296,7 @@ fn handle_request<D: Disk + Drop, H: NodeHash>(
     index: usize,
     ask: Ask,
 ) -> Result<Handled, AllocError>
-    requires { IsSoundAt parts.old index }
+    requires { AreInShapeAt parts.old index }
     ensures handled { IfOk result (λ handled. IsHandled D.conduct H.digest parts.old index
         (WireEvent.Message (Message.Request ask)) handled parts.new) }
     ensures few { IfOk result (λ handled. note_count handled ≤ 1) }
@@ -327,7 +327,7 @@ fn handle_hashes<D: Disk + Drop, H: NodeHash>(
     key: &HashKey,
     digests: &Bytes,
 ) -> Result<Handled, AllocError>
-    requires { IsSoundAt parts.old index }
+    requires { AreInShapeAt parts.old index }
     ensures handled { IfOk result (λ handled. IsHandled D.conduct H.digest parts.old index
         (WireEvent.Message (Message.Hashes key.now digests.now)) handled parts.new) }
     ensures few { IfOk result (λ handled. (bound : ℕ) → IsNoteRoom parts.old key.now bound

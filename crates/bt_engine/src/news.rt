@@ -9,7 +9,7 @@ ghost use Rattle.bt_machine.specs.Blocks.{is_complete, new_complete_files};
 ghost use Rattle.bt_machine.specs.Output.{haves};
 ghost use Rattle.bt_engine_state.specs.Parts.{state_of};
 ghost use Rattle.bt_engine_state.specs.Ties.{IsTied};
-ghost use Rattle.bt_engine_state.specs.Handling.{IsSound};
+ghost use Rattle.bt_engine_state.specs.Handling.{AreInShape};
 ghost use Rattle.bt_engine.specs.NewsSteps.{TellMarks, marked_piece, marked_file, unless_last, haves_of, notes_if_complete};
 
 use bt_book::PeerKey;
@@ -27,7 +27,7 @@ pub(crate) fn announce_pieces<D: Disk + Drop, H: NodeHash>(
     notes: &[Note],
     send: &mut Vec<(PeerKey, Frame)>,
 )
-    requires sound { IsSound parts.now }
+    requires sound { AreInShape parts.now }
     requires told { (old : EngineState) × TellMarks old (state_of parts.now) notes.now }
     requires room { vec_len send.old + length notes.now * length parts.now.peers.items
         ≤ vec_capacity send.old }
@@ -80,7 +80,7 @@ pub(crate) fn note_complete_files<D: Disk + Drop, H: NodeHash>(
     parts: &Parts<D, H>,
     notes: &mut Vec<Note>,
 )
-    requires sound { IsSound parts.now }
+    requires sound { AreInShape parts.now }
     requires room { vec_len notes.old + vec_len notes.old ≤ vec_capacity notes.old }
     ensures noted { (old : EngineState) → TellMarks old (state_of parts.now) notes.old.items → notes.new.items
         ≡ notes.old.items ++ map (λ file. Note.Complete file) (new_complete_files old (state_of parts.now)) }
@@ -101,7 +101,7 @@ fn note_if_complete<D: Disk + Drop, H: NodeHash>(
     file: u32,
     notes: &mut Vec<Note>,
 )
-    requires sound { IsSound parts.now }
+    requires sound { AreInShape parts.now }
     requires room { vec_len notes.old < vec_capacity notes.old }
     ensures noted { notes.new.items ≡ notes.old.items ++ notes_if_complete (state_of parts.now) file }
     ensures few { vec_len notes.new ≤ vec_len notes.old + 1 }
@@ -114,7 +114,7 @@ fn note_if_complete<D: Disk + Drop, H: NodeHash>(
 
 /// Whether all blocks of the file are marked.
 fn is_file_complete<D: Disk + Drop, H: NodeHash>(parts: &Parts<D, H>, file: u32) -> bool
-    requires { IsSound parts.now }
+    requires { AreInShape parts.now }
     ensures { result ≡ is_complete (state_of parts.now) file }
 {
     match bt_engine_state::report(parts, file) {

@@ -5,7 +5,7 @@ ghost use Rattle.bt_machine.specs.Devices.{DeviceCalls, HaveCalls};
 ghost use Rattle.bt_machine.specs.Next.{StepNext};
 ghost use Rattle.bt_machine.specs.Orderly.{IsOrderly};
 ghost use Rattle.bt_engine_state.specs.Parts.{state_of, disks_of};
-ghost use Rattle.bt_engine_state.specs.Handling.{IsSound, IsTiedAt, KeepsDevices, KeepsWritten};
+ghost use Rattle.bt_engine_state.specs.Handling.{AreInShape, IsTiedAt, KeepsDevices, KeepsWritten};
 ghost use Rattle.bt_engine.specs.NextSteps.{IsCut};
 
 use crate::event::{close, drop_peer, take_event};
@@ -24,7 +24,7 @@ pub(crate) fn next<D: Disk + Drop, H: NodeHash>(
     parts: &mut Parts<D, H>,
     key: PeerKey,
 ) -> Result<Option<Output>, EngineError>
-    requires sound { IsSound parts.old }
+    requires sound { AreInShape parts.old }
     requires orderly { IsOrderly (state_of parts.old) }
     ensures step { (calls : DeviceCalls)
         × HaveCalls D.conduct (disks_of parts.old) calls (disks_of parts.new)

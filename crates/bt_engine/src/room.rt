@@ -3,7 +3,7 @@ ghost use Rattle.std.specs.Prelude.{◌≡◌, ◌^◌, ◌≤◌, IfOk, IfErr};
 ghost use Rattle.bt_machine.specs.Orderly.{IsOrderly};
 ghost use Rattle.bt_engine_state.specs.Parts.{state_of, log_of};
 ghost use Rattle.bt_engine_state.specs.Ties.{IsTied};
-ghost use Rattle.bt_engine_state.specs.Handling.{IsSound};
+ghost use Rattle.bt_engine_state.specs.Handling.{AreInShape};
 ghost use Rattle.bt_engine.specs.RoomSteps.{IsNoteBound, HasRoomFor};
 
 use crate::pending::reserve_hints;
@@ -33,7 +33,7 @@ pub(crate) fn reserve<D: Disk + Drop, H: NodeHash>(
     parts: &mut Parts<D, H>,
     event: &WireEvent,
 ) -> Result<Room, AllocError>
-    requires sound { IsSound parts.old }
+    requires sound { AreInShape parts.old }
     requires orderly { IsOrderly (state_of parts.old) }
     ensures room { IfOk result (HasRoomFor parts.new event.now) }
     ensures kept { IfErr result (λ _. parts.new ≡ parts.old) }
@@ -52,7 +52,7 @@ pub(crate) fn reserve<D: Disk + Drop, H: NodeHash>(
 
 /// How many notes the event has at most, without those of complete files.
 fn note_bound<D: Disk + Drop, H: NodeHash>(parts: &Parts<D, H>, event: &WireEvent) -> usize
-    requires { IsSound parts.now }
+    requires { AreInShape parts.now }
     ensures bound { IsNoteBound parts.now event.now result }
     ensures small { result ≤ 2 ^ 26 }
 {

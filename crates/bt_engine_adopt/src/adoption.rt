@@ -5,7 +5,7 @@ ghost use Rattle.bt_machine.specs.Devices.{DeviceCalls, HaveCalls};
 ghost use Rattle.bt_machine.specs.Blocks.{states_of};
 ghost use Rattle.bt_machine.specs.Adopting.{StepAdopt};
 ghost use Rattle.bt_engine_state.specs.Parts.{state_of, disks_of};
-ghost use Rattle.bt_engine_state.specs.Handling.{IsSound, KeepsWritten};
+ghost use Rattle.bt_engine_state.specs.Handling.{AreInShape, KeepsWritten};
 ghost use Rattle.bt_engine_adopt.specs.PartsSteps.{AreFit, AreInLine, KeepsRest, ChangesFile};
 ghost use Rattle.bt_engine_adopt.specs.AdoptionSteps.{AdoptsIn, StopsIn};
 
@@ -33,7 +33,7 @@ pub fn adopt<D: Disk + Drop, H: NodeHash>(
     parts: &mut Parts<D, H>,
     file: u32,
 ) -> Result<Adopted, AdoptError>
-    requires { IsSound parts.old }
+    requires { AreInShape parts.old }
     ensures step { (calls : DeviceCalls)
         × HaveCalls D.conduct (disks_of parts.old) calls (disks_of parts.new)
         × StepAdopt H.digest (state_of parts.old) file calls result (state_of parts.new) }

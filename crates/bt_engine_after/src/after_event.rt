@@ -1,7 +1,7 @@
 //! All that follows from an event for one peer, in its order: our interest, a hash request, block requests.
 ghost use Rattle.std.specs.Prelude.{◌+◌, ◌≤◌, vec_len, vec_capacity};
 ghost use Rattle.bt_engine_state.specs.Parts.{state_of};
-ghost use Rattle.bt_engine_state.specs.Handling.{IsSoundAt, KeepsDevices, KeepsKeys};
+ghost use Rattle.bt_engine_state.specs.Handling.{AreInShapeAt, KeepsDevices, KeepsKeys};
 ghost use Rattle.bt_engine_after.specs.AfterEvent.{SendsFollowUp, max_frames};
 
 use crate::asking::ask_blocks;
@@ -25,7 +25,7 @@ pub fn follow_up<D: Disk + Drop, H: NodeHash>(
     index: usize,
     send: &mut Vec<(PeerKey, Frame)>,
 )
-    requires peer { IsSoundAt parts.old index }
+    requires peer { AreInShapeAt parts.old index }
     requires room { vec_len send.old + max_frames ≤ vec_capacity send.old }
     ensures follows { SendsFollowUp H.digest (state_of parts.old) index send.old.items
         send.new.items (state_of parts.new) }

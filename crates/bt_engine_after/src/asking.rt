@@ -1,7 +1,7 @@
 //! The blocks that a peer is asked for.
 ghost use Rattle.std.specs.Prelude.{◌≡◌, ◌<◌};
 ghost use Rattle.bt_engine_state.specs.Parts.{state_of};
-ghost use Rattle.bt_engine_state.specs.Handling.{IsSoundAt, KeepsDevices};
+ghost use Rattle.bt_engine_state.specs.Handling.{AreInShapeAt, KeepsDevices};
 ghost use Rattle.bt_engine_after.specs.HeldSteps.{IsNextHeld};
 ghost use Rattle.bt_engine_after.specs.AskingSteps.{AreBlocksAsked};
 
@@ -19,7 +19,7 @@ pub(crate) fn ask_blocks<D: Disk + Drop, H: NodeHash>(
     parts: &mut Parts<D, H>,
     index: usize,
 ) -> ArrayVec<BlockId, MAX_REQUESTS>
-    requires { IsSoundAt parts.old index }
+    requires { AreInShapeAt parts.old index }
     ensures asked { AreBlocksAsked (state_of parts.old) index result.items (state_of parts.new) }
     ensures rest { KeepsDevices parts.old parts.new }
     ensures peers { parts.new.peers ≡ parts.old.peers }

@@ -6,7 +6,7 @@ ghost use Rattle.bt_machine.specs.State.{PeerState};
 ghost use Rattle.bt_machine.specs.Blocks.{tree_of, is_marked_in};
 ghost use Rattle.bt_machine.specs.FollowUp.{IsLeastNeed};
 ghost use Rattle.bt_engine_state.specs.Parts.{state_of};
-ghost use Rattle.bt_engine_state.specs.Handling.{IsSound, IsSoundAt, KeepsDevices, KeepsKeys};
+ghost use Rattle.bt_engine_state.specs.Handling.{AreInShape, AreInShapeAt, KeepsDevices, KeepsKeys};
 ghost use Rattle.bt_engine_after.specs.HashRequestsSteps.{AreHashesRequested, AsksForLeast, NeedsNoLeaf, IsUnknownFrom};
 
 use crate::held::next_outside;
@@ -28,7 +28,7 @@ pub(crate) fn request_hashes<D: Disk + Drop, H: NodeHash>(
     parts: &mut Parts<D, H>,
     index: usize,
 ) -> Option<Message>
-    requires { IsSoundAt parts.old index }
+    requires { AreInShapeAt parts.old index }
     ensures requested { AreHashesRequested H.digest (state_of parts.old) index result
         (state_of parts.new) }
     ensures rest { KeepsDevices parts.old parts.new }
@@ -47,7 +47,7 @@ pub(crate) fn request_hashes<D: Disk + Drop, H: NodeHash>(
 
 /// The key to ask for, of a peer that has these pieces. None where no leaf is needed.
 fn next_key<D: Disk + Drop, H: NodeHash>(parts: &Parts<D, H>, has: &PieceSet) -> Option<HashKey>
-    requires { IsSound parts.now }
+    requires { AreInShape parts.now }
     ensures some { IfSome result (λ key. (p : PeerState) → p.has ≡ has.now
         → AsksForLeast H.digest (state_of parts.now) p key) }
     ensures none { IfNone result ((p : PeerState) → p.has ≡ has.now
@@ -61,7 +61,7 @@ fn next_key<D: Disk + Drop, H: NodeHash>(parts: &Parts<D, H>, has: &PieceSet) ->
 /// that the peer has, in a piece that may have an unknown leaf, to the next unknown leaf, and from that to
 /// the next such block. A marked block has a known leaf, so that it is passed by these leaps.
 fn least_need<D: Disk + Drop, H: NodeHash>(parts: &Parts<D, H>, has: &PieceSet) -> Option<BlockId>
-    requires { IsSound parts.now }
+    requires { AreInShape parts.now }
     ensures block { IfSome result (λ b. HasBlock parts.now.torrent b.file b.block) }
     ensures some { IfSome result (λ b. (p : PeerState) → p.has ≡ has.now
         → IsLeastNeed H.digest (state_of parts.now) p b) }
@@ -85,7 +85,7 @@ fn least_need<D: Disk + Drop, H: NodeHash>(parts: &Parts<D, H>, has: &PieceSet) 
 /// The first block of the file, from this one on, whose leaf is unknown; how many blocks the file has where
 /// each leaf from there on is known.
 pub(crate) fn next_unknown<D: Disk + Drop, H: NodeHash>(parts: &Parts<D, H>, block: BlockId) -> u32
-    requires sound { IsSound parts.now }
+    requires sound { AreInShape parts.now }
     requires has { HasBlock parts.now.torrent block.file block.block }
     ensures unknown { IsUnknownFrom H.digest (state_of parts.now) block result }
     ensures limit { result ≤ max_block_count }
@@ -97,7 +97,7 @@ pub(crate) fn next_unknown<D: Disk + Drop, H: NodeHash>(parts: &Parts<D, H>, blo
 
 /// The tree of the block's file.
 fn tree_at<D: Disk + Drop, H: NodeHash>(parts: &Parts<D, H>, block: BlockId) -> &SparseTree<H>
-    requires sound { IsSound parts.now }
+    requires sound { AreInShape parts.now }
     requires has { HasBlock parts.now.torrent block.file block.block }
     ensures { tree_of (state_of parts.now) block.file ≡ Some result.now }
 {

@@ -3,7 +3,7 @@ ghost use Rattle.std.specs.Prelude.{◌≡◌, ◌↔◌, IsTrue};
 ghost use Rattle.bt_machine.specs.State.{PeerState};
 ghost use Rattle.bt_machine.specs.FollowUp.{IsInteresting, interest_sent};
 ghost use Rattle.bt_engine_state.specs.Parts.{state_of};
-ghost use Rattle.bt_engine_state.specs.Handling.{IsSound, IsSoundAt, KeepsDevices, KeepsKeys};
+ghost use Rattle.bt_engine_state.specs.Handling.{AreInShape, AreInShapeAt, KeepsDevices, KeepsKeys};
 ghost use Rattle.bt_engine_after.specs.HeldSteps.{IsNextHeld};
 ghost use Rattle.bt_engine_after.specs.SendingSteps.{frames_of};
 ghost use Rattle.bt_engine_after.specs.InterestSteps.{IsInterestTold};
@@ -20,7 +20,7 @@ pub(crate) fn tell_interest<D: Disk + Drop, H: NodeHash>(
     parts: &mut Parts<D, H>,
     index: usize,
 ) -> Option<Message>
-    requires { IsSoundAt parts.old index }
+    requires { AreInShapeAt parts.old index }
     ensures told { IsInterestTold (state_of parts.old) index result (state_of parts.new) }
     ensures rest { KeepsDevices parts.old parts.new }
     ensures keys { KeepsKeys parts.old parts.new }
@@ -47,7 +47,7 @@ fn change_of_interest(was_interested: bool, interested: bool) -> Option<Message>
 
 /// Whether a piece of the set holds a missing block.
 fn is_interesting<D: Disk + Drop, H: NodeHash>(parts: &Parts<D, H>, has: &PieceSet) -> bool
-    requires { IsSound parts.now }
+    requires { AreInShape parts.now }
     ensures { (p : PeerState) → p.has ≡ has.now → IsTrue result ↔ IsInteresting (state_of parts.now) p }
 {
     let torrent = &parts.torrent;

@@ -5,7 +5,7 @@ ghost use Rattle.bt_meta.specs.Torrent.{total_pieces};
 ghost use Rattle.bt_engine_state.specs.Parts.{state_of};
 ghost use Rattle.bt_engine_state.specs.Ties.{IsTied};
 ghost use Rattle.bt_engine_state.specs.declared.peer.Peer.{Peer};
-ghost use Rattle.bt_engine_state.specs.Handling.{IsSound, IsSoundAt};
+ghost use Rattle.bt_engine_state.specs.Handling.{AreInShape, AreInShapeAt};
 ghost use Rattle.bt_engine_after.specs.KnownPiecesSteps.{AreAllNoted, AreKnownTo, AreNoted, IsKnown};
 
 use crate::hash_requests::next_unknown;
@@ -18,7 +18,7 @@ use bt_tree::NodeHash;
 /// Notes which pieces are known, of those that stand before the first unknown leaf that the peer at `index`
 /// can tell us. Each piece is noted once, and later events pass it.
 pub(crate) fn note_known_pieces<D: Disk + Drop, H: NodeHash>(parts: &mut Parts<D, H>, index: usize)
-    requires { IsSoundAt parts.old index }
+    requires { AreInShapeAt parts.old index }
     ensures noted { (peer : Peer) → slice_get parts.old.peers.items index ≡ Some peer
         → AreAllNoted (state_of parts.old) peer.has parts.new.known }
     ensures others { parts.new ≡ record parts.old { known = parts.new.known } }
@@ -37,7 +37,7 @@ pub(crate) fn note_known_pieces<D: Disk + Drop, H: NodeHash>(parts: &mut Parts<D
 
 /// Up to which piece, from this one on, each leaf is known. It is in the same file, or the first one behind.
 fn known_to<D: Disk + Drop, H: NodeHash>(parts: &Parts<D, H>, piece: u32) -> u32
-    requires { IsSound parts.now }
+    requires { AreInShape parts.now }
     ensures known { AreKnownTo (state_of parts.now) piece result }
     ensures unknown { piece < total_pieces parts.now.torrent → result ≤ piece
         → ¬ IsKnown (state_of parts.now) piece }

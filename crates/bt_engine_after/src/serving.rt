@@ -7,7 +7,7 @@ ghost use Rattle.bt_machine.specs.Rechoke.{StepRechoke, rechoked, chokes_sent, c
 ghost use Rattle.bt_machine.specs.State.{PeerState};
 ghost use Rattle.bt_engine_state.specs.Parts.{state_of, peer_of};
 ghost use Rattle.bt_engine_state.specs.Ties.{IsTied};
-ghost use Rattle.bt_engine_state.specs.Handling.{IsSound, KeepsDevices};
+ghost use Rattle.bt_engine_state.specs.Handling.{AreInShape, KeepsDevices};
 ghost use Rattle.bt_engine_after.specs.AfterEvent.{max_frames};
 ghost use Rattle.bt_engine_after.specs.ServingSteps.{standing_at, is_served, served_peer, served_sent, message_sent, SendsAllFollowUps};
 
@@ -29,7 +29,7 @@ pub fn rechoke<D: Disk + Drop, H: NodeHash>(
     alloc: Global,
     parts: &mut Parts<D, H>,
 ) -> Result<Output, AllocError>
-    requires sound { IsSound parts.old }
+    requires sound { AreInShape parts.old }
     requires orderly { IsOrderly (state_of parts.old) }
     ensures step { StepRechoke H.digest (state_of parts.old) result (state_of parts.new) }
     ensures rest { KeepsDevices parts.old parts.new }
@@ -134,7 +134,7 @@ fn follow_up_all<D: Disk + Drop, H: NodeHash>(
     parts: &mut Parts<D, H>,
     send: &mut Vec<(PeerKey, Frame)>,
 )
-    requires sound { IsSound parts.old }
+    requires sound { AreInShape parts.old }
     requires room { vec_len send.old + max_frames * length parts.old.peers.items ≤ vec_capacity send.old }
     ensures follows { SendsAllFollowUps H.digest (state_of parts.old) send.old.items send.new.items
         (state_of parts.new) }

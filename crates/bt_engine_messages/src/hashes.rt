@@ -9,7 +9,7 @@ ghost use Rattle.bt_resume.specs.Hint.{CanBeRead};
 ghost use Rattle.bt_machine.specs.State.{EngineState};
 ghost use Rattle.bt_engine_state.specs.BlockChange.{AreFollowed};
 ghost use Rattle.bt_engine_state.specs.Parts.{state_of};
-ghost use Rattle.bt_engine_state.specs.Handling.{IsSound, IsSoundAt, KeepsLog, KeepsKeys};
+ghost use Rattle.bt_engine_state.specs.Handling.{AreInShape, AreInShapeAt, KeepsLog, KeepsKeys};
 ghost use Rattle.bt_engine_messages.specs.NoteRooms.{note_count};
 ghost use Rattle.bt_engine_messages.specs.Hashes.{TakesHashes, IsNoteRoom, hint_in};
 ghost use Rattle.bt_engine_messages.specs.HashesSteps.{IsNoteOf, HasNoted, IsBehind};
@@ -38,7 +38,7 @@ pub fn take_hashes<D: Disk + Drop, H: NodeHash>(
     key: &HashKey,
     digests: &[u8],
 ) -> Result<Learnt, AllocError>
-    requires { IsSoundAt parts.old index }
+    requires { AreInShapeAt parts.old index }
     ensures takes { IfOk result (λ learnt. TakesHashes D.conduct H.digest
         parts.old index key.now digests.now learnt parts.new) }
     ensures readable { IfOk result (λ learnt. IfSome (hint_in learnt) CanBeRead) }
@@ -74,7 +74,7 @@ pub fn take_hashes<D: Disk + Drop, H: NodeHash>(
 
 /// How many notes hashes of this key come to at most.
 pub fn room_for_notes<D: Disk + Drop, H: NodeHash>(parts: &Parts<D, H>, key: &HashKey) -> usize
-    requires { IsSound parts.now }
+    requires { AreInShape parts.now }
     ensures room { IsNoteRoom parts.now key.now result }
     ensures small { result ≤ (max_run_length + 1) * max_file_count }
 {

@@ -4,7 +4,7 @@ ghost use Rattle.std.specs.Prelude.{◌≡◌, ◌<◌, Some, length};
 ghost use Rattle.bt_machine.specs.Arrival.{HasPutEffect};
 ghost use Rattle.bt_machine.specs.Blocks.{state_at};
 ghost use Rattle.bt_engine_state.specs.Parts.{state_of};
-ghost use Rattle.bt_engine_state.specs.Handling.{IsSound, IsSoundAt, KeepsLog, KeepsKeys};
+ghost use Rattle.bt_engine_state.specs.Handling.{AreInShape, AreInShapeAt, KeepsLog, KeepsKeys};
 ghost use Rattle.bt_engine_messages.specs.Piece.{TakesPiece, effect_of, cancels_to};
 ghost use Rattle.bt_engine_messages.specs.PieceSteps.{CanPut, IsBlockOf, IsOfMissing, PutsBlock, PutsInSlot, state_after};
 
@@ -41,7 +41,7 @@ pub fn take_piece<D: Disk + Drop, H: NodeHash>(
     begin: u32,
     bytes: &[u8],
 ) -> Effect
-    requires { IsSoundAt parts.old index }
+    requires { AreInShapeAt parts.old index }
     ensures takes { TakesPiece D.conduct H.digest parts.old index piece begin bytes.now
         result parts.new }
     ensures rest { KeepsLog parts.old parts.new }
@@ -72,7 +72,7 @@ fn put_block<D: Disk + Drop, H: NodeHash>(
     ask: Ask,
     bytes: &[u8],
 ) -> Effect
-    requires sound { IsSound parts.old }
+    requires sound { AreInShape parts.old }
     requires missing { state_at (state_of parts.old) block ≡ Some BlockState.Missing }
     requires whole { IsBlockOf parts.old.torrent block bytes.now }
     ensures puts { PutsBlock D.conduct H.digest parts.old block ask bytes.now result

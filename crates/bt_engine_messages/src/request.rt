@@ -5,7 +5,7 @@ ghost use Rattle.std.specs.Bool.{OnFalse, OnTrue};
 ghost use Rattle.bt_machine.specs.Blocks.{block_id, state_at};
 ghost use Rattle.bt_machine.specs.Request.{AreMarked};
 ghost use Rattle.bt_engine_state.specs.Parts.{state_of};
-ghost use Rattle.bt_engine_state.specs.Handling.{IsSoundAt, KeepsLog, KeepsKeys};
+ghost use Rattle.bt_engine_state.specs.Handling.{AreInShapeAt, KeepsLog, KeepsKeys};
 ghost use Rattle.bt_engine_messages.specs.Request.{IsToServe, TakesRequest};
 ghost use Rattle.bt_engine_messages.specs.RequestSteps.{CanRead, IsLookedAt, SendsFromSlot, StopsInSlot};
 ghost use Rattle.bt_engine_messages.specs.ServingSteps.{IsRoomFor};
@@ -46,7 +46,7 @@ pub fn take_request<D: Disk + Drop, H: NodeHash>(
     index: usize,
     ask: Ask,
 ) -> Result<Served, AllocError>
-    requires { IsSoundAt parts.old index }
+    requires { AreInShapeAt parts.old index }
     ensures takes { IfOk result (λ served.
         TakesRequest D.conduct H.digest parts.old index ask served parts.new) }
     ensures kept { IfErr result (λ _. parts.new ≡ parts.old) }

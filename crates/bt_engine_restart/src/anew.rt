@@ -7,7 +7,7 @@ ghost use Rattle.bt_machine.specs.Recovery.{Recovers};
 ghost use Rattle.bt_machine.specs.Restart.{StepRestart, KeepsPlaces};
 ghost use Rattle.bt_engine_state.specs.Parts.{state_of};
 ghost use Rattle.bt_engine_state.specs.Ties.{IsTied};
-ghost use Rattle.bt_engine_state.specs.Handling.{IsSound, KeepsDevices};
+ghost use Rattle.bt_engine_state.specs.Handling.{AreInShape, KeepsDevices};
 ghost use Rattle.bt_engine_start.specs.Books.{AreNewBooks};
 ghost use Rattle.bt_engine_start.specs.Trees.{AreTreesOf};
 ghost use Rattle.bt_engine_restart.specs.AnewSteps.{cleared};
@@ -31,7 +31,7 @@ pub(crate) fn restart_bare<D: Disk + Drop, H: NodeHash>(
     parts: &mut Parts<D, H>,
 ) -> Result<(), RestartError>
     requires digest { H.digest ≡ sha256 }
-    requires sound { IsSound parts.old }
+    requires sound { AreInShape parts.old }
     requires unlogged { parts.old.log ≡ None }
     ensures step { StepRestart H.digest (state_of parts.old) no_calls result (state_of parts.new) }
     ensures refused { IfErr result (λ _. parts.new ≡ parts.old) }
@@ -69,7 +69,7 @@ fn begin_again<D: Disk + Drop, H: NodeHash>(
     trees: Vec<SparseTree<H>>,
     books: Books,
 )
-    requires sound { IsSound parts.old }
+    requires sound { AreInShape parts.old }
     requires unlogged { parts.old.log ≡ None }
     requires trees { AreTreesOf H.digest parts.old.torrent parts.old.roots.first_files.items trees.items }
     requires books { AreNewBooks parts.old.torrent books }

@@ -2,7 +2,7 @@
 ghost use Rattle.std.specs.Prelude.{◌≡◌, IfErr};
 ghost use Rattle.sha2.specs.Sha256.{sha256};
 ghost use Rattle.bt_engine_state.specs.Ties.{IsTied};
-ghost use Rattle.bt_engine_state.specs.Handling.{IsSound};
+ghost use Rattle.bt_engine_state.specs.Handling.{AreInShape};
 ghost use Rattle.bt_engine_restart.specs.Restarting.{RestartsWith};
 
 use crate::anew::restart_bare;
@@ -26,7 +26,7 @@ pub fn restart<D: Disk + Drop, H: NodeHash>(
     parts: &mut Parts<D, H>,
 ) -> Result<(), RestartError>
     requires digest { H.digest ≡ sha256 }
-    requires sound { IsSound parts.old }
+    requires sound { AreInShape parts.old }
     ensures step { RestartsWith D.conduct H.digest parts.old result parts.new }
     ensures refused { IfErr result (λ _. parts.new ≡ record parts.old { log = parts.new.log }) }
     ensures torrent { parts.new.torrent ≡ parts.old.torrent }

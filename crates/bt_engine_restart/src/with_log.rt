@@ -4,7 +4,7 @@ ghost use Rattle.sha2.specs.Sha256.{sha256};
 ghost use Rattle.bt_machine.specs.Shape.{IsShaped};
 ghost use Rattle.bt_engine_state.specs.Parts.{state_of, disks_of, pending_of};
 ghost use Rattle.bt_engine_state.specs.Ties.{IsTied};
-ghost use Rattle.bt_engine_state.specs.Handling.{IsSound, KeepsWritten};
+ghost use Rattle.bt_engine_state.specs.Handling.{AreInShape, KeepsWritten};
 ghost use Rattle.bt_engine_start.specs.Books.{AreNewBooks};
 ghost use Rattle.bt_engine_recall.specs.Recovering.{AreMissing};
 ghost use Rattle.bt_engine_restart.specs.Restarting.{RestartsWith};
@@ -35,7 +35,7 @@ pub(crate) fn restart_with_log<D: Disk + Drop, H: NodeHash>(
     parts: &mut Parts<D, H>,
 ) -> Result<(), RestartError>
     requires digest { H.digest ≡ sha256 }
-    requires sound { IsSound parts.old }
+    requires sound { AreInShape parts.old }
     requires logged { IsSome parts.old.log }
     ensures step { RestartsWith D.conduct H.digest parts.old result parts.new }
     ensures refused { IfErr result (λ _. parts.new ≡ record parts.old { log = parts.new.log }) }
@@ -74,7 +74,7 @@ fn made_from_log<D: Disk + Drop, H: NodeHash>(
     parts: &Parts<D, H>,
 ) -> Result<(Vec<SparseTree<H>>, Books), AllocError>
     requires digest { H.digest ≡ sha256 }
-    requires sound { IsSound parts.now }
+    requires sound { AreInShape parts.now }
     requires logged { IsSome parts.now.log }
     ensures trees { IfOk result (λ made. AreTreesFrom H.digest parts.now made.0.items) }
     ensures books { IfOk result (λ made. AreNewBooks parts.now.torrent made.1) }
@@ -93,7 +93,7 @@ fn begin_with_log<D: Disk + Drop, H: NodeHash>(
     trees: Vec<SparseTree<H>>,
     books: Books,
 )
-    requires sound { IsSound parts.old }
+    requires sound { AreInShape parts.old }
     requires trees { AreTreesFrom H.digest parts.old trees.items }
     requires books { AreNewBooks parts.old.torrent books }
     ensures begun { HasBegun H.digest parts.old parts.new }

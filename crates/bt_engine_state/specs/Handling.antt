@@ -8,7 +8,7 @@ use Rattle.bt_engine_state.specs.declared.parts.Parts.{Parts}
 -- ---- what is needed
 
 -- the parts are tied, and their state has its shape
-pub record IsSound {D H : Type 0} (parts : Parts D H) : Type 0 where
+pub record AreInShape {D H : Type 0} (parts : Parts D H) : Type 0 where
   pub tied : IsTied parts
   pub shaped : IsShaped parts.torrent (state_of parts)
 
@@ -18,8 +18,8 @@ pub record IsTiedAt {D H : Type 0} (parts : Parts D H) (index : ℕ) : Type 0 wh
   pub inside : index < vec_len parts.peers
   pub there : index < length parts.peers.items
 
--- the parts are sound, and a peer stands at the index
-pub record IsSoundAt {D H : Type 0} (parts : Parts D H) (index : ℕ) : Type 0 where
+-- the same, and a peer stands at the index
+pub record AreInShapeAt {D H : Type 0} (parts : Parts D H) (index : ℕ) : Type 0 where
   pub tied : IsTied parts
   pub shaped : IsShaped parts.torrent (state_of parts)
   pub inside : index < vec_len parts.peers

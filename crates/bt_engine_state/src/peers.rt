@@ -1,5 +1,5 @@
 //! Peers by their keys: where one stands, bytes that come from it, and its leaving.
-ghost use Rattle.std.specs.Prelude.{◌<◌, ◌≤◌, IfSome, IfNone, length, take, vec_len};
+ghost use Rattle.std.specs.Prelude.{◌≡◌, ◌<◌, ◌≤◌, IfSome, IfNone, OnErr, length, take, vec_len};
 ghost use Rattle.bt_machine.specs.Orderly.{IsOrderly};
 ghost use Rattle.bt_machine.specs.Peers.{StepFeed, StepLost};
 ghost use Rattle.bt_engine_state.specs.Parts.{state_of, IsPeerAt, LacksPeer};
@@ -27,7 +27,8 @@ pub fn index_of<D: Disk + Drop, H: NodeHash>(parts: &Parts<D, H>, key: PeerKey) 
     None
 }
 
-/// Puts bytes behind those of a peer that no event was taken from.
+/// Puts bytes behind those of a peer that no event was taken from, all or none. Errors, which change nothing: no
+/// peer has the key; out of memory.
 pub fn feed<D: Disk + Drop, H: NodeHash>(
     parts: &mut Parts<D, H>,
     key: PeerKey,
@@ -53,7 +54,8 @@ pub fn feed<D: Disk + Drop, H: NodeHash>(
 }
 
 /// Puts the first `count` bytes of a buffer behind those of a peer that no event was taken from. The buffer
-/// may be exchanged for another, which is not shorter.
+/// may be exchanged for another, which is not shorter. Errors, which change neither parts nor buffer: no peer has
+/// the key; out of memory.
 pub fn feed_buffer<D: Disk + Drop, H: NodeHash>(
     parts: &mut Parts<D, H>,
     key: PeerKey,
@@ -66,6 +68,7 @@ pub fn feed_buffer<D: Disk + Drop, H: NodeHash>(
     ensures step { StepFeed (state_of parts.old) key (take count buffer.old.items) result
         (state_of parts.new) }
     ensures rest { KeepsDevices parts.old parts.new }
+    ensures unchanged { OnErr result (buffer.new.items ≡ buffer.old.items) }
     ensures long { length buffer.old.items ≤ length buffer.new.items }
 {
     let Some(index) = index_of(parts, key) else {
@@ -81,7 +84,7 @@ pub fn feed_buffer<D: Disk + Drop, H: NodeHash>(
     }
 }
 
-/// Lets a peer go. What it was asked for may be asked of others.
+/// Lets a peer go. What it was asked for may be asked of others. Errors: no peer has the key.
 pub fn lost<D: Disk + Drop, H: NodeHash>(
     parts: &mut Parts<D, H>,
     key: PeerKey,

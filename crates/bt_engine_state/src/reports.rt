@@ -7,7 +7,7 @@ ghost use Rattle.bt_store.specs.BlockStates.{is_marked};
 ghost use Rattle.bt_machine.specs.Report.{report as file_report, report_of, all_complete, peer_count as count_of_peers};
 ghost use Rattle.bt_engine_state.specs.Parts.{state_of, disks_of, file_of};
 ghost use Rattle.bt_engine_state.specs.Ties.{HasAllStates};
-ghost use Rattle.bt_engine_state.specs.Handling.{IsSound};
+ghost use Rattle.bt_engine_state.specs.Handling.{AreInShape};
 
 use crate::parts::Parts;
 use crate::slot::Slot;
@@ -17,7 +17,7 @@ use bt_tree::NodeHash;
 
 /// How far a file is, in constant time; None where there is no such file.
 pub fn report<D: Disk + Drop, H: NodeHash>(parts: &Parts<D, H>, file: u32) -> Option<FileReport>
-    requires { IsSound parts.now }
+    requires { AreInShape parts.now }
     ensures { result ≡ file_report (state_of parts.now) file }
 {
     let slots = parts.slots.as_slice();

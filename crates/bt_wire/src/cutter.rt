@@ -68,17 +68,19 @@ impl Cutter {
     }
 
     /// Puts the first `count` bytes of a buffer behind the unread ones, all or none, as `feed` does. Where none
-    /// is unread and the cutter's own buffer is at least as long, the two are exchanged, and no byte is copied.
-    /// So the buffer may hold other bytes afterwards; it does not get shorter.
+    /// is unread, the cutter's own buffer is at least as long, and the other has room for no more than 131,072
+    /// bytes, the two are exchanged, and no byte is copied. So the buffer may hold other bytes afterwards; it does
+    /// not get shorter.
     ///
     /// Errors: `Failed` after `next` returned a fault of the stream; `OutOfMemory`. Neither changes the
-    /// cutter.
+    /// cutter or the buffer.
     pub fn feed_buffer(&mut self, buffer: &mut Vec<u8>, count: usize) -> Result<(), WireError>
         requires within { count ≤ length buffer.old.items }
         ensures fed { OnOk result (self.new ≡ fed self.old (take count buffer.old.items)) }
         ensures running { OnOk result (self.old.failed ≡ false) }
         ensures refused { IfErr result (IsFeedRefusal self.old) }
         ensures kept { OnErr result (self.new ≡ self.old) }
+        ensures unchanged { OnErr result (buffer.new.items ≡ buffer.old.items) }
         ensures long { length buffer.old.items ≤ length buffer.new.items }
     {
         if self.failed {
