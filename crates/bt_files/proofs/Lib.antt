@@ -7,3 +7,4 @@ pub mod Devices
 pub mod ReportLines
 pub mod Faults
 pub mod Refusals
+pub mod OwnFiles

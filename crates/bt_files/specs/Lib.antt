@@ -4,6 +4,7 @@ pub mod FileUse
 pub mod OpenFolder
 pub mod DataFiles
 pub mod DataFilesSteps
+pub mod OwnFiles
 pub mod StoreLog
 pub mod Store
 pub mod Report

@@ -1,5 +1,5 @@
 -- The engine that a store is opened with.
-use Rattle.std.specs.Prelude.{[], ◌≡◌, ◌≢◌, ◌⊎◌, ℕ, Bool, List, length, Option, None, Some}
+use Rattle.std.specs.Prelude.{[], ◌≡◌, ◌≢◌, ◌⊎◌, ℕ, Bool, false, List, length, Option, None, Some}
 use Rattle.std.specs.Borrow.{Bor}
 use Rattle.sha2.specs.Sha256.{sha256}
 use Rattle.bt_devices.specs.Disk.{ahead_conduct}
@@ -19,7 +19,9 @@ use Rattle.bt_folder.specs.declared.known_files.KnownFiles.{KnownFiles}
 use Rattle.bt_check.specs.Fault.{device, log_full}
 use Rattle.bt_check.specs.declared.fault.Fault.{Fault}
 use Rattle.bt_files.specs.DataFiles.{AreFilled, AreNewDevices, DeviceView}
+use Rattle.bt_files.specs.FileUse.{is_read_only}
 use Rattle.bt_files.specs.OpenFolder.{IsOpeningFault, KnowsOpened}
+use Rattle.bt_files.specs.OwnFiles.{AreApart, AreKnown}
 use Rattle.bt_files.specs.StoreLog.{IsLogAt, IsLogFaultAt, IsLookFault}
 use Rattle.bt_files.specs.declared.file_use.FileUse.{FileUse}
 
@@ -68,15 +70,20 @@ device_conduct = sealed_conduct (ahead_conduct pooled_conduct)
 
 -- An engine of the torrent, which began with the devices of its files, opened for a use, and with the log at this path
 -- or without one, and has taken in what is there where there is none. Of which files bytes are there the system
--- tells; of an empty file there are none.
+-- tells; of an empty file there are none. But for a read-only use no two of these devices are of one file, and the log is
+-- in none of their files, since what is known of them is no log's: all this as far as the system tells files apart.
 pub record IsOpened (usage : FileUse) (dir : List ℕ) (log : Option (Bor (List ℕ))) (torrent : Metainfo)
     (engine : EngineView DeviceView) : Type 0 where
   pub devices : List DeviceView
   pub of_files : AreNewDevices usage dir torrent.files devices
   pub filled : List Bool
   pub each : length filled ≡ length torrent.files
+  pub apart : is_read_only usage ≡ false → AreApart devices
+  pub known : KnownFiles
+  pub told : is_read_only usage ≡ false → AreKnown known devices
   pub attached : Option (LogView DeviceView)
-  pub of_log : IsLogAt torrent log attached
+  pub after : KnownFiles
+  pub of_log : IsLogAt known torrent log after attached
   pub begun : HasBegun device_conduct sha256 torrent devices attached filled
       engine
   pub are_filled : AreFilled torrent.files filled

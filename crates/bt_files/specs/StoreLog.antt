@@ -1,21 +1,21 @@
 -- The log that a store is opened with, in the file at a path.
-use Rattle.std.specs.Prelude.{⊤, ◌≡◌, ◌≢◌, ◌⊎◌, ℕ, List, Option, Some, None}
+use Rattle.std.specs.Prelude.{◌≡◌, ◌≢◌, ◌⊎◌, ℕ, List, Option, Some, None}
 use Rattle.std.specs.Borrow.{Bor}
-use Rattle.bt_disk.specs.declared.opening.FileIdentity.{FileIdentity}
 use Rattle.bt_folder.specs.declared.known_files.KnownFiles.{KnownFiles}
 use Rattle.bt_meta.specs.Torrent.{Metainfo}
 use Rattle.bt_resume.specs.ResumeLog.{LogView}
 use Rattle.bt_check.specs.Fault.{log_among_files, out_of_memory}
 use Rattle.bt_check.specs.declared.fault.Fault.{Fault}
 use Rattle.bt_log_file.specs.Device.{LogDiskView}
-use Rattle.bt_log_file.specs.Opening.{IsLogFault, IsLogIn}
+use Rattle.bt_log_file.specs.Opening.{IsFurtherLog, IsLogFault}
 
--- the log of a torrent on a new device of the file at this path; none where no path is given
-abbrev pub IsLogAt : Metainfo → Option (Bor (List ℕ)) → Option (LogView LogDiskView) → Type 0
-IsLogAt torrent None None = ⊤
-IsLogAt torrent (Some path) (Some log) =
-    (identity : Option FileIdentity) × IsLogIn torrent path.now identity log
-IsLogAt torrent _ _ = ⊥
+-- The log of a torrent on a new device of the file at this path, which was none of the files known before, and is known
+-- after; none, and nothing is added, where no path is given.
+abbrev pub IsLogAt : (before : KnownFiles) → Metainfo → Option (Bor (List ℕ)) → (after : KnownFiles)
+    → Option (LogView LogDiskView) → Type 0
+IsLogAt before torrent None after None = after ≡ before
+IsLogAt before torrent (Some path) after (Some log) = IsFurtherLog before torrent path.now after log
+IsLogAt before torrent _ after _ = ⊥
 
 -- why none is opened in this file, where these files are known
 abbrev pub IsLogFaultAt : KnownFiles → Metainfo → Option (Bor (List ℕ)) → Fault → Type 0

@@ -9,6 +9,7 @@ ghost use Rattle.bt_files.specs.DataFiles.{AreFilled, AreNewDevices, IsNewDevice
 ghost use Rattle.bt_files.specs.DataFilesSteps.{IsOpenedFor, IsPushed};
 ghost use Rattle.bt_files.specs.FileUse.{is_read_only};
 ghost use Rattle.bt_files.specs.OpenFolder.{IsCallFault, IsOpeningFault, KnowsOpened};
+ghost use Rattle.bt_files.specs.OwnFiles.{AreApart, AreKnown, identity_of};
 
 use crate::device_context::DeviceContext;
 use crate::file_use::FileUse;
@@ -87,6 +88,10 @@ pub(crate) fn open_devices<'a, R: Files + AllocGlobal + Clone + Drop, P: Watch>(
     ensures filled { IfOk result (λ files. AreFilled (map file_of entries.now) files.filled.items) }
     ensures known { IfOk result
         (λ files. KnowsOpened context.entry.usage (map file_of entries.now) files.known) }
+    ensures told { IfOk result (λ files. is_read_only context.entry.usage ≡ false
+        → AreKnown files.known files.disks.items) }
+    ensures apart { IfOk result (λ files. is_read_only context.entry.usage ≡ false
+        → AreApart files.disks.items) }
     ensures fault { IfErr result (IsOpeningFault context.entry.usage (map file_of entries.now)) }
 {
     let mut pool = HandlePool::new(rt.alloc(), rt.clone()?, OPEN_FILES)?;
@@ -114,6 +119,10 @@ fn push_devices<'a, R: Files + AllocGlobal + Clone + Drop, P: Watch>(
     ensures filled { OnOk result (AreFilled (map file_of entries.now) files.new.filled.items) }
     ensures known { OnOk result
         (KnowsOpened context.entry.usage (map file_of entries.now) files.new.known) }
+    ensures told { OnOk result (is_read_only context.entry.usage ≡ false
+        → AreKnown files.new.known files.new.disks.items) }
+    ensures apart { OnOk result (is_read_only context.entry.usage ≡ false
+        → AreApart files.new.disks.items) }
     ensures fault { IfErr result (IsOpeningFault context.entry.usage (map file_of entries.now)) }
 {
     let mut folder = OpenFolder::new(rt.alloc());
@@ -156,6 +165,8 @@ fn open_entry<'a, R: Files + AllocGlobal + Drop, P: Watch>(
     ensures empty { IfOk result (λ file. entry.now.length ≡ 0 → file.is_filled ≡ false) }
     ensures filled { IfOk result
         (λ file. entry.now.length ≢ 0 → file.is_filled ≡ nat_lt 0 file.opening.len) }
+    ensures identity { IfOk result (λ file.
+        IfSome file.disk (λ disk. identity_of disk ≡ file.opening.identity)) }
     ensures fault { IfErr result IsCallFault }
 {
     let path = data_path(rt.alloc(), dir, &entry.path)?;
@@ -183,6 +194,8 @@ fn open_device<'a, R: Files + Drop, P: Watch>(
         IfSome file.disk (IsNewDevice context.entry.usage pool.new.made (path_buf_bytes path))) }
     ensures one_more { OnOk result (pool.new.made ≡ pool.old.made + 1) }
     ensures filled { IfOk result (λ file. file.is_filled ≡ nat_lt 0 file.opening.len) }
+    ensures identity { IfOk result (λ file.
+        IfSome file.disk (λ disk. identity_of disk ≡ file.opening.identity)) }
     ensures fault { IfErr result IsCallFault }
 {
     let name = fault_name(alloc, watch, path.as_path().as_str())?;

@@ -31,7 +31,7 @@ pub(crate) fn look_at_log<R: Files + AllocGlobal>(
 }
 
 /// Opens the log of a torrent, where the path of one is given. All files of the torrent were opened before: `known` has
-/// them, but for a read-only use.
+/// them, but for a read-only use, and the log's file is added to it.
 pub(crate) fn open_log_at<'a, R: Files + AllocGlobal + Clone + Drop, P: Watch>(
     rt: &R,
     watch: &'a P,
@@ -41,7 +41,7 @@ pub(crate) fn open_log_at<'a, R: Files + AllocGlobal + Clone + Drop, P: Watch>(
     torrent: &Torrent,
     log: Option<&str>,
 ) -> Result<Option<ResumeLog<LogDisk<'a, R, P>>>, Fault>
-    ensures log { IfOk result (IsLogAt torrent.now log.entry) }
+    ensures log { IfOk result (IsLogAt known.old torrent.now log.entry known.new) }
     ensures fault { IfErr result (IsLogFaultAt known.old torrent.now log.entry) }
 {
     match log {

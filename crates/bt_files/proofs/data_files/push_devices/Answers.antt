@@ -2,8 +2,11 @@ use Rattle.std.proofs.Common.{map, sym, subst, ◌∙◌, arith}
 use Rattle.bt_meta.specs.Files.{file_of}
 use Rattle.bt_files.proofs.Devices.{opened_more}
 use Rattle.bt_files.proofs.Faults.{passed_on}
+use Rattle.bt_files.proofs.OwnFiles.{apart_more, known_more}
 use Rattle.bt_files.proofs.Refusals.{knows_before, knows_more, knows_opened, of_another_file, still_unused}
 use Rattle.bt_files.specs.OpenFolder.{IsOpeningFault, IsUnused, KnowsOpened}
+use Rattle.bt_files.specs.OwnFiles.{AreKnown}
+use Rattle.bt_folder.specs.declared.known_files.KnownFiles.{KnownFiles}
 use Rattle.bt_files.proofs.data_files.push_devices.Goals as goal
 
 pub loop-entry-preserved : goal.loop-entry-preserved
@@ -20,6 +23,13 @@ loop-entry-preserved g c = record {
       (c.in_ok-add.ensures.added writes);
   unread = λ only_read. subst IsUnused (sym (c.in_ok-add.ensures.kept only_read))
       (still_unused c.loop-entry.folder c.go_to.new.self c.go_to.ensures.files c.go_to.ensures.paths (c.loop-entry.invariant.unread only_read));
+  told = λ writes. known_more c.go_to.new.self.files c.add.new.self.files _ c.loop-entry.files.disks.items c.push.new.self.disks.items c.in_ok-file.file.disk
+      (c.in_ok-add.ensures.added writes) c.in_ok-file.ensures.identity c.in_ok-push.ensures.disks
+      (subst (λ (them : KnownFiles). AreKnown them c.loop-entry.files.disks.items) (sym c.go_to.ensures.files) (c.loop-entry.invariant.told writes));
+  apart = λ writes. apart_more c.go_to.new.self.files _ c.loop-entry.files.disks.items c.push.new.self.disks.items c.in_ok-file.file.disk
+      (c.in_ok-add.ensures.further writes) c.in_ok-file.ensures.identity c.in_ok-push.ensures.disks
+      (subst (λ (them : KnownFiles). AreKnown them c.loop-entry.files.disks.items) (sym c.go_to.ensures.files) (c.loop-entry.invariant.told writes))
+      (c.loop-entry.invariant.apart writes);
 }
 
 pub returns-in_err-add-clause-fault : goal.returns-in_err-add-clause-fault
@@ -36,3 +46,11 @@ returns-clause-known g c =
     (knows_opened c.args.context.usage c.loop-entry.folder c.args.entries.now c.loop-entry.entry-index
     (omega (arith, c.loop-entry-test.false, c.loop-entry.auto.entry-index-end)) c.loop-entry.invariant.first c.loop-entry.invariant.known
     c.loop-entry.invariant.unread)
+
+pub returns-clause-told : goal.returns-clause-told
+returns-clause-told g c = λ writes.
+    subst (λ (them : KnownFiles). AreKnown them c.loop-entry.files.disks.items) (sym (c.into_files.ensures ∙ c.end.ensures.files))
+    (c.loop-entry.invariant.told writes)
+
+pub returns-clause-apart : goal.returns-clause-apart
+returns-clause-apart g c = c.loop-entry.invariant.apart

@@ -20,7 +20,8 @@ begin_store-requires-clause-each g c =
     c.in_ok-files.ensures.each ∙ sym (length-map c.files.result.now file_of) ∙ ap length c.files.ensures.said
 
 pub begin_store-requires-clause-own_log : goal.begin_store-requires-clause-own_log
-begin_store-requires-clause-own_log g c = log_is_own c.args.torrent c.args.log c.in_ok-attached.attached c.in_ok-attached.ensures.log
+begin_store-requires-clause-own_log g c =
+    log_is_own c.in_ok-files.files.known c.args.torrent c.args.log c.open_log_at.new.known c.in_ok-attached.attached c.in_ok-attached.ensures.log
 
 pub returns-in_err-look_at_log-clause-fault : goal.returns-in_err-look_at_log-clause-fault
 returns-in_err-look_at_log-clause-fault g c =
@@ -49,7 +50,11 @@ returns-clause-opened g c = ok_weaker c.begin_store.result _ _ (λ engine begun.
   of_files = subst (λ (files : List File). AreNewDevices c.args.context.usage c.args.dir.now files c.in_ok-files.files.disks.items) c.files.ensures.said c.in_ok-files.ensures.devices;
   filled = c.in_ok-files.files.filled.items;
   each = c.in_ok-files.ensures.each ∙ sym (length-map c.files.result.now file_of) ∙ ap length c.files.ensures.said;
+  apart = c.in_ok-files.ensures.apart;
+  known = c.in_ok-files.files.known;
+  told = c.in_ok-files.ensures.told;
   attached = c.in_ok-attached.attached;
+  after = c.open_log_at.new.known;
   of_log = c.in_ok-attached.ensures.log;
   begun = begun;
   are_filled = subst (λ (files : List File). AreFilled files c.in_ok-files.files.filled.items) c.files.ensures.said c.in_ok-files.ensures.filled;

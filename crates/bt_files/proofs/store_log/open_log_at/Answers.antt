@@ -1,12 +1,12 @@
-use Rattle.std.proofs.Common.{Some, None, sym, subst}
+use Rattle.std.proofs.Common.{Some, None, refl, sym, subst}
 use Rattle.bt_files.specs.StoreLog.{IsLogAt, IsLogFaultAt}
 use Rattle.bt_files.proofs.Faults.{passed_on}
 use Rattle.bt_files.proofs.store_log.open_log_at.Goals as goal
 
 pub returns-in_ok-opened-in-Some-clause-log : goal.returns-in_ok-opened-in-Some-clause-log
 returns-in_ok-opened-in-Some-clause-log g c =
-    let opened = c.in_ok-opened-in-Some.ensures.log in
-    subst (λ log. IsLogAt c.args.torrent.now log (Some c.in_ok-opened-in-Some.opened)) (sym c.in-Some.is) (opened.identity, opened.is_log)
+    subst (λ log. IsLogAt c.args.known.now c.args.torrent.now log c.open_log.new.known (Some c.in_ok-opened-in-Some.opened)) (sym c.in-Some.is)
+    c.in_ok-opened-in-Some.ensures.log
 
 pub returns-in_err-opened-in-Some-clause-fault : goal.returns-in_err-opened-in-Some-clause-fault
 returns-in_err-opened-in-Some-clause-fault g c =
@@ -15,4 +15,5 @@ returns-in_err-opened-in-Some-clause-fault g c =
     c.in_err-opened-in-Some.ensures.fault)
 
 pub returns-in-None-clause-log : goal.returns-in-None-clause-log
-returns-in-None-clause-log g c = subst (λ log. IsLogAt c.args.torrent.now log None) (sym c.in-None.is) tt
+returns-in-None-clause-log g c =
+    subst (λ log. IsLogAt c.args.known.now c.args.torrent.now log c.args.known.now None) (sym c.in-None.is) refl
