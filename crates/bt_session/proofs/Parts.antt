@@ -16,10 +16,10 @@ use Rattle.bt_session.specs.declared.end.SessionEnd.{SessionEnd}
 use Rattle.bt_session.specs.declared.end.SessionEnd.TheVariants.{Closed, WriteFault, Memory}
 use Rattle.bt_session.specs.Frames.{frames_to, AreWritten}
 use Rattle.bt_session.specs.Session.{Follows, IsDone, is_turn}
-use Rattle.bt_session.specs.Progress.{HasRun, Place, place, fed_by, AllWritten, SomeWritten, IsUnknown}
+use Rattle.bt_session.specs.Progress.{HasRun, Place, place, fed_by, AllWritten, WrittenBefore, IsUnknown}
 use Rattle.bt_session.specs.Ends.{HasOutput, IsRefused, ClosesPeer, MayBeDone, HasEnded}
 use Rattle.bt_session.specs.Parts.{EndsAfter}
-use Rattle.bt_session.proofs.Progress.{went_on, written_all, written_some}
+use Rattle.bt_session.proofs.Progress.{went_on, written_all, written_before}
 
 -- an event that feeds nothing
 pub record IsQuiet (event : Event) : Type 0 where
@@ -58,9 +58,9 @@ module _ {D : Type 0} (conduct : Conduct D) (dig : List ℕ → List ℕ) (key :
         few = few;
         last = answer;
         ran =
-            went_on conduct dig key until every first SomeWritten taken taken last answer event (place old remaining before) (place new remaining after) h
-            follows step counted read (written_some conduct dig key until every first taken last answer (place old remaining before) after h w);
-        comes = inl output;
+            went_on conduct dig key until every first (WrittenBefore (frames_to key (sent_by answer))) taken taken last answer event (place old remaining before) (place new remaining after) h
+            follows step counted read (written_before conduct dig key until every first taken last answer (place old remaining before) after h w.0);
+        comes = inl (output, w.1);
       }
       by (Err WriteFault) w = record {
         taken = taken;
@@ -83,9 +83,9 @@ module _ {D : Type 0} (conduct : Conduct D) (dig : List ℕ → List ℕ) (key :
     few = few;
     last = answer;
     ran =
-        went_on conduct dig key until every first SomeWritten taken more last answer event (place old remaining contents) (place new left contents) h follows
+        went_on conduct dig key until every first (WrittenBefore (frames_to key (sent_by answer))) taken more last answer event (place old remaining contents) (place new left contents) h follows
         step counted read
-        (written_some conduct dig key until every first taken last answer (place old remaining contents) contents h (Keeps-refl contents));
+        (written_before conduct dig key until every first taken last answer (place old remaining contents) contents h (Keeps-refl contents));
     comes = inr is;
   }
 

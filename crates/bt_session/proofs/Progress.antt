@@ -1,6 +1,5 @@
 -- A session that goes on by one event.
-use Rattle.std.proofs.Common.{[], ◌≡◌, ℕ, ◌+◌, Bool, List, ◌∷◌, ◌++◌, length, take, Option, refl, sym, ap, ◌∙◌, subst, cond, append-nil, arith}
-use Rattle.std.proofs.lemmas.List.{take-append-le, take_all}
+use Rattle.std.proofs.Common.{[], ◌≡◌, ℕ, ◌+◌, Bool, List, ◌∷◌, ◌++◌, Option, refl, sym, ap, ◌∙◌, subst, cond, append-nil}
 use Rattle.std.proofs.lemmas.List.Sums.{sum_by-append}
 use Rattle.std.proofs.lemmas.Grind.{flat_map-append}
 use Rattle.std.proofs.KnownBytes.{Appends-nil, Appends-trans, Appends-kept, Consumes-nil, Consumes-trans, Consumes-kept}
@@ -20,7 +19,7 @@ use Rattle.bt_machine.specs.State.{EngineState, EngineView}
 use Rattle.bt_machine.specs.View.{StepsTo}
 use Rattle.bt_session.specs.Frames.{spelling, spellings, frames_to}
 use Rattle.bt_session.specs.Session.{begins, goes_on, Follows, FollowsTurn, FeedsRead, is_turn}
-use Rattle.bt_session.specs.Progress.{HowMuch, HasRun, Place, frames_in, fed_by, AllWritten, SomeWritten}
+use Rattle.bt_session.specs.Progress.{HowMuch, HasRun, Place, frames_in, fed_by, AllWritten, WrittenBefore}
 use Rattle.bt_session.specs.Ends.{IsBetweenTurns}
 
 -- a read follows between turns
@@ -43,8 +42,8 @@ count_more : (events : List Event) (event : Event) → count_by is_turn (events 
 count_more events event = sum_by-append (λ x. cond (is_turn x) 1 0) events (event ∷ [])
 
 -- nothing is written of an answer
-pub nothing_written : (old new : Option (List ℕ)) (frames : List Frame) → Keeps old new → SomeWritten old new frames
-nothing_written old new frames kept = (0, Appends-kept old old new [] (Appends-nil old) kept)
+pub nothing_written : (old new : Option (List ℕ)) (frames : List Frame) → Keeps old new → WrittenBefore frames old new frames
+nothing_written old new frames kept = ([], refl, Appends-kept old old new [] (Appends-nil old) kept)
 
 module _ {D : Type 0} (conduct : Conduct D) (dig : List ℕ → List ℕ) (key : PeerKey) (until : Bool) (every : ℕ) (first : Place D) where
   -- it begins
@@ -87,16 +86,11 @@ module _ {D : Type 0} (conduct : Conduct D) (dig : List ℕ → List ℕ) (key :
       (Appends-trans first.contents mid.contents contents _ _ h.written written)
 
   -- or nothing of it
-  pub written_some : (turns : ℕ) (last answer : Answer) (mid : Place D) (contents : Option (List ℕ))
+  pub written_before : (turns : ℕ) (last answer : Answer) (mid : Place D) (contents : Option (List ℕ))
       (h : HasRun conduct dig key until every AllWritten first turns last mid) → Keeps mid.contents contents
-      → SomeWritten first.contents contents (frames_in key h.answers ++ frames_to key (sent_by answer))
-  written_some turns last answer mid contents h kept =
-      let frames : List Frame = frames_in key h.answers in
-      let before : take (length frames) (frames ++ frames_to key (sent_by answer)) ≡ frames =
-      take-append-le (length frames) frames (frames_to key (sent_by answer)) (omega arith) ∙ take_all (length frames) frames (omega arith) in (
-        length frames,
-        subst (Appends first.contents contents) (sym (ap spellings before)) (Appends-kept first.contents mid.contents contents _ h.written kept),
-      )
+      → WrittenBefore (frames_to key (sent_by answer)) first.contents contents (frames_in key h.answers ++ frames_to key (sent_by answer))
+  written_before turns last answer mid contents h kept =
+      (frames_in key h.answers, refl, Appends-kept first.contents mid.contents contents _ h.written kept)
 
   -- a read that gave nothing, or failed
   pub read_none : (turns : ℕ) (last : Answer) (mid : Place D) (remaining : Option (List ℕ))

@@ -1,5 +1,5 @@
 -- How a session begins, and how its turns are spent.
-use Rattle.std.proofs.Common.{◌≡◌, ℕ, inl, Bool, List, Option, Some, None, refl, subst, arith}
+use Rattle.std.proofs.Common.{[], ◌≡◌, ◌≢◌, ℕ, inl, Bool, List, Option, Some, None, refl, subst, arith}
 use Rattle.std.specs.Prelude.{Ok, Err, MatchOption}
 use Rattle.bt_disk.specs.Conduct.{Conduct}
 use Rattle.bt_book.specs.declared.names.PeerKey.{PeerKey}
@@ -11,7 +11,7 @@ use Rattle.bt_machine.specs.View.{StepsTo}
 use Rattle.bt_session.specs.declared.end.SessionEnd.{SessionEnd}
 use Rattle.bt_session.specs.declared.end.SessionEnd.TheVariants.{TurnsSpent, WriteFault, Memory}
 use Rattle.bt_session.specs.Frames.{frames_to, AreWritten}
-use Rattle.bt_session.specs.Progress.{HasRun, Place, place, AllWritten, SomeWritten, IsUnknown}
+use Rattle.bt_session.specs.Progress.{HasRun, Place, place, AllWritten, WrittenBefore, IsUnknown}
 use Rattle.bt_session.specs.Ends.{IsBetweenTurns, HasEnded}
 use Rattle.bt_session.specs.Parts.{GoesOn, EndsAfter}
 use Rattle.bt_session.proofs.Progress.{begun, nothing_written}
@@ -27,9 +27,9 @@ module _ {D : Type 0} (conduct : Conduct D) (dig : List ℕ → List ℕ) (key :
     few = omega arith;
     last = Connected (Ok (key, out));
     ran =
-        begun conduct dig key until every (place old remaining before) SomeWritten out (Connected (Ok (key, out))) new after refl step
-        (nothing_written before after (frames_to key out.send) written);
-    comes = inl tt;
+        begun conduct dig key until every (place old remaining before) (WrittenBefore (frames_to key out.send)) out (Connected (Ok (key, out))) new after refl step
+        (nothing_written before after (frames_to key out.send) written.0);
+    comes = inl (tt, subst (λ (l : List Sent). frames_to key l ≢ []) is written.1);
   }
   not_greeted given old new remaining before after out send WriteFault step is written = record {
     taken = 0;

@@ -1,5 +1,5 @@
 -- How a session ends.
-use Rattle.std.specs.Prelude.{ℕ, ◌≡◌, ◌<◌, ◌≤◌, ◌⊎◌, Bool, true, false, List, Option, Some, None, Result, Ok, Err}
+use Rattle.std.specs.Prelude.{ℕ, ◌≡◌, ◌≢◌, ◌<◌, ◌≤◌, ◌⊎◌, Bool, true, false, List, [], Option, Some, None, Result, Ok, Err}
 use Rattle.std.specs.Io.KnownBytes.{IsAtEnd}
 use Rattle.bt_disk.specs.Conduct.{Conduct}
 use Rattle.bt_book.specs.declared.names.PeerKey.{PeerKey}
@@ -10,12 +10,14 @@ use Rattle.bt_machine.specs.declared.error.FlushError.{FlushError}
 use Rattle.bt_machine.specs.declared.event.Event.TheVariants.{Lost}
 use Rattle.bt_machine.specs.declared.event.Answer.{Answer}
 use Rattle.bt_machine.specs.declared.event.Answer.TheVariants.{Connected, Fed, Stepped, Lost as LostAnswer, Rechoked, Flushed}
+use Rattle.bt_machine.specs.Law.{sent_by}
 use Rattle.bt_machine.specs.State.{EngineState, EngineView}
 use Rattle.bt_machine.specs.View.{StepsTo}
 use Rattle.bt_session.specs.declared.end.SessionEnd.{SessionEnd}
 use Rattle.bt_session.specs.declared.end.SessionEnd.TheVariants.{Complete, Ended, Closed, TurnsSpent, ReadFault, WriteFault, Memory}
 use Rattle.bt_session.specs.Session.{IsDone, is_flush_due}
-use Rattle.bt_session.specs.Progress.{Place, HowMuch, AllWritten, SomeWritten, IsUnknown, HasRun}
+use Rattle.bt_session.specs.Frames.{frames_to}
+use Rattle.bt_session.specs.Progress.{Place, HowMuch, AllWritten, WrittenBefore, IsUnknown, HasRun}
 
 -- ---- the last answer
 
@@ -52,27 +54,29 @@ IsRefused _ = ⊥
 
 -- ---- the ends
 
--- how much is written at this end
-abbrev pub written_at : Result SessionEnd FlushError → HowMuch
-written_at (Ok WriteFault) = IsUnknown
-written_at (Ok Memory) = SomeWritten
-written_at _ = AllWritten
+-- how much is written at this end, of what was sent to the peer up to this last answer: where memory was refused,
+-- nothing of the last answer
+abbrev pub written_at : PeerKey → (last : Answer) → Result SessionEnd FlushError → HowMuch
+written_at key last (Ok WriteFault) = IsUnknown
+written_at key last (Ok Memory) = WrittenBefore (frames_to key (sent_by last))
+written_at key last _ = AllWritten
 
 -- A session that is given so many turns comes to this end after so many turns, with this last answer. In
 -- place of an end of its own it may come to a flush that is due and refused, which is its last event.
-abbrev pub Comes : Result SessionEnd FlushError → (until_complete : Bool) → (every given taken : ℕ)
+abbrev pub Comes : PeerKey → Result SessionEnd FlushError → (until_complete : Bool) → (every given taken : ℕ)
     → (last : Answer) → EngineState → (remaining : Option (List ℕ)) → Type 0
-Comes (Ok Complete) until every given taken last s remaining = MayBeDone last × IsDone until s
-Comes (Ok Ended) until every given taken last s remaining =
+Comes key (Ok Complete) until every given taken last s remaining = MayBeDone last × IsDone until s
+Comes key (Ok Ended) until every given taken last s remaining =
     IsBetweenTurns until every taken s last × (taken < given) × IsAtEnd remaining
-Comes (Ok (Closed why)) until every given taken last s remaining = ClosesPeer why last
-Comes (Ok TurnsSpent) until every given taken last s remaining =
+Comes key (Ok (Closed why)) until every given taken last s remaining = ClosesPeer why last
+Comes key (Ok TurnsSpent) until every given taken last s remaining =
     IsBetweenTurns until every taken s last × (taken ≡ given)
-Comes (Ok ReadFault) until every given taken last s remaining =
+Comes key (Ok ReadFault) until every given taken last s remaining =
     IsBetweenTurns until every taken s last × (taken < given)
-Comes (Ok WriteFault) until every given taken last s remaining = HasOutput last
-Comes (Ok Memory) until every given taken last s remaining = HasOutput last ⊎ IsRefused last
-Comes (Err error) until every given taken last s remaining =
+Comes key (Ok WriteFault) until every given taken last s remaining = HasOutput last
+Comes key (Ok Memory) until every given taken last s remaining =
+    (HasOutput last × (frames_to key (sent_by last) ≢ [])) ⊎ IsRefused last
+Comes key (Err error) until every given taken last s remaining =
     (is_flush_due every taken ≡ true) × (last ≡ Flushed (Err error))
 
 -- From the first place a session has come to this end, where it is now. The peer may be there still.
@@ -82,8 +86,8 @@ pub record HasEnded {D : Type 0} (conduct : Conduct D)
   pub taken : ℕ
   pub few : taken ≤ given
   pub last : Answer
-  pub ran : HasRun conduct dig key until_complete every (written_at end) first taken last now
-  pub comes : Comes end until_complete every given taken last now.engine.state now.remaining
+  pub ran : HasRun conduct dig key until_complete every (written_at key last end) first taken last now
+  pub comes : Comes key end until_complete every given taken last now.engine.state now.remaining
 
 -- A whole session, in which the engine is flushed behind each `every`-th turn, or never where that is 0: it
 -- has come to its end, and its peer is removed.

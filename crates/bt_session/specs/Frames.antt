@@ -1,5 +1,5 @@
 -- The frames that are sent to one peer, and how they are spelled.
-use Rattle.std.specs.Prelude.{ℕ, ◌==◌, List, map, filter, flat_map, Bool, Option, Contains, Result, Ok, Err}
+use Rattle.std.specs.Prelude.{ℕ, ◌≢◌, ◌==◌, List, [], map, filter, flat_map, Bool, Option, Contains, Result, Ok, Err}
 use Rattle.std.specs.Io.KnownBytes.{Appends, Keeps}
 use Rattle.bt_book.specs.declared.names.PeerKey.{PeerKey}
 use Rattle.bt_wire.specs.Handshake.{handshake_spelling}
@@ -30,10 +30,10 @@ frames_to key sent = map (λ s. s.1) (filter (is_to key) sent)
 abbrev pub AllFit : List Sent → Type 0
 AllFit sent = (s : Sent) → Contains sent s → CanBeWritten s.1
 
--- The frames are written behind what the writer held. Out of memory nothing of them is; of a writer that
--- failed nothing is known.
+-- The frames are written behind what the writer held. Out of memory there are some, of which nothing is; of a
+-- writer that failed nothing is known.
 abbrev pub AreWritten : Option (List ℕ) → Option (List ℕ) → List Frame → Result (Unit {0}) SessionEnd → Type 0
 AreWritten old new frames (Ok _) = Appends old new (spellings frames)
-AreWritten old new frames (Err Memory) = Keeps old new
+AreWritten old new frames (Err Memory) = Keeps old new × (frames ≢ [])
 AreWritten old new frames (Err WriteFault) = Unit {0}
 AreWritten old new frames (Err _) = ⊥

@@ -1,5 +1,5 @@
 -- What a session has read and written.
-use Rattle.std.specs.Prelude.{ℕ, ◌≡◌, Bool, List, [], take, flat_map, Option}
+use Rattle.std.specs.Prelude.{ℕ, ◌≡◌, ◌++◌, Bool, List, [], flat_map, Option}
 use Rattle.std.specs.Io.KnownBytes.{Appends, Consumes}
 use Rattle.std.specs.List.{count_by}
 use Rattle.bt_disk.specs.Conduct.{Conduct}
@@ -37,9 +37,10 @@ HowMuch = Option (List ℕ) → Option (List ℕ) → List Frame → Type 0
 abbrev pub AllWritten : HowMuch
 AllWritten old new frames = Appends old new (spellings frames)
 
--- the first of them, each whole
-abbrev pub SomeWritten : HowMuch
-SomeWritten old new frames = (count : ℕ) × Appends old new (spellings (take count frames))
+-- all but the last of them, which are these
+abbrev pub WrittenBefore : (last : List Frame) → HowMuch
+WrittenBefore last old new frames =
+    (before : List Frame) × (frames ≡ before ++ last) × Appends old new (spellings before)
 
 -- of a writer that failed nothing is known
 abbrev pub IsUnknown : HowMuch

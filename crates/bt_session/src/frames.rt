@@ -1,5 +1,5 @@
 //! What an engine sends to one peer, written.
-ghost use Rattle.std.specs.Prelude.{◌≡◌, ◌≤◌, ◌++◌, IfOk, vec_capacity};
+ghost use Rattle.std.specs.Prelude.{[], ◌≡◌, ◌≢◌, ◌≤◌, ◌++◌, IfErr, IfOk, vec_capacity};
 ghost use Rattle.bt_machine.specs.Frames.{CanBeWritten};
 ghost use Rattle.bt_session.specs.Frames.{spelling, spellings, frames_to, AllFit, AreWritten};
 
@@ -46,6 +46,7 @@ fn spell_frames(
 ) -> Result<(), AllocError>
     requires fit { AllFit send.now }
     ensures spelled { IfOk result (λ _. buffer.new.items ≡ spellings (frames_to key send.now)) }
+    ensures some { IfErr result (λ _. frames_to key send.now ≢ []) }
     ensures capacity { vec_capacity buffer.old ≤ vec_capacity buffer.new }
 {
     buffer.clear();

@@ -1,7 +1,8 @@
-use Rattle.std.proofs.Common.{[], ◌∷◌, ◌++◌, take, take_all, ap, sym, ◌∙◌, arith}
-use Rattle.std.proofs.lemmas.List.{take_more}
+use Rattle.std.proofs.Common.{[], ◌+◌, ◌∷◌, ◌++◌, take, drop, take_all, ap, sym, ◌∙◌, arith}
+use Rattle.std.proofs.lemmas.List.{take_more, take-append-drop}
+use Rattle.bt_wire.proofs.Takings.{err_of}
 use Rattle.bt_session.specs.Frames.{spellings, frames_to}
-use Rattle.bt_session.proofs.FrameLists.{spelled_more, spelled_other}
+use Rattle.bt_session.proofs.FrameLists.{spelled_more, spelled_other, some_to}
 use Rattle.bt_session.proofs.frames.spell_frames.Goals as goal
 use Rattle.bt_session.proofs.frames.spell_frames.Goals.{then-eq+in_ok-spell, else-eq}
 
@@ -28,3 +29,13 @@ pub returns-clause-spelled : goal.returns-clause-spelled
 returns-clause-spelled c =
     let all = take_all c.loop-to.to-index c.args.send.now (omega (arith, c.loop-to-test.false)) in
     c.loop-to.invariant.spelled ∙ ap (λ s. spellings (frames_to c.args.key s)) all
+
+pub returns-in_err-spell-clause-some : goal.returns-in_err-spell-clause-some
+returns-in_err-spell-clause-some c =
+    let i = c.loop-to.to-index in
+    let more =
+    take_more c.args.send.now i c.loop-to-item.result c.loop-to-test.true
+    ∙ ap (λ s. take i c.args.send.now ++ s ∷ []) (sym c.loop-to-item.is) in
+    err_of c.from_residual.result
+    (some_to c.args.key c.args.send.now _ _ (drop (i + 1) c.args.send.now) c.loop-to-item.result more (take-append-drop (i + 1) c.args.send.now)
+    (sym c.eq.ensures ∙ c.if-eq.true))
