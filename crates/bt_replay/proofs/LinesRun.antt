@@ -101,6 +101,7 @@ ends_here conduct dig handshake first mid start number all text line rest more o
     (kept_run conduct dig handshake first mid at.done old new newer at.ran kept) bad
     (is ∙ ap bad_line_at at.counted)
 ends_here conduct dig handshake first mid start number all text line rest more old new newer fault at here cut (no_memory is kept) =
-    without_memory at.done (lines_in rest) mid at.parted
+    without_memory at.done (lines_in more) line mid
+    (parted_more all at.done (lines_in more) line text (at.parted ∙ ap (λ lines. at.done ++ lines) here) cut)
     (kept_run conduct dig handshake first mid at.done old new newer at.ran kept) is
 ends_here conduct dig handshake first mid start number all text line rest more old new newer fault at here cut (not_written is) = unwritten is

@@ -43,8 +43,8 @@ pub data EndsAtLine (handshake : List ℕ) (number : ℕ) (line : List ℕ) (old
   no_memory : fault ≡ OutOfMemory → Keeps old new → EndsAtLine handshake number line old new fault
   not_written : fault ≡ Write → EndsAtLine handshake number line old new fault
 
--- The lines, of which the first has this number, did not all run. Those before a bad line did; where memory
--- was refused, those at the front that are told did.
+-- The lines, of which the first has this number, did not all run. Those before a bad line did, and those before
+-- a line for which memory was refused.
 pub data EndsEarly {D : Type 0} (conduct : Conduct D)
     (dig : List ℕ → List ℕ) (handshake : List ℕ) (first : EngineView D) (number : ℕ) (lines : List (List ℕ))
     (old new : Option (List ℕ)) (fault : ReplayFault) : Type 0 where
@@ -52,7 +52,8 @@ pub data EndsEarly {D : Type 0} (conduct : Conduct D)
       → HasRun conduct dig handshake first good old new now → IsBad handshake bad
       → fault ≡ bad_line_at (number + length good)
       → EndsEarly conduct dig handshake first number lines old new fault
-  without_memory : (good rest : List (List ℕ)) (now : EngineView D) → lines ≡ good ++ rest
+  without_memory : (good rest : List (List ℕ)) (next : List ℕ) (now : EngineView D)
+      → lines ≡ good ++ next ∷ rest
       → HasRun conduct dig handshake first good old new now → fault ≡ OutOfMemory
       → EndsEarly conduct dig handshake first number lines old new fault
   unwritten : fault ≡ Write → EndsEarly conduct dig handshake first number lines old new fault
