@@ -215,7 +215,7 @@ impl<D: Disk + Drop, H: NodeHash> Engine<D, H> {
     /// Errors: `Log` where the log could not be read, and then nothing has changed; out of memory, and then a
     /// log was read again, and nothing else has changed. No device of a file is called then.
     pub fn restart(&mut self) -> Result<(), RestartError>
-        ensures { StepsTo D.conduct H.digest
+        ensures step { StepsTo D.conduct H.digest
             self.old Event.Restart (Answer.Restarted result) self.new }
     {
         steps_keep_laws::<D, H>(self.hash);

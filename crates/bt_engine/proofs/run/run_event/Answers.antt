@@ -22,4 +22,4 @@ pub returns-in-Flush : goal.returns-in-Flush
 returns-in-Flush g c = rw c.in-Flush.is c.flush.ensures.step
 
 pub returns-in-Restart : goal.returns-in-Restart
-returns-in-Restart g c = rw c.in-Restart.is c.restart.ensures
+returns-in-Restart g c = rw c.in-Restart.is c.restart.ensures.step

@@ -14,8 +14,9 @@ invariant_of-self g c =
     c.restart.ensures.torrent c.restart.ensures.tied
 
 pub returns : goal.returns
-returns g c = (let step = c.restart.ensures.step in
-    rw (← c.self.view_is) (record { calls = step.calls; step = (c.restart.result, refl, step.step); made = step.devices; logged = step.log }))
+returns g c = let step = c.restart.ensures.step in record {
+  step = rw (← c.self.view_is) (record { calls = step.calls; step = (c.restart.result, refl, step.step); made = step.devices; logged = step.log });
+}
 
 pub restart-requires-clause-digest : goal.restart-requires-clause-digest
 restart-requires-clause-digest g c = c.self.invariant.digest
