@@ -144,16 +144,12 @@ fn tell_closed(out: &mut String, why: &Why) -> Result<(), AllocError> {
 }
 
 /// Adds the code, with the fault that it carries.
-fn tell_why(out: &mut String, why: &Why) -> Result<(), AllocError> {
+pub fn tell_why(out: &mut String, why: &Why) -> Result<(), AllocError> {
+    out.push_str(why.code())?;
     match why {
-        Why::Wire(fault) => write!(out, "C1 {fault}"),
-        Why::WrongTorrent => out.push_str("C2"),
-        Why::BadPiece => out.push_str("C3"),
-        Why::BadBitfield => out.push_str("C4"),
-        Why::BadRequest => out.push_str("C5"),
-        Why::WrongBlock => out.push_str("C6"),
-        Why::UnknownRoot => out.push_str("C7"),
-        Why::Proof(fault) => write!(out, "C8 {fault}"),
+        Why::Wire(fault) => write!(out, " {fault}"),
+        Why::Proof(fault) => write!(out, " {fault}"),
+        _ => Ok(()),
     }
 }
 

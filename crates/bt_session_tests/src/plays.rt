@@ -2,7 +2,7 @@
 ghost use Rattle.std.specs.Prelude.{[], ◌≡◌};
 
 use crate::engine::TestEngine;
-use crate::scene::{Act, Scene, SceneNet};
+use crate::scene::{Act, Scene, SceneNet, WorkingReader};
 use crate::sessions::tell_end;
 use bt_rows::{RowError, Words, whole_answer};
 use bt_session::{Link, PeerEnd, end_text, meet_peer};
@@ -79,6 +79,7 @@ fn scene_of(alloc: Global, words: &mut Words, refused: u32, code: i32) -> Result
 fn push_act(alloc: Global, acts: &mut Vec<Act>, words: &mut Words) -> Result<(), RowError> {
     let act = match words.word() {
         "wait" => Act::Waits(Duration::from_secs(u64::from(words.number()?))),
+        "work" => Act::Works(Duration::from_secs(u64::from(words.number()?))),
         "take" => Act::Takes(words.number()? as usize),
         "send" => Act::Sends(words.bytes(alloc)?),
         _ => return Err(RowError::Unread),
@@ -126,7 +127,10 @@ fn fetched(
     requires no_peer { engine.old.state.peers ≡ [] }
 {
     let idle = Duration::from_secs(IDLE_SECONDS);
-    let reached = TcpLink::new(net, HOST, PORT, idle, passage).dial();
+    let reached = match TcpLink::new(net, HOST, PORT, idle, passage).dial() {
+        Some((reader, writer)) => Some((WorkingReader::new(reader, net.0), writer)),
+        None => None,
+    };
     meet_peer(alloc, engine, reached, true, SESSION_TURNS)
 }
 

@@ -13,6 +13,8 @@ pub enum Act {
     Sends(Vec<u8>),
     /// It does nothing for so long.
     Waits(Duration),
+    /// The program is at work for so long, before it reads on.
+    Works(Duration),
     /// From now on it takes so many bytes, and no more.
     Takes(usize),
 }
@@ -83,6 +85,14 @@ impl Scene {
         true
     }
 
+    /// Passes the time for which the program is at work now, if it is.
+    fn work(&self) {
+        if let Some(Act::Works(time)) = self.acts.get(self.next.get()) {
+            self.pass(*time);
+            self.skip();
+        }
+    }
+
     /// Gives what is left of these bytes, as much as there is room for.
     fn send(&self, bytes: &[u8], buffer: &mut [u8]) -> usize
         ensures { result ≤ length buffer.new }
@@ -118,6 +128,7 @@ impl Read for SceneStream<'_> {
                     scene.takes.set(*count);
                     scene.skip();
                 }
+                Some(Act::Works(_)) => scene.work(),
                 None => return Ok(0),
             }
         }
@@ -171,6 +182,26 @@ impl OpenStream for SceneStream<'_> {
 impl AsRawFd for SceneStream<'_> {
     fn as_raw_fd(&self) -> RawFd {
         -1
+    }
+}
+
+/// What is read from that connection, by a program that is at work between its reads where a scene says so.
+#[derive(Drop)]
+pub struct WorkingReader<'a, R> {
+    inner: R,
+    scene: &'a Scene,
+}
+
+impl<'a, R> WorkingReader<'a, R> {
+    pub fn new(inner: R, scene: &'a Scene) -> Self {
+        WorkingReader { inner, scene }
+    }
+}
+
+impl<R: Read> Read for WorkingReader<'_, R> {
+    fn read(&mut self, buffer: &mut [u8]) -> io::Result<usize> {
+        self.scene.work();
+        self.inner.read(buffer)
     }
 }
 

@@ -1,5 +1,6 @@
 //! Sessions, and the engine that they run on.
 
+use crate::answers::tell_why;
 use crate::device::with_fault;
 use crate::engine::{TestDisk, TestEngine, memory_disk, start, tell_reports, torrent_of};
 use crate::flushes::{flushing_peers_row, flushing_row};
@@ -242,20 +243,6 @@ pub fn tell_end(
 fn tell_closed(out: &mut String, why: &Why) -> Result<(), AllocError> {
     out.push_str("closed ")?;
     tell_why(out, why)
-}
-
-/// Adds the code, with the fault that it carries.
-fn tell_why(out: &mut String, why: &Why) -> Result<(), AllocError> {
-    match why {
-        Why::Wire(fault) => write!(out, "C1 {fault}"),
-        Why::WrongTorrent => out.push_str("C2"),
-        Why::BadPiece => out.push_str("C3"),
-        Why::BadBitfield => out.push_str("C4"),
-        Why::BadRequest => out.push_str("C5"),
-        Why::WrongBlock => out.push_str("C6"),
-        Why::UnknownRoot => out.push_str("C7"),
-        Why::Proof(fault) => write!(out, "C8 {fault}"),
-    }
 }
 
 /// How many bytes, and which: in hexadecimal where they are few, else their SHA-256.

@@ -1,5 +1,5 @@
 //! A socket at which nobody waits for ever.
-ghost use Rattle.std.specs.Prelude.{◌≡◌, ◌↔◌, ◌⊎◌, ◌≤◌, ◌++◌, min, IsTrue, length, take};
+ghost use Rattle.std.specs.Prelude.{◌≡◌, ◌↔◌, ◌⊎◌, ◌≤◌, ◌++◌, min, IsTrue, IfOk, length, take};
 ghost use Rattle.std.specs.Io.{ReadsAtMost};
 ghost use Rattle.std.specs.Io.KnownBytes.{ReadConsumes};
 ghost use Rattle.bt_connection.specs.Room.{IsTakenIn};
@@ -71,9 +71,10 @@ impl<'a, S, C> TimedStream<'a, S, C> {
 }
 
 impl<'a, S, C: Clock> TimedStream<'a, S, C> {
-    /// Begins to wait. Errors: TimedOut where the peer has taken too long already; the clock fails.
+    /// Begins to wait, or goes on. Errors: TimedOut where the peer has taken too long already; the clock fails.
     fn begin(&self) -> io::Result<Instant> {
         let now = Instant::now(self.clock)?;
+        self.timing.resume(now);
         if self.timing.is_late(now) {
             return Err(io::Error::from(ErrorKind::TimedOut));
         }
@@ -85,6 +86,13 @@ impl<'a, S, C: Clock> TimedStream<'a, S, C> {
         match self.begin() {
             Ok(now) => now.duration_since(begun) < self.idle,
             Err(_) => false,
+        }
+    }
+
+    /// Notes that a call is over.
+    fn leave(&self) {
+        if let Ok(now) = Instant::now(self.clock) {
+            self.timing.leave(now);
         }
     }
 
@@ -187,6 +195,17 @@ impl<'a, S: Read, C: Clock> Read for TimedStream<'a, S, C> {
     /// None is given, too, where the peer has nothing more to give. Errors, which come before that: those of the
     /// socket; the peer sent nothing for too long, or has taken too long otherwise; the clock fails.
     fn read(&mut self, buffer: &mut [u8]) -> io::Result<usize> {
+        let result = self.read_in_time(buffer);
+        self.leave();
+        result
+    }
+}
+
+impl<'a, S: Read, C: Clock> TimedStream<'a, S, C> {
+    /// Reads, or gives what came early. Errors: as `read`.
+    fn read_in_time(&mut self, buffer: &mut [u8]) -> io::Result<usize>
+        ensures bound { ReadsAtMost result buffer.new }
+    {
         let begun = self.begin()?;
         if self.timing.is_spent() {
             return Ok(0);
@@ -198,9 +217,7 @@ impl<'a, S: Read, C: Clock> Read for TimedStream<'a, S, C> {
         }
         self.wait_for_bytes(buffer, begun)
     }
-}
 
-impl<'a, S: Read, C: Clock> TimedStream<'a, S, C> {
     /// Reads once something has come. Errors: as `read`.
     fn wait_for_bytes(&mut self, buffer: &mut [u8], begun: Instant) -> io::Result<usize>
         ensures bound { ReadsAtMost result buffer.new }
@@ -225,6 +242,21 @@ impl<'a, S: Read + Write + OpenStream, C: Clock> Write for TimedStream<'a, S, C>
     /// Errors: those of the socket; the peer took and sent nothing for too long, or has taken too long
     /// otherwise; the clock fails.
     fn write(&mut self, bytes: &[u8]) -> io::Result<usize> {
+        let result = self.write_in_time(bytes);
+        self.leave();
+        result
+    }
+
+    fn flush(&mut self) -> io::Result<()> {
+        self.inner.flush()
+    }
+}
+
+impl<'a, S: Read + Write + OpenStream, C: Clock> TimedStream<'a, S, C> {
+    /// Writes, and takes in what comes meanwhile. Errors: as `write`.
+    fn write_in_time(&mut self, bytes: &[u8]) -> io::Result<usize>
+        ensures { IfOk result (λ count. count ≤ length bytes.now) }
+    {
         let mut begun = self.begin()?;
         // A bound, so that it ends whatever the system gives.
         'waiting: for _ in 0..u64::MAX {
@@ -239,9 +271,5 @@ impl<'a, S: Read + Write + OpenStream, C: Clock> Write for TimedStream<'a, S, C>
             begun = self.take_in(begun);
         }
         Err(io::Error::from(ErrorKind::TimedOut))
-    }
-
-    fn flush(&mut self) -> io::Result<()> {
-        self.inner.flush()
     }
 }

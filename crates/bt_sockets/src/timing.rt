@@ -1,6 +1,7 @@
-//! How long a peer may take for what it owes, so that those who wait behind it have their turn.
+//! How long a peer may take for what it owes, so that those who wait behind it have their turn. While this program
+//! itself is at work, between two calls of the connection, these times stand still.
 ghost use Rattle.std.specs.Prelude.{◌≡◌, ◌↔◌, ◌⊎◌, ◌-◌, ◌<◌, IsTrue};
-ghost use Rattle.bt_sockets.specs.TimingSteps.{HavePassed, IsSpent, IsStranger};
+ghost use Rattle.bt_sockets.specs.TimingSteps.{HavePassed, IsResumed, IsSpent, IsStranger, KeepsOthers};
 
 use crate::outgoing::Outgoing;
 use bt_connection::{Arrival, Observer};
@@ -21,6 +22,11 @@ pub const USE_SECONDS: u64 = 600;
 /// requests of blocks are open and it sends other messages.
 pub const BLOCK_SECONDS: u64 = 60;
 
+/// Work of this program between two calls of a connection, which takes so many seconds or more, is not counted
+/// against the peer. Shorter work is: else one that sends what is of no use, faster than it is read, would hardly ever
+/// be late.
+pub const WORK_SECONDS: u64 = 2;
+
 /// What a connection is there for.
 #[derive(Clone, Copy, Debug, PartialEq, Eq)]
 pub enum Role {
@@ -35,6 +41,8 @@ pub enum Role {
 struct Times {
     role: Role,
     begun: Instant,
+    /// When the last call of the connection was over, where none is being made.
+    left: Option<Instant>,
     /// When the last bytes came.
     last: Instant,
     /// Whether the peer's handshake came.
@@ -65,6 +73,7 @@ impl Times {
         Times {
             role,
             begun: now,
+            left: Some(now),
             last: now,
             is_greeted: false,
             used: now,
@@ -109,6 +118,20 @@ impl Times {
         ensures { IsTrue result ↔ IsStranger self.now }
     {
         self.role == Role::Serve && !self.is_greeted
+    }
+
+    /// A call of the connection begins. The peer's times stood still since the one before, where that is long ago.
+    fn resume(&mut self, now: Instant)
+        ensures begun { IsResumed WORK_SECONDS self.old.left now self.old.begun self.new.begun }
+        ensures used { IsResumed WORK_SECONDS self.old.left now self.old.used self.new.used }
+        ensures asked { IsResumed WORK_SECONDS self.old.left now self.old.asked self.new.asked }
+        ensures here { self.new.left ≡ None }
+        ensures others { KeepsOthers self.old self.new }
+    {
+        self.begun = resumed(self.begun, self.left, now);
+        self.used = resumed(self.used, self.left, now);
+        self.asked = resumed(self.asked, self.left, now);
+        self.left = None;
     }
 
     /// Notes what came, by the last bytes that did.
@@ -204,6 +227,20 @@ fn has_passed(since: Instant, seconds: u64, now: Instant) -> bool
     now.duration_since(since) >= Duration::from_secs(seconds)
 }
 
+/// Since when a time runs that stood still since the program left, where that is long ago: so much of it is over now
+/// as was then.
+fn resumed(since: Instant, left: Option<Instant>, now: Instant) -> Instant
+    ensures { IsResumed WORK_SECONDS left now since result }
+{
+    match left {
+        Some(left) if has_passed(left, WORK_SECONDS, now) => {
+            let over = left.duration_since(since);
+            now.checked_sub(over).unwrap_or(since)
+        }
+        _ => since,
+    }
+}
+
 /// What has passed over the connection that is there, and when. Both its handles note it. What lies in a cell no
 /// clause knows.
 #[derive(Drop)]
@@ -237,6 +274,22 @@ impl Timing {
         match self.times.get() {
             Some(times) => times.is_spent(),
             None => false,
+        }
+    }
+
+    /// Notes that a call of the connection begins.
+    pub(crate) fn resume(&self, now: Instant) {
+        if let Some(mut times) = self.times.get() {
+            times.resume(now);
+            self.times.set(Some(times));
+        }
+    }
+
+    /// Notes that a call of the connection is over, and the program at work.
+    pub(crate) fn leave(&self, now: Instant) {
+        if let Some(mut times) = self.times.get() {
+            times.left = Some(now);
+            self.times.set(Some(times));
         }
     }
 
