@@ -159,12 +159,12 @@ pub record IsTaskEnd (task : Task) (old new : Option (List ℕ)) (fault : Fault)
   pub refused : status_of fault ≡ 2 → ¬ IsLogFull (task_log task) fault → Keeps old new
 
 -- status 0 for help and the version, or 3 where the device failed: the kit does not say their text. A mistake
--- goes to the other stream.
+-- goes to the other stream, or there was no memory to tell it.
 abbrev pub IsExplanation : ErrorKind → Option (List ℕ) → Option (List ℕ) → ℕ → Type 0
 IsExplanation DisplayHelp old new status = (status ≡ 0) ⊎ (status ≡ 3)
 IsExplanation DisplayVersion old new status = (status ≡ 0) ⊎ (status ≡ 3)
 IsExplanation OutOfMemory old new status = (status ≡ 4) × Keeps old new
-IsExplanation kind old new status = (status ≡ 2) × Keeps old new
+IsExplanation kind old new status = ((status ≡ 2) ⊎ (status ≡ 4)) × Keeps old new
 
 -- ---- a run
 

@@ -336,7 +336,7 @@ fn perform_fetch<R: Files + AllocGlobal + Clone + Drop, N: Net + Clock, P: Watch
     )
 }
 
-/// Prints help, or why the words are refused.
+/// Prints help, or why the words are refused. Where that can't be written, there is the status alone.
 fn explain<O: Write, E: Write>(
     alloc: Global,
     error: &Error,
@@ -351,18 +351,20 @@ fn explain<O: Write, E: Write>(
         return Err(Fault::OutOfMemory);
     }
     if error.use_stderr() {
-        let _ = tell_mistake(alloc, error, faults);
+        let told = mistake_text(alloc, error)?;
+        let _ = write!(faults, "{told}");
         Ok(2)
     } else {
         explain_help(error, writer)
     }
 }
 
-/// Tells why the words are refused, which may be among what is told: escaped, as a stranger may have chosen them.
-fn tell_mistake<E: Write>(alloc: Global, error: &Error, faults: &mut E) -> io::Result<()> {
+/// Why the words are refused, which may be in the text: escaped, as a stranger may have chosen them.
+fn mistake_text(alloc: Global, error: &Error) -> Result<String, Fault>
+    ensures fault { IfErr result (λ fault. fault ≡ out_of_memory) }
+{
     let text = format!(in alloc; "{error}")?;
-    let told = escaped_lines(alloc, text.as_str())?;
-    write!(faults, "{told}")
+    Ok(escaped_lines(alloc, text.as_str())?)
 }
 
 /// Prints help, or the version.

@@ -22,6 +22,7 @@ pub fn launch(rt: &HostRuntime) -> ExitCode
     occupy_streams(rt);
     let errors = rt.stderr();
     let console = Console::new(rt.alloc(), rt, errors, errors.is_terminal());
+    // without memory for its name it is not named where it fails
     let name = String::from_str(rt.alloc(), "standard output").ok();
     let mut output = Watched::new(rt.stdout(), &console, name);
     start(

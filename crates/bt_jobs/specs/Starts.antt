@@ -2,6 +2,8 @@
 use Rattle.std.specs.Prelude.{◌≡◌, ◌≢◌, ◌⊎◌, ℕ, ℤ, pos, Bool, List, [], ◌∷◌, ◌++◌, map, Option, Some}
 use Rattle.std.specs.List.{range_with_len}
 use Rattle.std.specs.Process.{command_args, command_program}
+use Rattle.std.specs.declared.io.ErrorKind.{ErrorKind}
+use Rattle.std.specs.declared.io.ErrorKind.TheVariants.{OutOfMemory as no_growth}
 use Rattle.std.specs.declared.process.command.Command.{Command}
 use Rattle.bt_meta.specs.Torrent.{Metainfo}
 use Rattle.bt_check.specs.Fault.{device, out_of_memory}
@@ -18,6 +20,11 @@ abbrev pub start_fault : StartFault → Fault
 start_fault NotStarted = device
 start_fault Failed = device
 start_fault OutOfMemory = out_of_memory
+
+-- why a part could not be started, by the kind of the error of the call that was to start it
+abbrev pub unstarted : ErrorKind → StartFault
+unstarted no_growth = OutOfMemory
+unstarted _ = NotStarted
 
 -- Why a part did not take the whole torrent, by its end, of which the code is none where a signal ended it: memory
 -- was short where the code says so, and else it failed.

@@ -18,7 +18,7 @@ use crate::children::{end_all, look_at_all, part_commands, wait_for_all};
 use crate::part::open_data_file;
 use crate::report::{heard_of, write_report};
 use crate::source::{Loaded, load_text};
-use crate::start_fault::StartFault;
+use crate::start_fault::{StartFault, unstarted};
 use crate::starter::Starter;
 use crate::told::Told;
 use bt_check::{
@@ -30,7 +30,7 @@ use bt_parts::{Met, Run};
 use bt_progress::{FileCall, Watch};
 use bt_tree::BLOCK_LEN;
 use std::alloc::Global;
-use std::io::{self, ErrorKind, PipeWriter, Read, Write};
+use std::io::{self, ErrorKind, PipeReader, PipeWriter, Read, Write};
 use std::process::{Child, Command, OpenProcess};
 use std::rt::Files;
 
@@ -60,7 +60,8 @@ pub struct Job<'a> {
 ///
 /// All files are looked at first, and one that can't be opened ends it before anything is started. A part that can't
 /// be started, that ends without having done what it was to, tells what is no part of a check, or finds no file where
-/// one was opened before, is a device that failed, and nothing is written then.
+/// one was opened before, is a device that failed, but for want of memory, which is told as such; nothing is written
+/// then.
 pub fn check_by_parts<R: Files + AllocGlobal + Clone + Drop, L: Starter, P: Watch, W: Write>(
     rt: &R,
     starter: &mut L,
@@ -87,7 +88,7 @@ pub fn check_by_parts<R: Files + AllocGlobal + Clone + Drop, L: Starter, P: Watc
     if !opened.contains(&true) {
         return check_torrent(rt, watch, torrent, job.dir, writer);
     }
-    let (mut output, input) = io::pipe(rt).map_err(|_| Fault::Device)?;
+    let (mut output, input) = pipe_of_parts(rt, watch)?;
     let runs = runs_of_parts(rt.alloc(), starter, watch, job, &loaded, &mut output, input)?;
     if misses_a_file(&opened, &runs) {
         watch.tell(MISSED);
@@ -146,6 +147,13 @@ fn has_file<R: Files + AllocGlobal + Drop, P: Watch>(
             Err(fault)
         }
     }
+}
+
+/// The pipe by which parts tell. Where there is none, a part could not be started.
+fn pipe_of_parts<R: Files, P: Watch>(rt: &R, watch: &P) -> Result<(PipeReader, PipeWriter), Fault>
+    ensures fault { IfErr result (λ fault. (fault ≡ device) ⊎ (fault ≡ out_of_memory)) }
+{
+    of_start(watch, io::pipe(rt).map_err(|error| unstarted(error.kind())))
 }
 
 /// The runs that the parts tell by a pipe, in order. When it ends, no part is left.

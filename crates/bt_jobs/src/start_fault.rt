@@ -2,11 +2,11 @@
 ghost use Rattle.std.specs.Prelude.{◌≡◌, ◌⊎◌, IfErr, IfOk};
 ghost use Rattle.std.specs.Process.{exit_code};
 ghost use Rattle.bt_check.specs.Fault.{device, out_of_memory};
-ghost use Rattle.bt_jobs.specs.Starts.{IsEarlyEnd, start_fault};
+ghost use Rattle.bt_jobs.specs.Starts.{IsEarlyEnd, start_fault, unstarted};
 
 use crate::children::was_short_of_memory;
 use bt_check::Fault;
-use std::io;
+use std::io::{self, ErrorKind};
 use std::process::ExitStatus;
 
 /// Why a part does not run that has the torrent.
@@ -16,7 +16,7 @@ pub enum StartFault {
     NotStarted,
     /// It failed before it had taken the whole torrent.
     Failed,
-    /// It was short of memory before that.
+    /// Memory was short to start it, or it was itself short of memory before that.
     OutOfMemory,
 }
 
@@ -31,6 +31,16 @@ impl StartFault {
             StartFault::Failed => Fault::Device,
             StartFault::OutOfMemory => Fault::OutOfMemory,
         }
+    }
+}
+
+/// Why a part could not be started, by the kind of the error of the call that was to start it, which takes memory.
+pub(crate) fn unstarted(kind: ErrorKind) -> StartFault
+    ensures { result ≡ unstarted kind }
+{
+    match kind {
+        ErrorKind::OutOfMemory => StartFault::OutOfMemory,
+        _ => StartFault::NotStarted,
     }
 }
 

@@ -4,7 +4,7 @@ ghost use Rattle.std.specs.Io.KnownBytes.{Appends};
 ghost use Rattle.bt_check.specs.Fault.{device};
 ghost use Rattle.bt_jobs.specs.Starts.{Start, start_of};
 
-use crate::start_fault::{StartFault, early_end};
+use crate::start_fault::{StartFault, early_end, unstarted};
 use bt_check::Fault;
 use std::io::{self, PipeWriter, Write};
 use std::process::{Child, Command, ExitStatus, OpenProcess, Processes, Stdio};
@@ -53,13 +53,13 @@ impl<'a, S: Processes> Starter for ProcessStarter<'a, S> {
         text: &[u8],
         pipe: &PipeWriter,
     ) -> Result<Child<S::Started>, StartFault> {
-        let output = pipe.try_clone().map_err(|_| StartFault::NotStarted)?;
+        let output = pipe.try_clone().map_err(|error| unstarted(error.kind()))?;
         command.stdin(Stdio::piped());
         command.stdout(output);
         command.stderr(Stdio::null());
         let mut child = command
             .spawn(self.system)
-            .map_err(|_| StartFault::NotStarted)?;
+            .map_err(|error| unstarted(error.kind()))?;
         match pass(&mut child, text) {
             Ok(()) => Ok(child),
             Err(_) => Err(early_end(end(&mut child))),
