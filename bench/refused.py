@@ -11,11 +11,12 @@ answers out of memory is made once more; a peer that was lost so comes again, an
 told by how many were asked for before and behind each.
 
 What each run has to print is worked out here, with `second_engine.py` and with what the contracts say: a call that is refused memory
-answers so, and no other answer stands in its place; it changes nothing, but that `next` loses the event and its peer, `adopt` keeps the
-groups that were taken in, with what they left for the log, `restart` has read the log again, a session has come as far as it came, and its
-peer is gone; of peers in turn the one is told so, and the next is tried; a start hands back the devices and the log, and `reopen` all
-devices; a script ends with status 4 behind the answers of whole lines, or tells it as the answer of an event. A device in memory that is
-refused memory fails, and changes nothing. An allocation of the program itself, for its rows or for what it prints, ends the run.
+answers so, and no other answer stands in its place; it changes nothing, and a buffer that was to be fed has the bytes that it had; but
+`next` loses the event and its peer, `adopt` keeps the groups that were taken in, with what they left for the log, `restart` has read the
+log again, a session has come as far as it came, and its peer is gone; of peers in turn the one is told so, and the next is tried; a start
+hands back the devices and the log, and `reopen` all devices; a script ends with status 4 behind the answers of whole lines, or tells it as
+the answer of an event: of each as often as where the events come as rows. A device in memory that is refused memory fails, and changes
+nothing. An allocation of the program itself, for its rows or for what it prints, ends the run.
 
 Told are, for each example, how many allocations were refused and how many calls of devices failed, and of each kind of call how it was
 answered then; and what is not as it is owed, with the rows, what was owed and what was printed in a folder that is named. The status is 0
@@ -37,17 +38,24 @@ CRATES = ["bt_replay", "bt_session", "bt_engine", "bt_machine", "bt_resume", "bt
 HEADER, WINDOW, TURNS, READ = 40, 65_536, 1000, 16_384
 ABC = digest(b"abc")
 
+# What becomes of a caller's buffer, of which a part is refused or is fed.
+KEPT, FED = "the buffer is as it was", "the buffer is no shorter"
 # How the calls that no engine answers say that they are out of memory.
 REFUSALS = {"torrent": "M18 OutOfMemory", "info": "M18 OutOfMemory", "make": "N8 OutOfMemory", "parse": "B8 OutOfMemory",
             "write": "OutOfMemory", "tree": "OutOfMemory", "layer": "out of memory", "claim": "P7 OutOfMemory",
             "accept": "P7 OutOfMemory", "answer": "out of memory", "start": "OutOfMemory", "cut": "W4 OutOfMemory",
-            "take": "W4 OutOfMemory", "message": "OutOfMemory", "book": "OutOfMemory", "store": "OutOfMemory", "image": "OutOfMemory"}
+            "cut_buffer": f"W4 OutOfMemory, {KEPT}", "take": "W4 OutOfMemory", "message": "OutOfMemory", "book": "OutOfMemory",
+            "store": "OutOfMemory", "image": "OutOfMemory"}
 # Rows that call nothing of the library.
-SILENT = "data", "log", "stop", "tell", "peer"
+SILENT = "data", "log", "stop", "tell", "peer", "buffer"
 # Calls that take no memory.
 FREE = "plan", "lost"
+# Events that take memory, and answer so where it is refused.
+TAKING = "connect", "hello", "feed", "next", "rechoke", "adopt", "restart"
 # Calls that have sessions.
-SESSIONS = "session", "flushing", "peers"
+SESSIONS = "session", "meet", "flushing", "peers"
+# Calls of lists of events. An answer is there before the list's.
+LISTS, THERE = ("run", "promised"), "done"
 
 
 def word_of(value):
@@ -68,8 +76,8 @@ class Row:
         self.name, self.words, self.told, self.of = name, words, answer, of
 
     def __str__(self):
-        if self.name == "run":
-            return "".join(f"event {row}\n" for row in self.of) + "run"
+        if self.name in LISTS:
+            return "".join(f"event {row}\n" for row in self.of) + self.name
         return " ".join([self.name, *map(word_of, self.words)])
 
 
@@ -267,8 +275,12 @@ class LoggedEngine(Engine):
     def session(self, data, part, stop, every=0):
         """A session until all is complete, with a flush behind each `every`-th turn, in which memory is refused at the place of this
         number, or nowhere."""
+        return self.one_peer(data, part, stop, every) + [f"{len(self.rest)} left, written {self.written.hex()}"]
+
+    def one_peer(self, data, part, stop, every=0):
+        """How such a session ended."""
         self.places = 0
-        return [self.meet(data, part, stop, every), f"{len(self.rest)} left, written {self.written.hex()}"]
+        return [self.meet(data, part, stop, every)]
 
     def meet(self, data, part, stop, every):
         """A session, and how it ended. Its places are counted on from those of the sessions before."""
@@ -390,17 +402,39 @@ class Script:
         return Told(0, "".join(self.answers()[0]), "")
 
     def refusals(self):
-        """All that may be answered where an allocation is refused: in front of a line's answer, to an event, or to a device."""
+        """All that may be answered where an allocation is refused, each with what tells it: a status behind the answers of lines, the
+        event of this place, which answers so, or a device."""
         told, data, log = self.answers()
-        found = [Told(4, "".join(told[:at]), NO_MEMORY) for at in range(len(told) + 1)]
+        found = {Told(4, "".join(told[:at]), NO_MEMORY): "told by the status" for at in range(len(told) + 1)}
         ways = [(at, *way) for at, event in enumerate(self.events) for way in self.ways(event[0])]
-        runs = [self.answers(refused=way)[0] for way in ways] + [self.answers(data=at)[0] for at in range(1, data + 1)]
-        runs += [self.answers(log=at)[0] for at in range(1, log + 1)]
-        return found + [Told(0, "".join(run), "") for run in runs if run is not None]
+        runs = [(self.answers(refused=way)[0], way[0]) for way in ways]
+        runs += [(self.answers(data=at)[0], "told by a device") for at in range(1, data + 1)]
+        runs += [(self.answers(log=at)[0], "told by a device") for at in range(1, log + 1)]
+        for run, teller in runs:
+            if run is not None:
+                found.setdefault(Told(0, "".join(run), ""), teller)
+        return found
+
+    def told_events(self, came):
+        """The events that one of these outcomes tells to be refused memory."""
+        tellers = self.refusals()
+        return {tellers[told] for told in came if isinstance(tellers.get(told), int)}
+
+    def rows(self):
+        """The same events as rows, over the same devices; a report is none."""
+        file = self.torrent.files[0]
+        rows = [Row("data", 0, 0, 0, bytes(len(file.contents))), Row("log", 0, 0, 0, b"")]
+        rows += [Row("torrent", self.torrent.text, of=self.torrent), Row("attach"), Row("attach"), Row("start")]
+        for name, *parts in self.events:
+            if name in ("hello", "feed", "next", "lost"):
+                rows.append(Row("peer", parts.pop(0)))
+            hello = [self.torrent.handshake(b"p" * 20)] * (name == "hello")
+            rows += [Row("feed" if hello else name, *hello, *parts)] * (name != "report")
+        return rows
 
     def ways(self, name):
         """The ways in which an event may be refused memory."""
-        if name in ("flush", "lost", "report"):
+        if name not in TAKING:
             return []
         groups = len(self.torrent.files[0].blocks) + 1
         return {"restart": [(True,), (False,)], "adopt": [(at, read) for at in range(groups) for read in (False, True)]}.get(name, [()])
@@ -469,7 +503,7 @@ class Play:
         self.lines += ["> torrent" if row.name == "info" else f"> {row.name}", "<", *answer]
         self.made.append((before, self.calls_made()))
         self.tell_state()
-        return refusal is not None and row.name not in ("peers", "replay") and not (row.name == "run" and refusal.way is not None)
+        return refusal is not None and row.name not in ("peers", "replay") and not (row.name in LISTS and refusal.way is not None)
 
     def calls_made(self):
         """How many calls of the data's devices and of the log's were made."""
@@ -496,7 +530,7 @@ class Play:
             self.disks += [Disk(disk.data, max(0, self.failing.data - data)) for disk in self.engine.devices]
             self.log_disk = Disk(self.engine.opened.disk.data, max(0, self.failing.log - log)) if self.engine.opened else None
             self.engine = None
-        else:
+        elif row.name == "tell":
             self.lines += [f"data has {len(disk.data)} bytes of {digest(disk.data).hex()}" for disk in self.engine.devices]
             if self.engine.opened:
                 data = self.engine.opened.disk.data
@@ -526,8 +560,11 @@ class Play:
             return lines
         if row.name == "replay":
             return told_lines(row.of.ample())
-        if row.name == "run":
-            return [line for one in row.of for line in self.event(one, 1)]
+        if row.name in LISTS:
+            return [THERE] + [line for one in row.of for line in self.event(one, 1)]
+        if row.name == "feed_buffer":
+            fed = self.engine.feed(self.peer, row.of)
+            return fed + [FED if fed == ["fed"] else KEPT]
         return self.event(row, self.peer)
 
     def text_answer(self, row):
@@ -579,6 +616,8 @@ class Play:
         """Sessions, of which one is refused memory at the place of this number, or none."""
         if row.name == "peers":
             return self.engine.peers_in_turn(row.words[1:], row.words[0], stop)
+        if row.name == "meet":
+            return self.engine.one_peer(row.words[-1], row.words[-2], stop)
         every = row.words[0] if row.name == "flushing" else 0
         return self.engine.session(row.words[-1], row.words[-2], stop, every)
 
@@ -611,15 +650,15 @@ class Play:
             return self.sessions(row, way)
         if row.name == "replay":
             return told_lines(way)
-        if row.name == "run":
-            return ["refused OutOfMemory"] if way is None else self.refused_list(row.of, way)
+        if row.name in LISTS:
+            return ["refused OutOfMemory", THERE] if way is None else self.refused_list(row.of, way)
         if row.name == "next":
             self.engine.lost(self.peer)
-        return ["refused OutOfMemory"]
+        return ["refused OutOfMemory"] + [KEPT] * (row.name == "feed_buffer")
 
     def refused_list(self, events, place):
         """The answers of a list, of which one event is refused memory."""
-        lines = []
+        lines = [THERE]
         for at, one in enumerate(events):
             if at == place and one.name == "next":
                 self.engine.lost(1)
@@ -638,8 +677,8 @@ class Play:
         if row.name == "reopen":
             return ["reading", "starting"]
         if row.name == "replay":
-            return row.of.refusals()
-        if row.name == "run":
+            return list(row.of.refusals())
+        if row.name in LISTS:
             return [None, *range(len(row.of))]
         return [None]
 
@@ -790,10 +829,35 @@ def parts():
     return rows + [Row("data", 0, 0, 0, b"kept"), Row("image", answer=f"left {b'kept'.hex()}")]
 
 
+def buffered():
+    """A cutter is fed from a caller's buffer: a part of it is copied, behind what is unread too, and all of it is exchanged where the
+    cutter's own is as long."""
+    def cut(text, extra=b""):
+        return [Row("buffer", text + extra), Row("cut_buffer", len(text), answer=f"fed, {FED}")]
+
+    hashes, ask = THREE.hashes(), message(6, number(0) + number(0) + number(BLOCK))
+    rows = cut(THREE.torrent.handshake(b"p" * 20), b"more") + [Row("take", answer="another event")]
+    for parts in ([message(5, b"\x80")], [hashes[:100], hashes[100:]], [THREE.piece(0)], [ask], [THREE.piece(1)]):
+        rows += [row for at, part in enumerate(parts) for row in [Row("take", answer="none"), *cut(part, b"more" * at)]]
+        rows += [Row("take", answer="a message"), Row("message", answer=f"written {b''.join(parts).hex()}")]
+    rows += cut(message(21)) + [Row("take", answer="refused W3 BadLength"), Row("buffer", b"more")]
+    return rows + [Row("cut_buffer", 4, answer=f"refused W5 Failed, {KEPT}"), Row("take", answer="refused W5 Failed")]
+
+
 def straight():
     """*straight fetch*. All pieces come twice, so that one that could not be written comes again."""
     first = THREE.says(THREE.hashes(), UNCHOKE, *THREE.pieces())
     return THREE.begin() + THREE.comes() + first + [Row("next")] + THREE.says(*THREE.pieces()) + [Row("lost")]
+
+
+def by_buffer():
+    """*straight fetch* of which all comes from a caller's buffer: copied, behind what is unread too, or exchanged."""
+    hello = THREE.torrent.handshake(b"p" * 20) + message(5, b"\x80")
+    texts = [hello, THREE.hashes()[:100], THREE.hashes()[100:], UNCHOKE, *THREE.pieces()]
+    rows = [Row("connect"), Row("next")]
+    for text in texts:
+        rows += [Row("buffer", text + b"more" * (text in (hello, UNCHOKE))), Row("feed_buffer", len(text), of=text)] + [Row("next")] * 2
+    return THREE.begin() + rows + [Row("peer", 9), Row("feed_buffer", 1, of=b"m")]
 
 
 def waiting():
@@ -812,10 +876,10 @@ def two_peers():
     return THREE.begin() + first + second + rest
 
 
-def listed():
-    """*straight fetch* as one list of events."""
+def listed(name):
+    """*straight fetch* as one list of events, behind an answer that is there already."""
     rows = THREE.comes() + THREE.says(THREE.hashes(), UNCHOKE, *THREE.pieces()) + [Row("rechoke"), Row("lost")]
-    return THREE.begin() + [Row("run", of=rows)]
+    return THREE.begin() + [Row(name, of=rows)]
 
 
 def flushed(flip=(0, 0)):
@@ -846,12 +910,12 @@ def served():
     return begin + [Row("rechoke")] + THREE.says(ask, *hashes, message(6, number(0) + number(0) + number(16_385))) + [Row("lost")]
 
 
-def session(part):
+def session(part, name="session"):
     """*session of the abc fetch*, whose reader gives so many bytes at a time; and once more."""
     torrent, _ = abc_torrent()
     data = torrent.handshake(b"p" * 20) + message(5, b"\x80") + UNCHOKE + message(7, number(0) + number(0) + b"abc")
     rows = [Row("data", 0, 0, 0, b""), Row("torrent", torrent.text, of=torrent), Row("start")]
-    return rows + [Row("session", part, data)] * 2
+    return rows + [Row(name, part, data)] * 2
 
 
 def opened_with(log, *rows):
@@ -876,6 +940,12 @@ def reopened_anew():
 def all_of_three():
     """What a peer says in a session that has all of the file."""
     return THREE.torrent.handshake(b"p" * 20) + message(5, b"\x80") + UNCHOKE + THREE.hashes() + b"".join(THREE.pieces())
+
+
+def met():
+    """A peer alone that has all of *straight fetch*, twice: in a session that was refused memory much may have come already."""
+    rows = [Row("data", 0, 0, 0, b""), Row("torrent", THREE.torrent.text, of=THREE.torrent), Row("start")]
+    return rows + [Row("meet", READ, all_of_three())] * 2 + [Row("tell")]
 
 
 def flushing(every):
@@ -903,16 +973,19 @@ def replayed():
 
 
 EXAMPLES = {
-    "abc torrent": texts, "first proof": proof, "parts": parts, "straight fetch": straight, "waiting fetch": waiting,
-    "two peers": two_peers, "list of events": listed, "flush and restart": lambda: flushed((4, 16_384)), "restart and start": restarted,
+    "abc torrent": texts, "first proof": proof, "parts": parts, "cutter of a buffer": buffered, "straight fetch": straight,
+    "fetch by a buffer": by_buffer, "waiting fetch": waiting, "two peers": two_peers, "list of events": lambda: listed("run"),
+    "list as promised": lambda: listed("promised"), "flush and restart": lambda: flushed((4, 16_384)), "restart and start": restarted,
     "adoption": adopted, "serving": served, "session of the abc fetch": lambda: session(READ), "session, byte by byte": lambda: session(1),
+    "one peer": lambda: session(READ, "meet"), "one peer of three blocks": met,
     "reopen": reopened, "reopen, a new log": reopened_anew, "flushing session": lambda: flushing(1),
     "flushing each second turn": lambda: flushing(2), "peers in turn": lambda: in_turn(0), "peers in turn with flushes": lambda: in_turn(1),
     "replay": replayed,
 }
 # Examples of which each call of a device fails.
-FAILING = ("straight fetch", "waiting fetch", "flush and restart", "restart and start", "adoption", "serving", "reopen",
-           "reopen, a new log", "flushing session", "flushing each second turn", "peers in turn with flushes")
+FAILING = ("straight fetch", "fetch by a buffer", "waiting fetch", "list as promised", "flush and restart", "restart and start", "adoption",
+           "serving", "one peer of three blocks", "reopen", "reopen, a new log", "flushing session", "flushing each second turn",
+           "peers in turn with flushes")
 
 
 # ---- runs, and what came of them
@@ -924,6 +997,8 @@ class Trial:
     def __init__(self, name, rows, run, folder):
         self.name, self.rows, self.run, self.folder = name, rows, run, folder
         self.told, self.wrong = collections.Counter(), []
+        # How often each call answered that it is out of memory, and each event of a script, by its place.
+        self.answered = collections.Counter()
         self.script = "".join(f"{row}\n" for row in rows)
         self.ample = Play(rows)
         self.first = run(self.script, 0)
@@ -948,11 +1023,13 @@ class Trial:
         return [(row, self.asked_by(at) + 1, self.asked_by(at + 1) + 1) for row, at in zip(self.ample.kinds, begins)]
 
     def owed_of(self, call):
-        """What a run has to print where memory is refused to a call, each with how that may be seen."""
+        """What a run has to print where memory is refused to a call, each with how that may be seen; by the answer of an event of a
+        script, with its place."""
         row, owed = self.ample.kinds[call], {}
+        tellers = row.of.refusals() if row.name == "replay" else {}
         if row.name not in FREE and row.name != "flush":
             for way in self.ample.ways(call):
-                owed.setdefault(Play(self.rows, Refusal(call, way)).text(), "out of memory")
+                owed.setdefault(Play(self.rows, Refusal(call, way)).text(), tellers.get(way, "out of memory"))
         (data, log), (data_end, log_end) = self.ample.made[call]
         for failing in [Failing(at, 0) for at in range(data + 1, data_end + 1)] + [Failing(0, at) for at in range(log + 1, log_end + 1)]:
             owed.setdefault(Play(self.rows, failing=failing).text(), "device")
@@ -973,11 +1050,38 @@ class Trial:
                 continue
             if call not in owed:
                 owed[call] = self.owed_of(call)
-            name = calls[call][0].name
-            came = owed[call].get(done.printed) if done.status == 0 else None
-            self.told[name, came or "OTHERWISE"] += 1
-            if came is None:
-                self.note(f"allocation {failing} in call {call} {name} status {done.status}", "\n\n".join(owed[call]), done.printed)
+            self.judge(failing, call, done, owed[call])
+
+    def judge(self, failing, call, done, owed):
+        """Counts how a call answered that was refused an allocation."""
+        row = self.ample.kinds[call]
+        came = owed.get(done.printed) if done.status == 0 else None
+        if came == "out of memory":
+            self.answered[call, None] += 1
+        if isinstance(came, int):
+            self.answered[call, came] += 1
+            came = f"told by {row.of.events[came][0]}"
+        self.told[row.name, came or "OTHERWISE"] += 1
+        if came is None:
+            self.note(f"allocation {failing} in call {call} {row.name} status {done.status}", "\n\n".join(owed), done.printed)
+
+    def ask_scripts(self):
+        """Looks for events of scripts whose want of memory is told as their answer less often than where the events come alone."""
+        for call, row in enumerate(self.ample.kinds):
+            for at, count in self.owed_answers(row.of) if row.name == "replay" else []:
+                told, event = self.answered[call, at], f"event {at} {row.of.events[at][0]} of script {call}"
+                if told < count:
+                    never = "never told" if told == 0 else f"told {told} times of {count}"
+                    self.note(f"want of memory of {event} was {never} as its answer", "", self.first.printed)
+
+    def owed_answers(self, script):
+        """How often each event of a script answers that it is out of memory, where all come as rows of which each allocation is refused."""
+        trial = Trial("rows of a script", script.rows(), self.run, self.folder)
+        trial.refuse_each()
+        self.wrong += trial.wrong
+        places = [at for at, event in enumerate(script.events) if event[0] != "report"]
+        first = len(trial.ample.kinds) - len(places)
+        return [(at, trial.answered[first + place, None]) for place, at in enumerate(places)]
 
     def judge_own(self, failing, done):
         """An allocation of the program itself ends its run, or is not missed."""
@@ -1003,6 +1107,7 @@ class Trial:
             self.note(f"ample memory status {self.first.status}", self.ample.text(), self.first.printed)
         else:
             self.refuse_each()
+            self.ask_scripts()
         data, log = self.fail_each() if self.name in FAILING and not self.wrong else (0, 0)
         calls = sum(count for (name, _), count in self.told.items() if name != "the program itself")
         print(f"{self.name}: {len(self.ample.kinds)} calls, {calls} of their allocations refused, "

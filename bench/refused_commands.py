@@ -3,19 +3,20 @@
 
     python3 bench/refused_commands.py [PROGRAM [COMMAND..]]
 
-The commands are `make`, `show`, `check`, `seed` and `fetch`, these two with a log and without, and `replay`. The files are one of three
-bytes, one of three blocks and an empty one. A library in front of the C library refuses an allocation (`refusing.py`); the peer of a
-`fetch` is a `seed`, and that of a `seed` a `fetch`, to which none is refused. Then the same words are given once more, with ample memory,
-in the folder that the run before left.
+The commands are `make`, `show`, `check`, by two parts too, of which none is left then, `seed` and `fetch`, these two with a log and
+without, `replay`, and words that are refused. The files are one of three bytes, one of three blocks and an empty one. A library in front of the C library refuses
+an allocation (`refusing.py`); of a check by parts to the whole, or to one part. The peer of a `fetch` is a `seed`, and that of a `seed` a
+`fetch`, to which none is refused. Then the same words are given once more, with ample memory, in the folder that the run before left.
 
 A run has to end in one of these ways:
 
 - with status 4, with `btseed: out of memory` on standard error, and on standard output with whole lines of the front of what is printed
   where memory is ample;
 - as where memory is ample, since the allocation was not missed;
-- `fetch` and `seed` with `memory` or `fault` behind the peer, or `unreachable`. Then `fetch` tells how far the files are, which may be
-  that all are complete, where memory was refused behind the last block;
+- `fetch` and `seed` with `memory` behind the peer, and with no other end. Then `fetch` tells how far the files are, which may be that
+  all are complete, where memory was refused behind the last block;
 - `replay` with the refusal as the answer of an event, or of a device in memory, and with what follows from it: worked out by `refused.py`.
+  Each kind of event that takes memory has to tell it so in some run.
 
 Whatever came, no file is told as complete that is not, no more blocks are counted than are there, `make` leaves `OUT` with its old bytes
 or all of the new, and nothing beside it, and no file that was complete has changed. The second run does all.
@@ -25,6 +26,7 @@ one that is compiled without proof from the same sources, or PROGRAM. The status
 """
 
 import collections
+import functools
 import os
 import pathlib
 import shutil
@@ -34,7 +36,7 @@ import tempfile
 import threading
 
 from measure import unproved
-from refused import BLOCK, EXAMPLES
+from refused import BLOCK, EXAMPLES, TAKING
 from refusing import asked_in, refusal, refusing_library
 
 SECONDS = 60
@@ -61,11 +63,26 @@ class Bench:
     def words(self, words):
         return [self.program, *map(str, words)]
 
-    def ran(self, words, failing=None, given=""):
-        """How a run ended, of which an allocation is refused where that is named."""
-        env = dict(os.environ) if failing is None else refusal(self.library, self.counted, failing)
-        done = subprocess.run(self.words(words), input=given, env=env, capture_output=True, text=True, timeout=SECONDS, check=False)
-        return Ended(done.returncode, done.stdout, done.stderr, 0 if failing is None else asked_in(self.counted)[-1][1])
+    @functools.cached_property
+    def log(self):
+        """The log of a fetch of all."""
+        log = self.room / "log"
+        fetched = self.ran(["fetch", self.torrent, self.room / "fetched", f"127.0.0.1:{self.port}", "--log", log])
+        assert fetched.status == 0, fetched
+        return log.read_bytes()
+
+    def ran(self, words, failing=None, given="", among=None):
+        """How a run ended, of which an allocation is refused where that is named; in the process that has a word, where one is."""
+        env = dict(os.environ) if failing is None else refusal(self.library, self.counted, failing, among)
+        if failing is not None:
+            # A part that is killed may tell nothing.
+            self.counted.write_text("")
+        try:
+            done = subprocess.run(self.words(words), input=given, env=env, capture_output=True, text=True, timeout=SECONDS, check=False)
+        except subprocess.TimeoutExpired:
+            return Ended(None, "", f"no end in {SECONDS} seconds", 0)
+        asked = asked_in(self.counted) if failing is not None else []
+        return Ended(done.returncode, done.stdout, done.stderr, asked[-1][1] if asked else 0)
 
     def served(self, words, failing, folder):
         """How a `seed` of one connection ended, from which a `fetch` fetches where it listens; and that `fetch`."""
@@ -97,6 +114,18 @@ def right_blocks(folder, name):
     return sum(found[at:at + BLOCK] == data[at:at + BLOCK] for at in range(0, len(data), BLOCK))
 
 
+def running():
+    """The words of each process that runs."""
+    found = []
+    for path in pathlib.Path("/proc").glob("[0-9]*/cmdline"):
+        try:
+            found.append(path.read_bytes().decode(errors="replace").split("\0"))
+        except OSError:
+            # it has ended
+            continue
+    return found
+
+
 def told_wrongly(folder, lines):
     """What is told of files that are not so."""
     wrong, count = [], {name: -(-len(data) // BLOCK) for name, data in FILES.items()}
@@ -114,8 +143,10 @@ def told_wrongly(folder, lines):
 class Command:
     """A command: what lies in the folder before it, its words, and what may come of it."""
 
-    # the status of a run with ample memory
-    DONE = 0
+    # the status of a run with ample memory, and what it tells on standard error
+    DONE, FAULT = 0, ""
+    # a word of the process that is refused memory, where more than one is started
+    AMONG = None
 
     def __init__(self, bench):
         self.bench, self.told, self.wrong = bench, collections.Counter(), []
@@ -132,7 +163,7 @@ class Command:
         """Puts what a run begins with into its folder."""
 
     def run(self, folder, failing):
-        return self.bench.ran(self.words(folder), failing, self.given())
+        return self.bench.ran(self.words(folder), failing, self.given(), self.AMONG)
 
     def given(self):
         return ""
@@ -155,7 +186,7 @@ class Command:
 
     def try_all(self):
         ample = self.run(self.folder(), 0)
-        if ample.status != self.DONE or ample.err:
+        if ample.status != self.DONE or ample.err != self.FAULT:
             self.wrong.append(f"with ample memory: {ample}")
             return False
         for failing in range(1, ample.asked + 1):
@@ -233,6 +264,35 @@ class CheckInfo(Command):
         return told_wrongly(folder / "files", ended.out.splitlines())
 
 
+class CheckJobs(Command):
+    """By two parts, of which none is left when it ends."""
+
+    AMONG = "--jobs"
+
+    def words(self, _folder):
+        return ["check", self.bench.torrent, self.bench.files, "--jobs", 2]
+
+    def look(self, _folder, _ended):
+        return [f"a part is left: {words}" for words in running() if "--part" in words and str(self.bench.files) in words]
+
+
+class CheckJobsFirstPart(CheckJobs):
+    """The same, where the first part is refused memory, which the whole tells."""
+
+    AMONG = "0/2"
+
+
+class CheckJobsLastPart(CheckJobs):
+    AMONG = "1/2"
+
+
+class CheckPart(Command):
+    """A part that is called by hand."""
+
+    def words(self, _folder):
+        return ["check", "--part", "1/2", self.bench.torrent, self.bench.files]
+
+
 class Fetch(Command):
     LOG = ()
 
@@ -244,11 +304,11 @@ class Fetch(Command):
         lines = ended.out.splitlines()
         peer = f"peer 127.0.0.1:{self.bench.port} "
         ends = [line.removeprefix(peer) for line in lines if line.startswith(peer)]
-        if ended.status == 4 and ended.err == NO_MEMORY and ends in ([], ["complete"], ["memory"], ["fault"], ["unreachable"]):
+        if ended.status == 4 and ended.err == NO_MEMORY and ends in ([], ["complete"], ["memory"]):
             return "out of memory, behind lines"
         report = {0: ["complete"], 1: ["not complete"]}.get(ended.status)
-        if lines[-1:] == report and not ended.err and ends in (["memory"], ["fault"], ["unreachable"]):
-            return f"told as {ends[0]}" + (", and complete" if ended.status == 0 else "")
+        if lines[-1:] == report and not ended.err and ends == ["memory"]:
+            return "told as memory" + (", and complete" if ended.status == 0 else "")
         return None
 
     def look(self, folder, ended):
@@ -278,6 +338,31 @@ class FetchWithLog(Fetch):
         return [report_of(ample), ample.out]
 
 
+class FetchWithLogLikeFile(FetchWithLog):
+    """There is a log, whose name differs from that of a data file in case alone, so that their folder is listed; and no data file."""
+
+    LOG = ("--log", "files/A")
+
+    def prepare(self, folder):
+        put_files(folder / "files", {"A": self.bench.log})
+
+
+class FetchWithLogAmongFiles(FetchWithLog):
+    """The log is a data file, which a look shows before anything is made."""
+
+    LOG, DONE, FAULT = ("--log", "files/a"), 2, "btseed: the file of --log is one of the torrent's files\n"
+
+    def prepare(self, folder):
+        put_files(folder / "files", {"a": FILES["a"]})
+
+    def own_kind(self, _ended):
+        return None
+
+    def look(self, folder, _ended):
+        made = sorted(path.name for path in (folder / "files").iterdir())
+        return [f"made {made}"] * (made != ["a"]) + ["a changed"] * ((folder / "files" / "a").read_bytes() != FILES["a"])
+
+
 class Seed(Command):
     LOG = ()
 
@@ -296,10 +381,13 @@ class Seed(Command):
 
     def own_kind(self, ended):
         lines = ended.out.splitlines()
-        if ended.status == 0 and not ended.err and lines in (["listening PORT", f"served 1 {end}"] for end in ("memory", "fault", "ended")):
-            return f"told as {lines[1].split(' ')[-1]}"
-        if ended.status == 4 and ended.err == NO_MEMORY and lines in (["listening PORT", f"served 1 {end}"] for end in ("memory", "fault")):
+        if ended.status == 0 and not ended.err and lines == ["listening PORT", "served 1 memory"]:
+            return "told as memory"
+        if ended.status == 4 and ended.err == NO_MEMORY and lines == ["listening PORT", "served 1 memory"]:
             return "out of memory, behind lines"
+        # As with ample memory: who is complete closes the connection.
+        if ended.status == 0 and not ended.err and lines == ["listening PORT", "served 1 fault"] and self.fetched.status == 0:
+            return "told as fault, behind all"
         return None
 
     def look(self, folder, ended):
@@ -316,16 +404,33 @@ class SeedWithLog(Seed):
 
     def prepare(self, folder):
         """The log and the files of a fetch."""
-        words = ["fetch", self.bench.torrent, folder / "files", f"127.0.0.1:{self.bench.port}", "--log", folder / "log"]
-        fetched = self.bench.ran(words)
-        if fetched.status != 0:
-            self.wrong.append(f"no log: {fetched}")
+        put_files(folder, {"log": self.bench.log} | {f"files/{name}": data for name, data in FILES.items()})
+
+
+class Mistake(Command):
+    """Words that are refused, of which the whole text is told that says so, or none."""
+
+    DONE, FAULT = 2, """\
+error: the following required arguments were not provided:
+  <TORRENT>
+  <DIR>
+  <PEER>...
+
+Usage: btseed fetch <TORRENT> <DIR> <PEER>...
+
+For more information, try '--help'.
+"""
+
+    def words(self, _folder):
+        return ["fetch"]
 
 
 class Replay(Command):
     def __init__(self, bench):
         super().__init__(bench)
         self.scripts = [row.of for row in EXAMPLES["replay"]()]
+        # what runs came to that were refused memory
+        self.came = set()
 
     def words(self, _folder):
         return ["replay"]
@@ -334,18 +439,24 @@ class Replay(Command):
         return self.script.text.decode()
 
     def own_kind(self, ended):
-        came = (ended.status, ended.out, ended.err)
-        return "told as an answer" if came in {(told.status, told.written, told.faults) for told in self.refusals} else None
+        self.came.add(ended[:3])
+        return "told as an answer" if ended[:3] in self.refusals else None
 
     def try_all(self):
-        good = True
         for self.script in self.scripts:
             self.refusals = self.script.refusals()
-            good = super().try_all() and good
-        return good
+            super().try_all()
+            told = {self.script.events[at][0] for at in self.script.told_events(self.came)}
+            untold = {name for name, *_ in self.script.events if name in TAKING} - told
+            # A hello is a feed, and the feeds of a script may find room.
+            untold -= {"feed"} if "hello" in told else set()
+            self.wrong += [f"want of memory of {name} was never told as its answer" for name in sorted(untold)]
+        return not self.wrong
 
 
-COMMANDS = {command.__name__: command for command in (Make, Show, Check, CheckInfo, Fetch, FetchWithLog, Seed, SeedWithLog, Replay)}
+COMMANDS = {command.__name__: command for command in (
+    Make, Show, Check, CheckInfo, CheckJobs, CheckJobsFirstPart, CheckJobsLastPart, CheckPart, Fetch, FetchWithLog, FetchWithLogLikeFile,
+    FetchWithLogAmongFiles, Seed, SeedWithLog, Replay, Mistake)}
 
 
 def main(words):

@@ -3,17 +3,19 @@
 import collections
 import subprocess
 
-# Refuses the allocation that FAILING names. Behind each write to standard output, and at the end, it tells in the file COUNTED how many
-# bytes were written by then, and how many allocations were asked for.
+# Refuses the allocation that FAILING names; where AMONG names a word, only in a process that has it among its words, so that one is meant
+# of a process and those that it starts. What is asked for before the words are known is not counted. Behind each write to standard output,
+# and at the end, it tells in the file COUNTED how many bytes were written by then, and how many allocations were asked for.
 REFUSING = r"""
 #define _GNU_SOURCE
 #include <dlfcn.h>
 #include <fcntl.h>
 #include <stdio.h>
 #include <stdlib.h>
+#include <string.h>
 #include <unistd.h>
 static long asked, written;
-static int counted = -1;
+static int counted = -1, meant;
 static ssize_t write_on(int file, const void *bytes, size_t size) {
     return ((ssize_t (*)(int, const void *, size_t))dlsym(RTLD_NEXT, "write"))(file, bytes, size);
 }
@@ -22,7 +24,7 @@ static void tell(void) {
     int size = snprintf(line, sizeof line, "%ld %ld\n", written, asked);
     if (counted >= 0 && write_on(counted, line, size) != size) abort();
 }
-static int refused(void) { const char *n = getenv("FAILING"); return n && ++asked == atol(n); }
+static int refused(void) { const char *n = getenv("FAILING"); return n && meant && ++asked == atol(n); }
 void *malloc(size_t size) { return refused() ? 0 : ((void *(*)(size_t))dlsym(RTLD_NEXT, "malloc"))(size); }
 void *realloc(void *old, size_t size) {
     return refused() ? 0 : ((void *(*)(void *, size_t))dlsym(RTLD_NEXT, "realloc"))(old, size);
@@ -32,7 +34,12 @@ ssize_t write(int file, const void *bytes, size_t size) {
     if (file == 1 && done > 0) { written += done; tell(); }
     return done;
 }
-__attribute__((constructor)) static void begin(void) { counted = open(getenv("COUNTED"), O_WRONLY | O_CREAT | O_TRUNC, 0600); }
+__attribute__((constructor)) static void begin(int count, char **words) {
+    const char *among = getenv("AMONG");
+    meant = !among;
+    while (count-- > 1) if (among && !strcmp(words[count], among)) meant = 1;
+    if (meant) counted = open(getenv("COUNTED"), O_WRONLY | O_CREAT | O_TRUNC, 0600);
+}
 __attribute__((destructor)) static void end(void) { tell(); }
 """
 
@@ -48,9 +55,11 @@ def refusing_library(folder):
     return library
 
 
-def refusal(library, counted, failing):
-    """The environment of a program that is refused an allocation, or none where that is 0; and that tells in a file what it asked for."""
-    return {"LD_PRELOAD": str(library), "COUNTED": str(counted), "FAILING": str(failing)}
+def refusal(library, counted, failing, among=None):
+    """The environment of a program that is refused an allocation, or none where that is 0; and that tells in a file what it asked for.
+    Where a word is named, the program is the one of those that are started that has it among its words."""
+    words = {"LD_PRELOAD": str(library), "COUNTED": str(counted), "FAILING": str(failing)}
+    return words | ({"AMONG": among} if among else {})
 
 
 def asked_in(counted):
