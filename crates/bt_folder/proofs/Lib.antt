@@ -4,3 +4,5 @@ pub mod Names
 pub mod Identities
 -- Names of the folders on a path.
 pub mod Twins
+-- Names of a path that are looked at, one after the other.
+pub mod Looks

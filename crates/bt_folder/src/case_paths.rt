@@ -1,27 +1,19 @@
 //! Paths on which a name is one with another of its folder but for case.
-ghost use Rattle.std.specs.Prelude.{◌≡◌, ◌&&◌, ◌+◌, ◌≤◌, ◌<◌, length, map, take, string_bytes, vec_len, IfOk, OnOk, IsSomeAnd};
-ghost use Rattle.std.specs.Bool.{OnFalse};
-ghost use Rattle.bt_folder.specs.CasePaths.{HasNameOfAnother, HasNoPath, IsOfAnother, IsOfAnotherAt, texts};
-ghost use Rattle.bt_folder.specs.CasePathsSteps.{HasFurther, HasNoName};
-ghost use Rattle.bt_folder.specs.FolderNames.{has_name};
+ghost use Rattle.std.specs.Prelude.{◌≡◌, ◌≢◌, ◌+◌, ◌++◌, ◌∷◌, [], ◌≤◌, ◌<◌, fold, length, map, take, slice_get, string_bytes, vec_len, IfErr, IfOk, OnOk};
+ghost use Rattle.std.specs.Bool.{OnFalse, OnTrue};
+ghost use Rattle.std.specs.Path.{path_buf_bytes, path_join};
+ghost use Rattle.bt_folder.specs.CasePaths.{GoesTo, HasNameOfAnother, HasNoPath, IsOwnPath, IsPathError, folder_on, last_path, texts};
+ghost use Rattle.bt_folder.specs.CasePathsSteps.{AddsName, HasFurther, KeepsAbove};
+ghost use Rattle.bt_folder.specs.CaseFolders.{IsOwnIn};
+ghost use Rattle.bt_folder.specs.Lookup.{IsListingError};
 
-use crate::case_names::CaseNames;
-use crate::folder_names::{FolderNames, ListingError};
+use crate::case_folder::CaseFolder;
+use crate::folder_names::ListingError;
+use crate::lookup::Lookup;
+use crate::paths_so_far::CasePaths;
 use std::alloc::{AllocError, Global};
 use std::path::PathBuf;
 use std::rt::Files;
-
-/// Looks at paths below a folder, one after the other in tree order, for names that lead to the file or the folder of
-/// another name, as they do where a file system does not tell case apart, and may tell two inodes all the same.
-///
-/// A name that is one with an earlier name of its folder but for case has to stand in the folder's listing, and so has
-/// that one: then they are two. No other name is looked for, so mostly no folder is listed, and each at most once.
-#[derive(Drop)]
-pub struct CasePaths {
-    /// The elements of the last path, and each folder on it: the first one is that below which the paths lie.
-    path: Vec<String>,
-    folders: Vec<CaseFolder>,
-}
 
 impl CasePaths {
     /// No path was looked at.
@@ -39,14 +31,19 @@ impl CasePaths {
     ///
     /// Errors: a folder can't be listed, or memory is refused. No path is looked at after that, or after a path of which
     /// a name is not its own.
-    pub fn is_own<R: Files + AllocGlobal + Clone + Drop>(
+    pub fn is_own<R: Files + AllocGlobal + Clone + Drop + Lookup>(
         &mut self,
         rt: &R,
         dir: &str,
         elements: &[&str],
     ) -> Result<bool, ListingError>
-        ensures { IfOk result
+        ensures answer { IfOk result
+            (IsOwnPath (R.lists rt.now) dir.now self.old self.new (texts elements.now)) }
+        ensures of_another { IfOk result
             (λ is_own. OnFalse is_own (HasNameOfAnother self.old self.new (texts elements.now))) }
+        ensures goes { IfOk result
+            (λ is_own. OnTrue is_own (GoesTo self.old self.new (texts elements.now))) }
+        ensures error { IfErr result (IsPathError (R.lists rt.now) dir.now (texts elements.now)) }
     {
         let shared = self.shared_len(elements);
         self.path.truncate(shared);
@@ -64,6 +61,8 @@ impl CasePaths {
         ensures in_path { result ≤ vec_len self.now.path }
         ensures in_elements { result ≤ length elements.now }
         ensures same { map string_bytes (take result self.now.path.items) ≡ texts (take result elements.now) }
+        ensures apart { result < length elements.now
+            → slice_get (last_path self.now) result ≢ slice_get (texts elements.now) result }
     {
         for (place, element) in elements.iter().enumerate() {
             match self.path.get(place) {
@@ -75,17 +74,22 @@ impl CasePaths {
     }
 
     /// Goes on to a name in the folder that the path so far leads to.
-    fn is_own_name<R: Files + AllocGlobal + Clone + Drop>(
+    fn is_own_name<R: Files + AllocGlobal + Clone + Drop + Lookup>(
         &mut self,
         rt: &R,
         dir: &str,
         name: &str,
     ) -> Result<bool, ListingError>
-        ensures path { OnOk result (vec_len self.new.path ≡ vec_len self.old.path + 1) }
+        ensures path { OnOk result (last_path self.new ≡ last_path self.old ++ name.now ∷ []) }
         ensures folders { OnOk result (vec_len self.old.folders ≤ vec_len self.old.path + 1
             → vec_len self.new.folders ≤ vec_len self.old.path + 1) }
-        ensures of_another { IfOk result (λ is_own. OnFalse is_own
-            (IsOfAnotherAt self.old.folders.items self.new.folders.items (vec_len self.old.path) name.now)) }
+        ensures kept { OnOk result (KeepsAbove self.old self.new (vec_len self.old.path)) }
+        ensures added { OnOk result (AddsName self.old self.new (vec_len self.old.path) name.now) }
+        ensures answer { let depth = vec_len self.old.path in IfOk result
+            (IsOwnIn (R.lists rt.now) (fold path_join dir.now (last_path self.old))
+            (folder_on self.old depth) (folder_on self.new depth) name.now) }
+        ensures error { IfErr result
+            (IsListingError (R.lists rt.now) (fold path_join dir.now (last_path self.old))) }
     {
         let depth = self.path.len();
         let folder = folder_path(rt.alloc(), dir, &self.path)?;
@@ -98,7 +102,7 @@ impl CasePaths {
 
     /// Puts a name behind the path so far, whose folder it lies in.
     fn go_to(&mut self, alloc: Global, name: &str) -> Result<(), AllocError>
-        ensures path { OnOk result (vec_len self.new.path ≡ vec_len self.old.path + 1) }
+        ensures path { OnOk result (last_path self.new ≡ last_path self.old ++ name.now ∷ []) }
         ensures known { OnOk result (vec_len self.old.path < vec_len self.old.folders
             → self.new.folders.items ≡ self.old.folders.items) }
         ensures further { OnOk result (vec_len self.old.folders ≤ vec_len self.old.path
@@ -113,68 +117,13 @@ impl CasePaths {
 }
 
 /// The path of a folder below another.
-fn folder_path(alloc: Global, dir: &str, elements: &[String]) -> Result<PathBuf, AllocError> {
+fn folder_path(alloc: Global, dir: &str, elements: &[String]) -> Result<PathBuf, AllocError>
+    ensures { IfOk result
+        (λ path. path_buf_bytes path ≡ fold path_join dir.now (map string_bytes elements.now)) }
+{
     let mut path = PathBuf::from_str(alloc, dir)?;
     for element in elements {
         path.push(element.as_str())?;
     }
     Ok(path)
-}
-
-/// The names of one folder that were looked at, and its listing, once it was read.
-#[derive(Drop)]
-struct CaseFolder {
-    names: CaseNames,
-    listing: Option<FolderNames>,
-}
-
-impl CaseFolder {
-    fn new(alloc: Global) -> Self
-        ensures { HasNoName result }
-    {
-        CaseFolder {
-            names: CaseNames::new(alloc),
-            listing: None,
-        }
-    }
-
-    fn is_own_name<R: Files + AllocGlobal + Clone + Drop>(
-        &mut self,
-        rt: &R,
-        folder: &str,
-        name: &str,
-    ) -> Result<bool, ListingError>
-        ensures { IfOk result (λ is_own. OnFalse is_own (IsOfAnother self.old self.new name.now)) }
-    {
-        let Some(twin) = self.names.insert(rt.alloc(), name)? else {
-            return Ok(true);
-        };
-        self.stand(rt, folder, twin.as_str(), name)
-    }
-
-    /// Whether two names stand in the folder's listing, which is read where it was not.
-    fn stand<R: Files + AllocGlobal + Clone + Drop>(
-        &mut self,
-        rt: &R,
-        folder: &str,
-        twin: &str,
-        name: &str,
-    ) -> Result<bool, ListingError>
-        ensures { IfOk result (λ stand. IsSomeAnd self.new.listing (λ listing.
-            stand ≡ (has_name listing twin.now && has_name listing name.now))) }
-    {
-        if let Some(listing) = &self.listing {
-            return Ok(have_both(listing, twin, name));
-        }
-        let listing = FolderNames::read(rt, folder)?;
-        let stand = have_both(&listing, twin, name);
-        self.listing = Some(listing);
-        Ok(stand)
-    }
-}
-
-fn have_both(listing: &FolderNames, twin: &str, name: &str) -> bool
-    ensures { result ≡ (has_name listing.now twin.now && has_name listing.now name.now) }
-{
-    listing.has(twin) && listing.has(name)
 }

@@ -1,38 +1,99 @@
 -- Why a log is not opened in a file, by why one of its steps failed.
-use Rattle.std.proofs.Common.{◌≡◌, inl, inr, ℕ, List, Option, Result, Ok, Err, IfErr, sym, subst}
+use Rattle.std.proofs.Common.{◌≡◌, ◌≢◌, ◌⊎◌, inl, inr, ℕ, List, Option, Result, Ok, Err, IfErr, refl, sym, subst}
 use Rattle.std.specs.Prelude.{IfOk, IsErrAnd, OnOk}
 use Rattle.bt_disk.specs.declared.opening.FileIdentity.{FileIdentity}
+use Rattle.bt_folder.specs.Lookup.{IsListingError, Lists, Tells}
+use Rattle.bt_folder.specs.declared.folder_names.ListingError.{ListingError}
+use Rattle.bt_folder.specs.declared.folder_names.ListingError.TheVariants.{Device as CallFailed, OutOfMemory as NoMemory}
 use Rattle.bt_folder.specs.declared.known_files.KnownFiles.{KnownFiles}
 use Rattle.bt_meta.specs.Files.{File}
 use Rattle.bt_meta.specs.Torrent.{Metainfo}
+use Rattle.bt_check.specs.Fault.{log_among_files, out_of_memory}
 use Rattle.bt_check.specs.declared.fault.Fault.{Fault}
 use Rattle.bt_log_file.specs.Attaching.{IsAttachFault}
-use Rattle.bt_log_file.specs.Device.{LogDiskView, device_conduct}
-use Rattle.bt_log_file.specs.Names.{HasNameOfFile}
-use Rattle.bt_log_file.specs.Opening.{IsFileFault, IsLogFaultOf, IsNameFault}
+use Rattle.bt_log_file.specs.Device.{LogDiskView, device_conduct, new_log_device}
+use Rattle.bt_log_file.specs.Looking.{IsDataFileFault}
+use Rattle.bt_log_file.specs.Names.{HasFileByName, HasNameOfFile}
+use Rattle.bt_log_file.specs.Opening.{IsCallFault, IsCallFaultBy, IsFileFault, IsLogFault, IsLogFaultBy, IsLogFaultOf, IsNameFault, listing_fault}
 
 -- what holds of a fault holds where it is passed on
 pub passed_on : {T : Type 0} (r : Result T Fault) (fault : Fault) (P : Fault → Type 0) → IsErrAnd r (λ told. told ≡ fault) → P fault → IfErr r P
 passed_on (Ok x) fault P told holds = tt
 passed_on (Err it) fault P told holds = subst P (sym told) holds
 
-module _ (known : KnownFiles) (identity : Option FileIdentity) (torrent : Metainfo) (path : List ℕ) (disk : LogDiskView) (fault : Fault) where
-  -- the file is one of those that are known
-  pub of_known : IsFileFault known identity fault → IsLogFaultOf known identity torrent path disk fault
-  of_known (inl short) = inl (inr short)
-  of_known (inr among) = inr (inl (among.0, inl among.1))
+device≢memory : CallFailed ≢ NoMemory
+device≢memory same = cc
 
-  -- it has the name of one but for case
-  pub of_name : (files : List File) → files ≡ torrent.files → IsNameFault files path fault
-      → IsLogFaultOf known identity torrent path disk fault
-  of_name files same (inl call) = inl call
-  of_name files same (inr among) = inr (inl (among.0, inr (subst (λ (fs : List File). HasNameOfFile fs path) same among.1)))
+-- a listing that failed is a call that did
+pub of_listing : (lists : Lists) (place : List ℕ) (error : ListingError) → IsListingError lists place error
+    → IsCallFaultBy (lists place (Err CallFailed)) (listing_fault error)
+of_listing lists place CallFailed (inl short) = absurd (device≢memory short)
+of_listing lists place CallFailed (inr told) = inl (refl, told)
+of_listing lists place NoMemory is = inr refl
+
+-- so of one of several calls
+pub of_call : (one all : Type 0) (fault : Fault) → (one → all) → IsCallFaultBy one fault → IsCallFaultBy all fault
+of_call one all fault is_of (inl failed) = inl (failed.0, is_of failed.1)
+of_call one all fault is_of (inr short) = inr short
+
+module _ (known : KnownFiles) (identity : Option FileIdentity) (infohash : List ℕ) (failed : Type 0) (disk : LogDiskView) (fault : Fault) where
+  abbrev Fails : Type 0 → Type 0
+  Fails named = IsLogFaultOf known identity infohash (IsCallFaultBy failed) named disk fault
+
+  -- the file is one of those that are known
+  pub of_known : (named : Type 0) → IsFileFault known identity fault → Fails named
+  of_known named (inl short) = inl (inr short)
+  of_known named (inr among) = inr (inl (among.0, inl among.1))
+
+  -- it is one by its name
+  pub of_name : (one : Type 0) (named : List File → Type 0) (files all : List File) → (one → failed) → files ≡ all → IsNameFault one (named files) fault
+      → Fails (named all)
+  of_name one named files all is_of same (inl call) = inl (of_call one failed fault is_of call)
+  of_name one named files all is_of same (inr among) = inr (inl (among.0, inr (subst named same among.1)))
+
+  -- its name is not kept
+  pub of_folder : (one named : Type 0) → (one → failed) → IsCallFaultBy one fault → Fails named
+  of_folder one named is_of call = inl (of_call one failed fault is_of call)
 
   -- no log is opened on its device
-  pub of_device : (infohash : List ℕ) → infohash ≡ torrent.infohash
-      → IsAttachFault device_conduct infohash disk fault → IsLogFaultOf known identity torrent path disk fault
-  of_device infohash whose is =
-      inr (inr (subst (λ (h : List ℕ). IsAttachFault device_conduct h disk fault) whose is))
+  pub of_device : (named : Type 0) (whose : List ℕ) → whose ≡ infohash → IsAttachFault device_conduct whose disk fault → Fails named
+  of_device named whose same is = inr (inr (subst (λ (h : List ℕ). IsAttachFault device_conduct h disk fault) same is))
+
+-- ---- what is known of names where nothing is known of what the system told
+
+module _ (tells : Tells) (lists : Lists) (dir : List ℕ) (files : List File) (path : List ℕ) where
+  by_name : HasFileByName tells lists dir files path → HasNameOfFile files path
+  by_name is = record {
+    number = is.number;
+    file = is.file;
+    here = is.here;
+    is_name = record {
+      name = is.is_file.name;
+      other = is.is_file.other;
+      names = is.is_file.names;
+      listing = is.is_file.lacks.0;
+      lacks = is.is_file.lacks.2;
+    };
+  }
+
+  less : (known : KnownFiles) (identity : Option FileIdentity) (infohash : List ℕ) (failed : Type 0) (disk : LogDiskView) (fault : Fault)
+      → IsLogFaultOf known identity infohash (IsCallFaultBy failed) (HasFileByName tells lists dir files path) disk fault
+      → IsLogFaultOf known identity infohash IsCallFault (HasNameOfFile files path) disk fault
+  less known identity infohash failed disk fault (inl (inl call)) = inl (inl call.0)
+  less known identity infohash failed disk fault (inl (inr short)) = inl (inr short)
+  less known identity infohash failed disk fault (inr (inl (among, inl old))) = inr (inl (among, inl old))
+  less known identity infohash failed disk fault (inr (inl (among, inr named))) = inr (inl (among, inr (by_name named)))
+  less known identity infohash failed disk fault (inr (inr refused)) = inr (inr refused)
+
+pub log_fault_alone : (tells : Tells) (lists : Lists) (dir : List ℕ) (failed : Type 0) (known : KnownFiles) (torrent : Metainfo) (path : List ℕ) (fault : Fault)
+    → IsLogFaultBy (IsCallFaultBy failed) (HasFileByName tells lists dir torrent.files path) known torrent path fault → IsLogFault known torrent path fault
+log_fault_alone tells lists dir failed known torrent path fault is =
+    (is.0, less tells lists dir torrent.files path known is.0 torrent.infohash failed (new_log_device path is.0) fault is.1)
+
+pub look_alone : (tells : Tells) (dir : List ℕ) (files : List File) (path : List ℕ) (fault : Fault) → IsDataFileFault tells dir files path fault
+    → (fault ≡ log_among_files) ⊎ (fault ≡ out_of_memory)
+look_alone tells dir files path fault (inl among) = inl among.0
+look_alone tells dir files path fault (inr short) = inr short
 
 -- ---- what holds where a result is a value, or a fault
 

@@ -1,16 +1,22 @@
 -- Why a file is none for a log, since it is one of others.
-use Rattle.std.proofs.Common.{◌≡◌, ◌↔◌, ◌⊎◌, inl, inr, ℕ, ◌<◌, Bool, true, false, List, length, map, get_or, Some, None, Result, Ok, Err, IfOk, refl, sym, ap, ◌∙◌}
+use Rattle.std.proofs.Common.{◌≡◌, ◌↔◌, ◌⊎◌, inl, inr, ℕ, ◌<◌, Bool, true, false, List, length, map, not, get_or, Some, None, Result, Ok, Err, IfOk, refl, sym, ap, subst, arith, ◌+◌, ◌≤◌, ◌∙◌}
 use Rattle.std.specs.Prelude.{IsTrue, MatchBool, OnOk, slice_get}
-use Rattle.std.specs.Bool.{OnFalse, OnTrue}
+use Rattle.std.specs.Bool.{OnFalse}
 use Rattle.std.specs.declared.alloc.AllocError.{AllocError}
-use Rattle.std.proofs.lemmas.Option.{none-some, same_Some, slice_get-get_or, slice_get-map}
+use Rattle.std.proofs.lemmas.Bool.{cases_lt, false≢true}
+use Rattle.std.proofs.lemmas.List.{length-map}
+use Rattle.std.proofs.lemmas.Option.{none-some, same_Some, slice_get-get_or, slice_get-map, slice_get_within}
 use Rattle.std.specs.Option.{option_map}
 use Rattle.bt_disk.specs.declared.opening.FileIdentity.{FileIdentity}
 use Rattle.bt_folder.specs.KnownFiles.{IsKnown}
+use Rattle.bt_folder.specs.Lookup.{Lists, Tells}
+use Rattle.bt_folder.specs.declared.folder_names.ListingError.{ListingError}
 use Rattle.bt_folder.specs.declared.known_files.KnownFiles.{KnownFiles}
-use Rattle.bt_meta.specs.Files.{file_of}
+use Rattle.bt_meta.specs.Files.{File, file_of}
 use Rattle.bt_meta.specs.declared.torrent.FileEntry.{FileEntry}
-use Rattle.bt_log_file.specs.Names.{HasNameOfFile, IsNameOf}
+use Rattle.bt_check.specs.Paths.{path_below}
+use Rattle.bt_log_file.specs.Folder.{folder_of}
+use Rattle.bt_log_file.specs.Names.{AreAlike, HasBoth, IsFileByName, IsFolderOf, IsNoFileByName}
 use Rattle.bt_log_file.specs.Opening.{IsAdded}
 
 -- ---- files by what the system tells of them
@@ -42,8 +48,53 @@ pub file_at : (entries : List FileEntry) (i : ℕ) (entry : FileEntry) → i < l
 file_at entries i entry below at =
     slice_get-map file_of entries i ∙ ap (option_map file_of) (slice_get-get_or entries i entry below) ∙ ap (λ e. Some (file_of e)) (sym at)
 
--- a walk comes to a file that has the name of a path but for case
-pub among : (entries : List FileEntry) (i : ℕ) (entry : FileEntry) (path : List ℕ) (answer : Bool) → i < length entries → entry ≡ get_or entries i entry
-    → answer ≡ true → OnTrue answer (IsNameOf entry.path path) → HasNameOfFile (map file_of entries) path
-among entries i entry path true below at said is = record { number = i; file = file_of entry; here = file_at entries i entry below at; is_name = is }
-among entries i entry path false below at said is = let bad : false ≡ true = said in cc
+-- what holds where an answer is yes, and where it is no
+pub on_yes : (b : Bool) (P Q : Type 0) → b ≡ true → MatchBool b P Q → P
+on_yes true P Q said is = is
+on_yes false P Q said is = absurd (false≢true said)
+
+pub on_no : (b : Bool) (P Q : Type 0) → b ≡ false → MatchBool b P Q → Q
+on_no true P Q said is = absurd (false≢true (sym said))
+on_no false P Q said is = is
+
+-- something holds of each of so many files
+abbrev pub EachBefore : (File → Type 0) → List File → ℕ → Type 0
+EachBefore P files count = (number : ℕ) (file : File) → number < count → slice_get files number ≡ Some file → P file
+
+-- of one more
+pub each_more : (P : File → Type 0) (entries : List FileEntry) (i : ℕ) (entry : FileEntry) → i < length entries → entry ≡ get_or entries i entry
+    → EachBefore P (map file_of entries) i → P (file_of entry) → EachBefore P (map file_of entries) (i + 1)
+each_more P entries i entry below at before holds number file next here =
+    elim (cases_lt number i) [
+      | inl earlier ↦ before number file earlier here
+      | inr last ↦
+          let same : number ≡ i = omega (arith, next, last) in
+          subst P (same_Some (file_of entry) file (sym (file_at entries i entry below at) ∙ ap (slice_get (map file_of entries)) (sym same) ∙ here)) holds
+    ]
+
+-- of all
+pub each_of_all : (P : File → Type 0) (entries : List FileEntry) (i : ℕ) → length entries ≤ i → EachBefore P (map file_of entries) i
+    → (number : ℕ) (file : File) → slice_get (map file_of entries) number ≡ Some file → P file
+each_of_all P entries i all before number file here =
+    before number file (omega (arith, all, slice_get_within (map file_of entries) number file here, length-map entries file_of)) here
+
+-- two pairs of names that are the last of both are one
+names_same : (file : List (List ℕ)) (path name other name' other' : List ℕ) → AreAlike file path name other → AreAlike file path name' other'
+    → (name ≡ name') × (other ≡ other')
+names_same file path name other name' other' one two = (same_Some name name' (sym one.last ∙ two.last), same_Some other other' (sym one.others ∙ two.others))
+
+-- whether a file is the one at a path by such names, by a listing of their folder
+pub by_listing : (tells : Tells) (lists : Lists) (dir : List ℕ) (file : List (List ℕ)) (path name other : List ℕ) (r : Result Bool ListingError)
+    → AreAlike file path name other → IsFolderOf tells (folder_of path) (path_below dir file) true
+    → IfOk r (λ lacks. HasBoth lists (folder_of path) name other (not lacks))
+    → IfOk r (λ is_name. MatchBool is_name (IsFileByName tells lists dir file path) (IsNoFileByName tells lists dir file path))
+by_listing tells lists dir file path name other (Ok true) names folder lacks =
+    record { name = name; other = other; names = names; is_folder = folder; lacks = lacks }
+by_listing tells lists dir file path name other (Ok false) names folder has = λ name' other' names'.
+    let same = names_same file path name other name' other' names names' in
+    inr (
+      folder,
+      subst (λ (n : List ℕ). HasBoth lists (folder_of path) n other' true) same.0
+          (subst (λ (o : List ℕ). HasBoth lists (folder_of path) name o true) same.1 has),
+    )
+by_listing tells lists dir file path name other (Err e) names folder lacks = tt

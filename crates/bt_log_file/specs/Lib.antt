@@ -1,4 +1,6 @@
 pub mod Attaching
 pub mod Device
+pub mod Folder
+pub mod Looking
 pub mod Names
 pub mod Opening

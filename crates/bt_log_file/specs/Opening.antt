@@ -1,7 +1,8 @@
 -- A log that is opened in a file, which is none of its torrent's.
-use Rattle.std.specs.Prelude.{◌≡◌, ◌⊎◌, ◌↔◌, ℕ, List, Option, Some, IfSome, IsSomeAnd}
+use Rattle.std.specs.Prelude.{◌≡◌, ◌⊎◌, ◌↔◌, ℕ, List, Option, Some, Err, IfSome, IsSomeAnd}
 use Rattle.bt_disk.specs.declared.opening.FileIdentity.{FileIdentity}
 use Rattle.bt_folder.specs.KnownFiles.{IsKnown}
+use Rattle.bt_folder.specs.Lookup.{Lists}
 use Rattle.bt_folder.specs.declared.folder_names.ListingError.{ListingError}
 use Rattle.bt_folder.specs.declared.folder_names.ListingError.TheVariants.{Device as CallFailed, OutOfMemory as NoMemory}
 use Rattle.bt_folder.specs.declared.known_files.KnownFiles.{KnownFiles}
@@ -12,11 +13,21 @@ use Rattle.bt_check.specs.Fault.{device, log_among_files, out_of_memory}
 use Rattle.bt_check.specs.declared.fault.Fault.{Fault}
 use Rattle.bt_log_file.specs.Attaching.{IsAttachFault}
 use Rattle.bt_log_file.specs.Device.{LogDiskView, device_conduct, new_log_device}
+use Rattle.bt_log_file.specs.Folder.{folder_of}
 use Rattle.bt_log_file.specs.Names.{HasNameOfFile}
 
 -- a call failed, or memory was refused
 abbrev pub IsCallFault : Fault → Type 0
 IsCallFault fault = (fault ≡ device) ⊎ (fault ≡ out_of_memory)
+
+-- a call failed, as is known by this, or memory was refused
+abbrev pub IsCallFaultBy : (failed : Type 0) → Fault → Type 0
+IsCallFaultBy failed fault = ((fault ≡ device) × failed) ⊎ (fault ≡ out_of_memory)
+
+-- The file at a path was not opened, its folder not listed, or a folder not synced.
+abbrev pub HasFailed : (refuses loses : List ℕ → Type 0) → Lists → List ℕ → Type 0
+HasFailed refuses loses lists path =
+    refuses path ⊎ lists (folder_of path) (Err CallFailed) ⊎ ((folder : List ℕ) × loses folder)
 
 -- why the program ends where a folder can't be listed
 abbrev pub listing_fault : ListingError → Fault
@@ -50,26 +61,30 @@ abbrev pub IsFileFault : KnownFiles → Option FileIdentity → Fault → Type 0
 IsFileFault known identity fault =
     (fault ≡ out_of_memory) ⊎ ((fault ≡ log_among_files) × IsSomeAnd identity (IsKnown known))
 
--- a call failed, memory was refused, or one of these files may be the one at a path by a name that differs in case
-abbrev pub IsNameFault : List File → List ℕ → Fault → Type 0
-IsNameFault files path fault =
-    IsCallFault fault ⊎ ((fault ≡ log_among_files) × HasNameOfFile files path)
+-- a call failed, memory was refused, or the file at a path is one of a torrent's by a name that differs in case
+abbrev pub IsNameFault : (failed named : Type 0) → Fault → Type 0
+IsNameFault failed named fault = IsCallFaultBy failed fault ⊎ ((fault ≡ log_among_files) × named)
 
--- The file at a path, of which the system tells this, is one of a torrent's: it is known, or has the name of one but
--- for case.
-abbrev pub IsAmongFiles : KnownFiles → Option FileIdentity → List File → List ℕ → Type 0
-IsAmongFiles known identity files path = IsSomeAnd identity (IsKnown known) ⊎ HasNameOfFile files path
+-- The file, of which the system tells this, is one of a torrent's: it is known, or is one by its name.
+abbrev pub IsAmongFiles : KnownFiles → Option FileIdentity → (named : Type 0) → Type 0
+IsAmongFiles known identity named = IsSomeAnd identity (IsKnown known) ⊎ named
 
 -- Why no log is in a file that was opened, of which the system tells this: a call failed, or memory was refused; the
 -- file is one of the torrent's; or its device is one that a log is not opened on.
-abbrev pub IsLogFaultOf : KnownFiles → Option FileIdentity → Metainfo → List ℕ → LogDiskView → Fault → Type 0
-IsLogFaultOf known identity torrent path disk fault =
-    IsCallFault fault
-    ⊎ ((fault ≡ log_among_files) × IsAmongFiles known identity torrent.files path)
-    ⊎ IsAttachFault device_conduct torrent.infohash disk fault
+abbrev pub IsLogFaultOf : KnownFiles → Option FileIdentity → (infohash : List ℕ)
+    → (called : Fault → Type 0) → (named : Type 0) → LogDiskView → Fault → Type 0
+IsLogFaultOf known identity infohash called named disk fault =
+    called fault
+    ⊎ ((fault ≡ log_among_files) × IsAmongFiles known identity named)
+    ⊎ IsAttachFault device_conduct infohash disk fault
 
 -- why a log is not opened in the file at a path, whatever the system tells of that file
-abbrev pub IsLogFault : KnownFiles → Metainfo → List ℕ → Fault → Type 0
-IsLogFault known torrent path fault =
+abbrev pub IsLogFaultBy : (called : Fault → Type 0) (named : Type 0) → KnownFiles → Metainfo → List ℕ
+    → Fault → Type 0
+IsLogFaultBy called named known torrent path fault =
     (identity : Option FileIdentity)
-    × IsLogFaultOf known identity torrent path (new_log_device path identity) fault
+    × IsLogFaultOf known identity torrent.infohash called named (new_log_device path identity) fault
+
+-- so it is, where nothing is known of what the system told
+abbrev pub IsLogFault : KnownFiles → Metainfo → List ℕ → Fault → Type 0
+IsLogFault known torrent path = IsLogFaultBy IsCallFault (HasNameOfFile torrent.files path) known torrent path

@@ -3,11 +3,12 @@ ghost use Rattle.std.specs.Prelude.{◌≡◌, IfErr, IfOk};
 ghost use Rattle.bt_devices.specs.Disk.{new_ahead};
 ghost use Rattle.bt_devices.specs.SealedDisk.{new_sealed};
 ghost use Rattle.bt_log_file.specs.Device.{new_log_device, new_log_file};
-ghost use Rattle.bt_log_file.specs.Opening.{IsCallFault};
+ghost use Rattle.bt_log_file.specs.Opening.{IsCallFaultBy};
 
+use crate::log_folder::LogFolder;
 use bt_check::{Fault, fault_name, told};
 use bt_devices::{Alarm, DigestCache, ReadAheadDisk, Seal, SealedDisk, Watched};
-use bt_disk::{HandlePool, Opening, PooledDisk};
+use bt_disk::{Opening, PooledDisk};
 use bt_progress::{FileCall, Watch};
 use std::cell::RefCell;
 use std::rt::Files;
@@ -38,14 +39,14 @@ pub(crate) struct OpenedLog<D> {
 /// Opens the file of a log to be read and written: one that is absent is made, with no bytes, and one that is there
 /// keeps them. What is there and is no regular file is a device fault, told without waiting on it. Symbolic links
 /// are followed. A fault is told of, and so is the first call on the device that fails.
-pub(crate) fn open_device<'a, R: Files + AllocGlobal + Clone + Drop, P: Watch>(
+pub(crate) fn open_device<'a, R: LogFolder, P: Watch>(
     rt: &R,
     watch: &'a P,
     context: LogContext<'a>,
     path: &str,
 ) -> Result<OpenedLog<LogDisk<'a, R, P>>, Fault>
     ensures device { IfOk result (λ log. log.disk ≡ new_log_device path.now log.opening.identity) }
-    ensures fault { IfErr result IsCallFault }
+    ensures fault { IfErr result (IsCallFaultBy (R.refuses rt.now path.now)) }
 {
     let name = fault_name(rt.alloc(), watch, path)?;
     let opened = told(rt.alloc(), watch, FileCall::Open, path, open_file(rt, path))?;
@@ -54,24 +55,14 @@ pub(crate) fn open_device<'a, R: Files + AllocGlobal + Clone + Drop, P: Watch>(
     Ok(OpenedLog { disk, opening })
 }
 
-/// Opens a file to be read and written, in a pool of its own: so its handle stays open, and what takes the file's
-/// place later is never written.
-fn open_file<R: Files + AllocGlobal + Clone + Drop>(
-    rt: &R,
-    path: &str,
-) -> Result<OpenedLog<PooledDisk<R>>, Fault>
+/// Opens a file, and has what the system told of it.
+fn open_file<R: LogFolder>(rt: &R, path: &str) -> Result<OpenedLog<PooledDisk<R>>, Fault>
     ensures file { IfOk result (λ log. log.disk ≡ new_log_file path.now log.opening.identity) }
-    ensures fault { IfErr result IsCallFault }
+    ensures fault { IfErr result (IsCallFaultBy (R.refuses rt.now path.now)) }
 {
-    let path = String::from_str(rt.alloc(), path)?;
-    let mut pool = HandlePool::new(rt.alloc(), rt.clone()?, 1)?;
-    match pool.writing(path) {
-        Ok(file) => Ok(OpenedLog {
-            opening: file.opening(),
-            disk: file,
-        }),
-        Err(_) => Err(Fault::Device),
-    }
+    let disk = rt.open_log_file(path)?;
+    let opening = disk.opening();
+    Ok(OpenedLog { disk, opening })
 }
 
 /// A file as a device that is written until the log's seal is closed.

@@ -1,12 +1,13 @@
 //! The folder that a log's file lies in.
-ghost use Rattle.std.specs.Prelude.{◌≡◌, Ok, IfErr, IfOk, IsErr};
+ghost use Rattle.std.specs.Prelude.{◌≡◌, ℕ, List, Ok, IfErr, IfOk, IsErr};
 ghost use Rattle.std.specs.IoError.{error_kind};
 ghost use Rattle.std.specs.Path.{path_buf_bytes};
 ghost use Rattle.bt_check.specs.Fault.{out_of_memory};
-ghost use Rattle.bt_log_file.specs.Opening.{IsCallFault};
+ghost use Rattle.bt_log_file.specs.Folder.{folder_of};
+ghost use Rattle.bt_log_file.specs.Opening.{IsCallFaultBy};
 
+use crate::log_folder::LogFolder;
 use bt_check::{Fault, told};
-use bt_folder::sync_folder;
 use bt_progress::{FileCall, Watch};
 use std::alloc::Global;
 use std::io::{self, ErrorKind};
@@ -14,7 +15,9 @@ use std::path::{Path, PathBuf};
 use std::rt::Files;
 
 /// The folder that the last name of a path lies in. The dot is the one that the program runs in.
-pub(crate) fn folder_of(path: &str) -> &str {
+pub(crate) fn folder_of(path: &str) -> &str
+    ensures { result.now ≡ folder_of path.now }
+{
     match Path::new(path).parent() {
         Some(folder) if !folder.as_str().is_empty() => folder.as_str(),
         _ => ".",
@@ -22,16 +25,12 @@ pub(crate) fn folder_of(path: &str) -> &str {
 }
 
 /// Has the name of a file kept, by a sync of the folder that it lies in, behind all links. A fault is told of.
-pub(crate) fn keep_name<R: Files + AllocGlobal, P: Watch>(
-    rt: &R,
-    watch: &P,
-    path: &str,
-) -> Result<(), Fault>
-    ensures { IfErr result IsCallFault }
+pub(crate) fn keep_name<R: LogFolder, P: Watch>(rt: &R, watch: &P, path: &str) -> Result<(), Fault>
+    ensures { IfErr result (IsCallFaultBy ((folder : List ℕ) × R.loses rt.now folder)) }
 {
     let file = real_path(rt, path)?;
     let folder = folder_of(file.as_path().as_str());
-    let synced = sync_folder(rt, folder).map_err(|_| Fault::Device);
+    let synced = rt.keep_folder(folder).map_err(|_| Fault::Device);
     told(rt.alloc(), watch, FileCall::Sync, folder, synced)
 }
 

@@ -5,10 +5,12 @@
 mod attaching;
 mod device;
 mod folder;
+mod log_folder;
 mod looking;
 mod names;
 mod opening;
 
 pub use device::{LogContext, LogDisk};
+pub use log_folder::LogFolder;
 pub use looking::refuse_data_file;
 pub use opening::open_log;

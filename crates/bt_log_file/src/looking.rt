@@ -1,12 +1,13 @@
 //! What a look tells of the file of a log, before any file of its torrent is opened or made.
-ghost use Rattle.std.specs.Prelude.{◌≡◌, ◌⊎◌, IfErr};
-ghost use Rattle.bt_check.specs.Fault.{log_among_files, out_of_memory};
+ghost use Rattle.std.specs.Prelude.{◌≡◌, ◌↔◌, IsTrue, IfErr, IfOk, MatchBool, OnOk, map};
+ghost use Rattle.bt_meta.specs.Files.{file_of};
+ghost use Rattle.bt_log_file.specs.Looking.{AreOne, HasFileAt, HasNoFileAt, IsAt, IsFileAt, IsDataFileFault, IsNoneAt};
 
 use bt_check::{Fault, data_path};
 use bt_disk::FileIdentity;
-use bt_meta::{FilePath, Torrent};
+use bt_folder::Lookup;
+use bt_meta::{FileEntry, FilePath, Torrent};
 use std::alloc::AllocError;
-use std::os::unix::fs::MetadataExt;
 use std::path::Path;
 use std::rt::Files;
 
@@ -15,46 +16,68 @@ use std::rt::Files;
 /// files of the torrent are open: so this one is for the user's sake.
 ///
 /// [`open_log`]: crate::open_log
-pub fn refuse_data_file<R: Files + AllocGlobal>(
+pub fn refuse_data_file<R: Files + AllocGlobal + Clone + Drop + Lookup>(
     rt: &R,
     dir: &str,
     torrent: &Torrent,
     path: &str,
 ) -> Result<(), Fault>
-    ensures { IfErr result (λ fault. (fault ≡ log_among_files) ⊎ (fault ≡ out_of_memory)) }
+    ensures free { OnOk result
+        (HasNoFileAt (R.tells rt.now) dir.now torrent.now.files path.now) }
+    ensures fault { IfErr result
+        (IsDataFileFault (R.tells rt.now) dir.now torrent.now.files path.now) }
 {
-    let found = identity_at(rt, path);
-    for file in torrent.files() {
-        if is_at(rt, dir, &file.path, path, found)? {
-            return Err(Fault::LogAmongFiles);
-        }
+    let found = rt.identity_at(path);
+    if is_among(rt, dir, torrent.files(), path, found)? {
+        return Err(Fault::LogAmongFiles);
     }
     Ok(())
 }
 
+/// Whether one of a torrent's files lies at a path of which the system told this.
+fn is_among<R: Files + AllocGlobal + Clone + Drop + Lookup>(
+    rt: &R,
+    dir: &str,
+    files: &[FileEntry],
+    path: &str,
+    found: Option<FileIdentity>,
+) -> Result<bool, AllocError>
+    ensures { let all = map file_of files.now in IfOk result (λ is_among. MatchBool is_among
+        (IsFileAt (R.tells rt.now) dir.now all path.now found)
+        (IsNoneAt (R.tells rt.now) dir.now all path.now found)) }
+{
+    for file in files {
+        if is_at(rt, dir, &file.path, path, found)? {
+            return Ok(true);
+        }
+    }
+    Ok(false)
+}
+
 /// Whether a file of a torrent lies at a path, by what the system tells of both; or, where it tells nothing of what
 /// lies there, by how the paths are spelled.
-fn is_at<R: Files + AllocGlobal>(
+fn is_at<R: Files + AllocGlobal + Clone + Drop + Lookup>(
     rt: &R,
     dir: &str,
     file: &FilePath,
     path: &str,
     found: Option<FileIdentity>,
-) -> Result<bool, AllocError> {
+) -> Result<bool, AllocError>
+    ensures { IfOk result (IsAt (R.tells rt.now) dir.now path.now found file.now) }
+{
     let data = data_path(rt.alloc(), dir, file)?;
     Ok(match found {
-        Some(_) => identity_at(rt, data.as_path().as_str()) == found,
+        Some(_) => are_one(found, rt.identity_at(data.as_path().as_str())),
         None => data.as_path() == Path::new(path),
     })
 }
 
-/// By what the system tells a file apart that lies at a path, if it tells of one. No file has the inode 0.
-fn identity_at<R: Files>(rt: &R, path: &str) -> Option<FileIdentity> {
-    match rt.metadata(path) {
-        Ok(metadata) if metadata.ino() > 0 => Some(FileIdentity {
-            device: metadata.dev(),
-            inode: metadata.ino(),
-        }),
-        _ => None,
+/// Whether the system told of one file, or of one folder, twice.
+pub(crate) fn are_one(one: Option<FileIdentity>, other: Option<FileIdentity>) -> bool
+    ensures { IsTrue result ↔ AreOne one other }
+{
+    match (one, other) {
+        (Some(one), Some(other)) => one == other,
+        _ => false,
     }
 }

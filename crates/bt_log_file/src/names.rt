@@ -1,18 +1,18 @@
 //! Names of a torrent's files that are one with the name of a log's file but for case.
-ghost use Rattle.std.specs.Prelude.{◌≡◌, ◌-◌, ◌↔◌, ◌&&◌, false, length, map, option_copied, slice_get, IfNone, IfOk, IfSome, IsTrue};
-ghost use Rattle.std.specs.Bool.{OnFalse, OnTrue};
+ghost use Rattle.std.specs.Prelude.{◌≡◌, ◌-◌, ◌↔◌, not, length, map, option_copied, slice_get, IfErr, IfNone, IfOk, IfSome, IsTrue, MatchBool};
 ghost use Rattle.std.specs.StrCase.Upper.{str_to_uppercase};
-ghost use Rattle.bt_folder.specs.FolderNames.{has_name};
+ghost use Rattle.bt_folder.specs.Lookup.{IsListingError};
 ghost use Rattle.bt_meta.specs.Files.{file_of};
-ghost use Rattle.bt_log_file.specs.Names.{AreAlike, AreNoneAlike, HasNameOfFile, IsNameOf};
+ghost use Rattle.bt_check.specs.Paths.{path_below};
+ghost use Rattle.bt_log_file.specs.Folder.{folder_of};
+ghost use Rattle.bt_log_file.specs.Names.{AreAlike, AreNoneAlike, HasBoth, HasFileByName, HasNoFileByName, IsFileByName, IsFolderOf, IsNoFileByName};
 
 use crate::folder::folder_of;
+use crate::looking::are_one;
 use bt_check::data_path;
-use bt_folder::{FolderNames, ListingError};
+use bt_folder::{ListingError, Lookup};
 use bt_meta::{FileEntry, FilePath};
 use std::alloc::{AllocError, Global};
-use std::fs::Metadata;
-use std::os::unix::fs::MetadataExt;
 use std::path::Path;
 use std::rt::Files;
 
@@ -22,13 +22,16 @@ use std::rt::Files;
 ///
 /// Such names are looked for in the folder of the path alone. Where there is one, both have to stand in the folder's
 /// listing: then they are two files. So mostly no folder is listed. Errors: it can't be, or memory is refused.
-pub(crate) fn is_own_name<R: Files + AllocGlobal + Clone + Drop>(
+pub(crate) fn is_own_name<R: Files + AllocGlobal + Clone + Drop + Lookup>(
     rt: &R,
     dir: &str,
     files: &[FileEntry],
     path: &str,
 ) -> Result<bool, ListingError>
-    ensures { IfOk result (λ is_own. OnFalse is_own (HasNameOfFile (map file_of files.now) path.now)) }
+    ensures is_own { let all = map file_of files.now in IfOk result (λ is_own. MatchBool is_own
+        (HasNoFileByName (R.tells rt.now) (R.lists rt.now) dir.now all path.now)
+        (HasFileByName (R.tells rt.now) (R.lists rt.now) dir.now all path.now)) }
+    ensures error { IfErr result (IsListingError (R.lists rt.now) (folder_of path.now)) }
 {
     for file in files {
         if is_name_of(rt, dir, &file.path, path)? {
@@ -39,13 +42,16 @@ pub(crate) fn is_own_name<R: Files + AllocGlobal + Clone + Drop>(
 }
 
 /// Whether a file of a torrent is the one at a path by such a name.
-fn is_name_of<R: Files + AllocGlobal + Clone + Drop>(
+fn is_name_of<R: Files + AllocGlobal + Clone + Drop + Lookup>(
     rt: &R,
     dir: &str,
     file: &FilePath,
     path: &str,
 ) -> Result<bool, ListingError>
-    ensures { IfOk result (λ is_name. OnTrue is_name (IsNameOf file.now path.now)) }
+    ensures is_name { IfOk result (λ is_name. MatchBool is_name
+        (IsFileByName (R.tells rt.now) (R.lists rt.now) dir.now file.now path.now)
+        (IsNoFileByName (R.tells rt.now) (R.lists rt.now) dir.now file.now path.now)) }
+    ensures error { IfErr result (IsListingError (R.lists rt.now) (folder_of path.now)) }
 {
     let Some((name, other)) = alike_names(rt.alloc(), file, path)? else {
         return Ok(false);
@@ -99,36 +105,32 @@ fn are_alike(alloc: Global, name: &str, other: &str) -> Result<bool, AllocError>
     Ok(capitals.as_str() == others.as_str())
 }
 
-/// Whether a folder is the one that a file of a torrent lies in, below another folder, by what the system tells.
-fn is_folder_of<R: Files + AllocGlobal>(
+/// Whether a folder is the one that a file of a torrent lies in, below another folder, by what the system tells of both.
+fn is_folder_of<R: Files + AllocGlobal + Clone + Drop + Lookup>(
     rt: &R,
     folder: &str,
     dir: &str,
     file: &FilePath,
-) -> Result<bool, AllocError> {
+) -> Result<bool, AllocError>
+    ensures { IfOk result (IsFolderOf (R.tells rt.now) folder.now (path_below dir.now file.now)) }
+{
     let file = data_path(rt.alloc(), dir, file)?;
-    let other = folder_of(file.as_path().as_str());
-    Ok(match (rt.metadata(folder), rt.metadata(other)) {
-        (Ok(folder), Ok(other)) => are_one(&folder, &other),
-        _ => false,
-    })
-}
-
-/// Whether the system tells of one file, or of one folder, twice.
-fn are_one(one: &Metadata, other: &Metadata) -> bool {
-    one.dev() == other.dev() && one.ino() == other.ino()
+    let one = rt.identity_at(folder);
+    let other = rt.identity_at(folder_of(file.as_path().as_str()));
+    Ok(are_one(one, other))
 }
 
 /// Whether the listing of a folder lacks one of two names.
-fn lacks_one<R: Files + AllocGlobal + Clone + Drop>(
+fn lacks_one<R: Files + AllocGlobal + Clone + Drop + Lookup>(
     rt: &R,
     folder: &str,
     name: &str,
     other: &str,
 ) -> Result<bool, ListingError>
-    ensures { IfOk result (λ lacks. OnTrue lacks ((listing : FolderNames)
-        × ((has_name listing name.now && has_name listing other.now) ≡ false))) }
+    ensures lacks { IfOk result
+        (λ lacks. HasBoth (R.lists rt.now) folder.now name.now other.now (not lacks)) }
+    ensures error { IfErr result (IsListingError (R.lists rt.now) folder.now) }
 {
-    let listing = FolderNames::read(rt, folder)?;
+    let listing = rt.names_in(folder)?;
     Ok(!(listing.has(name) && listing.has(other)))
 }

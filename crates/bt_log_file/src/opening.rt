@@ -1,20 +1,22 @@
 //! The log of a torrent, opened in its file.
 ghost use Rattle.std.specs.Prelude.{◌≡◌, IfErr, IfOk, IfSome, OnOk, MatchBool, IsSomeAnd, map};
-ghost use Rattle.std.specs.Bool.{OnFalse};
 ghost use Rattle.bt_folder.specs.KnownFiles.{IsKnown};
+ghost use Rattle.bt_folder.specs.declared.folder_names.ListingError.TheVariants.{Device as CallFailed};
 ghost use Rattle.bt_meta.specs.Files.{file_of};
 ghost use Rattle.bt_resume.specs.ResumeLog.{IsAttached};
 ghost use Rattle.bt_log_file.specs.Device.{device_conduct};
-ghost use Rattle.bt_log_file.specs.Names.{HasNameOfFile};
-ghost use Rattle.bt_log_file.specs.Opening.{AddsFile, IsAdded, IsCallFault, IsFileFault, IsFurtherLog, IsLogFault, IsLogFaultOf, IsNameFault, listing_fault};
+ghost use Rattle.bt_log_file.specs.Folder.{folder_of};
+ghost use Rattle.bt_log_file.specs.Names.{HasFileByName, HasNoFileByName};
+ghost use Rattle.bt_log_file.specs.Opening.{AddsFile, HasFailed, IsAdded, IsCallFaultBy, IsFileFault, IsFurtherLog, IsLogFaultBy, IsLogFaultOf, IsNameFault, listing_fault};
 
 use crate::attaching::attach_log;
 use crate::device::{LogContext, LogDisk, OpenedLog, open_device};
 use crate::folder::{folder_of, keep_name};
+use crate::log_folder::LogFolder;
 use crate::names::is_own_name;
 use bt_check::{Fault, told};
-use bt_disk::{FileIdentity, Opening};
-use bt_folder::{KnownFiles, ListingError};
+use bt_disk::FileIdentity;
+use bt_folder::{KnownFiles, ListingError, Lookup};
 use bt_meta::{FileEntry, Torrent};
 use bt_progress::{FileCall, Watch};
 use bt_resume::ResumeLog;
@@ -30,7 +32,7 @@ use std::rt::Files;
 /// Errors, in this order: the file can't be opened, or is no regular one; it is one of the torrent's, by this name,
 /// another or a link, before anything is written; it is not kept; and those of [`ResumeLog::attach`]. Or memory is
 /// refused. A file that was made stays, and `known` is of no use any more. Which call on a file failed is told.
-pub fn open_log<'a, R: Files + AllocGlobal + Clone + Drop, P: Watch>(
+pub fn open_log<'a, R: Files + AllocGlobal + Clone + Drop + Lookup + LogFolder, P: Watch>(
     rt: &R,
     watch: &'a P,
     context: LogContext<'a>,
@@ -40,7 +42,11 @@ pub fn open_log<'a, R: Files + AllocGlobal + Clone + Drop, P: Watch>(
     path: &str,
 ) -> Result<ResumeLog<LogDisk<'a, R, P>>, Fault>
     ensures log { IfOk result (IsFurtherLog known.old torrent.now path.now known.new) }
-    ensures fault { IfErr result (IsLogFault known.old torrent.now path.now) }
+    ensures own_name { OnOk result (HasNoFileByName
+        (R.tells rt.now) (R.lists rt.now) dir.now torrent.now.files path.now) }
+    ensures fault { let failed = HasFailed (R.refuses rt.now) (R.loses rt.now) (R.lists rt.now) path.now
+        in let named = HasFileByName (R.tells rt.now) (R.lists rt.now) dir.now torrent.now.files path.now
+        in IfErr result (IsLogFaultBy (IsCallFaultBy failed) named known.old torrent.now path.now) }
 {
     let opened = open_device(rt, watch, context, path)?;
     open_in_file(rt, watch, known, dir, torrent, path, opened)
@@ -48,7 +54,7 @@ pub fn open_log<'a, R: Files + AllocGlobal + Clone + Drop, P: Watch>(
 
 /// Opens the log of a torrent in the file at a path that was opened, on its device. Errors: the file is one of the
 /// torrent's; it is not kept; and those of [`ResumeLog::attach`].
-fn open_in_file<'a, R: Files + AllocGlobal + Clone + Drop, P: Watch>(
+fn open_in_file<'a, R: Lookup + LogFolder, P: Watch>(
     rt: &R,
     watch: &P,
     known: &mut KnownFiles,
@@ -60,12 +66,16 @@ fn open_in_file<'a, R: Files + AllocGlobal + Clone + Drop, P: Watch>(
     ensures log { IfOk result
         (IsAttached device_conduct torrent.now.infohash opened.entry.disk) }
     ensures further { OnOk result (AddsFile known.old opened.entry.opening.identity known.new) }
-    ensures fault { IfErr result
-        (IsLogFaultOf known.old opened.entry.opening.identity torrent.now path.now opened.entry.disk) }
+    ensures own_name { OnOk result (HasNoFileByName
+        (R.tells rt.now) (R.lists rt.now) dir.now torrent.now.files path.now) }
+    ensures fault { let failed = HasFailed (R.refuses rt.now) (R.loses rt.now) (R.lists rt.now) path.now
+        in let named = HasFileByName (R.tells rt.now) (R.lists rt.now) dir.now torrent.now.files path.now
+        in IfErr result (IsLogFaultOf known.old opened.entry.opening.identity torrent.now.infohash
+        (IsCallFaultBy failed) named opened.entry.disk) }
 {
     let OpenedLog { disk, opening } = opened;
     refuse_known(known, opening.identity)?;
-    refuse_other_name(rt, watch, dir, torrent.files(), path, opening)?;
+    refuse_other_name(rt, watch, dir, torrent.files(), path)?;
     if opening.len == 0 {
         keep_name(rt, watch, path)?;
     }
@@ -98,21 +108,21 @@ fn is_further(known: &mut KnownFiles, identity: Option<FileIdentity>) -> Result<
     }
 }
 
-/// Looks for a file of a torrent that is the log's by a name which differs in case alone. One that was made just now
-/// is none of them, since these were there. Errors: there is one; a folder can't be listed, or memory is refused.
-fn refuse_other_name<R: Files + AllocGlobal + Clone + Drop, P: Watch>(
+/// Looks for a file of a torrent that is the log's by a name which differs in case alone. Errors: there is one; a folder
+/// can't be listed, or memory is refused.
+fn refuse_other_name<R: Files + AllocGlobal + Clone + Drop + Lookup, P: Watch>(
     rt: &R,
     watch: &P,
     dir: &str,
     files: &[FileEntry],
     path: &str,
-    opening: Opening,
 ) -> Result<(), Fault>
-    ensures { IfErr result (IsNameFault (map file_of files.now) path.now) }
+    ensures own_name { OnOk result (HasNoFileByName
+        (R.tells rt.now) (R.lists rt.now) dir.now (map file_of files.now) path.now) }
+    ensures fault { let named = HasFileByName
+        (R.tells rt.now) (R.lists rt.now) dir.now (map file_of files.now) path.now
+        in IfErr result (IsNameFault (R.lists rt.now (folder_of path.now) (Err CallFailed)) named) }
 {
-    if opening.was_made {
-        return Ok(());
-    }
     if has_own_name(rt, watch, dir, files, path)? {
         return Ok(());
     }
@@ -121,15 +131,17 @@ fn refuse_other_name<R: Files + AllocGlobal + Clone + Drop, P: Watch>(
 
 /// Whether no file of a torrent is the log's by such a name. Errors: a folder can't be listed, which is told of, or
 /// memory is refused.
-fn has_own_name<R: Files + AllocGlobal + Clone + Drop, P: Watch>(
+fn has_own_name<R: Files + AllocGlobal + Clone + Drop + Lookup, P: Watch>(
     rt: &R,
     watch: &P,
     dir: &str,
     files: &[FileEntry],
     path: &str,
 ) -> Result<bool, Fault>
-    ensures is_own { IfOk result (λ is_own. OnFalse is_own (HasNameOfFile (map file_of files.now) path.now)) }
-    ensures fault { IfErr result IsCallFault }
+    ensures is_own { let all = map file_of files.now in IfOk result (λ is_own. MatchBool is_own
+        (HasNoFileByName (R.tells rt.now) (R.lists rt.now) dir.now all path.now)
+        (HasFileByName (R.tells rt.now) (R.lists rt.now) dir.now all path.now)) }
+    ensures fault { IfErr result (IsCallFaultBy (R.lists rt.now (folder_of path.now) (Err CallFailed))) }
 {
     let is_own = match is_own_name(rt, dir, files, path) {
         Ok(is_own) => Ok(is_own),
@@ -140,8 +152,7 @@ fn has_own_name<R: Files + AllocGlobal + Clone + Drop, P: Watch>(
 
 /// Why the program ends where a folder can't be listed.
 fn listing_fault(error: ListingError) -> Fault
-    ensures fault { result ≡ listing_fault error }
-    ensures call { IsCallFault result }
+    ensures { result ≡ listing_fault error }
 {
     match error {
         ListingError::Device => Fault::Device,
