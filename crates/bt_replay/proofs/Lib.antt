@@ -6,3 +6,4 @@ pub mod DeviceSettings
 pub mod ScriptLines
 pub mod ScriptEnd
 pub mod ReaderScript
+pub mod Failures

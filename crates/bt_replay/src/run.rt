@@ -1,6 +1,7 @@
 //! The lines behind a script's devices, one after the other.
-ghost use Rattle.std.specs.Prelude.{◌≡◌, ◌+◌, ◌^◌, ◌<◌, OnOk, IfErr, length};
+ghost use Rattle.std.specs.Prelude.{◌≡◌, ◌+◌, ◌^◌, ◌<◌, OnErr, OnOk, IfErr, length};
 ghost use Rattle.std.specs.Io.KnownBytes.{Appends};
+ghost use Rattle.bt_session.specs.Failures.{OnlyAfterFailure};
 ghost use Rattle.bt_replay.specs.Run.{EndsAtLine, EndsEarly, HasRun, HasRunOne, lines_in};
 
 use crate::event::told;
@@ -9,13 +10,13 @@ use crate::field::cut;
 use crate::line::line_in;
 use bt_disk::Disk;
 use bt_engine::Engine;
+use bt_session::WatchedWriter;
 use bt_tree::NodeHash;
 use std::alloc::Global;
-use std::io::Write;
 
 /// Does what the lines ask for, one after the other, and writes what tells of each as it is done; at the end the
 /// writer passes on all that it holds. The first of them has this number.
-pub fn run_all<D: Disk + Drop, H: NodeHash, W: Write>(
+pub fn run_all<D: Disk + Drop, H: NodeHash, W: WatchedWriter>(
     alloc: Global,
     engine: &mut Engine<D, H>,
     hash: H,
@@ -29,9 +30,11 @@ pub fn run_all<D: Disk + Drop, H: NodeHash, W: Write>(
         (lines_in lines.entry) (W.contents writer.old) (W.contents writer.new) engine.new) }
     ensures ended { IfErr result (EndsEarly D.conduct H.digest handshake.now engine.old
         number (lines_in lines.entry) (W.contents writer.old) (W.contents writer.new)) }
+    ensures write_fault { IfErr result (OnlyAfterFailure ReplayFault.Write (W.has_failed writer.new)) }
+    ensures flushed { OnOk result (W.is_flushed writer.new) }
 {
     run_lines(alloc, engine, hash, handshake, lines, number, writer)?;
-    match writer.flush() {
+    match writer.pass_on() {
         Ok(()) => Ok(()),
         Err(_) => Err(ReplayFault::Write),
     }
@@ -39,7 +42,7 @@ pub fn run_all<D: Disk + Drop, H: NodeHash, W: Write>(
 
 /// Does what the lines ask for, one after the other, and writes what tells of each as it is done. The first
 /// of them has this number.
-fn run_lines<D: Disk + Drop, H: NodeHash, W: Write>(
+fn run_lines<D: Disk + Drop, H: NodeHash, W: WatchedWriter>(
     alloc: Global,
     engine: &mut Engine<D, H>,
     hash: H,
@@ -53,6 +56,7 @@ fn run_lines<D: Disk + Drop, H: NodeHash, W: Write>(
         (lines_in lines.entry) (W.contents writer.old) (W.contents writer.new) engine.new) }
     ensures ended { IfErr result (EndsEarly D.conduct H.digest handshake.now engine.old
         number (lines_in lines.entry) (W.contents writer.old) (W.contents writer.new)) }
+    ensures write_fault { IfErr result (OnlyAfterFailure ReplayFault.Write (W.has_failed writer.new)) }
 {
     let mut rest = lines;
     let mut number = number;
@@ -66,7 +70,7 @@ fn run_lines<D: Disk + Drop, H: NodeHash, W: Write>(
 }
 
 /// Does what one line asks for, and writes what tells of it.
-fn run_line<D: Disk + Drop, H: NodeHash, W: Write>(
+fn run_line<D: Disk + Drop, H: NodeHash, W: WatchedWriter>(
     alloc: Global,
     engine: &mut Engine<D, H>,
     hash: H,
@@ -79,6 +83,7 @@ fn run_line<D: Disk + Drop, H: NodeHash, W: Write>(
         line.now (W.contents writer.old) (W.contents writer.new) engine.new) }
     ensures ended { IfErr result (EndsAtLine handshake.now number line.now
         (W.contents writer.old) (W.contents writer.new)) }
+    ensures write_fault { IfErr result (OnlyAfterFailure ReplayFault.Write (W.has_failed writer.new)) }
 {
     let Some(spelled) = line_in(alloc, line)? else {
         return Err(ReplayFault::Line(number));
@@ -90,11 +95,12 @@ fn run_line<D: Disk + Drop, H: NodeHash, W: Write>(
 }
 
 /// Writes a text.
-fn write_text<W: Write>(writer: &mut W, text: &str) -> Result<(), ReplayFault>
+fn write_text<W: WatchedWriter>(writer: &mut W, text: &str) -> Result<(), ReplayFault>
     ensures text { OnOk result (Appends (W.contents writer.old) (W.contents writer.new) text.now) }
     ensures fault { IfErr result (λ fault. fault ≡ ReplayFault.Write) }
+    ensures failed { OnErr result (W.has_failed writer.new) }
 {
-    match writer.write_all(text.as_bytes()) {
+    match writer.write_whole(text.as_bytes()) {
         Ok(()) => Ok(()),
         Err(_) => Err(ReplayFault::Write),
     }

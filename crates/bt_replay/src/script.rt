@@ -1,5 +1,6 @@
 //! A script, from its torrent to its last line.
-ghost use Rattle.std.specs.Prelude.{◌≡◌, ◌^◌, ◌<◌, ◌≤◌, IfOk, IfErr, filter_map, length};
+ghost use Rattle.std.specs.Prelude.{◌≡◌, ◌^◌, ◌<◌, ◌≤◌, IfOk, IfErr, OnOk, filter_map, length};
+ghost use Rattle.bt_session.specs.Failures.{OnlyAfterFailure};
 ghost use Rattle.bt_replay.specs.Event.{peer_handshake};
 ghost use Rattle.bt_replay.specs.Fault.{torrent_fault};
 ghost use Rattle.bt_replay.specs.Script.{BeginsOn, IsNewLog, NamesNone, NamesTorrent, Replays, torrent_bytes, without_last_feed};
@@ -15,16 +16,22 @@ use bt_engine::Engine;
 use bt_lanes::Lanes;
 use bt_meta::{MetaError, Torrent, read_torrent};
 use bt_resume::ResumeLog;
+use bt_session::WatchedWriter;
 use bt_tree::Hash32;
 use bt_wire::{Bytes, HANDSHAKE_LEN, Handshake, write_handshake};
 use std::alloc::{AllocError, Global};
-use std::io::Write;
 
 /// Starts an engine on the devices that a script names, does what its lines ask for, one after the other, and
 /// writes what tells of each as it is done.
-pub fn run_script<W: Write>(alloc: Global, script: &[u8], writer: &mut W) -> Result<(), ReplayFault>
+pub fn run_script<W: WatchedWriter>(
+    alloc: Global,
+    script: &[u8],
+    writer: &mut W,
+) -> Result<(), ReplayFault>
     requires { length script.now ≤ 2 ^ 24 }
-    ensures { Replays script.now (W.contents writer.old) (W.contents writer.new) result }
+    ensures replays { Replays script.now (W.contents writer.old) (W.contents writer.new) result }
+    ensures write_fault { IfErr result (OnlyAfterFailure ReplayFault.Write (W.has_failed writer.new)) }
+    ensures flushed { OnOk result (W.is_flushed writer.new) }
 {
     let (first, rest) = cut(without_last_feed(script), b'\n');
     let torrent = torrent_in(alloc, first)?;

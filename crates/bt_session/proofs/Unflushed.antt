@@ -1,12 +1,14 @@
 -- Where the engine is never flushed, no flush is refused, and all is as without flushes.
-use Rattle.std.proofs.Common.{◌≡◌, ℕ, Bool, true, false, List, Option, Some, None, sym, subst}
-use Rattle.std.specs.Prelude.{Result, Ok, Err}
+use Rattle.std.proofs.Common.{◌≡◌, ℕ, Bool, true, false, List, Option, Some, None, refl, sym, subst}
+use Rattle.std.specs.Prelude.{Result, Ok, Err, OnOk}
 use Rattle.bt_disk.specs.Conduct.{Conduct}
 use Rattle.bt_machine.specs.declared.error.FlushError.{FlushError}
 use Rattle.bt_machine.specs.State.{EngineView}
 use Rattle.bt_session.specs.declared.end.SessionEnd.{SessionEnd}
+use Rattle.bt_session.specs.declared.end.SessionEnd.TheVariants.{ReadFault}
 use Rattle.bt_session.specs.declared.peer_end.PeerEnd.{PeerEnd}
 use Rattle.bt_session.specs.declared.peer_end.PeerEnd.TheVariants.{Untried, Unreachable, Refused, Session}
+use Rattle.bt_session.specs.Failures.{OnlyAfterFailure, OneFailed}
 use Rattle.bt_session.specs.Peer.{HasSession, HasSessionWithFlushes, IsFlushedSession, behind, within, EndsAs, EndsAsWithFlushes}
 use Rattle.bt_session.specs.Peers.{InTurn, IsTried, InTurnWithFlushes, IsTriedWithFlushes}
 use Rattle.bt_session.specs.Peers.InTurn.{none_left, complete, tried}
@@ -59,6 +61,15 @@ module _ {D : Type 0} (conduct : Conduct D) (dig : List ℕ → List ℕ) where
     unflushed_turns (stopped old new link after end links error not_done t) =
         let is : Err error ≡ Ok tt = (unflushed_try old new link after end (Err error) t).0 in absurd cc
 
+    -- no flush is refused
+    pub turns_unrefused : {old new : EngineView D} {links rest : List L} {ends : List PeerEnd} {answer : Result (Unit {0}) FlushError}
+        → InTurnWithFlushes (IsTriedWithFlushes conduct dig dials failures gives remaining contents 0 turns) old links ends rest answer new
+        → answer ≡ Ok tt
+    turns_unrefused (no_more engine) = refl
+    turns_unrefused (is_complete engine links is_done) = refl
+    turns_unrefused (went old mid new link after end links rest ends answer not_done t turns_after) = turns_unrefused turns_after
+    turns_unrefused (stopped old new link after end links error not_done t) = (unflushed_try old new link after end (Err error) t).0
+
   -- how it ends with a peer that was reached, where its session was flushed
   pub flushed_end : {R W : Type 0} (remaining : R → Option (List ℕ)) (contents : W → Option (List ℕ)) (until : Bool) (every turns : ℕ) (reached : Option (R × W)) (ways : R × W)
       (old new : EngineView D) (end : SessionEnd) (answer : Result (Unit {0}) FlushError) → reached ≡ Some ways
@@ -66,3 +77,9 @@ module _ {D : Type 0} (conduct : Conduct D) (dig : List ℕ → List ℕ) where
       → EndsAsWithFlushes conduct dig remaining contents until every turns reached old (Session end) answer new
   flushed_end {R} {W} remaining contents until every turns reached ways old new end answer is session =
       subst (λ (r : Option (R × W)). EndsAsWithFlushes conduct dig remaining contents until every turns r old (Session end) answer new) (sym is) session
+
+-- the end of a session whose reader failed is told where no flush was refused behind it
+pub told_of_reader : {R : Type 0} (has_failed : R → Type 0) (reader : R) (end : SessionEnd) (answer : Result (Unit {0}) FlushError)
+    → OnlyAfterFailure ReadFault (has_failed reader) end → OnOk answer (OnlyAfterFailure (Session ReadFault) (OneFailed has_failed) (Session end))
+told_of_reader has_failed reader end (Ok done) failed = λ is. (reader, failed cc)
+told_of_reader has_failed reader end (Err error) failed = tt

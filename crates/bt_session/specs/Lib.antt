@@ -1,4 +1,5 @@
 pub mod Frames
+pub mod Failures
 pub mod Session
 pub mod Progress
 pub mod Ends

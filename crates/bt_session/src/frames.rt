@@ -1,18 +1,20 @@
 //! What an engine sends to one peer, written.
-ghost use Rattle.std.specs.Prelude.{[], ◌≡◌, ◌≢◌, ◌≤◌, ◌++◌, IfErr, IfOk, vec_capacity};
+ghost use Rattle.std.specs.Prelude.{[], ◌≡◌, ◌≢◌, ◌≤◌, ◌++◌, IfErr, IfOk, OnOk, vec_capacity};
 ghost use Rattle.bt_machine.specs.Frames.{CanBeWritten};
+ghost use Rattle.bt_session.specs.declared.end.SessionEnd.TheVariants.{WriteFault};
 ghost use Rattle.bt_session.specs.Frames.{spelling, spellings, frames_to, AllFit, AreWritten};
+ghost use Rattle.bt_session.specs.Failures.{OnlyAfterFailure, StaysFlushed};
 
 use crate::end::SessionEnd;
+use crate::watched::WatchedWriter;
 use bt_book::PeerKey;
 use bt_machine::Frame;
 use bt_wire::{write_handshake, write_message};
 use std::alloc::{AllocError, Global};
-use std::io::Write;
 
 /// Writes those frames that are sent to a peer, by one write where the writer takes all, and flushes it. The
 /// buffer is one that is used again, and keeps its room. Errors: Memory, with nothing written; WriteFault.
-pub(crate) fn write_frames<W: Write>(
+pub(crate) fn write_frames<W: WatchedWriter>(
     alloc: Global,
     writer: &mut W,
     key: PeerKey,
@@ -22,15 +24,18 @@ pub(crate) fn write_frames<W: Write>(
     requires fit { AllFit send.now }
     ensures written { AreWritten (W.contents writer.old) (W.contents writer.new) (frames_to key send.now)
         result }
+    ensures write_fault { IfErr result (OnlyAfterFailure WriteFault (W.has_failed writer.new)) }
+    ensures flushed { OnOk result (W.is_flushed writer.new) }
+    ensures stays { StaysFlushed W.is_flushed (Err WriteFault) writer.old result writer.new }
     ensures capacity { vec_capacity buffer.old ≤ vec_capacity buffer.new }
 {
     if spell_frames(alloc, key, send, buffer).is_err() {
         return Err(SessionEnd::Memory);
     }
-    if writer.write_all(buffer.as_slice()).is_err() {
+    if writer.write_whole(buffer.as_slice()).is_err() {
         return Err(SessionEnd::WriteFault);
     }
-    match writer.flush() {
+    match writer.pass_on() {
         Ok(()) => Ok(()),
         Err(_) => Err(SessionEnd::WriteFault),
     }

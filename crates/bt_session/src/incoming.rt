@@ -12,13 +12,14 @@ ghost use Rattle.bt_session.specs.PeerSteps.{IsAlone};
 
 use crate::calls::feed;
 use crate::end::SessionEnd;
+use crate::watched::WatchedReader;
 use bt_book::PeerKey;
 use bt_disk::Disk;
 use bt_engine::Engine;
 use bt_machine::EngineError;
 use bt_tree::NodeHash;
 use std::alloc::{AllocError, Global};
-use std::io::{ErrorKind, Read};
+use std::io::ErrorKind;
 use std::marker::Model;
 
 /// A reader is asked for so many bytes at a time.
@@ -49,12 +50,13 @@ impl Incoming {
     }
 
     /// Reads once into the buffer, as `read_some`.
-    pub(crate) fn read<R: Read>(&mut self, reader: &mut R) -> Result<usize, SessionEnd>
+    pub(crate) fn read<R: WatchedReader>(&mut self, reader: &mut R) -> Result<usize, SessionEnd>
         ensures given { IfOk result (λ count. IsGiven (R.remaining reader.old)
             (R.remaining reader.new) count self.new) }
         ensures whole { length self.new ≡ read_length }
         ensures kept { OnErr result (Keeps (R.remaining reader.old) (R.remaining reader.new)) }
         ensures fault { IfErr result (λ end. end ≡ ReadFault) }
+        ensures failed { OnErr result (R.has_failed reader.new) }
     {
         read_some(reader, self.bytes.as_mut_slice())
     }
@@ -83,16 +85,17 @@ impl Incoming {
 
 /// Reads once, and says how many bytes came: none where there are no more. A read that was interrupted is
 /// made again. Errors: ReadFault, and none of the reader's bytes is lost.
-fn read_some<R: Read>(reader: &mut R, buffer: &mut [u8]) -> Result<usize, SessionEnd>
+fn read_some<R: WatchedReader>(reader: &mut R, buffer: &mut [u8]) -> Result<usize, SessionEnd>
     requires some { 0 < length buffer.old }
     ensures given { IfOk result (λ count. IsGiven (R.remaining reader.old) (R.remaining reader.new) count
         buffer.new) }
     ensures kept { OnErr result (Keeps (R.remaining reader.old) (R.remaining reader.new)) }
     ensures fault { IfErr result (λ end. end ≡ ReadFault) }
+    ensures failed { OnErr result (R.has_failed reader.new) }
 {
     // A bound, so that it ends whatever the system gives.
     for _ in 0..u64::MAX {
-        match reader.read(buffer) {
+        match reader.read_once(buffer) {
             Ok(count) => return Ok(count),
             Err(error) if error.kind() == ErrorKind::Interrupted => {}
             Err(_) => return Err(SessionEnd::ReadFault),

@@ -16,6 +16,7 @@ mod peers;
 mod room;
 mod session;
 mod turn;
+mod watched;
 
 pub use bt_engine::Engine;
 pub use end::SessionEnd;
@@ -25,3 +26,4 @@ pub use peer::{meet_peer, meet_peer_with_flushes};
 pub use peer_end::{PeerEnd, end_text};
 pub use peers::{run_peers, run_peers_with_flushes};
 pub use session::{run_session, run_session_with_flushes};
+pub use watched::{WatchedReader, WatchedWriter};

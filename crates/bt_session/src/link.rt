@@ -2,15 +2,15 @@
 ghost use Rattle.std.specs.Prelude.{◌≡◌, ℕ, ◌+◌, ◌-◌, ◌<◌, ◌^◌, IfSome};
 ghost use Rattle.bt_session.specs.Link.{failure_count};
 
-use std::io::{Read, Write};
+use crate::watched::{WatchedReader, WatchedWriter};
 
 /// A way to one peer, which may be dialled again and again.
 pub trait Link {
     /// What the peer sends is read from it.
-    type R: Read + Drop;
+    type R: WatchedReader + Drop;
 
     /// What is sent to the peer is written to it.
-    type W: Write + Drop;
+    type W: WatchedWriter + Drop;
 
     /// How often it was dialled.
     ghost dials: { Self → ℕ };

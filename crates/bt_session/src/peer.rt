@@ -1,20 +1,23 @@
 //! One peer.
-ghost use Rattle.std.specs.Prelude.{[], ◌≡◌, ◌==◌, not};
+ghost use Rattle.std.specs.Prelude.{[], ◌≡◌, ◌==◌, not, OnOk};
 ghost use Rattle.bt_engine.specs.Leads.{LeadsTo, Stands};
+ghost use Rattle.bt_session.specs.declared.end.SessionEnd.TheVariants.{ReadFault, WriteFault};
+ghost use Rattle.bt_session.specs.declared.peer_end.PeerEnd.TheVariants.{Session};
+ghost use Rattle.bt_session.specs.Failures.{OneFailed, OnlyAfterFailure};
 ghost use Rattle.bt_session.specs.Peer.{EndsAs, EndsAsWithFlushes, IsFlushedWhere};
 
 use crate::end::SessionEnd;
 use crate::peer_end::PeerEnd;
 use crate::session::run_session_with_flushes;
+use crate::watched::{WatchedReader, WatchedWriter};
 use bt_disk::Disk;
 use bt_engine::{Engine, what_leads_on_stands};
 use bt_machine::FlushError;
 use bt_tree::NodeHash;
 use std::alloc::Global;
-use std::io::{Read, Write};
 
 /// Has a session with a peer that was reached, which gave what is read from it and written to it.
-pub fn meet_peer<D: Disk + Drop, H: NodeHash, R: Read + Drop, W: Write + Drop>(
+pub fn meet_peer<D: Disk + Drop, H: NodeHash, R: WatchedReader + Drop, W: WatchedWriter + Drop>(
     alloc: Global,
     engine: &mut Engine<D, H>,
     reached: Option<(R, W)>,
@@ -24,6 +27,8 @@ pub fn meet_peer<D: Disk + Drop, H: NodeHash, R: Read + Drop, W: Write + Drop>(
     requires no_peer { engine.old.state.peers ≡ [] }
     ensures ended { EndsAs D.conduct H.digest R.remaining W.contents until_complete
         turns reached engine.old result engine.new }
+    ensures read_fault { OnlyAfterFailure (Session ReadFault) (OneFailed R.has_failed) result }
+    ensures write_fault { OnlyAfterFailure (Session WriteFault) (OneFailed W.has_failed) result }
     ensures gone { engine.new.state.peers ≡ [] }
     ensures run { LeadsTo D.conduct H.digest engine.old engine.new }
     ensures stands { Stands D.conduct engine.old engine.new }
@@ -37,7 +42,12 @@ pub fn meet_peer<D: Disk + Drop, H: NodeHash, R: Read + Drop, W: Write + Drop>(
 /// multiple of `flush_every`, and behind the session; and never where that is 0. Gives what the last of these
 /// flushes answered, Ok where there was none. One that is refused ends the session, which is told then as one
 /// whose reader failed.
-pub fn meet_peer_with_flushes<D: Disk + Drop, H: NodeHash, R: Read + Drop, W: Write + Drop>(
+pub fn meet_peer_with_flushes<
+    D: Disk + Drop,
+    H: NodeHash,
+    R: WatchedReader + Drop,
+    W: WatchedWriter + Drop,
+>(
     alloc: Global,
     engine: &mut Engine<D, H>,
     reached: Option<(R, W)>,
@@ -48,6 +58,9 @@ pub fn meet_peer_with_flushes<D: Disk + Drop, H: NodeHash, R: Read + Drop, W: Wr
     requires no_peer { engine.old.state.peers ≡ [] }
     ensures ended { EndsAsWithFlushes D.conduct H.digest R.remaining W.contents
         until_complete flush_every turns reached engine.old result.0 result.1 engine.new }
+    ensures read_fault { OnOk result.1
+        (OnlyAfterFailure (Session ReadFault) (OneFailed R.has_failed) result.0) }
+    ensures write_fault { OnlyAfterFailure (Session WriteFault) (OneFailed W.has_failed) result.0 }
     ensures gone { engine.new.state.peers ≡ [] }
     ensures run { LeadsTo D.conduct H.digest engine.old engine.new }
     ensures stands { Stands D.conduct engine.old engine.new }

@@ -1,6 +1,9 @@
 //! Peers in their turns.
-ghost use Rattle.std.specs.Prelude.{[], ◌≡◌, length, All};
+ghost use Rattle.std.specs.Prelude.{[], ◌≡◌, length, All, OnOk};
 ghost use Rattle.bt_engine.specs.Leads.{LeadsTo, Stands};
+ghost use Rattle.bt_session.specs.declared.end.SessionEnd.TheVariants.{ReadFault, WriteFault};
+ghost use Rattle.bt_session.specs.declared.peer_end.PeerEnd.TheVariants.{Session};
+ghost use Rattle.bt_session.specs.Failures.{OneFailed, OnlyAfterFailure};
 ghost use Rattle.bt_session.specs.Peers.{IsTried, InTurn, IsTriedWithFlushes, InTurnWithFlushes};
 
 use crate::link::Link;
@@ -27,6 +30,8 @@ pub fn run_peers<D: Disk + Drop, H: NodeHash, L: Link>(
     requires no_peer { engine.old.state.peers ≡ [] }
     ensures peers { InTurn (IsTried D.conduct H.digest L.dials L.failures L.gives
         L.R.remaining L.W.contents turns) engine.old links.old ends.new links.new engine.new }
+    ensures read_fault { All (OnlyAfterFailure (Session ReadFault) (OneFailed L.R.has_failed)) ends.new }
+    ensures write_fault { All (OnlyAfterFailure (Session WriteFault) (OneFailed L.W.has_failed)) ends.new }
     ensures gone { engine.new.state.peers ≡ [] }
     ensures run { LeadsTo D.conduct H.digest engine.old engine.new }
     ensures stands { Stands D.conduct engine.old engine.new }
@@ -54,6 +59,9 @@ pub fn run_peers_with_flushes<D: Disk + Drop, H: NodeHash, L: Link>(
     ensures peers { InTurnWithFlushes (IsTriedWithFlushes D.conduct H.digest L.dials
         L.failures L.gives L.R.remaining L.W.contents flush_every turns) engine.old links.old ends.new
         links.new result engine.new }
+    ensures read_fault { OnOk result
+        (All (OnlyAfterFailure (Session ReadFault) (OneFailed L.R.has_failed)) ends.new) }
+    ensures write_fault { All (OnlyAfterFailure (Session WriteFault) (OneFailed L.W.has_failed)) ends.new }
     ensures gone { engine.new.state.peers ≡ [] }
     ensures run { LeadsTo D.conduct H.digest engine.old engine.new }
     ensures stands { Stands D.conduct engine.old engine.new }
@@ -85,6 +93,9 @@ fn try_peer<D: Disk + Drop, H: NodeHash, L: Link>(
     ensures tried { IsTriedWithFlushes D.conduct H.digest L.dials L.failures L.gives
         L.R.remaining L.W.contents flush_every turns engine.old link.old end.new result link.new
         engine.new }
+    ensures read_fault { OnOk result
+        (OnlyAfterFailure (Session ReadFault) (OneFailed L.R.has_failed) end.new) }
+    ensures write_fault { OnlyAfterFailure (Session WriteFault) (OneFailed L.W.has_failed) end.new }
     ensures gone { engine.new.state.peers ≡ [] }
     ensures run { LeadsTo D.conduct H.digest engine.old engine.new }
 {

@@ -5,6 +5,8 @@ ghost use Rattle.bt_machine.specs.declared.event.Answer.TheVariants.{Connected};
 ghost use Rattle.bt_machine.specs.State.{EngineView};
 ghost use Rattle.bt_machine.specs.View.{StepsTo};
 ghost use Rattle.bt_engine.specs.Standing.{Stands};
+ghost use Rattle.bt_session.specs.declared.end.SessionEnd.TheVariants.{ReadFault, WriteFault};
+ghost use Rattle.bt_session.specs.Failures.{EndsFlushed, OnlyAfterFailure, StaysFlushed};
 ghost use Rattle.bt_session.specs.Frames.{AllFit};
 ghost use Rattle.bt_session.specs.Progress.{Place, place};
 ghost use Rattle.bt_session.specs.Ends.{IsBetweenTurns, HasEnded, IsSession, IsSessionWithFlushes};
@@ -18,12 +20,12 @@ use crate::frames::write_frames;
 use crate::law::sessions_stand;
 use crate::room::Room;
 use crate::turn::{Partner, end_after, turn};
+use crate::watched::{WatchedReader, WatchedWriter};
 use bt_disk::Disk;
 use bt_engine::Engine;
 use bt_machine::{ConnectError, FlushError, Output};
 use bt_tree::NodeHash;
 use std::alloc::Global;
-use std::io::{Read, Write};
 
 /// Connects a peer to the engine and serves it: at most `turns` times what one read of up to 16,384 bytes
 /// gave is fed, all wire events in it are taken, and the peers to serve are chosen anew. What the engine
@@ -31,7 +33,7 @@ use std::io::{Read, Write};
 /// ends as soon as all files are complete.
 ///
 /// Errors: no peer is connected, for want of memory or of a key. Then nothing was read or written.
-pub fn run_session<D: Disk + Drop, H: NodeHash, R: Read, W: Write>(
+pub fn run_session<D: Disk + Drop, H: NodeHash, R: WatchedReader, W: WatchedWriter>(
     alloc: Global,
     engine: &mut Engine<D, H>,
     reader: &mut R,
@@ -50,6 +52,9 @@ pub fn run_session<D: Disk + Drop, H: NodeHash, R: Read, W: Write>(
     ensures kept { OnErr result (engine.new ≡ engine.old) }
     ensures unread { OnErr result (reader.new ≡ reader.old) }
     ensures unwritten { OnErr result (writer.new ≡ writer.old) }
+    ensures read_fault { IfOk result (OnlyAfterFailure ReadFault (R.has_failed reader.new)) }
+    ensures write_fault { IfOk result (OnlyAfterFailure WriteFault (W.has_failed writer.new)) }
+    ensures flushed { IfOk result (λ end. EndsFlushed (W.is_flushed writer.new) (Ok end)) }
 {
     match run_session_with_flushes(alloc, engine, reader, writer, until_complete, turns, 0) {
         Ok(Ok(end)) => Ok(end),
@@ -64,7 +69,7 @@ pub fn run_session<D: Disk + Drop, H: NodeHash, R: Read, W: Write>(
 /// of its end.
 ///
 /// Errors: no peer is connected, for want of memory or of a key. Then nothing was read or written.
-pub fn run_session_with_flushes<D: Disk + Drop, H: NodeHash, R: Read, W: Write>(
+pub fn run_session_with_flushes<D: Disk + Drop, H: NodeHash, R: WatchedReader, W: WatchedWriter>(
     alloc: Global,
     engine: &mut Engine<D, H>,
     reader: &mut R,
@@ -85,6 +90,11 @@ pub fn run_session_with_flushes<D: Disk + Drop, H: NodeHash, R: Read, W: Write>(
     ensures kept { OnErr result (engine.new ≡ engine.old) }
     ensures unread { OnErr result (reader.new ≡ reader.old) }
     ensures unwritten { OnErr result (writer.new ≡ writer.old) }
+    ensures read_fault { IfOk result (λ ended.
+        IfOk ended (OnlyAfterFailure ReadFault (R.has_failed reader.new))) }
+    ensures write_fault { IfOk result (λ ended.
+        IfOk ended (OnlyAfterFailure WriteFault (W.has_failed writer.new))) }
+    ensures flushed { IfOk result (EndsFlushed (W.is_flushed writer.new)) }
 {
     sessions_stand::<D, H>(engine.hash());
     engine.keeps_laws();
@@ -102,7 +112,7 @@ pub fn run_session_with_flushes<D: Disk + Drop, H: NodeHash, R: Read, W: Write>(
 
 /// Makes the buffers of the session, and converses with the peer to its end, which is Memory where memory for
 /// them is refused. Errors: a flush was refused, which was the end.
-fn serve<D: Disk + Drop, H: NodeHash, R: Read, W: Write>(
+fn serve<D: Disk + Drop, H: NodeHash, R: WatchedReader, W: WatchedWriter>(
     alloc: Global,
     engine: &mut Engine<D, H>,
     partner: Partner,
@@ -121,6 +131,9 @@ fn serve<D: Disk + Drop, H: NodeHash, R: Read, W: Write>(
         (place first (R.remaining reader.old) (W.contents writer.old)) result
         (place engine.new (R.remaining reader.new) (W.contents writer.new)) }
     ensures no_other { HasNoOther partner.key engine.new.state }
+    ensures read_fault { IfOk result (OnlyAfterFailure ReadFault (R.has_failed reader.new)) }
+    ensures write_fault { IfOk result (OnlyAfterFailure WriteFault (W.has_failed writer.new)) }
+    ensures flushed { EndsFlushed (W.is_flushed writer.new) result }
 {
     match Room::new(alloc) {
         Ok(mut room) => converse(engine, partner, greeting, reader, writer, &mut room, turns),
@@ -130,7 +143,7 @@ fn serve<D: Disk + Drop, H: NodeHash, R: Read, W: Write>(
 
 /// Greets the peer, and takes turns with it to the session's end. Errors: a flush was refused, which was the
 /// end.
-fn converse<D: Disk + Drop, H: NodeHash, R: Read, W: Write>(
+fn converse<D: Disk + Drop, H: NodeHash, R: WatchedReader, W: WatchedWriter>(
     engine: &mut Engine<D, H>,
     partner: Partner,
     greeting: &Output,
@@ -149,6 +162,9 @@ fn converse<D: Disk + Drop, H: NodeHash, R: Read, W: Write>(
         (place first (R.remaining reader.old) (W.contents writer.old)) result
         (place engine.new (R.remaining reader.new) (W.contents writer.new)) }
     ensures no_other { HasNoOther partner.key engine.new.state }
+    ensures read_fault { IfOk result (OnlyAfterFailure ReadFault (R.has_failed reader.new)) }
+    ensures write_fault { IfOk result (OnlyAfterFailure WriteFault (W.has_failed writer.new)) }
+    ensures flushed { EndsFlushed (W.is_flushed writer.new) result }
 {
     let alloc = room.alloc;
     match write_frames(
@@ -168,7 +184,7 @@ fn converse<D: Disk + Drop, H: NodeHash, R: Read, W: Write>(
 
 /// Takes turns with the peer, so many at most, to the session's end, and flushes the engine between them,
 /// where that is due. Errors: a flush was refused, which was the end.
-fn take_turns<D: Disk + Drop, H: NodeHash, R: Read, W: Write>(
+fn take_turns<D: Disk + Drop, H: NodeHash, R: WatchedReader, W: WatchedWriter>(
     engine: &mut Engine<D, H>,
     partner: Partner,
     reader: &mut R,
@@ -185,6 +201,9 @@ fn take_turns<D: Disk + Drop, H: NodeHash, R: Read, W: Write>(
         partner.flush_every turns first result
         (place engine.new (R.remaining reader.new) (W.contents writer.new)) }
     ensures no_other { HasNoOther partner.key engine.new.state }
+    ensures read_fault { IfOk result (OnlyAfterFailure ReadFault (R.has_failed reader.new)) }
+    ensures write_fault { IfOk result (OnlyAfterFailure WriteFault (W.has_failed writer.new)) }
+    ensures flushed { StaysFlushed W.is_flushed (Ok WriteFault) writer.old result writer.new }
 {
     for taken in 0..turns {
         match turn(engine, partner, reader, writer, room) {

@@ -1,7 +1,9 @@
 //! The turns of a session: what a reader gives is fed, its wire events are taken, the peers to serve are
 //! chosen anew; and what these send is written.
-ghost use Rattle.std.specs.Prelude.{◌+◌, ℕ, List, Option, IfOk, OnOk};
+ghost use Rattle.std.specs.Prelude.{◌+◌, ◌≢◌, ℕ, List, Option, IfOk, IfErr, OnOk};
 ghost use Rattle.bt_machine.specs.declared.event.Event.TheVariants.{Next, Rechoke};
+ghost use Rattle.bt_session.specs.declared.end.SessionEnd.TheVariants.{ReadFault, WriteFault};
+ghost use Rattle.bt_session.specs.Failures.{OnlyAfterFailure, StaysFlushed};
 ghost use Rattle.bt_session.specs.Progress.{place};
 ghost use Rattle.bt_session.specs.Ends.{IsBetweenTurns};
 ghost use Rattle.bt_session.specs.Parts.{Awaits, IsTurnOver, IsPart, event_after, EndsAfter};
@@ -12,12 +14,12 @@ use crate::end::SessionEnd;
 use crate::frames::write_frames;
 use crate::incoming::Incoming;
 use crate::room::Room;
+use crate::watched::{WatchedReader, WatchedWriter};
 use bt_book::PeerKey;
 use bt_disk::Disk;
 use bt_engine::Engine;
 use bt_machine::Why;
 use bt_tree::NodeHash;
-use std::io::{Read, Write};
 
 /// The peer of a session, whether it goes on until all files are complete only, and behind how many turns the
 /// engine is flushed; 0 for never.
@@ -29,7 +31,7 @@ pub(crate) struct Partner {
 }
 
 /// One turn. Errors: the session ended in it.
-pub(crate) fn turn<D: Disk + Drop, H: NodeHash, R: Read, W: Write>(
+pub(crate) fn turn<D: Disk + Drop, H: NodeHash, R: WatchedReader, W: WatchedWriter>(
     engine: &mut Engine<D, H>,
     partner: Partner,
     reader: &mut R,
@@ -44,6 +46,9 @@ pub(crate) fn turn<D: Disk + Drop, H: NodeHash, R: Read, W: Write>(
         (place engine.new (R.remaining reader.new) (W.contents writer.new)) }
     ensures alone { OnOk result (IsAlone partner.key engine.new.state) }
     ensures no_other { HasNoOther partner.key engine.new.state }
+    ensures read_fault { IfErr result (OnlyAfterFailure ReadFault (R.has_failed reader.new)) }
+    ensures write_fault { IfErr result (OnlyAfterFailure WriteFault (W.has_failed writer.new)) }
+    ensures flushed { StaysFlushed W.is_flushed (Err WriteFault) writer.old result writer.new }
 {
     receive(engine, partner, reader, &mut room.incoming)?;
     take_events(engine, partner, writer, room)?;
@@ -51,7 +56,7 @@ pub(crate) fn turn<D: Disk + Drop, H: NodeHash, R: Read, W: Write>(
 }
 
 /// Feeds what the reader gives next. Errors: Ended where it has no more bytes; ReadFault; Memory.
-fn receive<D: Disk + Drop, H: NodeHash, R: Read>(
+fn receive<D: Disk + Drop, H: NodeHash, R: WatchedReader>(
     engine: &mut Engine<D, H>,
     partner: Partner,
     reader: &mut R,
@@ -65,6 +70,8 @@ fn receive<D: Disk + Drop, H: NodeHash, R: Read>(
         (λ _. Awaits partner.key partner.until_complete (Next partner.key))
         (place engine.new (R.remaining reader.new) contents) }
     ensures alone { IsAlone partner.key engine.new.state }
+    ensures read_fault { IfErr result (OnlyAfterFailure ReadFault (R.has_failed reader.new)) }
+    ensures no_write_fault { IfErr result (λ end. end ≢ WriteFault) }
 {
     let count = incoming.read(reader)?;
     if count == 0 {
@@ -77,7 +84,7 @@ fn receive<D: Disk + Drop, H: NodeHash, R: Read>(
 }
 
 /// Takes the peer's wire events, until none has come whole. Errors: the session ended.
-fn take_events<D: Disk + Drop, H: NodeHash, W: Write>(
+fn take_events<D: Disk + Drop, H: NodeHash, W: WatchedWriter>(
     engine: &mut Engine<D, H>,
     partner: Partner,
     writer: &mut W,
@@ -92,6 +99,9 @@ fn take_events<D: Disk + Drop, H: NodeHash, W: Write>(
         (place engine.new remaining (W.contents writer.new)) }
     ensures alone { OnOk result (IsAlone partner.key engine.new.state) }
     ensures no_other { HasNoOther partner.key engine.new.state }
+    ensures write_fault { IfErr result (OnlyAfterFailure WriteFault (W.has_failed writer.new)) }
+    ensures no_read_fault { IfErr result (λ end. end ≢ ReadFault) }
+    ensures flushed { StaysFlushed W.is_flushed (Err WriteFault) writer.old result writer.new }
 {
     while take_event(engine, partner, writer, room)? {}
     Ok(())
@@ -99,7 +109,7 @@ fn take_events<D: Disk + Drop, H: NodeHash, W: Write>(
 
 /// Takes the peer's next wire event, and writes what is sent to the peer: false where none has come whole.
 /// Errors: the session ended.
-fn take_event<D: Disk + Drop, H: NodeHash, W: Write>(
+fn take_event<D: Disk + Drop, H: NodeHash, W: WatchedWriter>(
     engine: &mut Engine<D, H>,
     partner: Partner,
     writer: &mut W,
@@ -114,6 +124,9 @@ fn take_event<D: Disk + Drop, H: NodeHash, W: Write>(
         (place engine.new remaining (W.contents writer.new)) }
     ensures stays { IfOk result (StaysAlone partner.key engine.old.state engine.new.state) }
     ensures no_other { HasNoOther partner.key engine.new.state }
+    ensures write_fault { IfErr result (OnlyAfterFailure WriteFault (W.has_failed writer.new)) }
+    ensures no_read_fault { IfErr result (λ end. end ≢ ReadFault) }
+    ensures flushed { StaysFlushed W.is_flushed (Err WriteFault) writer.old result writer.new }
 {
     match next(engine, partner.key) {
         Ok(Some(output)) => {
@@ -147,7 +160,7 @@ pub(crate) fn end_after<D: Disk + Drop, H: NodeHash>(
 }
 
 /// Chooses the peers to serve anew, and writes what is sent to the peer. Errors: WriteFault, Memory.
-fn choose<D: Disk + Drop, H: NodeHash, W: Write>(
+fn choose<D: Disk + Drop, H: NodeHash, W: WatchedWriter>(
     engine: &mut Engine<D, H>,
     partner: Partner,
     writer: &mut W,
@@ -161,6 +174,9 @@ fn choose<D: Disk + Drop, H: NodeHash, W: Write>(
         (λ _. IsTurnOver)
         (place engine.new remaining (W.contents writer.new)) }
     ensures alone { IsAlone partner.key engine.new.state }
+    ensures write_fault { IfErr result (OnlyAfterFailure WriteFault (W.has_failed writer.new)) }
+    ensures no_read_fault { IfErr result (λ end. end ≢ ReadFault) }
+    ensures flushed { StaysFlushed W.is_flushed (Err WriteFault) writer.old result writer.new }
 {
     match rechoke(engine, partner.key) {
         Ok(output) => {

@@ -40,6 +40,7 @@ pub use Rattle.bt_engine.specs.WholeRuns
 pub use Rattle.bt_wire.specs.Message
 -- sessions and peers
 pub use Rattle.bt_session.specs.Ends
+pub use Rattle.bt_session.specs.Failures
 pub use Rattle.bt_session.specs.Progress
 pub use Rattle.bt_session.specs.PeerEnd
 pub use Rattle.bt_session.specs.Link

@@ -30,7 +30,9 @@ pub use bt_resume::{LogError, ResumeLog};
 
 // A session with one peer, over any reader and writer.
 pub use bt_engine::{ConnectError, Why};
-pub use bt_session::{SessionEnd, run_session, run_session_with_flushes};
+pub use bt_session::{
+    SessionEnd, WatchedReader, WatchedWriter, run_session, run_session_with_flushes,
+};
 
 // Peers that are dialled, one after the other.
 pub use bt_session::{

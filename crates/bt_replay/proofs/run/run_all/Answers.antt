@@ -7,7 +7,7 @@ use Rattle.bt_replay.proofs.run.run_all.Goals as goal
 pub returns-in-Ok-clause-done : goal.returns-in-Ok-clause-done
 returns-in-Ok-clause-done g c =
     kept_run g.D.Disk.conduct g.H.NodeHash.digest _ c.args.engine.now c.run_lines.new.engine
-    (lines_in c.args.lines) (g.W.Write.contents c.args.writer.now) (g.W.Write.contents c.run_lines.new.writer) (g.W.Write.contents c.flush.new.self)
+    (lines_in c.args.lines) (g.W.Write.contents c.args.writer.now) (g.W.Write.contents c.run_lines.new.writer) (g.W.Write.contents c.pass_on.new.self)
     c.in_ok-run_lines.ensures.done c.in-Ok.ensures.bytes
 
 pub returns-in-Err-clause-ended : goal.returns-in-Err-clause-ended

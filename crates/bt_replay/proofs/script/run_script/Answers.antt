@@ -10,8 +10,8 @@ use Rattle.bt_replay.proofs.ScriptEnd.{replayed}
 use Rattle.bt_replay.proofs.ScriptLines.{few_lines}
 use Rattle.bt_replay.proofs.script.run_script.Goals as goal
 
-pub returns-in_err-torrent : goal.returns-in_err-torrent
-returns-in_err-torrent g c =
+pub returns-in_err-torrent-clause-replays : goal.returns-in_err-torrent-clause-replays
+returns-in_err-torrent-clause-replays g c =
     let p = err_from_is_err_and c.from_residual.result c.from_residual.ensures.1 in
     let lines = ap (parts_of 10) (sym c.without_last_feed.ensures) ∙ c.cut.ensures in
     rw (p.1, p.2)
@@ -38,8 +38,8 @@ run_all-requires g c =
     let count = front_count _ _ _ _ _ c.in_ok-engine.ensures.begun.set in
     omega (arith, few, count, c.requires)
 
-pub returns : goal.returns
-returns g c =
+pub returns-clause-replays : goal.returns-clause-replays
+returns-clause-replays g c =
     let lines = ap (parts_of 10) (sym c.without_last_feed.ensures) ∙ c.cut.ensures in
     let before = g.W.Write.contents c.args.writer.now in
     let after = g.W.Write.contents c.run_all.new.writer in

@@ -3,7 +3,7 @@ use Rattle.bt_machine.specs.declared.event.Event.TheVariants.{Connect}
 use Rattle.bt_engine.specs.Leads.{none, one, both}
 use Rattle.bt_session.specs.declared.end.SessionEnd.TheVariants.{ReadFault}
 use Rattle.bt_session.specs.Peer.{behind, within}
-use Rattle.bt_session.proofs.Unflushed.{flushed_end}
+use Rattle.bt_session.proofs.Unflushed.{flushed_end, told_of_reader}
 use Rattle.bt_session.proofs.Sessions.{session_leads}
 use Rattle.bt_session.proofs.peer.meet_peer_with_flushes.Goals as goal
 
@@ -56,3 +56,8 @@ returns-clause-run g c = one c.args.engine.now c.run_session_with_flushes.new.en
 
 pub returns-clause-stands : goal.returns-clause-stands
 returns-clause-stands g c = c.in-Err.ensures.stands
+
+pub returns-in-Ok-Ok-clause-read_fault : goal.returns-in-Ok-Ok-clause-read_fault
+returns-in-Ok-Ok-clause-read_fault g c =
+    told_of_reader g.R.WatchedReader.has_failed c.run_session_with_flushes.new.reader c.in-Ok-Ok.end c.flush_behind.result
+    (rw c.in-Ok-Ok.field-0-is at c.in-Ok-Ok.ensures.read_fault)

@@ -1,7 +1,11 @@
 use Rattle.std.proofs.Common.{◌≡◌, sym, ◌∙◌, arith, rules}
 use Rattle.std.proofs.lemmas.List.{set-get_or}
+use Rattle.std.proofs.lemmas.List.Elements.{All-set}
 use Rattle.std.proofs.lemmas.Result.{err_from_is_err_and}
 use Rattle.bt_engine.specs.Leads.{none, both}
+use Rattle.bt_session.specs.declared.end.SessionEnd.TheVariants.{ReadFault, WriteFault}
+use Rattle.bt_session.specs.declared.peer_end.PeerEnd.TheVariants.{Session}
+use Rattle.bt_session.specs.Failures.{OnlyAfterFailure, OneFailed}
 use Rattle.bt_session.proofs.Turns.{All-first, All-later, untried_later, went_on, all_tried, completed, refused}
 use Rattle.bt_session.proofs.peers.run_peers_with_flushes.Goals as goal
 
@@ -15,6 +19,8 @@ loop-i-init g c = record {
   undialled = c.requires.undialled;
   untried = search rules;
   leads = λ later rest answer new turns. turns;
+  read = search rules;
+  written = search rules;
   run = none c.args.engine.now;
 }
 
@@ -25,6 +31,8 @@ loop-i-preserved g c = record {
   untried = untried_later c.loop-i.ends c.loop-i.links c.loop-i.i c.try_peer.new.end c.try_peer.new.link c.loop-i.invariant.untried;
   leads = went_on _ _ _ c.loop-i.i _ _ c.loop-i.links c.loop-i.ends c.index-links-i.result _ _ (omega arith) (omega arith)
       (sym c.is_complete.ensures ∙ c.if-is_complete.false) c.in_ok-try_peer.ensures.tried c.loop-i.invariant.leads;
+  read = All-set (OnlyAfterFailure (Session ReadFault) (OneFailed g.L.R.WatchedReader.has_failed)) c.loop-i.ends c.loop-i.i c.try_peer.new.end c.in_ok-try_peer.ensures.read_fault c.loop-i.invariant.read;
+  written = All-set (OnlyAfterFailure (Session WriteFault) (OneFailed g.L.W.WatchedWriter.has_failed)) c.loop-i.ends c.loop-i.i c.try_peer.new.end c.in_ok-try_peer.ensures.write_fault c.loop-i.invariant.written;
   run = both _ c.loop-i.engine _ c.loop-i.invariant.run c.in_ok-try_peer.ensures.run;
 }
 
@@ -42,6 +50,11 @@ returns-in_err-try_peer-clause-peers g c =
     rw (p.1, p.2)
     (refused _ _ _ c.loop-i.i _ _ c.loop-i.links c.loop-i.ends c.index-links-i.result _ _ _ (omega arith) (omega arith)
     (sym c.is_complete.ensures ∙ c.if-is_complete.false) c.in_err-try_peer.ensures.tried c.loop-i.invariant.untried c.loop-i.invariant.leads)
+
+pub returns-in_err-try_peer-clause-write_fault : goal.returns-in_err-try_peer-clause-write_fault
+returns-in_err-try_peer-clause-write_fault g c =
+    All-set (OnlyAfterFailure (Session WriteFault) (OneFailed g.L.W.WatchedWriter.has_failed)) c.loop-i.ends c.loop-i.i c.try_peer.new.end
+    c.in_err-try_peer.ensures.write_fault c.loop-i.invariant.written
 
 pub returns-in_err-try_peer-clause-run : goal.returns-in_err-try_peer-clause-run
 returns-in_err-try_peer-clause-run g c = both _ c.loop-i.engine _ c.loop-i.invariant.run c.in_err-try_peer.ensures.run

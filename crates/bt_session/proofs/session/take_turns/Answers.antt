@@ -19,6 +19,7 @@ loop-taken-preserved g c = record {
   goes = λ first begun.
       let took = c.in-Ok.ensures.part c.args.partner.flush_every c.args.turns c.loop-taken.taken first (c.loop-taken.invariant.goes first begun) (omega (arith, c.loop-taken-test.true)) in
       c.in_ok-flush_if_due-in-Ok.ensures.pause c.args.turns first _ _ took (omega (arith, c.loop-taken-test.true));
+  flushed = λ before. c.in-Ok.ensures.flushed (c.loop-taken.invariant.flushed before) (λ is. absurd cc);
 }
 
 pub returns-clause-ends : goal.returns-clause-ends

@@ -14,4 +14,5 @@ invariant-loop-taken g l = record {
       (place l.initial.engine (g.R.Read.remaining l.initial.reader) (g.W.Write.contents l.initial.writer))
       → GoesOn g.D.Disk.conduct g.H.NodeHash.digest l.partner.key l.partner.until_complete l.partner.flush_every
       (IsBetweenTurns l.partner.until_complete) first l.taken (place l.engine (g.R.Read.remaining l.reader) (g.W.Write.contents l.writer));
+  flushed : g.W.WatchedWriter.is_flushed l.initial.writer → g.W.WatchedWriter.is_flushed l.writer;
 }

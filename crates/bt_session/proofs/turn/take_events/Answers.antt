@@ -13,6 +13,7 @@ loop-preserved g c = record {
   goes = λ remaining every taken first h.
       let few : taken ≤ taken = omega arith in
       rw c.if-branch.true at (c.in_ok-take_event.ensures.part remaining every taken taken first (c.loop.invariant.goes remaining every taken first h) few);
+  flushed = λ before. c.in_ok-take_event.ensures.flushed (c.loop.invariant.flushed before) (λ is. absurd cc);
 }
 
 pub returns-clause-part : goal.returns-clause-part

@@ -14,6 +14,7 @@ invariant-loop g l = record {
       (Awaits l.partner.key l.partner.until_complete (Next l.partner.key)) first taken (place l.initial.engine remaining (g.W.Write.contents l.initial.writer))
       → GoesOn g.D.Disk.conduct g.H.NodeHash.digest l.partner.key l.partner.until_complete every
       (Awaits l.partner.key l.partner.until_complete (Next l.partner.key)) first taken (place l.engine remaining (g.W.Write.contents l.writer));
+  flushed : g.W.WatchedWriter.is_flushed l.initial.writer → g.W.WatchedWriter.is_flushed l.writer;
 }
 
 abbrev pub decreases-loop : goal.decreases-loop
