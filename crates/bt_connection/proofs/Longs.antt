@@ -1,75 +1,66 @@
--- Messages as long as a piece with a whole block, one behind the other in front of bytes.
-use Rattle.std.proofs.Common.{◌≡◌, ◌≤◌, ◌<◌, ℕ, zero, suc, ◌+◌, ◌-◌, ◌*◌, inl, inr, List, take, drop, ⊎_elim, eq-zero-or-pos, sym, ◌∙◌, ap, subst, arith, drop-drop}
+-- Messages as long as a piece with a whole block, by how many bytes are left where they begin.
+use Rattle.std.proofs.Common.{◌≡◌, ◌≤◌, ℕ, ◌+◌, ◌-◌, List, [], ◌∷◌, ◌++◌, length, take, drop, sym, ◌∙◌, ap, subst, arith, length-drop, drop-drop}
+use Rattle.std.specs.Prelude.{All}
 use Rattle.std.proofs.lemmas.List.{length-take-le}
+use Rattle.std.proofs.lemmas.List.Elements.{All-weaker, All-push, All-take}
 use Rattle.bt_wire.specs.declared.frames.TheConstants.{BLOCK_MESSAGE_LEN}
 use Rattle.bt_wire.specs.Frames.{BeginsFrame}
-use Rattle.bt_connection.specs.Messages.{IsBlockLong, BeginWithLong}
-use Rattle.bt_connection.specs.MessageSteps.{IsCounted, HasLong}
+use Rattle.bt_connection.specs.Messages.{IsBlockLong, IsLongAt}
+use Rattle.bt_connection.specs.MessageSteps.{HasLong}
 
--- one more stands behind them
-one_behind : (n : ℕ) (bytes : List ℕ) → BeginWithLong n bytes → IsBlockLong (take BLOCK_MESSAGE_LEN (drop (BLOCK_MESSAGE_LEN * n) bytes))
-    → BeginWithLong (suc n) bytes
-one_behind zero bytes begin last = (last, tt)
-one_behind (suc n) bytes begin last =
-    let sum : BLOCK_MESSAGE_LEN * suc n ≡ BLOCK_MESSAGE_LEN + BLOCK_MESSAGE_LEN * n = omega arith in
-    let place : drop (BLOCK_MESSAGE_LEN * suc n) bytes ≡ drop (BLOCK_MESSAGE_LEN * n) (drop BLOCK_MESSAGE_LEN bytes)
-    = ap (λ (k : ℕ). drop k bytes) sum ∙ sym (drop-drop (BLOCK_MESSAGE_LEN * n) BLOCK_MESSAGE_LEN bytes) in
-    (begin.0, one_behind n (drop BLOCK_MESSAGE_LEN bytes) begin.1 (subst (λ (l : List ℕ). IsBlockLong (take BLOCK_MESSAGE_LEN l)) place last))
+pub long_later : (bytes : List ℕ) (at next : ℕ) (lefts : List ℕ) → at ≤ next → All (IsLongAt bytes at) lefts → All (IsLongAt bytes next) lefts
+long_later bytes at next lefts more = All-weaker (IsLongAt bytes at) (IsLongAt bytes next)
+    (λ left is. record { there = is.there; message = is.message; within = omega (arith, is.within, more) })
+    lefts
 
-pub long_more : (long at len next : ℕ) (bytes : List ℕ) → BeginWithLong long bytes → BeginsFrame (drop at bytes) len
-    → IsCounted long at len next → BeginWithLong next bytes
-long_more long at len next bytes begin begins counted = elim counted [
-  | inl same ↦ subst (λ (n : ℕ). BeginWithLong n bytes) (sym same) begin
-  | inr more ↦
-      let message : IsBlockLong (take len (drop at bytes))
-      = record { frame = begins.frame; size = length-take-le len (drop at bytes) begins.inside ∙ more.1 } in
-      let placed : IsBlockLong (take len (drop (BLOCK_MESSAGE_LEN * long) bytes))
-      = subst (λ (k : ℕ). IsBlockLong (take len (drop k bytes))) more.0 message in
-      let last : IsBlockLong (take BLOCK_MESSAGE_LEN (drop (BLOCK_MESSAGE_LEN * long) bytes))
-      = subst (λ (k : ℕ). IsBlockLong (take k (drop (BLOCK_MESSAGE_LEN * long) bytes))) more.1 placed in
-      let one : suc long ≡ next = omega (arith, more.2) in
-      subst (λ (n : ℕ). BeginWithLong n bytes) one (one_behind long bytes begin last)
-]
-
-pub long_few : (long at len next : ℕ) → BLOCK_MESSAGE_LEN * long ≤ at → IsCounted long at len next → BLOCK_MESSAGE_LEN * next ≤ at + len
-long_few long at len next few counted = elim counted [
-  | inl same ↦ omega (arith, same, few)
-  | inr more ↦ omega (arith, more.0, more.1, more.2)
-]
-
--- they stand in front only where nothing stands before them
-pub long_in_front : (bytes : List ℕ) (before len long next ready : ℕ) → (0 < before → next ≡ 0) → (before ≡ 0 → next ≡ long)
-    → BeginWithLong long (drop before bytes) → BLOCK_MESSAGE_LEN * long ≤ len → before + len ≤ ready → HasLong bytes ready next
-long_in_front bytes before len long next ready none same begin few room = ⊎_elim
-    (λ (front : before ≡ 0). record {
-      begin = subst (λ (n : ℕ). BeginWithLong n bytes) (sym (same front)) (subst (λ (n : ℕ). BeginWithLong long (drop n bytes)) front begin);
-      within = omega (arith, same front, few, room);
+-- one more of them stands behind the others
+pub long_more : (bytes : List ℕ) (at len most : ℕ) (lefts : List ℕ) → All (IsLongAt bytes at) lefts → BeginsFrame (drop at bytes) len
+    → at ≤ length bytes → len ≡ BLOCK_MESSAGE_LEN → All (IsLongAt bytes (at + len)) (take most (lefts ++ (length bytes - at) ∷ []))
+long_more bytes at len most lefts all begins inside size =
+    let left : ℕ = length bytes - at in
+    let place : length bytes - left ≡ at = omega arith in
+    let message : IsBlockLong (take len (drop at bytes))
+    = record { frame = begins.frame; size = length-take-le len (drop at bytes) begins.inside ∙ size } in
+    All-take (IsLongAt bytes (at + len)) most (lefts ++ left ∷ [])
+    (All-push (IsLongAt bytes (at + len)) lefts left (long_later bytes at (at + len) lefts (omega arith) all) record {
+      there = omega arith;
+      message = subst (λ (n : ℕ). IsBlockLong (take BLOCK_MESSAGE_LEN (drop n bytes))) (sym place)
+          (subst (λ (n : ℕ). IsBlockLong (take n (drop at bytes))) size message);
+      within = omega (arith, place, size);
     })
-    (λ (some : 0 < before). record {
-      begin = subst (λ (n : ℕ). BeginWithLong n bytes) (sym (none some)) tt;
-      within = omega (arith, none some);
-    })
-    (eq-zero-or-pos before)
 
-pub no_long : (bytes : List ℕ) (ready : ℕ) → HasLong bytes ready 0
-no_long bytes ready = record { begin = tt; within = omega arith }
+-- where as many bytes are left, the same bytes follow, whatever stands before
+same_left : (bytes : List ℕ) (before left : ℕ) → before ≤ length bytes → left ≤ length (drop before bytes)
+    → drop (length (drop before bytes) - left) (drop before bytes) ≡ drop (length bytes - left) bytes
+same_left bytes before left inside there =
+    let place : before + (length (drop before bytes) - left) ≡ length bytes - left = omega (arith, there, length-drop before bytes) in
+    drop-drop (length (drop before bytes) - left) before bytes ∙ ap (λ (n : ℕ). drop n bytes) place
 
--- the first of them
-pub record IsFirstLong (bytes : List ℕ) (ready long : ℕ) : Type 0 where
-  pub message : IsBlockLong (take BLOCK_MESSAGE_LEN bytes)
-  pub room : BLOCK_MESSAGE_LEN ≤ ready
-  pub others : HasLong (drop BLOCK_MESSAGE_LEN bytes) (ready - BLOCK_MESSAGE_LEN) (long - 1)
+-- bytes stand before them
+pub long_behind : (bytes : List ℕ) (before ready : ℕ) (lefts : List ℕ) → before ≤ length bytes
+    → All (IsLongAt (drop before bytes) ready) lefts → (next : ℕ) → before + ready ≤ next → HasLong bytes next lefts
+long_behind bytes before ready lefts inside all next more = record {
+  each = All-weaker (IsLongAt (drop before bytes) ready) (λ left. left ≤ length bytes → IsLongAt bytes next left)
+      (λ left is there. record {
+        there = there;
+        message = subst (λ (l : List ℕ). IsBlockLong (take BLOCK_MESSAGE_LEN l)) (same_left bytes before left inside is.there) is.message;
+        within = omega (arith, is.there, is.within, inside, more, length-drop before bytes);
+      })
+      lefts all;
+}
 
-pub first_long : (long : ℕ) (bytes : List ℕ) (ready : ℕ) → 0 < long → HasLong bytes ready long → IsFirstLong bytes ready long
-first_long zero bytes ready some has = absurd (omega (arith, some))
-first_long (suc n) bytes ready some has =
-    let within = has.within in
-    let one : n ≡ suc n - 1 = omega arith in
-    record {
-      message = has.begin.0;
-      room = omega (arith, within);
-      others = record {
-        begin = subst (λ (k : ℕ). BeginWithLong k (drop BLOCK_MESSAGE_LEN bytes)) one has.begin.1;
-        within = omega (arith, within);
-      };
-    }
+-- bytes in front are given
+pub long_after : (bytes : List ℕ) (count ready : ℕ) (lefts : List ℕ) → count ≤ length bytes → HasLong bytes ready lefts
+    → HasLong (drop count bytes) (ready - count) lefts
+long_after bytes count ready lefts inside all = record {
+  each = All-weaker (λ left. left ≤ length bytes → IsLongAt bytes ready left)
+      (λ left. left ≤ length (drop count bytes) → IsLongAt (drop count bytes) (ready - count) left)
+      (λ left has there.
+      let is : IsLongAt bytes ready left = has (omega (arith, there, length-drop count bytes)) in
+      record {
+        there = there;
+        message = subst (λ (l : List ℕ). IsBlockLong (take BLOCK_MESSAGE_LEN l)) (sym (same_left bytes count left inside there)) is.message;
+        within = omega (arith, there, is.within, length-drop count bytes);
+      })
+      lefts all.each;
+}

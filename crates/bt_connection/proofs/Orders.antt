@@ -1,9 +1,11 @@
 -- What is left of bytes that wait, once some of them are given.
 use Rattle.std.proofs.Common.{◌≡◌, ◌≤◌, ◌<◌, ℕ, ◌+◌, ◌-◌, List, ◌++◌, take, drop, length, sym, ◌∙◌, ap, subst, arith, length-append, drop-drop, drop_at, take_at, eq-zero-or-pos, ⊎_elim}
+use Rattle.std.specs.Prelude.{Contains}
+use Rattle.std.proofs.lemmas.List.Elements.{All-contains}
 use Rattle.bt_wire.specs.declared.frames.TheConstants.{BLOCK_MESSAGE_LEN}
-use Rattle.bt_connection.specs.Messages.{IsHeld, IsBlockLong}
+use Rattle.bt_connection.specs.Messages.{IsHeld, IsBlockLong, IsLongAt}
 use Rattle.bt_connection.specs.MessageSteps.{HasLong}
-use Rattle.bt_connection.proofs.Longs.{first_long}
+use Rattle.bt_connection.proofs.Longs.{long_after}
 use Rattle.bt_connection.specs.ReadAhead.{ahead_room_length, IsOrderly}
 
 -- what stands behind those that may be given stays where it is
@@ -31,23 +33,33 @@ orderly_after all front new ready count order parts size within fits =
           (eq-zero-or-pos count);
     }
 
+-- nothing of a message is left of those that may be given, but what stands behind those that are
+pub long_after_given : (all front new : List ℕ) (ready count : ℕ) (lefts : List ℕ) → HasLong all ready lefts → all ≡ front ++ new
+    → length front ≡ count → HasLong new (ready - count) lefts
+long_after_given all front new ready count lefts has parts size =
+    let behind : drop count all ≡ new = ap (λ (l : List ℕ). drop count l) parts ∙ drop_at front new count size in
+    let long : length all ≡ length front + length new = ap (λ (l : List ℕ). length l) parts ∙ length-append front new in
+    subst (λ (l : List ℕ). HasLong l (ready - count) lefts) behind
+    (long_after all count ready lefts (omega (arith, long, size)) has)
+
 -- once the first message is given, which is as long as a piece with a whole block
-pub record LeavesLong (message new : List ℕ) (ready long : ℕ) : Type 0 where
+pub record LeavesLong (message new : List ℕ) (ready : ℕ) (lefts : List ℕ) : Type 0 where
   pub whole : IsBlockLong message
   pub order : IsOrderly new (ready - BLOCK_MESSAGE_LEN)
-  pub others : HasLong new (ready - BLOCK_MESSAGE_LEN) (long - 1)
+  pub others : HasLong new (ready - BLOCK_MESSAGE_LEN) lefts
 
-pub long_gone : (all message new : List ℕ) (ready long : ℕ) → IsOrderly all ready → HasLong all ready long → ¬ (long ≡ 0) → all ≡ message ++ new
-    → length message ≡ BLOCK_MESSAGE_LEN → length all ≤ ahead_room_length → LeavesLong message new ready long
-long_gone all message new ready long order has some parts size fits =
-    let more : 0 < long = ⊎_elim (λ (zero : long ≡ 0). absurd (some zero)) (λ (m : 0 < long). m) (eq-zero-or-pos long) in
-    let first = first_long long all ready more has in
-    let front : take BLOCK_MESSAGE_LEN all ≡ message
-    = ap (λ (l : List ℕ). take BLOCK_MESSAGE_LEN l) parts ∙ take_at message new BLOCK_MESSAGE_LEN size in
-    let behind : drop BLOCK_MESSAGE_LEN all ≡ new
-    = ap (λ (l : List ℕ). drop BLOCK_MESSAGE_LEN l) parts ∙ drop_at message new BLOCK_MESSAGE_LEN size in
+pub long_gone : (all message new : List ℕ) (ready : ℕ) (lefts : List ℕ) → IsOrderly all ready → HasLong all ready lefts
+    → Contains lefts (length all) → all ≡ message ++ new → length message ≡ BLOCK_MESSAGE_LEN → length all ≤ ahead_room_length
+    → LeavesLong message new ready lefts
+long_gone all message new ready lefts order has first parts size fits =
+    let is : IsLongAt all ready (length all)
+    = All-contains (λ left. left ≤ length all → IsLongAt all ready left) lefts (length all) has.each first (omega arith) in
+    let none : length all - length all ≡ 0 = omega arith in
+    let message_is : take BLOCK_MESSAGE_LEN (drop (length all - length all) all) ≡ message
+    = ap (λ (n : ℕ). take BLOCK_MESSAGE_LEN (drop n all)) none ∙ ap (λ (l : List ℕ). take BLOCK_MESSAGE_LEN l) parts
+    ∙ take_at message new BLOCK_MESSAGE_LEN size in
     record {
-      whole = subst IsBlockLong front first.message;
-      order = orderly_after all message new ready BLOCK_MESSAGE_LEN order parts size first.room fits;
-      others = subst (λ (l : List ℕ). HasLong l (ready - BLOCK_MESSAGE_LEN) (long - 1)) behind first.others;
+      whole = subst IsBlockLong message_is is.message;
+      order = orderly_after all message new ready BLOCK_MESSAGE_LEN order parts size (omega (arith, none, is.within)) fits;
+      others = long_after_given all message new ready BLOCK_MESSAGE_LEN lefts has parts size;
     }

@@ -1,5 +1,5 @@
 -- The messages of a peer, one behind the other (BEP 3), and those that may carry a whole block.
-use Rattle.std.specs.Prelude.{◌≡◌, ℕ, ◌+◌, ◌≤◌, List, [], ◌++◌, length, get_or, take, drop, zero, suc, ⊤}
+use Rattle.std.specs.Prelude.{◌≡◌, ℕ, ◌+◌, ◌-◌, ◌≤◌, List, [], ◌++◌, length, get_or, take, drop}
 use Rattle.bt_wire.specs.Limits.{piece_kind}
 use Rattle.bt_wire.specs.declared.frames.TheConstants.{BLOCK_MESSAGE_LEN}
 use Rattle.bt_wire.specs.Frames.{IsFrame, HasNoMessage, message_length}
@@ -20,16 +20,21 @@ pub data AreMessages : List ℕ → Type 0 where
   one_more : (before message : List ℕ) → AreMessages before → IsFrame message
       → AreMessages (before ++ message)
 
+-- a message is a piece with a whole block, by its length and its kind
+pub record CarriesBlock (message : List ℕ) : Type 0 where
+  pub size : length message ≡ BLOCK_MESSAGE_LEN
+  pub kind : get_or message 4 0 ≡ piece_kind
+
 -- a message as long as a piece with a whole block
 pub record IsBlockLong (message : List ℕ) : Type 0 where
   pub frame : IsFrame message
   pub size : length message ≡ BLOCK_MESSAGE_LEN
 
--- the bytes begin with so many of these
-abbrev pub BeginWithLong : ℕ → List ℕ → Type 0
-BeginWithLong zero bytes = ⊤
-BeginWithLong (suc n) bytes =
-    IsBlockLong (take BLOCK_MESSAGE_LEN bytes) × BeginWithLong n (drop BLOCK_MESSAGE_LEN bytes)
+-- such a message begins where so many of the bytes are left, and is whole among the first `ready`
+pub record IsLongAt (bytes : List ℕ) (ready left : ℕ) : Type 0 where
+  pub there : left ≤ length bytes
+  pub message : IsBlockLong (take BLOCK_MESSAGE_LEN (drop (length bytes - left) bytes))
+  pub within : length bytes - left + BLOCK_MESSAGE_LEN ≤ ready
 
 -- Bytes before which `owed` bytes of a message were to come, and behind which `left` bytes of one are: they
 -- are a part of the rest of that message; or the rest of it and whole messages; or these and the begin of a

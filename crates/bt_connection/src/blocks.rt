@@ -1,53 +1,75 @@
-//! The whole blocks that messages carry, as they are digested ahead.
-ghost use Rattle.std.specs.Prelude.{◌≡◌, length, IfSome};
+//! Messages with a whole block among bytes that wait, as they are given on and their blocks digested ahead.
+ghost use Rattle.std.specs.Prelude.{◌≡◌, ◌↔◌, [], ◌∷◌, ◌++◌, length, take, Contains, IsTrue, IfSome};
 ghost use Rattle.bt_tree.specs.Limits.{full_block_length};
+ghost use Rattle.bt_connection.specs.declared.blocks.TheConstants.{COUNT};
 
+use arrayvec::ArrayVec;
 use bt_devices::DigestCache;
 use bt_tree::BLOCK_LEN;
+use bt_wire::frames::PIECE_HEAD_LEN;
+use std::marker::Model;
 
-/// So many blocks are digested together,
+/// There is room for no more such messages (`AheadRoom`), and so many blocks are digested together,
 const COUNT: usize = 8;
 
 /// of which so many have to be there: the lanes of those that are missing cost as much as the others.
 const FEWEST: usize = 5;
 
-/// Where the first eight whole blocks begin in bytes.
-#[derive(Clone, Copy)]
+/// Where the first eight messages with a whole block begin, each by how many bytes are left there. So nothing changes
+/// when bytes before them are given.
+#[derive(Drop)]
 pub(crate) struct Blocks {
-    begins: [usize; COUNT],
-    /// So many are known.
-    count: usize,
+    lefts: ArrayVec<usize, COUNT>,
+}
+
+impl Model for Blocks {
+    ghost use Rattle.std.specs.Prelude.{ℕ, List};
+
+    ghost Value = { List ℕ };
+
+    ghost view = { λ b. b.lefts.items };
 }
 
 impl Blocks {
-    pub(crate) fn new() -> Self {
+    pub(crate) fn new() -> Self
+        ensures { result ≡ [] }
+    {
         Blocks {
-            begins: [0; COUNT],
-            count: 0,
+            lefts: ArrayVec::new(),
         }
     }
 
     /// Notes one more, behind the others. Where eight are known, nothing is done.
-    pub(crate) fn push(&mut self, begin: usize) {
-        if let Some(place) = self.begins.get_mut(self.count) {
-            *place = begin;
-            self.count += 1;
+    pub(crate) fn push(&mut self, left: usize)
+        ensures { self.new ≡ take COUNT (self.old ++ left ∷ []) }
+    {
+        if !self.lefts.is_full() {
+            self.lefts.push(left);
         }
+    }
+
+    /// Whether one begins where so many bytes are left.
+    pub(crate) fn begin_at(&self, left: usize) -> bool
+        ensures { IsTrue result ↔ Contains self.now left }
+    {
+        self.lefts.as_slice().contains(&left)
     }
 
     /// The block of this number, or the last one in its place; None where none is known.
     fn block<'a>(&self, number: usize, bytes: &'a [u8]) -> Option<&'a [u8]>
         ensures { IfSome result (λ block. length block.now ≡ full_block_length) }
     {
-        let last = self.count.checked_sub(1)?;
-        let begin = *self.begins.get(number.min(last))?;
+        let lefts = self.lefts.as_slice();
+        let last = lefts.len().checked_sub(1)?;
+        let left = *lefts.get(number.min(last))?;
+        let begin = bytes.len().checked_sub(left)? + PIECE_HEAD_LEN;
         bytes.get(begin..)?.get(..BLOCK_LEN)
     }
 
     /// Gives eight to the cache, where five at least are known, and it is due: the last one stands also in the
-    /// place of those that are missing.
+    /// place of those that are missing. The bytes end where those did in which they were noted.
     pub(crate) fn fill(&self, cache: &mut DigestCache, bytes: &[u8]) {
-        if self.count < FEWEST || !cache.is_due() {
+        if self.lefts.len() < FEWEST || !cache.is_due() {
             return;
         }
         let _ = self.give(cache, bytes);

@@ -1,6 +1,8 @@
 //! Who is told what a peer sends, as it comes.
 
-use bt_wire::frames::{BITFIELD, LENGTH_LEN};
+use bt_hashreq::number_at;
+use bt_wire::Ask;
+use bt_wire::frames::{BITFIELD, LENGTH_LEN, PIECE};
 
 /// What came of a peer.
 #[derive(Clone, Copy, Debug, PartialEq, Eq)]
@@ -12,7 +14,9 @@ pub enum Arrival {
     /// A part of a bitfield, in which so many bits are set. It may come in several, and behind the last of
     /// them it is told as a message.
     Bits(u64),
-    /// A message of this kind, whole.
+    /// A piece with the bytes of this range, whole.
+    Block(Ask),
+    /// Another message, of this kind, whole; or a piece that is too short to name its range.
     Message(u8),
 }
 
@@ -20,6 +24,48 @@ pub enum Arrival {
 /// speaks of what is told.
 pub trait Observer {
     fn came(&self, arrival: Arrival);
+}
+
+/// The payload of a piece begins with so many bytes: its index, and where its block begins.
+const PLACE_LEN: usize = 8;
+
+/// What has come of the payload of a piece.
+#[derive(Clone, Copy)]
+pub(crate) struct PiecePayload {
+    /// The first bytes of it, as far as they have come.
+    place: [u8; PLACE_LEN],
+    /// So many bytes have come.
+    len: usize,
+}
+
+impl PiecePayload {
+    fn new() -> Self {
+        PiecePayload {
+            place: [0; PLACE_LEN],
+            len: 0,
+        }
+    }
+
+    /// Adds the next bytes.
+    fn with(mut self, part: &[u8]) -> Self {
+        let known = self.len.min(PLACE_LEN);
+        let count = part.len().min(PLACE_LEN - known);
+        self.place[known..known + count].copy_from_slice(&part[..count]);
+        self.len = self.len.saturating_add(part.len());
+        self
+    }
+
+    /// What came, where this is all.
+    fn arrival(&self) -> Arrival {
+        match self.len.checked_sub(PLACE_LEN) {
+            Some(len) => Arrival::Block(Ask {
+                piece: number_at(&self.place, 0),
+                begin: number_at(&self.place, 4),
+                length: u32::try_from(len).unwrap_or(u32::MAX),
+            }),
+            None => Arrival::Message(PIECE),
+        }
+    }
 }
 
 /// What is to come of a handshake or a message that is given as it comes.
@@ -30,19 +76,30 @@ pub(crate) enum Rest {
     Handshake,
     /// All but the length of a message.
     Message,
-    /// The payload of a message of this kind.
+    /// The payload of a piece, behind what has come of it.
+    Piece(PiecePayload),
+    /// The payload of another message, of this kind.
     Payload(u8),
 }
 
 impl Rest {
+    /// The whole payload of a message of this kind.
+    fn payload_of(kind: u8) -> Rest {
+        match kind {
+            PIECE => Rest::Piece(PiecePayload::new()),
+            _ => Rest::Payload(kind),
+        }
+    }
+
     /// Tells of the next bytes of it, which may be the last ones, and says what is to come behind them.
     pub(crate) fn tell<O: Observer>(self, observer: &O, part: &[u8], is_last: bool) -> Rest {
-        let rest = self.tell_payload(observer, part);
+        let rest = self.tell_part(observer, part);
         if !is_last {
             return rest;
         }
         match rest {
             Rest::Handshake => observer.came(Arrival::Handshake),
+            Rest::Piece(payload) => observer.came(payload.arrival()),
             Rest::Payload(kind) => observer.came(Arrival::Message(kind)),
             Rest::Nothing | Rest::Message => {}
         }
@@ -51,17 +108,24 @@ impl Rest {
 
     /// Tells of what the next bytes have of a payload, and says what is to come behind them where they are
     /// not the last ones.
-    fn tell_payload<O: Observer>(self, observer: &O, part: &[u8]) -> Rest {
+    fn tell_part<O: Observer>(self, observer: &O, part: &[u8]) -> Rest {
         match (self, part) {
             (Rest::Message, [kind, payload @ ..]) => {
-                tell_bits(observer, *kind, payload);
-                Rest::Payload(*kind)
+                Rest::payload_of(*kind).tell_payload(observer, payload)
             }
-            (Rest::Payload(kind), _) => {
+            _ => self.tell_payload(observer, part),
+        }
+    }
+
+    /// The same, where the next bytes have no kind.
+    fn tell_payload<O: Observer>(self, observer: &O, part: &[u8]) -> Rest {
+        match self {
+            Rest::Piece(payload) => Rest::Piece(payload.with(part)),
+            Rest::Payload(kind) => {
                 tell_bits(observer, kind, part);
                 self
             }
-            _ => self,
+            Rest::Nothing | Rest::Handshake | Rest::Message => self,
         }
     }
 }

@@ -40,8 +40,8 @@ pub struct ReadAhead<'a, R, O> {
     room: RefMut<'a, AheadRoom>,
     /// So many of the bytes in the room may be given,
     ready: usize,
-    /// of which so many messages in front are as long as a piece with a whole block.
-    long: usize,
+    /// and these messages among them carry a whole block; those that were given stay noted.
+    blocks: Blocks,
     /// So many bytes are to come of a message that is given as it comes; then all in the room may be given.
     owed: usize,
     /// What these bytes are.
@@ -63,7 +63,7 @@ impl<'a, R, O> Model for ReadAhead<'a, R, O> {
     } };
 
     ghost invariant = { λ r.
-        IsOrderly (ref_mut_value r.room) r.ready × HasLong (ref_mut_value r.room) r.ready r.long };
+        IsOrderly (ref_mut_value r.room) r.ready × HasLong (ref_mut_value r.room) r.ready r.blocks };
 }
 
 impl<'a, R: Drop, O> ReadAhead<'a, R, O> {
@@ -83,7 +83,7 @@ impl<'a, R: Drop, O> ReadAhead<'a, R, O> {
             observer,
             room,
             ready: 0,
-            long: 0,
+            blocks: Blocks::new(),
             // The handshake is given as it comes.
             owed: HANDSHAKE_LEN,
             rest: Rest::Handshake,
@@ -106,7 +106,6 @@ impl<'a, R, O> ReadAhead<'a, R, O> {
     {
         let count = self.room.give(self.ready, buffer);
         self.ready -= count;
-        self.long = 0;
         count
     }
 
@@ -121,12 +120,11 @@ impl<'a, R, O> ReadAhead<'a, R, O> {
         ensures none { result ≡ 0 → self.new ≡ self.old }
         ensures kept { result ≡ 0 → other.new ≡ other.old }
     {
-        if self.long == 0 {
+        if !self.blocks.begin_at(self.room.as_slice().len()) {
             return 0;
         }
         let count = self.room.give_to(BLOCK_MESSAGE_LEN, buffer, other);
         self.ready -= BLOCK_MESSAGE_LEN;
-        self.long -= 1;
         count
     }
 }
@@ -144,9 +142,9 @@ impl<'a, R: Read, O: Observer> ReadAhead<'a, R, O> {
         let count = self.room.read_from(&mut self.inner, most)?;
         let waiting = self.room.as_slice();
         let cut = cut_behind(count, self.owed, self.rest, waiting, self.observer);
-        digest_ahead(self.cache, &waiting[cut.begin..cut.ready], &cut.blocks);
+        digest_ahead(self.cache, waiting, &cut.blocks);
         self.ready = cut.ready;
-        self.long = cut.long;
+        self.blocks = cut.blocks;
         self.owed = cut.owed;
         self.rest = cut.rest;
         Ok(count)
@@ -185,10 +183,10 @@ impl<'a, R: Read, O: Observer> Read for ReadAhead<'a, R, O> {
     }
 }
 
-/// Has these blocks of messages digested, where there are enough of them. Where the cache is in use nothing is
-/// done.
-fn digest_ahead(cache: &RefCell<DigestCache>, messages: &[u8], blocks: &Blocks) {
+/// Has the blocks of these messages digested, where there are enough of them. Where the cache is in use nothing
+/// is done.
+fn digest_ahead(cache: &RefCell<DigestCache>, waiting: &[u8], blocks: &Blocks) {
     if let Ok(mut guard) = cache.try_borrow_mut() {
-        blocks.fill(&mut *guard, messages);
+        blocks.fill(&mut *guard, waiting);
     }
 }

@@ -1,9 +1,10 @@
 use Rattle.std.proofs.Common.{◌≡◌, ◌≤◌, ℕ, ◌+◌, ◌-◌, List, length, take, drop, sym, ap, subst, arith, length-drop, drop-drop}
+use Rattle.std.specs.Prelude.{All}
 use Rattle.std.proofs.lemmas.List.{take_rest}
 use Rattle.bt_wire.specs.Frames.{message_length, HasNoMessage}
-use Rattle.bt_connection.specs.Messages.{AreMessages, BeginWithLong, Leads}
+use Rattle.bt_connection.specs.Messages.{AreMessages, IsLongAt, Leads}
 use Rattle.bt_connection.proofs.Leading.{leads_into, leads_cut}
-use Rattle.bt_connection.proofs.Longs.{long_in_front}
+use Rattle.bt_connection.proofs.Longs.{long_behind}
 use Rattle.bt_connection.proofs.messages.cut_messages.Goals as goal
 
 pub returns-then-may_carry_block-clause-leads : goal.returns-then-may_carry_block-clause-leads
@@ -52,8 +53,8 @@ returns-then-may_carry_block-clause-long g c =
     let run = c.whole_messages-run.result in
     let bytes = c.args.bytes.now in
     let begin = c.min-begin.result in
-    long_in_front bytes begin run.len run.long c.in_front-long.result (begin + run.len) c.in_front-long.ensures.none c.in_front-long.ensures.same
-    (subst (λ (b : List ℕ). BeginWithLong run.long b) (take_rest bytes begin) found.long) found.few (omega arith)
+    long_behind bytes begin run.len run.blocks (omega (arith, c.min-begin.ensures))
+    (subst (λ (b : List ℕ). All (IsLongAt b run.len) run.blocks) (take_rest bytes begin) found.long) (begin + run.len) (omega arith)
 
 pub returns-clause-long : goal.returns-clause-long
 returns-clause-long g c =
@@ -62,6 +63,6 @@ returns-clause-long g c =
     let bytes = c.args.bytes.now in
     let begin = c.min-begin.result in
     let within = subst (λ (b : List ℕ). run.len ≤ length b) (take_rest bytes begin) found.within in
-    long_in_front bytes begin run.len run.long c.in_front-long.result (length bytes) c.in_front-long.ensures.none c.in_front-long.ensures.same
-    (subst (λ (b : List ℕ). BeginWithLong run.long b) (take_rest bytes begin) found.long) found.few
+    long_behind bytes begin run.len run.blocks (omega (arith, c.min-begin.ensures))
+    (subst (λ (b : List ℕ). All (IsLongAt b run.len) run.blocks) (take_rest bytes begin) found.long) (length bytes)
     (omega (arith, within, c.min-begin.ensures, length-drop begin bytes))
