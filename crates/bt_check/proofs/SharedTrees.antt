@@ -14,12 +14,13 @@ use Rattle.std.proofs.lemmas.Bool.Decides.{eqb_tells}
 use Rattle.std.proofs.lemmas.List.Elements.{filter-append}
 use Rattle.std.proofs.lemmas.Map.Text.{is_eq-slice_cmp}
 use Rattle.std.proofs.lemmas.Slice.Eq.{bytes_eq-Decides}
+use Rattle.bt_disk.specs.Conduct.{Conduct}
 use Rattle.bt_meta.specs.Files.{File}
 use Rattle.bt_sparse.specs.SparseTree.{Facts}
 use Rattle.bt_sparse.proofs.Values.{none_some}
 use Rattle.bt_check.specs.Check.{CheckedFile, IsFileFinding, present, are_twins, is_twin, twins_layer, twins_leaf, layer_before, leaves_before}
 use Rattle.bt_check.specs.CheckSteps.{HoldsLeaves, leaves_after}
-use Rattle.bt_check.specs.EntryCheck.{Answers, IsFindingBy, leaf_read}
+use Rattle.bt_check.specs.EntryCheck.{Answers, IsEntryCheck, leaf_read}
 use Rattle.bt_check.specs.Finding.{KnownLayer, known_layer, no_leaves}
 use Rattle.bt_check.specs.TreeSteps.{Key, Kept, tree_key, key_cmp, tree_in, HasTree, TakesTree, LeavesKept, ChecksFile, KeepsTrees, IsLast, LetsGo}
 use Rattle.bt_check.specs.declared.data_file.Finding.{Finding}
@@ -161,24 +162,28 @@ twin_kept layer before file other answers new same has =
     same_first [] c = refl
     same_first (x ∷ xs) c = refl
 
-module _ (layer : ℕ) (file : File) (old new : Kept) (finding : Finding) where
-  -- there is no data file
-  pub absent_checked : ((before : List CheckedFile) → IsFileFinding layer before file finding before) → new ≡ old → ChecksFile layer file old finding new
-  absent_checked found same before has = (
-    before,
-    found before,
-    λ other had. subst (HasTree layer before other) (sym same) had,
-  )
+-- there is no data file, or it is known that there is one
+pub absent_checked : {D : Type 0} {conduct : Conduct D} {layer : ℕ} {file : File} {disk : Option D} {kept : Kept} {finding : Finding} → disk ≡ None
+    → ((before : List CheckedFile) → IsFileFinding conduct layer before file finding None before) → ChecksFile conduct layer file disk kept finding kept
+absent_checked {conduct = conduct} {layer} {file} {finding = finding} none found before has =
+    (before, subst (λ o. IsFileFinding conduct layer before file finding o before) (sym none) (found before), λ other had. had)
 
+pub checked_with : {D : Type 0} {conduct : Conduct D} {layer : ℕ} {file : File} {disk there : Option D} {old new : Kept} {finding : Finding} → disk ≡ there
+    → ChecksFile conduct layer file there old finding new → ChecksFile conduct layer file disk old finding new
+checked_with {conduct = conduct} {layer} {file} {old = old} {new} {finding} same checks =
+    subst (λ o. ChecksFile conduct layer file o old finding new) (sym same) checks
+
+module _ (layer : ℕ) (file : File) (old new : Kept) where
   -- its device gave answers
-  pub present_checked : ((before : List CheckedFile) → HasTree layer before file old → (answers : Answers)
-      × IsFindingBy answers file.length (layer_before layer before file) (leaves_before layer before file) finding
+  pub present_checked : {D : Type 0} {conduct : Conduct D} {finding : Finding} (disk after : D)
+      → ((before : List CheckedFile) → HasTree layer before file old → (answers : Answers)
+      × IsEntryCheck conduct file.length (layer_before layer before file) (leaves_before layer before file) disk answers after finding
       × HasTree layer (before ++ record { file = file; answers = answers } ∷ []) file new)
-      → LeavesKept file old new → ChecksFile layer file old finding new
-  present_checked checked others before has =
+      → LeavesKept file old new → ChecksFile conduct layer file (Some disk) old finding new
+  present_checked disk after checked others before has =
       let made = checked before has in (
         before ++ record { file = file; answers = made.0 } ∷ [],
-        present made.0 made.1,
+        present disk after made.0 made.1,
         λ other had. elim (cases_bool (are_twins file other)) [
           | inl same ↦ twin_kept layer before file other made.0 new same made.2
           | inr apart ↦ other_kept layer before file other made.0 old new apart (others other apart) had

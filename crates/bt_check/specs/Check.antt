@@ -1,12 +1,13 @@
 -- What a check finds of a file of a torrent whose pieces have 2 ^ layer blocks, by what it read of the files
 -- before it: those of one length and root have one tree.
-use Rattle.std.specs.Prelude.{◌≡◌, ℕ, ◌&&◌, ◌==◌, nat_eq, Bool, false, List, [], ◌∷◌, ◌++◌, Option, None}
+use Rattle.std.specs.Prelude.{◌≡◌, ℕ, ◌&&◌, ◌==◌, nat_eq, Bool, false, List, [], ◌∷◌, ◌++◌, Option, None, Some}
 use Rattle.std.specs.Cmp.Lexicographic.{pointwise}
 use Rattle.std.specs.List.{filter}
 use Rattle.std.specs.Option.{option_or}
+use Rattle.bt_disk.specs.Conduct.{Conduct}
 use Rattle.bt_meta.specs.Files.{File}
 use Rattle.bt_check.specs.Finding.{KnownLayer, IsFindingOf, known_layer}
-use Rattle.bt_check.specs.EntryCheck.{Answers, IsFindingBy, leaf_read}
+use Rattle.bt_check.specs.EntryCheck.{Answers, IsEntryCheck, leaf_read}
 use Rattle.bt_check.specs.declared.data_file.Finding.{Finding}
 
 -- a file whose data file is there, and what its device answered
@@ -41,15 +42,17 @@ abbrev pub leaves_before : ℕ → List CheckedFile → File → ℕ → Option 
 leaves_before layer before file =
     twins_leaf file.length (layer_before layer before file) (filter (is_twin file) before)
 
--- What is found of a file after these files were checked, and which are after it. There is no data file, and
--- so no bytes; or there is one, and its device gave some answers.
-pub data IsFileFinding (layer : ℕ) (before : List CheckedFile) (file : File) (finding : Finding)
-    : List CheckedFile → Type 0 where
+-- What is found of a file after these files were checked, and which are after it. There is no device, and so
+-- no bytes; or there is one, and this is found by what it answered to all calls.
+pub data IsFileFinding {D : Type 0} (conduct : Conduct D)
+    (layer : ℕ) (before : List CheckedFile) (file : File) (finding : Finding)
+    : Option D → List CheckedFile → Type 0 where
   absent : IsFindingOf [] file.length
       (layer_before layer before file) (leaves_before layer before file) finding
       → finding.faulty ≡ false
-      → IsFileFinding layer before file finding before
-  present : (answers : Answers)
-      → IsFindingBy answers file.length
-      (layer_before layer before file) (leaves_before layer before file) finding
-      → IsFileFinding layer before file finding (before ++ record { file = file; answers = answers } ∷ [])
+      → IsFileFinding conduct layer before file finding None before
+  present : (disk after : D) (answers : Answers)
+      → IsEntryCheck conduct file.length
+      (layer_before layer before file) (leaves_before layer before file) disk answers after finding
+      → IsFileFinding conduct layer before file finding (Some disk)
+      (before ++ record { file = file; answers = answers } ∷ [])

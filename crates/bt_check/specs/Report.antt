@@ -1,15 +1,19 @@
 -- What a check reports on the files of a torrent.
 use Rattle.std.specs.Prelude.{◌≡◌, ℕ, ◌*◌, ◌^◌, ◌++◌, if◌then◌else◌, Bool, List, [], ◌∷◌, Result, Ok, Err, codes, map}
 use Rattle.std.specs.Fmt.{decimal}
-use Rattle.std.specs.List.{flat_map, list_all, list_any}
+use Rattle.std.specs.List.{All, flat_map, list_all, list_any}
+use Rattle.bt_disk.specs.Conduct.{Conduct}
+use Rattle.bt_disk.specs.Pool.{PooledView, pooled_conduct}
 use Rattle.bt_meta.specs.Files.{File, file_of}
 use Rattle.bt_meta.specs.Torrent.{Metainfo}
 use Rattle.bt_tree.specs.Limits.{full_block_length}
 use Rattle.bt_check.specs.Check.{CheckedFile, IsFileFinding}
+use Rattle.bt_check.specs.DataFile.{IsAtPath, file_at}
 use Rattle.bt_check.specs.Finding.{is_complete_finding}
 use Rattle.bt_check.specs.Display.{display_text, line_text}
 use Rattle.bt_check.specs.Fault.{device}
 use Rattle.bt_check.specs.Paths.{path_text}
+use Rattle.bt_check.specs.declared.data_file.DataFile.{DataFile}
 use Rattle.bt_check.specs.declared.data_file.Finding.{Finding}
 use Rattle.bt_check.specs.declared.fault.Fault.{Fault}
 use Rattle.bt_check.specs.declared.report.FileFinding.{FileFinding}
@@ -27,27 +31,36 @@ is_complete_report found = list_all (λ f. is_complete_finding f.finding) found
 abbrev pub is_faulty_report : List FileFinding → Bool
 is_faulty_report found = list_any (λ f. f.finding.faulty) found
 
--- the findings of some files, each after those before it were checked, and which are checked then
-pub data AreFindings (layer : ℕ) : List CheckedFile → List FileFinding → List CheckedFile → Type 0 where
-  none : (before : List CheckedFile) → AreFindings layer before [] before
-  more : (before mid after : List CheckedFile) (one : FileFinding) (rest : List FileFinding)
-      → IsFileFinding layer before (file_in one) one.finding mid → AreFindings layer mid rest after
-      → AreFindings layer before (one ∷ rest) after
+-- The findings of some data files, each by its device, after those before it were checked; and which are
+-- checked then.
+pub data AreFindings {D : Type 0} (conduct : Conduct D) (layer : ℕ)
+    : List CheckedFile → List (DataFile D) → List FileFinding → List CheckedFile → Type 0 where
+  none : (before : List CheckedFile) → AreFindings conduct layer before [] [] before
+  more : (before mid after : List CheckedFile) (here : DataFile D) (files : List (DataFile D))
+      (one : FileFinding) (rest : List FileFinding)
+      → IsFileFinding conduct layer before (file_at here) one.finding here.disk mid
+      → AreFindings conduct layer mid files rest after
+      → AreFindings conduct layer before (here ∷ files) (one ∷ rest) after
 
--- The findings are of these files, in order, and the summary is theirs; a piece has 2 ^ layer blocks.
-pub record IsReportOf (layer : ℕ) (files : List File) (found : List FileFinding) (summary : Summary)
-    : Type 0 where
-  pub each : map file_in found ≡ files
+-- The findings are of these data files, in order, and the summary is theirs; a piece has 2 ^ layer blocks.
+pub record IsReportOf {D : Type 0} (conduct : Conduct D) (layer : ℕ) (opened : List (DataFile D))
+    (found : List FileFinding) (summary : Summary) : Type 0 where
+  pub each : map file_in found ≡ map file_at opened
   pub checked : List CheckedFile
-  pub are : AreFindings layer [] found checked
+  pub are : AreFindings conduct layer [] opened found checked
   pub complete : summary.complete ≡ is_complete_report found
   pub faulty : summary.faulty ≡ is_faulty_report found
 
--- the findings are of a torrent's files
-pub record IsReportOn (torrent : Metainfo) (found : List FileFinding) (summary : Summary) : Type 0 where
+-- The findings are of a torrent's files, in order, by the answers of the devices at their paths below a
+-- folder.
+pub record IsReportOn (dir : List ℕ) (torrent : Metainfo) (found : List FileFinding) (summary : Summary)
+    : Type 0 where
   pub layer : ℕ
   pub pieces : torrent.piece_length ≡ full_block_length * 2 ^ layer
-  pub report : IsReportOf layer torrent.files found summary
+  pub opened : List (DataFile PooledView)
+  pub files : map file_at opened ≡ torrent.files
+  pub paths : All (IsAtPath dir) opened
+  pub report : IsReportOf pooled_conduct layer opened found summary
 
 -- status 0 where all are complete and 1 where one is not; a fault where a device failed
 abbrev pub check_outcome : Summary → Result ℕ Fault

@@ -1,10 +1,11 @@
 -- Trees that are kept for later files of the same root and length. No public contract cites them.
-use Rattle.std.specs.Prelude.{◌≡◌, ℕ, ◌+◌, ◌<◌, ◌≤◌, ◌⊎◌, true, false, List, [], length, Option, None, Some, slice_get}
+use Rattle.std.specs.Prelude.{◌≡◌, ℕ, ◌+◌, ◌<◌, ◌≤◌, ◌⊎◌, true, false, List, [], ◌∷◌, length, Option, None, Some, slice_get}
 use Rattle.std.specs.List.{filter}
 use Rattle.std.specs.Ordering.{nat_cmp, ordering_then}
 use Rattle.std.specs.Cmp.Lexicographic.{slice_cmp}
 use Rattle.std.specs.BTreeMap.{BTreeMap, get}
 use Rattle.std.specs.declared.cmp.Ordering.{Ordering}
+use Rattle.bt_disk.specs.Conduct.{Conduct}
 use Rattle.bt_meta.specs.Files.{File}
 use Rattle.bt_sparse.specs.SparseTree.{Facts}
 use Rattle.bt_check.specs.Check.{CheckedFile, IsFileFinding, are_twins, is_twin, layer_before, leaves_before}
@@ -46,9 +47,10 @@ LeavesKept file old new = (other : File) → are_twins file other ≡ false
     → tree_in new other ≡ tree_in old other
 
 -- a file was checked, and what is kept of any file is so after it too
-abbrev pub ChecksFile : ℕ → File → Kept → Finding → Kept → Type 0
-ChecksFile layer file old finding new = (before : List CheckedFile) → HasTree layer before file old
-    → (after : List CheckedFile) × IsFileFinding layer before file finding after
+abbrev pub ChecksFile : {D : Type 0} → Conduct D → ℕ → File → Option D → Kept → Finding → Kept → Type 0
+ChecksFile conduct layer file disk old finding new =
+    (before : List CheckedFile) → HasTree layer before file old
+    → (after : List CheckedFile) × IsFileFinding conduct layer before file finding disk after
     × ((other : File) → HasTree layer before other old → HasTree layer after other new)
 
 -- Trees after some files were checked, before the others: each file that is left has what is kept of it, and
@@ -59,6 +61,14 @@ pub record KeepsTrees (layer : ℕ) (before : List CheckedFile) (left : List Fil
   pub has : (i : ℕ) (file : File) → slice_get left i ≡ Some file → HasTree layer before file trees.kept
   pub last : (i : ℕ) (file : File) → slice_get left i ≡ Some file
       → (behind : ℕ) × (behind + i < length left) × (get key_cmp trees.last (tree_key file) ≡ Some behind)
+
+-- the next file was checked, and the trees are kept for those behind it
+abbrev pub ChecksNext
+    : {D : Type 0} → Conduct D → ℕ → File → Option D → SharedTrees → Finding → SharedTrees → Type 0
+ChecksNext conduct layer file disk old finding new =
+    (before : List CheckedFile) (rest : List File) → KeepsTrees layer before (file ∷ rest) old
+    → (after : List CheckedFile) × IsFileFinding conduct layer before file finding disk after
+    × KeepsTrees layer after rest new
 
 -- no file that is left has the root and length of a file
 abbrev pub IsLast : SharedTrees → File → Type 0

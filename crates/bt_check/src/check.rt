@@ -36,7 +36,8 @@ pub fn check_torrent<R: Files + AllocGlobal + Clone + Drop, P: Watch, W: Write>(
     dir: &str,
     writer: &mut W,
 ) -> Result<Summary, Fault>
-    ensures report { IfOk result (λ summary. (found : List FileFinding) × IsReportOn torrent.now found summary
+    ensures report { IfOk result (λ summary. (found : List FileFinding)
+        × IsReportOn dir.now torrent.now found summary
         × Appends (W.contents writer.old) (W.contents writer.new) (report_text found)) }
     ensures fault { IfErr result (λ fault. (fault ≡ device) ⊎ (fault ≡ out_of_memory)) }
 {
@@ -69,7 +70,7 @@ fn check_files<D: Disk + Drop, W: Write>(
 ) -> Result<Summary, Fault>
     requires { All (IsCheckable size.layer) (map file_at files.items) }
     ensures report { IfOk result (λ summary. (found : List FileFinding)
-        × IsReportOf size.layer (map file_at files.entry.items) found summary
+        × IsReportOf D.conduct size.layer files.entry.items found summary
         × Appends (W.contents writer.old) (W.contents writer.new) (lines_text found)) }
     ensures fault { IfErr result (λ fault. (fault ≡ device) ⊎ (fault ≡ out_of_memory)) }
 {
@@ -88,7 +89,7 @@ fn check_each<D: Disk + Drop, W: Write>(
     requires checkable { All (IsCheckable size.layer) (map file_at files.items) }
     requires trees { KeepsTrees size.layer [] (map file_at files.items) trees.old }
     ensures report { IfOk result (λ summary. (found : List FileFinding)
-        × IsReportOf size.layer (map file_at files.entry.items) found summary
+        × IsReportOf D.conduct size.layer files.entry.items found summary
         × Appends (W.contents writer.old) (W.contents writer.new) (lines_text found)) }
     ensures fault { IfErr result (λ fault. (fault ≡ device) ⊎ (fault ≡ out_of_memory)) }
 {

@@ -1,11 +1,11 @@
 //! Hash trees that files of one root and length share.
-ghost use Rattle.std.specs.Prelude.{◌≡◌, ◌↔◌, [], ◌∷◌, ℕ, List, Option, map, length, IfOk, IsTrue};
+ghost use Rattle.std.specs.Prelude.{◌≡◌, ◌↔◌, [], ◌∷◌, ℕ, List, Option, Some, map, length, IfOk, IsTrue};
 ghost use Rattle.bt_tree.specs.Blocks.{IsFileLength};
 ghost use Rattle.bt_meta.specs.Files.{File, file_of};
-ghost use Rattle.bt_check.specs.Check.{CheckedFile, IsFileFinding};
+ghost use Rattle.bt_check.specs.Check.{CheckedFile};
 ghost use Rattle.bt_check.specs.DataFile.{file_at};
 ghost use Rattle.bt_check.specs.EntryCheck.{IsCheckable};
-ghost use Rattle.bt_check.specs.TreeSteps.{tree_key, HasTree, TakesTree, ChecksFile, KeepsTrees, LeavesKept, LetsGo, IsLast};
+ghost use Rattle.bt_check.specs.TreeSteps.{tree_key, HasTree, TakesTree, ChecksFile, ChecksNext, KeepsTrees, LeavesKept, LetsGo, IsLast};
 
 use crate::data_file::{DataFile, Finding};
 use crate::entry_check::{absent_finding, check_empty, check_tree, known_tree};
@@ -57,10 +57,8 @@ impl SharedTrees {
         requires checkable { IsCheckable size.layer (file_of entry.now) }
         requires trees { (before : List CheckedFile) × (rest : List File)
             × KeepsTrees size.layer before (file_of entry.now ∷ rest) self.old }
-        ensures { IfOk result (λ finding. (before : List CheckedFile) (rest : List File)
-            → KeepsTrees size.layer before (file_of entry.now ∷ rest) self.old
-            → (after : List CheckedFile) × IsFileFinding size.layer before (file_of entry.now) finding after
-            × KeepsTrees size.layer after rest self.new) }
+        ensures { IfOk result (λ finding.
+            ChecksNext D.conduct size.layer (file_of entry.now) disk self.old finding self.new) }
     {
         self.left -= 1;
         let finding = check_file(alloc, disk, entry, size, &mut self.kept)?;
@@ -106,7 +104,8 @@ fn check_file<D: Disk + Drop>(
 ) -> Result<Finding, AllocError>
     requires checkable { IsCheckable size.layer (file_of entry.now) }
     requires tree { (before : List CheckedFile) × HasTree size.layer before (file_of entry.now) kept.old }
-    ensures { IfOk result (λ finding. ChecksFile size.layer (file_of entry.now) kept.old finding kept.new) }
+    ensures { IfOk result (λ finding.
+        ChecksFile D.conduct size.layer (file_of entry.now) disk kept.old finding kept.new) }
 {
     match disk {
         Some(disk) => check_present(alloc, disk, entry, size, kept),
@@ -124,7 +123,8 @@ fn check_present<D: Disk + Drop>(
 ) -> Result<Finding, AllocError>
     requires checkable { IsCheckable size.layer (file_of entry.now) }
     requires tree { (before : List CheckedFile) × HasTree size.layer before (file_of entry.now) kept.old }
-    ensures { IfOk result (λ finding. ChecksFile size.layer (file_of entry.now) kept.old finding kept.new) }
+    ensures { IfOk result (λ finding.
+        ChecksFile D.conduct size.layer (file_of entry.now) (Some disk) kept.old finding kept.new) }
 {
     let Some(geometry) = Geometry::new(entry.length) else {
         return Ok(check_empty(disk).finding);

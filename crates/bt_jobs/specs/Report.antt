@@ -1,9 +1,9 @@
 -- What the parts of a check told, as the report of the whole.
-use Rattle.std.specs.Prelude.{◌≡◌, ℕ, suc, ◌⊎◌, List, [], ◌∷◌, ◌++◌, map}
+use Rattle.std.specs.Prelude.{◌≡◌, ℕ, suc, List, [], ◌∷◌, ◌++◌, map}
 use Rattle.bt_tree.specs.Blocks.{block_count}
 use Rattle.bt_meta.specs.Files.{File}
 use Rattle.bt_meta.specs.Torrent.{Metainfo}
-use Rattle.bt_check.specs.Report.{IsReportOn, file_in, is_complete_report, is_faulty_report}
+use Rattle.bt_check.specs.Report.{file_in, is_complete_report, is_faulty_report}
 use Rattle.bt_check.specs.declared.data_file.Finding.{Finding}
 use Rattle.bt_check.specs.declared.report.FileFinding.{FileFinding}
 use Rattle.bt_check.specs.declared.report.Summary.{Summary}
@@ -35,8 +35,3 @@ pub record IsJoinedReport (torrent : Metainfo) (found : List FileFinding) (summa
   pub joined : AreJoined 0 torrent.files runs (map (λ f. f.finding) found)
   pub complete : summary.complete ≡ is_complete_report found
   pub faulty : summary.faulty ≡ is_faulty_report found
-
--- Parts told it, or, where there is no data file at all, one process found it alone.
-abbrev pub IsReportByParts : Metainfo → List FileFinding → Summary → Type 0
-IsReportByParts torrent found summary =
-    IsReportOn torrent found summary ⊎ IsJoinedReport torrent found summary

@@ -7,9 +7,14 @@ use Rattle.std.specs.declared.io.ErrorKind.TheVariants.{OutOfMemory as no_growth
 use Rattle.std.specs.declared.process.command.Command.{Command}
 use Rattle.bt_meta.specs.Torrent.{Metainfo}
 use Rattle.bt_check.specs.Fault.{device, out_of_memory}
+use Rattle.bt_check.specs.Report.{IsReportOn}
 use Rattle.bt_check.specs.TorrentFile.{IsTorrentOfText}
 use Rattle.bt_check.specs.declared.fault.Fault.{Fault}
+use Rattle.bt_check.specs.declared.report.FileFinding.{FileFinding}
+use Rattle.bt_check.specs.declared.report.Summary.{Summary}
 use Rattle.bt_jobs.specs.Children.{part_words, program_text}
+use Rattle.bt_jobs.specs.Report.{IsJoinedReport}
+use Rattle.bt_jobs.specs.declared.jobs.Job.{Job}
 use Rattle.bt_jobs.specs.declared.start_fault.StartFault.{StartFault}
 use Rattle.bt_jobs.specs.declared.start_fault.StartFault.TheVariants.{NotStarted, Failed, OutOfMemory}
 
@@ -66,3 +71,11 @@ pub record AllAreStarted {S : Type 0} (starts : S → Start → List ℕ → S �
   pub text : List ℕ
   pub spelled : IsTorrentOfText is_info text torrent
   pub started : AreStarted starts text old (part_starts is_info dir count) new
+
+-- One process alone found it, and no part was started; or all were, and it is what runs come to.
+abbrev pub IsCheckByParts : {S : Type 0} → (S → Start → List ℕ → S → Type 0) → Job → Metainfo
+    → List FileFinding → Summary → (old new : S) → Type 0
+IsCheckByParts starts job torrent found summary old new =
+    (IsReportOn job.dir.now torrent found summary × (new ≡ old))
+    ⊎ (IsJoinedReport torrent found summary
+    × AllAreStarted starts job.source.is_info job.dir.now job.count torrent old new)

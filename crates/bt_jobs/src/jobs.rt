@@ -5,13 +5,12 @@ ghost use Rattle.std.specs.List.Sorted.{IsSorted};
 ghost use Rattle.std.specs.Io.KnownBytes.{Appends, Keeps};
 ghost use Rattle.bt_meta.specs.Torrent.{Metainfo};
 ghost use Rattle.bt_check.specs.Fault.{device, out_of_memory, status_of};
-ghost use Rattle.bt_check.specs.Report.{IsReportOn, report_text};
+ghost use Rattle.bt_check.specs.Report.{report_text};
 ghost use Rattle.bt_check.specs.TorrentFile.{HasText, IsLoadFault};
 ghost use Rattle.bt_check.specs.declared.report.FileFinding.{FileFinding};
 ghost use Rattle.bt_jobs.specs.Children.{HasEndedWell};
 ghost use Rattle.bt_jobs.specs.JobsSteps.{AreHeard, HearsAll, IsGiven};
-ghost use Rattle.bt_jobs.specs.Report.{IsJoinedReport, IsReportByParts};
-ghost use Rattle.bt_jobs.specs.Starts.{AllAreStarted, AreStarted, part_starts, start_fault, start_of};
+ghost use Rattle.bt_jobs.specs.Starts.{AreStarted, IsCheckByParts, part_starts, start_fault, start_of};
 ghost use Rattle.bt_jobs.specs.Told.{IsToldBy, TellsEach};
 
 use crate::children::{end_all, look_at_all, part_commands, wait_for_all};
@@ -70,12 +69,9 @@ pub fn check_by_parts<R: Files + AllocGlobal + Clone + Drop, L: Starter, P: Watc
     writer: &mut W,
 ) -> Result<Summary, Fault>
     ensures report { IfOk result (λ summary. (torrent : Metainfo) × (found : List FileFinding)
-        × HasText job.entry.source.is_info torrent × IsReportByParts torrent found summary
+        × HasText job.entry.source.is_info torrent
+        × IsCheckByParts L.starts job.entry torrent found summary starter.old starter.new
         × Appends (W.contents writer.old) (W.contents writer.new) (report_text found)) }
-    ensures parts { IfOk result (λ summary. (torrent : Metainfo) × (found : List FileFinding)
-        × ((IsReportOn torrent found summary × (starter.new ≡ starter.old))
-        ⊎ (IsJoinedReport torrent found summary × AllAreStarted L.starts job.entry.source.is_info
-        job.entry.dir.now job.entry.count torrent starter.old starter.new))) }
     ensures fault { IfErr result (IsLoadFault job.entry.source.is_info) }
     ensures refused { IfErr result (λ fault. status_of fault ≡ 2
         → Keeps (W.contents writer.old) (W.contents writer.new)) }

@@ -17,5 +17,5 @@ pub returns-clause-report : goal.returns-clause-report
 returns-clause-report g c =
     let size = c.in-Some.size in
     let bytes : size.bytes ≡ c.args.torrent.now.piece_length = search rules in
-    report_on c.args.torrent.now size.layer size.bytes _ c.in_ok-summary.summary _ _ _ _ (sym bytes) size.of_layer
-    (c.in_ok-files.ensures.each ∙ c.files.ensures.said) c.in_ok-summary.ensures.report c.last_words.ensures c.in_ok-print.ensures.text
+    report_on c.args.dir.now c.args.torrent.now size.layer size.bytes _ c.in_ok-summary.summary _ _ _ _ (sym bytes) size.of_layer
+    (c.in_ok-files.ensures.each ∙ c.files.ensures.said) c.in_ok-files.ensures.paths c.in_ok-summary.ensures.report c.last_words.ensures c.in_ok-print.ensures.text

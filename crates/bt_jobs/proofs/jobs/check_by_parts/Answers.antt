@@ -14,7 +14,7 @@ returns-then-not-contains-clause-report g c =
       loaded.torrent,
       r.0,
       record { text = loaded.text.items; spelled = c.in_ok-loaded.ensures.spelled },
-      inl r.1,
+      inl (r.1, refl),
       r.2,
     )) c.check_torrent.ensures.report
 
@@ -41,31 +41,11 @@ returns-clause-report g c =
       loaded.torrent,
       r.0,
       record { text = loaded.text.items; spelled = c.in_ok-loaded.ensures.spelled },
-      inr (joined_report loaded.torrent files told.text runs.items heard.items r.0 summary c.files-files.ensures.said told.told
-          (subst (λ rs. AreJoined 0 files rs (map finding_of heard.items)) c.deref-4.ensures.value joined) r.1
-          (r.2 ∙ ap (map finding_of) c.deref-5.ensures.value) r.3 r.4),
-      r.5,
-    )) c.write_report.ensures.report
-
-pub returns-then-not-contains-clause-parts : goal.returns-then-not-contains-clause-parts
-returns-then-not-contains-clause-parts g c =
-    IfOk-weaker c.check_torrent.result _ _ (λ summary r. (c.in_ok-loaded.loaded.torrent, r.0, inl (r.1, refl))) c.check_torrent.ensures.report
-
-pub returns-clause-parts : goal.returns-clause-parts
-returns-clause-parts g c =
-    let loaded = c.in_ok-loaded.loaded in
-    let files = map file_of c.files-files.result.now in
-    let heard = c.in_ok-heard.heard in
-    let runs = c.in_ok-runs.runs in
-    let told = c.in_ok-runs.ensures.told in
-    let joined = ok_is c.heard_of.result heard _ (sym c.of_parts.ensures ∙ c.in_ok-heard.was) c.heard_of.ensures.joined in
-    IfOk-weaker c.write_report.result _ _ (λ summary r. (
-      loaded.torrent,
-      r.0,
       inr (
         joined_report loaded.torrent files told.text runs.items heard.items r.0 summary c.files-files.ensures.said told.told
             (subst (λ rs. AreJoined 0 files rs (map finding_of heard.items)) c.deref-4.ensures.value joined) r.1
             (r.2 ∙ ap (map finding_of) c.deref-5.ensures.value) r.3 r.4,
         record { text = loaded.text.items; spelled = c.in_ok-loaded.ensures.spelled; started = c.in_ok-runs.ensures.started },
       ),
+      r.5,
     )) c.write_report.ensures.report

@@ -1,4 +1,4 @@
-use Rattle.std.proofs.Common.{◌<◌, false, sym, ◌∙◌, subst, inr, arith}
+use Rattle.std.proofs.Common.{◌<◌, sym, ◌∙◌, subst, inr, arith}
 use Rattle.bt_check.proofs.SharedTrees.{others_kept, put_at, tree_kept}
 use Rattle.bt_jobs.specs.Share.{IsPieceEdge}
 use Rattle.bt_jobs.specs.Trees.{answers_of, file_in_part}
@@ -32,8 +32,7 @@ returns-clause-told g c = λ before has own.
       done.2,
       done.3,
       λ len. inr (others_after layer before file (answers_of file.length part.share len done.0) c.args.kept.now c.insert.new.self
-          (tree_kept layer file c.args.kept.now c.insert.new.self (record { blocks = 0; marked = 0; longer = false; faulty = false })
-          before (answers_of file.length part.share len done.0) _
+          (tree_kept layer file c.args.kept.now c.insert.new.self before (answers_of file.length part.share len done.0) _
           (put_at file c.key_of.result c.take_tree.new.kept c.insert.new.self _ c.key_of.ensures c.in_ok-insert.ensures.updates) done.4)
           (λ other apart. others_kept file c.key_of.result c.take_tree.new.kept c.insert.new.self _ c.key_of.ensures c.in_ok-insert.ensures.updates other apart
           ∙ c.in_ok-tree.ensures.kept other apart)),
