@@ -1,8 +1,9 @@
 -- Times that a peer has.
-use Rattle.std.specs.Prelude.{◌≡◌, ℕ, ◌+◌, ◌*◌, ◌-◌, ◌<◌, ◌≤◌, true, false, MatchOption}
+use Rattle.std.specs.Prelude.{◌≡◌, ℕ, ◌+◌, ◌*◌, ◌-◌, ◌<◌, ◌≤◌, [], List, take, true, false}
 use Rattle.std.specs.Time.{instant_nanos}
-use Rattle.std.specs.declared.option.Option.{Option}
 use Rattle.std.specs.declared.time.Instant.{Instant}
+use Rattle.bt_wire.specs.declared.message.Ask.{Ask}
+use Rattle.bt_sockets.specs.declared.open_requests.OpenRequests.{OpenRequests}
 use Rattle.bt_sockets.specs.declared.timing.Times.{Times}
 use Rattle.bt_sockets.specs.declared.timing.Role.TheVariants.{Fetch, Serve}
 
@@ -10,16 +11,24 @@ use Rattle.bt_sockets.specs.declared.timing.Role.TheVariants.{Fetch, Serve}
 abbrev pub HavePassed : ℕ → Instant → Instant → Type 0
 HavePassed seconds since now = seconds * 1000000000 ≤ instant_nanos now - instant_nanos since
 
--- of a time so much is over now, since its new begin, as was when the program left, since the one before
+-- of a time so much is over now, since its new begin, as was when the clock was looked at before, since the old one
 abbrev pub StoodStill : Instant → Instant → Instant → Instant → Type 0
-StoodStill left now since new =
-    instant_nanos new + (instant_nanos left - instant_nanos since) ≡ instant_nanos now
+StoodStill looked now since new =
+    instant_nanos new + (instant_nanos looked - instant_nanos since) ≡ instant_nanos now
 
--- a time stood still, where the program left so many seconds ago or more; else it went on
-abbrev pub IsResumed : ℕ → Option Instant → Instant → Instant → Instant → Type 0
-IsResumed seconds left now since new = MatchOption left (new ≡ since)
-    (λ left. (HavePassed seconds left now → StoodStill left now since new)
-    × (instant_nanos now - instant_nanos left < seconds * 1000000000 → new ≡ since))
+-- a time stood still, where the clock was looked at so many seconds ago or more; else it went on
+abbrev pub IsResumed : ℕ → Instant → Instant → Instant → Instant → Type 0
+IsResumed seconds looked now since new =
+    (HavePassed seconds looked now → StoodStill looked now since new)
+    × (instant_nanos now - instant_nanos looked < seconds * 1000000000 → new ≡ since)
+
+-- ---- requests of blocks that are open
+
+-- the ranges that they ask for
+abbrev pub open_asks : OpenRequests → List Ask
+open_asks requests = take requests.count requests.asks
+
+-- ---- peers
 
 -- the peer came by itself, and its handshake has not come
 abbrev pub IsStranger : Times → Type 0
@@ -32,7 +41,7 @@ pub record IsSpent (times : Times) : Type 0 where
   pub refused : times.is_refused ≡ true
   pub unwanted : times.is_interested ≡ false
   pub all_pieces : times.pieces ≤ times.had
-  pub no_block : times.pending ≡ 0
+  pub no_block : open_asks times.requests ≡ []
   pub no_hashes : times.pending_hashes ≡ 0
 
 -- What passed stays as it was noted, and so does what is open.
@@ -40,7 +49,8 @@ pub record KeepsOthers (old new : Times) : Type 0 where
   pub role : new.role ≡ old.role
   pub last : new.last ≡ old.last
   pub greeted : new.is_greeted ≡ old.is_greeted
-  pub pending : new.pending ≡ old.pending
+  pub choked : new.is_choked ≡ old.is_choked
+  pub requests : new.requests ≡ old.requests
   pub pending_hashes : new.pending_hashes ≡ old.pending_hashes
   pub refused : new.is_refused ≡ old.is_refused
   pub interested : new.is_interested ≡ old.is_interested

@@ -3,6 +3,7 @@
 
 mod link;
 mod listener;
+mod open_requests;
 mod outgoing;
 mod passage;
 mod stream;

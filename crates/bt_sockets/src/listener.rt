@@ -33,15 +33,13 @@ const FIRST_PAUSE_MILLIS: u64 = 10;
 /// up to so many.
 const LONGEST_PAUSE_MILLIS: u64 = 1000;
 
-/// What accept(2) fails with where the socket is none that listens: EBADF, EINVAL, ENOTSOCK and EOPNOTSUPP of
-/// Linux.
+/// What accept(2) fails with where the socket is none that listens: EBADF, EINVAL and ENOTSOCK of Linux. EOPNOTSUPP may
+/// be of the new connection too.
 const BAD_DESCRIPTOR: i32 = 9;
 
 const INVALID: i32 = 22;
 
 const NO_SOCKET: i32 = 88;
-
-const UNSUPPORTED: i32 = 95;
 
 /// Listens at a port of an address; at port 0 the system chooses one. Errors: the port can't be had.
 pub fn listen<R: Net>(net: &R, address: &str, port: u16) -> Result<R::Listener, Fault>
@@ -70,7 +68,7 @@ fn is_no_listener(error: &io::Error) -> bool
 {
     matches!(
         error.raw_os_error(),
-        Some(BAD_DESCRIPTOR | INVALID | NO_SOCKET | UNSUPPORTED)
+        Some(BAD_DESCRIPTOR | INVALID | NO_SOCKET)
     )
 }
 

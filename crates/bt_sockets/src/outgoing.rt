@@ -2,33 +2,45 @@
 //! that spell how many follow, and these, of which the first is the kind.
 ghost use Rattle.std.specs.Prelude.{◌≡◌, ◌<◌, ◌≤◌, length};
 
-use bt_wire::HANDSHAKE_LEN;
-use bt_wire::frames::{HEAD_LEN, LENGTH_LEN};
+use bt_hashreq::number_at;
+use bt_wire::frames::{CANCEL, LENGTH_LEN, REQUEST, REQUEST_LEN, message_len};
+use bt_wire::{Ask, HANDSHAKE_LEN};
+
+/// A message that went out.
+#[derive(Clone, Copy, Debug, PartialEq, Eq)]
+pub(crate) enum Sent {
+    /// A request of this range.
+    Request(Ask),
+    /// The cancel of such a request.
+    Cancel(Ask),
+    /// Another message, of this kind.
+    Message(u8),
+}
 
 /// Where what goes out is in its handshake or in a message.
 #[derive(Clone, Copy)]
 pub(crate) struct Outgoing {
-    /// The first bytes of the message, of which so many are known.
-    head: [u8; HEAD_LEN],
+    /// The first bytes of the message, as many as a request has, of which so many are known.
+    head: [u8; REQUEST_LEN],
     known: usize,
     /// So many bytes of it are to come behind these, or of the handshake.
     owed: usize,
-    ghost within: { known ≤ 5 },
+    ghost within: { known ≤ 17 },
 }
 
 impl Outgoing {
     /// Nothing has passed.
     pub(crate) fn new() -> Self {
         Outgoing {
-            head: [0; HEAD_LEN],
+            head: [0; REQUEST_LEN],
             known: 0,
             owed: HANDSHAKE_LEN,
         }
     }
 
-    /// Lets the first of the bytes pass, to the end of a message at most: says how many, and the kind of the
-    /// message that is whole by that.
-    pub(crate) fn pass(&mut self, bytes: &[u8]) -> (usize, Option<u8>)
+    /// Lets the first of the bytes pass, to the end of a message at most: says how many, and the message that is
+    /// whole by that.
+    pub(crate) fn pass(&mut self, bytes: &[u8]) -> (usize, Option<Sent>)
         requires { 0 < length bytes.now }
         ensures some { 0 < result.0 }
         ensures within { result.0 ≤ length bytes.now }
@@ -38,7 +50,7 @@ impl Outgoing {
             self.owed -= count;
             return (count, self.end());
         }
-        if self.known < HEAD_LEN {
+        if self.known < REQUEST_LEN {
             self.head[self.known] = bytes[0];
             self.known += 1;
         }
@@ -48,34 +60,39 @@ impl Outgoing {
 
     /// How many bytes are to come behind the head, as far as it is known.
     fn behind_head(&self) -> usize {
-        if self.known < HEAD_LEN {
+        if self.known < REQUEST_LEN {
             return 0;
         }
-        self.length().saturating_sub(1)
+        message_len(&self.head).saturating_sub(REQUEST_LEN)
     }
 
-    /// The length that the head spells.
-    fn length(&self) -> usize {
-        let [first, second, third, fourth, _] = self.head;
-        u32::from_be_bytes([first, second, third, fourth]) as usize
-    }
-
-    /// The kind of the message that is whole now; the next one begins then, and behind a keep-alive too, which
-    /// has no kind.
-    fn end(&mut self) -> Option<u8> {
-        if self.owed > 0 {
+    /// The message that is whole now; the next one begins then. A keep-alive, which has no kind, is none.
+    fn end(&mut self) -> Option<Sent> {
+        if self.owed > 0 || !self.is_head_whole() {
             return None;
         }
-        match self.known {
-            HEAD_LEN => {
-                self.known = 0;
-                Some(self.head[LENGTH_LEN])
-            }
-            LENGTH_LEN if self.length() == 0 => {
-                self.known = 0;
-                None
-            }
-            _ => None,
+        let known = self.known;
+        self.known = 0;
+        match self.head[LENGTH_LEN] {
+            _ if known == LENGTH_LEN => None,
+            REQUEST => Some(Sent::Request(self.ask())),
+            CANCEL => Some(Sent::Cancel(self.ask())),
+            kind => Some(Sent::Message(kind)),
+        }
+    }
+
+    /// Whether all of the message is known that its head may have.
+    fn is_head_whole(&self) -> bool {
+        self.known == REQUEST_LEN
+            || self.known >= LENGTH_LEN && self.known == message_len(&self.head)
+    }
+
+    /// The range that a request or a cancel names.
+    fn ask(&self) -> Ask {
+        Ask {
+            piece: number_at(&self.head, 5),
+            begin: number_at(&self.head, 9),
+            length: number_at(&self.head, 13),
         }
     }
 }

@@ -71,28 +71,36 @@ impl<'a, S, C> TimedStream<'a, S, C> {
 }
 
 impl<'a, S, C: Clock> TimedStream<'a, S, C> {
-    /// Begins to wait, or goes on. Errors: TimedOut where the peer has taken too long already; the clock fails.
+    /// Begins to wait. Errors: TimedOut where the peer has taken too long already; the clock fails.
     fn begin(&self) -> io::Result<Instant> {
         let now = Instant::now(self.clock)?;
-        self.timing.resume(now);
+        self.timing.look(now);
         if self.timing.is_late(now) {
             return Err(io::Error::from(ErrorKind::TimedOut));
         }
         Ok(now)
     }
 
-    /// Whether it may be waited on, since then.
-    fn may_wait(&self, begun: Instant) -> bool {
-        match self.begin() {
-            Ok(now) => now.duration_since(begun) < self.idle,
-            Err(_) => false,
+    /// Waits on behind a call of the socket that failed, as since then: says since when, since what is not counted
+    /// against the peer is not waited for it. Errors: this one, where no such call is to be made again; TimedOut where
+    /// the peer was idle for too long, or has taken too long otherwise; the clock fails.
+    fn wait_on(&self, begun: Instant, error: io::Error) -> io::Result<Instant> {
+        if !is_again(error.kind()) {
+            return Err(error);
         }
+        let now = Instant::now(self.clock)?;
+        let begun = self.timing.resumed(begun, now);
+        self.timing.look(now);
+        if self.timing.is_late(now) || now.duration_since(begun) >= self.idle {
+            return Err(io::Error::from(ErrorKind::TimedOut));
+        }
+        Ok(begun)
     }
 
     /// Notes that a call is over.
     fn leave(&self) {
         if let Ok(now) = Instant::now(self.clock) {
-            self.timing.leave(now);
+            self.timing.look(now);
         }
     }
 
@@ -219,7 +227,7 @@ impl<'a, S: Read, C: Clock> TimedStream<'a, S, C> {
     }
 
     /// Reads once something has come. Errors: as `read`.
-    fn wait_for_bytes(&mut self, buffer: &mut [u8], begun: Instant) -> io::Result<usize>
+    fn wait_for_bytes(&mut self, buffer: &mut [u8], mut begun: Instant) -> io::Result<usize>
         ensures bound { ReadsAtMost result buffer.new }
         ensures bytes { ReadConsumes (S.remaining self.old) (S.remaining self.new) result buffer.new }
     {
@@ -230,8 +238,7 @@ impl<'a, S: Read, C: Clock> TimedStream<'a, S, C> {
                     self.note_in();
                     return Ok(count);
                 }
-                Err(error) if is_again(error.kind()) && self.may_wait(begun) => {}
-                Err(error) => return Err(error),
+                Err(error) => begun = self.wait_on(begun, error)?,
             }
         }
         Err(io::Error::from(ErrorKind::TimedOut))
@@ -265,8 +272,7 @@ impl<'a, S: Read + Write + OpenStream, C: Clock> TimedStream<'a, S, C> {
                     self.note_out(&bytes[..count]);
                     return Ok(count);
                 }
-                Err(error) if is_again(error.kind()) && self.may_wait(begun) => {}
-                Err(error) => return Err(error),
+                Err(error) => begun = self.wait_on(begun, error)?,
             }
             begun = self.take_in(begun);
         }

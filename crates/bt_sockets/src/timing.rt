@@ -1,12 +1,15 @@
 //! How long a peer may take for what it owes, so that those who wait behind it have their turn. While this program
-//! itself is at work, between two calls of the connection, these times stand still.
-ghost use Rattle.std.specs.Prelude.{◌≡◌, ◌↔◌, ◌⊎◌, ◌-◌, ◌<◌, IsTrue};
-ghost use Rattle.bt_sockets.specs.TimingSteps.{HavePassed, IsResumed, IsSpent, IsStranger, KeepsOthers};
+//! itself is at work, or is stopped, these times stand still.
+ghost use Rattle.std.specs.Prelude.{◌≡◌, ◌↔◌, ◌⊎◌, ◌-◌, ◌<◌, IsTrue, true, false, [], length, Contains};
+ghost use Rattle.bt_sockets.specs.OpenSteps.{IsOpened, IsWithout};
+ghost use Rattle.bt_sockets.specs.TimingSteps.{HavePassed, IsResumed, IsSpent, IsStranger, KeepsOthers, open_asks};
 
-use crate::outgoing::Outgoing;
+use crate::open_requests::OpenRequests;
+use crate::outgoing::{Outgoing, Sent};
 use bt_connection::{Arrival, Observer};
+use bt_wire::Ask;
 use bt_wire::frames::{
-    CHOKE, HASH_REJECT, HASH_REQUEST, HASHES, HAVE, INTERESTED, NOT_INTERESTED, PIECE, REQUEST,
+    CHOKE, HASH_REJECT, HASH_REQUEST, HASHES, HAVE, INTERESTED, NOT_INTERESTED, PIECE, UNCHOKE,
 };
 use std::cell::Cell;
 use std::time::{Duration, Instant};
@@ -22,9 +25,9 @@ pub const USE_SECONDS: u64 = 600;
 /// requests of blocks are open and it sends other messages.
 pub const BLOCK_SECONDS: u64 = 60;
 
-/// Work of this program between two calls of a connection, which takes so many seconds or more, is not counted
-/// against the peer. Shorter work is: else one that sends what is of no use, faster than it is read, would hardly ever
-/// be late.
+/// Where so many seconds or more pass between two looks at the clock, more than a turn of the socket waits, this
+/// program was at work, or was stopped, and they are not counted against the peer. Shorter work is: else one that sends
+/// what is of no use, faster than it is read, would hardly ever be late.
 pub const WORK_SECONDS: u64 = 2;
 
 /// What a connection is there for.
@@ -41,16 +44,18 @@ pub enum Role {
 struct Times {
     role: Role,
     begun: Instant,
-    /// When the last call of the connection was over, where none is being made.
-    left: Option<Instant>,
+    /// When the clock was looked at last.
+    looked: Instant,
     /// When the last bytes came.
     last: Instant,
     /// Whether the peer's handshake came.
     is_greeted: bool,
     /// When something passed last that is of use.
     used: Instant,
-    /// So many requests of blocks are open,
-    pending: u64,
+    /// Whether the peer chokes us, and so answers no request.
+    is_choked: bool,
+    /// The requests of blocks that are open,
+    requests: OpenRequests,
     /// the first of them since then; or else the last block came then.
     asked: Instant,
     /// So many requests of hashes are open.
@@ -73,11 +78,12 @@ impl Times {
         Times {
             role,
             begun: now,
-            left: Some(now),
+            looked: now,
             last: now,
             is_greeted: false,
             used: now,
-            pending: 0,
+            is_choked: true,
+            requests: OpenRequests::new(),
             asked: now,
             pending_hashes: 0,
             is_refused: false,
@@ -109,7 +115,7 @@ impl Times {
             && self.is_refused
             && !self.is_interested
             && self.had >= self.pieces
-            && self.pending == 0
+            && self.requests.is_empty()
             && self.pending_hashes == 0
     }
 
@@ -120,18 +126,18 @@ impl Times {
         self.role == Role::Serve && !self.is_greeted
     }
 
-    /// A call of the connection begins. The peer's times stood still since the one before, where that is long ago.
-    fn resume(&mut self, now: Instant)
-        ensures begun { IsResumed WORK_SECONDS self.old.left now self.old.begun self.new.begun }
-        ensures used { IsResumed WORK_SECONDS self.old.left now self.old.used self.new.used }
-        ensures asked { IsResumed WORK_SECONDS self.old.left now self.old.asked self.new.asked }
-        ensures here { self.new.left ≡ None }
+    /// The clock is looked at. The peer's times stood still since it was before, where that is long ago.
+    fn look(&mut self, now: Instant)
+        ensures begun { IsResumed WORK_SECONDS self.old.looked now self.old.begun self.new.begun }
+        ensures used { IsResumed WORK_SECONDS self.old.looked now self.old.used self.new.used }
+        ensures asked { IsResumed WORK_SECONDS self.old.looked now self.old.asked self.new.asked }
+        ensures looked { self.new.looked ≡ now }
         ensures others { KeepsOthers self.old self.new }
     {
-        self.begun = resumed(self.begun, self.left, now);
-        self.used = resumed(self.used, self.left, now);
-        self.asked = resumed(self.asked, self.left, now);
-        self.left = None;
+        self.begun = resumed(self.begun, self.looked, now);
+        self.used = resumed(self.used, self.looked, now);
+        self.asked = resumed(self.asked, self.looked, now);
+        self.looked = now;
     }
 
     /// Notes what came, by the last bytes that did.
@@ -140,7 +146,7 @@ impl Times {
             Arrival::Handshake => self.is_greeted = true,
             Arrival::KeepAlive => self.look_for_block(self.last),
             Arrival::Bits(count) => self.note_pieces(count),
-            Arrival::Message(PIECE) => self.block_came(self.last),
+            Arrival::Block(ask) => self.block_came(ask, self.last),
             Arrival::Message(kind) => self.other_came(kind, self.last),
         }
     }
@@ -150,22 +156,22 @@ impl Times {
         let mut rest = bytes;
         'passing: while !rest.is_empty() {
             let (count, whole) = self.outgoing.pass(rest);
-            if let Some(kind) = whole {
-                self.went(kind, now);
+            if let Some(sent) = whole {
+                self.went(sent, now);
             }
             rest = &rest[count..];
         }
     }
 
-    /// A block came. It is of use where one was asked for.
-    fn block_came(&mut self, now: Instant)
-        ensures pending { self.new.pending ≡ self.old.pending - 1 }
-        ensures used { 0 < self.old.pending → self.new.used ≡ now }
-        ensures asked { 0 < self.old.pending → self.new.asked ≡ now }
-        ensures unasked { self.old.pending ≡ 0 → self.new ≡ self.old }
+    /// A block came. It is of use where it was asked for: else a peer could stay for ever by bytes that nobody wants.
+    fn block_came(&mut self, ask: Ask, now: Instant)
+        ensures closed { Contains (open_asks self.old.requests) ask
+            → IsWithout (open_asks self.old.requests) ask (open_asks self.new.requests) }
+        ensures used { Contains (open_asks self.old.requests) ask → self.new.used ≡ now }
+        ensures asked { Contains (open_asks self.old.requests) ask → self.new.asked ≡ now }
+        ensures unasked { ¬ Contains (open_asks self.old.requests) ask → self.new ≡ self.old }
     {
-        if self.pending > 0 {
-            self.pending -= 1;
+        if self.requests.remove(ask) {
             self.used = now;
             self.asked = now;
         }
@@ -179,7 +185,8 @@ impl Times {
     /// Another message came. Hashes are of use where some were asked for, and a choke closes all requests.
     fn other_came(&mut self, kind: u8, now: Instant) {
         match kind {
-            CHOKE => self.pending = 0,
+            CHOKE => self.choke(),
+            UNCHOKE => self.is_choked = false,
             HAVE => self.note_pieces(1),
             HASHES if self.pending_hashes > 0 => {
                 self.pending_hashes -= 1;
@@ -194,29 +201,56 @@ impl Times {
         self.look_for_block(now);
     }
 
+    /// The peer chokes us, and answers no request that is open.
+    fn choke(&mut self)
+        ensures choked { self.new.is_choked ≡ true }
+        ensures closed { open_asks self.new.requests ≡ [] }
+    {
+        self.is_choked = true;
+        self.requests = OpenRequests::new();
+    }
+
     /// Looks whether a block is overdue as another message comes.
     fn look_for_block(&mut self, now: Instant) {
         self.is_overdue = self.is_overdue
             || self.role == Role::Fetch
-                && self.pending > 0
+                && !self.requests.is_empty()
                 && has_passed(self.asked, BLOCK_SECONDS, now);
     }
 
     /// A message went out.
-    fn went(&mut self, kind: u8, now: Instant) {
-        match kind {
-            INTERESTED => self.is_interested = true,
-            NOT_INTERESTED => self.is_interested = false,
-            REQUEST => {
-                if self.pending == 0 {
-                    self.asked = now;
-                }
-                self.pending = self.pending.saturating_add(1);
+    fn went(&mut self, sent: Sent, now: Instant) {
+        match sent {
+            Sent::Request(ask) => self.ask_went(ask, now),
+            Sent::Cancel(ask) => {
+                self.requests.remove(ask);
             }
-            HASH_REQUEST => self.pending_hashes = self.pending_hashes.saturating_add(1),
-            PIECE | HASHES if self.role == Role::Serve => self.used = now,
-            _ => {}
+            Sent::Message(INTERESTED) => self.is_interested = true,
+            Sent::Message(NOT_INTERESTED) => self.is_interested = false,
+            Sent::Message(HASH_REQUEST) => {
+                self.pending_hashes = self.pending_hashes.saturating_add(1);
+            }
+            Sent::Message(PIECE | HASHES) if self.role == Role::Serve => self.used = now,
+            Sent::Message(_) => {}
         }
+    }
+
+    /// A request of a block went out. One that chokes us does not answer it: its choke may have come when the engine
+    /// had not read it yet.
+    fn ask_went(&mut self, ask: Ask, now: Instant)
+        ensures choked { self.old.is_choked ≡ true → self.new ≡ self.old }
+        ensures opened { self.old.is_choked ≡ false
+            → IsOpened (open_asks self.old.requests) ask (open_asks self.new.requests) }
+        ensures first { self.old.is_choked ≡ false → open_asks self.old.requests ≡ [] → self.new.asked ≡ now }
+        ensures further { 0 < length (open_asks self.old.requests) → self.new.asked ≡ self.old.asked }
+    {
+        if self.is_choked {
+            return;
+        }
+        if self.requests.is_empty() {
+            self.asked = now;
+        }
+        self.requests.insert(ask);
     }
 }
 
@@ -227,18 +261,16 @@ fn has_passed(since: Instant, seconds: u64, now: Instant) -> bool
     now.duration_since(since) >= Duration::from_secs(seconds)
 }
 
-/// Since when a time runs that stood still since the program left, where that is long ago: so much of it is over now
-/// as was then.
-fn resumed(since: Instant, left: Option<Instant>, now: Instant) -> Instant
-    ensures { IsResumed WORK_SECONDS left now since result }
+/// Since when a time runs that stood still since the clock was looked at before, where that is long ago: so much of it
+/// is over now as was then.
+fn resumed(since: Instant, looked: Instant, now: Instant) -> Instant
+    ensures { IsResumed WORK_SECONDS looked now since result }
 {
-    match left {
-        Some(left) if has_passed(left, WORK_SECONDS, now) => {
-            let over = left.duration_since(since);
-            now.checked_sub(over).unwrap_or(since)
-        }
-        _ => since,
+    if !has_passed(looked, WORK_SECONDS, now) {
+        return since;
     }
+    let over = looked.duration_since(since);
+    now.checked_sub(over).unwrap_or(since)
 }
 
 /// What has passed over the connection that is there, and when. Both its handles note it. What lies in a cell no
@@ -277,18 +309,18 @@ impl Timing {
         }
     }
 
-    /// Notes that a call of the connection begins.
-    pub(crate) fn resume(&self, now: Instant) {
-        if let Some(mut times) = self.times.get() {
-            times.resume(now);
-            self.times.set(Some(times));
+    /// Since when is waited now, where it was since then: it is of no account what is not counted against the peer.
+    pub(crate) fn resumed(&self, since: Instant, now: Instant) -> Instant {
+        match self.times.get() {
+            Some(times) => resumed(since, times.looked, now),
+            None => since,
         }
     }
 
-    /// Notes that a call of the connection is over, and the program at work.
-    pub(crate) fn leave(&self, now: Instant) {
+    /// Notes that the clock is looked at.
+    pub(crate) fn look(&self, now: Instant) {
         if let Some(mut times) = self.times.get() {
-            times.left = Some(now);
+            times.look(now);
             self.times.set(Some(times));
         }
     }
@@ -296,6 +328,7 @@ impl Timing {
     /// Notes that bytes come now. What they are is told next (`Observer`).
     pub(crate) fn pass_in(&self, now: Instant) {
         if let Some(mut times) = self.times.get() {
+            times.look(now);
             times.last = now;
             self.times.set(Some(times));
         }
@@ -304,6 +337,7 @@ impl Timing {
     /// Notes bytes that went out.
     pub(crate) fn pass_out(&self, bytes: &[u8], now: Instant) {
         if let Some(mut times) = self.times.get() {
+            times.look(now);
             times.pass_out(bytes, now);
             self.times.set(Some(times));
         }
