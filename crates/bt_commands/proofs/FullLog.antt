@@ -1,18 +1,22 @@
 -- A log that is full ends no task but one with a log.
-use Rattle.std.proofs.Common.{◌≡◌, ◌≢◌, ◌⊎◌, ℕ, List, Option, None, Result, Ok, Err, IfErr, inl, inr, refl, sym, subst}
+use Rattle.std.proofs.Common.{◌≡◌, ◌≢◌, ◌⊎◌, ℕ, Bool, List, Option, None, Result, Ok, Err, IfErr, inl, inr, refl, sym, subst}
+use Rattle.std.specs.Borrow.{Bor}
 use Rattle.std.specs.Io.KnownBytes.{Keeps}
 use Rattle.bt_meta.specs.declared.writer.MakeError.{MakeError}
 use Rattle.bt_meta.specs.declared.writer.MakeError.TheVariants.{BadPath, PieceLength, OutOfMemory as no_memory_to_make}
 use Rattle.bt_check.specs.Fault.{log_full, make_fault, status_of}
 use Rattle.bt_check.specs.declared.fault.Fault.{Fault}
 use Rattle.bt_check.specs.declared.fault.Fault.TheVariants.{Words, OutAmongFiles, Torrent, Make, SameFile, LogAmongFiles, OtherTorrent, LogTooLong, LogFull, Device, OutOfMemory}
+use Rattle.bt_files.specs.Loading.{IsLogFull, IsStoreFault}
+use Rattle.bt_files.specs.declared.file_use.FileUse.{FileUse}
 use Rattle.bt_files.specs.declared.file_use.FileUse.TheVariants.{Fetch as for_fetch}
 use Rattle.bt_make.specs.Command.{IsFilesFault, IsMakeFault, Paths}
 use Rattle.bt_transfer.proofs.EndFaults.{load_not_full, store_not_full}
+use Rattle.bt_transfer.specs.FullLog.{HasFilledLog}
 use Rattle.bt_transfer.specs.Seed.{seed_use}
 use Rattle.bt_words.specs.declared.command_line.Task.{Task}
 use Rattle.bt_words.specs.declared.command_line.Task.TheVariants.{Make as make, Show, Check, Seed, Fetch, Replay}
-use Rattle.bt_commands.specs.Program.{IsTaskEnd, IsTaskFault, task_log}
+use Rattle.bt_commands.specs.Program.{IsStoreEnd, IsTaskEnd, IsTaskFault, task_log}
 
 -- it is told apart from all other faults
 pub is_full : (fault : Fault) → (fault ≡ log_full) ⊎ (fault ≢ log_full)
@@ -63,10 +67,18 @@ has_log (Show torrent) cause = absurd (load_not_full torrent.is_info log_full ca
 has_log (Check task) cause = absurd (load_not_full task.torrent.is_info log_full cause refl)
 has_log (Seed task) (inl loading) =
     absurd (store_not_full task.torrent.is_info (seed_use task.service.is_read_only) task.log log_full loading refl)
-has_log (Seed task) (inr full) = full.0
+has_log (Seed task) (inr full) = full.0.0
 has_log (Fetch task) (inl loading) = absurd (store_not_full task.torrent.is_info for_fetch task.log log_full loading refl)
-has_log (Fetch task) (inr full) = full.0
+has_log (Fetch task) (inr full) = full.0.0
 has_log Replay cause = absurd cause
+
+-- a store's task ends as its command says
+pub store_ended : (is_info : Bool) (usage : FileUse) (dir : List ℕ) (log : Option (Bor (List ℕ))) (r : Result ℕ Fault)
+    → IfErr r (λ fault. IsStoreFault is_info usage log fault ⊎ IsLogFull log fault)
+    → IfErr r (λ fault. fault ≡ log_full → HasFilledLog is_info usage dir log) → IfErr r (IsStoreEnd is_info usage dir log)
+store_ended is_info usage dir log (Ok status) ends filled = tt
+store_ended is_info usage dir log (Err fault) (inl unopened) filled = inl unopened
+store_ended is_info usage dir log (Err fault) (inr full) filled = inr (full, filled full.1)
 
 -- what a command with a log says of a refusal is that only by a full log something may have been written
 pub task_ended : {T : Type 0} (r : Result T Fault) (task : Task) (old new : Option (List ℕ)) → IfErr r (IsTaskFault task)

@@ -10,7 +10,9 @@ use Rattle.bt_words.specs.CommandLine.{IsTaskOf}
 use Rattle.bt_meta.specs.Torrent.{Metainfo}
 use Rattle.bt_check.specs.Report.{IsReportOn, check_outcome, is_complete_report, is_faulty_report, report_text}
 use Rattle.bt_check.specs.TorrentFile.{HasText}
-use Rattle.bt_jobs.specs.Report.{IsReportByParts}
+use Rattle.bt_jobs.specs.Report.{IsJoinedReport}
+use Rattle.bt_jobs.specs.Starts.{IsCheckByParts, Start}
+use Rattle.bt_jobs.specs.declared.jobs.Job.{Job}
 use Rattle.bt_make.specs.AtomicFile.{infohash_line}
 use Rattle.bt_make.specs.Command.{IsMakeFault, IsMakeTorrent}
 use Rattle.bt_commands.specs.Program.{IsDone, IsJoinedResult, IsMakeResult, IsWholeResult, IsTaskEnd, IsRun, IsStart, Writes, no_words, on_words, task_result, task_end}
@@ -41,13 +43,13 @@ outcome_written : (is_faulty is_complete : Bool) (P : ℕ → Type 0) → (is_fa
 outcome_written true is_complete P h = tt
 outcome_written false is_complete P h = h refl
 
-pub check_done : (source : Source) (torrent : Metainfo) (summary : Summary) (old new : Option (List ℕ)) (outcome : Result ℕ Fault)
+pub check_done : (source : Source) (dir : List ℕ) (torrent : Metainfo) (summary : Summary) (old new : Option (List ℕ)) (outcome : Result ℕ Fault)
     → outcome ≡ check_outcome summary → HasText source.is_info torrent
-    → (found : List FileFinding) × IsReportOn torrent found summary × Appends old new (report_text found)
-    → IfOk outcome (Writes (IsWholeResult source) old new)
-check_done source torrent summary old new outcome is loaded r =
-    subst (λ o. IfOk o (Writes (IsWholeResult source) old new)) (sym is)
-    (outcome_written summary.faulty summary.complete (Writes (IsWholeResult source) old new) (λ sound. record {
+    → (found : List FileFinding) × IsReportOn dir torrent found summary × Appends old new (report_text found)
+    → IfOk outcome (Writes (IsWholeResult source dir) old new)
+check_done source dir torrent summary old new outcome is loaded r =
+    subst (λ o. IfOk o (Writes (IsWholeResult source dir) old new)) (sym is)
+    (outcome_written summary.faulty summary.complete (Writes (IsWholeResult source dir) old new) (λ sound. record {
       text = report_text r.0;
       written = r.2;
       is = record {
@@ -62,19 +64,22 @@ check_done source torrent summary old new outcome is loaded r =
       };
     }))
 
--- the summary of a report by parts is that of its findings
-by_parts : (torrent : Metainfo) (found : List FileFinding) (summary : Summary) → IsReportByParts torrent found summary
-    → (summary.faulty ≡ is_faulty_report found) × (summary.complete ≡ is_complete_report found)
-by_parts torrent found summary (inl alone) = (alone.report.faulty, alone.report.complete)
-by_parts torrent found summary (inr joined) = (joined.faulty, joined.complete)
+-- the report of a check by parts, whose summary is that of its findings
+by_parts : {S : Type 0} (starts : S → Start → List ℕ → S → Type 0) (job : Job) (torrent : Metainfo) (found : List FileFinding) (summary : Summary) (old new : S)
+    → IsCheckByParts starts job torrent found summary old new → (IsReportOn job.dir.now torrent found summary ⊎ IsJoinedReport torrent found summary)
+    × (summary.faulty ≡ is_faulty_report found) × (summary.complete ≡ is_complete_report found)
+by_parts starts job torrent found summary old new (inl alone) = (inl alone.0, alone.0.report.faulty, alone.0.report.complete)
+by_parts starts job torrent found summary old new (inr joined) = (inr joined.0, joined.0.faulty, joined.0.complete)
 
-pub jobs_done : (source : Source) (summary : Summary) (old new : Option (List ℕ)) (outcome : Result ℕ Fault) → outcome ≡ check_outcome summary
-    → (torrent : Metainfo) × (found : List FileFinding) × HasText source.is_info torrent × IsReportByParts torrent found summary
-    × Appends old new (report_text found) → IfOk outcome (Writes (IsJoinedResult source) old new)
-jobs_done source summary old new outcome is r =
-    let sums = by_parts r.0 r.1 summary r.3 in
-    subst (λ o. IfOk o (Writes (IsJoinedResult source) old new)) (sym is)
-    (outcome_written summary.faulty summary.complete (Writes (IsJoinedResult source) old new) (λ sound. record {
+pub jobs_done : {S : Type 0} (starts : S → Start → List ℕ → S → Type 0) (job : Job) (summary : Summary) (before after : S)
+    (old new : Option (List ℕ)) (outcome : Result ℕ Fault) → outcome ≡ check_outcome summary
+    → (torrent : Metainfo) × (found : List FileFinding) × HasText job.source.is_info torrent
+    × IsCheckByParts starts job torrent found summary before after × Appends old new (report_text found)
+    → IfOk outcome (Writes (IsJoinedResult job.source job.dir.now) old new)
+jobs_done starts job summary before after old new outcome is r =
+    let sums = by_parts starts job r.0 r.1 summary before after r.3 in
+    subst (λ o. IfOk o (Writes (IsJoinedResult job.source job.dir.now) old new)) (sym is)
+    (outcome_written summary.faulty summary.complete (Writes (IsJoinedResult job.source job.dir.now) old new) (λ sound. record {
       text = report_text r.1;
       written = r.4;
       is = record {
@@ -82,10 +87,10 @@ jobs_done source summary old new outcome is r =
         loaded = r.2;
         found = r.1;
         summary = summary;
-        report = r.3;
-        sound = sym sums.0 ∙ sound;
+        report = sums.0;
+        sound = sym sums.1 ∙ sound;
         lines = refl;
-        answer = ap (λ b. if b then 0 else 1) sums.1;
+        answer = ap (λ b. if b then 0 else 1) sums.2;
       };
     }))
 

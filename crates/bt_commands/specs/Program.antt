@@ -1,5 +1,5 @@
 -- What the program does with its words: the status that it exits with, the text that it writes, and what it reads.
-use Rattle.std.specs.Prelude.{◌≡◌, ◌≢◌, ℕ, ◌⊎◌, false, List, Option, None, if◌then◌else◌}
+use Rattle.std.specs.Prelude.{◌≡◌, ◌≢◌, ℕ, ◌⊎◌, Bool, false, List, Option, None, if◌then◌else◌}
 use Rattle.std.specs.Borrow.{Bor}
 use Rattle.std.specs.Io.KnownBytes.{Appends, Keeps}
 use Rattle.clap.specs.Words.{Text}
@@ -10,8 +10,10 @@ use Rattle.bt_meta.specs.Torrent.{Metainfo}
 use Rattle.bt_meta.specs.declared.writer.MakeError.TheVariants.{PieceLength}
 use Rattle.bt_replay.specs.Command.{IsReplay}
 use Rattle.bt_transfer.specs.Fetch.{IsFetch}
+use Rattle.bt_transfer.specs.FullLog.{HasFilledLog}
 use Rattle.bt_transfer.specs.Seed.{IsSeed, seed_use}
 use Rattle.bt_files.specs.Loading.{IsLogFull, IsStoreFault}
+use Rattle.bt_files.specs.declared.file_use.FileUse.{FileUse}
 use Rattle.bt_files.specs.declared.file_use.FileUse.TheVariants.{Fetch as for_fetch}
 use Rattle.bt_words.specs.CommandLine.{IsTaskOf, IsNoTaskOf}
 use Rattle.bt_check.specs.Fault.{log_full, make_fault, out_of_memory, status_of, words_fault}
@@ -23,7 +25,7 @@ use Rattle.bt_check.specs.TorrentFile.{HasText, IsLoadFault}
 use Rattle.bt_parts.specs.declared.cut.Part.{Part as PartOf}
 use Rattle.bt_parts.specs.declared.run.Run.{Run}
 use Rattle.bt_jobs.specs.Part.{IsPartReport}
-use Rattle.bt_jobs.specs.Report.{IsReportByParts}
+use Rattle.bt_jobs.specs.Report.{IsJoinedReport}
 use Rattle.bt_jobs.specs.Share.{runs_text}
 use Rattle.bt_words.specs.declared.command_line.CheckTask.{CheckTask}
 use Rattle.bt_words.specs.declared.command_line.Work.{Work}
@@ -55,25 +57,25 @@ pub record IsShowResult (source : Source) (status : ℕ) (text : List ℕ) : Typ
   pub lines : text ≡ show_text torrent
   pub answer : status ≡ 0
 
--- a torrent was read and its files were checked, no device of which failed; the text is the report's, and the
--- status says whether all are complete
-pub record IsWholeResult (source : Source) (status : ℕ) (text : List ℕ) : Type 0 where
+-- a torrent was read and its files in a folder were checked, no device of which failed; the text is the
+-- report's, and the status says whether all are complete
+pub record IsWholeResult (source : Source) (dir : List ℕ) (status : ℕ) (text : List ℕ) : Type 0 where
   pub torrent : Metainfo
   pub loaded : HasText source.is_info torrent
   pub found : List FileFinding
   pub summary : Summary
-  pub report : IsReportOn torrent found summary
+  pub report : IsReportOn dir torrent found summary
   pub sound : is_faulty_report found ≡ false
   pub lines : text ≡ report_text found
   pub answer : status ≡ (if is_complete_report found then 0 else 1)
 
--- the same, where parts told what was found of the files: of all blocks of each, each once
-pub record IsJoinedResult (source : Source) (status : ℕ) (text : List ℕ) : Type 0 where
+-- the same; or parts told what was found of the files: of all blocks of each, each once
+pub record IsJoinedResult (source : Source) (dir : List ℕ) (status : ℕ) (text : List ℕ) : Type 0 where
   pub torrent : Metainfo
   pub loaded : HasText source.is_info torrent
   pub found : List FileFinding
   pub summary : Summary
-  pub report : IsReportByParts torrent found summary
+  pub report : IsReportOn dir torrent found summary ⊎ IsJoinedReport torrent found summary
   pub sound : is_faulty_report found ≡ false
   pub lines : text ≡ report_text found
   pub answer : status ≡ (if is_complete_report found then 0 else 1)
@@ -92,7 +94,7 @@ pub record IsPartResult (source : Source) (dir : List ℕ) (part : PartOf) (stat
 -- all was checked, by one process or by several; or a part was
 abbrev pub IsWorkResult : Source → List ℕ → Work → ℕ → List ℕ → Type 0
 IsWorkResult source dir (Jobs n) status text =
-    (n ≡ 1 → IsWholeResult source status text) × (n ≢ 1 → IsJoinedResult source status text)
+    (n ≡ 1 → IsWholeResult source dir status text) × (n ≢ 1 → IsJoinedResult source dir status text)
 IsWorkResult source dir (Part part) status text = IsPartResult source dir part status text
 
 abbrev pub IsCheckResult : CheckTask → ℕ → List ℕ → Type 0
@@ -139,17 +141,20 @@ task_log (Seed task) = task.log
 task_log (Fetch task) = task.log
 task_log task = None
 
+-- Why a task over a store ends: the store is not opened; or its log, where one is asked for, was found full.
+abbrev pub IsStoreEnd : Bool → FileUse → List ℕ → Option (Bor (List ℕ)) → Fault → Type 0
+IsStoreEnd is_info usage dir log fault =
+    IsStoreFault is_info usage log fault ⊎ (IsLogFull log fault × HasFilledLog is_info usage dir log)
+
 -- a fault that can end a task: the commands on a torrent end as the reading of one can, those that write its
--- files where two of its paths are one file, and those with a log where it is refused, or full
+-- files where two of its paths are one file, and those with a log where it is refused, or was found full
 abbrev pub IsTaskFault : Task → Fault → Type 0
 IsTaskFault (Make request) fault = IsMakeEnd request fault
 IsTaskFault (Show torrent) fault = IsLoadFault torrent.is_info fault
 IsTaskFault (Check task) fault = IsLoadFault task.torrent.is_info fault
 IsTaskFault (Seed task) fault =
-    IsStoreFault task.torrent.is_info (seed_use task.service.is_read_only) task.log fault
-    ⊎ IsLogFull task.log fault
-IsTaskFault (Fetch task) fault =
-    IsStoreFault task.torrent.is_info for_fetch task.log fault ⊎ IsLogFull task.log fault
+    IsStoreEnd task.torrent.is_info (seed_use task.service.is_read_only) task.dir.now task.log fault
+IsTaskFault (Fetch task) fault = IsStoreEnd task.torrent.is_info for_fetch task.dir.now task.log fault
 IsTaskFault Replay fault = ⊥
 
 -- a fault ended a task; where it is a refusal, nothing was written, but that a task's log is full shows as
@@ -158,8 +163,8 @@ pub record IsTaskEnd (task : Task) (old new : Option (List ℕ)) (fault : Fault)
   pub cause : IsTaskFault task fault
   pub refused : status_of fault ≡ 2 → ¬ IsLogFull (task_log task) fault → Keeps old new
 
--- status 0 for help and the version, or 3 where the device failed: the kit does not say their text. A mistake
--- goes to the other stream, or there was no memory to tell it.
+-- status 0 or 3 for help and the version: the kit does not say their text. A mistake goes to the other
+-- stream, or there was no memory to tell it.
 abbrev pub IsExplanation : ErrorKind → Option (List ℕ) → Option (List ℕ) → ℕ → Type 0
 IsExplanation DisplayHelp old new status = (status ≡ 0) ⊎ (status ≡ 3)
 IsExplanation DisplayVersion old new status = (status ≡ 0) ⊎ (status ≡ 3)
@@ -177,7 +182,7 @@ pub data IsRun (words : List Text) (given left old new : Option (List ℕ)) (sta
   no_task : (kind : ErrorKind) → IsNoTaskOf words kind
       → IsExplanation kind old new status → IsRun words given left old new status
 
--- the words ask for a task with a log, and the log was full, which ended it
+-- the words ask for a task with a log, and the log was found full, which ended it
 pub record FillsLog (words : List Text) (old new : Option (List ℕ)) : Type 0 where
   pub task : Task
   pub asked : IsTaskOf words task

@@ -231,8 +231,8 @@ fn perform_whole<R: Files + AllocGlobal + Clone + Drop, P: Watch, O: Write>(
     task: CheckTask<'_>,
     writer: &mut O,
 ) -> Result<u8, Fault>
-    ensures done { IfOk result
-        (Writes (IsWholeResult task.entry.torrent) (O.contents writer.old) (O.contents writer.new)) }
+    ensures done { IfOk result (Writes (IsWholeResult task.entry.torrent task.entry.dir.now)
+        (O.contents writer.old) (O.contents writer.new)) }
     ensures ended { IfErr result
         (IsTaskEnd (Check task.entry) (O.contents writer.old) (O.contents writer.new)) }
 {
@@ -251,8 +251,8 @@ fn perform_jobs<R: Files + AllocGlobal + Clone + Drop, N: Processes, P: Watch, O
     count: u32,
     writer: &mut O,
 ) -> Result<u8, Fault>
-    ensures done { IfOk result
-        (Writes (IsJoinedResult task.entry.torrent) (O.contents writer.old) (O.contents writer.new)) }
+    ensures done { IfOk result (Writes (IsJoinedResult task.entry.torrent task.entry.dir.now)
+        (O.contents writer.old) (O.contents writer.new)) }
     ensures ended { IfErr result
         (IsTaskEnd (Check task.entry) (O.contents writer.old) (O.contents writer.new)) }
 {

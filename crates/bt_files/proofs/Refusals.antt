@@ -10,7 +10,7 @@ use Rattle.bt_disk.specs.declared.opening.FileIdentity.{FileIdentity}
 use Rattle.bt_folder.specs.CasePaths.{HasNoPath}
 use Rattle.bt_folder.specs.KnownFiles.{IsKnown}
 use Rattle.bt_folder.specs.declared.known_files.KnownFiles.{KnownFiles}
-use Rattle.bt_folder.proofs.Twins.{none_yet}
+use Rattle.bt_folder.proofs.Looks.{none_yet}
 use Rattle.bt_machine.proofs.Lists.{contains_cases, contains_none, here}
 use Rattle.bt_meta.specs.Files.{file_of}
 use Rattle.bt_meta.specs.declared.torrent.FileEntry.{FileEntry}

@@ -1,5 +1,5 @@
 -- The engine that a store is opened with.
-use Rattle.std.specs.Prelude.{[], ◌≡◌, ◌≢◌, ◌⊎◌, ℕ, Bool, false, List, length, Option, None, Some}
+use Rattle.std.specs.Prelude.{[], ◌≡◌, ◌≢◌, ◌⊎◌, ℕ, Bool, false, List, length, Option, None, Some, Result, Ok, Err}
 use Rattle.std.specs.Borrow.{Bor}
 use Rattle.sha2.specs.Sha256.{sha256}
 use Rattle.bt_devices.specs.Disk.{ahead_conduct}
@@ -9,9 +9,12 @@ use Rattle.bt_meta.specs.Torrent.{Metainfo}
 use Rattle.bt_resume.specs.ResumeLog.{LogView}
 use Rattle.bt_machine.specs.declared.error.FlushError.{FlushError}
 use Rattle.bt_machine.specs.declared.error.FlushError.TheVariants.{Device, LogFull}
+use Rattle.bt_machine.specs.declared.event.Event.TheVariants.{Flush}
+use Rattle.bt_machine.specs.declared.event.Answer.TheVariants.{Flushed}
 use Rattle.bt_machine.specs.Opening.{BeginsOn}
 use Rattle.bt_machine.specs.Start.{AreDevicesOf}
 use Rattle.bt_machine.specs.State.{EngineState, EngineView}
+use Rattle.bt_machine.specs.View.{StepsTo}
 use Rattle.bt_files.specs.Adoption.{TakesIn}
 use Rattle.bt_engine.specs.Leads.{LeadsTo}
 use Rattle.bt_devices.specs.SealedDisk.{sealed_conduct}
@@ -20,7 +23,7 @@ use Rattle.bt_check.specs.Fault.{device, log_full}
 use Rattle.bt_check.specs.declared.fault.Fault.{Fault}
 use Rattle.bt_files.specs.DataFiles.{AreFilled, AreNewDevices, DeviceView}
 use Rattle.bt_files.specs.FileUse.{is_read_only}
-use Rattle.bt_files.specs.OpenFolder.{IsOpeningFault, KnowsOpened}
+use Rattle.bt_files.specs.OpenFolder.{IsCallFault, IsOpeningFault, KnowsOpened}
 use Rattle.bt_files.specs.OwnFiles.{AreApart, AreKnown}
 use Rattle.bt_files.specs.StoreLog.{IsLogAt, IsLogFaultAt, IsLookFault}
 use Rattle.bt_files.specs.declared.file_use.FileUse.{FileUse}
@@ -60,6 +63,18 @@ flush_fault LogFull = log_full
 -- that of an engine with this log, or without one: then none is full
 abbrev pub IsFlushFault : {D : Type 0} → Option (LogView D) → Fault → Type 0
 IsFlushFault log fault = (fault ≡ device) ⊎ ((fault ≡ log_full) × (log ≢ None))
+
+-- what is told with a flush that answered so: its own fault, where it was refused, else that of a call beside it
+abbrev pub IsToldWith : Result (Unit {0}) FlushError → Fault → Type 0
+IsToldWith (Ok done) fault = IsCallFault fault
+IsToldWith (Err error) fault = fault ≡ flush_fault error
+
+-- A flush was the last that was done, and this fault is told with it.
+pub record FailsWithFlush {D : Type 0} (conduct : Conduct D)
+    (dig : List ℕ → List ℕ) (old : EngineView D) (fault : Fault) (new : EngineView D) : Type 0 where
+  pub answer : Result (Unit {0}) FlushError
+  pub flushed : StepsTo conduct dig old Flush (Flushed answer) new
+  pub told : IsToldWith answer fault
 
 -- ---- the devices of data files, as `Disk` has them
 

@@ -2,6 +2,7 @@
 ghost use Rattle.std.specs.Prelude.{IfErr, IfOk};
 ghost use Rattle.bt_engine.specs.Leads.{LeadsTo};
 ghost use Rattle.bt_files.specs.Ending.{IsConcluded, IsEndFault};
+ghost use Rattle.bt_files.specs.Store.{FailsWithFlush};
 
 use crate::report::write_report;
 use crate::store::finish;
@@ -22,6 +23,8 @@ pub fn conclude<D: Disk + Drop, H: NodeHash, W: Write>(
 ) -> Result<u8, Fault>
     ensures concluded { IfOk result (λ status. IsConcluded D.conduct H.digest engine.old
         (W.contents writer.old) (W.contents writer.new) status engine.new) }
+    ensures failed { IfErr result
+        (λ fault. FailsWithFlush D.conduct H.digest engine.old fault engine.new) }
     ensures run { LeadsTo D.conduct H.digest engine.old engine.new }
     ensures fault { IfErr result (IsEndFault engine.old.log) }
 {

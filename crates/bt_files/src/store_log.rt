@@ -16,7 +16,7 @@ use bt_tree::NodeHash;
 use std::rt::Files;
 
 /// Refuses the file of a log where a look shows that it is one of the torrent's, before any of them is opened or made.
-pub(crate) fn look_at_log<R: Files + AllocGlobal>(
+pub(crate) fn look_at_log<R: Files + AllocGlobal + Clone + Drop>(
     rt: &R,
     dir: &str,
     torrent: &Torrent,

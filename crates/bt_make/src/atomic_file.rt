@@ -102,7 +102,7 @@ fn replace_target<R: Files + AllocGlobal, P: Watch>(
     match put_in_place(rt, watch, part.as_str(), path, written) {
         Ok(()) => {
             let outcome = sync_folder(rt, folder.as_str());
-            told(rt.alloc(), watch, FileCall::Sync, path, outcome)
+            told(rt.alloc(), watch, FileCall::Sync, folder.as_str(), outcome)
         }
         Err(fault) => {
             let _ = fs::remove_file(rt, part.as_str());

@@ -3,7 +3,6 @@ use Rattle.std.proofs.Common.{◌≡◌, ℕ, List, Result, Ok, Err, refl}
 use Rattle.std.specs.Prelude.{IfErr, OnOk}
 use Rattle.bt_disk.specs.Conduct.{Conduct}
 use Rattle.bt_check.specs.declared.fault.Fault.{Fault}
-use Rattle.bt_files.specs.OpenFolder.{IsCallFault}
 use Rattle.bt_files.specs.Store.{flush_fault}
 use Rattle.bt_machine.specs.State.{EngineView}
 use Rattle.bt_machine.specs.View.{StepsTo}
@@ -12,7 +11,7 @@ use Rattle.bt_machine.specs.declared.event.Event.TheVariants.{Flush}
 use Rattle.bt_machine.specs.declared.event.Answer.TheVariants.{Flushed}
 use Rattle.bt_session.specs.declared.peer_end.PeerEnd.{PeerEnd}
 use Rattle.bt_transfer.specs.Fetch.{TriesAndSyncs, Turns, behind, among}
-use Rattle.bt_transfer.specs.FetchSteps.{BreaksOff, FailsToSync, refused, unwritten}
+use Rattle.bt_transfer.specs.FetchSteps.{BreaksOff, FailsToSync, refused}
 use Rattle.bt_transfer.proofs.EndFaults.{of_fault}
 
 module _ {D L : Type 0} (InTurns : Turns D L) (conduct : Conduct D) (dig : List ℕ → List ℕ)
@@ -42,11 +41,3 @@ module _ {D L : Type 0} (InTurns : Turns D L) (conduct : Conduct D) (dig : List 
       → BreaksOff InTurns conduct dig old links rest fault new
   broke_off new result fault is failed =
       refused ends (of_fault result fault (λ told. FailsToSync InTurns conduct dig old links ends rest told new) is failed)
-
-  -- nor where the peers' lines can't be written, whatever that flush answered
-  pub not_written : (new : EngineView D) (result : Result (Unit {0}) Fault) (fault : Fault)
-      → OnOk result (TriesAndSyncs InTurns conduct dig old links ends rest (Ok tt) new)
-      → IfErr result (λ told. FailsToSync InTurns conduct dig old links ends rest told new)
-      → IsCallFault fault → BreaksOff InTurns conduct dig old links rest fault new
-  not_written new (Ok done) fault well failed call = unwritten ends (Ok tt) well call
-  not_written new (Err told) fault well failed call = unwritten ends (Err failed.error) failed.tried call

@@ -5,6 +5,7 @@ pub mod Listening
 pub mod Flushes
 pub mod RefusedFlushes
 pub mod EndFaults
+pub mod FullLogs
 pub mod FailedServing
 pub mod WholeRuns
 pub mod Uses

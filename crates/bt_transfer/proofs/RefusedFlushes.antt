@@ -1,17 +1,16 @@
--- Why a flush among peers in turn is refused: by a full log only where there is one.
-use Rattle.std.proofs.Common.{◌≡◌, inl, inr, ℕ, Bool, true, false, List, Option, Some, None, Result, Ok, Err, refl, ap, subst, ◌∙◌}
+-- Why a flush among peers in turn is refused, and what leads to it.
+use Rattle.std.proofs.Common.{◌≡◌, ℕ, Bool, true, false, List, Option, Some, None, Result, Ok, Err, refl, subst, sym}
 use Rattle.std.specs.Prelude.{◌==◌, not}
 use Rattle.bt_disk.specs.Conduct.{Conduct}
-use Rattle.bt_resume.specs.ResumeLog.{LogView}
+use Rattle.bt_check.specs.Fault.{log_full}
 use Rattle.bt_check.specs.declared.fault.Fault.{Fault}
 use Rattle.bt_machine.specs.declared.error.FlushError.{FlushError}
 use Rattle.bt_machine.specs.declared.event.Event.{Event}
 use Rattle.bt_machine.specs.declared.event.Event.TheVariants.{Connect, Feed, Next, Lost, Rechoke, Adopt, Flush, Restart}
-use Rattle.bt_machine.specs.declared.event.Answer.{Answer}
 use Rattle.bt_machine.specs.declared.event.Answer.TheVariants.{Flushed}
-use Rattle.bt_machine.specs.LogCalls.{LogCall, HaveLogCalls}
 use Rattle.bt_machine.specs.State.{EngineView}
 use Rattle.bt_machine.specs.View.{StepsTo}
+use Rattle.bt_engine.specs.Leads.{LeadsTo, none, one, both}
 use Rattle.bt_session.specs.Session.{Session, begins, goes_on}
 use Rattle.bt_session.specs.declared.end.SessionEnd.{SessionEnd}
 use Rattle.bt_session.specs.declared.peer_end.PeerEnd.{PeerEnd}
@@ -19,65 +18,57 @@ use Rattle.bt_session.specs.declared.peer_end.PeerEnd.TheVariants.{Untried, Unre
 use Rattle.bt_session.specs.Peer.{HasSessionWithFlushes, IsFlushedWhere, IsFlushedSession, behind, within, EndsAsWithFlushes}
 use Rattle.bt_session.specs.Peers.{InTurnWithFlushes, IsTriedWithFlushes}
 use Rattle.bt_session.specs.Peers.InTurnWithFlushes.{none_left, complete, tried, stopped}
+use Rattle.bt_session.proofs.Sessions.{flush_leads, session_leads}
+use Rattle.bt_session.proofs.Standing.{no_restart}
 use Rattle.bt_files.specs.Store.{IsFlushFault, flush_fault}
-use Rattle.bt_files.proofs.Unlogged.{flush_fails}
-
--- where there is no log now because there was none before, a full log shows that there was one before
-fault_before : {D : Type 0} (old mid : Option (LogView D)) (fault : Fault) → (old ≡ None → mid ≡ None) → IsFlushFault mid fault → IsFlushFault old fault
-fault_before old mid fault stays (inl failed) = inl failed
-fault_before old mid fault stays (inr full) = inr (full.0, λ none. full.1 (stays none))
+use Rattle.bt_files.proofs.Unlogged.{flush_fails, flush_fault_before}
+use Rattle.bt_transfer.specs.FullLog.{FindsLogFull}
+use Rattle.bt_transfer.proofs.FullLogs.{refused_full}
 
 module _ {D : Type 0} (conduct : Conduct D) (dig : List ℕ → List ℕ) where
-  -- ---- no event gives an engine a log
+  -- ---- events lead on
 
-  none_after : (old new : Option (LogView D)) (calls : List LogCall) → HaveLogCalls conduct old calls new → old ≡ None → new ≡ None
-  none_after None None calls made none = refl
-  none_after None (Some new) calls made none = absurd made
-  none_after (Some old) new calls made none = absurd cc
+  events_lead : {key until every first events answers last now : _} → Session conduct dig key until every first events answers last now
+      → LeadsTo conduct dig first now
+  events_lead {first = first} (begins out answer now is step) = one first now Connect answer (λ e. absurd cc) step
+  events_lead {key} {until} {every} {first} (goes_on events answers last answer event mid now session follows step) =
+      both first mid now (events_lead session) (one mid now event answer (no_restart key until every _ mid.state last event follows) step)
 
-  step_unlogged : {old new : EngineView D} {event : Event} {answer : Answer} → StepsTo conduct dig old event answer new
-      → old.log ≡ None → new.log ≡ None
-  step_unlogged {old} {new} step none = none_after old.log new.log step.calls.log step.logged none
+  whole_leads : {until every turns remaining contents : _} {old new : EngineView D} {end : Result SessionEnd FlushError}
+      → HasSessionWithFlushes conduct dig until every turns remaining contents old end new → LeadsTo conduct dig old new
+  whole_leads {until} {every} {turns} {remaining} {contents} {old} {new} {end} has =
+      session_leads conduct dig until every turns old new end remaining has.left contents has.written has.session
 
-  session_unlogged : {key until every : _} {first now : EngineView D} {events answers last : _}
-      → Session conduct dig key until every first events answers last now → first.log ≡ None → now.log ≡ None
-  session_unlogged (begins out answer now is step) none = step_unlogged step none
-  session_unlogged (goes_on events answers last answer event mid now session follows step) none = step_unlogged step (session_unlogged session none)
+  where_leads : (flushes : Bool) (old new : EngineView D) (answer : Result (Unit {0}) FlushError)
+      → IsFlushedWhere conduct dig flushes old answer new → LeadsTo conduct dig old new
+  where_leads true old new answer step = flush_leads conduct dig old new answer step
+  where_leads false old new answer same = subst (LeadsTo conduct dig old) (sym same.1) (none old)
 
-  whole_unlogged : {until every turns remaining contents : _} {old new : EngineView D} {end : Result SessionEnd FlushError}
-      → HasSessionWithFlushes conduct dig until every turns remaining contents old end new → old.log ≡ None → new.log ≡ None
-  whole_unlogged has none = step_unlogged has.session.removal (session_unlogged has.session.ended.ran.session none)
+  flushed_leads : {until turns remaining contents : _} (every : ℕ) (old new : EngineView D) (end : SessionEnd) (answer : Result (Unit {0}) FlushError)
+      → IsFlushedSession conduct dig until every turns remaining contents old end answer new → LeadsTo conduct dig old new
+  flushed_leads every old new end answer (behind mid has flushed) =
+      both old mid new (whole_leads has) (where_leads (not (every == 0)) mid new answer flushed)
+  flushed_leads every old new end answer (within error has ends answers) = whole_leads has
 
-  where_unlogged : (flushes : Bool) (old new : EngineView D) (answer : Result (Unit {0}) FlushError)
-      → IsFlushedWhere conduct dig flushes old answer new → old.log ≡ None → new.log ≡ None
-  where_unlogged true old new answer step none = step_unlogged step none
-  where_unlogged false old new answer same none = ap (λ (e : EngineView D). e.log) same.1 ∙ none
-
-  flushed_unlogged : {until turns remaining contents : _} (every : ℕ) (old new : EngineView D) (end : SessionEnd) (answer : Result (Unit {0}) FlushError)
-      → IsFlushedSession conduct dig until every turns remaining contents old end answer new → old.log ≡ None → new.log ≡ None
-  flushed_unlogged every old new end answer (behind mid has flushed) none =
-      where_unlogged (not (every == 0)) mid new answer flushed (whole_unlogged has none)
-  flushed_unlogged every old new end answer (within error has ends answers) none = whole_unlogged has none
-
-  end_unlogged : {R W : Type 0} (remaining : R → Option (List ℕ)) (contents : W → Option (List ℕ)) (until : Bool) (every turns : ℕ) (reached : Option (R × W))
+  end_leads : {R W : Type 0} (remaining : R → Option (List ℕ)) (contents : W → Option (List ℕ)) (until : Bool) (every turns : ℕ) (reached : Option (R × W))
       (old new : EngineView D) (end : PeerEnd) (answer : Result (Unit {0}) FlushError)
-      → EndsAsWithFlushes conduct dig remaining contents until every turns reached old end answer new → old.log ≡ None → new.log ≡ None
-  end_unlogged remaining contents until every turns None old new Unreachable answer e none = ap (λ (v : EngineView D). v.log) e.1 ∙ none
-  end_unlogged remaining contents until every turns None old new Untried answer e none = absurd e
-  end_unlogged remaining contents until every turns None old new (Refused error) answer e none = absurd e
-  end_unlogged remaining contents until every turns None old new (HadSession end) answer e none = absurd e
-  end_unlogged remaining contents until every turns (Some ways) old new Untried answer e none = absurd e
-  end_unlogged remaining contents until every turns (Some ways) old new Unreachable answer e none = absurd e
-  end_unlogged remaining contents until every turns (Some ways) old new (Refused error) answer e none = ap (λ (v : EngineView D). v.log) e.2 ∙ none
-  end_unlogged remaining contents until every turns (Some ways) old new (HadSession end) answer e none = flushed_unlogged every old new end answer e none
+      → EndsAsWithFlushes conduct dig remaining contents until every turns reached old end answer new → LeadsTo conduct dig old new
+  end_leads remaining contents until every turns None old new Unreachable answer e = subst (LeadsTo conduct dig old) (sym e.1) (none old)
+  end_leads remaining contents until every turns None old new Untried answer e = absurd e
+  end_leads remaining contents until every turns None old new (Refused error) answer e = absurd e
+  end_leads remaining contents until every turns None old new (HadSession end) answer e = absurd e
+  end_leads remaining contents until every turns (Some ways) old new Untried answer e = absurd e
+  end_leads remaining contents until every turns (Some ways) old new Unreachable answer e = absurd e
+  end_leads remaining contents until every turns (Some ways) old new (Refused error) answer e = subst (LeadsTo conduct dig old) (sym e.2) (none old)
+  end_leads remaining contents until every turns (Some ways) old new (HadSession end) answer e = flushed_leads every old new end answer e
 
   -- ---- the flush that was refused
 
-  -- behind events from this engine on, none of which gave it a log, a flush was refused so
+  -- behind events from this engine on a flush was refused so
   record RefusesLater (old : EngineView D) (error : FlushError) : Type 0 where
     pub mid : EngineView D
     pub new : EngineView D
-    pub unlogged : old.log ≡ None → mid.log ≡ None
+    pub led : LeadsTo conduct dig old mid
     pub step : StepsTo conduct dig mid Flush (Flushed (Err error)) new
 
   -- only a flush is answered so
@@ -98,7 +89,7 @@ module _ {D : Type 0} (conduct : Conduct D) (dig : List ℕ → List ℕ) where
   session_refused error (goes_on events answers last answer event mid now session follows step) refused = record {
     mid = mid;
     new = now;
-    unlogged = session_unlogged session;
+    led = events_lead session;
     step = is_flush event mid now error (subst (λ a. StepsTo conduct dig mid event a now) refused step);
   }
 
@@ -112,7 +103,7 @@ module _ {D : Type 0} (conduct : Conduct D) (dig : List ℕ → List ℕ) where
   flushed_refused every old new end error (behind mid has flushed) = record {
     mid = mid;
     new = new;
-    unlogged = whole_unlogged has;
+    led = whole_leads has;
     step = where_refused (not (every == 0)) mid new error flushed;
   }
   flushed_refused every old new end error (within other has ends answers) =
@@ -143,7 +134,7 @@ module _ {D : Type 0} (conduct : Conduct D) (dig : List ℕ → List ℕ) where
         let refuses : RefusesLater mid error = turns_refused error later is in record {
           mid = refuses.mid;
           new = refuses.new;
-          unlogged = λ none. refuses.unlogged (end_unlogged remaining contents true every turns t.reached old mid end (Ok tt) t.ended none);
+          led = both old mid refuses.mid (end_leads remaining contents true every turns t.reached old mid end (Ok tt) t.ended) refuses.led;
           step = refuses.step;
         }
     turns_refused error (stopped old new link after end links other not_done t) is =
@@ -155,5 +146,12 @@ module _ {D : Type 0} (conduct : Conduct D) (dig : List ℕ → List ℕ) where
         → IsFlushFault old.log (flush_fault error)
     turns_fault old new links rest ends error in_turn =
         let refuses : RefusesLater old error = turns_refused error in_turn refl in
-        fault_before old.log refuses.mid.log (flush_fault error) refuses.unlogged
-        (flush_fails conduct dig refuses.mid refuses.new error refuses.step)
+        flush_fault_before conduct dig refuses.led (flush_fault error) (flush_fails conduct dig refuses.mid refuses.new error refuses.step)
+
+    -- by a full log
+    pub turns_full : (old new : EngineView D) (links rest : List L) (ends : List PeerEnd) (error : FlushError) (fault : Fault)
+        → InTurnWithFlushes (IsTriedWithFlushes conduct dig dials failures gives remaining contents every turns) old links ends rest (Err error) new
+        → fault ≡ flush_fault error → fault ≡ log_full → FindsLogFull conduct dig old
+    turns_full old new links rest ends error fault in_turn told full =
+        let refuses : RefusesLater old error = turns_refused error in_turn refl in
+        refused_full conduct dig old refuses.mid refuses.new error fault refuses.led refuses.step told full

@@ -1,14 +1,12 @@
 -- Connections that are served one after the other.
-use Rattle.std.specs.Prelude.{[], ◌≡◌, ◌⊎◌, ℕ, ◌∷◌, ◌++◌, List, Ok, Err, Option, Result, codes, length}
+use Rattle.std.specs.Prelude.{[], ◌≡◌, ℕ, ◌∷◌, ◌++◌, List, Ok, Option, codes, length}
 use Rattle.std.specs.Fmt.{decimal}
 use Rattle.std.specs.Io.KnownBytes.{Appends}
 use Rattle.std.specs.List.{enumerate_from, flat_map}
 use Rattle.bt_check.specs.Display.{line_text}
 use Rattle.bt_check.specs.declared.fault.Fault.{Fault}
 use Rattle.bt_disk.specs.Conduct.{Conduct}
-use Rattle.bt_files.specs.OpenFolder.{IsCallFault}
-use Rattle.bt_files.specs.Store.{flush_fault}
-use Rattle.bt_machine.specs.declared.error.FlushError.{FlushError}
+use Rattle.bt_files.specs.Store.{FailsWithFlush}
 use Rattle.bt_machine.specs.declared.event.Event.TheVariants.{Flush}
 use Rattle.bt_machine.specs.declared.event.Answer.TheVariants.{Flushed}
 use Rattle.bt_machine.specs.State.{EngineView}
@@ -24,20 +22,13 @@ pub data InSeries {D : Type 0} (Meet : Meeting D) : EngineView D → List PeerEn
   one_more : (old mid new : EngineView D) (ends : List PeerEnd) (end : PeerEnd)
       → InSeries Meet old ends mid → Meet mid end new → InSeries Meet old (ends ++ end ∷ []) new
 
--- a flush that answered so was refused, which is told as this fault
-abbrev pub IsRefusedAs : Result (Unit {0}) FlushError → Fault → Type 0
-IsRefusedAs (Ok done) fault = ⊥
-IsRefusedAs (Err error) fault = fault ≡ flush_fault error
-
--- Serving fails: events led on from the old engine, and the last thing was a flush, whatever it answered. The fault is
--- that of this flush, where it was refused, or of a call before it.
+-- Serving fails: events led on from the old engine, and the last thing was a flush. The fault is that of this flush,
+-- where it was refused; where it was made, that of a call.
 pub record FailsToServe {D : Type 0} (conduct : Conduct D)
     (dig : List ℕ → List ℕ) (old : EngineView D) (fault : Fault) (new : EngineView D) : Type 0 where
   pub mid : EngineView D
   pub led : LeadsTo conduct dig old mid
-  pub answer : Result (Unit {0}) FlushError
-  pub flushed : StepsTo conduct dig mid Flush (Flushed answer) new
-  pub cause : IsCallFault fault ⊎ IsRefusedAs answer fault
+  pub ended : FailsWithFlush conduct dig mid fault new
 
 -- ---- lines
 

@@ -3,4 +3,5 @@ pub mod OverTcp
 pub mod Fetch
 pub mod FetchSteps
 pub mod Connections
+pub mod FullLog
 pub mod Seed

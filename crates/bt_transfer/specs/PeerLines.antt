@@ -2,7 +2,7 @@
 use Rattle.std.specs.Prelude.{[], ℕ, ◌++◌, if◌then◌else◌, Bool, true, false, List, codes}
 use Rattle.std.specs.Fmt.{decimal}
 use Rattle.std.specs.List.{flat_map, zip}
-use Rattle.bt_check.specs.Display.{line_text}
+use Rattle.bt_check.specs.Display.{display_text, line_text}
 use Rattle.bt_session.specs.PeerEnd.{end_text}
 use Rattle.bt_session.specs.declared.peer_end.PeerEnd.{PeerEnd}
 use Rattle.bt_session.specs.declared.peer_end.PeerEnd.TheVariants.{Untried}
@@ -12,10 +12,11 @@ abbrev pub is_tried : PeerEnd → Bool
 is_tried Untried = false
 is_tried _ = true
 
--- where the peer is reached, and how it ended with it
+-- where the peer is reached, its host printed as a name is, and how it ended with it
 abbrev pub peer_line : Peer → PeerEnd → List ℕ
 peer_line peer end =
-    line_text (codes "peer " ++ peer.host.now ++ codes ":" ++ decimal peer.port ++ codes " " ++ end_text end)
+    line_text (codes "peer " ++ display_text peer.host.now ++ codes ":" ++ decimal peer.port
+    ++ codes " " ++ end_text end)
 
 -- nothing is told of a peer that was not tried
 abbrev pub peer_text : Peer → PeerEnd → List ℕ

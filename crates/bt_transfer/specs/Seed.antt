@@ -1,51 +1,43 @@
 -- What a seed comes to.
-use Rattle.std.specs.Prelude.{◌≡◌, ◌≢◌, ℕ, ◌-◌, ◌^◌, ◌++◌, ◌⊎◌, Bool, true, false, List, Ok, Err, Option, codes}
+use Rattle.std.specs.Prelude.{◌≡◌, ◌≢◌, ℕ, ◌-◌, ◌^◌, ◌++◌, ◌⊎◌, Bool, true, false, List, Ok, Option, codes}
 use Rattle.std.specs.Borrow.{Bor}
 use Rattle.std.specs.Fmt.{decimal}
 use Rattle.std.specs.Io.KnownBytes.{Appends}
-use Rattle.sha2.specs.Sha256.{sha256}
 use Rattle.bt_check.specs.Display.{line_text}
 use Rattle.bt_check.specs.declared.fault.Fault.{Fault}
 use Rattle.bt_disk.specs.Conduct.{Conduct}
 use Rattle.bt_resume.specs.ResumeLog.{LogView}
-use Rattle.bt_machine.specs.declared.error.FlushError.TheVariants.{LogFull}
 use Rattle.bt_machine.specs.declared.event.Event.TheVariants.{Flush}
 use Rattle.bt_machine.specs.declared.event.Answer.TheVariants.{Flushed}
 use Rattle.bt_machine.specs.Opening.{BeginsOn}
 use Rattle.bt_machine.specs.State.{EngineView}
 use Rattle.bt_machine.specs.View.{StepsTo}
 use Rattle.bt_meta.specs.Torrent.{Metainfo}
-use Rattle.bt_engine.specs.Leads.{LeadsTo}
 use Rattle.bt_engine.specs.WholeRuns.{HasWholeRun}
 use Rattle.bt_files.specs.DataFiles.{DeviceView}
 use Rattle.bt_files.specs.OpenFolder.{IsCallFault}
 use Rattle.bt_files.specs.Report.{engine_report}
-use Rattle.bt_files.specs.Store.{device_conduct}
 use Rattle.bt_files.specs.declared.file_use.FileUse.{FileUse}
 use Rattle.bt_files.specs.declared.file_use.FileUse.TheVariants.{ReadOnly, Seed}
 use Rattle.bt_machine.specs.Report.{all_complete}
 use Rattle.bt_transfer.specs.Connections.{FailsToServe, HasServed, MeetsAndSyncs}
 use Rattle.bt_files.specs.Loading.{IsLoaded}
-use Rattle.bt_transfer.specs.OverTcp.{MeetsOverTcp}
 use Rattle.bt_words.specs.declared.peer.Service.{Service}
 use Rattle.bt_words.specs.declared.peer.Serving.{Serving}
 use Rattle.bt_words.specs.declared.peer.Serving.TheVariants.{Count, Forever}
 
--- so many connections were served, and then all devices were synced
-pub record HasServedCount {D : Type 0} (conduct : Conduct D)
-    (dig : List ℕ → List ℕ) (count : ℕ) (old : EngineView D) (before after : Option (List ℕ))
+-- how many connections are served: where no count is given, all that can be numbered
+abbrev pub connection_count : Serving → ℕ
+connection_count (Count count) = count
+connection_count Forever = 2 ^ 64 - 1
+
+-- So many were served, behind each all devices were synced, and so they were at the end: also where it was none.
+pub record HasServedAll {D : Type 0} (conduct : Conduct D)
+    (dig : List ℕ → List ℕ) (serving : Serving) (old : EngineView D) (before after : Option (List ℕ))
     (new : EngineView D) : Type 0 where
   pub mid : EngineView D
-  pub served : HasServed (MeetsOverTcp conduct dig) count old before after mid
+  pub served : HasServed (MeetsAndSyncs conduct dig) (connection_count serving) old before after mid
   pub synced : StepsTo conduct dig mid Flush (Flushed (Ok tt)) new
-
--- Where no count is given, all are served that can be numbered, and behind each all devices are synced.
-abbrev pub HasServedAll : {D : Type 0} → Conduct D → (List ℕ → List ℕ)
-    → Serving → EngineView D → (before after : Option (List ℕ)) → EngineView D → Type 0
-HasServedAll conduct dig (Count count) old before after new =
-    HasServedCount conduct dig count old before after new
-HasServedAll conduct dig Forever old before after new =
-    HasServed (MeetsAndSyncs conduct dig) (2 ^ 64 - 1) old before after new
 
 -- the port at which connections are waited for
 abbrev pub listening_line : ℕ → List ℕ
@@ -115,13 +107,3 @@ abbrev pub IsSeed : Bool → List ℕ → Service → (log : Option (Bor (List �
 IsSeed is_info dir service log before after status =
     HasSeeded is_info dir service log before after status
     ⊎ HasNotSeeded is_info dir service log before after status
-
--- The store was opened so, events led on from its engine, and the last thing was a flush that found the log full.
-pub record HasFilledLog (is_info : Bool) (dir : List ℕ) (service : Service) (log : Option (Bor (List ℕ)))
-    : Type 0 where
-  pub store : EngineView DeviceView
-  pub loaded : IsLoaded is_info (seed_use service.is_read_only) dir log store
-  pub mid : EngineView DeviceView
-  pub led : LeadsTo device_conduct sha256 store mid
-  pub last : EngineView DeviceView
-  pub full : StepsTo device_conduct sha256 mid Flush (Flushed (Err LogFull)) last

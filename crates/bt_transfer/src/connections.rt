@@ -1,5 +1,5 @@
 //! Connections that are served one after the other, each with its line.
-ghost use Rattle.std.specs.Prelude.{[], ◌≡◌, ◌⊎◌, ◌++◌, ◌-◌, ◌^◌, IfErr, IfOk, OnOk, string_bytes};
+ghost use Rattle.std.specs.Prelude.{[], ◌≡◌, ◌⊎◌, ◌++◌, Ok, Err, IfErr, IfOk, OnOk, string_bytes};
 ghost use Rattle.std.specs.Io.KnownBytes.{Appends};
 ghost use Rattle.bt_check.specs.Fault.{device, out_of_memory};
 ghost use Rattle.bt_files.specs.Ending.{IsEndFault};
@@ -20,52 +20,33 @@ use std::io::Write;
 use std::net::Net;
 use std::time::{Clock, Duration};
 
-/// Serves so many connections, one after the other, and writes how it ended with each.
-pub(crate) fn serve_count<D: Disk + Drop, H: NodeHash, N: Net + Clock, W: Write>(
+/// Serves so many connections, one after the other, whatever came of those before; behind each it has all put on the
+/// devices, and into the log, and then writes how it ended with it.
+pub(crate) fn serve_each<D: Disk + Drop, H: NodeHash, N: Net + Clock, W: Write>(
     alloc: Global,
     reception: &Reception<'_, N>,
     engine: &mut Engine<D, H>,
-    count: u32,
+    count: u64,
     writer: &mut W,
 ) -> Result<(), Fault>
     requires no_peer { engine.old.state.peers ≡ [] }
-    ensures served { OnOk result (HasServed (MeetsOverTcp D.conduct H.digest) count
-        engine.old (W.contents writer.old) (W.contents writer.new) engine.new) }
-    ensures run { LeadsTo D.conduct H.digest engine.old engine.new }
-    ensures fault { IfErr result (λ fault. (fault ≡ device) ⊎ (fault ≡ out_of_memory)) }
-{
-    for number in 0..count {
-        let next = u64::from(number) + 1;
-        serve_next(alloc, reception, engine, next, writer)?;
-    }
-    Ok(())
-}
-
-/// Serves one connection after the other, whatever came of those before; writes how it ended with each, and
-/// then has all put on the devices, and into the log.
-pub(crate) fn serve_forever<D: Disk + Drop, H: NodeHash, N: Net + Clock, W: Write>(
-    alloc: Global,
-    reception: &Reception<'_, N>,
-    engine: &mut Engine<D, H>,
-    writer: &mut W,
-) -> Result<(), Fault>
-    requires no_peer { engine.old.state.peers ≡ [] }
-    ensures served { OnOk result (HasServed (MeetsAndSyncs D.conduct H.digest) (2 ^ 64 - 1)
+    ensures served { OnOk result (HasServed (MeetsAndSyncs D.conduct H.digest) count
         engine.old (W.contents writer.old) (W.contents writer.new) engine.new) }
     ensures kept { IfErr result
         (λ fault. FailsToServe D.conduct H.digest engine.old fault engine.new) }
     ensures run { LeadsTo D.conduct H.digest engine.old engine.new }
     ensures fault { IfErr result (IsEndFault engine.old.log) }
 {
-    for number in 0..u64::MAX {
+    for number in 0..count {
         let next = number + 1;
         serve_and_sync(alloc, reception, engine, next, writer)?;
     }
     Ok(())
 }
 
-/// Serves a connection, as `serve_next` does, and then has all put on the devices, and into the log. Errors: also
-/// where a device failed, or the log is full.
+/// Serves a connection, which has this number; has all put on the devices, and into the log, also where none could be
+/// taken; and then writes how it ended. Errors: none could be taken; a device or the writer failed; out of memory; the
+/// log is full. Where a flush is refused, that is told, behind the line.
 fn serve_and_sync<D: Disk + Drop, H: NodeHash, N: Net + Clock, W: Write>(
     alloc: Global,
     reception: &Reception<'_, N>,
@@ -84,34 +65,12 @@ fn serve_and_sync<D: Disk + Drop, H: NodeHash, N: Net + Clock, W: Write>(
     ensures run { LeadsTo D.conduct H.digest engine.old engine.new }
     ensures fault { IfErr result (IsEndFault engine.old.log) }
 {
-    let served = serve_next(alloc, reception, engine, number, writer);
+    let met = serve_one(alloc, reception, engine);
+    // before the line is written, which may fail, and is waited for where nobody reads it
     let kept = finish(engine);
-    let end = served?;
+    let told = tell_served(alloc, number, met, writer);
     kept?;
-    Ok(end)
-}
-
-/// Serves a connection, which has this number, and writes how it ended. Errors: none could be taken; the
-/// writer failed; out of memory.
-fn serve_next<D: Disk + Drop, H: NodeHash, N: Net + Clock, W: Write>(
-    alloc: Global,
-    reception: &Reception<'_, N>,
-    engine: &mut Engine<D, H>,
-    number: u64,
-    writer: &mut W,
-) -> Result<PeerEnd, Fault>
-    requires no_peer { engine.old.state.peers ≡ [] }
-    ensures served { IfOk result
-        (λ end. MeetsOverTcp D.conduct H.digest engine.old end engine.new) }
-    ensures told { IfOk result
-        (λ end. Appends (W.contents writer.old) (W.contents writer.new) (served_line number end)) }
-    ensures gone { engine.new.state.peers ≡ [] }
-    ensures run { LeadsTo D.conduct H.digest engine.old engine.new }
-    ensures fault { IfErr result (λ fault. (fault ≡ device) ⊎ (fault ≡ out_of_memory)) }
-{
-    let end = serve_one(alloc, reception, engine)?;
-    tell_served(alloc, number, end, writer)?;
-    Ok(end)
+    told
 }
 
 /// Serves a connection. Errors: none could be taken.
@@ -138,20 +97,25 @@ fn serve_one<D: Disk + Drop, H: NodeHash, N: Net + Clock>(
     )
 }
 
-/// Writes how it ended with the connection of a number.
+/// Writes how it ended with the connection of a number, if there was one. Errors: why there was none; the writer
+/// failed; out of memory.
 fn tell_served<W: Write>(
     alloc: Global,
     number: u64,
-    end: PeerEnd,
+    met: Result<PeerEnd, Fault>,
     writer: &mut W,
-) -> Result<(), Fault>
-    ensures told { OnOk result
-        (Appends (W.contents writer.old) (W.contents writer.new) (served_line number end)) }
-    ensures fault { IfErr result (λ fault. (fault ≡ device) ⊎ (fault ≡ out_of_memory)) }
+) -> Result<PeerEnd, Fault>
+    ensures same { IfOk result (λ end. met ≡ Ok end) }
+    ensures told { IfOk result
+        (λ end. Appends (W.contents writer.old) (W.contents writer.new) (served_line number end)) }
+    ensures fault { IfErr result
+        (λ fault. (fault ≡ device) ⊎ (fault ≡ out_of_memory) ⊎ (met ≡ Err fault)) }
 {
+    let end = met?;
     let mut line = String::new(alloc);
     push_line(&mut line, number, end)?;
-    print(writer, line.as_str())
+    print(writer, line.as_str())?;
+    Ok(end)
 }
 
 /// Adds the line of a connection.

@@ -5,6 +5,7 @@
 mod command;
 mod connections;
 mod device_context;
+mod hearing;
 mod peer_lines;
 mod reception;
 

@@ -4,7 +4,7 @@ ghost use Rattle.std.specs.Io.KnownBytes.{Appends};
 ghost use Rattle.bt_check.specs.Fault.{device, out_of_memory};
 ghost use Rattle.bt_transfer.specs.PeerLines.{is_tried, peer_line, peer_lines, peer_text};
 
-use bt_check::{Fault, print};
+use bt_check::{Fault, display_name, print};
 use bt_session::{PeerEnd, end_text};
 use bt_words::Peer;
 use std::alloc::{AllocError, Global};
@@ -42,7 +42,7 @@ fn write_peer<W: Write>(
 {
     let mut line = String::new(alloc);
     if is_tried(end) {
-        push_line(&mut line, peer, end)?;
+        push_line(alloc, &mut line, peer, end)?;
     }
     print(writer, line.as_str())
 }
@@ -56,12 +56,18 @@ fn is_tried(end: PeerEnd) -> bool
     }
 }
 
-/// Adds the line of a peer.
-fn push_line(line: &mut String, peer: &Peer<'_>, end: PeerEnd) -> Result<(), AllocError>
+/// Adds the line of a peer. Its host may be a stranger's word, so it is printed as a name is.
+fn push_line(
+    alloc: Global,
+    line: &mut String,
+    peer: &Peer<'_>,
+    end: PeerEnd,
+) -> Result<(), AllocError>
     ensures { OnOk result (string_bytes line.new ≡ string_bytes line.old ++ peer_line peer.now end) }
 {
     use std::fmt::Write;
     let Peer { host, port } = *peer;
+    let host = display_name(alloc, host.as_bytes())?;
     let end = end_text(end);
     writeln!(line, "peer {host}:{port} {end}")
 }

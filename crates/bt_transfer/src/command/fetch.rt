@@ -1,7 +1,7 @@
 //! The command `fetch`: peers are tried in turn, and what came of it is told.
-ghost use Rattle.std.specs.Prelude.{[], ◌≡◌, ◌≢◌, ◌⊎◌, All, Bool, List, Option, Ok, Err, false, true, length, IfErr, IfOk, OnOk};
+ghost use Rattle.std.specs.Prelude.{[], ◌≡◌, ◌≢◌, ◌⊎◌, All, Bool, List, Option, Ok, length, IfErr, IfOk, OnOk};
 ghost use Rattle.std.specs.Io.KnownBytes.{Keeps};
-ghost use Rattle.bt_check.specs.Fault.{device, log_full, status_of};
+ghost use Rattle.bt_check.specs.Fault.{log_full, status_of};
 ghost use Rattle.bt_files.specs.Ending.{IsEndFault};
 ghost use Rattle.bt_files.specs.Loading.{IsLogFull, IsStoreFault};
 ghost use Rattle.bt_files.specs.declared.file_use.FileUse.TheVariants.{Fetch};
@@ -12,9 +12,11 @@ ghost use Rattle.bt_resume.specs.ResumeLog.{LogView};
 ghost use Rattle.bt_engine.specs.Leads.{LeadsTo};
 ghost use Rattle.bt_transfer.specs.Fetch.{EndsFetch, HasFetched, HasFetchedOverTcp, IsFetch, TriesAndSyncs, flush_turns, links_of};
 ghost use Rattle.bt_transfer.specs.FetchSteps.{BreaksOff, FailsToSync};
+ghost use Rattle.bt_transfer.specs.FullLog.{FindsLogFull, HasFilledLog};
 ghost use Rattle.bt_files.specs.Store.{HasBegun, IsFlushFault};
 
 use crate::device_context::device_context;
+use crate::hearing::hear;
 use crate::peer_lines::write_peers;
 use bt_check::{Fault, Source};
 use bt_connection::ShortBlocks;
@@ -69,6 +71,8 @@ pub fn fetch<R: Files + AllocGlobal + Clone + Drop, N: Net + Clock, P: Watch, W:
         IsStoreFault source.entry.is_info Fetch log.entry fault ⊎ IsLogFull log.entry fault) }
     ensures refused { IfErr result (λ fault. status_of fault ≡ 2 → fault ≢ log_full
         → Keeps (W.contents writer.old) (W.contents writer.new)) }
+    ensures full { IfErr result (λ fault. fault ≡ log_full
+        → HasFilledLog source.entry.is_info Fetch dir.now log.entry) }
 {
     let shared = Shared::new(rt.alloc())?;
     // It is never closed: what comes is written, and so is the log.
@@ -98,6 +102,8 @@ fn fetch_store<D: Disk + Drop, H: NodeHash, N: Net + Clock, P: Watch, W: Write>(
         → IfOk result (λ status. EndsFetch begun.begins engine peers.now log.entry
         (W.contents writer.old) (W.contents writer.new) status) }
     ensures fault { IfErr result (IsEndFault engine.log) }
+    ensures full { IfErr result
+        (λ fault. fault ≡ log_full → FindsLogFull D.conduct H.digest engine) }
 {
     // These calls say what holds of the engine, and of whatever led to it and leads on from it.
     engine.keeps_laws();
@@ -111,19 +117,6 @@ fn fetch_store<D: Disk + Drop, H: NodeHash, N: Net + Clock, P: Watch, W: Write>(
         shared,
     };
     fetch_from(alloc, net, &mut engine, passage, peers, log, writer)
-}
-
-/// What comes of an alarm that rang, or did not, in a fetch of this status. Errors: it rang, and files are not
-/// complete.
-fn hear(rang: bool, status: u8) -> Result<(), Fault>
-    ensures complete { status ≡ 0 → result ≡ Ok tt }
-    ensures quiet { rang ≡ false → result ≡ Ok tt }
-    ensures fault { rang ≡ true → status ≢ 0 → result ≡ Err device }
-{
-    if rang && status != 0 {
-        return Err(Fault::Device);
-    }
-    Ok(())
 }
 
 /// Behind how many turns with a peer a fetch flushes: never, for which 0 stands, without a log.
@@ -154,6 +147,8 @@ fn fetch_from<D: Disk + Drop, H: NodeHash, N: Net + Clock, W: Write>(
         log.entry engine.old (W.contents writer.old) (W.contents writer.new) status engine.new) }
     ensures run { LeadsTo D.conduct H.digest engine.old engine.new }
     ensures fault { IfErr result (IsEndFault engine.old.log) }
+    ensures full { IfErr result
+        (λ fault. fault ≡ log_full → FindsLogFull D.conduct H.digest engine.old) }
 {
     let mut links = links_to(alloc, net, peers, passage)?;
     let every = flush_turns(log);
@@ -166,7 +161,7 @@ fn fetch_from<D: Disk + Drop, H: NodeHash, N: Net + Clock, W: Write>(
         every,
         writer,
     )?;
-    hear(passage.shared.alarm.has_rung(), status)?;
+    hear(passage.shared.alarm.has_rung(), status == 0)?;
     Ok(status)
 }
 
@@ -192,7 +187,7 @@ fn links_to<'a, N: Net + Clock>(
 /// it ended with each peer that was tried; takes in the files whose blocks came without their hashes; and then
 /// concludes. A peer's session has so many turns at most, with a flush behind each `flush_every`-th and behind the
 /// session, or with none where that is 0. Errors: also where a flush was refused, which is told of behind the lines of
-/// the peers; and where these can't be written, what came is on the devices all the same.
+/// the peers, whether these could be written or not; and where they can't be, what came is on the devices all the same.
 fn fetch_over<D: Disk + Drop, H: NodeHash, L: Link, W: Write>(
     alloc: Global,
     engine: &mut Engine<D, H>,
@@ -216,11 +211,14 @@ fn fetch_over<D: Disk + Drop, H: NodeHash, L: Link, W: Write>(
         D.conduct H.digest engine.old links.old links.new fault engine.new) }
     ensures run { LeadsTo D.conduct H.digest engine.old engine.new }
     ensures fault { IfErr result (IsEndFault engine.old.log) }
+    ensures full { IfErr result
+        (λ fault. fault ≡ log_full → FindsLogFull D.conduct H.digest engine.old) }
 {
     let mut ends = vec![in alloc; PeerEnd::Untried; peers.len()]?;
     let kept = try_and_sync(alloc, engine, links, &mut ends, turns, flush_every);
-    write_peers(alloc, peers, &ends, writer)?;
+    let written = write_peers(alloc, peers, &ends, writer);
     kept?;
+    written?;
     adopt_waiting(engine)?;
     conclude(alloc, engine, writer)
 }
@@ -249,6 +247,8 @@ fn try_and_sync<D: Disk + Drop, H: NodeHash, L: Link>(
     ensures gone { engine.new.state.peers ≡ [] }
     ensures run { LeadsTo D.conduct H.digest engine.old engine.new }
     ensures fault { IfErr result (IsFlushFault engine.old.log) }
+    ensures full { IfErr result
+        (λ fault. fault ≡ log_full → FindsLogFull D.conduct H.digest engine.old) }
 {
     match run_peers_with_flushes(alloc, engine, links, ends, turns, flush_every) {
         Ok(()) => finish(engine),

@@ -11,11 +11,13 @@ ghost use Rattle.bt_connection.specs.ShortBlocks.{short_blocks_of};
 ghost use Rattle.bt_resume.specs.ResumeLog.{LogView};
 ghost use Rattle.bt_engine.specs.Leads.{LeadsTo};
 ghost use Rattle.bt_transfer.specs.Connections.{FailsToServe};
-ghost use Rattle.bt_transfer.specs.Seed.{EndsSeed, FailsToSeed, HasFilledLog, HasListened, HasServedAll, IsPortFor, IsSeed, listening_line, seed_use};
+ghost use Rattle.bt_transfer.specs.FullLog.{HasFilledLog};
+ghost use Rattle.bt_transfer.specs.Seed.{EndsSeed, FailsToSeed, HasListened, HasServedAll, IsPortFor, IsSeed, connection_count, listening_line, seed_use};
 ghost use Rattle.bt_files.specs.Store.{HasBegun};
 
-use crate::connections::{serve_count, serve_forever};
+use crate::connections::serve_each;
 use crate::device_context::device_context;
+use crate::hearing::hear;
 use crate::reception::Reception;
 use bt_check::{Fault, Source, print};
 use bt_connection::ShortBlocks;
@@ -35,8 +37,8 @@ use std::time::Clock;
 
 /// Opens the store of a torrent's files in a folder, as `load_store` does; listens, and writes at which port;
 /// and serves connections, one after the other, whatever came of those before, each with a line that tells how
-/// it ended. All is put on the devices, and what is known of it into the log, where the path of one is given, behind
-/// the last, or behind each where no count is given. The answer is the status of the program, 0.
+/// it ended. Behind each, and before its line, all is put on the devices, and what is known of it into the log, where
+/// the path of one is given; so it is at the end, also where none is served. The answer is the program's status, 0.
 ///
 /// Where all files are complete at first, none is written from then on, but the log is: a session ends in which a block
 /// comes for one of them. Where they are only to be read and are not complete, nothing is served: the report is
@@ -44,6 +46,9 @@ use std::time::Clock;
 ///
 /// It is told how much is read: first of what the files have, and then for peers, where it is not known how much
 /// that will be. Between the two a hint tells where files are not complete.
+///
+/// A session ends where a device refuses a write. Where that was so of one of them, and files are not complete, the
+/// device's fault comes at the end.
 ///
 /// Errors: the torrent or the log is refused, two of the torrent's paths are one file that may be written, or the port
 /// can't be had, and then nothing is written; a device, the writer or the socket failed; out of memory; the log is
@@ -66,7 +71,7 @@ pub fn seed<R: Files + AllocGlobal + Clone + Drop, N: Net + Clock, P: Watch, W: 
     ensures refused { IfErr result (λ fault. status_of fault ≡ 2 → fault ≢ log_full
         → Keeps (W.contents writer.old) (W.contents writer.new)) }
     ensures full { IfErr result (λ fault. fault ≡ log_full
-        → HasFilledLog source.entry.is_info dir.now service.entry log.entry) }
+        → HasFilledLog source.entry.is_info (seed_use service.entry.is_read_only) dir.now log.entry) }
 {
     let shared = Shared::new(rt.alloc())?;
     let seal = Seal::new();
@@ -248,7 +253,18 @@ fn push_line(line: &mut String, port: u16) -> Result<(), AllocError>
     writeln!(line, "listening {port}")
 }
 
-/// Serves as many connections as is said, and has all put on the devices, and into the log.
+/// How many connections are served: where no count is given, all that can be numbered.
+fn connection_count(serving: Serving) -> u64
+    ensures { result ≡ connection_count serving }
+{
+    match serving {
+        Serving::Count(count) => u64::from(count),
+        Serving::Forever => u64::MAX,
+    }
+}
+
+/// Serves as many connections as is said, and has all put on the devices, and into the log. Errors: also where a
+/// session ended because a device refused a write, and files are not complete.
 fn serve_all<D: Disk + Drop, H: NodeHash, N: Net + Clock, W: Write>(
     alloc: Global,
     reception: &Reception<'_, N>,
@@ -264,14 +280,12 @@ fn serve_all<D: Disk + Drop, H: NodeHash, N: Net + Clock, W: Write>(
     ensures run { LeadsTo D.conduct H.digest engine.old engine.new }
     ensures fault { IfErr result (IsEndFault engine.old.log) }
 {
-    match serving {
-        Serving::Count(count) => {
-            let served = serve_count(alloc, reception, engine, count, writer);
-            // also where a connection or the writer failed, so that what came before is not lost by it
-            let kept = finish(engine);
-            served?;
-            kept
-        }
-        Serving::Forever => serve_forever(alloc, reception, engine, writer),
-    }
+    let count = connection_count(serving);
+    serve_each(alloc, reception, engine, count, writer)?;
+    // also where there was no connection
+    finish(engine)?;
+    hear(
+        reception.passage.shared.alarm.has_rung(),
+        engine.is_complete(),
+    )
 }

@@ -2,7 +2,8 @@ use Rattle.std.proofs.Common.{◌⊎◌, inl, inr, refl, subst}
 use Rattle.bt_files.specs.Loading.{IsLoaded, IsLogFull, IsStoreFault}
 use Rattle.bt_files.specs.declared.file_use.FileUse.TheVariants.{Fetch}
 use Rattle.bt_files.proofs.Faults.{ok_weaker, err_weaker, end_not_refused, passed_on, while_loading}
-use Rattle.bt_transfer.proofs.EndFaults.{at_opening, told_at_end}
+use Rattle.bt_transfer.proofs.EndFaults.{at_opening, call_not_full, store_not_full, told_at_end}
+use Rattle.bt_transfer.proofs.FullLogs.{filled_log}
 use Rattle.bt_transfer.proofs.command.fetch.fetch.Goals as goal
 
 pub returns-in_err-shared-clause-fault : goal.returns-in_err-shared-clause-fault
@@ -34,3 +35,20 @@ returns-clause-done g c =
     c.in_ok-engine.ensures.loaded in
     ok_weaker c.fetch_store.result _ _ (λ status ended. record { store = c.in_ok-engine.engine; loaded = loaded; ended = ended })
     (c.fetch_store.ensures.fetched loaded.torrent loaded.opened.devices loaded.opened.attached loaded.opened.filled loaded.opened.begun)
+
+pub returns-in_err-shared-clause-full : goal.returns-in_err-shared-clause-full
+returns-in_err-shared-clause-full g c =
+    passed_on c.from_residual.result _ _ c.from_residual.ensures.1 (λ full. absurd (call_not_full _ (inr refl) full))
+
+pub returns-in_err-engine-clause-full : goal.returns-in_err-engine-clause-full
+returns-in_err-engine-clause-full g c =
+    passed_on c.from_residual-in_err-engine.result _ _ c.from_residual-in_err-engine.ensures.1
+    (λ full. absurd (store_not_full c.args.source.is_info _ c.args.log _ c.in_err-engine.ensures.fault full))
+
+pub returns-clause-full : goal.returns-clause-full
+returns-clause-full g c =
+    let loaded = subst (λ usage. IsLoaded c.args.source.is_info usage c.args.dir.now c.args.log c.in_ok-engine.engine) c.device_context-context.ensures
+    c.in_ok-engine.ensures.loaded in
+    err_weaker c.fetch_store.result _ _
+    (λ fault found full. filled_log c.args.source.is_info Fetch c.args.dir.now c.args.log c.in_ok-engine.engine loaded (found full))
+    c.fetch_store.ensures.full

@@ -1,7 +1,10 @@
-use Rattle.std.proofs.Common.{ap, ◌∙◌}
+use Rattle.std.proofs.Common.{ap, inl, inr, refl, ◌∙◌}
 use Rattle.bt_connection.specs.ShortBlocks.{short_blocks_of}
 use Rattle.bt_engine.specs.Leads.{none}
+use Rattle.bt_files.proofs.Faults.{passed_on}
 use Rattle.bt_transfer.specs.Fetch.{links_of}
+use Rattle.bt_transfer.proofs.EndFaults.{call_not_full, of_fault}
+use Rattle.bt_transfer.proofs.FailedServing.{heard}
 use Rattle.bt_transfer.proofs.OverTcp.{fetched_over_tcp, links_undialled}
 use Rattle.bt_transfer.proofs.command.fetch.fetch_from.Goals as goal
 
@@ -22,3 +25,13 @@ returns-clause-fetched g c = record {
 
 pub returns-in_err-links-clause-run : goal.returns-in_err-links-clause-run
 returns-in_err-links-clause-run g c = none c.args.engine.now
+
+pub returns-in_err-links-clause-full : goal.returns-in_err-links-clause-full
+returns-in_err-links-clause-full g c =
+    passed_on c.from_residual.result _ _ c.from_residual.ensures.1 (λ full. absurd (call_not_full _ (inr refl) full))
+
+pub returns-in_err-hear-clause-full : goal.returns-in_err-hear-clause-full
+returns-in_err-hear-clause-full g c =
+    passed_on c.from_residual-in_err-hear.result _ _ c.from_residual-in_err-hear.ensures.1
+    (λ full. absurd (call_not_full _ (inl (of_fault c.hear.result _ _ c.in_err-hear.was
+    (heard _ _ c.hear.result c.hear.ensures.complete c.hear.ensures.quiet c.hear.ensures.fault))) full))

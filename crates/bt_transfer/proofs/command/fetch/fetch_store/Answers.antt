@@ -1,6 +1,7 @@
-use Rattle.std.proofs.Common.{ap, ◌∙◌}
+use Rattle.std.proofs.Common.{ap, inr, refl, ◌∙◌}
 use Rattle.bt_connection.specs.ShortBlocks.{short_blocks_of}
-use Rattle.bt_files.proofs.Faults.{ok_weaker}
+use Rattle.bt_files.proofs.Faults.{ok_weaker, passed_on}
+use Rattle.bt_transfer.proofs.EndFaults.{call_not_full}
 use Rattle.bt_transfer.proofs.WholeRuns.{ends_fetch}
 use Rattle.bt_transfer.proofs.command.fetch.fetch_store.Goals as goal
 
@@ -13,3 +14,7 @@ returns-clause-fetched g c = λ torrent given attached filled begun. ok_weaker c
     c.args.engine c.fetch_from.new.engine c.keeps_laws.ensures.lawful c.fetch_from.ensures.run (g.W.Write.contents c.args.writer.now)
     (g.W.Write.contents c.fetch_from.new.writer) status torrent given attached filled begun c.args.peers.now c.args.log fetched)
     c.fetch_from.ensures.fetched
+
+pub returns-in_err-short_blocks-clause-full : goal.returns-in_err-short_blocks-clause-full
+returns-in_err-short_blocks-clause-full g c =
+    passed_on c.from_residual.result _ _ c.from_residual.ensures.1 (λ full. absurd (call_not_full _ (inr refl) full))

@@ -6,7 +6,8 @@ use Rattle.bt_files.specs.Store.{IsFlushFault}
 use Rattle.bt_files.proofs.Faults.{err_weaker}
 use Rattle.bt_files.proofs.Unlogged.{flush_fault_before}
 use Rattle.bt_transfer.proofs.Flushes.{fails_among, fails_behind, syncs_behind}
-use Rattle.bt_transfer.proofs.RefusedFlushes.{turns_fault}
+use Rattle.bt_transfer.proofs.FullLogs.{refused_full}
+use Rattle.bt_transfer.proofs.RefusedFlushes.{turns_fault, turns_full}
 use Rattle.bt_transfer.proofs.command.fetch.try_and_sync.Goals as goal
 
 pub returns-in-Ok-clause-kept : goal.returns-in-Ok-clause-kept
@@ -48,3 +49,17 @@ returns-in-Err-clause-fault g c =
     (turns_fault g.D.Disk.conduct g.H.NodeHash.digest g.L.Link.dials g.L.Link.failures g.L.Link.gives g.L.R.Read.remaining
     g.L.W.Write.contents c.args.flush_every c.args.turns c.args.engine.now c.run_peers_with_flushes.new.engine c.args.links.now
     c.run_peers_with_flushes.new.links c.run_peers_with_flushes.new.ends c.in-Err.error c.in-Err.ensures.peers)
+
+pub returns-in-Ok-clause-full : goal.returns-in-Ok-clause-full
+returns-in-Ok-clause-full g c =
+    err_weaker c.finish.result _ _
+    (λ fault refused. refused_full g.D.Disk.conduct g.H.NodeHash.digest c.args.engine.now c.run_peers_with_flushes.new.engine c.finish.new.engine
+    refused.0 fault c.in-Ok.ensures.run refused.2 refused.1)
+    c.finish.ensures.failed
+
+pub returns-in-Err-clause-full : goal.returns-in-Err-clause-full
+returns-in-Err-clause-full g c =
+    turns_full g.D.Disk.conduct g.H.NodeHash.digest g.L.Link.dials g.L.Link.failures g.L.Link.gives g.L.R.Read.remaining
+    g.L.W.Write.contents c.args.flush_every c.args.turns c.args.engine.now c.run_peers_with_flushes.new.engine c.args.links.now
+    c.run_peers_with_flushes.new.links c.run_peers_with_flushes.new.ends c.in-Err.error c.flush_fault.result c.in-Err.ensures.peers
+    c.flush_fault.ensures

@@ -6,7 +6,7 @@ use Rattle.bt_transfer.proofs.ConnectionLines.{served_more, served_none}
 use Rattle.bt_files.specs.Ending.{IsEndFault}
 use Rattle.bt_files.proofs.Faults.{passed_on}
 use Rattle.bt_files.proofs.Unlogged.{end_fault_before}
-use Rattle.bt_transfer.proofs.connections.serve_forever.Goals as goal
+use Rattle.bt_transfer.proofs.connections.serve_each.Goals as goal
 
 pub loop-number-init : goal.loop-number-init
 loop-number-init g c = (served_none _ c.args.engine.now (g.W.Write.contents c.args.writer.now), c.requires.no_peer, none c.args.engine.now)
