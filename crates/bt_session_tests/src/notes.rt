@@ -67,6 +67,7 @@ fn note(text: &mut String, arrival: Arrival, read: usize) -> Result<(), AllocErr
         Arrival::Handshake => text.push_str("hello"),
         Arrival::KeepAlive => text.push_str("alive"),
         Arrival::Bits(count) => write!(text, "bits:{count}"),
+        Arrival::Block(ask) => { write!(text, "block:{}:{}:{}", ask.piece, ask.begin, ask.length) }
         Arrival::Message(kind) => write!(text, "{kind}"),
     }?;
     write!(text, "@{read}")

@@ -80,6 +80,7 @@ fn push_act(alloc: Global, acts: &mut Vec<Act>, words: &mut Words) -> Result<(),
     let act = match words.word() {
         "wait" => Act::Waits(Duration::from_secs(u64::from(words.number()?))),
         "work" => Act::Works(Duration::from_secs(u64::from(words.number()?))),
+        "stop" => Act::Stops(Duration::from_secs(u64::from(words.number()?))),
         "take" => Act::Takes(words.number()? as usize),
         "send" => Act::Sends(words.bytes(alloc)?),
         _ => return Err(RowError::Unread),

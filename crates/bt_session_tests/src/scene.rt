@@ -15,6 +15,8 @@ pub enum Act {
     Waits(Duration),
     /// The program is at work for so long, before it reads on.
     Works(Duration),
+    /// The program is stopped for so long as it reads, and that read is interrupted.
+    Stops(Duration),
     /// From now on it takes so many bytes, and no more.
     Takes(usize),
 }
@@ -129,6 +131,11 @@ impl Read for SceneStream<'_> {
                     scene.skip();
                 }
                 Some(Act::Works(_)) => scene.work(),
+                Some(Act::Stops(time)) => {
+                    scene.pass(*time);
+                    scene.skip();
+                    return Err(io::Error::from(ErrorKind::Interrupted));
+                }
                 None => return Ok(0),
             }
         }
