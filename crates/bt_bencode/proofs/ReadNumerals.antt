@@ -17,7 +17,7 @@ decimal_again negative {ds} more numeral no_zero small =
     decimal-digits_value (numerals_by_value _ tells_digits) ds numeral.1 numeral.0 (λ first. omega (arith, alone first, numeral.0)) small
 
 module _ {negative : Bool} {stop : ℕ} {bytes : List ℕ} {at end : ℕ} (numeral : IsNumeralAt negative stop bytes at end) where
-  -- the digits, the byte behind them, and the rest
+  -- the digits, the byte after them, and the rest
   pub numeral_split : slice_range bytes at end ++ stop ∷ drop (end + 1) bytes ≡ drop at bytes
   numeral_split =
       let forward : at < end = numeral.forward in
@@ -57,7 +57,7 @@ module _ {bytes : List ℕ} {at colon : ℕ} (numeral : IsNumeralAt false 58 byt
         (numeral_digits numeral) numeral.no_zero (omega (arith, length-drop (colon + 1) bytes))),
   )
 
--- whether a minus stands behind `i`: the text there, and that a sign which is none hides no minus
+-- whether a minus stands after `i`: the text there, and that a sign which is none hides no minus
 pub record IsSigned (negative : Bool) (bytes : List ℕ) (at : ℕ) : Type 0 where
   text : drop (at + 1) bytes ≡ sign_text negative ++ drop (at + 1 + from_bool negative) bytes
   whole : IsTrue negative ⊎ (get_or (drop (at + 1 + from_bool negative) bytes) 0 0 ≢ 45)
@@ -69,7 +69,7 @@ is_signed false iff = record {
   whole = inr (rw (add-zero _, drop_first _ _) (not_standing _ _ 45 (omega arith) iff.1));
 }
 
--- the same of a slice that ends behind the sign
+-- the same of a slice that ends after the sign
 slice_of_sign : (negative : Bool) {bytes at : _} (end : ℕ) → IsSigned negative bytes at → at + 1 + from_bool negative < end
     → slice_range bytes (at + 1) end ≡ sign_text negative ++ slice_range bytes (at + 1 + from_bool negative) end
 slice_of_sign false end signed lt = rw (add-zero _) refl
@@ -111,13 +111,13 @@ signed_again true ds more numeral no_zero fits = behind_minus _ (decimal_again t
     behind_minus (suc n) same = ap (λ xs. 45 ∷ xs) same
 
 module _ {bytes : List ℕ} {at : ℕ} {negative : Bool} (signed : IsSigned negative bytes at) (lt : at < length bytes) (first : get_or bytes at 0 ≡ 105) where
-  -- a numeral that stops a reading, behind `i` and the sign
+  -- a numeral that stops a reading, after `i` and the sign
   pub integer_stops : {n : ℕ} (f : Fault) (rest : List ℕ) → NumeralStops negative 101 (drop (at + 1 + from_bool negative) bytes) f rest
       → Stops n (drop at bytes) f rest
   integer_stops {n} f rest stops = rw (drop_byte _ at lt first, signed.text) (in_integer n negative _ f rest signed.whole stops)
 
   module _ {end : ℕ} (numeral : IsNumeralAt negative 101 bytes (at + 1 + from_bool negative) end) where
-    -- what is written from behind `i` on: the sign and the digits, and what is behind the e
+    -- what is written after `i`: the sign and the digits, and what comes after the e
     record Parts (ds rest : List ℕ) : Type 0 where
       digits : IsNumeral 10 ds
       no_zero : ¬ LeadsWithZero negative (ds ++ 101 ∷ rest)

@@ -75,7 +75,7 @@ module _ (n : ℕ) (bytes : List ℕ) (at : ℕ) where
       canonical = dictionary-push es (key, v) some so_far.canonical last read.canonical;
     })
 
--- what stops a reading behind the parts so far
+-- what stops a reading after the parts so far
 module _ {n : ℕ} (bytes : List ℕ) (at next : ℕ) (deep : n ≡ suc (n - 1)) where
   parts_stop : {text d f rest : _} → PartsTo n bytes at next text d
       → (IsCanonicalWithin (suc (n - 1)) d → Stops (suc (n - 1)) (text ++ drop next bytes) f rest) → Stops n (drop at bytes) f rest

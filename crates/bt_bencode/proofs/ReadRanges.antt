@@ -14,7 +14,7 @@ digits_one_more xs at end le lt digit digits =
 pub drop_first : (i : ℕ) (xs : List ℕ) → get_or (drop i xs) 0 0 ≡ get_or xs i 0
 drop_first i xs = get_or-drop i _ 0 0 ∙ ap (λ k. get_or xs k 0) (add-zero i)
 
--- a byte, and what is behind it
+-- a byte, and what comes after it
 pub drop_byte : (xs : List ℕ) (i : ℕ) {c : ℕ} → i < length xs → get_or xs i 0 ≡ c → drop i xs ≡ c ∷ drop (i + 1) xs
 drop_byte xs i lt is = drop_more _ i 0 lt ∙ ap (λ b. b ∷ drop (i + 1) xs) is
 

@@ -6,7 +6,7 @@ use Rattle.std.proofs.lemmas.Str.Parse.{digit_at, digit_from_value}
 use Rattle.std.proofs.lemmas.Fmt.{decimal_is_IsNumeral, decimal_nonempty, decimal_digit, first_decimal}
 use Rattle.bt_bencode.specs.Number.{at_end, at_other}
 
--- what was read and what is behind it, or what stopped the reading and with which bytes left
+-- what was read and what comes after it, or what stopped the reading and with which bytes left
 pub data Outcome (A : Type 0) : Type 0 where
   read : A → List ℕ → Outcome A
   stopped : Fault → List ℕ → Outcome A
@@ -22,7 +22,7 @@ denied false decides not = refl
 pub digit_decides : (c : ℕ) → Decides (is_ascii_digit c) (IsAsciiDigit c)
 digit_decides c = grind (arith, nat_tests)
 
--- the digits in front, and what is behind them
+-- the digits in front, and what comes after them
 digits_of : List ℕ → List ℕ × List ℕ
 digits_of [] = ([], [])
 digits_of (c ∷ text) = if is_ascii_digit c then (c ∷ (digits_of text).0, (digits_of text).1) else ([], c ∷ text)
@@ -80,7 +80,7 @@ numeral_read negative stop [] high numeral no_zero = absurd (omega (arith, numer
 numeral_read negative stop (d ∷ ds) {rest} high numeral no_zero =
     split_read _ stop (d ∷ ds) (stop ∷ rest) refl numeral.1 no_zero (λ digit. omega (arith, digit.1)) ∙ rw (eq-eqb _ _ refl) refl
 
--- a number's digits have no zero that may not stand, and behind a minus none but 0 itself begins with one
+-- a number's digits have no zero that may not stand, and after a minus none but 0 itself begins with one
 decimal_no_zero : (negative : Bool) (n stop : ℕ) (rest : List ℕ) → (IsTrue negative → 0 < n) → n < 2 ^ 64 → 57 < stop
     → ¬ LeadsWithZero negative (decimal n ++ stop ∷ rest)
 decimal_no_zero negative n stop rest some fits high leads =
@@ -117,7 +117,7 @@ string_stops (in_bytes ds more parts numeral no_lead short) =
     let shorter : ltb (length more) (digits_value 10 ds) ≡ true = (Decides-ltb _ _).1 short in
     rw (parts, numeral_read _ 58 _ (omega arith) numeral (rw parts at no_lead), shorter) refl
 
--- the sign in front, and what is behind it
+-- the sign in front, and what comes after it
 sign_of : List ℕ → Bool × List ℕ
 sign_of text = if eqb (get_or text 0 0) 45 then (true, drop 1 text) else (false, text)
 
@@ -134,7 +134,7 @@ small_decides : (z : ℤ) → Decides (is_small z) (FitsSigned w64 z)
 unfolding is_small
 small_decides z = Decides-like _ (λ same. subst (FitsSigned w64) same (SFits-int_wrap w64 z)) (int_wrap_fits w64 z) (Decides-int_eq _ z)
 
--- an integer, behind its i
+-- an integer, after its i
 pub read_integer : List ℕ → Outcome ℤ
 read_integer text = after (read_numeral (sign_of text).0 101 (sign_of text).1) stopped (λ ds rest.
     let z = signed_number (sign_of text).0 (digits_value 10 ds) in

@@ -31,7 +31,7 @@ abbrev pub opened : ℕ → (ℕ → Job) → List ℕ → Next
 opened zero inside text = halt too_deep text
 opened (suc n) inside text = on (inside n) (drop 1 text)
 
--- whether the key may stand behind the one before, where keys have to ascend
+-- whether the key may stand after the one before, where keys have to ascend
 abbrev pub may_follow : Bool → Option (List ℕ) → List ℕ → Bool
 may_follow false before key = true
 may_follow true None key = true
@@ -78,7 +78,7 @@ abbrev pub last_from : Option (List ℕ) → Entries → Option (List ℕ)
 last_from before no_entries = before
 last_from before (entry key d es) = last_from (Some key) es
 
--- the key stands behind the one before
+-- the key stands after the one before
 abbrev pub Follows : Option (List ℕ) → List ℕ → Type 0
 Follows before key = IfSome before (λ last. IsBefore last key)
 
@@ -155,7 +155,7 @@ follow_decides : (es : Entries) (key : List ℕ) → Decides (may_follow true (l
 follow_decides no_entries key = (λ _. tt, λ _. refl)
 follow_decides (entry k d es) key = rw (last_from_some k es) (less_decides _)
 
--- what is read behind whole entries
+-- what is read after whole entries
 dictionary_read : {n next es : _} (more : List ℕ) {o : _} → IsCanonicalWithin (suc n) (dictionary es)
     → length (entries_spelling es ++ more) < 2 ^ 64
     → ((onto : Entries → Job) → Gives true o (on (entries n (last_from None es) onto) more))
@@ -165,7 +165,7 @@ dictionary_read {es} more {o} canonical short later = go (entries_read true o es
     (λ _. canonical.keys) (λ _. first_of_all es)
     (entries_representable es canonical.integers (omega (arith, length-append (entries_spelling es) more))) (λ onto is. later onto))
 
--- the lengths of a key and of what is behind it
+-- the lengths of a key and of what comes after it
 key_short : (done : Entries) (key more : List ℕ) → length (entries_spelling done ++ (string_spelling key ++ more)) < 2 ^ 64
     → (length key < 2 ^ 64) × (length more < 2 ^ 64)
 key_short done key more short =
@@ -231,7 +231,7 @@ no_proper_prefix d e rest fits fits' h = (same_spelling fits fits' (h ∙ sym (a
 pub begins_once : BeginsOnce
 begins_once d e rest more fits fits' h = (same_spelling fits fits' h).0
 
--- nothing is left where the input ends too early, and bytes behind the value stop no reading of the value
+-- nothing is left where the input ends too early, and bytes after the value stop no reading of the value
 abbrev EndsOrStays : Fault → List ℕ → Type 0
 EndsOrStays truncated rest = rest ≡ []
 EndsOrStays trailing rest = ⊥

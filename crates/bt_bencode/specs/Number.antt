@@ -13,12 +13,12 @@ sign_text negative = if negative then minus ∷ [] else []
 abbrev pub signed_number : Bool → ℕ → ℤ
 signed_number negative n = if negative then neg_ℤ (pos n) else pos n
 
--- a zero that may not stand: behind a minus, or before another digit
+-- a zero that may not stand: after a minus, or before another digit
 abbrev pub LeadsWithZero : Bool → List ℕ → Type 0
 LeadsWithZero negative text =
     (slice_index text 0 ≡ digit_zero) × (IsTrue negative ⊎ IsAsciiDigit (slice_index text 1))
 
--- the text has no whole numeral with the byte `stop` behind it, perhaps since it ends too early
+-- the text has no whole numeral with the byte `stop` after it, perhaps since it ends too early
 pub data NumeralStops (negative : Bool) (stop : ℕ) (text : List ℕ) : Fault → List ℕ → Type 0 where
   at_zero : LeadsWithZero negative text → NumeralStops negative stop text leading_zero text
   at_end : AllDigits 10 text → ¬ LeadsWithZero negative text → NumeralStops negative stop text truncated []

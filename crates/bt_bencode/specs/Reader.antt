@@ -37,7 +37,7 @@ pub data Stops : ℕ → List ℕ → Fault → List ℕ → Type 0 where
       → slice_index text 0 ≢ letter_i → slice_index text 0 ≢ letter_l → slice_index text 0 ≢ letter_d
       → ¬ IsAsciiDigit (slice_index text 0)
       → Stops n text bad_byte text
-  -- an integer: behind its sign, all of it, stands no numeral with an e behind it
+  -- an integer: after its sign, all of it, stands no numeral with an e after it
   in_integer : (n : ℕ) (negative : Bool) (more : List ℕ) (f : Fault) (rest : List ℕ)
       → IsTrue negative ⊎ (slice_index more 0 ≢ minus)
       → NumeralStops negative letter_e more f rest

@@ -14,7 +14,7 @@ pub enum BencodeError {
     /// A byte that cannot stand there.
     #[error("B2 BadByte {0}")]
     BadByte(usize),
-    /// A zero before another digit, or right behind a minus.
+    /// A zero before another digit, or right after a minus.
     #[error("B3 LeadingZero {0}")]
     LeadingZero(usize),
     /// An integer below -2^63 or above 2^63 - 1; the offset is that of its sign or first digit.
@@ -26,7 +26,7 @@ pub enum BencodeError {
     /// A list or a dictionary that would begin level 129.
     #[error("B6 TooDeep {0}")]
     TooDeep(usize),
-    /// Bytes behind the value; the offset is that of the first of them.
+    /// Bytes after the value; the offset is that of the first of them.
     #[error("B7 Trailing {0}")]
     Trailing(usize),
     /// A growth was refused, of the value that is read or of the text that is written.

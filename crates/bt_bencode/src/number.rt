@@ -31,7 +31,7 @@ fn digits_end(bytes: &[u8], at: usize) -> usize
     end
 }
 
-/// Whether the text begins with a zero that may not stand: behind a minus, or before another digit.
+/// Whether the text begins with a zero that may not stand: after a minus, or before another digit.
 fn leads_with_zero(text: &[u8], negative: bool) -> bool
     ensures { IsTrue result ↔ LeadsWithZero negative text.now }
 {
@@ -42,7 +42,7 @@ fn leads_with_zero(text: &[u8], negative: bool) -> bool
     }
 }
 
-/// Where the numeral that begins at `at` ends: the index of the byte `stop` behind its last digit.
+/// Where the numeral that begins at `at` ends: the index of the byte `stop` after its last digit.
 pub(crate) fn numeral_end(
     bytes: &[u8],
     at: usize,
@@ -88,7 +88,7 @@ pub(crate) fn length_of(digits: &[u8]) -> Option<usize>
     ascii_text(digits).parse().ok()
 }
 
-/// The integer that digits, perhaps behind a sign, write; None for any other text, and where it has
+/// The integer that digits, perhaps after a sign, write; None for any other text, and where it has
 /// more than 64 bits.
 pub(crate) fn integer_of(numeral: &[u8]) -> Option<i64>
     requires { IsAscii numeral.now }

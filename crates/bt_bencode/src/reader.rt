@@ -134,7 +134,7 @@ fn dictionary_at(
     Ok((Value::Dict(entries), next + 1))
 }
 
-/// Puts the part behind the others. Where they fill their room, it grows by a quarter, and not to its
+/// Puts the part after the others. Where they fill their room, it grows by a quarter, and not to its
 /// double: an item has 32 bytes where its text may have two.
 fn push_part<T: Drop>(parts: &mut Vec<T>, part: T) -> Result<(), AllocError>
     ensures { OnOk result (parts.new.items ≡ parts.old.items ++ part ∷ []) }

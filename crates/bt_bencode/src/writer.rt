@@ -17,7 +17,7 @@ pub fn write(alloc: Global, value: &Value) -> Result<Vec<u8>, AllocError>
     Ok(out)
 }
 
-/// Puts the value's spelling behind `out`.
+/// Puts the value's spelling at the end of `out`.
 #[tactic(auto, using(crate::proofs::Steps::put_value_steps), unfolding(crate::specs::Spelling::spelling_of))]
 fn put_value(alloc: Global, out: &mut Vec<u8>, value: &Value) -> Result<(), AllocError>
     ensures { OnOk result (out.new.items ≡ out.old.items ++ spelling_of (data_of value.now)) }
@@ -44,7 +44,7 @@ fn put_value(alloc: Global, out: &mut Vec<u8>, value: &Value) -> Result<(), Allo
     Ok(())
 }
 
-/// Puts the integer's spelling behind `out`.
+/// Puts the integer's spelling at the end of `out`.
 fn put_integer(alloc: Global, out: &mut Vec<u8>, integer: i64) -> Result<(), AllocError>
     ensures { OnOk result (out.new.items
         ≡ out.old.items ++ letter_i ∷ (signed_decimal integer ++ letter_e ∷ [])) }
@@ -53,7 +53,7 @@ fn put_integer(alloc: Global, out: &mut Vec<u8>, integer: i64) -> Result<(), All
     out.extend_from_slice(digits.as_bytes())
 }
 
-/// Puts the string's spelling behind `out`.
+/// Puts the string's spelling at the end of `out`.
 fn put_string(alloc: Global, out: &mut Vec<u8>, string: &[u8]) -> Result<(), AllocError>
     ensures { OnOk result (out.new.items ≡ out.old.items ++ string_spelling string.now) }
 {

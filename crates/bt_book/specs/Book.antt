@@ -14,22 +14,22 @@ pub record BookState : Type 0 where
   pub wanted : Blocks
   pub peers : List PeerRequests
 
--- files of so many blocks each, of which none is wanted, and no peer
+-- files of as many blocks as each number says, of which none is wanted, and no peer
 abbrev pub empty_book : List ℕ → BookState
 empty_book counts = record { wanted = map (λ count. replicate count false) counts; peers = [] }
 
--- at most so many peers, each asked for at most so many blocks
+-- how many peers there may be, and how many blocks each may be asked for
 abbrev pub max_peers : ℕ
 max_peers = 64
 
 abbrev pub max_requests : ℕ
 max_requests = 16
 
--- each block asked of at most so many peers
+-- how many peers a block may be asked of
 abbrev pub max_askers : ℕ
 max_askers = 3
 
--- and of one that others are asked for, too, only while at most so many blocks are wanted
+-- how many blocks may be wanted at most where one is asked of a peer while others are asked for it, too
 abbrev pub max_in_endgame : ℕ
 max_in_endgame = 16
 
@@ -75,7 +75,7 @@ pub record IsUnasked (book : BookState) (b : BlockId) : Type 0 where
   pub wanted : member book.wanted b ≡ true
   pub free : pair_count book b ≡ 0
 
--- it may be asked of this peer beside others: few blocks are wanted, this one among them, the peer is not
+-- the block may be asked of this peer beside others: few blocks are wanted, this one among them, the peer is not
 -- asked for it yet, and fewer than three are
 pub record IsShareable (book : BookState) (key : PeerKey) (b : BlockId) : Type 0 where
   pub endgame : wanted_count book ≤ max_in_endgame
@@ -83,7 +83,7 @@ pub record IsShareable (book : BookState) (key : PeerKey) (b : BlockId) : Type 0
   pub apart : count_by (is_block b) (asked_of book key) ≡ 0
   pub room : pair_count book b < max_askers
 
--- it may be asked of this peer
+-- the block may be asked of this peer
 abbrev pub CanAsk : BookState → PeerKey → BlockId → Type 0
 CanAsk book key b = IsUnasked book b ⊎ IsShareable book key b
 
@@ -153,7 +153,7 @@ pub data IsNextAsked (has : BlockId → Bool → Type 0) (book : BookState) (key
   alone : IsLeastUnasked has book b → IsNextAsked has book key b
   beside : HasNoneUnasked has book → IsLeastShareable has book key b → IsNextAsked has book key b
 
--- of every block that may be asked of the peer it says false
+-- of every block that may be asked of the peer `has` says false
 abbrev pub HasNoneToAsk : (BlockId → Bool → Type 0) → BookState → PeerKey → Type 0
 HasNoneToAsk has book key = (c : BlockId) → CanAsk book key c → has c false
 
@@ -166,7 +166,7 @@ AreAskedInTurn has book key blocks = (i : ℕ) (d : BlockId) → i < length bloc
 abbrev pub HasWanted : (BlockId → Bool) → BookState → Type 0
 HasWanted has book = (b : BlockId) × (member book.wanted b ≡ true) × (has b ≡ true)
 
--- it is true of no wanted block
+-- a test is true of no wanted block
 abbrev pub HasNoneWanted : (BlockId → Bool) → BookState → Type 0
 HasNoneWanted has book = (b : BlockId) → member book.wanted b ≡ true → has b ≡ false
 

@@ -17,7 +17,7 @@ use std::alloc::{AllocError, Global};
 use std::marker::Model;
 
 /// How many peers are connected at most.
-const MAX_PEERS: usize = 64;
+pub const MAX_PEERS: usize = 64;
 
 /// How many peers are asked for one block at most.
 pub const MAX_ASKERS: usize = 3;
@@ -57,8 +57,9 @@ impl Model for Book {
 }
 
 impl Book {
-    /// A book of files of so many blocks each, in which nothing is wanted and no peer has joined. Errors: out
-    /// of memory.
+    /// A book of files of as many blocks as each number says, in which nothing is wanted and no peer has joined.
+    ///
+    /// Errors: out of memory.
     pub fn new(alloc: Global, blocks: &[u32]) -> Result<Self, AllocError>
         ensures { IfOk result (λ b. b ≡ empty_book blocks.now) }
     {
@@ -319,7 +320,7 @@ impl Book {
         self.least_beside(index, has)
     }
 
-    /// The same of those that `next` gives.
+    /// The block that the peer at an index is asked for next, of those that `next` gives.
     fn next_met<F: Fn(BlockId) -> Option<BlockId>>(&self, index: usize, next: &F) -> Option<BlockId>
         requires inside { index < length self.now.peers }
         requires callable { (block : BlockId) → IsInRange self.now.wanted block → F.pre next.now block }

@@ -14,7 +14,7 @@ mod law;
 mod names;
 mod requests;
 
-pub use book::{Book, MAX_ASKERS};
+pub use book::{Book, MAX_ASKERS, MAX_PEERS};
 pub use choking::{Standing, choose};
 pub use law::{
     ascending_keys_are_one, counted_blocks_are_contained, equal_sets_count_alike,

@@ -1,4 +1,4 @@
--- A key's bytes, as they are written one run behind the other, and that they tell the key.
+-- A key's bytes, as they are written one run after the other, and that they tell the key.
 use Rattle.std.proofs.Common.{◌≡◌, ℕ, ◌+◌, ◌≤◌, ◌<◌, ◌^◌, List, ◌++◌, length, take, drop, sym, ◌∙◌, ap, refl, arith}
 use Rattle.std.specs.Int.{w32, to_be_bytes, from_be_bytes}
 use Rattle.std.proofs.lemmas.List.{take_all, take_at, drop_at, length-append}
@@ -6,7 +6,7 @@ use Rattle.std.proofs.lemmas.Nat.{from_be_bytes-to_be_bytes_4}
 use Rattle.bt_hashreq.specs.Law.{SpellsOneKey}
 use Rattle.bt_hashreq.specs.declared.key.HashKey.{HashKey}
 
--- one run more behind the first bytes, which are known
+-- one run more after the first bytes, which are known
 pub one_more : (old new front written run : List ℕ) (at to : ℕ) → written ≡ run → at + length run ≡ to
     → take (at + length written) new ≡ take at old ++ written → take at old ≡ front → take to new ≡ front ++ run
 one_more old new front written run at to same end put known =
@@ -32,7 +32,7 @@ number : (n m : ℕ) → n < 2 ^ 32 → m < 2 ^ 32 → to_be_bytes w32 n ≡ to_
 number n m n-fits m-fits e =
     sym (from_be_bytes-to_be_bytes_4 n n-fits) ∙ ap (λ xs. from_be_bytes w32 xs) e ∙ from_be_bytes-to_be_bytes_4 m m-fits
 
--- behind fronts of one length, another number of four bytes
+-- after fronts of one length, another number of four bytes
 longer : (p q : List ℕ) (n m : ℕ) → length p ≡ length q → length (p ++ to_be_bytes w32 n) ≡ length (q ++ to_be_bytes w32 m)
 longer p q n m same = length-append p (to_be_bytes w32 n) ∙ ap (λ k. k + 4) same ∙ sym (length-append q (to_be_bytes w32 m))
 

@@ -40,7 +40,7 @@ pub record IsClaimBy (k : HashKey) (digests : List ℕ) (claim : sparse.Claim) :
   pub size : HasSize k digests
   pub claim_is : claim ≡ claim_by k digests
 
--- The first of the two that fails. Out of memory comes behind them.
+-- The first of the two that fails. Out of memory comes after them.
 pub data IsNoClaim (k : HashKey) (digests : List ℕ) : ProofError → Type 0 where
   shape : ¬ HasShape k → IsNoClaim k digests Shape
   count : HasShape k → ¬ HasSize k digests → IsNoClaim k digests Count

@@ -18,8 +18,9 @@ const MAX_HEIGHT: u32 = 26;
 /// proof layer beyond the first m - 1: BEP 52 says that layers that follow from the run can be left out; that
 /// just these are, and always, is this project's own.
 ///
-/// Errors: `Shape` where the key's length is no power of two from 2 to 512, its index no multiple of it, or
-/// its base or layers above 26; `Count` where the digests are not as many as it names; `OutOfMemory`.
+/// Errors, the first that applies: `Shape` where the key's length is no power of two from 2 to 512, its index no
+/// multiple of it, or its base or layers above 26; `Count` where the digests are not as many as it names;
+/// `OutOfMemory`.
 pub fn to_claim(alloc: Global, key: &HashKey, digests: &[u8]) -> Result<Claim, ProofError>
     ensures claim { IfOk result (IsClaimBy key.now digests.now) }
     ensures refused { IfErr result (IsNoClaim key.now digests.now) }

@@ -10,7 +10,7 @@ pub fn number_at(bytes: &[u8], at: usize) -> u32
     u32::from_be_bytes([bytes[at], bytes[at + 1], bytes[at + 2], bytes[at + 3]])
 }
 
-/// Writes a run over the bytes from `at` on. Those before it and behind it stay.
+/// Writes a run over the bytes from `at` on. Those before it and after it stay.
 pub fn put<const N: usize>(bytes: &mut [u8; N], at: usize, run: &[u8])
     requires { at + length run.now ≤ N }
     ensures front { take (at + length run.now) bytes.new ≡ take at bytes.old ++ run.now }

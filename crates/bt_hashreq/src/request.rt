@@ -7,8 +7,8 @@ use crate::key::HashKey;
 use bt_sparse::SparseTree;
 use bt_tree::NodeHash;
 
-/// The height of the longest run that a key may name.
-const MAX_RUN_HEIGHT: u32 = 9;
+/// The height of the longest run that a key may name (BEP 52 advises 512 digests at most).
+pub const MAX_RUN_HEIGHT: u32 = 9;
 
 /// The key to ask a peer for, so that a leaf is known: the run of leaves around it below the nearest node
 /// that is held, 512 at most, with the uncles up to that node. None where the leaf is known. The leaf is that

@@ -1,4 +1,4 @@
--- The tail of a message: its bytes behind the last whole message block and its padding. Its digest from there.
+-- The tail of a message: its bytes after the last whole message block and its padding. Its digest from there.
 use Rattle.std.proofs.Common.{◌≡◌, ℕ, zero, suc, ◌≤◌, ◌+◌, ◌-◌, ◌*◌, ◌/◌, ◌%◌, ◌^◌, List, [], ◌∷◌, ◌++◌, length, take, drop, replicate, slice_set}
 use Rattle.std.proofs.Common.{arith, refl, sym, ap, ◌∙◌, length-append, length-drop, add-zero}
 use Rattle.std.proofs.Math.Nat.{add-suc}
@@ -17,7 +17,7 @@ length-put_mid a k xs ys fits e =
     let behind : length back ≡ length xs - a - k = omega (arith, length-drop k (drop a xs), length-drop a xs) in
     omega (arith, length-append (take a xs) (ys ++ back), length-append ys back, length-take-le a xs (omega arith), behind)
 
--- the rest of a message over zeros, the byte 0x80 behind it, and the length in bits at the end of block `count`
+-- the rest of a message over zeros, the byte 0x80 after it, and the length in bits at the end of block `count`
 pub IsTail_of : (message rest bits : List ℕ) (count i j : ℕ) → rest ≡ drop (length message / 64 * 64) message
     → count ≡ tail_block_count (length message) → i ≡ length message % 64 → j ≡ 8 → bits ≡ to_be_bytes w64 (length message * 8 % 2 ^ 64)
     → IsTail message (put_mid (64 * count - 8) j (slice_set (rest ++ post_of 0 i (replicate 128 0)) (length message % 64) 0x80) bits)

@@ -33,8 +33,8 @@ fn take_turns(a: u32x8, b: u32x8) -> (u32x8, u32x8)
     a.interleave(b)
 }
 
-/// The same words, each in another place. A place is a number of six bits, the vector's three and the lane's
-/// three; the word there comes from the place whose bits are these, moved round to the right by one.
+/// The words of eight vectors, each moved to another place. A place is a number of six bits, the vector's three and
+/// the lane's three; the word there comes from the place whose bits are these, moved round to the right by one.
 #[inline(always)]
 fn shuffle(vectors: [u32x8; 8]) -> [u32x8; 8]
     ensures { (i j : ℕ) → i < 8 → j < 8

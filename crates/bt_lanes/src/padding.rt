@@ -1,4 +1,4 @@
-//! The end of a message: its bytes behind the last whole message block, and its padding (FIPS 180-4, 5.1.1).
+//! The end of a message: its bytes after the last whole message block, and its padding (FIPS 180-4, 5.1.1).
 
 ghost use Rattle.std.specs.Prelude.{◌≡◌, ℕ, ◌<◌, [], slice_index_or};
 ghost use Rattle.bt_lanes.specs.LaneSteps.{message_at};
@@ -11,7 +11,7 @@ pub(crate) fn tail_block_count(length: usize) -> usize
     (length % 64 + 8) / 64 + 1
 }
 
-/// The bytes of the message behind its last whole message block, and its padding.
+/// The bytes of the message after its last whole message block, and its padding.
 pub(crate) fn tail(message: &[u8]) -> [u8; 128]
     ensures { IsTail message.now result }
 {

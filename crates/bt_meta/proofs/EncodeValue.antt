@@ -11,7 +11,7 @@ use Rattle.std.specs.BTreeMap.{BTreeMap, get, is_at}
 use Rattle.bt_meta.specs.Encode.{with_entry}
 use Rattle.bt_meta.specs.EncodeSteps.{opened, opened_entry}
 
--- ==== the entries of a folder, and a file put behind them
+-- ==== the entries of a folder, and a file put after them
 
 pub entries_push : (es : List (Vec ℕ × Value)) (key : Vec ℕ) (v : Value)
     → entries_of (es ++ (key, v) ∷ []) ≡ entries_before (entries_of es) (entry key.items (data_of v) no_entries)
@@ -63,7 +63,7 @@ pub behind_none : (path : List (List ℕ)) → ComesAfter path no_entries
 behind_none [] = refl
 behind_none (name ∷ path) = (tt, behind_none path)
 
--- ---- a file behind the others
+-- ---- a file after the others
 
 pub file_in : (name : List ℕ) (path : List (List ℕ)) (d : Data) (es earlier inner : Entries) → (earlier, inner) ≡ opened name es
     → ComesAfter (name ∷ path) es
@@ -88,7 +88,7 @@ pub record IsInFolder (Below : Entries → Entries → Type 0) (name : List ℕ)
   pub new_is : new ≡ entries_before earlier (entry name (dictionary more) no_entries)
   pub below : Below inner more
 
--- the new entries are the old ones and behind them, at this path, a file with these properties
+-- the new entries are the old ones and after them, at this path, a file with these properties
 abbrev pub IsPut : Data → List (List ℕ) → Entries → Entries → Type 0
 IsPut d [] old new = (old ≡ no_entries) × (new ≡ entry [] d no_entries)
 IsPut d (name ∷ path) old new = IsInFolder (IsPut d path) name old new
@@ -108,7 +108,7 @@ put_there (name ∷ path) d es behind =
       below = put_there path d _ behind.1;
     }
 
--- ==== files of which no path begins the next go into a tree one behind the other
+-- ==== files of which no path begins the next go into a tree one after the other
 
 module _ (m n : List ℕ) (less : slice_cmp nat_cmp n m ≡ Less) where
   above : (k : List ℕ) → slice_cmp nat_cmp n k ≡ Greater → slice_cmp nat_cmp m k ≡ Greater
@@ -143,7 +143,7 @@ abbrev put : Entries → Given → Entries
 put es f = with_file f.path (properties_made f) es
 
 module _ (files : List Given) (tree_paths : HaveTreePaths files) (named : All (λ g. AreNonEmpty g.path) files) where
-  -- each file stands behind those before it
+  -- each file stands after those before it
   behind_others : (i : ℕ) → i < length files → ComesAfter (get_or files i nothing).path (tree_made (take i files))
   unfolding tree_made
   behind_others zero lt = behind_none _

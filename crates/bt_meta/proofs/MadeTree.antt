@@ -140,7 +140,7 @@ module _ {n : ℕ} where
   unfolding nesting_of HasAscendingKeys HasSmallIntegers
   integer_canonical small = record { nesting = omega arith; keys = tt; integers = omega (arith, ints) }
 
-  -- ---- an entry behind the others
+  -- ---- an entry after the others
 
   module _ (name : List ℕ) {d : Data} where
     last_canonical : (es : Entries) → AreBefore name es → AreCanonicalWithin n es → IsCanonicalWithin n d
@@ -207,7 +207,7 @@ layers_canonical h = values_canonical _ h.ascending (λ key d is. layer _ d (sym
     layer None d e = cc
     layer (Some s) d e = let is : string s ≡ d = cc in rw (← is) string_canonical
 
--- ==== the entries of a tree that files are put into one behind the other
+-- ==== the entries of a tree that files are put into one after the other
 
 -- an entry that no check of its own refuses
 pub record IsGood (p : TreeEntry) : Type 0 where
@@ -243,7 +243,7 @@ module _ (path : List (List ℕ)) where
     unfolding is_node has_key
     good_folder es none = record { node = rw none refl; named = named; shallow = shallow; faultless = λ file. cc }
 
--- ---- a folder behind the others
+-- ---- a folder after the others
 
 nameless : (name : List ℕ) (es others : Entries) → AreBefore name es → first_value_of (entries_before es others) [] ≡ first_value_of others []
 nameless name no_entries others h = refl
@@ -275,7 +275,7 @@ entries_ahead prefix byte bytes inner (entry (b ∷ bs) d es) = rw (entries_ahea
 
 -- ---- a file put into entries
 
--- the new entries are good, where the old ones are, and have one file more, behind the others
+-- the new entries are good, where the old ones are, and have one file more, after the others
 pub record HasFileMore (file : TreeEntry) (old new : List TreeEntry) : Type 0 where
   pub good : All IsGood old → All IsGood new
   pub files : filter is_file new ≡ filter is_file old ++ file ∷ []

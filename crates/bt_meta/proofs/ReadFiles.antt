@@ -268,7 +268,7 @@ module _ (n : ℕ) (layers : Data) where
   abbrev files_behind : List TreeEntry → List TreeEntry → List File
   files_behind = with_earlier (file_at n layers)
 
-  -- each of the files behind some entries begins where those before it end
+  -- each of the files after some entries begins where those before it end
   turn : (before ps : List TreeEntry) → All IsFile ps → (k : ℕ) (d : File) → k < length (files_behind before ps)
       → (get_or (files_behind before ps) k d).first_piece ≡ pieces_of n before + sum_by count (take k (files_behind before ps))
   turn before [] files k d lt = absurd (omega arith)

@@ -1,4 +1,4 @@
--- What the checks of an info dictionary and of a torrent come to, behind those of the head.
+-- What the checks of an info dictionary and of a torrent come to, after those of the head.
 use Rattle.bt_meta.proofs.Base.{◌≡◌, ℕ, List, ◌++◌, true, map, Some, inl, inr, refl, ◌∙◌, codes, sha256, Data, data_of, spelling_of, dictionary_at, File, file_of, files_of, first_of, head_checks, tree_checks, layer_checks, piece_length_of, tree_of, info_of, layers_of, first_fault, metainfo_of, IsHead, IsListing, layer_faults, Head, Listing, MetaError, Option, None, integer, string, dictionary, as_dictionary, no_dictionary}
 use Rattle.std.specs.Prelude.{IsSome, unwrap_or}
 use Rattle.std.specs.Option.{option_and_then, option_map}

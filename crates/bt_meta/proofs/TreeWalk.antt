@@ -109,7 +109,7 @@ module _ (path : List (List ℕ)) where
         → Stops n (tree_entries_among path (entries_of es)) old e
     stops_among i stopped = rw (← take-append-drop i es, map-append _ _ _, among-append _ _) (stops_sooner _ _ stopped)
 
--- ==== what a walk has found behind one entry more
+-- ==== what a walk has found after one entry more
 
 pub length-with_earlier : {A B : Type 0} (f : List A → A → B) (before xs : List A) → length (with_earlier f before xs) ≡ length xs
 length-with_earlier f before [] = refl

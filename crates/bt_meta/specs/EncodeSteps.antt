@@ -24,12 +24,12 @@ pub record IsValueOf (name : List ℕ) (piece_length : ℕ) (files : List Given)
   pub layered : AreLayersOf piece_length files layers
   pub made : value ≡ value_made name piece_length files layers
 
--- the entries, and the others behind them
+-- the entries, and the others after them
 abbrev pub entries_before : Entries → Entries → Entries
 entries_before no_entries others = others
 entries_before (entry key d es) others = entry key d (entries_before es others)
 
--- it is not empty
+-- whether an element is not empty
 abbrev pub is_nonempty : List ℕ → Bool
 is_nonempty [] = false
 is_nonempty (byte ∷ bytes) = true
@@ -59,7 +59,7 @@ opened name (entry key d (entry other e es)) =
     let rest = opened name (entry other e es) in
     (entry key d rest.0, rest.1)
 
--- the path stands behind those of a folder's files: its first name stands behind theirs, or is that of the
+-- the path comes after those of a folder's files: its first name comes after theirs, or is that of the
 -- last folder, and there the rest of the path does
 abbrev pub ComesAfter : List (List ℕ) → Entries → Type 0
 ComesAfter [] es = es ≡ no_entries

@@ -85,7 +85,7 @@ property_checks properties =
     ∷ fault_if (not (has_lawful_root properties)) BadRoot
     ∷ []
 
--- those of a file behind earlier entries; the root conflict is ours
+-- the checks of a file after earlier entries; the root conflict is ours
 abbrev pub file_checks : List TreeEntry → TreeEntry → List Check
 file_checks before p =
     property_checks (properties_of p)
@@ -142,14 +142,14 @@ info_checks info = head_checks info ++ tree_checks (piece_length_of info) (tree_
 
 -- ---- the layers of the files
 
--- what is looked for in these bytes, as the layer of a file of so many bytes with this root
+-- what is looked for in these bytes, as the layer of a file of this many bytes with this root
 abbrev pub layer_bytes_checks : ℕ → ℕ → List ℕ → List ℕ → List Check
 layer_bytes_checks piece_length bytes root layer =
     fault_if (not (has_layer_size piece_length bytes layer)) LayerSize
     ∷ fault_if (not (has_root piece_length bytes root layer)) LayerDiffers
     ∷ []
 
--- what is wrong with the layer of a file of so many bytes with this root
+-- what is wrong with the layer of a file of this many bytes with this root
 abbrev pub layer_check_for : ℕ → Data → ℕ → List ℕ → Check
 layer_check_for piece_length layers bytes root =
     if nat_lt piece_length bytes then first_of (

@@ -24,11 +24,11 @@ given_of m = record {
   layer = m.layer.items;
 }
 
--- what it is compared by
+-- what a file is compared by
 abbrev pub content_given : Given → Content
 content_given f = record { length = f.length; root = f.root }
 
--- its root is a digest of 32 bytes, as any is in memory
+-- the file's root is a digest of 32 bytes, as any is in memory
 abbrev pub HasRoot : Given → Type 0
 HasRoot f = length f.root ≡ 32
 

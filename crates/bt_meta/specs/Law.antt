@@ -72,7 +72,7 @@ LiesInItsPiece = (torrent : Metainfo) (piece file block : ℕ) (run : BlockRun) 
     → ArePieceBlocks torrent piece run → IsBlockRange torrent file block range
     → (range.piece ≡ piece) ↔ IsOfRun run file block
 
--- it begins there behind the piece's blocks before it
+-- the range of a block begins in its piece after the piece's blocks before it
 abbrev pub BeginsBehindBlocks : Type 0
 BeginsBehindBlocks = (torrent : Metainfo) (piece file block : ℕ) (run : BlockRun) (range : PieceRange)
     → IsPieceLength torrent.piece_length → IsLaidOut torrent.piece_length torrent.files

@@ -9,7 +9,7 @@ use Rattle.bt_meta.specs.Faults.{Check, first_of, layer_bytes_checks, layer_chec
 abbrev pub with_layer : ℕ → Data → File → File
 with_layer piece_length layers f = record f { layer = layer_for piece_length layers f.length f.root }
 
--- what is wrong with these bytes as the layer of a file of so many bytes with this root
+-- what is wrong with these bytes as the layer of a file of this many bytes with this root
 abbrev pub layer_bytes_fault : ℕ → ℕ → List ℕ → List ℕ → Check
 layer_bytes_fault piece_length bytes root layer = first_of (layer_bytes_checks piece_length bytes root layer)
 

@@ -17,6 +17,6 @@ max_file_count = 65536
 abbrev pub max_path_length : ℕ
 max_path_length = 64
 
--- so many files are too many, or so many pieces
+-- whether there are too many files, or too many pieces
 abbrev pub are_too_many : ℕ → ℕ → Bool
 are_too_many files pieces = nat_lt max_file_count files || nat_lt max_piece_count pieces

@@ -5,7 +5,7 @@ use Rattle.bt_meta.specs.Files.{File, piece_count}
 use Rattle.bt_meta.specs.Torrent.{Metainfo}
 use Rattle.bt_meta.specs.declared.torrent.Span.{Span}
 
--- so many bytes of a piece, from the byte `begin` on, are those of the span
+-- `count` bytes of a piece, from the byte `begin` on, are those of the span
 pub record IsPlace (torrent : Metainfo) (piece begin count : ℕ) (span : Span) : Type 0 where
   pub file : File
   pub listed : span.file < length torrent.files

@@ -9,7 +9,7 @@ pub record IsLastFileAt (files : List File) (piece index : ℕ) : Type 0 where
   pub last : (k : ℕ) (d : File) → index < k → k < length files
       → piece < (get_or files k d).first_piece
 
--- each file begins behind the piece
+-- each file begins after the piece
 abbrev pub HasNoFileAt : List File → ℕ → Type 0
 HasNoFileAt files piece = (k : ℕ) (d : File) → k < length files
     → piece < (get_or files k d).first_piece

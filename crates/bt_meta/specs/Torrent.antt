@@ -50,7 +50,7 @@ pub record IsTorrent (bytes : List ℕ) (torrent : Metainfo) : Type 0 where
   pub faultless : first_fault value ≡ None
   pub described : torrent ≡ metainfo_of (info_of value) (layers_of value)
 
--- the same of an info dictionary alone, which says nothing of layers
+-- the bytes spell the torrent of an info dictionary alone, which says nothing of layers
 pub record IsInfo (bytes : List ℕ) (torrent : Metainfo) : Type 0 where
   pub value : Data
   pub small : length bytes ≤ max_text_length

@@ -21,18 +21,18 @@ pub record IsWalkOver (piece_length : ℕ) (entries : List TreeEntry) (walk : Wa
   pub short : AreShort (map file_of walk.files.items)
   pub lengths : HasLengths walk.lengths (contents_of entries)
 
--- behind whichever entries, the walk tells this of all of them and of the first fault of these
+-- after whichever entries, the walk tells this of all of them and of the first fault of these
 pub record Walks (piece_length : ℕ) (entries : List TreeEntry) (old : Walk)
     (P : List TreeEntry → Check → Type 0) : Type 0 where
   pub told : (before : List TreeEntry) → IsWalkOver piece_length before old
       → P (before ++ entries) (first_of (with_earlier (entry_check piece_length) before entries))
 
--- it comes past these too, and they have no fault
+-- the walk comes past these entries too, and they have no fault
 abbrev pub Passes : ℕ → List TreeEntry → Walk → Walk → Type 0
 Passes piece_length entries old new =
     Walks piece_length entries old (λ all fault. IsWalkOver piece_length all new × (fault ≡ None))
 
--- it is refused at the first fault of these
+-- the walk is refused at the first fault of these entries
 abbrev pub Stops : ℕ → List TreeEntry → Walk → MetaError → Type 0
 Stops piece_length entries old e = Walks piece_length entries old (λ all fault. Refuses fault e)
 
@@ -73,6 +73,6 @@ Enters piece_length path key d old new (Some inner) =
     (inner ≡ p.path) × Passes piece_length (p ∷ []) old new
     × (tree_entries_of path key d ≡ p ∷ tree_entries_below p.path d)
 
--- it is refused at the first fault of the entry
+-- the walk is refused at the first fault of the entry
 abbrev pub StopsAtEntry : ℕ → List (List ℕ) → List ℕ → Data → Walk → MetaError → Type 0
 StopsAtEntry piece_length path key d old e = Stops piece_length (tree_entries_of path key d) old e

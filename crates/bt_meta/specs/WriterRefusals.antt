@@ -41,7 +41,7 @@ own_refusal piece_length f = first_of (
     ∷ layer_refusal piece_length f
     ∷ [])
 
--- a file, behind those that were given before it
+-- a file, after those that were given before it
 abbrev pub file_refusal : ℕ → List Given → Given → Check
 file_refusal piece_length before f = first_of (
     own_refusal piece_length f

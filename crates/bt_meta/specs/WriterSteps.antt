@@ -24,7 +24,7 @@ pub record IsWithinLimits (tally : Tally) : Type 0 where
 abbrev pub Refuses : Check → MakeError → Type 0
 Refuses check e = (e ≡ OutOfMemory) ⊎ (check ≡ Some e)
 
--- what refuses a file behind others: the first of its checks, or out of memory, where its own checks pass and
+-- what refuses a file after others: the first of its checks, or out of memory, where its own checks pass and
 -- its root has no conflict
 abbrev pub RefusesFile : ℕ → List Given → Given → MakeError → Type 0
 RefusesFile piece_length files f e =

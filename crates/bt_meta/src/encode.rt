@@ -77,7 +77,7 @@ fn tree_of(alloc: Global, files: &[&Made]) -> Result<Entries, AllocError>
     Ok(tree)
 }
 
-/// The folder with a file behind the others, at a path that stands behind theirs.
+/// The folder with a file after the others, at a path that comes after theirs.
 #[tactic(auto, using(crate::proofs::Steps::folder_with_steps), unfolding(crate::specs::Encode::with_file, crate::specs::Encode::with_entry))]
 fn folder_with(
     alloc: Global,
@@ -194,7 +194,7 @@ fn layer_entries(alloc: Global, layers: &BTreeMap<Hash32, &[u8]>) -> Result<Entr
     Ok(entries)
 }
 
-/// The entries with one behind them.
+/// The entries with one more after them.
 #[tactic(auto, using(crate::proofs::EncodeValue::entries_push))]
 fn entries_with(
     alloc: Global,

@@ -73,7 +73,7 @@ impl FilePath {
         self.count
     }
 
-    /// Its elements, from the top down. It takes no memory.
+    /// The path's elements, from the top down. It takes no memory.
     pub fn elements(&self) -> ArrayVec<&str, 64>
         ensures { texts result.items ≡ self.now }
     {

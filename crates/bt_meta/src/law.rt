@@ -34,7 +34,7 @@ pub fn layers_are_of_trees()
 {}
 
 /// The laws by which `Torrent::blocks_of` and `Torrent::range_of` are each other's inverse: the range of a
-/// block lies in a piece of the torrent, and in that piece alone whose run has the block, behind the bytes of
+/// block lies in a piece of the torrent, and in that piece alone whose run has the block, after the bytes of
 /// the run's blocks before it; and each block of a run is one of the torrent. They do nothing when they run.
 pub fn blocks_and_ranges_agree()
     ensures in_piece { LiesInItsPiece }

@@ -152,7 +152,7 @@ pub(crate) fn check(
     }
 }
 
-/// The shape of a tree over so many bytes.
+/// The shape of a tree over this many bytes.
 fn shape(bytes: u64) -> Geometry
     requires { IsFileLength bytes }
     ensures { result ≡ bytes }

@@ -14,6 +14,7 @@ mod torrent;
 mod walk;
 mod writer;
 
+pub use bt_tree::MAX_FILE_LENGTH;
 pub use error::MetaError;
 pub use file_path::{FilePath, MAX_PATH_LENGTH};
 pub use law::{
@@ -21,7 +22,6 @@ pub use law::{
     torrents_are_made_from_files, torrents_are_read_back, torrents_tell_files,
 };
 pub use piece_blocks::{BlockRun, PieceRange};
-pub use properties::MAX_FILE_LENGTH;
 pub use reader::{MAX_TEXT_LENGTH, read_info, read_torrent};
 pub use torrent::{FileEntry, Span, Torrent};
 pub use walk::{MAX_FILES, MAX_PIECES};

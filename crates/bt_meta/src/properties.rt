@@ -8,12 +8,9 @@ ghost use Rattle.bt_meta.specs.PropertySteps.{IsFileFacts, NotesLength, IsLength
 use crate::error::MetaError;
 use crate::fields::{has, natural, string};
 use bt_bencode::Value;
-use bt_tree::Hash32;
+use bt_tree::{Hash32, MAX_FILE_LENGTH};
 use std::collections::BTreeMap;
 use std::str;
-
-/// The longest file: 2^40 bytes.
-pub const MAX_FILE_LENGTH: u64 = 1 << 40;
 
 /// What the properties of a file say.
 #[derive(Clone, Copy)]

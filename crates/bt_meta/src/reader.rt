@@ -43,7 +43,8 @@ pub fn read_torrent(alloc: Global, bytes: &[u8]) -> Result<Torrent, MetaError>
 
 /// The torrent whose `info` the bytes spell: it has no layers, and none is looked for.
 ///
-/// Errors: those of [`read_torrent`] but the three of layers, in its order.
+/// Errors: the first of [`MetaError`] but `LayerMissing`, `LayerSize` and `LayerDiffers` that applies; `OutOfMemory`
+/// may stand in place of any.
 #[tactic(auto, using(crate::proofs::Steps::read_steps))]
 pub fn read_info(alloc: Global, bytes: &[u8]) -> Result<Torrent, MetaError>
     ensures torrent { IfOk result (IsInfo bytes.now) }

@@ -89,7 +89,7 @@ impl Torrent {
         }
     }
 
-    /// The name that its maker gave it. It is advice, and may be any bytes.
+    /// The name that the torrent's maker gave it. It is advice, and may be any bytes.
     pub fn name(&self) -> &[u8]
         ensures { result.now ≡ self.now.name }
     {
@@ -104,7 +104,7 @@ impl Torrent {
         self.piece_length
     }
 
-    /// How many pieces its files have: at most 2^21.
+    /// How many pieces the torrent's files have: at most 2^21.
     pub fn pieces(&self) -> u32
         ensures counted { result ≡ total_pieces self.now }
         ensures few { result ≤ max_piece_count }
@@ -119,7 +119,7 @@ impl Torrent {
         self.infohash
     }
 
-    /// Its files, in the order of their paths: 1 to 65,536. Every torrent keeps to this: each path is made of
+    /// The torrent's files, in the order of their paths: 1 to 65,536. Every torrent keeps to this: each path is made of
     /// lawful elements, and neither is nor begins another; files that are not empty and have one root have
     /// one length; and a layer that is there gives its file's root.
     pub fn files(&self) -> &[FileEntry]

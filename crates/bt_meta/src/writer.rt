@@ -19,11 +19,11 @@ use crate::encode::value_of;
 use crate::error::MetaError;
 use crate::file_path::MAX_PATH_LENGTH;
 use crate::layers::check as check_bytes;
-use crate::properties::{MAX_FILE_LENGTH, note_length, path_element};
+use crate::properties::{note_length, path_element};
 use crate::reader::{MAX_TEXT_LENGTH, infohash_in, is_lawful_length};
 use crate::walk::{MAX_FILES, MAX_PIECES};
 use bt_bencode::write;
-use bt_tree::Hash32;
+use bt_tree::{Hash32, MAX_FILE_LENGTH};
 use std::alloc::{AllocError, Global};
 use std::cmp::Ordering;
 use std::collections::BTreeMap;
@@ -66,7 +66,7 @@ pub enum MakeError {
     /// Two files have one root and two lengths.
     #[error("N6 RootConflict")]
     RootConflict,
-    /// No file; or more than 64 elements in a path, 65,536 files, 2^21 pieces or 2^27 bytes of text.
+    /// There is no file; or more than 64 elements in a path, 65,536 files, 2^21 pieces or 2^27 bytes of text.
     #[error("N7 Count")]
     Count,
     #[error("N8 OutOfMemory")]
@@ -81,7 +81,9 @@ impl From<AllocError> for MakeError {
     }
 }
 
-/// The text of the torrent of these files, with this name: see [`make_torrent`].
+/// The text of the torrent of these files, with this name, as [`make_torrent`] makes it.
+///
+/// Errors: those of [`make_torrent`].
 pub fn make(
     alloc: Global,
     name: &[u8],
@@ -98,14 +100,16 @@ pub fn make(
 /// A torrent that was made.
 #[derive(Debug, Drop)]
 pub struct MadeTorrent {
-    /// Its bytes.
+    /// The torrent's bytes.
     pub text: Vec<u8>,
-    /// The SHA-256 of those of `info` in it.
+    /// The SHA-256 of the bytes of `info` in it.
     pub infohash: Hash32,
 }
 
 /// The torrent of these files, with this name: the canonical bencoding of its keys, with the files in the
 /// order of their paths; and its infohash.
+///
+/// Errors: the first of [`MakeError`] that applies, in the order told there.
 #[tactic(auto, using(crate::proofs::Steps::make_steps), unfolding(crate::specs::WriterRefusals::refusal_of_files))]
 pub fn make_torrent(
     alloc: Global,

@@ -37,7 +37,7 @@ pub covered_here : (n : ℕ) (c : Claim) (above i : ℕ) → run_node c * 2 ^ (r
 unfolding covered_count
 covered_here n c above i from to real = omega arith
 
--- and behind them there is none
+-- and after them there is none
 pub covered_past : (n : ℕ) (c : Claim) (above : ℕ) → covered_count n c above < 2 ^ (run_height c - above)
     → real_width n (c.base + above) ≤ run_node c * 2 ^ (run_height c - above) + covered_count n c above
 unfolding covered_count

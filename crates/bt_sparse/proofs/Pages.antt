@@ -25,7 +25,7 @@ pub new_slots : (ds : List (List ℕ)) (ws : List ℕ) → ds ≡ [] → slots_o
 unfolding slots_of
 new_slots ds ws e = rw e
 
--- ---- a page that grows: the first of a list, and zeros behind the last
+-- ---- a page that grows: the first of a list, and zeros after the last
 pub resized_before : {A : Type 0} (xs : List A) (n i : ℕ) (a d : A) → i < length xs → length xs ≤ n → get_or (take n xs ++ replicate (n - length xs) a) i d ≡ get_or xs i d
 resized_before xs n i a d lt le = grind (arith, elements)
 

@@ -1,4 +1,4 @@
--- The nodes of a run's layers that cover a block, and behind them the padding.
+-- The nodes of a run's layers that cover a block, and after them the padding.
 use Rattle.std.proofs.Common.{◌≡◌, ℕ, ◌+◌, ◌-◌, ◌*◌, ◌/◌, ◌%◌, ◌^◌, ◌<◌, ◌≤◌, inl, inr, List, [], length, take, sym, ap, ◌∙◌, arith}
 use Rattle.std.proofs.lemmas.Bool.{cases_lt}
 use Rattle.std.proofs.lemmas.List.{length-take-le, get_or-take}
@@ -13,7 +13,7 @@ use Rattle.bt_sparse.proofs.Covered.{half_width, covered_limit, covered_past, co
 use Rattle.bt_sparse.proofs.Expansions.{in_row, run_nodes}
 use Rattle.bt_sparse.proofs.Paddings.{padded_run}
 
--- behind an odd number of nodes that cover a block there is one that covers none
+-- after an odd number of nodes that cover a block there is one that covers none
 record HasOdd (n : ℕ) (c : Claim) (above : ℕ) : Type 0 where
   less : covered_count n c above < 2 ^ (run_height c - above)
   past : real_width n (c.base + above) ≤ run_node c * 2 ^ (run_height c - above) + covered_count n c above

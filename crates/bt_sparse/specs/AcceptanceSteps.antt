@@ -89,7 +89,7 @@ pub record IsGrown (dig : List ℕ → List ℕ) (c : Claim) (n : ℕ) (old new 
   pub sizes : HasDigests old → HasDigests new
   pub size_is : finite.len new ≡ finite.len old + count
 
--- and all of these pairs' nodes are there
+-- claimed nodes were added to what was there, and all of these pairs' nodes are there
 pub record IsGrownBy (dig : List ℕ → List ℕ) (c : Claim) (n : ℕ) (old new : Nodes)
     (count : ℕ) (pairs : List ClaimedPair) : Type 0 where
   pub grown : IsGrown dig c n old new count

@@ -53,7 +53,7 @@ pub record IsAnswer (dig : List ℕ → List ℕ) (k : Facts) (base index count 
       → value_at dig k (answer_layer base count t) (answer_index index count t)
       ≡ Some (slice_index_or digests t [])
 
--- one of them is not known
+-- one of the nodes that a request asks for is not known
 pub record HasUnknown (dig : List ℕ → List ℕ) (k : Facts) (base index count layers : ℕ) : Type 0 where
   pub t : ℕ
   pub within : t < answer_size count layers

@@ -60,7 +60,7 @@ abbrev pub AreRunNodes : (List ℕ → List ℕ) → Claim → ℕ → ℕ → L
 AreRunNodes dig c above first nodes =
     (i : ℕ) → i < length nodes → slice_index_or nodes i [] ≡ row_node dig (run_digest c) above (first + i)
 
--- behind an odd number of nodes of a layer stands the padding
+-- after an odd number of nodes of a layer stands the padding
 pub record IsCompleted (padding : List ℕ) (old new : List (List ℕ)) : Type 0 where
   pub size : length new ≡ length old + length old % 2
   pub kept : (i : ℕ) → i < length old → slice_index_or new i [] ≡ slice_index_or old i []
@@ -80,7 +80,7 @@ pub record IsShort (c : Claim) : Type 0 where
   pub narrow : c.index + length c.run ≤ max_block_count
   pub low : c.base + run_height c ≤ max_height
 
--- all of them, and the top's digest
+-- all pairs that a claim says, and the top's digest
 pub record IsExpansion (dig : List ℕ → List ℕ) (n : ℕ) (c : Claim) (e : Expansion) : Type 0 where
   pub pairs : e.pairs.items ≡ claimed_pairs dig n c
   pub digest : e.top_digest ≡ top_digest dig c

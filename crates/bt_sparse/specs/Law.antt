@@ -15,7 +15,7 @@ abbrev pub LayersAreSound : (List ℕ → List ℕ) → Type 0
 LayersAreSound dig = (file_length layer : ℕ) (root bytes : List ℕ) (k : Facts) → IsFileLength file_length
     → HoldsLayer dig file_length root layer bytes k → IsSound dig k
 
--- and so is a tree of which the root alone is known
+-- A tree of which the root alone is known is sound.
 abbrev pub RootsAreSound : (List ℕ → List ℕ) → Type 0
 RootsAreSound dig = (file_length : ℕ) (root : List ℕ) → IsFileLength file_length → length root ≡ 32
     → IsSound dig (root_facts file_length root)
@@ -60,7 +60,7 @@ AnswersAreTaken dig = (k other : Facts) (base index count layers : ℕ) (digests
     → Agrees dig other (claim_of base index count digests)
     → IsAcceptable dig other (claim_of base index count digests)
 
--- and one that knows the root alone accepts it, where the uncles reach up to the root
+-- a tree that knows the root alone accepts an answer of which the uncles reach up to the root
 abbrev pub AnswersReachRoots : (List ℕ → List ℕ) → Type 0
 AnswersReachRoots dig = (k : Facts) (base index count layers : ℕ) (digests : List (List ℕ)) → IsRooted dig k
     → IsRequest (height k) base index count layers → IsAnswer dig k base index count layers digests

@@ -25,6 +25,6 @@ pub record IsFilled (dig : List ℕ → List ℕ) (n : ℕ) (row : ℕ → List 
       → (base ≤ l) × ((l < top) ⊎ ((l ≡ top) × (i < width))) × (i < real_width n l)
   pub sizes : HasDigests nodes
 
--- all of them up to the root
+-- just the nodes that cover a block are there, all of them from layer `base` up to the root
 abbrev pub IsWhole : (List ℕ → List ℕ) → ℕ → (ℕ → List ℕ) → ℕ → Nodes → Type 0
 IsWhole dig n row base nodes = IsFilled dig n row base (height_of n) (real_width n (height_of n)) nodes

@@ -22,18 +22,21 @@ impl Model for Digests {
 }
 
 impl Digests {
+    /// The list of these digests.
     pub fn new(items: Vec<Hash32>) -> Digests
         ensures { result ≡ items.items }
     {
         Digests { items }
     }
 
+    /// The digests, in their order.
     pub fn as_slice(&self) -> &[Hash32]
         ensures { result.now ≡ self.now }
     {
         self.items.as_slice()
     }
 
+    /// Gives back the `Vec` that the list was made from.
     pub fn into_vec(self) -> Vec<Hash32>
         ensures { result.items ≡ self }
     {

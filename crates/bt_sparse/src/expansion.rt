@@ -141,7 +141,7 @@ fn add_run<H: NodeHash>(
     Ok(nodes[0])
 }
 
-/// Adds the padding behind an odd number of nodes of a layer, so that the last one has its sibling.
+/// Adds the padding after an odd number of nodes of a layer, so that the last one has its sibling.
 fn complete<H: NodeHash>(
     padding: &mut Padding<H>,
     layer: u8,

@@ -21,8 +21,9 @@ use std::alloc::{AllocError, Global};
 impl<H: NodeHash> SparseTree<H> {
     /// The tree of a file of which a layer is known, and so all above it: `bytes` are the digests of the
     /// layer's nodes that cover a block, 32 bytes each, as a torrent's `piece layers` have them (BEP 52).
-    /// `Size`: the tree has no such layer, or the layer has another length. `Differs`: the digests fold to
-    /// another root. Else out of memory.
+    ///
+    /// Errors: `Size` where the tree has no such layer, or the layer has another length; `Differs` where the digests
+    /// fold to another root; `OutOfMemory`.
     pub fn with_layer(
         alloc: Global,
         hash: H,

@@ -5,8 +5,8 @@ use Rattle.bt_tree.specs.Peaks.{row_node, peaks_from, peaks_of, peak_count}
 use Rattle.bt_tree.proofs.TreeNodes.{row_parent}
 use Rattle.bt_tree.proofs.PeaksList.{peak_count_room, peak_count_even, peak_count_odd, peak_count_odd_next, peaks_even, peaks_odd, peaks_odd_next, above_is, half_fits}
 
--- The digest is that of node `rest` of a layer so far up, with so many layers above it, and the peaks are those over
--- the nodes before it.
+-- The digest is that of node `rest` of the layer `level`, which has `above` layers above it, and the peaks are those
+-- over the nodes before it.
 pub record IsCarryStep (dig : List ℕ → List ℕ) (old : List (List ℕ)) (count : ℕ) (leaf : List ℕ) (items : List (List ℕ)) (len rest : ℕ)
     (digest : List ℕ) : Type 0 where
   pub level : ℕ

@@ -49,7 +49,7 @@ pub record BuildsFrom (dig : List ℕ → List ℕ) (b : BuilderState) (file : L
 abbrev pub node_end : BuilderState → ℕ
 node_end b = min (full_block_length * (first_block b + 2 ^ b.layer)) b.file_length
 
--- so many bytes are one or more whole blocks, the next ones below the node: they end where a block does, at
+-- this many bytes are one or more whole blocks, the next ones below the node: they end where a block does, at
 -- the node's end at most
 pub record IsNextRun (b : BuilderState) (bytes : ℕ) : Type 0 where
   pub some : 0 < bytes
@@ -61,7 +61,7 @@ pub record IsBlocksOf (file : List ℕ) (block : ℕ) (run : List ℕ) : Type 0 
   pub here : HasRun file (full_block_length * block) run
   pub whole : (length run % full_block_length ≡ 0) ⊎ (full_block_length * block + length run ≡ length file)
 
--- the same node, with so many more blocks
+-- the same node, with `blocks` more blocks
 pub record TakesBlocks (old new : BuilderState) (blocks : ℕ) : Type 0 where
   pub file_length : new.file_length ≡ old.file_length
   pub layer : new.layer ≡ old.layer

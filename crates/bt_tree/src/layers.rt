@@ -39,6 +39,9 @@ pub fn layer_root<H: NodeHash>(hash: H, geometry: Geometry, layer: u8, bytes: &[
 
 /// Whether the bytes are a layer of a tree with this root: the digests of the layer's nodes that cover a
 /// block, from the left, 32 bytes each. The others are known: they have the digest of `pad`.
+///
+/// Errors: `Size` where the layer is above the root, or the bytes are not 32 for each of its nodes that cover a block;
+/// `Differs` where the digests fold to another root.
 pub fn check_layer<H: NodeHash>(
     hash: H,
     geometry: Geometry,

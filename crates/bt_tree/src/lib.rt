@@ -26,4 +26,6 @@ pub use layers::{LayerError, check_layer, layer_root};
 pub use node_hash::{Hash32, NodeHash, Plain, Weak};
 pub use padding::pad;
 pub use root_builder::{RootBuilder, Shape};
-pub use tree_shape::{BLOCK_LEN, Geometry, is_piece_length, piece_layer, tree_height};
+pub use tree_shape::{
+    BLOCK_LEN, Geometry, MAX_FILE_LENGTH, is_piece_length, piece_layer, tree_height,
+};

@@ -49,7 +49,7 @@ pub(crate) fn add_all<H: NodeHash>(hash: H, peaks: &mut Peaks, count: u32, diges
     }
 }
 
-/// The digest of the node that lies so many layers above the first 2^layers nodes of the row. The row's nodes
+/// The digest of the node that lies `layers` layers above the first 2^layers nodes of the row. The row's nodes
 /// past the first `count` all have the digest `padding`.
 pub(crate) fn close<H: NodeHash>(
     hash: H,

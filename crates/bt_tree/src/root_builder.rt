@@ -99,7 +99,7 @@ impl<H: NodeHash> RootBuilder<H> {
         Ok(())
     }
 
-    /// The node's digest, once every block below it came; `Shape` before.
+    /// The node's digest, once every block below it came. Errors: `Shape` before that.
     pub fn finish(&self) -> Result<Hash32, Shape>
         ensures variant { IsOk result ↔ IsComplete self.now }
         ensures value { IfOk result (λ digest. (file : List ℕ) → BuildsFrom H.digest self.now file
@@ -117,7 +117,7 @@ impl<H: NodeHash> RootBuilder<H> {
         ))
     }
 
-    /// Whether a run of so many bytes is made of next blocks below the node.
+    /// Whether a run of `len` bytes is made of next blocks below the node.
     fn is_next(&self, len: u64) -> bool
         ensures { IsTrue result ↔ IsNextRun self.now len }
     {
@@ -151,7 +151,7 @@ fn push_blocks<H: NodeHash>(hash: H, peaks: &mut Peaks, count: u32, run: &[u8])
     push_each(hash, peaks, count, rest);
 }
 
-/// The same, one block at a time.
+/// Takes the blocks of a run, after the first `count`, one at a time.
 fn push_each<H: NodeHash>(hash: H, peaks: &mut Peaks, count: u32, run: &[u8])
     requires room { count + block_count (length run.now) ≤ max_block_count }
     requires size { array_vec_len peaks.old ≡ peak_count max_height count }

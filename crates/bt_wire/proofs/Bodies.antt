@@ -103,7 +103,7 @@ message_is (HashReject key) lawful = ap HashReject (short_key key lawful)
 pub same_message : (m n : Message) → IsMessage m → IsMessage n → body_of m ≡ body_of n → m ≡ n
 same_message m n m-is n-is e = sym (message_is m m-is) ∙ ap message_in e ∙ message_is n n-is
 
--- the payload of a piece: two numbers and the bytes behind them
+-- the payload of a piece: two numbers and the bytes after them
 pub piece_payload : (payload : List ℕ) (piece begin : ℕ) → to_be_bytes w32 piece ≡ take 4 (drop 0 payload)
     → to_be_bytes w32 begin ≡ take 4 (drop 4 payload)
     → to_be_bytes w32 piece ++ (to_be_bytes w32 begin ++ drop 8 payload) ≡ payload

@@ -16,7 +16,7 @@ pub record SameEvent (e f : WireEvent) (r s : List ℕ) : Type 0 where
   pub event_is : e ≡ f
   pub rest_is : r ≡ s
 
--- a handshake's parts, and what is behind it
+-- a handshake's parts, and what comes after it
 behind_hello : List ℕ → List ℕ → List ℕ → List ℕ → List ℕ
 behind_hello reserved infohash peer_id rest = reserved ++ (infohash ++ (peer_id ++ rest))
 

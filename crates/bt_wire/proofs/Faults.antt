@@ -13,7 +13,7 @@ use Rattle.bt_wire.specs.Event.{IsEvent, HasNoEvent, ShowsFault, ShowsBadProtoco
 use Rattle.bt_wire.proofs.SameFrames.{same_number}
 use Rattle.bt_wire.proofs.Events.{event_frame, fits_number, same_kind}
 
--- more bytes behind take no fault away
+-- more bytes at the end take no fault away
 pub fault_stays : (greeted : Bool) (unread more : List ℕ) (fault : WireError) → ShowsFault greeted unread fault
     → ShowsFault greeted (unread ++ more) fault
 fault_stays false unread more BadProtocol shown =

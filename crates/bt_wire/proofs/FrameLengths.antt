@@ -19,7 +19,7 @@ pub four_up : (bytes : List ℕ) → 4 ≤ message_length bytes
 unfolding message_length
 four_up bytes = omega arith
 
--- bytes that begin with a length field and have as many behind it begin with a frame
+-- bytes that begin with a length field and have as many after it begin with a frame
 pub begins_frame : (bytes : List ℕ) (n : ℕ) → to_be_bytes w32 n ≡ take 4 bytes → n < 2 ^ 32 → 4 + n ≤ length bytes
     → BeginsFrame bytes (4 + n)
 begins_frame bytes n field few inside =

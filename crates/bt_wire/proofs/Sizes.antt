@@ -112,7 +112,7 @@ small_sized (suc (suc (suc (suc (suc (suc (suc (suc zero)))))))) n low size =
     sized (Cancel zero_ask) 8 n _ is_zero_ask tt refl (sym (size.cancel refl))
 small_sized (suc (suc (suc (suc (suc (suc (suc (suc (suc kind))))))))) n low size = absurd (omega arith)
 
--- 21 and the kinds behind
+-- 21 and the kinds after it
 large_sized : (above n : ℕ) → above ≤ 2 → HasSize (above + 21) n → HasPayloadLength (above + 21) n
 large_sized zero n low size =
     sized (HashRequest zero_key) 21 n _ is_zero_key tt refl (key_size zero_key is_zero_key ∙ sym (size.hash_request refl))

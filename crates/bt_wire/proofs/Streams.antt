@@ -25,7 +25,7 @@ one_reading greeted (e ∷ events) (f ∷ others) rest other bytes s t =
       rest_is = tail.rest_is;
     }
 
--- calls from one stream to another, and bytes behind, are a stream where no event is at the end
+-- calls from one stream to another, and bytes after them, are a stream where no event is at the end
 calls : (moves : List Move) (s last : Stream) (unfed : List ℕ) → Leads moves s last → HasNoEvent last.greeted (last.unread ++ unfed)
     → IsStream s.greeted (events_in moves) (last.unread ++ unfed) (s.unread ++ (bytes_in moves ++ unfed))
 calls [] s last unfed leads none =

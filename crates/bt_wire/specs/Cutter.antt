@@ -20,7 +20,7 @@ stream unread greeted failed = record { unread = unread; greeted = greeted; fail
 abbrev pub new_stream : Stream
 new_stream = stream [] false false
 
--- with more bytes behind
+-- a stream with more unread bytes at the end
 abbrev pub fed : Stream → List ℕ → Stream
 fed s bytes = record s { unread = s.unread ++ bytes }
 

@@ -12,7 +12,7 @@ pub record IsFrame (bytes : List ℕ) : Type 0 where
   pub limit : length body < 2 ^ 32
   pub spelled : bytes ≡ to_be_bytes w32 (length body) ++ body
 
--- the first so many bytes are a frame
+-- the first n bytes are a frame
 pub record BeginsFrame (bytes : List ℕ) (n : ℕ) : Type 0 where
   pub inside : n ≤ length bytes
   pub frame : IsFrame (take n bytes)

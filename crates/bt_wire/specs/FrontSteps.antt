@@ -30,17 +30,17 @@ pub record IsLawfulFrame (bytes : List ℕ) : Type 0 where
   pub fits : FitsBody body
   pub spelled : bytes ≡ frame_spelling body
 
--- the first so many bytes are a frame that shows no fault
+-- the first n bytes are a frame that shows no fault
 pub record BeginsLawfulFrame (unread : List ℕ) (n : ℕ) : Type 0 where
   pub inside : n ≤ length unread
   pub frame : IsLawfulFrame (take n unread)
 
--- the first so many bytes are an event's
+-- the first n bytes are an event's
 pub record BeginsEvent (greeted : Bool) (unread : List ℕ) (e : WireEvent) (n : ℕ) : Type 0 where
   pub inside : n ≤ length unread
   pub event : IsEvent greeted e (take n unread)
 
--- the first bytes are this event's, of which there are so many
+-- the first bytes are this event's, and there are as many of them as the number says
 abbrev pub BeginsWith : Bool → List ℕ → WireEvent × ℕ → Type 0
 BeginsWith greeted unread first = BeginsEvent greeted unread first.0 first.1
 

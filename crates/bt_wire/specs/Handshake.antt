@@ -7,11 +7,11 @@ use Rattle.bt_wire.specs.declared.handshake.Handshake.{Handshake}
 abbrev pub protocol : List ℕ
 protocol = 19 ∷ codes "BitTorrent protocol"
 
--- the protocol, the reserved bytes, the infohash, the peer's id
+-- the bytes of a handshake: the protocol, the reserved bytes, the infohash, the peer's id
 abbrev pub handshake_with : List ℕ → Handshake → List ℕ
 handshake_with reserved h = protocol ++ reserved ++ h.infohash ++ h.peer_id
 
--- with reserved bytes that are zero
+-- the bytes of a handshake whose reserved bytes are zero
 abbrev pub handshake_spelling : Handshake → List ℕ
 handshake_spelling h = handshake_with (replicate reserved_length 0) h
 

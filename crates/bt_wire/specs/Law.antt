@@ -10,7 +10,7 @@ use Rattle.bt_wire.specs.declared.event.WireEvent.{WireEvent}
 use Rattle.bt_wire.specs.declared.event.WireEvent.TheVariants.{Hello, Message}
 use Rattle.bt_wire.specs.declared.event.WireError.{WireError}
 
--- The bytes are these events, one behind the other, and then a rest that begins with none. Where no handshake
+-- The bytes are these events, one after the other, and then a rest that begins with none. Where no handshake
 -- has come, the first event is one.
 abbrev pub IsStream : Bool → List WireEvent → List ℕ → List ℕ → Type 0
 IsStream greeted [] rest bytes = (rest ≡ bytes) × HasNoEvent greeted rest
@@ -74,7 +74,7 @@ abbrev pub CuttingMakesNoDifference : Type 0
 CuttingMakesNoDifference = (bytes : List ℕ) (moves others : List Move) (fault other : Option WireError)
     → IsCut bytes moves fault → IsCut bytes others other → AgreeOn moves others fault other
 
--- and these events are the stream's
+-- the events of a cut are those of the whole stream
 abbrev pub CutsAreStreams : Type 0
 CutsAreStreams = (bytes : List ℕ) (moves : List Move) (fault : Option WireError)
     → IsCut bytes moves fault → (rest : List ℕ) × IsStream false (events_in moves) rest bytes
@@ -97,7 +97,7 @@ pub record WritingIsRead : Type 0 where
   pub handshake : (h : Handshake) (rest : List ℕ) (s : Stream) → IsHandshake h → s.greeted ≡ false
       → s.unread ≡ handshake_spelling h ++ rest → MustTake s (Hello h) rest
 
--- where a fault shows there is no event and no other fault, and it still shows with more bytes behind
+-- where a fault shows there is no event and no other fault, and it still shows with more bytes after these
 pub record FaultsStandAlone : Type 0 where
   pub no_event : (greeted : Bool) (unread : List ℕ) (fault : WireError)
       → ShowsFault greeted unread fault → HasNoEvent greeted unread

@@ -9,7 +9,7 @@ use Rattle.bt_wire.specs.declared.message.Ask.{Ask}
 use Rattle.bt_wire.specs.declared.message.Message.{Message}
 use Rattle.bt_wire.specs.declared.message.Message.TheVariants.{KeepAlive, Choke, Unchoke, Interested, NotInterested, Have, Bitfield, Request, Piece, Cancel, HashRequest, Hashes, HashReject}
 
--- what stands behind a length field
+-- what stands after a length field
 pub record Body : Type 0 where
   pub kind : ℕ
   pub payload : List ℕ
@@ -37,7 +37,7 @@ body_of (HashRequest key) = body 21 (key_spelling key)
 body_of (Hashes key digests) = body 22 (key_spelling key ++ digests)
 body_of (HashReject key) = body 23 (key_spelling key)
 
--- how many bytes come behind the length field
+-- how many bytes come after the length field
 abbrev pub length_field : Option Body → ℕ
 length_field None = 0
 length_field (Some b) = 1 + length b.payload
@@ -80,7 +80,7 @@ IsMessage _ = Unit {0}
 abbrev pub IsKnownKind : ℕ → Type 0
 IsKnownKind kind = (m : Message) × (payload : List ℕ) × (body_of m ≡ body kind payload)
 
--- some message of the kind has a payload of so many bytes
+-- some message of the kind has a payload of n bytes
 pub record HasPayloadLength (kind n : ℕ) : Type 0 where
   pub message : Message
   pub payload : List ℕ

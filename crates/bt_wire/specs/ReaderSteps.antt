@@ -1,4 +1,4 @@
--- What the functions behind the cutter say of frames.
+-- What the functions that the cutter calls say of frames.
 use Rattle.std.specs.Prelude.{◌≡◌, ℕ, ◌-◌, ◌%◌, ◌≤◌, ◌⊎◌, List}
 use Rattle.bt_tree.specs.Limits.{digest_length}
 use Rattle.bt_hashreq.specs.Key.{key_length}

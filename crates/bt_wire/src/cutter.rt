@@ -49,7 +49,7 @@ impl Cutter {
         }
     }
 
-    /// Puts bytes behind the unread ones, all or none.
+    /// Puts bytes after the unread ones, all or none.
     ///
     /// Errors: `Failed` after `next` returned a fault of the stream; `OutOfMemory`. Neither changes the
     /// cutter.
@@ -67,7 +67,7 @@ impl Cutter {
         Ok(())
     }
 
-    /// Puts the first `count` bytes of a buffer behind the unread ones, all or none, as `feed` does. Where none
+    /// Puts the first `count` bytes of a buffer after the unread ones, all or none, as `feed` does. Where none
     /// is unread, the cutter's own buffer is at least as long, and the other has room for no more than 131,072
     /// bytes, the two are exchanged, and no byte is copied. So the buffer may hold other bytes afterwards; it does
     /// not get shorter.

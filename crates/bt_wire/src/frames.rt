@@ -11,29 +11,40 @@ use crate::message::Ask;
 use bt_hashreq::number_at;
 use bt_tree::BLOCK_LEN;
 
-/// The kinds of messages, by the byte after the length field.
+/// The kind of the message "choke" (BEP 3). The byte after a message's length field tells its kind.
 pub const CHOKE: u8 = 0;
 
+/// The kind of the message "unchoke" (BEP 3).
 pub const UNCHOKE: u8 = 1;
 
+/// The kind of the message "interested" (BEP 3).
 pub const INTERESTED: u8 = 2;
 
+/// The kind of the message "not interested" (BEP 3).
 pub const NOT_INTERESTED: u8 = 3;
 
+/// The kind of the message "have" (BEP 3).
 pub const HAVE: u8 = 4;
 
+/// The kind of the message "bitfield" (BEP 3).
 pub const BITFIELD: u8 = 5;
 
+/// The kind of the message "request" (BEP 3).
 pub const REQUEST: u8 = 6;
 
+/// The kind of the message "piece" (BEP 3).
 pub const PIECE: u8 = 7;
 
+/// The kind of the message "cancel" (BEP 3).
 pub const CANCEL: u8 = 8;
 
+/// The kind of the message "hash request" (BEP 52).
 pub const HASH_REQUEST: u8 = 21;
 
+/// The kind of the message "hashes" (BEP 52).
 pub const HASHES: u8 = 22;
 
+/// The kind of the message "hash reject" (BEP 52).
 pub const HASH_REJECT: u8 = 23;
 
 /// How many bytes a length field has: it tells how many follow.

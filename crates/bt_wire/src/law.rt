@@ -24,7 +24,7 @@ pub fn writing_is_read()
     ensures { WritingIsRead }
 {}
 
-/// Where a fault shows there is no event and no other fault, and it still shows with more bytes behind. So,
+/// Where a fault shows there is no event and no other fault, and it still shows with more bytes after these. So,
 /// memory aside, the unread bytes determine what `next` returns.
 pub fn faults_stand_alone()
     ensures { FaultsStandAlone }

@@ -3,7 +3,7 @@ use Rattle.bt_meta.specs.WriterRefusals.{Check}
 use Rattle.bt_meta.specs.WriterSteps.{IsTallyOf, IsWithinLimits}
 use Rattle.bt_meta.proofs.writer.check_files.Given as goal
 
--- what the checks of the files behind the first i answer
+-- what the checks of the files after the first i answer
 abbrev pub refusal_from : ℕ → List Made → ℕ → Check
 refusal_from piece_length files i = first_of (with_earlier (file_refusal piece_length) (map given_of (take i files)) (map given_of (drop i files)))
 
