@@ -9,7 +9,7 @@ use Rattle.bt_disk.specs.Calls.{Call, bytes_given, read_fault, HasCalls}
 abbrev pub run_length : ℕ
 run_length = 8 * full_block_length
 
--- the eight blocks that lie in a run of bytes, one behind the other
+-- the eight blocks that lie in a run of bytes, one after the other
 abbrev pub blocks_of : List ℕ → List (List ℕ)
 blocks_of run =
     block_at run 0 ∷ block_at run 1 ∷ block_at run 2 ∷ block_at run 3

@@ -9,6 +9,6 @@ pub record IsDigested (is_full : Bool) (run : List ℕ) (digests : List (List �
   pub room : length run ≡ run_length
   pub each : is_full ≡ true → (j : ℕ) → j < 8 → slice_index_or digests j [] ≡ sha256 (block_at run j)
 
--- so many bytes from byte `at` on are the same
+-- this many bytes from byte `at` on are the same
 abbrev pub AreSameFrom : ℕ → ℕ → List ℕ → List ℕ → Type 0
 AreSameFrom at count one other = (i : ℕ) → at ≤ i → i < at + count → slice_index one i ≡ slice_index other i

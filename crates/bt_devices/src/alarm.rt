@@ -11,7 +11,7 @@ pub struct Alarm {
 }
 
 impl Alarm {
-    /// One that does not ring.
+    /// An alarm that does not ring, and never rang.
     pub fn new() -> Self {
         Alarm {
             rings: Cell::new(false),
@@ -19,16 +19,18 @@ impl Alarm {
         }
     }
 
+    /// Rings, until it is stopped.
     pub fn ring(&self) {
         self.rings.set(true);
         self.has_rung.set(true);
     }
 
-    /// It rings no more, as for a connection that begins.
+    /// Lets it ring no more, as for a connection that begins.
     pub fn stop(&self) {
         self.rings.set(false);
     }
 
+    /// Whether it rang since it was made or stopped last.
     pub fn is_ringing(&self) -> bool {
         self.rings.get()
     }

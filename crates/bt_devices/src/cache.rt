@@ -21,7 +21,7 @@ pub(crate) const RUN_LEN: usize = RUN_BLOCKS * BLOCK_LEN;
 /// Eight blocks of 16,384 bytes and their digests, or none.
 #[derive(Drop)]
 pub struct DigestCache {
-    /// Room for the blocks, one behind the other.
+    /// Room for the blocks, one after the other.
     run: Vec<u8>,
     /// The digest of each, where it is full.
     digests: [Hash32; RUN_BLOCKS],
@@ -112,7 +112,7 @@ impl DigestCache {
     }
 }
 
-/// Writes eight whole blocks one behind the other.
+/// Writes eight whole blocks one after the other.
 fn put_blocks(run: &mut [u8], blocks: &[&[u8]; 8])
     requires room { length run.old ≡ run_length }
     requires whole { All (λ block. length block.now ≡ full_block_length) blocks.now }

@@ -6,7 +6,7 @@ ghost use Rattle.bt_devices.specs.CacheSteps.{AreSameFrom};
 use bt_tree::BLOCK_LEN;
 use std::simd::u8x64;
 
-/// So many bytes are compared at a time.
+/// How many bytes are compared at a time.
 const PART_LEN: usize = 64;
 
 /// Whether two whole blocks are the same. By vectors this takes a small part of the time of `==`, which goes

@@ -10,7 +10,7 @@ use std::cell::RefCell;
 use std::marker::Model;
 
 /// A device whose blocks are read ahead of its reader, eight at a time, and digested there, while they are
-/// read one behind the other. What its reader gets is what the device inside gives it then, and no copy.
+/// read one after the other. What its reader gets is what the device inside gives it then, and no copy.
 ///
 /// As a device it is the one inside, but for the count of failed calls, which begins at 0: a read ahead that
 /// fails is none of its calls.
@@ -154,7 +154,7 @@ impl<'a, D: Disk> Disk for ReadAheadDisk<'a, D> {
             → IsAnswered (D.conduct.history self.old.inner)
             (write_call at bytes.now result) (D.conduct.history self.new.inner) }
     {
-        // Nothing is read ahead behind a write.
+        // Nothing is read ahead after a write.
         self.next = None;
         let answer = self.inner.write_at(at, bytes);
         self.count(&answer);

@@ -14,18 +14,19 @@ pub struct Seal {
 }
 
 impl Seal {
-    /// One that is open.
+    /// A seal that is open: its devices may be written.
     pub fn new() -> Self {
         Seal {
             is_closed: Cell::new(false),
         }
     }
 
-    /// From here on no device of this seal is written. It is never opened again.
+    /// Closes it: from here on no device of this seal is written. It is never opened again.
     pub fn close(&self) {
         self.is_closed.set(true);
     }
 
+    /// Whether it was closed.
     pub fn is_closed(&self) -> bool {
         self.is_closed.get()
     }

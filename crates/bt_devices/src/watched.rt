@@ -28,7 +28,7 @@ impl<'a, T, P> Model for Watched<'a, T, P> {
 }
 
 impl<'a, T, P: Watch> Watched<'a, T, P> {
-    /// One that tells of its calls to `watch`, where there is a name also of the first that fails.
+    /// Tells of the calls of `inner` to `watch`, where there is a name also of the first that fails.
     pub fn new(inner: T, watch: &'a P, name: Option<String>) -> Self
         ensures { result ≡ inner }
     {
@@ -40,7 +40,7 @@ impl<'a, T, P: Watch> Watched<'a, T, P> {
         }
     }
 
-    /// The same of a device that also rings an alarm where a write fails.
+    /// Tells of the calls of `inner` as [`Watched::new`] does, and rings an alarm where a write of it fails.
     pub fn with_alarm(inner: T, watch: &'a P, name: Option<String>, alarm: &'a Alarm) -> Self
         ensures { result ≡ inner }
     {

@@ -26,7 +26,7 @@ new_fault_disk inner = record {
   failed = 0;
 }
 
--- The call of a setting, once it was set to the k-th after so many calls: one that was made before leaves the
+-- The call of a setting, once it was set to the k-th after this many calls: one that was made before leaves the
 -- old setting as it is.
 abbrev pub setting_after : ℕ → ℕ → Option ℕ → Option ℕ
 setting_after calls k old = if nat_lt calls k then Some k else old

@@ -1,5 +1,6 @@
 -- A pool, and how a device of it uses its file.
-use Rattle.std.specs.Prelude.{ℕ, Bool, List, Option}
+use Rattle.std.specs.Prelude.{◌≡◌, ◌⊎◌, ℕ, Bool, List, Option}
+use Rattle.bt_disk.specs.Limits.{max_count}
 use Rattle.bt_disk.specs.Conduct.{Conduct, untrusted}
 use Rattle.bt_disk.specs.FileDisk.{Access, absent, reading, writing}
 use Rattle.bt_disk.specs.declared.opening.FileIdentity.{FileIdentity}
@@ -17,6 +18,17 @@ pub record PoolView : Type 0 where
 
 abbrev pub new_pool : PoolView
 new_pool = record { made = 0 }
+
+-- no further device is made: the last number was given, or what they share has no count left
+abbrev pub IsNoDeviceLeft : {R : Type 0} → (is_shared_out : R → Type 0) → (made : ℕ) → Type 0
+IsNoDeviceLeft {R} is_shared_out made = (made ≡ max_count) ⊎ ((rt : R) × is_shared_out rt)
+
+-- no device of the file at a path is made: a file system of this kind did not open it, or none is left
+abbrev pub IsNotMade :
+    {R : Type 0} → (refuses : R → List ℕ → Type 0) → (is_shared_out : R → Type 0)
+    → (path : List ℕ) → (made : ℕ) → Type 0
+IsNotMade {R} refuses is_shared_out path made =
+    ((rt : R) × refuses rt path) ⊎ IsNoDeviceLeft is_shared_out made
 
 -- A device that a pool made: its number, by which the pool knows its handle, the bytes of its file's path,
 -- whether that file may be written, the identity that the system told when it was opened first (none where it

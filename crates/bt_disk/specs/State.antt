@@ -43,7 +43,7 @@ abbrev pub written : List ℕ → ℕ → List ℕ → List ℕ
 written bytes at more =
     take at bytes ++ replicate (at - length bytes) 0 ++ more ++ drop (at + length more) bytes
 
--- the bytes cut to a length, or with zeros behind them up to it
+-- the bytes cut to a length, or with zeros after them up to it
 abbrev pub resized : List ℕ → ℕ → List ℕ
 resized bytes len = take len bytes ++ replicate (len - length bytes) 0
 

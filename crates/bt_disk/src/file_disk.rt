@@ -1,13 +1,12 @@
 //! A device that is a file of the system.
-ghost use Rattle.std.specs.Prelude.{◌≡◌, ◌≢◌, IfOk};
+ghost use Rattle.std.specs.Prelude.{◌≡◌, ◌≢◌, IfOk, OnErr};
 ghost use Rattle.bt_disk.specs.FileDisk.{writing};
 
+use crate::device_files::DeviceFiles;
 use crate::disk::{DeviceFault, Disk, counted_fault};
-use crate::handle::{
-    Handle, Opened, file_len, open_to_read, open_to_write, read_handle, write_file,
-};
+use crate::handle::{Handle, Opened, file_len, read_handle, write_file};
 use crate::opening::Opening;
-use std::fs::{Files, OpenFile};
+use std::fs::OpenFile;
 use std::io::{Read, Seek, Write};
 use std::marker::Model;
 
@@ -39,11 +38,12 @@ impl<F: Read + Write + Seek + OpenFile + Drop> FileDisk<F> {
     /// longer than the system takes.
     ///
     /// Errors: what lies there is no regular file, or it can't be opened.
-    pub fn reading<R: Files<File = F>>(rt: &R, path: &str) -> Result<Self, DeviceFault>
+    pub fn reading<R: DeviceFiles<File = F>>(rt: &R, path: &str) -> Result<Self, DeviceFault>
+        ensures refused { OnErr result (R.refuses rt.now path.now) }
         ensures failed { IfOk result (λ disk. disk.failed ≡ 0) }
         ensures access { IfOk result (λ disk. disk.access ≢ writing) }
     {
-        let (handle, opening) = match open_to_read(rt, path)? {
+        let (handle, opening) = match rt.open_to_read(path)? {
             Some(opened) => (Handle::Reading(opened.file), opened.opening),
             None => (Handle::Absent, Opening::absent()),
         };
@@ -58,10 +58,11 @@ impl<F: Read + Write + Seek + OpenFile + Drop> FileDisk<F> {
     /// bytes.
     ///
     /// Errors: what lies there is no regular file, or it can't be opened or made.
-    pub fn writing<R: Files<File = F>>(rt: &R, path: &str) -> Result<Self, DeviceFault>
-        ensures { IfOk result (λ disk. disk ≡ record { access = writing; failed = 0 }) }
+    pub fn writing<R: DeviceFiles<File = F>>(rt: &R, path: &str) -> Result<Self, DeviceFault>
+        ensures refused { OnErr result (R.refuses rt.now path.now) }
+        ensures ok { IfOk result (λ disk. disk ≡ record { access = writing; failed = 0 }) }
     {
-        let Opened { file, opening } = open_to_write(rt, path)?;
+        let Opened { file, opening } = rt.open_to_write(path)?;
         Ok(FileDisk {
             handle: Handle::Writing(file),
             opening,

@@ -19,21 +19,13 @@ pub(crate) enum Handle<F> {
 
 /// A regular file that was opened, and what the system told of it then.
 #[derive(Drop)]
-pub(crate) struct Opened<F> {
+pub struct Opened<F> {
     pub file: F,
     pub opening: Opening,
 }
 
-/// Opens a file to read it: none, where there is no file.
-pub(crate) fn open_to_read<R: Files>(
-    rt: &R,
-    path: &str,
-) -> Result<Option<Opened<R::File>>, DeviceFault> {
-    open_present(rt, path, false)
-}
-
 /// Opens a file to read and write it, and makes one with no bytes where there is none.
-pub(crate) fn open_to_write<R: Files>(rt: &R, path: &str) -> Result<Opened<R::File>, DeviceFault> {
+pub(crate) fn open_or_make<R: Files>(rt: &R, path: &str) -> Result<Opened<R::File>, DeviceFault> {
     let is_present = is_present(rt, path)?;
     match OpenOptions::new()
         .read(true)
@@ -175,7 +167,7 @@ fn fill<F: Read>(file: &mut F, out: &mut [u8]) -> Result<usize, DeviceFault>
     Err(DeviceFault)
 }
 
-/// Makes one read, behind the bytes in front that are filled.
+/// Makes one read, to be put after the bytes in front that are filled.
 fn read_more<F: Read>(file: &mut F, out: &mut [u8], filled: usize) -> io::Result<usize>
     requires { filled < length out.old }
     ensures front { take filled out.new ≡ take filled out.old }

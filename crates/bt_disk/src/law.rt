@@ -58,8 +58,8 @@ pub fn devices_keep_bytes<D: Disk>()
         → IsKeptSince (D.conduct.history old) t i byte → IsKeptSince (D.conduct.history new) t i byte }
 {}
 
-/// Of an honest device, where every image since a moment has at most so many bytes, and no call goes further,
-/// every image since has at most so many.
+/// Of an honest device, where every image since a moment has at most `n` bytes, and no call goes further,
+/// every image since has at most `n`.
 pub fn devices_keep_lengths<D: Disk>()
     ensures { (old new : D) (calls : List Call) (t n : ℕ) → D.conduct.honest old
         → HasCalls D.conduct old calls new → All (EndsWithin n) calls

@@ -1,6 +1,7 @@
 //! Devices of bytes that may fail at any call, and what a crash may leave of them.
 #![tactic(auto)]
 
+mod device_files;
 mod disk;
 mod fault_disk;
 mod file_disk;
@@ -13,6 +14,7 @@ mod open_handles;
 mod opening;
 mod pool;
 
+pub use device_files::DeviceFiles;
 pub use disk::{DeviceFault, Disk};
 pub use fault_disk::FaultDisk;
 pub use file_disk::FileDisk;

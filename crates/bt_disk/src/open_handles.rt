@@ -13,7 +13,7 @@ pub(crate) struct Entry<F> {
     file: F,
 }
 
-/// Open handles, the one used last first, where it is soon found: at most so many, for which there is room.
+/// Open handles, the one used last first, where it is soon found: at most `limit`, for which there is room.
 #[derive(Drop)]
 pub(crate) struct OpenHandles<F> {
     entries: VecDeque<Entry<F>>,

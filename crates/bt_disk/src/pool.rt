@@ -1,13 +1,12 @@
 //! Files of the system that share a few open handles.
-ghost use Rattle.std.specs.Prelude.{◌≡◌, ◌≢◌, ◌+◌, ◌<◌, ◌≤◌, IfOk, IfErr, OnOk, true, false, length, take, string_bytes};
+ghost use Rattle.std.specs.Prelude.{◌≡◌, ◌≢◌, ◌+◌, ◌<◌, ◌≤◌, IfOk, IfErr, OnOk, OnErr, true, false, length, take, string_bytes};
 ghost use Rattle.bt_disk.specs.FileDisk.{writing};
 ghost use Rattle.bt_disk.specs.Handle.{IsReadOfFile, IsWrittenToFile};
-ghost use Rattle.bt_disk.specs.Pool.{access_of_use, new_pool};
+ghost use Rattle.bt_disk.specs.Pool.{access_of_use, new_pool, IsNoDeviceLeft, IsNotMade};
 
+use crate::device_files::DeviceFiles;
 use crate::disk::{DeviceFault, Disk, counted_fault};
-use crate::handle::{
-    Opened, file_len, open_present, open_to_read, open_to_write, read_file, write_file,
-};
+use crate::handle::{Opened, file_len, open_present, read_file, write_file};
 use crate::open_handles::OpenHandles;
 use crate::opening::Opening;
 use std::alloc::{AllocError, Global};
@@ -44,7 +43,7 @@ impl<R: Files + Drop> Model for HandlePool<R> {
     ghost view = { λ p. record { made = p.made } };
 }
 
-impl<R: Files + Drop> HandlePool<R> {
+impl<R: DeviceFiles + Drop> HandlePool<R> {
     /// A pool of at most `limit` open handles, which is above 0, for which it takes memory here alone. It has
     /// made no device yet.
     ///
@@ -70,9 +69,10 @@ impl<R: Files + Drop> HandlePool<R> {
         ensures path { IfOk result (λ disk. disk.path ≡ string_bytes path) }
         ensures one_more { IfOk result (λ _. self.new.made ≡ self.old.made + 1) }
         ensures no_more { IfErr result (λ _. self.new ≡ self.old) }
+        ensures fault { OnErr result (IsNotMade R.refuses R.is_shared_out (string_bytes path) self.old.made) }
     {
         make_room(&self.shared);
-        let Some(Opened { file, opening }) = open_to_read(&self.shared.rt, path.as_str())? else {
+        let Some(Opened { file, opening }) = self.shared.rt.open_to_read(path.as_str())? else {
             return self.device(path, Use::Absent, Opening::absent());
         };
         let disk = self.device(path, Use::Reading, opening)?;
@@ -92,9 +92,10 @@ impl<R: Files + Drop> HandlePool<R> {
         ensures path { IfOk result (λ disk. disk.path ≡ string_bytes path) }
         ensures one_more { IfOk result (λ _. self.new.made ≡ self.old.made + 1) }
         ensures no_more { IfErr result (λ _. self.new ≡ self.old) }
+        ensures fault { OnErr result (IsNotMade R.refuses R.is_shared_out (string_bytes path) self.old.made) }
     {
         make_room(&self.shared);
-        let Opened { file, opening } = open_to_write(&self.shared.rt, path.as_str())?;
+        let Opened { file, opening } = self.shared.rt.open_to_write(path.as_str())?;
         let disk = self.device(path, Use::Writing, opening)?;
         put_back(&disk.shared, disk.number, file);
         Ok(disk)
@@ -118,10 +119,9 @@ impl<R: Files + Drop> HandlePool<R> {
         }) }
         ensures one_more { IfOk result (λ _. self.new.made ≡ self.old.made + 1) }
         ensures no_more { IfErr result (λ _. self.new ≡ self.old) }
+        ensures fault { OnErr result (IsNoDeviceLeft R.is_shared_out self.old.made) }
     {
-        let Ok(shared) = self.shared.clone() else {
-            return Err(DeviceFault);
-        };
+        let shared = self.shared.rt.share(&self.shared)?;
         let Some(number) = self.made.checked_add(1) else {
             return Err(DeviceFault);
         };
@@ -151,7 +151,7 @@ enum Use {
 ///
 /// It is as [`FileDisk`](crate::FileDisk) is, but a call may have to open the file, which then has to be
 /// there, or the call fails. A sync makes no call of the system where there is nothing to sync: of a file that is
-/// only read, and behind another sync, with no write and no new length between them. Of many files few are
+/// only read, and after another sync, with no write and no new length between them. Of many files few are
 /// written. A file that is gone is no fault to a sync where it was never written.
 #[derive(Drop)]
 pub struct PooledDisk<R: Files + Drop> {

@@ -42,7 +42,7 @@ time_text seconds =
 
 -- ---- the line
 
--- of so many bytes, and the hundredths of them
+-- of this many bytes, and the hundredths of them
 unfoldable pub all_text : ℕ → ℕ → List ℕ
 all_text all hundredths = codes " of " ++ size_text all ++ codes " (" ++ decimal hundredths ++ codes "%)"
 

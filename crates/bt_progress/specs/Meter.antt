@@ -1,7 +1,7 @@
 -- How much of some work is done, in bytes.
 use Rattle.std.specs.Prelude.{ℕ, ◌+◌, ◌-◌, ◌*◌, ◌/◌, ◌^◌, min, max}
 
--- so many bytes more, in a count of 64 bits, which stays at its greatest value
+-- this many bytes more, in a count of 64 bits, which stays at its greatest value
 abbrev pub count_with : ℕ → ℕ → ℕ
 count_with count bytes = min (2 ^ 64 - 1) (count + bytes)
 

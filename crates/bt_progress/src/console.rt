@@ -23,7 +23,7 @@ pub struct Console<'a, C, W> {
 }
 
 impl<'a, C: Clock, W: Write> Console<'a, C, W> {
-    /// One that has not told anything, on a writer that is a terminal or not.
+    /// A console that has not told anything, on a writer that is a terminal or not.
     pub fn new(alloc: Global, clock: &'a C, writer: W, is_terminal: bool) -> Self {
         Console {
             alloc,

@@ -17,7 +17,7 @@ pub fn escaped(alloc: Global, text: &str) -> Result<String, AllocError>
     Ok(told)
 }
 
-/// The same of a text of several lines: line feeds stay as they are.
+/// A text of several lines as it is told: as [`escaped`] has it, but line feeds stay as they are.
 pub fn escaped_lines(alloc: Global, text: &str) -> Result<String, AllocError>
     ensures { IfOk result (λ told. string_bytes told ≡ escaped_lines_text text.now) }
 {

@@ -14,7 +14,7 @@ const GIBIBYTE: u128 = 1 << 30;
 
 const TEBIBYTE: u128 = 1 << 40;
 
-/// The line on work that has taken so many milliseconds: the bytes done, of all and in hundredths where it is
+/// The line on work that has taken `millis` milliseconds: the bytes done, of all and in hundredths where it is
 /// known how many these are, the bytes a second, and the time that the rest takes at this rate.
 pub fn progress_line(alloc: Global, meter: Meter, millis: u64) -> Result<String, AllocError>
     ensures { IfOk result (λ line. string_bytes line ≡ line_text meter.done meter.all millis) }

@@ -20,7 +20,7 @@ impl Meter {
         Meter { done: 0, all: 0 }
     }
 
-    /// So many bytes more are to be done.
+    /// The same work, of which `bytes` bytes more are to be done.
     pub fn expect(self, bytes: u64) -> Meter
         ensures done { result.done ≡ self.done }
         ensures all { result.all ≡ count_with self.all bytes }
@@ -31,7 +31,7 @@ impl Meter {
         }
     }
 
-    /// So many bytes more are done.
+    /// The same work, of which `bytes` bytes more are done.
     pub fn advance(self, bytes: u64) -> Meter
         ensures done { result.done ≡ count_with self.done bytes }
         ensures all { result.all ≡ self.all }
@@ -57,7 +57,7 @@ impl Meter {
         (self.done as u128 * 100 / self.all as u128).min(100)
     }
 
-    /// How many bytes were done a second, in so many milliseconds.
+    /// How many bytes were done a second, in `millis` milliseconds.
     pub(crate) fn rate(self, millis: u64) -> u128
         ensures { result ≡ rate self.done millis }
     {

@@ -34,7 +34,7 @@ pub(crate) struct Screen<W> {
 }
 
 impl<W: Write> Screen<W> {
-    /// One that nothing is written on, of no work.
+    /// A screen that nothing is written on, of no work.
     pub(crate) fn new(writer: W) -> Self {
         Screen {
             writer,

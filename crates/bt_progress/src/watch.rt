@@ -22,13 +22,13 @@ pub trait Watch {
     /// Gives a hint in a line of its own, where somebody may look on.
     fn hint(&self, text: &str);
 
-    /// Work begins whose bytes are those that go through such calls.
+    /// Tells that work begins whose bytes are those that go through such calls.
     fn begin(&self, call: FileCall);
 
-    /// So many bytes more are to be done.
+    /// Tells that `bytes` bytes more are to be done.
     fn expect(&self, bytes: u64);
 
-    /// So many bytes went through a call.
+    /// Tells that `bytes` bytes went through such a call.
     fn advance(&self, call: FileCall, bytes: u64);
 
     /// Takes the line of progress away, before a line of results is written.
