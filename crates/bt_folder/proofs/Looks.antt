@@ -10,7 +10,7 @@ use Rattle.std.proofs.lemmas.Option.{get_or_from_slice_get, none-some, same_Some
 use Rattle.bt_folder.specs.CaseFolders.{IsOwnIn, name_in}
 use Rattle.bt_folder.specs.CaseNames.{with_name}
 use Rattle.bt_folder.specs.CasePaths.{AreShared, GoesTo, HasNameOfAnother, HasNoPath, IsOwnPath, folder_on, last_path, place_of, texts}
-use Rattle.bt_folder.specs.CasePathsSteps.{AddsName, HasLookedAt, KeepsAbove}
+use Rattle.bt_folder.specs.CasePathsSteps.{AddsName, KeepsAbove}
 use Rattle.bt_folder.specs.Lookup.{Lists}
 use Rattle.bt_folder.specs.declared.case_folder.CaseFolder.{CaseFolder}
 use Rattle.bt_folder.specs.declared.paths_so_far.CasePaths.{CasePaths}
@@ -51,6 +51,21 @@ shared_of items elements shared same apart = record {
   apart = λ inside. apart (omega (arith, inside, length-map elements (λ (e : Bor (List ℕ)). e.now)));
 }
 
+-- `count` names of a path were looked at, each of which is its own: those after the ones that are shared
+pub record HasLookedAt (lists : Lists) (dir : List ℕ) (old new : CasePaths) (path : List (List ℕ))
+    (shared count : ℕ) : Type 0 where
+  pub way : last_path new ≡ take (shared + count) path
+  pub most : vec_len new.folders ≤ shared + count + 1
+  pub fewer : 0 < count → vec_len new.folders ≤ shared + count
+  pub kept : KeepsAbove old new shared
+  pub first : count ≡ 0 → folder_on new shared ≡ folder_on old shared
+  pub is_own : 0 < count → (name : List ℕ) → slice_get path shared ≡ Some name
+      → IsOwnIn lists (place_of dir path shared) (folder_on old shared) (folder_on new shared) name true
+  pub added : 0 < count → (name : List ℕ) → slice_get path shared ≡ Some name → AddsName old new shared name
+  pub alone : (depth : ℕ) (name : List ℕ) → shared < depth → depth < shared + count
+      → slice_get path depth ≡ Some name → (capitals : List ℕ)
+      → name_in (folder_on new depth) capitals ≡ with_name name (λ _. None) capitals
+
 -- ---- one name
 
 -- a name is looked at in the folder at this depth
@@ -85,7 +100,7 @@ module _ (lists : Lists) (dir : List ℕ) (old : CasePaths) (path : List (List �
     alone = λ depth name later below. absurd (omega (arith, later, below));
   }
 
-  -- the folders behind the first are new
+  -- the folders after the first are new
   no_folder : (mid : CasePaths) (count : ℕ) → 0 < count → Looked mid count → folder_on mid (shared + count) ≡ None
   no_folder mid count some before =
       slice_get_past mid.folders.items (shared + count) (omega (arith, before.fewer some, mid.folders.ok.0))
@@ -119,7 +134,7 @@ module _ (lists : Lists) (dir : List ℕ) (old : CasePaths) (path : List (List �
             (before.added (omega arith) first_name first capitals),
       )
 
-  -- a name behind the first is alone in its folder
+  -- a name after the first is alone in its folder
   alone_in_more : (mid new : CasePaths) (count : ℕ) (name : List ℕ) → Looked mid count → slice_get path (shared + count) ≡ Some name
       → Step lists dir mid new (shared + count) name true → (depth : ℕ) (other : List ℕ) → shared < depth → (depth < shared + count) ⊎ (depth ≡ shared + count)
       → slice_get path depth ≡ Some other → (capitals : List ℕ) → name_in (folder_on new depth) capitals ≡ with_name other (λ _. None) capitals

@@ -58,7 +58,7 @@ rest_length elements shared =
     let rest : length (drop shared elements) ≡ length elements - shared = length-drop shared elements in
     length-take-le (length elements - shared) (drop shared elements) (omega (arith, rest))
 
--- an element behind those that are shared
+-- an element after those that are shared
 pub element_at : (elements : List (Bor (List ℕ))) (shared i depth : ℕ) (d : Bor (List ℕ)) → depth ≡ shared + i → i < length elements - shared
     → slice_get (texts elements) depth ≡ Some (get_or (take (length elements - shared) (drop shared elements)) i d).now
 element_at elements shared i depth d at inside =

@@ -1,5 +1,5 @@
 -- Names of one folder, of which some are one but for case.
-use Rattle.std.specs.Prelude.{◌≡◌, ◌⊎◌, ℕ, ◌&&◌, Bool, true, List, Option, None, Some, MatchOption, Ok}
+use Rattle.std.specs.Prelude.{◌≡◌, ◌⊎◌, ℕ, ◌&&◌, Bool, true, false, List, Option, None, Some, MatchOption, Ok}
 use Rattle.std.specs.Option.{option_and_then}
 use Rattle.std.specs.StrCase.Upper.{str_to_uppercase}
 use Rattle.bt_folder.specs.CaseNames.{name_with}
@@ -21,12 +21,13 @@ abbrev pub listing_of : Option CaseFolder → Option FolderNames
 listing_of folder = option_and_then (λ f. f.listing) folder
 
 -- A name is its own beside one with its capitals just where the folder's listing has both: one that was held before,
--- or that was told now of the folder's place.
+-- or that was told now of the folder's place. It is only by one that was told now that it is not.
 pub record IsOwnBeside (lists : Lists) (place : List ℕ) (before after : Option FolderNames)
     (twin name : List ℕ) (is_own : Bool) : Type 0 where
   pub listing : FolderNames
   pub held : after ≡ Some listing
   pub told : (before ≡ Some listing) ⊎ lists place (Ok listing)
+  pub fresh : is_own ≡ false → lists place (Ok listing)
   pub both : is_own ≡ (has_name listing twin && has_name listing name)
 
 -- whether it is, in a folder: it is, where none was looked at with its capitals

@@ -23,7 +23,7 @@ texts = map (λ t. t.now)
 abbrev pub last_path : CasePaths → List (List ℕ)
 last_path paths = map string_bytes paths.path.items
 
--- the folder that so many of its elements lead to
+-- the folder that this many of its elements lead to
 abbrev pub folder_on : CasePaths → ℕ → Option CaseFolder
 folder_on paths depth = slice_get paths.folders.items depth
 
@@ -31,7 +31,7 @@ folder_on paths depth = slice_get paths.folders.items depth
 abbrev pub HasNoPath : CasePaths → Type 0
 HasNoPath paths = paths.folders.items ≡ []
 
--- The last path and the next begin with so many elements in common, and no more.
+-- The last path and the next begin with this many elements in common, and no more.
 pub record AreShared (last path : List (List ℕ)) (count : ℕ) : Type 0 where
   pub same : take count last ≡ take count path
   pub apart : count < length path → slice_get last count ≢ slice_get path count
@@ -42,7 +42,7 @@ place_of dir path depth = fold path_join dir (take depth path)
 
 -- ---- whether names are their own
 
--- Whether each name of a path is its own: the first one that is not the last path's is. Those behind it are the first
+-- Whether each name of a path is its own: the first one that is not the last path's is. Those after it are the first
 -- of their folders.
 pub record IsOwnPath (lists : Lists) (dir : List ℕ) (old new : CasePaths) (path : List (List ℕ))
     (is_own : Bool) : Type 0 where
@@ -59,7 +59,7 @@ IsPathError lists dir path error =
 
 -- ---- what is known then
 
--- A path is the last one now. The folders stay that both lead to, and each name behind has been looked at: in the first
+-- A path is the last one now. The folders stay that both lead to, and each name after them has been looked at: in the first
 -- of the others beside those before, and else alone.
 pub record GoesTo (old new : CasePaths) (path : List (List ℕ)) : Type 0 where
   pub is_last : last_path new ≡ path

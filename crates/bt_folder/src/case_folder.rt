@@ -11,7 +11,7 @@ use crate::lookup::Lookup;
 use std::alloc::Global;
 use std::rt::Files;
 
-/// The names of one folder that were looked at, and its listing, once it was read.
+/// The names of one folder that were looked at, and its last listing, once it was read.
 #[derive(Drop)]
 pub(crate) struct CaseFolder {
     names: CaseNames,
@@ -19,7 +19,7 @@ pub(crate) struct CaseFolder {
 }
 
 impl CaseFolder {
-    /// No name was looked at.
+    /// A folder of which no name was looked at.
     pub(crate) fn new(alloc: Global) -> Self
         ensures { HasNoName result }
     {
@@ -48,7 +48,8 @@ impl CaseFolder {
         self.stand(rt, folder, twin.as_str(), name)
     }
 
-    /// Whether two names stand in the folder's listing, which is read where it was not.
+    /// Whether two names stand in the folder's listing. That which is held may have been read before their files were
+    /// made, so where it lacks one of them, the folder is listed again: at most once for each name with a twin.
     fn stand<R: Files + AllocGlobal + Clone + Drop + Lookup>(
         &mut self,
         rt: &R,
@@ -61,8 +62,10 @@ impl CaseFolder {
             (R.lists rt.now) folder.now self.old.listing self.new.listing twin.now name.now) }
         ensures error { IfErr result (IsListingError (R.lists rt.now) folder.now) }
     {
-        if let Some(listing) = &self.listing {
-            return Ok(have_both(listing, twin, name));
+        if let Some(listing) = &self.listing
+            && have_both(listing, twin, name)
+        {
+            return Ok(true);
         }
         let listing = rt.names_in(folder)?;
         let stand = have_both(&listing, twin, name);

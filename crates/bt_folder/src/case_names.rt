@@ -16,7 +16,7 @@ pub struct CaseNames {
 }
 
 impl CaseNames {
-    /// No name.
+    /// A set with no name.
     pub fn new(alloc: Global) -> Self
         ensures { (capitals : List ℕ) → name_with result capitals ≡ None }
     {

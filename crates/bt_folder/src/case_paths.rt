@@ -100,7 +100,7 @@ impl CasePaths {
         }
     }
 
-    /// Puts a name behind the path so far, whose folder it lies in.
+    /// Puts a name after the path so far, whose folder it lies in.
     fn go_to(&mut self, alloc: Global, name: &str) -> Result<(), AllocError>
         ensures path { OnOk result (last_path self.new ≡ last_path self.old ++ name.now ∷ []) }
         ensures known { OnOk result (vec_len self.old.path < vec_len self.old.folders

@@ -35,7 +35,7 @@ pub struct FolderNames {
 }
 
 impl FolderNames {
-    /// Those of a folder, which is listed once. Names that are no UTF-8 are left out.
+    /// The names in a folder, which is listed once. Names that are no UTF-8 are left out.
     ///
     /// Errors: the folder can't be listed, or memory is refused.
     pub fn read<R: Files + AllocGlobal + Clone + Drop>(
@@ -55,7 +55,7 @@ impl FolderNames {
         self.names.contains(name)
     }
 
-    /// No name.
+    /// A list with no name.
     fn new(alloc: Global) -> Self
         ensures { (name : List ℕ) → has_name result name ≡ false }
     {

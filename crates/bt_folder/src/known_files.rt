@@ -16,7 +16,7 @@ pub struct KnownFiles {
 }
 
 impl KnownFiles {
-    /// No file.
+    /// A set in which no file is known yet.
     pub fn new(alloc: Global) -> Self
         ensures { (file : FileIdentity) → ¬ IsKnown result file }
     {

@@ -34,7 +34,7 @@ impl<R: Files + AllocGlobal + Clone + Drop> Lookup for R {
 
     ghost lists = { λ _ _ _. ⊤ };
 
-    /// No file has the inode 0.
+    /// None where the system tells the inode 0, which no file has.
     fn identity_at(&self, path: &str) -> Option<FileIdentity> {
         match self.metadata(path) {
             Ok(metadata) if metadata.ino() > 0 => Some(FileIdentity {

@@ -7,7 +7,8 @@ use crate::case_folder::CaseFolder;
 /// another name, as they do where a file system does not tell case apart, and may tell two inodes all the same.
 ///
 /// A name that is one with an earlier name of its folder but for case has to stand in the folder's listing, and so has
-/// that one: then they are two. No other name is looked for, so mostly no folder is listed, and each at most once.
+/// that one: then they are two. No other name is looked for, so mostly no folder is listed. One is listed again only
+/// where the last listing lacks such a name, as it does where the file was made since: at most once for each of them.
 #[derive(Drop)]
 pub struct CasePaths {
     /// The elements of the last path, and each folder on it: the first one is that below which the paths lie.

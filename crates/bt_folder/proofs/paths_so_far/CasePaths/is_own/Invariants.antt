@@ -1,7 +1,7 @@
--- The first of the rest was looked at beside those before, and each behind it alone.
+-- The first of the rest was looked at beside those before, and each after it alone.
 use Rattle.std.proofs.Common.{◌≡◌, ◌+◌, vec_len}
 use Rattle.bt_folder.specs.CasePaths.{texts}
-use Rattle.bt_folder.specs.CasePathsSteps.{HasLookedAt}
+use Rattle.bt_folder.proofs.Looks.{HasLookedAt}
 use Rattle.bt_folder.proofs.paths_so_far.CasePaths.is_own.Given as goal
 
 abbrev pub invariant-loop-element : goal.invariant-loop-element
