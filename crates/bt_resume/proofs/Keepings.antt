@@ -26,7 +26,7 @@ pub no_hints_in : (f : Format) (text : LogText) → text ≡ empty_text f → (0
 no_hints_in One text e = (sym (ap (λ t. length (hints_in t)) e), sym (ap format_of e))
 no_hints_in Two text e = (sym (ap (λ t. length (hints_in t)) e), sym (ap format_of e))
 
--- more behind what is kept
+-- more after what is kept
 pub spelled_more : (f : Format) (old more new : List ℕ) (text other : LogText) → AreSpelled f old text → AreSpelled (format_of text) more other
     → new ≡ old ++ more → AreSpelled f new (joined_text text other)
 spelled_more f old more new text other p q new_is =
@@ -78,7 +78,7 @@ no_renewal f bytes h rest more is e renews = renewal_begins_none f more h rest i
 renews_with : (bytes : List ℕ) → take 1 bytes ≡ 50 ∷ [] → bytes ≡ 50 ∷ drop 1 bytes
 renews_with bytes e = sym (take-append-drop 1 bytes) ∙ ap (λ xs. xs ++ drop 1 bytes) e
 
--- the same hints, from behind the byte that may stand in front
+-- the same hints, after the byte that may stand in front
 pub record AreHere (format : Format) (bytes : List ℕ) (hints : List Hint) : Type 0 where
   pub text : LogText
   pub spelled : AreSpelled format bytes text
@@ -122,7 +122,7 @@ no_first_in Two bytes (renewed hs ns) are here none = absurd are.0
 pub no_first : (f : Format) (bytes : List ℕ) (hints : List Hint) → AreHere f bytes hints → BeginsNoHint f bytes → hints ≡ []
 no_first f bytes hints here none = here.hints_are ∙ no_first_in f bytes here.text here.spelled here.here none
 
--- a hint that begins the bytes is the first that they spell, and the bytes behind it spell the others
+-- a hint that begins the bytes is the first that they spell, and the bytes after it spell the others
 pub record IsNext (format : Format) (bytes : List ℕ) (hints : List Hint) (hint : Hint) (len : ℕ) : Type 0 where
   pub other : LogText
   pub hints_are : hints ≡ hint ∷ hints_in other
@@ -175,7 +175,7 @@ pub goes_on : (all others : List Hint) (hint : Hint) (lent : LentHint) → all �
     → MakesProgress {S = List Hint} {A = LentHint} (λ _. Unit {0}) (item_count {A = Hint} (λ s. s)) all (Some lent) others
 goes_on all others hint lent all_is = record { on = λ h. (tt, tt, omega (arith, ap length all_is)); keeps = tt; rests = λ h. tt }
 
--- ---- bytes behind those that are kept
+-- ---- bytes after those that are kept
 
 pub told_kept : (f g : Format) (old new : List ℕ) (seen : IsSpelling f old) (given : IsSpelling f new) (count : ℕ) → new ≡ old
     → (count ≡ length (hints_in seen.0)) × (g ≡ format_of seen.0) → (count ≡ length (hints_in given.0)) × (g ≡ format_of given.0)

@@ -47,7 +47,7 @@ nothing_read One bytes empty = (nothing_begins One bytes empty, λ e. absurd (om
     short = ap (λ xs. length (take 1 xs)) (nil_from_length bytes empty)
 nothing_read Two bytes empty = nothing_begins Two bytes empty
 
--- more behind what is read
+-- more after what is read
 spelled_more : (bytes : List ℕ) (text taken : LogText) (end used room : ℕ) → BeginsIn (format_of text) taken
     → drop 40 bytes ≡ body_spelling text ++ drop end bytes → used ≤ room → take used (take room (drop end bytes)) ≡ body_spelling taken
     → drop 40 bytes ≡ body_spelling (joined_text text taken) ++ drop (end + used) bytes
@@ -77,7 +77,7 @@ module _ {D : Type 0} (conduct : Conduct D) where
       → OfBytes conduct old P
   of_same P old new calls of h = subst P (ap (λ (s : History). s.now.bytes) (calls.answered h)) (of (calls.as_honest.0 h))
 
-  -- what was read so far behind a header of a format, from a device of so many bytes
+  -- what was read so far after a header of a format, from a device of this many bytes
   pub record HasRead (format : Format) (len : ℕ) (old : D) (text : LogText) (end : ℕ) (new : D) : Type 0 where
     pub calls : HasCalls conduct old [] new
     pub begins : BeginsIn format text

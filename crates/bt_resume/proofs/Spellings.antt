@@ -20,7 +20,7 @@ use Rattle.bt_resume.specs.Reader.{IsFirst}
 abbrev IsWhole : List ℕ → Type 0
 IsWhole digest = length digest ≡ 32
 
--- ---- digests, one behind the other
+-- ---- digests, one after the other
 
 pub joined_chunks : (k : ℕ) (bytes : List ℕ) → length bytes ≡ 32 * k → joined (first_chunks 32 k bytes) ≡ bytes
 joined_chunks zero bytes size = sym (nil_from_length bytes (omega (arith, size)))
@@ -34,7 +34,7 @@ whole_chunks (suc k) bytes size =
 
 -- ---- reading a proof
 
--- A key that begins the bytes of a proof, but has no shape or too few bytes behind it.
+-- A key that begins the bytes of a proof, but has no shape or too few bytes after it.
 pub no_proof : (f : Format) (bytes : List ℕ) (key : HashKey) → take 1 bytes ≡ 80 ∷ [] → IsKey key → key_spelling key ≡ take 48 (drop 1 bytes)
     → (HasShape key → length bytes < 49 + 32 * answer_size key.length key.layers) → BeginsNoHint f bytes
 no_proof One bytes key kind is spelled short (Marks i b n) rest hint e =

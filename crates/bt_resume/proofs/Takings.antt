@@ -17,7 +17,7 @@ use Rattle.bt_resume.specs.Reader.{IsFirst, AreFirst, IsTaken, IsRenewed}
 use Rattle.bt_resume.specs.OneSpelling.{key_size, joined_length, hint_is_some}
 use Rattle.bt_resume.proofs.Texts.{spelling_push}
 
--- these hints begin the bytes, spelled by so many of them
+-- these hints begin the bytes, spelled by this many of them
 pub record AreFront (format : Format) (bytes : List ℕ) (hints : List Hint) (used : ℕ) : Type 0 where
   pub lawful : All (IsHint format) hints
   pub size : used ≡ length (hints_spelling format hints)

@@ -52,7 +52,7 @@ pub log_size : (infohash : List ℕ) (text : LogText) → length infohash ≡ 32
 log_size infohash text size =
     omega (arith, header_size (header_format text) infohash size, length-append (header (header_format text) infohash) (body_spelling text))
 
--- ---- one text behind another
+-- ---- one text after another
 
 pub record AreJoined (a b all : LogText) : Type 0 where
   pub body : body_spelling all ≡ body_spelling a ++ body_spelling b

@@ -46,7 +46,7 @@ module _ {D : Type 0} (conduct : Conduct D) where
     pub taken_is :
         OfBytes conduct old (λ bytes. IsTaken format (take room (drop at bytes)) taken used)
 
-  -- a part of the device was read, and what it has put behind what was read before
+  -- a part of the device was read, and what it has put after what was read before
   abbrev pub IsWindowRead : (at room : ℕ) → D → LogText → Result ℕ LogError → LogText → D → Type 0
   IsWindowRead at room old before (Ok used) after new = (taken : LogText)
       × IsWindow at room old (format_of before) taken used new × (after ≡ joined_text before taken)
@@ -56,7 +56,7 @@ module _ {D : Type 0} (conduct : Conduct D) where
   IsWindowRead at room old before (Err OtherTorrent) after new = ⊥
   IsWindowRead at room old before (Err TooLong) after new = ⊥
 
-  -- what lies behind a header of a format, and where it ends
+  -- what lies after a header of a format, and where it ends
   pub record AreContents (format : Format) (old : D) (contents : Contents) (new : D) : Type 0 where
     pub calls : HasCalls conduct old [] new
     pub begins : BeginsIn format contents.hints

@@ -20,7 +20,7 @@ mark_kind = 77
 abbrev pub run_kind : ℕ
 run_kind = 82
 
--- a digest list's bytes, one digest behind the other
+-- a digest list's bytes, one digest after the other
 abbrev pub joined : List (List ℕ) → List ℕ
 joined digests = flat_map (λ digest. digest) digests
 
@@ -64,7 +64,7 @@ pub record IsHint (format : Format) (hint : Hint) : Type 0 where
   pub readable : CanBeReadIn format hint
   pub typed : IsTyped hint
 
--- one hint behind the other
+-- one hint after the other
 abbrev pub hints_spelling : Format → List Hint → List ℕ
 hints_spelling format [] = []
 hints_spelling format (hint ∷ hints) = hint_spelling format hint ++ hints_spelling format hints

@@ -20,7 +20,7 @@ abbrev pub SpellsOneHint : Type 0
 SpellsOneHint = (format : Format) (a b : Hint) (x y : List ℕ) → IsHint format a → IsHint format b
     → hint_spelling format a ++ x ≡ hint_spelling format b ++ y → (a ≡ b) × (x ≡ y)
 
--- a text that was spelled is read back, whatever lies behind it from which nothing is read
+-- a text that was spelled is read back, whatever lies after it from which nothing is read
 abbrev pub AreReadBack : Type 0
 AreReadBack = (text : LogText) (rest : List ℕ) → IsText text → EndsIn (format_of text) rest
     → IsBody (body_spelling text ++ rest) text
@@ -30,7 +30,7 @@ abbrev pub HasOneReading : Type 0
 HasOneReading = (infohash bytes : List ℕ) (a b : LogText) → IsLog infohash bytes a → IsLog infohash bytes b
     → a ≡ b
 
--- behind a header, whatever lies behind a text that was spelled, it is read first
+-- after a header, whatever lies after a text that was spelled, it is read first
 abbrev pub AreReadFirst : Type 0
 AreReadFirst = (format : Format) (text all : LogText) (rest : List ℕ)
     → BeginsIn format text → BeginsIn format all → IsText text → IsBody (body_spelling text ++ rest) all
@@ -140,7 +140,7 @@ module _ {D : Type 0} (conduct : Conduct D) where
       → length infohash ≡ digest_length → conduct.honest old → IsAttached conduct infohash old log
       → (text : LogText) × (log.hints ≡ hints_in text) × Holds log text text
 
-  -- what is read goes on from the text that was held, whatever lies behind it
+  -- what is read goes on from the text that was held, whatever lies after it
   abbrev pub ReloadHolds : Type 0
   ReloadHolds = (old new : LogView D) (result : Result ⊤ LogError) (kept text : LogText)
       → conduct.honest old.disk → IsReloaded conduct old result new → Holds old kept text

@@ -43,17 +43,17 @@ format_name Two = codes "btseed-2"
 abbrev pub header : Format → (infohash : List ℕ) → List ℕ
 header format infohash = format_name format ++ infohash
 
--- the byte "2", behind which a log of format 1 goes on in format 2
+-- the byte "2", after which a log of format 1 goes on in format 2
 abbrev pub renewing_byte : ℕ
 renewing_byte = 50
 
--- what lies behind the header
+-- what lies after the header
 abbrev pub body_spelling : LogText → List ℕ
 body_spelling (of_one hints) = hints_spelling One hints
 body_spelling (of_two hints) = hints_spelling Two hints
 body_spelling (renewed olds news) = hints_spelling One olds ++ renewing_byte ∷ hints_spelling Two news
 
--- the log with this text and nothing behind it, and how long it is
+-- the log with this text and nothing after it, and how long it is
 
 abbrev pub text_spelling : (infohash : List ℕ) → LogText → List ℕ
 text_spelling infohash text = header (header_format text) infohash ++ body_spelling text
@@ -67,12 +67,12 @@ IsText (of_one hints) = All (IsHint One) hints
 IsText (of_two hints) = All (IsHint Two) hints
 IsText (renewed olds news) = All (IsHint One) olds × All (IsHint Two) news
 
--- Nothing is read from these bytes in a format: no hint, and no byte behind which the log goes on in the other.
+-- Nothing is read from these bytes in a format: no hint, and no byte after which the log goes on in the other.
 abbrev pub EndsIn : Format → List ℕ → Type 0
 EndsIn One rest = BeginsNoHint One rest × (take 1 rest ≢ renewing_byte ∷ [])
 EndsIn Two rest = BeginsNoHint Two rest
 
--- What is read of the bytes behind a header: the longest text whose spelling begins them.
+-- What is read of the bytes after a header: the longest text whose spelling begins them.
 pub record IsBody (bytes : List ℕ) (text : LogText) : Type 0 where
   pub lawful : IsText text
   pub rest : List ℕ
@@ -95,7 +95,7 @@ IsOther infohash bytes = (format : Format) → take header_length bytes ≢ head
 
 -- ---- texts that go on
 
--- The text begins behind a header of this format.
+-- The text begins after a header of this format.
 abbrev pub BeginsIn : Format → LogText → Type 0
 BeginsIn One (of_one hints) = ⊤
 BeginsIn One (renewed olds news) = ⊤
@@ -109,7 +109,7 @@ abbrev pub empty_text : Format → LogText
 empty_text One = of_one []
 empty_text Two = of_two []
 
--- the text, and behind it another, which begins in the format of its end
+-- the text, and after it another, which begins in the format of its end
 abbrev pub joined_text : LogText → LogText → LogText
 joined_text (of_one hints) (of_one more) = of_one (hints ++ more)
 joined_text (of_one hints) (renewed olds news) = renewed (hints ++ olds) news

@@ -19,7 +19,7 @@ use Rattle.bt_resume.specs.Hint.{joined, hint_spelling, hints_spelling, IsHint, 
 use Rattle.bt_resume.specs.LogText.{LogText, of_one, of_two, renewed, format_of, body_spelling, IsText, EndsIn, BeginsIn}
 use mathlib.Core.HLevel.{Σ_prop_path}
 
--- the bytes spell this text, which lies behind a header of this format
+-- the bytes spell this text, which lies after a header of this format
 abbrev pub AreSpelled : Format → List ℕ → LogText → Type 0
 AreSpelled format bytes text = BeginsIn format text × IsText text × (bytes ≡ body_spelling text)
 
@@ -30,7 +30,7 @@ IsSpelling format bytes = (text : LogText) × AreSpelled format bytes text
 abbrev IsWhole : List ℕ → Type 0
 IsWhole digest = length digest ≡ 32
 
--- ---- digests, one behind the other
+-- ---- digests, one after the other
 
 pub joined_length : (ds : List (List ℕ)) → All IsWhole ds → length (joined ds) ≡ 32 * length ds
 joined_length [] all = refl
@@ -167,7 +167,7 @@ renewal_begins_none One rest (Marks f b n) more is e = absurd (omega (arith, fir
 renewal_begins_none Two rest (Marks f b n) more is e = absurd (omega (arith, first_byte _ _ _ _ e))
 renewal_begins_none format rest (Proof k ds) more is e = absurd (omega (arith, first_byte _ _ _ _ e))
 
--- what lies behind the first hints, where more begin the bytes
+-- what lies after the first hints, where more begin the bytes
 pub record AreBehind (format : Format) (hints all : List Hint) (x y : List ℕ) : Type 0 where
   pub more : List Hint
   pub lawful : All (IsHint format) more
@@ -214,7 +214,7 @@ same_hints f hints all x y p q no_x no_y e =
 pub byte_renews : (x y : List ℕ) → x ≡ 50 ∷ y → take 1 x ≡ 50 ∷ []
 byte_renews x y e = ap (λ xs. take 1 xs) e
 
--- behind a header, bytes begin with one text from whose end nothing is read
+-- after a header, bytes begin with one text from whose end nothing is read
 pub same_text : (format : Format) (a b : LogText) (x y : List ℕ) → BeginsIn format a → BeginsIn format b
     → IsText a → IsText b → EndsIn (format_of a) x → EndsIn (format_of b) y
     → body_spelling a ++ x ≡ body_spelling b ++ y → a ≡ b

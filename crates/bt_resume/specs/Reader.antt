@@ -28,19 +28,19 @@ pub record IsTaken (format : Format) (bytes : List ℕ) (text : LogText) (used :
   pub spelled : take used bytes ≡ body_spelling text
   pub longest : EndsIn (format_of text) (drop used bytes)
 
--- the bytes spell this text, which ends in this format and has so many hints
+-- the bytes spell this text, which ends in this format and has this many hints
 pub record IsCounted (format : Format) (bytes : List ℕ) (text : LogText) (end : Format) (count : ℕ)
     : Type 0 where
   pub spelled : AreSpelled format bytes text
   pub end_is : end ≡ format_of text
   pub count_is : count ≡ length (hints_in text)
 
--- the byte stands here, behind which a log of format 1 goes on in format 2
+-- the byte stands here, after which a log of format 1 goes on in format 2
 abbrev pub IsRenewed : Format → List ℕ → Type 0
 IsRenewed One bytes = take 1 bytes ≡ renewing_byte ∷ []
 IsRenewed Two bytes = ⊥
 
--- the bytes from behind that byte, where it stands, and the format in which they begin
+-- the bytes after that byte, where it stands, and the format in which they begin
 abbrev pub IsBehindRenewal : Format → List ℕ → Format → List ℕ → Type 0
 IsBehindRenewal One bytes format rest =
     (IsRenewed One bytes × (format ≡ Two) × (rest ≡ drop 1 bytes))

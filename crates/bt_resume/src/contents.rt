@@ -19,7 +19,7 @@ pub(crate) const HEADER_LEN: usize = 40;
 /// How many bytes are read at a time. No hint has more.
 const WINDOW_LEN: usize = 65536;
 
-/// A log has at most so many bytes.
+/// How many bytes a log has at most.
 pub(crate) const MAX_LOG_LEN: u64 = 1 << 40;
 
 /// Where a log ends, and in which format it is there.
@@ -89,7 +89,7 @@ fn header_format(bytes: &[u8], infohash: &Hash32) -> Option<Format>
     None
 }
 
-/// Reads a part of the device into a window, puts the hints that are read at its front behind the others, and
+/// Reads a part of the device into a window, puts the hints that are read at its front after the others, and
 /// says how many bytes spell them. The list asks for no more memory than `room` bytes.
 fn read_window<D: Disk>(
     disk: &mut D,
@@ -110,7 +110,7 @@ fn read_window<D: Disk>(
     Ok(used)
 }
 
-/// Reads the hints behind a header of a format, of a device of so many bytes.
+/// Reads the hints after a header of a format, of a device of `len` bytes.
 fn read_hints<D: Disk>(
     alloc: Global,
     disk: &mut D,
@@ -135,7 +135,7 @@ fn read_hints<D: Disk>(
     Ok(Contents::new(hints, end))
 }
 
-/// Reads the log of a torrent from a device of so many bytes.
+/// Reads the log of a torrent from a device of `len` bytes.
 fn read_contents<D: Disk>(
     alloc: Global,
     disk: &mut D,

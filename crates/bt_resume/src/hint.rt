@@ -6,7 +6,7 @@ use bt_hashreq::{HashKey, digest_count};
 use bt_sparse::Digests;
 use bt_tree::Hash32;
 
-/// No file has more blocks.
+/// How many blocks a file has at most.
 const MAX_BLOCK_COUNT: u64 = 1 << 26;
 
 /// The formats of a log, which spell marks one by one, or as runs.
@@ -21,7 +21,7 @@ pub enum Format {
 pub enum Hint {
     /// The digests that came with a key (BEP 52, "hashes"): those of the run, and then those of the uncles.
     Proof(HashKey, Digests),
-    /// Blocks of one of the torrent's files were marked: so many that follow each other, from the first on.
+    /// Blocks of one of the torrent's files were marked: `count` of them, from the block `first` on.
     Marks { file: u32, first: u32, count: u32 },
 }
 

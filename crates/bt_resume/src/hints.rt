@@ -7,7 +7,7 @@ use crate::reader::{behind_renewal, measure_text, read_hint};
 use std::alloc::{AllocError, Global};
 use std::marker::Model;
 
-/// The hints of a log. They are kept as the bytes behind its header, and take no more memory than these; so
+/// The hints of a log. They are kept as the bytes after its header, and take no more memory than these; so
 /// they are spelled out one after the other, and not told by their index.
 #[derive(Drop)]
 pub struct Hints {
@@ -49,14 +49,14 @@ impl Hints {
         }
     }
 
-    /// In which format the log goes on behind the hints.
+    /// In which format the log goes on after the hints.
     pub(crate) fn format(&self) -> Format
         ensures { result ≡ format_of self.now }
     {
         self.format
     }
 
-    /// Puts what is read at the front of the bytes behind the others, and says how many bytes spell it. The
+    /// Puts what is read at the front of the bytes after the others, and says how many bytes spell it. The
     /// list asks for no more memory than `room` bytes, unless it has more.
     pub(crate) fn take(&mut self, bytes: &[u8], room: usize) -> Result<usize, AllocError>
         ensures { IfOk result (λ used. (taken : LogText) × IsTaken (format_of self.old) bytes.now taken used
@@ -67,7 +67,7 @@ impl Hints {
         Ok(found.len)
     }
 
-    /// Puts the hints that the bytes spell, which are so many and end in a format, behind the others.
+    /// Puts the hints that the bytes spell, which are `count` and end in a format, after the others.
     fn put(
         &mut self,
         bytes: &[u8],
@@ -110,7 +110,7 @@ impl Hints {
     }
 }
 
-/// Puts bytes behind others, which are seldom moved for it.
+/// Puts bytes after others, which are seldom moved for it.
 fn add_bytes(bytes: &mut Vec<u8>, more: &[u8], room: usize) -> Result<(), AllocError>
     ensures added { IfOk result (λ _. bytes.new.items ≡ bytes.old.items ++ more.now) }
     ensures same { IfErr result (λ _. bytes.new.items ≡ bytes.old.items) }
@@ -119,7 +119,7 @@ fn add_bytes(bytes: &mut Vec<u8>, more: &[u8], room: usize) -> Result<(), AllocE
     bytes.extend_from_slice(more)
 }
 
-/// Makes room for more bytes behind others: in all for twice as many as there are, or for `room` if that is
+/// Makes room for more bytes after others: in all for twice as many as there are, or for `room` if that is
 /// less, and at least for those that come.
 fn make_room(bytes: &mut Vec<u8>, more: usize, room: usize) -> Result<(), AllocError>
     ensures same { bytes.new.items ≡ bytes.old.items }

@@ -5,7 +5,7 @@ ghost use Rattle.bt_resume.specs.Law.{SpellsOneHint, AreReadBack, HasOneReading,
 use bt_disk::Disk;
 
 /// A text that was spelled, in either format or in both, is read back: no hint's spelling begins another's,
-/// bytes are read in one way, and what lies behind the last whole hint does not matter. A text that goes on
+/// bytes are read in one way, and what lies after the last whole hint does not matter. A text that goes on
 /// has its hints first.
 pub fn hints_are_read_back()
     ensures one { SpellsOneHint }

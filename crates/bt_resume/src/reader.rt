@@ -28,7 +28,7 @@ pub(crate) struct FoundHint<'a> {
     pub(crate) len: usize,
 }
 
-/// How many hints were read, how many bytes spell them, and in which format the log goes on behind them.
+/// How many hints were read, how many bytes spell them, and in which format the log goes on after them.
 #[derive(Clone, Copy)]
 pub(crate) struct FoundHints {
     pub(crate) count: usize,
@@ -37,7 +37,7 @@ pub(crate) struct FoundHints {
 }
 
 /// What is read at the front of the bytes, where the log is in a format: the hints of this format, as many as
-/// there are, and in format 1, where the byte stands behind which it goes on in format 2, those behind it.
+/// there are, and in format 1, where the byte stands after which it goes on in format 2, those after it.
 pub(crate) fn measure_text(bytes: &[u8], format: Format) -> FoundHints
     ensures text { (text : LogText) × IsTaken format bytes.now text result.len
         × (result.count ≡ length (hints_in text)) × (result.format ≡ format_of text) }
@@ -73,7 +73,7 @@ fn measure_hints(bytes: &[u8], format: Format) -> FoundHints
     FoundHints { count, len, format }
 }
 
-/// The bytes from behind the byte that may stand here, behind which a log of format 1 goes on in format 2.
+/// The bytes after the byte that may stand here, after which a log of format 1 goes on in format 2.
 pub(crate) fn behind_renewal(bytes: &[u8], format: Format) -> LogPart<'_>
     ensures { IsBehindRenewal format bytes.now result.format result.bytes.now }
 {
@@ -86,7 +86,7 @@ pub(crate) fn behind_renewal(bytes: &[u8], format: Format) -> LogPart<'_>
     LogPart { bytes, format }
 }
 
-/// Whether the byte stands here, behind which a log of format 1 goes on in format 2.
+/// Whether the byte stands here, after which a log of format 1 goes on in format 2.
 fn is_renewed(bytes: &[u8], format: Format) -> bool
     ensures yes { OnTrue result (IsRenewed format bytes.now) }
     ensures no { OnFalse result (¬ IsRenewed format bytes.now) }
@@ -145,7 +145,7 @@ fn whole_key(bytes: &[u8]) -> HashKey
     }
 }
 
-/// The digests that lie one behind the other.
+/// The digests that lie one after the other.
 fn whole_digests(bytes: &[u8]) -> &[Hash32]
     requires { length bytes.now % digest_length ≡ 0 }
     ensures joined { joined result.now ≡ bytes.now }

@@ -15,11 +15,11 @@ use std::marker::Model;
 
 /// A log of hints on a device.
 ///
-/// It begins with 40 bytes, `btseed-2` and the torrent's infohash; behind them lies one hint after the
-/// other. The first bytes that are no hint, and all behind them, are ignored and later written over. No
+/// It begins with 40 bytes, `btseed-2` and the torrent's infohash; after them lies one hint after the
+/// other. The first bytes that are no hint, and all after them, are ignored and later written over. No
 /// checksum is needed, since a hint is never trusted. The format is this project's own.
 ///
-/// A log of format 1, which begins with `btseed-1`, is read too. What is appended to it is of format 2, behind
+/// A log of format 1, which begins with `btseed-1`, is read too. What is appended to it is of format 2, after
 /// the byte `2`; nothing in front of it is written again.
 ///
 /// Only `attach` and `reload` take memory: as much as the hints that are read take in the log.
@@ -105,7 +105,7 @@ impl<D: Disk + Drop> ResumeLog<D> {
         &self.hints
     }
 
-    /// In which format the log goes on: 1 in a log of format 1 as long as the byte `2` does not stand behind its
+    /// In which format the log goes on: 1 in a log of format 1 as long as the byte `2` does not stand after its
     /// last hint, or is forgotten; else 2.
     pub fn format(&self) -> u8
         ensures { result ≡ format_number self.now.format }
@@ -146,8 +146,8 @@ impl<D: Disk + Drop> ResumeLog<D> {
         Ok(())
     }
 
-    /// Writes a hint that can be read back behind the last one, by one call of the device; the first one in a
-    /// log of format 1 behind the byte `2`, by the same call. Takes no memory.
+    /// Writes a hint that can be read back after the last one, by one call of the device; the first one in a
+    /// log of format 1 after the byte `2`, by the same call. Takes no memory.
     ///
     /// Errors: `Full` only where the log would get longer than 2^40 bytes, and then nothing is written;
     /// `Device`. After both, what was appended since the last good flush or reading is forgotten: it is to

@@ -17,7 +17,7 @@ pub(crate) const MARK: u8 = b'M';
 /// The first byte of a run of marks, of format 2.
 pub(crate) const RUN: u8 = b'R';
 
-/// The byte behind which a log of format 1 goes on in format 2.
+/// The byte after which a log of format 1 goes on in format 2.
 pub(crate) const RENEWING: u8 = b'2';
 
 /// How many bytes of a proof stand in front of its digests.
@@ -33,7 +33,7 @@ pub(crate) const RUN_LEN: usize = 13;
 pub(crate) const MAX_APPENDED_LEN: usize = 1 + PROOF_FRONT_LEN + 32 * 538;
 
 /// Writes what is appended for a hint to the front of a buffer, and says how many bytes it is: in a log that
-/// ends in format 1 the byte behind which it goes on in format 2, and then the bytes that spell the hint.
+/// ends in format 1 the byte after which it goes on in format 2, and then the bytes that spell the hint.
 pub(crate) fn write_appended(
     format: Format,
     hint: &Hint,
@@ -65,7 +65,7 @@ fn write_hint(hint: &Hint, at: usize, buffer: &mut [u8; MAX_APPENDED_LEN]) -> us
     }
 }
 
-/// The same of a proof.
+/// Writes the bytes that spell a proof in format 2, as [`write_hint`] does.
 fn write_proof(
     key: &HashKey,
     digests: &Digests,
@@ -85,7 +85,7 @@ fn write_proof(
     at + PROOF_FRONT_LEN + bytes.len()
 }
 
-/// The same of a run of marks.
+/// Writes the bytes that spell a run of marks in format 2, as [`write_hint`] does.
 fn write_run(
     file: u32,
     first: u32,

@@ -122,7 +122,7 @@ whole_read : (n : ℕ) (read : BlockRead) → is_whole n read ≡ true → (byte
 whole_read n (given i bytes) e = (bytes, refl, eqb-true (length bytes) (block_length n i) e)
 whole_read n (failed i) e = absurd cc
 
--- the read of the group's block so many places on gave it whole
+-- the read of the group's block this many places on gave it whole
 pub record IsWholeAt (n first : ℕ) (reads : List BlockRead) (j : ℕ) : Type 0 where
   pub bytes : List ℕ
   pub read : get_or reads j (failed 0) ≡ given (first + j) bytes

@@ -109,7 +109,7 @@ written_whole n new old size =
 
 -- ---- the block after a group
 
--- it lies behind the block that was adopted, and not behind the file's end
+-- it lies after the block that was adopted, and not past the file's end
 pub record GoesOn (k : Facts) (from next : ℕ) : Type 0 where
   pub onward : from < blocks_of k → from < next
   pub within : next ≤ blocks_of k

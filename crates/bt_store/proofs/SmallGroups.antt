@@ -337,7 +337,7 @@ module _ (dig : List ℕ → List ℕ) (n : ℕ) (k mid : Facts) (from count : �
             ∙ ap (λ f. range_with_len f (count - (before.next - from))) place;
       }
 
--- Some groups were adopted, and the blocks behind are still a batch.
+-- Some groups were adopted, and the blocks after them are still a batch.
 pub record IsUnderWay {D : Type 0} (dig : List ℕ → List ℕ) (k : Facts) (from anchor count : ℕ) (blocks_found : List BlockFound) (old : StoreView D)
     (mid : Facts) (total : AdoptedGroups) (now : StoreView D) : Type 0 where
   pub low : from ≤ total.next

@@ -17,7 +17,7 @@ use Rattle.bt_store.specs.declared.block_states.BlockState.{BlockState}
 use Rattle.bt_store.specs.declared.block_states.BlockState.TheVariants.{Marked}
 use Rattle.bt_store.specs.declared.adoption.Adopted.{Adopted}
 
--- from a block on, so many whose leaves are known: as many as lie next to each other, but at most eight
+-- how many blocks from one on have known leaves: as many as lie next to each other, but at most eight
 pub record IsKnownGroup (dig : List ℕ → List ℕ) (k : Facts) (from count : ℕ) : Type 0 where
   pub some : 0 < count
   pub few : count ≤ 8
@@ -33,7 +33,7 @@ pub record IsUnknownGroup (k : Facts) (from anchor first count : ℕ) : Type 0 w
   pub starts : first ≡ from / 2 ^ anchor * 2 ^ anchor
   pub counts : count ≡ min (2 ^ anchor) (blocks_of k - first)
 
--- the read gave the whole block, in a file of so many bytes
+-- the read gave the whole block, in a file of this many bytes
 abbrev pub is_whole : ℕ → BlockRead → Bool
 is_whole n (given i bytes) = length bytes == block_length n i
 is_whole n (failed i) = false
@@ -54,7 +54,7 @@ abbrev pub claim_of_reads : (List ℕ → List ℕ) → ℕ → (anchor first : 
 claim_of_reads dig n anchor first reads = leaf_claim first
     (map (claimed_digest dig n) reads ++ replicate (2 ^ anchor - length reads) (padding_digest dig 0))
 
--- so many blocks from the first on are marked
+-- this many blocks from the first on are marked
 unfoldable pub marked_group : (first count : ℕ) → List BlockState → List BlockState
 marked_group first zero states = states
 marked_group first (suc count) states = slice_set (marked_group first count states) (first + count) Marked

@@ -12,7 +12,7 @@ use Rattle.bt_store.specs.declared.error.StoreError.TheVariants.{Range, Device}
 use Rattle.bt_store.specs.declared.arrival.Put.{Put}
 use Rattle.bt_store.specs.declared.arrival.Put.TheVariants.{Already, Wrong, Marked as PutMarked, Waiting as PutWaiting}
 
--- a file of so many bytes has block i, and these bytes are as many as it has
+-- a file of this many bytes has block i, and these bytes are as many as it has
 pub record IsBlock (n i : ℕ) (bytes : List ℕ) : Type 0 where
   pub inside : i < block_count n
   pub whole : length bytes ≡ block_length n i

@@ -20,7 +20,7 @@ abbrev pub block_of : BlockRead → ℕ
 block_of (given i bytes) = i
 block_of (failed i) = i
 
--- the call of the device that it is, in a file of so many bytes: one for the whole block, at its place
+-- the call of the device that it is, in a file of this many bytes: one for the whole block, at its place
 abbrev pub call_of : ℕ → BlockRead → Call
 call_of n (given i bytes) = bytes_given (full_block_length * i) (block_length n i) bytes
 call_of n (failed i) = read_fault (full_block_length * i) (block_length n i)

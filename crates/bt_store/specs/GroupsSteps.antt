@@ -32,8 +32,8 @@ counted_found blocks_found zero tally = tally
 counted_found blocks_found (suc j) tally =
     counted (slice_index_or blocks_found j Failed) (counted_found blocks_found j tally)
 
--- the reads are those of so many blocks from the first on; the list has their digests, and padding behind
--- them; and so many were given whole, and failed
+-- the reads are those of this many blocks from the first on; the list has their digests, and padding after
+-- them; and this many were given whole, and failed
 pub record AreGroupReads (dig : List ℕ → List ℕ) (n first count width : ℕ) (reads : List BlockRead)
     (tally : ReadTally) (digests : List (List ℕ)) : Type 0 where
   pub in_order : map block_of reads ≡ range_with_len first count

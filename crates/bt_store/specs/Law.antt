@@ -85,7 +85,7 @@ abbrev pub WaitingBlocksDiffer : (List ℕ → List ℕ) → Type 0
 WaitingBlocksDiffer dig = (k : Facts) (states : List BlockState) (from count : ℕ)
     → AllPairs (λ i j. i ≢ j) (waiting_blocks dig k states from count)
 
--- none of them lies behind the file's end
+-- none of them lies past the file's end
 abbrev pub WaitingBlocksLieInside : (List ℕ → List ℕ) → Type 0
 WaitingBlocksLieInside dig = (k : Facts) (states : List BlockState) (from count : ℕ)
     → waiting_blocks dig k states from count

@@ -20,7 +20,7 @@ is_marked_at states i = option_map_or is_marked (slice_get states i) false
 abbrev pub recalled : List BlockState → ℕ → List BlockState
 recalled states i = if is_missing_at states i then slice_set states i Waiting else states
 
--- of so many blocks from one on, those that wait and whose leaf is known
+-- of this many blocks from one on, those that wait and whose leaf is known
 abbrev pub waiting_blocks : (List ℕ → List ℕ) → Facts → List BlockState → (from count : ℕ) → List ℕ
 waiting_blocks dig k states from count =
     filter (λ i. is_waiting_at states i && is_some (value_at dig k 0 i)) (range_with_len from count)

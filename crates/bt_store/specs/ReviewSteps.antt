@@ -22,7 +22,7 @@ abbrev pub is_chosen : (List ℕ → List ℕ) → Facts → Review → List Blo
 is_chosen dig k OfWaiting states i = is_waiting_at states i && is_some (value_at dig k 0 i)
 is_chosen dig k OfMarked states i = is_marked_at states i
 
--- of so many blocks from one on, those that are read
+-- of this many blocks from one on, those that are read
 abbrev pub chosen_blocks : (List ℕ → List ℕ) → Facts → Review → List BlockState → (from count : ℕ) → List ℕ
 chosen_blocks dig k review states from count =
     filter (is_chosen dig k review states) (range_with_len from count)
@@ -42,7 +42,7 @@ abbrev pub verdict_at : (List ℕ → List ℕ) → Facts → ℕ → List Block
 verdict_at dig k first blocks_found j =
     verdict_of (value_at dig k 0 (first + j)) (slice_index_or blocks_found j Failed)
 
--- the states after so many reads, from block `first` on
+-- the states after this many reads, from block `first` on
 unfoldable pub judged_found : (List ℕ → List ℕ) → Facts → Bool → ℕ → List BlockFound → ℕ → List BlockState
     → List BlockState
 judged_found dig k forgiving first blocks_found zero states = states
@@ -58,7 +58,7 @@ added Right tally = record tally { right = tally.right + 1 }
 added Wrong tally = record tally { wrong = tally.wrong + 1 }
 added Fault tally = record tally { faults = tally.faults + 1 }
 
--- how many of so many reads came to each verdict
+-- how many of this many reads came to each verdict
 unfoldable pub tally_of : (List ℕ → List ℕ) → Facts → ℕ → List BlockFound → ℕ → Tally
 tally_of dig k first blocks_found zero = no_reads
 tally_of dig k first blocks_found (suc j) =
@@ -67,7 +67,7 @@ tally_of dig k first blocks_found (suc j) =
 abbrev pub tally_sum : Tally → ℕ
 tally_sum tally = tally.right + tally.wrong + tally.faults
 
--- so many reads gave right bytes, wrong ones, and none
+-- this many reads gave right bytes, wrong ones, and none
 pub record IsTallyOf (dig : List ℕ → List ℕ) (k : Facts) (reads : List BlockRead) (tally : Tally)
     : Type 0 where
   pub right : tally.right ≡ right_count dig k reads

@@ -39,7 +39,7 @@ pub record AreAdopted {D : Type 0} (conduct : Conduct D)
   pub same_file : new.file_length ≡ old.file_length
 
 -- Memory was refused at a group below a held node. The groups before it were adopted, by the first of the
--- reads; the others are of this group's blocks and of those behind, as far as they were read, and changed
+-- reads; the others are of this group's blocks and of those after them, as far as they were read, and changed
 -- nothing.
 pub record StopsAmong (dig : List ℕ → List ℕ) (k : Facts) (from : ℕ) (old : List BlockState)
     (reads : List BlockRead) (grown : Facts) (new : List BlockState) : Type 0 where

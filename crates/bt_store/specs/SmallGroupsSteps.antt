@@ -16,7 +16,7 @@ use Rattle.bt_store.specs.declared.batches.BlockFound.TheVariants.{Failed}
 use Rattle.bt_store.specs.declared.block_states.BlockState.{BlockState}
 use Rattle.bt_store.specs.declared.small_groups.AdoptedGroups.{AdoptedGroups}
 
--- So many blocks from one on, at most eight, are those of whole groups: the nearest held node above each lies
+-- This many blocks from one on, at most eight, are those of whole groups: the nearest held node above each lies
 -- in this layer, and covers two blocks or four.
 pub record IsBatch (k : Facts) (from anchor count : ℕ) : Type 0 where
   pub few : count ≤ 8
@@ -26,7 +26,7 @@ pub record IsBatch (k : Facts) (from anchor count : ℕ) : Type 0 where
   pub starts : 0 < count → from % 2 ^ anchor ≡ 0
   pub ends : (from + count ≡ blocks_of k) ⊎ ((from + count) % 2 ^ anchor ≡ 0)
 
--- this was found of so many blocks, by reads that gave these counts of bytes, each into its part of a buffer
+-- this was found of as many blocks, by reads that gave these counts of bytes, each into its part of a buffer
 pub record AreRead (dig : List ℕ → List ℕ) (n first : ℕ) (blocks_found : List BlockFound) (count : ℕ)
     (counts : List (Option ℕ)) (buffer : List ℕ) : Type 0 where
   pub within : (j : ℕ) → j < count

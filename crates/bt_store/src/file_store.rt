@@ -137,6 +137,8 @@ impl<D: Disk + Drop, H: NodeHash> FileStore<D, H> {
     }
 
     /// Syncs the device, by one call. All states stay.
+    ///
+    /// Errors: the call fails.
     pub fn sync(&mut self) -> Result<(), DeviceFault>
         ensures call { HasCalls D.conduct
             self.old.disk (sync_call result ∷ []) self.new.disk }

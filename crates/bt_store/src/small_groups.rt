@@ -106,7 +106,7 @@ impl<D: Disk + Drop, H: NodeHash> FileStore<D, H> {
     /// together, before the first is claimed. Of others it takes one.
     ///
     /// The one error is out of memory. The groups before the one that it came at are adopted; this one and
-    /// those behind may have been read.
+    /// those after it may have been read.
     pub fn adopt_groups(
         &mut self,
         tree: &mut SparseTree<H>,
