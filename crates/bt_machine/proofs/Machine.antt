@@ -6,12 +6,13 @@ pub use Rattle.bt_machine.specs.Blocks.{with_peer, state_at, tree_of, with_file,
 pub use Rattle.bt_machine.specs.Crash.{StepKeepsImages}
 pub use Rattle.bt_machine.specs.Devices.{DeviceCalls, reads_at, calls_at, calls_of}
 pub use Rattle.bt_machine.specs.Flush.{StepFlush, syncs, writes, fails, unwritten, unflushed, syncs_of, data_files, synced_then}
+pub use Rattle.bt_machine.proofs.Laws.{StepSendsReadBytes, StepKeepsMarks}
 pub use Rattle.bt_machine.specs.LogCalls.{LogCall, EventCalls, HaveLogCalls}
 pub use Rattle.bt_machine.specs.FollowUp.{FollowsUp, rests, requests, interest_sent, RequestsHashes, RequestsEach}
 pub use Rattle.bt_machine.specs.Hints.{add_hints}
 pub use Rattle.bt_machine.specs.HashMessages.{accepts_hashes, unknown_root, refused, HandlesHashes, no_claim, rejected, HandlesHashRequest, answered, IsTreeOf, settled_count}
 pub use Rattle.bt_machine.specs.Headline.{IsPublished, CompleteFilesArePublished}
-pub use Rattle.bt_machine.specs.Law.{sent_by, read_back, IsMarkedBy, found, brought, recovered, IsRecovered, IsSoAt, AreRooted, StepKeepsRooted, StepMarksByBytes, StepSendsReadBytes, IsFound, IsMarkedIn, AreChecked, IsServed}
+pub use Rattle.bt_machine.specs.Law.{sent_by, read_back, IsMarkedBy, found, brought, recovered, IsRecovered, IsSoAt, AreRooted, StepKeepsRooted, StepMarksByBytes, IsFound, IsMarkedIn, AreChecked, IsServed}
 pub use Rattle.bt_machine.specs.Next.{keeps_peer, StepNext, closes, waits, faulty, no_peer, no_memory, IsPeer, TakesEvent, without_peer, with_pending}
 pub use Rattle.bt_machine.specs.Orderly.{IsOrderly, IsOrderlyPeer, StepKeepsOrder, RunsAreOrderly}
 pub use Rattle.bt_machine.specs.Output.{Sent, Effect, haves, sent_to, noting, sending}
@@ -31,7 +32,7 @@ pub use Rattle.bt_machine.specs.declared.event.Answer.TheVariants.{Stepped, Rech
 pub use Rattle.bt_machine.specs.Step.{Step, Run}
 pub use Rattle.bt_machine.specs.Stored.{stored_block, HasFile, AreRight}
 pub use Rattle.bt_machine.specs.ProofKeys.{HasAnswer, ProofKeysAreAnswered}
-pub use Rattle.bt_machine.specs.Unmarks.{IsFoundWrong, StepUnmarksByBytes, StepKeepsMarks, RunKeepsMarks}
+pub use Rattle.bt_machine.specs.Unmarks.{IsFoundWrong, StepUnmarksByBytes, RunKeepsMarks}
 pub use Rattle.bt_machine.specs.WireEvents.{right, Handles, out_of_range, wrong, HandlesHave, in_range, HandlesBitfield, HandlesMessage, ours, HandlesHello, other, bits_of, bits_in}
 pub use Rattle.bt_machine.specs.Writes.{KeepsBytes, AllKeepBytes, IsWriteOfMissing, StepWritesMissing}
 pub use Rattle.bt_machine.specs.declared.answer.Frame.{Frame}

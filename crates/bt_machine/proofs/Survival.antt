@@ -9,7 +9,8 @@ use Rattle.bt_machine.proofs.Base.{[], ◌≡◌, ℕ, ◌+◌, ◌-◌, ◌*◌
 use Rattle.bt_machine.proofs.Machine.{Digest, Flush, FileState, EngineState, EventCalls, calls_of, state_at, block_id, file_numbers, IsFile, StepFlush, syncs, writes, fails, unwritten, unflushed, syncs_of, data_files, Flushed, stored_block}
 use Rattle.bt_machine.specs.Blocks.{states_of}
 use Rattle.bt_machine.specs.Crash.{IsBlockKept}
-use Rattle.bt_machine.specs.Survival.{RunKeepsImages, FlushKeepsBlocks, FlushedBlocksSurvive, RunsKeepFlushedBlocks}
+use Rattle.bt_machine.specs.Survival.{RunKeepsImages, FlushKeepsBlocks, RunsKeepFlushedBlocks}
+use Rattle.bt_machine.proofs.Laws.{FlushedBlocksSurvive}
 use Rattle.bt_machine.proofs.Lists.{contains_none, contains_map, map_contains, here, later, some_below, range_contains, and_then_some, filter_contains}
 use Rattle.bt_machine.proofs.Marks.{state_is}
 use Rattle.bt_machine.proofs.Shape.{Keeps, step_keeps}

@@ -24,23 +24,25 @@ CanBeWritten (Message m) = Fits m
 abbrev pub AreSparseTrees : (List ℕ → List ℕ) → EngineState → Type 0
 AreSparseTrees dig s = (t : ℕ) (k : Facts) → slice_get s.trees t ≡ Some k → IsSound dig k
 
--- so are those of a lawful torrent's beginning
+-- the trees of an engine that begins with a lawful torrent are sparse trees of code
 abbrev pub StartsSparse : (List ℕ → List ℕ) → Type 0
 StartsSparse dig = (torrent : Metainfo) (first : EngineState)
     → IsLawful torrent.piece_length torrent.files → Begins dig torrent first → AreSparseTrees dig first
 
+-- each event keeps the trees sparse trees of code, where the torrent is lawful
 abbrev pub StepKeepsSparse : (List ℕ → List ℕ) → Type 0
 StepKeepsSparse dig = (old new : EngineState) (event : Event) (calls : EventCalls) (answer : Answer)
     → IsLawful old.torrent.piece_length old.torrent.files
     → Step dig old event calls answer new → AreSparseTrees dig old → AreSparseTrees dig new
 
+-- what an event sends can be written, where the engine has the shape of a lawful torrent and its trees are such
 abbrev pub StepSendsWhatFits : (List ℕ → List ℕ) → Type 0
 StepSendsWhatFits dig = (torrent : Metainfo) (old new : EngineState) (event : Event) (calls : EventCalls)
     (answer : Answer) → IsLawful torrent.piece_length torrent.files → IsShaped torrent old
     → AreSparseTrees dig old → Step dig old event calls answer new
     → (sent : Sent) → Contains (sent_by answer) sent → CanBeWritten sent.1
 
--- So it is of every event after any list of events from the start of a torrent.
+-- What an event sends after any list of events from the start of a lawful torrent can be written.
 abbrev pub RunsSendWhatFits : (List ℕ → List ℕ) → Type 0
 RunsSendWhatFits dig = (torrent : Metainfo) (first last new : EngineState) (events : List Event)
     (calls : List EventCalls) (answers : List Answer) (event : Event) (made : EventCalls) (answer : Answer)

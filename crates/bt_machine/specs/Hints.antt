@@ -15,7 +15,7 @@ proof_of key digests = Proof key digests
 abbrev pub mark_of : BlockId → Hint
 mark_of block = Marks block.file block.block 1
 
--- The second run has marks of the blocks of the same file that lie right behind those of the first.
+-- The second run has marks of the blocks of the same file that lie right after those of the first.
 abbrev pub continues : Hint → Hint → Bool
 continues (Marks file first count) (Marks other next more) = file == other && first + count == next
 continues _ _ = false
@@ -25,7 +25,7 @@ abbrev pub joined_run : Hint → Hint → Hint
 joined_run (Marks file first count) (Marks other next more) = Marks file first (count + more)
 joined_run hint other = hint
 
--- One more hint behind others: where it continues the run before it, that run gets longer.
+-- One more hint after others: where it continues the run before it, that run gets longer.
 abbrev pub add_hint : List Hint → Hint → List Hint
 add_hint [] hint = hint ∷ []
 add_hint (last ∷ []) hint = if continues last hint then joined_run last hint ∷ [] else last ∷ hint ∷ []
@@ -54,7 +54,7 @@ abbrev pub single_hints : Hint → List Hint
 single_hints (Marks file first count) = map (λ block. Marks file block 1) (range_with_len first count)
 single_hints (Proof key digests) = Proof key digests ∷ []
 
--- no run goes on in the hint behind it
+-- no run goes on in the hint after it
 abbrev pub AreApart : List Hint → Type 0
 AreApart [] = ⊤
 AreApart (hint ∷ []) = ⊤

@@ -40,11 +40,12 @@ use Rattle.bt_machine.specs.Step.{Step, Run}
 abbrev pub AreRooted : (List ℕ → List ℕ) → EngineState → Type 0
 AreRooted dig s = (t : ℕ) (k : Facts) → slice_get s.trees t ≡ Some k → IsRooted dig k
 
--- so are those of a lawful torrent's beginning
+-- every tree of an engine that begins with a lawful torrent hangs from its root
 abbrev pub StartsRooted : (List ℕ → List ℕ) → Type 0
 StartsRooted dig = (torrent : Metainfo) (first : EngineState)
     → IsLawful torrent.piece_length torrent.files → Begins dig torrent first → AreRooted dig first
 
+-- each event keeps every tree hanging from its root, where the torrent is lawful
 abbrev pub StepKeepsRooted : (List ℕ → List ℕ) → Type 0
 StepKeepsRooted dig = (old new : EngineState) (event : Event) (calls : EventCalls) (answer : Answer)
     → IsLawful old.torrent.piece_length old.torrent.files
@@ -55,7 +56,8 @@ abbrev pub AreChecked : (List ℕ → List ℕ) → EngineState → Type 0
 AreChecked dig s = (t : ℕ) (k : Facts) → slice_get s.trees t ≡ Some k
     → (layer i : ℕ) (d : List ℕ) → held_at k layer i ≡ Some d → IsChecked dig k layer i d
 
--- So it is of every engine that events lead to from the start of a torrent.
+-- In every engine that events lead to from the start of a lawful torrent each tree hangs from its root, and every
+-- digest that it holds is checked.
 abbrev pub RunsAreChecked : (List ℕ → List ℕ) → Type 0
 RunsAreChecked dig = (torrent : Metainfo) (first last : EngineState)
     (events : List Event) (calls : List EventCalls) (answers : List Answer)
@@ -167,20 +169,20 @@ pub data IsMarkedBy (dig : List ℕ → List ℕ) (old : EngineState) (event : E
   found : IsFound dig event calls new b → IsMarkedBy dig old event calls new b
   recovered : event ≡ Restart → IsRecovered dig calls new b → IsMarkedBy dig old event calls new b
 
--- it becomes so in no other way
+-- a block becomes marked over an event in one of these ways alone
 abbrev pub StepMarksByBytes : (List ℕ → List ℕ) → Type 0
 StepMarksByBytes dig = (old new : EngineState) (event : Event) (calls : EventCalls) (answer : Answer)
     → Step dig old event calls answer new
     → (b : BlockId) → state_at new b ≡ Some Marked → state_at old b ≢ Some Marked
     → IsMarkedBy dig old event calls.devices new b
 
--- and each block that is marked when an engine is started with a log was read then
+-- each block that is marked when an engine is started with a log was read then
 abbrev pub StartMarksByBytes : (List ℕ → List ℕ) → Type 0
 StartMarksByBytes dig = (torrent : Metainfo) (hints : List Hint) (calls : DeviceCalls) (new : EngineState)
     → StartsWith dig torrent hints calls new → (b : BlockId) → state_at new b ≡ Some Marked
     → IsRecovered dig calls new b
 
--- So was each that is marked after a restart that answered Ok, in that restart, whatever it was before.
+-- Each block that is marked after a restart that answered Ok was read in that restart, whatever it was before.
 abbrev pub RestartMarksByBytes : (List ℕ → List ℕ) → Type 0
 RestartMarksByBytes dig = (old new : EngineState) (calls : EventCalls)
     → Step dig old Restart calls (Restarted (Ok tt)) new → (b : BlockId) → state_at new b ≡ Some Marked
@@ -265,15 +267,7 @@ pub record IsServed (dig : List ℕ → List ℕ) (old : EngineState) (event : E
   pub right : (i : ℕ) → Contains (spanned_blocks span) i → IsRight dig tree i (blocks i)
   pub cut : bytes ≡ cut_from span blocks
 
--- no other data is sent
-abbrev pub StepSendsReadBytes : (List ℕ → List ℕ) → Type 0
-StepSendsReadBytes dig = (old new : EngineState) (event : Event) (calls : EventCalls) (answer : Answer)
-    → Step dig old event calls answer new
-    → (key : PeerKey) (piece begin : ℕ) (bytes : List ℕ)
-    → Contains (sent_by answer) (key, message_frame (Piece piece begin bytes))
-    → IsServed dig old event calls.devices key piece begin bytes
-
--- nor by any answer of a run: what one sends was read at its own event
+-- No other data is sent: what any answer of a run sends was read at its own event.
 abbrev pub RunSendsReadBytes : (List ℕ → List ℕ) → Type 0
 RunSendsReadBytes dig = (old new : EngineState) (events : List Event) (calls : List EventCalls)
     (before : List Answer) (answer : Answer) (after : List Answer)

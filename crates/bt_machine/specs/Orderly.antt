@@ -30,14 +30,16 @@ pub record IsOrderly (s : EngineState) : Type 0 where
   pub shared : (b : BlockId) → asker_count s b ≤ max_askers
   pub each : (p : PeerState) → Contains s.peers p → IsOrderlyPeer s p
 
+-- an engine begins in order
 abbrev pub StartsInOrder : (List ℕ → List ℕ) → Type 0
 StartsInOrder dig = (torrent : Metainfo) (first : EngineState) → Begins dig torrent first → IsOrderly first
 
+-- each event keeps an engine in order
 abbrev pub StepKeepsOrder : (List ℕ → List ℕ) → Type 0
 StepKeepsOrder dig = (old new : EngineState) (event : Event) (calls : EventCalls) (answer : Answer)
     → Step dig old event calls answer new → IsOrderly old → IsOrderly new
 
--- So it is of every engine that events lead to from the start of a torrent.
+-- Every engine that events lead to from the start of a torrent is in order.
 abbrev pub RunsAreOrderly : (List ℕ → List ℕ) → Type 0
 RunsAreOrderly dig = (torrent : Metainfo) (first last : EngineState)
     (events : List Event) (calls : List EventCalls) (answers : List Answer)

@@ -12,7 +12,7 @@ use Rattle.bt_machine.specs.Opening.{Begins}
 use Rattle.bt_machine.specs.declared.event.Answer.{Answer}
 use Rattle.bt_machine.specs.Step.{Step, Run}
 
--- it has a state for each of the file's blocks, and where there is one, the tree of its root
+-- what is known of a file has a state for each of its blocks, and where there is one, the tree of its root
 pub record HasShapeOf (file : File) (trees : List Facts) (f : FileState) : Type 0 where
   pub blocks : length f.states ≡ block_count file.length
   pub has_tree : 0 < file.length → (k : Facts) × (slice_get trees f.tree ≡ Some k)
@@ -26,10 +26,12 @@ pub record IsShaped (torrent : Metainfo) (s : EngineState) : Type 0 where
   pub each : (i : ℕ) (file : File) (f : FileState) → slice_get torrent.files i ≡ Some file
       → slice_get s.files i ≡ Some f → HasShapeOf file s.trees f
 
+-- an engine begins in the shape of its torrent
 abbrev pub StartsInShape : (List ℕ → List ℕ) → Type 0
 StartsInShape dig =
     (torrent : Metainfo) (first : EngineState) → Begins dig torrent first → IsShaped torrent first
 
+-- each event keeps an engine in the shape of its torrent
 abbrev pub StepKeepsShape : (List ℕ → List ℕ) → Type 0
 StepKeepsShape dig = (torrent : Metainfo) (old new : EngineState) (event : Event) (calls : EventCalls)
     (answer : Answer) → IsShaped torrent old → Step dig old event calls answer new → IsShaped torrent new
@@ -46,7 +48,7 @@ pub record HasNewTree (new : EngineState) (t : ℕ) (k : Facts) : Type 0 where
   pub here : slice_get new.trees t ≡ Some after
   pub length : after.file_length ≡ k.file_length
 
--- So it is over each event, of any engine.
+-- Over each event a file keeps its tree, and a tree the length of its file, in any engine.
 pub record StepKeepsFiles (dig : List ℕ → List ℕ) : Type 0 where
   pub files : (old new : EngineState) (event : Event) (calls : EventCalls) (answer : Answer)
       → Step dig old event calls answer new

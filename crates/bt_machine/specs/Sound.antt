@@ -23,14 +23,15 @@ IsSound {D} conduct dig s disks = (file : ℕ) (f : FileState) (k : Facts) (d : 
     → slice_get disks file ≡ Some (Some d) → conduct.honest d
     → AreRight dig k (conduct.history d).now.bytes f.states
 
--- It is so at the beginning: without a log no block is marked, and with one each was read,
+-- An engine begins with right marked blocks on honest devices: without a log none is marked, and with one each was
+-- read.
 abbrev pub StartsSound : {D : Type 0} → Conduct D → (List ℕ → List ℕ) → Type 0
 StartsSound {D} conduct dig = (torrent : Metainfo) (given : List (Option D))
     (log : Option (LogView D)) (first : EngineView D)
     → BeginsOn conduct dig torrent given log first
     → IsSound conduct dig first.state first.disks
 
--- and each event keeps it so, whatever the devices answer.
+-- Each event keeps the marked blocks of honest devices right, whatever the devices answer.
 abbrev pub StepKeepsSound : {D : Type 0} → Conduct D → (List ℕ → List ℕ) → Type 0
 StepKeepsSound {D} conduct dig = (old new : EngineState) (event : Event) (calls : EventCalls)
     (answer : Answer) (disks after : List (Option D))
@@ -57,7 +58,8 @@ HonestDevicesWereSo {D} conduct dig = (old new : EngineState) (events : List Eve
     → slice_get after file ≡ Some (Some e) → conduct.honest e
     → (d : D) × (slice_get disks file ≡ Some (Some d)) × conduct.honest d
 
--- So where all blocks of a file are marked and its device is honest, the file stands there with its tree's
+-- Where an engine is sound, all blocks of a file are marked and its device is honest, the file stands there with its
+-- tree's root.
 -- root.
 abbrev pub CompleteFilesStand : {D : Type 0} → Conduct D → (List ℕ → List ℕ) → Type 0
 CompleteFilesStand {D} conduct dig = (s : EngineState) (disks : List (Option D))

@@ -5,6 +5,7 @@ ghost use Rattle.bt_machine.specs.Sound.{StartsSound, StepKeepsSound, HonestDevi
 ghost use Rattle.bt_machine.specs.Writes.{StepWritesMissing};
 ghost use Rattle.bt_machine.specs.Unmarks.{StepUnmarksByBytes, RunKeepsMarks};
 ghost use Rattle.bt_machine.specs.Headline.{CompleteFilesArePublished};
+ghost use Rattle.bt_machine.specs.Crash.{StepKeepsImages};
 ghost use Rattle.bt_machine.specs.Survival.{FlushKeepsBlocks, RunsKeepFlushedBlocks, RunKeepsImages};
 ghost use Rattle.bt_machine.specs.Orderly.{StartsInOrder, StepKeepsOrder, RunsAreOrderly};
 ghost use Rattle.bt_machine.specs.Shape.{StartsInShape, StepKeepsShape, StepKeepsFiles, RunsKeepShape};
@@ -35,8 +36,8 @@ pub fn starts_keep_laws<D: Disk, H: NodeHash>(hash: H)
     keeps_rooted(hash);
 }
 
-/// And it goes on to hold over each event, a restart among them, whatever peers send, devices answer and the
-/// log says. A file keeps its tree, and a tree the length of its file.
+/// What holds of every engine goes on to hold over each event, a restart among them, whatever peers send, devices
+/// answer and the log says. A file keeps its tree, and a tree the length of its file.
 pub fn steps_keep_laws<D: Disk, H: NodeHash>(hash: H)
     ensures shaped { StepKeepsShape H.digest }
     ensures files { StepKeepsFiles H.digest }
@@ -79,7 +80,7 @@ pub fn run_marks_by_bytes<H: NodeHash>(hash: H)
     adopt_marks_by_bytes(hash);
 }
 
-/// So it is of a block that one event has marked.
+/// A block that one event has marked became so in one of the ways that `run_marks_by_bytes` tells.
 pub fn step_marks_by_bytes<H: NodeHash>(hash: H)
     ensures { StepMarksByBytes H.digest }
 {
@@ -144,6 +145,14 @@ pub fn runs_keep_flushed_blocks<D: Disk, H: NodeHash>(hash: H)
 {
     calls_keep_bytes();
     adopt_marks_by_bytes(hash);
+}
+
+/// What every image since a moment has of a block that waits or is marked on an honest device, every image goes on to
+/// have over an event, a restart among them, also those of a crash within it.
+pub fn step_keeps_images<D: Disk, H: NodeHash>()
+    ensures { StepKeepsImages D.conduct H.digest }
+{
+    calls_keep_bytes();
 }
 
 /// Where marked blocks are right on honest devices: what every image since a moment has of a marked block,

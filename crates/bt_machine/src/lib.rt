@@ -23,8 +23,8 @@ pub use law::{
     proof_keys_are_answered, restart_marks_by_bytes, right_is_checked, run_keeps_images,
     run_keeps_marks, run_marks_by_bytes, run_sends_read_bytes, runs_are_checked, runs_are_orderly,
     runs_compose, runs_keep_flushed_blocks, runs_keep_shape, start_marks_by_bytes,
-    starts_keep_laws, step_marks_by_bytes, step_unmarks_by_bytes, step_writes_missing,
-    steps_keep_laws, whole_pieces_are_marked,
+    starts_keep_laws, step_keeps_images, step_marks_by_bytes, step_unmarks_by_bytes,
+    step_writes_missing, steps_keep_laws, whole_pieces_are_marked,
 };
 pub use log_law::{
     backed_blocks_are_marked_again, engines_are_of_logs, flushed_blocks_are_marked_again,

@@ -3,7 +3,7 @@
 ghost use Rattle.bt_machine.specs.Hints.{HintsStayRecorded, JoinedRunsAreLongest};
 ghost use Rattle.bt_machine.specs.View.{StartsOfLog, StepKeepsOfLog, RunKeepsOfLog};
 ghost use Rattle.bt_machine.specs.Backing.{SameTreesTakeSame, HintsAreSplit, JoiningKeepsTrees, HintsForgetNothing, AcceptedProofsFollow, ClaimsThatAddNothing, PendingKeepsBacking, TorrentTreesAreOne, RecoveredIsBacked, GroupProofsFollow, OtherRootsStay, StartIsBacked, StepKeepsBacking, RunsAreBacked};
-ghost use Rattle.bt_machine.specs.Reopening.{BackedBlocksAreMarkedAgain, StepKeepsLog, FlushKeepsHints, FlushedLogsAreKept, FlushedBlocksAreMarkedAgain, NoRestartsReadAll, CountsTellReads};
+ghost use Rattle.bt_machine.specs.Reopening.{BackedBlocksAreMarkedAgain, StepKeepsLog, FlushKeepsHints, FlushedLogsAreKept, FlushedBlocksAreKept, FlushedBlocksAreMarkedAgain, NoRestartsReadAll, CountsTellReads};
 
 use crate::law::{runs_compose, runs_keep_shape, starts_keep_laws, steps_keep_laws};
 use bt_disk::{Disk, calls_keep_bytes};
@@ -92,10 +92,12 @@ pub fn restarts_read_all<D: Disk, H: NodeHash>()
 {}
 
 /// Once a flush answered Ok on an engine with a log, a stop at any later moment, also within an event, leaves
-/// enough: all blocks that were marked at the flush are marked where the devices and the log are opened again
-/// and no read fails. A restart since the flush counts as a reopening: no read of it failed either.
+/// enough: each block that was marked at the flush is right in what it leaves of an honest device, and all are marked
+/// where the devices and the log are opened again and no read fails. A restart since the flush counts as a reopening:
+/// no read of it failed either.
 pub fn flushed_blocks_are_marked_again<D: Disk, H: NodeHash>(hash: H)
-    ensures { FlushedBlocksAreMarkedAgain D.conduct H.digest }
+    ensures kept { FlushedBlocksAreKept D.conduct H.digest }
+    ensures marked { FlushedBlocksAreMarkedAgain D.conduct H.digest }
 {
     logs_back_engines::<D, H>(hash);
     runs_keep_shape::<H>();

@@ -187,7 +187,7 @@ module _ (dig : Digest) where
           ∙ ap (λ k. with_pending s (with_tree (with_file s file (record h.state { states = h.states })) h.state.tree k) g.proofs) result.1
           ∙ ap (λ ps. with_pending s (with_tree (with_file s file (record h.state { states = h.states })) h.state.tree h.grown) ps) proofs ∙ sym h.after
 
-  -- the file's tree has so many blocks
+  -- the file's tree has n blocks
   abbrev HasBlocks : EngineState → ℕ → ℕ → Type 0
   HasBlocks s file n = (f : FileState) (k : Facts) → IsFile s file f k → blocks_of k ≡ n
 

@@ -40,7 +40,7 @@ nil_of_append (x ∷ xs) e = absurd cc
 lacks_there : (s m : EngineState) → m.files ≡ s.files → LacksOneAtMost m → LacksOneAtMost s
 lacks_there s m e one b c x y = one b c (missing_in s m b e x) (missing_in s m c e y)
 
--- behind what both send
+-- after what both send
 pub asks_behind : {s m : EngineState} (xs : _) {f g : _} → m.files ≡ s.files → SameAsks m (xs ++ f) (xs ++ g) → SameAsks s f g
 asks_behind xs {f} {g} e (by_requests same) =
     by_requests (append_cancel_left (requests_in xs) (requests_in f) (requests_in g) (sym (requests_append xs f) ∙ same ∙ requests_append xs g))

@@ -13,7 +13,7 @@ pub fn step_is_determined<H: NodeHash>(_hash: H)
     block_ranges_are_places();
 }
 
-/// So where its answer requests no block, or at most one block is missing after it, there is no other with
+/// Where an event's answer requests no block, or at most one block is missing after it, there is no other answer with
 /// the same answers of devices and of the log and with memory.
 pub fn step_is_forced<H: NodeHash>(_hash: H)
     ensures { StepIsForced H.digest }
@@ -21,7 +21,7 @@ pub fn step_is_forced<H: NodeHash>(_hash: H)
     block_ranges_are_places();
 }
 
-/// And two lists of answers to the same events from one such engine, with the same answers of devices and of
+/// Two lists of answers to the same events from an engine that events lead to, with the same answers of devices and of
 /// the log, with memory and with requests of the same blocks, are one, and lead to the same engine.
 pub fn runs_are_determined<H: NodeHash>(_hash: H)
     ensures { RunsAreDetermined H.digest }

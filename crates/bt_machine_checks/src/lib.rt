@@ -7,8 +7,9 @@ mod answer_law;
 mod left_free;
 
 pub use answer_due::{
-    next_answers_hash_request, next_marks_right_block, next_notes_marked_blocks,
-    next_serves_marked_range, next_settles_waiting_blocks, waiting_is_not_complete,
+    next_answers_hash_request, next_cancels_stored_block, next_marks_right_block,
+    next_notes_marked_blocks, next_serves_marked_range, next_settles_waiting_blocks,
+    waiting_is_not_complete,
 };
 pub use answer_law::{
     next_notes_complete_files, step_announces_whole_pieces, step_closes_for_cause,
