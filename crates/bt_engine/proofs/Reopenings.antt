@@ -1,12 +1,14 @@
 -- What a start marks again.
-use Rattle.std.proofs.Common.{◌≡◌, ℕ, List, Option, Some, Ok, subst}
+use Rattle.std.proofs.Common.{◌≡◌, ℕ, List, length, Option, Some, Ok, subst}
 use Rattle.bt_disk.specs.Conduct.{Conduct}
+use Rattle.bt_tree.specs.Limits.{digest_length}
 use Rattle.bt_meta.specs.Torrent.{Metainfo}
 use Rattle.bt_resume.specs.ResumeLog.{LogView}
 use Rattle.bt_machine.specs.Opening.{AnswersStart, BeginsOn, starts, other_count, other_log, no_memory}
+use Rattle.bt_machine.specs.Backing.{StartIsBacked}
 use Rattle.bt_machine.specs.Reopening.{FlushedBlocksAreMarkedAgain}
 use Rattle.bt_machine.specs.State.{EngineView}
-use Rattle.bt_engine.specs.Reopened.{IsReopened}
+use Rattle.bt_engine.specs.Reopened.{IsReopened, IsBackedByLog}
 
 module _ {D : Type 0} (conduct : Conduct D) (dig : List ℕ → List ℕ) where
   pub reopened : FlushedBlocksAreMarkedAgain conduct dig → {torrent : Metainfo} {given : List D} {log : Option (LogView D)} {answer : _} (engine : EngineView D)
@@ -23,3 +25,15 @@ module _ {D : Type 0} (conduct : Conduct D) (dig : List ℕ → List ℕ) where
   reopened law engine (other_count other back) ok = let is = back.is in absurd cc
   reopened law engine (other_log l so_many some other back) ok = let is = back.is in absurd cc
   reopened law engine (no_memory so_many own back) ok = let is = back.is in absurd cc
+
+  pub backed_by_log : StartIsBacked conduct dig → {torrent : Metainfo} {given : List D} {log : Option (LogView D)} {answer : _} (engine : EngineView D)
+      → length torrent.infohash ≡ digest_length
+      → AnswersStart conduct dig torrent given log answer → answer ≡ Ok engine → IsBackedByLog conduct dig torrent log engine
+  backed_by_log law {torrent} {given} {log} engine whole (starts first placed are begun is) ok =
+      let one : first ≡ engine = cc in
+      λ disk opened has attached. law torrent placed disk opened engine whole attached
+      (subst (λ (e : EngineView D). BeginsOn conduct dig torrent placed (Some opened) e) one
+      (subst (λ (l : Option (LogView D)). BeginsOn conduct dig torrent placed l first) has begun))
+  backed_by_log law engine whole (other_count other back) ok = let is = back.is in absurd cc
+  backed_by_log law engine whole (other_log l so_many some other back) ok = let is = back.is in absurd cc
+  backed_by_log law engine whole (no_memory so_many own back) ok = let is = back.is in absurd cc

@@ -11,7 +11,7 @@ use Rattle.bt_machine.specs.Opening.{AnswersStart, BeginsOn, starts, other_count
 use Rattle.bt_machine.specs.Reopening.{FlushedLogsAreKept}
 use Rattle.bt_machine.specs.Start.{device_count}
 use Rattle.bt_machine.specs.State.{EngineView}
-use Rattle.bt_engine.specs.Reopened.{IsReopened}
+use Rattle.bt_engine.specs.Reopened.{IsReopened, IsBackedByLog}
 use Rattle.bt_machine.proofs.Lists.{some_is}
 use Rattle.bt_engine.specs.Reopening.{HasReopened, IsNotReopened, IsNotStarted, RefusesNoneFlushed, unstarted}
 use Rattle.bt_engine.specs.declared.reopening.ReopenRefused.{ReopenRefused}
@@ -57,9 +57,10 @@ module _ {D : Type 0} (conduct : Conduct D) (dig : List ℕ → List ℕ) where
 
   -- an engine has begun
   has_begun : {torrent : Metainfo} {given : List D} {log : D} {opened : LogView D} {engine : EngineView D} {answer : _} → IsAttached conduct torrent.infohash log opened
-      → IsReopened conduct dig torrent given (Some opened) engine → AnswersStart conduct dig torrent given (Some opened) answer
+      → IsReopened conduct dig torrent given (Some opened) engine → IsBackedByLog conduct dig torrent (Some opened) engine
+      → AnswersStart conduct dig torrent given (Some opened) answer
       → answer ≡ Ok engine → HasReopened conduct dig torrent given log engine
-  has_begun {torrent} {opened = opened} {engine} attached again (starts first placed are begun is) ok =
+  has_begun {torrent} {log = log} {opened = opened} {engine} attached again backed (starts first placed are begun is) ok =
       let one : first ≡ engine = cc in record {
         opened = opened;
         attached = attached;
@@ -67,18 +68,20 @@ module _ {D : Type 0} (conduct : Conduct D) (dig : List ℕ → List ℕ) where
         devices = are;
         begins = subst (λ (e : EngineView D). BeginsOn conduct dig torrent placed (Some opened) e) one begun;
         again = again;
+        backed = backed log opened refl attached;
       }
-  has_begun attached again (other_count other back) ok = let is = back.is in absurd cc
-  has_begun attached again (other_log l so_many some other back) ok = let is = back.is in absurd cc
-  has_begun attached again (no_memory so_many own back) ok = let is = back.is in absurd cc
+  has_begun attached again backed (other_count other back) ok = let is = back.is in absurd cc
+  has_begun attached again backed (other_log l so_many some other back) ok = let is = back.is in absurd cc
+  has_begun attached again backed (no_memory so_many own back) ok = let is = back.is in absurd cc
 
   pub ok_reopened : (torrent : Metainfo) (given : List D) (log : D) (opened : LogView D) → IsAttached conduct torrent.infohash log opened
       → (result : Result (EngineView D) (ReopenRefused D))
       → IfOk result (λ engine. AnswersStart conduct dig torrent given (Some opened) (Ok engine))
       → IfOk result (IsReopened conduct dig torrent given (Some opened))
+      → IfOk result (IsBackedByLog conduct dig torrent (Some opened))
       → IfOk result (HasReopened conduct dig torrent given log)
-  ok_reopened torrent given log opened attached (Ok engine) begun again = has_begun attached again begun refl
-  ok_reopened torrent given log opened attached (Err refused) begun again = tt
+  ok_reopened torrent given log opened attached (Ok engine) begun again backed = has_begun attached again backed begun refl
+  ok_reopened torrent given log opened attached (Err refused) begun again backed = tt
 
   pub err_unstarted : (torrent : Metainfo) (given : List D) (log : D) (opened : LogView D) → IsAttached conduct torrent.infohash log opened
       → (result : Result (EngineView D) (ReopenRefused D)) → IfErr result (IsNotStarted torrent given opened)

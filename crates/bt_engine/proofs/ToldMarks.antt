@@ -32,7 +32,7 @@ use Rattle.bt_engine.specs.PendingSteps.{marked_block, marks_of, marks_in, hints
 use Rattle.bt_engine.proofs.MarkNotes.{pairs_flat_map}
 use Rattle.bt_engine.proofs.NewWholes.{has_block}
 
--- ---- hints behind others
+-- ---- hints after others
 
 pub add_hints_append : (hints xs ys : List Hint) → add_hints hints (xs ++ ys) ≡ add_hints (add_hints hints xs) ys
 add_hints_append hints [] ys = refl

@@ -29,7 +29,7 @@ hints_told proof notes = option_to_list proof ++ marks_in notes
 abbrev pub with_hints : EngineState → List Hint → EngineState
 with_hints s hints = record s { pending = add_hints s.pending (if s.logged then hints else []) }
 
--- where there is a log, there is room for so many hints more
+-- where there is a log, there is room for this many hints more
 abbrev pub HasHintRoom : {D : Type 0} → ℕ → Option (OpenLog D) → Type 0
 HasHintRoom {D} count log = (opened : OpenLog D) → log ≡ Some opened → count ≤ opened.pending.room
 

@@ -37,7 +37,7 @@ pub record IsOnCheckedPath (dig : List ℕ → List ℕ) (s : EngineState) (b : 
     pub has_tree : tree_of s b.file ≡ Some tree
     pub path : IsChecked dig tree 0 b.block (dig bytes)
 
--- Behind these first answers of a run, the block is marked after each event that comes.
+-- After these first answers of a run, the block is marked after each event that comes.
 abbrev pub StaysMarked : (List ℕ → List ℕ) → EngineState → List Event → List EventCalls
     → (said after : List Answer) → EngineState → BlockId → Type 0
 StaysMarked dig first events calls said after last b =
@@ -87,7 +87,7 @@ SendsReadBytes dig old events calls answers new =
 -- ---- the run
 
 -- The events led from one engine to the other, as the machine's steps do, by calls that were made of the
--- devices and of the log, and their answers stand behind those before. By the bytes of these calls and of the
+-- devices and of the log, and their answers stand after those before. By the bytes of these calls and of the
 -- peers blocks are marked and data is sent; and what is marked at a flush that answers Ok, no later stop
 -- loses, up to a restart.
 pub record RunsAsPromised {D : Type 0} (conduct : Conduct D)

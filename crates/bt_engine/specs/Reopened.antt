@@ -8,7 +8,7 @@ use Rattle.bt_book.specs.declared.names.BlockId.{BlockId}
 use Rattle.bt_machine.specs.State.{EngineView}
 use Rattle.bt_machine.specs.Blocks.{state_at}
 use Rattle.bt_machine.specs.Start.{AreDevicesOf}
-use Rattle.bt_machine.specs.Backing.{is_backed_after}
+use Rattle.bt_machine.specs.Backing.{HasBacking, is_backed_after}
 use Rattle.bt_machine.specs.Reopening.{RunsPastFlush, RestartsReadAll, AreLeft, IsLogLeft, NoneFailed}
 
 module _ {D : Type 0} (conduct : Conduct D)
@@ -34,3 +34,8 @@ module _ {D : Type 0} (conduct : Conduct D)
     pub placed : List (Option D)
     pub devices : AreDevicesOf torrent.files given placed
     pub marks : (opened : LogView D) → log ≡ Some opened → MarksAgain torrent placed opened again
+
+  -- where the log was opened for this torrent, it backs the engine
+  abbrev pub IsBackedByLog : Metainfo → Option (LogView D) → EngineView D → Type 0
+  IsBackedByLog torrent log engine = (disk : D) (opened : LogView D) → log ≡ Some opened
+      → IsAttached conduct torrent.infohash disk opened → HasBacking conduct dig engine

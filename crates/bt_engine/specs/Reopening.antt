@@ -11,6 +11,7 @@ use Rattle.bt_machine.specs.Opening.{BeginsOn}
 use Rattle.bt_machine.specs.Reopening.{RunsPastFlush, IsLogLeft}
 use Rattle.bt_machine.specs.Start.{device_count, AreDevicesOf}
 use Rattle.bt_machine.specs.State.{EngineView}
+use Rattle.bt_machine.specs.Backing.{HasBacking}
 use Rattle.bt_engine.specs.Reopened.{IsReopened}
 use Rattle.bt_engine.specs.declared.reopening.ReopenError.TheVariants.{Log, Start}
 use Rattle.bt_engine.specs.declared.reopening.ReopenRefused.{ReopenRefused}
@@ -28,7 +29,7 @@ pub record IsNotStarted {D : Type 0} (torrent : Metainfo) (given : List D) (open
 module _ {D : Type 0} (conduct : Conduct D)
     (dig : List ℕ → List ℕ) where
   -- The log was opened, and an engine of the torrent has begun with it over these devices. And so it marks
-  -- again what was marked where another one was stopped.
+  -- again what was marked where another one was stopped, and is backed by the log.
   pub record HasReopened (torrent : Metainfo) (given : List D) (log : D) (engine : EngineView D) : Type 0
     where
       pub opened : LogView D
@@ -37,6 +38,7 @@ module _ {D : Type 0} (conduct : Conduct D)
       pub devices : AreDevicesOf torrent.files given placed
       pub begins : BeginsOn conduct dig torrent placed (Some opened) engine
       pub again : IsReopened conduct dig torrent given (Some opened) engine
+      pub backed : HasBacking conduct dig engine
 
   -- No log is refused for what its bytes are that a stop has left, at any moment since a flush that answered
   -- Ok, of that of an engine of the torrent.

@@ -11,7 +11,7 @@ use Rattle.bt_engine_messages.specs.Hashes.{IsNoteRoom}
 use Rattle.bt_engine.specs.PendingSteps.{HasHintRoom}
 use Rattle.bt_engine.specs.declared.room.Room.{Room}
 
--- a message has so many notes at most: hashes as many as blocks may have waited for them
+-- a message has at most this many notes: hashes as many as blocks may have waited for them
 abbrev pub IsMessageBound : {D H : Type 0} → Parts D H → Sent → ℕ → Type 0
 IsMessageBound parts (Request ask) bound = bound ≡ 1
 IsMessageBound parts (Piece piece begin bytes) bound = bound ≡ 1
@@ -23,7 +23,7 @@ abbrev pub IsNoteBound : {D H : Type 0} → Parts D H → WireEvent → ℕ → 
 IsNoteBound parts (Message message) bound = IsMessageBound parts message bound
 IsNoteBound parts _ bound = bound ≡ 0
 
--- nothing is sent or noted yet, and there is room for an event of so many notes, with so many peers, and for
+-- nothing is sent or noted yet, and there is room for an event of `bound` notes, with `peers` peers, and for
 -- no more
 pub record HasRoom (bound peers : ℕ) (room : Room) : Type 0 where
   pub nothing_sent : room.send.items ≡ []

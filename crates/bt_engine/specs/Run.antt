@@ -6,7 +6,7 @@ use Rattle.bt_machine.specs.declared.event.Answer.{Answer}
 use Rattle.bt_machine.specs.State.{EngineView}
 use Rattle.bt_machine.specs.View.{RunsTo}
 
--- the events ran, one after the other, and their answers stand behind those before
+-- the events ran, one after the other, and their answers stand after those before
 pub record RunsEvents {D : Type 0} (conduct : Conduct D)
     (dig : List ℕ → List ℕ) (old : EngineView D) (events : List Event) (before after : List Answer)
     (new : EngineView D) : Type 0 where

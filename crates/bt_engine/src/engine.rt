@@ -1,8 +1,9 @@
 //! The engine of a torrent: its start, one call for each event of the machine of `bt_machine`, and calls that
 //! tell how it stands.
-ghost use Rattle.std.specs.Prelude.{◌≡◌, ◌≤◌, length, take, IfOk, OnOk, OnErr, option_map, slice_get};
+ghost use Rattle.std.specs.Prelude.{◌≡◌, ◌≢◌, ◌≤◌, false, length, take, IfOk, IfErr, OnOk, OnErr, option_map, slice_get};
 ghost use Rattle.std.specs.Option.{option_and_then, option_copied};
 ghost use Rattle.sha2.specs.Sha256.{sha256};
+ghost use Rattle.bt_tree.specs.Limits.{digest_length};
 ghost use Rattle.bt_meta.specs.Torrent.{IsLawful};
 ghost use Rattle.bt_machine.specs.Frames.{AreSparseTrees};
 ghost use Rattle.bt_machine.specs.Law.{AreRooted};
@@ -12,8 +13,9 @@ ghost use Rattle.bt_machine.specs.Shape.{IsShaped};
 ghost use Rattle.bt_machine.specs.Sound.{IsSound};
 ghost use Rattle.bt_machine.specs.Opening.{AnswersStart};
 ghost use Rattle.bt_machine.specs.View.{StepsTo};
+ghost use Rattle.bt_engine_adopt.specs.Unknown.{HasUnknownLeaf};
 ghost use Rattle.bt_engine.specs.Standing.{Stands, KeepsBlocks, KeepsHints};
-ghost use Rattle.bt_engine.specs.Reopened.{IsReopened};
+ghost use Rattle.bt_engine.specs.Reopened.{IsReopened, IsBackedByLog};
 
 use crate::greeting::connect;
 use crate::next::next;
@@ -23,13 +25,13 @@ use bt_disk::Disk;
 use bt_engine_state::Parts;
 use bt_machine::{
     AdoptError, Answer, ConnectError, EngineError, Event, FileReport, FlushError, Output,
-    RestartError, StartRefused, flush_keeps_blocks, flushed_blocks_are_marked_again, logs_stand,
-    steps_keep_laws,
+    RestartError, StartRefused, flush_keeps_blocks, flushed_blocks_are_marked_again,
+    logs_back_engines, logs_stand, steps_keep_laws,
 };
 use bt_meta::Torrent;
 use bt_resume::ResumeLog;
 use bt_store::Adopted;
-use bt_tree::NodeHash;
+use bt_tree::{Hash32, NodeHash};
 use std::alloc::{AllocError, Global};
 use std::marker::Model;
 
@@ -78,8 +80,11 @@ impl<D: Disk + Drop, H: NodeHash> Engine<D, H> {
         ensures answer { AnswersStart D.conduct H.digest torrent disks.items log result }
         ensures again { IfOk result (IsReopened D.conduct H.digest
             torrent disks.items log) }
+        ensures backed { IfOk result (IsBackedByLog D.conduct H.digest torrent log) }
     {
         flushed_blocks_are_marked_again::<D, H>(hash);
+        logs_back_engines::<D, H>(hash);
+        infohash_is_whole(&torrent);
         match bt_engine_start::start(alloc, torrent, hash, disks, log) {
             Ok(parts) => Ok(Engine { alloc, parts, hash }),
             Err(refused) => Err(refused),
@@ -87,7 +92,10 @@ impl<D: Disk + Drop, H: NodeHash> Engine<D, H> {
     }
 
     /// Connects a peer: gives the key by which it is called from then on, and what it is to be sent, our
-    /// handshake and our bitfield. A refusal leaves the engine as it was.
+    /// handshake and our bitfield.
+    ///
+    /// Errors, the first that is met, which change nothing: `Full` where 64 peers are connected; `SerialsSpent`
+    /// where no key is left; out of memory.
     pub fn connect(&mut self) -> Result<(PeerKey, Output), ConnectError>
         ensures step { StepsTo D.conduct H.digest
             self.old Event.Connect (Answer.Connected result) self.new }
@@ -99,7 +107,7 @@ impl<D: Disk + Drop, H: NodeHash> Engine<D, H> {
         connect(self.alloc, &mut self.parts)
     }
 
-    /// Puts bytes behind those of a peer that no event was taken from, all or none.
+    /// Puts bytes after those of a peer that no event was taken from, all or none.
     ///
     /// Errors, which change nothing: no peer has the key; out of memory.
     pub fn feed(&mut self, peer: PeerKey, bytes: &[u8]) -> Result<(), EngineError>
@@ -141,11 +149,12 @@ impl<D: Disk + Drop, H: NodeHash> Engine<D, H> {
     /// why the peer is closed, if it is; and what was done. None where no event has come whole.
     ///
     /// Errors: no peer has the key; out of memory, by which the event is lost and the peer with it, and
-    /// nothing else changes.
+    /// nothing else changes. No device is called then.
     pub fn next(&mut self, peer: PeerKey) -> Result<Option<Output>, EngineError>
         ensures step { StepsTo D.conduct H.digest
             self.old (Event.Next peer) (Answer.Stepped result) self.new }
         ensures stands { Stands D.conduct self.old self.new }
+        ensures devices { IfErr result (λ _. self.new.disks ≡ self.old.disks) }
     {
         steps_keep_laws::<D, H>(self.hash);
         events_stand::<D, H>(self.hash);
@@ -180,11 +189,17 @@ impl<D: Disk + Drop, H: NodeHash> Engine<D, H> {
     /// Takes in what the device of a file has already, and says how much of it. `next` is the number of its
     /// blocks then.
     ///
-    /// Errors: no such file; a peer is connected; out of memory, after which what was taken in stays so.
+    /// Errors: no such file; a peer is connected, and in both cases nothing has changed and no device was
+    /// called; out of memory, after which what was taken in stays so: without a log only where a leaf of the
+    /// file was not known.
     pub fn adopt(&mut self, file: u32) -> Result<Adopted, AdoptError>
         ensures step { StepsTo D.conduct H.digest
             self.old (Event.Adopt file) (Answer.Adopted result) self.new }
         ensures stands { Stands D.conduct self.old self.new }
+        ensures refused { IfErr result (λ error.
+            error ≢ AdoptError.OutOfMemory → self.new ≡ self.old) }
+        ensures unknown { IfErr result (λ error. error ≡ AdoptError.OutOfMemory
+            → self.old.state.logged ≡ false → HasUnknownLeaf H.digest self.new.state file) }
     {
         steps_keep_laws::<D, H>(self.hash);
         events_stand::<D, H>(self.hash);
@@ -217,13 +232,16 @@ impl<D: Disk + Drop, H: NodeHash> Engine<D, H> {
     pub fn restart(&mut self) -> Result<(), RestartError>
         ensures step { StepsTo D.conduct H.digest
             self.old Event.Restart (Answer.Restarted result) self.new }
+        ensures devices { IfErr result (λ _. self.new.disks ≡ self.old.disks) }
     {
         steps_keep_laws::<D, H>(self.hash);
         bt_engine_restart::restart(self.alloc, self.hash, &mut self.parts)
     }
 
-    /// The digest of its trees. A law of digests is called with it.
-    pub fn hash(&self) -> H {
+    /// The digest of its trees, SHA-256. A law of digests is called with it.
+    pub fn hash(&self) -> H
+        ensures digest { H.digest ≡ sha256 }
+    {
         self.hash
     }
 
@@ -287,3 +305,15 @@ impl<D: Disk + Drop, H: NodeHash> Engine<D, H> {
         let _ = &self.parts;
     }
 }
+
+/// An infohash has 32 bytes. It does nothing when it runs.
+fn infohash_is_whole(torrent: &Torrent)
+    ensures { length torrent.now.infohash ≡ digest_length }
+{
+    is_whole(torrent.infohash());
+}
+
+/// A digest has 32 bytes, which its type says. It does nothing when it runs.
+fn is_whole(_digest: Hash32)
+    ensures { length _digest ≡ digest_length }
+{}

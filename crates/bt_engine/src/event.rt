@@ -81,8 +81,8 @@ pub(crate) fn take_event<D: Disk + Drop, H: NodeHash>(
     take_in_room(alloc, parts, index, event, room)
 }
 
-/// The same, where there is room for what the event sends, notes and leaves for the log. Errors: out of
-/// memory; nothing changed then.
+/// Takes an event that came from the peer at `index`, to the end, where there is room for what it sends, notes
+/// and leaves for the log. Errors: out of memory; nothing changed then.
 fn take_in_room<D: Disk + Drop, H: NodeHash>(
     alloc: Global,
     parts: &mut Parts<D, H>,

@@ -1,5 +1,5 @@
 //! The next wire event of a peer.
-ghost use Rattle.std.specs.Prelude.{IfOk, IfErr};
+ghost use Rattle.std.specs.Prelude.{◌≡◌, IfOk, IfErr};
 ghost use Rattle.bt_wire.specs.Cutter.{IsAnswer, IsRefusal};
 ghost use Rattle.bt_machine.specs.Devices.{DeviceCalls, HaveCalls};
 ghost use Rattle.bt_machine.specs.Next.{StepNext};
@@ -18,7 +18,8 @@ use bt_wire::{WireError, WireEvent};
 use std::alloc::Global;
 
 /// Takes the next wire event of a peer, and does what follows from it. None where no event has come whole.
-/// Errors: no peer has the key; out of memory, by which the event is lost, and the peer with it.
+/// Errors: no peer has the key; out of memory, by which the event is lost, and the peer with it. No device is
+/// called then.
 pub(crate) fn next<D: Disk + Drop, H: NodeHash>(
     alloc: Global,
     parts: &mut Parts<D, H>,
@@ -29,6 +30,7 @@ pub(crate) fn next<D: Disk + Drop, H: NodeHash>(
     ensures step { (calls : DeviceCalls)
         × HaveCalls D.conduct (disks_of parts.old) calls (disks_of parts.new)
         × StepNext H.digest (state_of parts.old) key calls result (state_of parts.new) }
+    ensures devices { IfErr result (λ _. disks_of parts.new ≡ disks_of parts.old) }
     ensures rest { KeepsWritten parts.old parts.new }
 {
     let Some(index) = index_of(parts, key) else {

@@ -14,7 +14,7 @@ use bt_resume::Hint;
 use bt_tree::NodeHash;
 use std::alloc::AllocError;
 
-/// Makes room for so many hints more, where there is a log. Errors: out of memory, and then nothing has
+/// Makes room for `count` hints more, where there is a log. Errors: out of memory, and then nothing has
 /// changed.
 pub(crate) fn reserve_hints<D: Disk + Drop, H: NodeHash>(
     parts: &mut Parts<D, H>,
@@ -32,7 +32,7 @@ pub(crate) fn reserve_hints<D: Disk + Drop, H: NodeHash>(
     }
 }
 
-/// Where there is a log, puts a proof behind the hints that wait for it, and then marks of the blocks that
+/// Where there is a log, puts a proof after the hints that wait for it, and then marks of the blocks that
 /// notes say are marked.
 pub(crate) fn record_hints<D: Disk + Drop, H: NodeHash>(
     parts: &mut Parts<D, H>,
@@ -51,7 +51,7 @@ pub(crate) fn record_hints<D: Disk + Drop, H: NodeHash>(
     }
 }
 
-/// Puts a proof behind the others, and then marks.
+/// Puts a proof after the others, and then marks.
 fn push_hints(pending: &mut Pending, proof: Option<Hint>, notes: &[Note])
     requires room { length (hints_told proof notes.now) ≤ pending.old.room }
     requires readable { IfSome proof CanBeRead }
@@ -62,7 +62,7 @@ fn push_hints(pending: &mut Pending, proof: Option<Hint>, notes: &[Note])
     push_marks(pending, notes);
 }
 
-/// Puts a proof behind the others, if there is one.
+/// Puts a proof after the others, if there is one.
 fn push_proof(pending: &mut Pending, proof: Option<Hint>)
     requires room { length (option_to_list proof) ≤ pending.old.room }
     requires readable { IfSome proof CanBeRead }
@@ -74,7 +74,7 @@ fn push_proof(pending: &mut Pending, proof: Option<Hint>)
     }
 }
 
-/// Puts marks of the blocks that notes say are marked behind the others.
+/// Puts marks of the blocks that notes say are marked after the others.
 fn push_marks(pending: &mut Pending, notes: &[Note])
     requires room { length (marks_in notes.now) ≤ pending.old.room }
     requires inside { AreInside notes.now }
@@ -85,7 +85,7 @@ fn push_marks(pending: &mut Pending, notes: &[Note])
     }
 }
 
-/// Puts the mark of one block behind the others, where the note says that it is marked.
+/// Puts the mark of one block after the others, where the note says that it is marked.
 fn push_mark(pending: &mut Pending, note: &Note)
     requires room { length (marks_of note.now) ≤ pending.old.room }
     requires inside { AreInside (note.now ∷ []) }

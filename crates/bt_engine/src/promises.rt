@@ -16,9 +16,9 @@ use bt_machine::{
 use bt_tree::{NodeHash, roots_tell_files};
 use std::alloc::AllocError;
 
-/// Lets the events happen to the engine, one after the other, and puts the answer of each behind those that
+/// Lets the events happen to the engine, one after the other, and puts the answer of each after those that
 /// are there, as `run_events` does. Its contract says what is promised of that, whatever peers send and
-/// devices answer; some of it only where no event is a restart. Errors: there is no memory for so many
+/// devices answer; some of it only where no event is a restart. Errors: there is no memory for the
 /// answers, and then no event happened.
 pub fn run_as_promised<D: Disk + Drop, H: NodeHash>(
     engine: &mut Engine<D, H>,
@@ -55,7 +55,7 @@ pub fn run_as_promised<D: Disk + Drop, H: NodeHash>(
 }
 
 /// Once a flush answered Ok, a stop at any later moment loses no block that was marked then: this says so of
-/// an engine, where it stands right behind the flush. Its contract is of whatever events follow, up to a
+/// an engine, where it stands right after the flush. Its contract is of whatever events follow, up to a
 /// restart, and of stops between them and within them. It does nothing when it runs.
 pub fn flushed_blocks_stay<D: Disk + Drop, H: NodeHash>(engine: &Engine<D, H>)
     ensures { FlushedBlocksStay D.conduct H.digest engine.now }

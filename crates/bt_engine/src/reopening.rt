@@ -2,7 +2,7 @@
 ghost use Rattle.std.specs.Prelude.{◌≡◌, Some, Ok, IfOk, IfErr};
 ghost use Rattle.sha2.specs.Sha256.{sha256};
 ghost use Rattle.bt_machine.specs.Opening.{AnswersStart};
-ghost use Rattle.bt_engine.specs.Reopened.{IsReopened};
+ghost use Rattle.bt_engine.specs.Reopened.{IsReopened, IsBackedByLog};
 ghost use Rattle.bt_engine.specs.Reopening.{HasReopened, IsNotReopened, IsNotStarted};
 
 use crate::engine::Engine;
@@ -38,7 +38,7 @@ pub struct ReopenRefused<D> {
 /// Once a flush answered Ok on an engine that was started with a log as it was opened, a stop at any later
 /// moment, also within an event, leaves devices over which this marks each block that was marked at the flush,
 /// where it answers Ok and no read of them fails; and it refuses the log then only for a device fault or for
-/// want of memory. So it is of honest devices, where no read of a restart failed behind the flush, and behind a
+/// want of memory. So it is of honest devices, where no read of a restart failed after the flush, and after a
 /// restart before it that ran out of memory another one was accepted.
 ///
 /// Errors: `Log` as `ResumeLog::attach` has it, and `Start` as `Engine::start`.
@@ -80,6 +80,7 @@ fn start_with<D: Disk + Drop, H: NodeHash>(
         disks.items (Some opened) (Ok engine)) }
     ensures again { IfOk result (IsReopened D.conduct H.digest torrent disks.items
         (Some opened)) }
+    ensures backed { IfOk result (IsBackedByLog D.conduct H.digest torrent (Some opened)) }
     ensures refused { IfErr result (IsNotStarted torrent disks.items opened) }
 {
     match Engine::start(alloc, torrent, hash, disks, Some(opened)) {

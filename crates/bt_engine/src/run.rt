@@ -12,8 +12,8 @@ use bt_machine::{Answer, Event, runs_compose};
 use bt_tree::NodeHash;
 use std::alloc::AllocError;
 
-/// Runs events of an engine one after the other, and puts the answer of each behind those that are there.
-/// Errors: there is no memory for so many answers. No event ran then.
+/// Runs events of an engine one after the other, and puts the answer of each after those that are there.
+/// Errors: there is no memory for the answers. No event ran then.
 pub fn run_events<D: Disk + Drop, H: NodeHash>(
     engine: &mut Engine<D, H>,
     events: &[Event],

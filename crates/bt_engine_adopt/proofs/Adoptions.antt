@@ -161,7 +161,7 @@ module _ {D H : Type 0} (old : Parts D H) (file : ℕ) {slot : Slot D H} (here :
         }) refl,
       )
 
-  -- all groups were taken in, and there was no room for what comes behind them
+  -- all groups were taken in, and there was no room for what comes after them
   pub steps_unsettled : {conduct : Conduct D} {dig : List ℕ → List ℕ} {mid : Parts D H} {total : Adopted} (new : Parts D H) → old.peers.items ≡ []
       → AdoptsIn conduct dig file old total mid → KeepsRest old mid → AreInLine mid → OnlyPendingChanges mid new → pending_of new.log ≡ pending_of mid.log
       → Steps conduct dig old file (Err OutOfMemory) new

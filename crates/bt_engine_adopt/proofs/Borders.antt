@@ -8,7 +8,7 @@ use Rattle.bt_sparse.proofs.Anchors.{known_above, covers_above}
 use Rattle.bt_store.specs.BlockReads.{is_right_read}
 use Rattle.bt_store.specs.Adoption.{IsKnownGroup}
 
--- A group may begin at the first block, behind the blocks below a node that is held, or at the file's end.
+-- A group may begin at the first block, after the blocks below a node that is held, or at the file's end.
 pub data IsBorder (k : Facts) (from : ℕ) : Type 0 where
   at_start : from ≡ 0 → IsBorder k from
   behind : (layer : ℕ) → layer ≤ height k → IsSome (held_at k layer ((from - 1) / 2 ^ layer)) → from % 2 ^ layer ≡ 0
@@ -76,7 +76,7 @@ module _ {dig : List ℕ → List ℕ} {k : Facts} (rooted : IsRooted dig k) whe
         rest : 0 < 2 ^ anchor → from % 2 ^ anchor - 1 < 2 ^ anchor
         rest some = (let lt = mod-lt from some in omega (arith, lt, some))
 
-    -- a held node behind which the group begins lies in the group's node, so one of its children would be held
+    -- a held node after which the group begins lies in the group's node, so one of its children would be held
     not_inside : (layer : ℕ) → layer ≤ height k → IsSome (held_at k layer ((from - 1) / 2 ^ layer)) → from % 2 ^ layer ≡ 0 → 0 < from % 2 ^ anchor → ⊥
     not_inside layer low held even odd = elim (cases_lt layer anchor) [
       | inr le ↦ absurd (let none = divides_less from anchor layer le even in omega (arith, none, odd))
@@ -104,7 +104,7 @@ module _ {dig : List ℕ → List ℕ} {k : Facts} (rooted : IsRooted dig k) whe
     ]
     begins (at_end past) = absurd (omega arith)
 
-    -- behind the group is a border again, also in a tree that holds more
+    -- after the group is a border again, also in a tree that holds more
     behind_group : (grown : Facts) → blocks_of grown ≡ blocks_of k → ((layer i : ℕ) → IsSome (held_at k layer i) → IsSome (held_at grown layer i))
         → IsBorder grown (first + count)
     behind_group grown same kept =

@@ -46,7 +46,7 @@ module _ (file a n : ℕ) where
   alone : add_hint (Marks file a n ∷ []) (Marks file (a + n) 1) ≡ Marks file a (n + 1) ∷ []
   alone = ap (λ t. if t then Marks file a (n + 1) ∷ [] else Marks file a n ∷ Marks file (a + n) 1 ∷ []) goes_on
 
-  -- behind one that it does not continue
+  -- after one that it does not continue
   behind : (last : Hint) (b : Bool) → continues last (Marks file a n) ≡ b → continues last (Marks file a (n + 1)) ≡ b
       → ((b ≡ true) → add_hint (joined_run last (Marks file a n) ∷ []) (Marks file (a + n) 1) ≡ joined_run last (Marks file a (n + 1)) ∷ [])
       → add_hint (add_hint (last ∷ []) (Marks file a n)) (Marks file (a + n) 1) ≡ add_hint (last ∷ []) (Marks file a (n + 1))

@@ -16,6 +16,7 @@ use Rattle.bt_engine_adopt.specs.RecountSteps.{with_marked_file, Follows, Leaves
 use Rattle.bt_engine_adopt.specs.PartsSteps.{AreFit, AreInLine, KeepsRest, ChangesFile, block_count_of_tree}
 use Rattle.bt_engine_adopt.specs.SettlingSteps.{SettlesFiles}
 use Rattle.bt_engine_adopt.specs.AdoptionSteps.{AdoptsIn, StopsIn}
+use Rattle.bt_engine_adopt.specs.Unknown.{HasUnknownLeaf}
 use Rattle.bt_disk.specs.Conduct.{Conduct}
 
 -- the book and the counts alone differ
@@ -82,6 +83,9 @@ module _ {D H : Type 0} {file : ℕ} {old left : Parts D H} (out : LeavesOut fil
             (subst (λ (s : EngineState). LeavesStay (state_of left) s) (sym last) changes.leaves);
         peers = back.peers ∙ ap (λ (p : Parts D H). peers_of p.book) changes.others ∙ out.peers;
       }
+
+      pub unknown_again : {dig : List ℕ → List ℕ} → HasUnknownLeaf dig (state_of mid) file → HasUnknownLeaf dig (state_of new) file
+      unknown_again {dig} leaf = subst (λ (s : EngineState). HasUnknownLeaf dig s file) (sym last) leaf
 
       -- what is said of the change is said of all three
       said : (P : EngineState → EngineState → Type 0) → P (state_of left) (state_of mid) → P (state_of old) (state_of new)

@@ -5,6 +5,7 @@ use Rattle.std.proofs.lemmas.Bool.{cases_eq}
 use Rattle.std.proofs.lemmas.List.{map-append}
 use Rattle.std.specs.Vec.{with_item}
 use Rattle.bt_disk.specs.Calls.{HasCalls}
+use Rattle.bt_sparse.specs.SparseTree.{value_at}
 use Rattle.bt_disk.specs.Law.{CallsCompose}
 use Rattle.bt_store.specs.FileStore.{StoreView}
 use Rattle.bt_machine.proofs.Lists.{set_cases, set_same, set_other, some_is, some_below}
@@ -25,6 +26,7 @@ use Rattle.bt_engine_adopt.specs.GroupsSteps.{all_reads, file_with, AreTaken, Ta
 use Rattle.bt_engine_adopt.specs.RecountSteps.{with_marked_file}
 use Rattle.bt_engine_adopt.specs.PartsSteps.{AreFit, ChangesFile, block_count_of_tree}
 use Rattle.bt_engine_adopt.specs.AdoptionSteps.{AdoptsIn, StopsIn}
+use Rattle.bt_engine_adopt.specs.Unknown.{HasUnknownLeaf}
 use Rattle.bt_engine_adopt.proofs.Logs.{logged_same, hints_same}
 use Rattle.bt_engine_adopt.proofs.Takings.{taken_state}
 use Rattle.bt_engine_adopt.proofs.Recounts.{files_with}
@@ -84,6 +86,10 @@ if_ok_then (Err e) p then_so = p
 pub if_err_then : {X E : Type 0} {P Q : Type 0} (r : Result X E) → IfErr r (λ e. P) → (P → Q) → IfErr r (λ e. Q)
 if_err_then (Ok x) p then_so = p
 if_err_then (Err e) p then_so = then_so p
+
+pub if_err_two : {X E : Type 0} {P Q R : Type 0} (r : Result X E) → IfErr r (λ e. P) → IfErr r (λ e. Q) → (P → Q → R) → IfErr r (λ e. R)
+if_err_two (Ok x) p q then_so = p
+if_err_two (Err e) p q then_so = then_so p q
 
 pub either_way : {X E : Type 0} {P : X → Type 0} {Q S : Type 0} (r : Result X E) → IfOk r P → IfErr r (λ e. Q) → ((x : X) → P x → S) → (Q → S) → S
 either_way (Ok x) p q f g = f x p
@@ -272,3 +278,20 @@ module _ {D H : Type 0} {old : Parts D H} {file : ℕ} {slot : Slot D H} {store 
             made = refl;
           };
         }
+
+    -- a leaf that its tree does not know then
+    pub unknown_in : StopsTaking conduct dig file (is_some old.log) (file_view k store (pending_of old.log)) (file_view grown after (pending_of log))
+        → (block : ℕ) × (block < length store.states) × (value_at dig grown 0 block ≡ None)
+        → HasUnknownLeaf dig (state_of (parts_with old file slot after grown log)) file
+    unknown_in s (block, inside, unknown) = record {
+      state = file_with slot.tree after.states;
+      tree = grown;
+      block = block;
+      is_file = record {
+        here = ap (λ (fs : List FileState). slice_get fs file) (files_changed old.slots.items file at.here at.has after)
+            ∙ set_same (state_of old).files file (file_here old.slots.items file at.here at.has store);
+        has_tree = set_same old.trees.items slot.tree at.there;
+      };
+      inside = omega (arith, inside, ap (λ (v : StoreView D). length v.states) s.others, s.takes.same_size);
+      unknown = unknown;
+    }

@@ -27,7 +27,7 @@ pub record FileView (D : Type 0) : Type 0 where
 abbrev pub file_view : {D : Type 0} → Facts → StoreView D → List Hint → FileView D
 file_view tree store pending = record { tree = tree; store = store; pending = pending }
 
--- The store took in the group of a block. With a log these are left behind what was pending: its proofs, and
+-- The store took in the group of a block. With a log these are left after what was pending: its proofs, and
 -- then the marks of its newly marked blocks.
 pub record TakesGroup {D : Type 0} (conduct : Conduct D)
     (dig : List ℕ → List ℕ) (file : ℕ) (logged : Bool) (from : ℕ) (old : FileView D) (adopted : Adopted)

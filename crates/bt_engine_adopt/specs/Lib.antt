@@ -1,3 +1,4 @@
+pub mod Unknown
 -- what only private functions cite
 pub mod MarksSteps
 pub mod RunProofsSteps

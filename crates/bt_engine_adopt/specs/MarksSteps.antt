@@ -17,7 +17,7 @@ abbrev pub is_of : Kind → List BlockState → ℕ → Bool
 is_of Unmarked states i = not (is_marked_at states i)
 is_of Waits states i = is_waiting_at states i
 
--- of so many blocks from one on, those of a kind
+-- of this many blocks from one on, those of a kind
 abbrev pub blocks_of_kind : Kind → List BlockState → (first count : ℕ) → List ℕ
 blocks_of_kind kind states first count = filter (is_of kind states) (range_with_len first count)
 

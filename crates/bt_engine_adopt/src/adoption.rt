@@ -1,6 +1,6 @@
 //! The adoption of one file: whether it may be taken in now, its groups of blocks, and then the blocks that
 //! wait in the other files of its root.
-ghost use Rattle.std.specs.Prelude.{[], ◌≡◌, ◌<◌, ◌↔◌, IsTrue, IfOk, IfErr, length, vec_len};
+ghost use Rattle.std.specs.Prelude.{[], ◌≡◌, ◌≢◌, ◌<◌, ◌↔◌, is_some, false, IsTrue, IfOk, IfErr, length, vec_len};
 ghost use Rattle.bt_machine.specs.Devices.{DeviceCalls, HaveCalls};
 ghost use Rattle.bt_machine.specs.Blocks.{states_of};
 ghost use Rattle.bt_machine.specs.Adopting.{StepAdopt};
@@ -8,6 +8,7 @@ ghost use Rattle.bt_engine_state.specs.Parts.{state_of, disks_of};
 ghost use Rattle.bt_engine_state.specs.Handling.{AreInShape, KeepsWritten};
 ghost use Rattle.bt_engine_adopt.specs.PartsSteps.{AreFit, AreInLine, KeepsRest, ChangesFile};
 ghost use Rattle.bt_engine_adopt.specs.AdoptionSteps.{AdoptsIn, StopsIn};
+ghost use Rattle.bt_engine_adopt.specs.Unknown.{HasUnknownLeaf};
 
 use crate::groups::adopt_groups;
 use crate::recount::{block_count, count_in, leave_out};
@@ -23,7 +24,7 @@ use std::alloc::{AllocError, Global};
 /// in the other files of its root, which are not counted in the answer. `next` is the file's count of
 /// blocks, `anchor` is 0, and `marked` and `faults` are the sums over the groups, in blocks.
 ///
-/// With a log each group leaves its proofs pending, and then the marks of its newly marked blocks; behind all
+/// With a log each group leaves its proofs pending, and then the marks of its newly marked blocks; after all
 /// groups come the marks of the blocks that have become marked in the other files.
 ///
 /// Errors, the first that is met: `NoFile`; `Busy` where a peer is connected; `OutOfMemory`, after which the
@@ -39,6 +40,9 @@ pub fn adopt<D: Disk + Drop, H: NodeHash>(
         × StepAdopt H.digest (state_of parts.old) file calls result (state_of parts.new) }
     ensures rest { KeepsWritten parts.old parts.new }
     ensures peers { parts.new.peers ≡ parts.old.peers }
+    ensures refused { IfErr result (λ error. error ≢ AdoptError.OutOfMemory → parts.new ≡ parts.old) }
+    ensures unknown { IfErr result (λ error. error ≡ AdoptError.OutOfMemory
+        → is_some parts.old.log ≡ false → HasUnknownLeaf H.digest (state_of parts.new) file) }
 {
     if file as usize >= parts.slots.len() {
         return Err(AdoptError::NoFile);
@@ -85,6 +89,8 @@ fn adopt_file<D: Disk + Drop, H: NodeHash>(
         parts.old total parts.new) }
     ensures stop { IfErr result (λ _. StopsIn D.conduct H.digest file
         parts.old parts.new) }
+    ensures unknown { IfErr result (λ _. is_some parts.old.log ≡ false
+        → HasUnknownLeaf H.digest (state_of parts.new) file) }
     ensures rest { KeepsRest parts.old parts.new }
     ensures in_line { AreInLine parts.new }
 {
@@ -108,6 +114,8 @@ fn adopt_slot<D: Disk + Drop, H: NodeHash>(
         parts.old total parts.new) }
     ensures stop { IfErr result (λ _. StopsIn D.conduct H.digest file
         parts.old parts.new) }
+    ensures unknown { IfErr result (λ _. is_some parts.old.log ≡ false
+        → HasUnknownLeaf H.digest (state_of parts.new) file) }
     ensures changes { ChangesFile file parts.old parts.new }
 {
     calls_compose::<D>();

@@ -1,8 +1,8 @@
 //! A group of a file's blocks, and what it leaves for a log.
-ghost use Rattle.std.specs.Prelude.{◌≡◌, ◌+◌, ◌-◌, ◌<◌, ◌≤◌, min, is_some, true, length, IfOk, IfErr};
+ghost use Rattle.std.specs.Prelude.{◌≡◌, ◌+◌, ◌-◌, ◌<◌, ◌≤◌, min, is_some, true, false, length, None, IfOk, IfErr};
 ghost use Rattle.bt_tree.specs.Limits.{max_block_count, max_height};
 ghost use Rattle.bt_tree.specs.Blocks.{block_count};
-ghost use Rattle.bt_sparse.specs.SparseTree.{blocks_of};
+ghost use Rattle.bt_sparse.specs.SparseTree.{blocks_of, value_at};
 ghost use Rattle.bt_sparse.specs.Anchor.{IsAnchor};
 ghost use Rattle.bt_store.specs.Adoption.{IsUnknownGroup};
 ghost use Rattle.bt_machine.specs.ProofKeys.{ProofKeysAreAnswered};
@@ -21,7 +21,7 @@ use bt_tree::NodeHash;
 use std::alloc::{AllocError, Global};
 
 /// Takes in the group of a block. With a log, its proofs and then the marks of its newly marked blocks are
-/// pending behind what was. The one error is out of memory: then the group may have been read.
+/// pending after what was. The one error is out of memory: then the group may have been read.
 pub(crate) fn adopt_group<D: Disk + Drop, H: NodeHash>(
     alloc: Global,
     store: &mut FileStore<D, H>,
@@ -42,6 +42,7 @@ pub(crate) fn adopt_group<D: Disk + Drop, H: NodeHash>(
         tree.old from store.old store.new) }
     ensures tree { IfErr result (λ _. tree.new ≡ tree.old) }
     ensures pending { IfErr result (λ _. pending_of log.new ≡ pending_of log.old) }
+    ensures unknown { IfErr result (λ _. is_some log.old ≡ false → value_at H.digest tree.old 0 from ≡ None) }
     ensures log { log_in log.new ≡ log_in log.old }
 {
     proof_keys_are_answered::<H>();

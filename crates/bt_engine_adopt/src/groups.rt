@@ -1,5 +1,6 @@
 //! All groups of a file are taken in, one after the other, and their marked blocks and faults are summed.
-ghost use Rattle.std.specs.Prelude.{◌≡◌, ◌+◌, ◌^◌, ◌<◌, is_some, IfOk, IfErr, length};
+ghost use Rattle.std.specs.Prelude.{◌≡◌, ◌+◌, ◌^◌, ◌<◌, ℕ, is_some, false, None, IfOk, IfErr, length};
+ghost use Rattle.bt_sparse.specs.SparseTree.{value_at};
 ghost use Rattle.bt_machine.specs.Adopting.{adopted_together};
 ghost use Rattle.bt_engine_state.specs.Parts.{pending_of};
 ghost use Rattle.bt_engine_adopt.specs.GroupSteps.{log_in, file_view};
@@ -30,6 +31,8 @@ pub(crate) fn adopt_groups<D: Disk + Drop, H: NodeHash>(
     ensures stop { IfErr result (λ _. StopsTaking D.conduct H.digest file (is_some log.old)
         (file_view tree.old store.old (pending_of log.old))
         (file_view tree.new store.new (pending_of log.new))) }
+    ensures unknown { IfErr result (λ _. is_some log.old ≡ false → (block : ℕ)
+        × (block < length store.old.states) × (value_at H.digest tree.new 0 block ≡ None)) }
     ensures log { log_in log.new ≡ log_in log.old }
 {
     let blocks = store.geometry().blocks();

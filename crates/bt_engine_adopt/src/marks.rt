@@ -86,7 +86,7 @@ pub(crate) fn runs_of<D: Disk + Drop, H: NodeHash>(
     Ok(runs)
 }
 
-/// Puts a run behind others, if it has a block. Errors: out of memory.
+/// Puts a run after others, if it has a block. Errors: out of memory.
 fn close(runs: &mut Vec<Run>, run: Run) -> Result<(), AllocError>
     requires within { run.first + run.count ≤ max_block_count }
     requires runs { AreRuns runs.old.items }

@@ -12,14 +12,11 @@ ghost use Rattle.bt_engine_adopt.specs.RunProofsSteps.{run_keys, HoldsAnswer};
 
 use crate::marks::Run;
 use bt_engine_pending::Pending;
-use bt_hashreq::HashKey;
+use bt_hashreq::{HashKey, MAX_RUN_HEIGHT};
 use bt_resume::Hint;
 use bt_sparse::{Digests, SparseTree};
 use bt_tree::{Hash32, NodeHash, heights_are_least};
 use std::alloc::{AllocError, Global};
-
-/// The height of the longest run that a key may name (BEP 52 advises 512 digests at most).
-const MAX_RUN_HEIGHT: u32 = 9;
 
 /// Whether a run begins at a block, below a node of layer `anchor`.
 fn begins_run(block: u32, anchor: u32) -> bool

@@ -1,5 +1,5 @@
 //! The other files of a tree, of which blocks waited for their leaf.
-ghost use Rattle.std.specs.Prelude.{[], ◌≡◌, ◌<◌, ◌==◌, ◌↔◌, IsTrue, OnOk, OnErr, vec_len, slice_get, Some};
+ghost use Rattle.std.specs.Prelude.{[], ◌≡◌, ◌<◌, ◌==◌, ◌↔◌, is_some, true, IsTrue, OnOk, OnErr, vec_len, slice_get, Some};
 ghost use Rattle.bt_machine.specs.Adopting.{is_other};
 ghost use Rattle.bt_engine_state.specs.Parts.{pending_of};
 ghost use Rattle.bt_engine_state.specs.Roots.{LeadThrough};
@@ -15,7 +15,7 @@ use bt_tree::NodeHash;
 use std::alloc::{AllocError, Global};
 
 /// Settles all blocks of the other files of a tree, all but this one. With a log the marks of those that have
-/// become marked are pending behind what was. No peer is connected. Where no block of any file waits, no other
+/// become marked are pending after what was. No peer is connected. Where no block of any file waits, no other
 /// file is looked at.
 ///
 /// Errors: out of memory, and then no block has changed, and nothing more is pending.
@@ -33,6 +33,7 @@ pub(crate) fn settle_recorded<D: Disk + Drop, H: NodeHash>(
         parts.old parts.new) }
     ensures refused { OnErr result (OnlyPendingChanges parts.old parts.new) }
     ensures pending { OnErr result (pending_of parts.new.log ≡ pending_of parts.old.log) }
+    ensures logged { OnErr result (is_some parts.old.log ≡ true) }
     ensures rest { KeepsRest parts.old parts.new }
     ensures in_line { AreInLine parts.new }
 {

@@ -1,6 +1,6 @@
 //! The blocks that wait in the other files of a tree. Where their marks are to be left for a log, they are
 //! listed before they are settled, and room is made for all hints that their marks may take.
-ghost use Rattle.std.specs.Prelude.{[], ◌≡◌, ◌<◌, ◌≤◌, ◌+◌, ◌++◌, ◌^◌, IfOk, OnOk, filter, flat_map, map, length, is_some, true, if◌then◌else◌};
+ghost use Rattle.std.specs.Prelude.{[], ◌≡◌, ◌<◌, ◌≤◌, ◌+◌, ◌++◌, ◌^◌, IfOk, OnOk, OnErr, filter, flat_map, map, length, is_some, true, if◌then◌else◌};
 ghost use Rattle.bt_store.specs.Review.{is_marked_at};
 ghost use Rattle.bt_machine.specs.Hints.{mark_of, add_hints};
 ghost use Rattle.bt_machine.specs.Blocks.{block_id};
@@ -38,6 +38,7 @@ pub(crate) fn list_waiting<D: Disk + Drop, H: NodeHash>(
         then waiting_in_others file tree (state_of parts.old).files else [])) }
     ensures runs { IfOk result (λ listed. AreListed listed.items) }
     ensures room { IfOk result (λ listed. most_hints_of_all listed.items ≤ room_in parts.new.log) }
+    ensures logged { OnErr result (is_some parts.old.log ≡ true) }
     ensures keeps { OnlyPendingChanges parts.old parts.new }
     ensures pending { pending_of parts.new.log ≡ pending_of parts.old.log }
 {
@@ -49,7 +50,7 @@ pub(crate) fn list_waiting<D: Disk + Drop, H: NodeHash>(
     Ok(listed)
 }
 
-/// Makes room for so many more hints, where there is a log. Errors: out of memory.
+/// Makes room for `count` more hints, where there is a log. Errors: out of memory.
 fn make_room<D: Disk + Drop>(log: &mut Option<OpenLog<D>>, count: usize) -> Result<(), AllocError>
     ensures room { is_some log.old ≡ true → OnOk result (count ≤ room_in log.new) }
     ensures log { log_in log.new ≡ log_in log.old }
@@ -100,7 +101,7 @@ fn find_waiting<D: Disk + Drop, H: NodeHash>(
     Ok(listed)
 }
 
-/// Puts the blocks of a file that wait behind others, where it is of the tree. Errors: out of memory.
+/// Puts the blocks of a file that wait after others, where it is of the tree. Errors: out of memory.
 fn add_waiting<D: Disk + Drop, H: NodeHash>(
     alloc: Global,
     slot: &Slot<D, H>,

@@ -198,7 +198,7 @@ module _ (dig : List ℕ → List ℕ) (s : EngineState) (shaped : IsShaped s.to
           ]
         ]
 
--- the search goes on behind the block, in the same file, and so comes to an end
+-- the search goes on after the block, in the same file, and so comes to an end
 pub nearer : (files : ℕ) (from held : BlockId) (to : ℕ) → from.block < 2 ^ 32 → to < 2 ^ 32 → held.file < files → IsFrom from held → held.block < to
     → files * 2 ^ 32 - (held.file * 2 ^ 32 + to) < files * 2 ^ 32 - (from.file * 2 ^ 32 + from.block)
 nearer files from held to fits limit inside (inl lt) behind = omega arith

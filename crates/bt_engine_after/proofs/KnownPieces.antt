@@ -1,4 +1,4 @@
--- Pieces of whose blocks each leaf is known: up to the first unknown leaf that stands behind the first of them.
+-- Pieces of whose blocks each leaf is known: up to the first unknown leaf that stands after the first of them.
 use Rattle.bt_machine.proofs.Base.{◌≡◌, ℕ, ◌<◌, ◌≤◌, inl, inr, cases_lt, Option, Some, None, refl, sym, ap, ◌∙◌, subst, arith, IsSome, slice_get, slice_set, get_or, option_map, List, Bool, BlockId, Facts, held_at, File, IsLaidOut, total_pieces}
 use Rattle.std.specs.Prelude.{min, unwrap_or, IfSome, IfNone, ◌+◌, ◌*◌, ◌/◌, true, false, not, ◌&&◌, length}
 use Rattle.std.proofs.lemmas.Bool.{cases_eq, true≢false}
@@ -84,7 +84,7 @@ module _ (dig : List ℕ → List ℕ) (s : EngineState) (shaped : IsShaped s.to
       some_not_none (known last tree.0 lies.has at tree.1)
       (sym (leaf_is dig s shaped last tree.1 (leaf_inside s shaped last lies.has tree.1)) ∙ unknown.unknown lies.has)
 
-  -- the first piece behind what is known is no later one, so that the first unknown leaf is in the piece
+  -- the first piece after what is known is no later one, so that the first unknown leaf is in the piece
   pub unknown_by_end : (o : Option ℕ) → IfSome o (IsFirstPiece s.torrent last) → (end : ℕ)
       → end ≡ min (unwrap_or o (total_pieces s.torrent)) (total_pieces s.torrent) → piece < total_pieces s.torrent → end ≤ piece
       → ¬ IsKnown s piece

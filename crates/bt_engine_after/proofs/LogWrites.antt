@@ -1,4 +1,4 @@
--- What waits is written to a log, behind the syncs of the data devices.
+-- What waits is written to a log, after the syncs of the data devices.
 use Rattle.bt_machine.proofs.Base.{[], ◌≡◌, Bool, List, ◌∷◌, ◌++◌, is_some, Option, Some, None, option_map, Result, Ok, Err, refl, sym, ap, ◌∙◌, subst}
 use Rattle.std.specs.Prelude.{IsErrAnd}
 use Rattle.bt_resume.specs.ResumeLog.{LogView}

@@ -150,7 +150,7 @@ module _ (torrent : Metainfo) (size : IsPieceLength torrent.piece_length) (lay :
     pub none_first : length torrent.files ≤ from.file + 1 → HasNoBlock torrent from
     none_first past c q l after = absurd (omega (arith, past, later_file c q l after, listed torrent c.file c.block l.has))
 
-  -- ---- the blocks of a piece and behind it
+  -- ---- the blocks of a piece and after it
 
   module _ (q : ℕ) (run : BlockRun) (r : ArePieceBlocks torrent q run) where
     pub run_lies : LiesIn torrent (record { file = run.file; block = run.first }) q
@@ -186,7 +186,7 @@ module _ (torrent : Metainfo) (size : IsPieceLength torrent.piece_length) (lay :
           let yes = h.2 in absurd cc)
 
       module _ (q : ℕ) (next : IsNext pieces p q) where
-        -- what is held from there on lies in that piece or behind it
+        -- what is held from there on lies in that piece or after it
         held_behind : (c : BlockId) → IsFrom from c → is_held torrent pieces c ≡ true → (r : ℕ) × LiesIn torrent c r × (q ≤ r)
         held_behind c after e =
             let h = held_lies torrent pieces c e in
@@ -209,7 +209,7 @@ module _ (torrent : Metainfo) (size : IsPieceLength torrent.piece_length) (lay :
           behind_begin : (c : BlockId) → IsFrom from c → is_held torrent pieces c ≡ true → IsFrom begin c
           behind_begin c after e = let h = held_behind c after e in from_run q run r c h.0 h.1 h.2
 
-          -- the piece begins there or behind
+          -- the piece begins there or after it
           pub begins : IsFrom from begin → IsFirst (is_held torrent pieces) from begin
           begins after = record {
             after = after;

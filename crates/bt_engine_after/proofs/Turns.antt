@@ -49,7 +49,7 @@ module _ {D H : Type 0} (old : Parts D H) (served : List PeerKey) (tied : IsTied
       (λ j p here. ap (choking_sent (peer_of old.book p) p.am_choking) (served_alike j p here))
       ∙ sym (flat_map-map (λ p. choking_sent p p.am_choking (serves (state_of old) p)) (peer_of old.book) old.peers.items)
 
-  -- the peers as they were passed, and what was sent behind the frames before
+  -- the peers as they were passed, and what was sent after the frames before
   pub sent_begun : {passed : List Peer} (before after : List Sent) → passed ≡ old.peers.items
       → after ≡ before ++ flat_map (served_sent old.book served) passed → after ≡ before ++ chokes_sent (state_of old)
   sent_begun before after is sent =

@@ -8,7 +8,7 @@ use Rattle.bt_machine.specs.FollowUp.{FollowsUp}
 abbrev pub max_frames : ℕ
 max_frames = 18
 
--- frames are sent behind those before, and the engine changes, as follows from an event
+-- frames are sent after those before, and the engine changes, as follows from an event
 pub record SendsFollowUp (dig : List ℕ → List ℕ) (s : EngineState) (i : ℕ) (before after : List Sent)
     (new : EngineState) : Type 0 where
   pub sent : List Sent

@@ -26,7 +26,7 @@ pub record LiesIn (torrent : Metainfo) (b : BlockId) (piece : ℕ) : Type 0 wher
   pub has : HasBlock torrent b.file b.block
   pub is : piece ≡ has.entry.first_piece + full_block_length * b.block / torrent.piece_length
 
--- No block behind this one lies in an earlier piece, and none before it in a later one; where one before it
+-- No block after this one lies in an earlier piece, and none before it in a later one; where one before it
 -- lies in the piece, it does, too.
 pub record IsFirstPiece (torrent : Metainfo) (from : BlockId) (piece : ℕ) : Type 0 where
   pub behind : (c : BlockId) (q : ℕ) → LiesIn torrent c q → IsFrom from c → piece ≤ q

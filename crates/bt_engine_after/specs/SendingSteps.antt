@@ -1,4 +1,4 @@
--- Frames of a peer that are put behind those that are to be sent.
+-- Frames of a peer that are put after those that are to be sent.
 use Rattle.std.specs.Prelude.{[], ◌≡◌, List, ◌∷◌, ◌++◌, Option}
 use Rattle.std.specs.Option.{option_map_or}
 use Rattle.bt_meta.specs.Torrent.{Metainfo}
@@ -14,7 +14,7 @@ use Rattle.bt_machine.specs.FollowUp.{RequestsEach}
 abbrev pub frames_of : PeerKey → Option Message → List Sent
 frames_of key message = option_map_or (λ m. (key, message_frame m) ∷ []) message []
 
--- a request of each block is sent to the peer of this key, behind what was sent before
+-- a request of each block is sent to the peer of this key, after what was sent before
 pub record AreRequestsSent (torrent : Metainfo) (key : PeerKey) (blocks : List BlockId)
     (before after : List Sent) : Type 0 where
   pub sent : List Sent

@@ -31,7 +31,7 @@ served_sent book served p = choking_sent (peer_of book p) p.am_choking (is_serve
 abbrev pub message_sent : PeerState → Option Message → List Sent
 message_sent p message = option_map_or (λ m. sent_to p m ∷ []) message []
 
--- what follows for each peer is sent behind the frames before, in the order of keys
+-- what follows for each peer is sent after the frames before, in the order of keys
 pub record SendsAllFollowUps (dig : List ℕ → List ℕ) (s : EngineState) (before after : List Sent)
     (new : EngineState) : Type 0 where
   pub sent : List Sent

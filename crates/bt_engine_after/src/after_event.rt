@@ -18,7 +18,7 @@ use bt_tree::NodeHash;
 pub const MAX_FRAMES: usize = 18;
 
 /// Does what follows from an event for the peer that stands at `index`: tells it a change of our interest,
-/// sends it a hash request, and requests blocks of it. The frames come behind those that are there, which
+/// sends it a hash request, and requests blocks of it. The frames come after those that are there, which
 /// have room for `MAX_FRAMES` more.
 pub fn follow_up<D: Disk + Drop, H: NodeHash>(
     parts: &mut Parts<D, H>,

@@ -18,7 +18,8 @@ pub(crate) fn next_held(torrent: &Torrent, has: &PieceSet, from: BlockId) -> Opt
     first_in(torrent, piece, from)
 }
 
-/// The same in a piece of the set that is not in the other one.
+/// The first block, from one on, in a piece of the set that is not in the other one. The block need not be one
+/// of the torrent's.
 pub(crate) fn next_outside(
     torrent: &Torrent,
     has: &PieceSet,
@@ -51,7 +52,7 @@ fn first_in(torrent: &Torrent, piece: u32, from: BlockId) -> Option<BlockId>
     })
 }
 
-/// The first piece that has a block at this one or behind it.
+/// The first piece that has a block at this one or after it.
 pub(crate) fn first_piece(torrent: &Torrent, from: BlockId) -> Option<u32>
     ensures some { IfSome result (IsFirstPiece torrent.now from) }
     ensures none { IfNone result (HasNoBlock torrent.now from) }

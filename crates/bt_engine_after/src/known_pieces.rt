@@ -35,7 +35,7 @@ pub(crate) fn note_known_pieces<D: Disk + Drop, H: NodeHash>(parts: &mut Parts<D
     }
 }
 
-/// Up to which piece, from this one on, each leaf is known. It is in the same file, or the first one behind.
+/// Up to which piece, from this one on, each leaf is known. It is in the same file, or the first one after it.
 fn known_to<D: Disk + Drop, H: NodeHash>(parts: &Parts<D, H>, piece: u32) -> u32
     requires { AreInShape parts.now }
     ensures known { AreKnownTo (state_of parts.now) piece result }

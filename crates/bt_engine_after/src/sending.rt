@@ -1,4 +1,4 @@
-//! Frames of one peer, put behind those that are to be sent.
+//! Frames of one peer, put after those that are to be sent.
 ghost use Rattle.std.specs.Prelude.{◌≡◌, ◌+◌, ◌<◌, ◌≤◌, ◌++◌, length, vec_len, vec_capacity};
 ghost use Rattle.std.specs.List.{All};
 ghost use Rattle.bt_meta.specs.PieceBlocks.{HasBlock};
@@ -10,7 +10,7 @@ use bt_machine::Frame;
 use bt_meta::Torrent;
 use bt_wire::{Ask, Message};
 
-/// Puts a message behind them, where there is one.
+/// Puts a message after them, where there is one.
 pub(crate) fn send_message(send: &mut Vec<(PeerKey, Frame)>, key: PeerKey, message: Option<Message>)
     requires room { vec_len send.old < vec_capacity send.old }
     ensures sent { send.new.items ≡ send.old.items ++ frames_of key message }
@@ -22,7 +22,7 @@ pub(crate) fn send_message(send: &mut Vec<(PeerKey, Frame)>, key: PeerKey, messa
     }
 }
 
-/// Puts a request of each block behind them, in the order of the blocks.
+/// Puts a request of each block after them, in the order of the blocks.
 pub(crate) fn send_requests(
     send: &mut Vec<(PeerKey, Frame)>,
     key: PeerKey,

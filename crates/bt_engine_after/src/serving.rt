@@ -24,7 +24,7 @@ use std::alloc::{AllocError, Global};
 const FRAMES_PER_PEER: usize = 1 + MAX_FRAMES;
 
 /// Chooses the peers to serve anew, and begins the next turn. It sends chokes and unchokes where that
-/// changes, and behind them what follows for each peer. Errors: out of memory, and then nothing has changed.
+/// changes, and after them what follows for each peer. Errors: out of memory, and then nothing has changed.
 pub fn rechoke<D: Disk + Drop, H: NodeHash>(
     alloc: Global,
     parts: &mut Parts<D, H>,

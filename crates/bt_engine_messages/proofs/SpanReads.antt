@@ -173,7 +173,7 @@ module _ {D : Type 0} {conduct : Conduct D} {dig : List ℕ → List ℕ} {k : F
         same_file = s.same_file ∙ ap (λ (v : StoreView D). v.file_length) r.others;
       })
 
--- the second read goes behind the first
+-- the second read goes after the first
 pub both_parts : (a more : ℕ) (xs ys : List ℕ) → 32768 ≤ length xs → a ≤ 16384 → more ≤ 16384
     → length ys ≡ length (mid_of a (length xs - a) xs)
     → take (a + more) (put_mid a (length xs - a) xs ys) ≡ take a xs ++ take more ys

@@ -43,7 +43,7 @@ TakesHashes conduct dig old i key digests learnt new =
     (hashes_message key digests) calls (effect_of learnt proofs) (state_of new))
     × KeepsProofs old (hint_in learnt) proofs
 
--- so many notes there may be: those of all files of the root's tree, and none where no tree has the root
+-- how many notes there may be: those of all files of the root's tree, and none where no tree has the root
 pub record IsNoteRoom {D H : Type 0} (parts : Parts D H) (key : HashKey) (room : ℕ) : Type 0 where
   pub known : (tree : ℕ) (k : Facts) → IsTreeOf (state_of parts) key.root tree k
       → room ≡ sum_by (slot_room tree (run_room key)) parts.slots.items

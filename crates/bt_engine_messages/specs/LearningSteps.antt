@@ -64,7 +64,7 @@ ChangesByHashes conduct dig key digests hint trees slots (Settled notes kept) gr
     (l : Learns conduct dig key digests trees slots notes.items grown settled)
     × (kept ≡ kept_hint l.old l.new hint)
 
--- the blocks of a run are settled in the tree of this root with at most so many notes
+-- the blocks of a run are settled in the tree of this root with at most this many notes
 abbrev pub IsRoomFor : {D H : Type 0} → List Facts → List (Slot D H) → HashKey → ℕ → Type 0
 IsRoomFor trees slots key room = (i : ℕ) (k : Facts) → HasRoot trees key.root i k
     → sum_by (slot_room i (run_room key)) slots ≤ room

@@ -12,11 +12,11 @@ use Rattle.bt_engine_state.specs.declared.slot.Slot.{Slot}
 use Rattle.bt_engine_messages.specs.declared.learning.Learnt.{Learnt}
 use Rattle.bt_engine_messages.specs.declared.learning.Learnt.TheVariants.{Refused, Settled}
 
--- of so many blocks: one for each, and one for the device, where there is a block
+-- of this many blocks: one for each, and one for the device, where there is a block
 abbrev pub with_device : ℕ → ℕ
 with_device blocks = blocks + min blocks 1
 
--- of a file: of the blocks that wait, but of no more than so many
+-- of a file: of the blocks that wait, but of no more than this many
 abbrev pub note_room : (count : ℕ) → List BlockState → ℕ
 note_room count states = with_device (min count (count_by is_waiting states))
 

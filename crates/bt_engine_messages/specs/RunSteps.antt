@@ -22,7 +22,7 @@ HasCallsIfAny {D} conduct (Some disk) calls new =
 abbrev pub length_in : {D H : Type 0} → Slot D H → Option ℕ
 length_in slot = option_map (λ store. store.file_length) slot.store
 
--- in a file of the tree, those of so many blocks from one on were read back that wait and whose leaf is known
+-- in a file of the tree, those of this many blocks from one on were read back that wait and whose leaf is known
 pub record SettlesSlot {D H : Type 0} (conduct : Conduct D)
     (dig : List ℕ → List ℕ) (k : Facts) (tree from count : ℕ) (old : Slot D H) (reads : List BlockRead)
     (new : Slot D H) : Type 0 where

@@ -19,7 +19,7 @@ is_due dig k states i = is_waiting_at states i && is_some (value_at dig k 0 i)
 abbrev pub note_at : (file : ℕ) → List BlockState → ℕ → Note
 note_at file states i = if is_marked_at states i then Marked (block_id file i) else Freed (block_id file i)
 
--- Those of so many blocks from one on were read back that wait and whose leaf is known, and to the notes that
+-- Those of this many blocks from one on were read back that wait and whose leaf is known, and to the notes that
 -- there were the machine's are added.
 pub record SettlesBlocks {D : Type 0} (conduct : Conduct D)
     (dig : List ℕ → List ℕ) (k : Facts) (file from count : ℕ) (old : StoreView D) (before after : List Note)

@@ -105,7 +105,7 @@ fn follow_notes<D: Disk + Drop, H: NodeHash>(parts: &mut Parts<D, H>, notes: &[N
     }
 }
 
-/// The same of one note.
+/// Brings the request book and the counts in line with the block that this note names.
 fn follow_note<D: Disk + Drop, H: NodeHash>(parts: &mut Parts<D, H>, note: &Note)
     requires { HasNoted parts.old.torrent parts.old.book.wanted parts.old.counts note.now }
     ensures followed { (s t : EngineState) → s.torrent ≡ parts.old.torrent

@@ -37,7 +37,7 @@ fn proof_hint(alloc: Global, key: &HashKey, digests: &[u8]) -> Result<Hint, Allo
     Ok(Hint::Proof(*key, Digests::new(copies)))
 }
 
-/// The hint of a proof that added so many nodes to its tree: one that added none tells a log nothing.
+/// The hint of a proof that added this many nodes to its tree: one that added none tells a log nothing.
 pub(crate) fn hint_if_added(hint: Option<Hint>, added: u32) -> Option<Hint>
     ensures { result ≡ (if nat_lt 0 added then hint else None) }
 {

@@ -23,9 +23,9 @@ use std::alloc::{AllocError, Global};
 /// What hashes that came come to.
 #[derive(Debug, Drop)]
 pub enum Learnt {
-    /// They are refused, and the peer is closed.
+    /// The hashes are refused, and the peer is closed.
     Refused(Why),
-    /// The tree of their root knows them, and this became of the blocks that waited for them. With a log,
+    /// The tree of the hashes' root knows them, and this became of the blocks that waited for them. With a log,
     /// where they added a node to the tree, the hint that it is to keep of them.
     Settled(Vec<Note>, Option<Hint>),
 }

@@ -38,7 +38,7 @@ pub fn take_peer_event<D: Disk + Drop, H: NodeHash>(
     }
 }
 
-/// The same of a message.
+/// Takes a message of a peer that changes its peer alone, or nothing; gives why the peer is closed, if it is.
 fn take_message<D: Disk + Drop, H: NodeHash>(
     parts: &mut Parts<D, H>,
     index: usize,

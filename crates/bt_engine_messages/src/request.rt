@@ -38,8 +38,8 @@ pub enum Served {
 }
 
 /// Serves a request of the peer at `index` for a range of a piece: it is ignored while we choke the peer and
-/// where a block of the range is not marked. Where memory is refused, no block is read and nothing changes;
-/// none is asked for but to serve.
+/// where a block of the range is not marked. Errors: out of memory, and then no block was read and nothing has
+/// changed; memory is asked for only to serve.
 pub fn take_request<D: Disk + Drop, H: NodeHash>(
     alloc: Global,
     parts: &mut Parts<D, H>,

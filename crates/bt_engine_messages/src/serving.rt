@@ -133,7 +133,7 @@ fn read_block<D: Disk + Drop, H: NodeHash>(
     }
 }
 
-/// Of the first `count` bytes, so many from the one at `offset` on, in an empty list that has room for them.
+/// Of the first `count` bytes, `length` from the one at `offset` on, in an empty list that has room for them.
 fn cut(read: &[u8], count: usize, offset: usize, length: usize, bytes: Vec<u8>) -> Vec<u8>
     requires nothing { bytes.items ≡ [] }
     requires room { length ≤ vec_capacity bytes }

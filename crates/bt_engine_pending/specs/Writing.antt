@@ -1,5 +1,5 @@
 -- How pending hints are written to a log: which calls are made of it, and what is answered. These are the
--- parts of the machine's flush behind the syncs of the data devices.
+-- parts of the machine's flush after the syncs of the data devices.
 use Rattle.std.specs.Prelude.{[], ◌≡◌, true, List, ◌∷◌, ◌++◌, Result, Ok, Err}
 use Rattle.bt_resume.specs.declared.hint.Hint.{Hint}
 use Rattle.bt_resume.specs.declared.error.AppendError.{AppendError}
@@ -31,7 +31,7 @@ pub data WritesHints (pending : List Hint) (calls : List LogCall) (answer : Resu
 
 -- ---- law
 
--- Behind the syncs of all data devices this is the machine's flush of an engine with a log.
+-- After the syncs of all data devices this is the machine's flush of an engine with a log.
 abbrev pub WritingFlushes : Type 0
 WritingFlushes = (s : EngineState) (calls : List LogCall) (answer : Result (Unit {0}) FlushError)
     (left : List Hint) → s.logged ≡ true → WritesHints s.pending calls answer left

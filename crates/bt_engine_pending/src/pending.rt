@@ -36,7 +36,7 @@ impl Model for Pending {
 }
 
 impl Pending {
-    /// None, and no room.
+    /// No hint waits, and there is no room for one. It takes no memory.
     pub fn new(alloc: Global) -> Pending
         ensures { result ≡ record { hints = []; room = 0 } }
     {
@@ -59,7 +59,7 @@ impl Pending {
         self.hints.len()
     }
 
-    /// Makes room for so many more. Errors: out of memory, and then nothing has changed.
+    /// Makes room for `count` more hints. Errors: out of memory, and then nothing has changed.
     pub fn reserve(&mut self, count: usize) -> Result<(), AllocError>
         ensures hints { self.new.hints ≡ self.old.hints }
         ensures room { IfOk result (λ _. count ≤ self.new.room) }
@@ -70,7 +70,7 @@ impl Pending {
         self.hints.reserve(count)
     }
 
-    /// Puts a hint that can be read back behind the others. Where it is a run that continues the last one, this
+    /// Puts a hint that can be read back after the others. Where it is a run that continues the last one, this
     /// one gets longer.
     pub fn push(&mut self, hint: Hint)
         requires room { 0 < self.old.room }
@@ -87,7 +87,7 @@ impl Pending {
         self.hints.push_reserved(hint);
     }
 
-    /// Puts the mark of a block behind the others.
+    /// Puts the mark of a block after the others.
     pub fn push_mark(&mut self, file: u32, block: u32)
         requires room { 0 < self.old.room }
         requires within { block < max_block_count }

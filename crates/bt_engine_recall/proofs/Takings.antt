@@ -23,7 +23,7 @@ use Rattle.bt_machine.specs.Recovery.{claim_of_proof, IsProofFor, TakesProof, ac
 use Rattle.bt_engine_recall.specs.Taking.{TakeFirstHints, TakeHints}
 use Rattle.bt_engine_recall.specs.TakingSteps.{Places, place_of, roots_of, ArePlaces, TakeProof}
 
--- ---- digests, one behind the other
+-- ---- digests, one after the other
 
 abbrev AreWhole : List (List ℕ) → Type 0
 AreWhole digests = All (λ digest. length digest ≡ 32) digests

@@ -10,7 +10,7 @@ pub record TakeHints (dig : List ℕ → List ℕ) (hints : List Hint) (old new 
   pub each : (t : ℕ) (k : Facts) → slice_get old t ≡ Some k
       → (j : Facts) × (slice_get new t ≡ Some j) × TakesHints dig k hints j
 
--- So they take the hints in front of one, which is left, with those behind it.
+-- So they take the hints in front of one, which is left, with those after it.
 pub record TakeFirstHints (dig : List ℕ → List ℕ) (hints : List Hint) (old new : List Facts) : Type 0 where
   pub first : List Hint
   pub next : Hint

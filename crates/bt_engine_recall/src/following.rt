@@ -25,7 +25,7 @@ pub(crate) fn follow_files<D: Disk + Drop, H: NodeHash>(parts: &mut Parts<D, H>)
     }
 }
 
-/// They follow the blocks of a file.
+/// The book and the counts follow the blocks of one file, all of which they had as missing.
 fn follow_file<D: Disk + Drop, H: NodeHash>(parts: &mut Parts<D, H>, file: u32)
     requires follows { FollowsTo file parts.old }
     requires inside { file < vec_len parts.old.slots }

@@ -11,7 +11,7 @@ use bt_sparse::SparseTree;
 use bt_tree::NodeHash;
 
 /// Of each file the missing blocks that the hints record, and whose leaves are known, wait then; others stay
-/// as they are. Proofs are passed, and so are runs of no file and what of a run lies behind its file's end.
+/// as they are. Proofs are passed, and so are runs of no file and what of a run lies past its file's end.
 /// No device is called.
 pub(crate) fn recall_marks<D: Disk + Drop, H: NodeHash>(
     slots: &mut [Slot<D, H>],

@@ -20,7 +20,7 @@ use std::collections::BTreeMap;
 /// over the trees and the hints, and looks each root up in a map. Where there is no hint it takes no memory.
 ///
 /// Errors: out of memory, and then the trees have taken the proofs of some first hints, and none of those
-/// behind, of which there is at least one.
+/// after them, of which there is at least one.
 pub fn take_proofs<H: NodeHash>(
     alloc: Global,
     trees: &mut [SparseTree<H>],

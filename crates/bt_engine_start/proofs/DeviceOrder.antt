@@ -150,7 +150,7 @@ module _ {D H : Type 0} where
     | inr apart ↦ bare j s (omega arith) (sym (set_other slots i j new apart) ∙ at)
   ]
 
-  -- it is behind those that were given back before
+  -- it is after those that were given back before
   pub taken_order : (slots : List (Slot D H)) (i : ℕ) {old : Slot D H} (new : Slot D H) → AreBareBelow slots i → slice_get slots i ≡ Some old → new.store ≡ None
       → (disks : List D) {given : List D} → disks ++ devices_in slots ≡ given
       → (disks ++ option_to_list (disk_of old)) ++ devices_in (slice_set slots i new) ≡ given

@@ -1,4 +1,4 @@
--- Lists with one element more, behind the others.
+-- Lists with one element more, after the others.
 use Rattle.std.proofs.Common.{[], ◌≡◌, ℕ, zero, suc, ◌⊎◌, inl, inr, List, ◌∷◌, ◌++◌, length, Some, refl, sym, ap}
 use Rattle.std.specs.Prelude.{slice_get}
 use Rattle.bt_machine.proofs.Lists.{some_is}

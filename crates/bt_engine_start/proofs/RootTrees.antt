@@ -253,7 +253,7 @@ module _ {files : List File} (entries : List FileEntry) (numbers : List ℕ) (sa
     pub first_some : 0 < entry.length
     first_some = subst (λ (f : File). 0 < f.length) (some_is (sym first.listed ∙ first_read)) first.some
 
-    -- its tree stands behind those of the numbers before
+    -- its tree stands after those of the numbers before
     pub tree_pushed : {dig : List ℕ → List ℕ} {torrent : Metainfo} (trees : List Facts) {more : List Facts} {k : Facts} → torrent.files ≡ files
         → length trees ≡ i → AreTreesSoFar dig torrent numbers trees → IsTreeFrom dig torrent (file_of entry) k → more ≡ trees ++ k ∷ []
         → AreTreesSoFar dig torrent numbers more

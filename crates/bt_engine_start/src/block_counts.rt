@@ -19,7 +19,7 @@ pub(crate) fn block_counts(alloc: Global, files: &[FileEntry]) -> Result<Vec<u32
     Ok(counts)
 }
 
-/// How many blocks so many bytes fill, the last one perhaps in part.
+/// How many blocks `length` bytes fill, the last one perhaps in part.
 fn blocks_in(length: u64) -> u32
     requires { length ≤ max_file_length }
     ensures { result ≡ block_count length }

@@ -107,7 +107,7 @@ fn fill_slot<D: Disk + Drop, H: NodeHash>(
     }
 }
 
-/// Puts the devices that files have behind those that are left, in the files' order.
+/// Puts the devices that files have after those that are left, in the files' order.
 fn take_back<D: Disk + Drop, H: NodeHash>(slots: &mut [Slot<D, H>], disks: &mut Vec<D>)
     requires room { length (disks.old.items ++ devices_in slots.old) ≤ vec_capacity disks.old }
     ensures { disks.new.items ≡ disks.old.items ++ devices_in slots.old }

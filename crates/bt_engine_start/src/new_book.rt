@@ -4,7 +4,7 @@ ghost use Rattle.std.specs.Prelude.{◌≡◌, ◌≤◌, [], IfOk, false, true,
 use bt_book::{BlockId, Book};
 use std::alloc::{AllocError, Global};
 
-/// The book of files of so many blocks each, which wants all blocks. Errors: out of memory.
+/// The book of files of which each has its count of blocks, which wants all blocks. Errors: out of memory.
 pub(crate) fn new_book(alloc: Global, counts: &[u32]) -> Result<Book, AllocError>
     requires few { length counts.now ≤ 65_536 }
     ensures wanted { IfOk result (λ book. book.wanted ≡ map (λ count. replicate count true) counts.now) }

@@ -31,7 +31,7 @@ abbrev pub NoneOfTree : {D H : Type 0} → List (Slot D H) → (tree from to : �
 NoneOfTree {D} {H} slots tree from to =
     (j : ℕ) (slot : Slot D H) → from ≤ j → j < to → slice_get slots j ≡ Some slot → slot.tree ≡ tree → slot.store ≡ None
 
--- where the walk stands: at a slot of the tree, or behind the last of all
+-- where the walk stands: at a slot of the tree, or after the last of all
 pub record StandsAt {D H : Type 0} (slots : List (Slot D H)) (tree file : ℕ) : Type 0 where
   pub limit : file ≤ length slots
   pub of_tree : file < length slots → IsOfTree slots tree file

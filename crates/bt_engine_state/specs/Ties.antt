@@ -49,7 +49,7 @@ abbrev pub unmarked_in : EngineState → ℕ → ℕ
 unmarked_in s piece =
     count_by (λ b. not (is_marked_in s b)) (filter (is_in_piece s.torrent piece) (all_blocks s))
 
--- for each piece, so many of its blocks are not marked
+-- for each piece, how many of its blocks are not marked
 pub record AreUnmarked (s : EngineState) (counts : List ℕ) : Type 0 where
   pub size : length counts ≡ total_pieces s.torrent
   pub each : (piece : ℕ) → piece < total_pieces s.torrent
@@ -62,7 +62,7 @@ is_waiting_in s b = option_map_or is_waiting (state_at s b) false
 abbrev pub waiting_count : EngineState → ℕ
 waiting_count s = count_by (is_waiting_in s) (all_blocks s)
 
--- so many blocks are not marked, piece by piece, and so many wait
+-- how many blocks are not marked, piece by piece, and how many wait
 pub record AreCounted (s : EngineState) (counts : Counts) : Type 0 where
   pub unmarked : AreUnmarked s counts.unmarked.items
   pub waiting : counts.waiting ≡ waiting_count s

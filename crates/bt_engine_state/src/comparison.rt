@@ -5,7 +5,7 @@ ghost use Rattle.bt_engine_state.specs.ComparisonSteps.{AddsNothing, HasNoBit};
 
 use std::simd::u8x64;
 
-/// So many bytes are looked at at a time.
+/// How many bytes are looked at at a time.
 pub(crate) const PART_LEN: usize = 64;
 
 /// Whether 64 bytes from a place on have no bit that the other ones lack.

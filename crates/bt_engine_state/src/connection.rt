@@ -14,17 +14,17 @@ use crate::greeting::bitfield;
 use crate::parts::Parts;
 use crate::peer::Peer;
 use crate::piece_set::PieceSet;
-use bt_book::PeerKey;
+use bt_book::{MAX_PEERS, PeerKey};
 use bt_disk::Disk;
 use bt_machine::{ConnectError, HashState};
 use bt_tree::NodeHash;
 use bt_wire::{Bytes, Cutter};
 use std::alloc::Global;
 
-/// How many peers are connected at most.
-pub const MAX_PEERS: usize = 64;
-
 /// Connects a peer, and gives its key and the bitfield that it is to be sent.
+///
+/// Errors, the first that is met, which change nothing: `Full` where 64 peers are connected; `SerialsSpent` where
+/// no key is left; out of memory.
 pub fn connect<D: Disk + Drop, H: NodeHash>(
     alloc: Global,
     parts: &mut Parts<D, H>,

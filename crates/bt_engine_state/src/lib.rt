@@ -18,7 +18,8 @@ mod roots;
 mod slot;
 
 pub use block_change::follow_block;
-pub use connection::{MAX_PEERS, connect};
+pub use bt_book::MAX_PEERS;
+pub use connection::connect;
 pub use counts::Counts;
 pub use open_log::OpenLog;
 pub use parts::Parts;

@@ -27,7 +27,7 @@ pub fn index_of<D: Disk + Drop, H: NodeHash>(parts: &Parts<D, H>, key: PeerKey) 
     None
 }
 
-/// Puts bytes behind those of a peer that no event was taken from, all or none. Errors, which change nothing: no
+/// Puts bytes after those of a peer that no event was taken from, all or none. Errors, which change nothing: no
 /// peer has the key; out of memory.
 pub fn feed<D: Disk + Drop, H: NodeHash>(
     parts: &mut Parts<D, H>,
@@ -53,7 +53,7 @@ pub fn feed<D: Disk + Drop, H: NodeHash>(
     }
 }
 
-/// Puts the first `count` bytes of a buffer behind those of a peer that no event was taken from. The buffer
+/// Puts the first `count` bytes of a buffer after those of a peer that no event was taken from. The buffer
 /// may be exchanged for another, which is not shorter. Errors, which change neither parts nor buffer: no peer has
 /// the key; out of memory.
 pub fn feed_buffer<D: Disk + Drop, H: NodeHash>(

@@ -15,7 +15,7 @@ use std::marker::Model;
 #[derive(Debug, Drop)]
 pub struct PieceSet {
     pieces: u32,
-    /// As many as the pieces need. The bits behind the last piece's say nothing.
+    /// As many as the pieces need. The bits after the last piece's say nothing.
     bytes: Vec<u8>,
 }
 
@@ -107,7 +107,7 @@ impl PieceSet {
         PART_LEN <= whole.saturating_sub(place) && has_no_bit(&self.bytes, place)
     }
 
-    /// Whether 64 bytes from a place on are bytes of pieces alone in both sets, since the bits behind a last
+    /// Whether 64 bytes from a place on are bytes of pieces alone in both sets, since the bits after a last
     /// piece say nothing, and each piece of the set there is in the other.
     fn is_within_at(&self, other: &PieceSet, place: usize) -> bool
         ensures { IsTrue result ↔ IsWithinAt place PART_LEN self.now other.now }
@@ -129,6 +129,7 @@ impl PieceSet {
         }
     }
 
+    /// Puts a piece into the set.
     pub fn insert(&mut self, piece: u32)
         requires { piece < length self.old }
         ensures { self.new ≡ slice_set self.old piece true }
@@ -136,7 +137,7 @@ impl PieceSet {
         set_bit(&mut self.bytes, piece as usize);
     }
 
-    /// Makes it the set of the pieces of which a bitfield's bit says so. The bits behind the last piece's say
+    /// Makes it the set of the pieces of which a bitfield's bit says so. The bits after the last piece's say
     /// nothing.
     pub fn fill(&mut self, bitfield: &[u8])
         requires { length bitfield.now ≡ div_ceil (length self.old) 8 }

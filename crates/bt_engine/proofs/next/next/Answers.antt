@@ -118,6 +118,14 @@ returns-in-OutOfMemory-clause-step g c =
           c.drop_peer-in-OutOfMemory.ensures.gone,
     )
 
+pub returns-in-Ok-Some-clause-devices : goal.returns-in-Ok-Some-clause-devices
+returns-in-Ok-Some-clause-devices g c =
+    c.drop_peer.ensures.rest.devices ∙ c.in-Err-take_event.ensures.devices ∙ c.next_event.ensures.rest.devices
+
+pub returns-in-OutOfMemory-clause-devices : goal.returns-in-OutOfMemory-clause-devices
+returns-in-OutOfMemory-clause-devices g c =
+    c.drop_peer-in-OutOfMemory.ensures.rest.devices ∙ c.next_event.ensures.rest.devices
+
 pub unreachable-requires : goal.unreachable-requires
 unreachable-requires g c =
     let refused = rw c.in-Failed.is at c.in-Err.ensures.refused in
@@ -132,6 +140,7 @@ returns g c = record {
     faulty_so (peer_at c.args.parts.now c.in-Some.ensures.some) g.H.NodeHash.digest (state_of c.close.new.parts) c.in_default-fault.not-OutOfMemory
         c.requires.orderly c.in-Err.ensures.refused c.close.ensures.is c.close.ensures.gone,
   );
+  devices = tt;
   rest = record {
     torrent = c.close.ensures.rest.torrent ∙ c.next_event.ensures.rest.torrent;
     log = ap (λ (log : Option (OpenLog g.row.D.Denot)). option_map (λ opened. opened.log) log) (c.close.ensures.rest.log ∙ c.next_event.ensures.rest.log);

@@ -9,7 +9,7 @@ start_with-requires-clause-same_torrent g c = ap (λ (l : LogView g.row.D.Denot)
 
 pub returns-in-Ok-clause-reopened : goal.returns-in-Ok-clause-reopened
 returns-in-Ok-clause-reopened g c =
-    ok_reopened g.D.Disk.conduct g.H.NodeHash.digest c.args.torrent c.args.disks.items c.args.log c.in-Ok.opened (rw c.infohash.ensures at c.in-Ok.ensures.log) c.start_with.result c.start_with.ensures.begun c.start_with.ensures.again
+    ok_reopened g.D.Disk.conduct g.H.NodeHash.digest c.args.torrent c.args.disks.items c.args.log c.in-Ok.opened (rw c.infohash.ensures at c.in-Ok.ensures.log) c.start_with.result c.start_with.ensures.begun c.start_with.ensures.again c.start_with.ensures.backed
 
 pub returns-in-Ok-clause-refused : goal.returns-in-Ok-clause-refused
 returns-in-Ok-clause-refused g c =

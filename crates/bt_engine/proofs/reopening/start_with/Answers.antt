@@ -12,6 +12,9 @@ returns-in-Ok-clause-begun g c = rw c.in-Ok.is at c.start.ensures.answer
 pub returns-in-Ok-clause-again : goal.returns-in-Ok-clause-again
 returns-in-Ok-clause-again g c = c.in-Ok.ensures.again
 
+pub returns-in-Ok-clause-backed : goal.returns-in-Ok-clause-backed
+returns-in-Ok-clause-backed g c = c.in-Ok.ensures.backed
+
 pub returns-in-Some-clause-refused : goal.returns-in-Some-clause-refused
 returns-in-Some-clause-refused g c =
     let r = start_refused g.D.Disk.conduct g.H.NodeHash.digest c.requires.same_torrent c.start.ensures.answer c.in-Err.is in

@@ -2,6 +2,7 @@ use Rattle.std.proofs.Common.{sym, ap, ◌∙◌, arith}
 use Rattle.bt_machine.proofs.Lists.{get_some}
 use Rattle.bt_engine_state.proofs.Chains.{tree_leads}
 use Rattle.bt_engine_state.specs.declared.parts.Parts.{Parts}
+use Rattle.bt_engine_adopt.proofs.Logs.{logged_same}
 use Rattle.bt_engine_adopt.proofs.Slots.{here_at}
 use Rattle.bt_engine_adopt.proofs.OtherFiles.{as_many_trees, rest_then}
 use Rattle.bt_engine_adopt.proofs.Adoptions.{in_line_first, tied_last, alone_if, shaped_behind, steps_no_file, steps_busy, steps_empty, steps_stopped, steps_unsettled, steps_adopted, tree_below}
@@ -25,6 +26,9 @@ adopt_file-requires-clause-in_line g c = in_line_first c.args.parts.now c.requir
 
 pub returns-in_default-clause-step : goal.returns-in_default-clause-step
 returns-in_default-clause-step g c = steps_stopped c.args.parts.now c.args.file (alone_if c.has_peer.ensures.1 c.if-has_peer.false) c.in_default.ensures.stop
+
+pub returns-in_default-clause-unknown : goal.returns-in_default-clause-unknown
+returns-in_default-clause-unknown g c = λ error bare. c.in_default.ensures.unknown bare
 
 pub returns-in_default-clause-peers : goal.returns-in_default-clause-peers
 returns-in_default-clause-peers g c = ap (λ (p : Parts g.row.D.Denot g.row.H.Denot). p.peers) c.adopt_file.ensures.rest.others
@@ -64,6 +68,13 @@ returns-in_default-settle_recorded-clause-step g c =
     let here = here_at old (omega (arith, c.if-file-len.false, c.len.ensures)) c.index.ensures in
     steps_unsettled old c.args.file here (omega (arith, c.if-block_count-eq0.false, c.block_count.ensures)) c.settle_recorded.new.parts (alone_if c.has_peer.ensures.1 c.if-has_peer.false)
     c.in-Ok.ensures.ok c.adopt_file.ensures.rest c.adopt_file.ensures.in_line c.in_default-settle_recorded.ensures.refused c.in_default-settle_recorded.ensures.pending
+
+pub returns-in_default-settle_recorded-clause-unknown : goal.returns-in_default-settle_recorded-clause-unknown
+returns-in_default-settle_recorded-clause-unknown g c =
+    λ error bare.
+    let other = sym c.in_default-settle_recorded.ensures.logged
+    ∙ logged_same c.adopt_file.new.parts.log c.args.parts.now.log c.adopt_file.ensures.rest.log ∙ bare in
+    absurd cc
 
 pub returns-in_default-settle_recorded-clause-peers : goal.returns-in_default-settle_recorded-clause-peers
 returns-in_default-settle_recorded-clause-peers g c =

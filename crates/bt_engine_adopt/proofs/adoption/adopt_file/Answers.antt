@@ -1,7 +1,8 @@
-use Rattle.std.proofs.Common.{ap, arith}
+use Rattle.std.proofs.Common.{ap, ◌∙◌, arith}
+use Rattle.std.specs.Prelude.{is_some}
 use Rattle.bt_engine_state.specs.declared.parts.Parts.{Parts}
 use Rattle.bt_engine_adopt.proofs.Slots.{if_ok_then, if_err_then}
-use Rattle.bt_engine_adopt.proofs.LeftOut.{still_fit, same_blocks, follows_still, in_line_again, rest_again, adopts_again, stops_again}
+use Rattle.bt_engine_adopt.proofs.LeftOut.{still_fit, same_blocks, follows_still, in_line_again, rest_again, adopts_again, stops_again, unknown_again}
 use Rattle.bt_engine_adopt.proofs.adoption.adopt_file.Goals as goal
 
 pub leave_out-requires : goal.leave_out-requires
@@ -29,6 +30,12 @@ pub returns-clause-stop : goal.returns-clause-stop
 returns-clause-stop g c =
     if_err_then c.adopt_slot-adopted.result c.adopt_slot-adopted.ensures.stop
     (λ stops. stops_again c.leave_out.ensures c.requires.alone c.adopt_slot-adopted.ensures.changes c.count_in.ensures stops)
+
+pub returns-clause-unknown : goal.returns-clause-unknown
+returns-clause-unknown g c =
+    if_err_then c.adopt_slot-adopted.result c.adopt_slot-adopted.ensures.unknown
+    (λ leaf bare. unknown_again c.leave_out.ensures c.requires.alone c.adopt_slot-adopted.ensures.changes c.count_in.ensures
+    (leaf (ap (λ (p : Parts g.row.D.Denot g.row.H.Denot). is_some p.log) c.leave_out.ensures.others ∙ bare)))
 
 pub returns-clause-rest : goal.returns-clause-rest
 returns-clause-rest g c = rest_again c.leave_out.ensures c.requires.alone c.adopt_slot-adopted.ensures.changes c.count_in.ensures

@@ -1,4 +1,4 @@
-use Rattle.bt_engine_adopt.proofs.Slots.{here_at, not_empty, tree_there, stands_at, if_ok_two, if_err_then, either_way, adopts_in, stops_in, both_changed, kept_taken, kept_stopped}
+use Rattle.bt_engine_adopt.proofs.Slots.{here_at, not_empty, tree_there, stands_at, if_ok_two, if_err_then, if_err_two, either_way, adopts_in, stops_in, unknown_in, both_changed, kept_taken, kept_stopped}
 use Rattle.bt_engine_adopt.proofs.adoption.adopt_slot.Goals as goal
 
 pub unreachable-requires : goal.unreachable-requires
@@ -25,6 +25,13 @@ returns-clause-stop g c =
     let here = here_at c.args.parts.now c.requires.inside c.index_mut-slot.ensures.value in
     let at = stands_at c.args.parts.now c.args.file here c.requires.fits c.in-Some.is c.index_mut-tree.ensures.value in
     if_err_then c.adopt_groups.result c.adopt_groups.ensures.stop (λ stops. stops_in at c.adopt_groups.new.log c.adopt_groups.ensures.log c.calls_compose.ensures.both c.requires.some stops)
+
+pub returns-clause-unknown : goal.returns-clause-unknown
+returns-clause-unknown g c =
+    let here = here_at c.args.parts.now c.requires.inside c.index_mut-slot.ensures.value in
+    let at = stands_at c.args.parts.now c.args.file here c.requires.fits c.in-Some.is c.index_mut-tree.ensures.value in
+    if_err_two c.adopt_groups.result c.adopt_groups.ensures.stop c.adopt_groups.ensures.unknown
+    (λ stops leaf bare. unknown_in at c.adopt_groups.new.log c.adopt_groups.ensures.log stops (leaf bare))
 
 pub returns-clause-changes : goal.returns-clause-changes
 returns-clause-changes g c =

@@ -29,6 +29,14 @@ returns-in_err-group-clause-stop g c =
     let stopped = taking_stopped c.calls_compose.ensures.none c.loop-total.invariant.taking c.in_err-group.ensures.stop in
     if_err_by c.from_residual.result (rw (c.in_err-group.ensures.tree, c.in_err-group.ensures.pending) stopped)
 
+pub returns-in_err-group-clause-unknown : goal.returns-in_err-group-clause-unknown
+returns-in_err-group-clause-unknown g c =
+    if_err_by c.from_residual.result (λ bare. (
+      c.loop-total.total.next,
+      omega (arith, c.loop-total-test.true, c.blocks-blocks.ensures.value, ap block_count c.geometry.ensures.value, c.geometry.ensures.states),
+      rw c.in_err-group.ensures.tree (c.in_err-group.ensures.unknown (logged_same c.loop-total.log c.args.log.now c.loop-total.invariant.log ∙ bare)),
+    ))
+
 pub returns-in_err-group-clause-log : goal.returns-in_err-group-clause-log
 returns-in_err-group-clause-log g c = c.adopt_group.ensures.log ∙ c.loop-total.invariant.log
 

@@ -23,3 +23,6 @@ returns-clause-stands g c = rw (← c.self.view_is) (
     c.events_stand.ensures.steps (view_of c.self.inside.parts) (view_of c.next.new.parts) (Next c.args.peer) (Stepped c.next.result) (λ e. absurd cc) c.self.invariant.sound
     (steps_with g.D.Disk.conduct g.H.NodeHash.digest c.self.inside.parts c.next.new.parts (Next c.args.peer) (Stepped c.next.result)
     c.next.ensures.step.0 (c.next.result, refl, refl, c.next.ensures.step.2) c.next.ensures.step.1 c.next.ensures.rest.log))
+
+pub returns-clause-devices : goal.returns-clause-devices
+returns-clause-devices g c = rw (← c.self.view_is) c.next.ensures.devices

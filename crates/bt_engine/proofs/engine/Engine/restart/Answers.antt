@@ -1,6 +1,9 @@
-use Rattle.std.proofs.Common.{refl}
+use Rattle.std.proofs.Common.{refl, ap}
 use Rattle.bt_machine.specs.declared.event.Event.TheVariants.{Restart}
 use Rattle.bt_machine.specs.declared.event.Answer.TheVariants.{Restarted}
+use Rattle.bt_engine_state.specs.Parts.{disks_of}
+use Rattle.bt_engine_state.specs.declared.parts.Parts.{Parts}
+use Rattle.bt_engine.proofs.Handled.{if_err}
 use Rattle.bt_engine.proofs.Keeping.{kept_after}
 use Rattle.bt_engine.proofs.engine.Engine.restart.Goals as goal
 
@@ -16,6 +19,7 @@ invariant_of-self g c =
 pub returns : goal.returns
 returns g c = let step = c.restart.ensures.step in record {
   step = rw (← c.self.view_is) (record { calls = step.calls; step = (c.restart.result, refl, step.step); made = step.devices; logged = step.log });
+  devices = rw (← c.self.view_is) (if_err _ _ c.restart.result c.restart.ensures.refused (λ error same. ap (λ (p : Parts g.row.D.Denot g.row.H.Denot). disks_of p) same));
 }
 
 pub restart-requires-clause-digest : goal.restart-requires-clause-digest

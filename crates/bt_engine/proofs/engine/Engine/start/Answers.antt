@@ -1,7 +1,7 @@
 use Rattle.std.proofs.Common.{ap}
 use Rattle.bt_engine_start.specs.Starting.{answer_of}
 use Rattle.bt_engine.specs.Kept.{view_of}
-use Rattle.bt_engine.proofs.Reopenings.{reopened}
+use Rattle.bt_engine.proofs.Reopenings.{reopened, backed_by_log}
 use Rattle.bt_engine.proofs.engine.Engine.start.Goals as goal
 
 pub invariant_of-result : goal.invariant_of-result
@@ -18,4 +18,9 @@ invariant_of-result g c = record {
 
 pub returns-in-Ok-clause-again : goal.returns-in-Ok-clause-again
 returns-in-Ok-clause-again g c =
-    reopened g.D.Disk.conduct g.H.NodeHash.digest c.flushed_blocks_are_marked_again.ensures (view_of c.in-Ok.parts) c.start.ensures.answer (ap answer_of c.in-Ok.is)
+    reopened g.D.Disk.conduct g.H.NodeHash.digest c.flushed_blocks_are_marked_again.ensures.marked (view_of c.in-Ok.parts) c.start.ensures.answer (ap answer_of c.in-Ok.is)
+
+pub returns-in-Ok-clause-backed : goal.returns-in-Ok-clause-backed
+returns-in-Ok-clause-backed g c =
+    backed_by_log g.D.Disk.conduct g.H.NodeHash.digest c.logs_back_engines.ensures.starts (view_of c.in-Ok.parts) c.infohash_is_whole.ensures
+    c.start.ensures.answer (ap answer_of c.in-Ok.is)
