@@ -28,7 +28,7 @@ some_parts text e =
     let none : length (parts_of 32 text) ≡ 0 = ap length e in
     omega (arith, count, none)
 
--- what stands behind a first field is what stands behind it
+-- what stands after a first field is what stands after it
 pub same_rest : (first second : List ℕ) (rest more fields : List (List ℕ)) → fields ≡ first ∷ rest
     → fields ≡ second ∷ more → rest ≡ more
 same_rest first second rest more fields a b = ap tail_of (sym a ∙ b)

@@ -53,7 +53,7 @@ pub data SetsNone (devices : List (Option Device)) (text : List ℕ) : Type 0 wh
   no_setting : (line : Line) → Spells text line → ((new : List (Option Device)) → ¬ Sets devices line new)
       → SetsNone devices text
 
--- the line behind the settings, if there is one, is no setting
+-- the line after the settings, if there is one, is no setting
 abbrev pub SetsNoMore : List (Option Device) → List (List ℕ) → Type 0
 SetsNoMore devices [] = Unit {0}
 SetsNoMore devices (line ∷ rest) = SetsNone devices line

@@ -1,4 +1,4 @@
--- What the lines behind a torrent's devices come to: events of its engine, and reports.
+-- What the lines after a torrent's devices come to: events of its engine, and reports.
 use Rattle.std.specs.Prelude.{[], ◌≡◌, ◌≢◌, ℕ, List, ◌∷◌, ◌++◌, Option, Some, None, replicate, take}
 use Rattle.bt_disk.specs.Conduct.{Conduct}
 use Rattle.bt_meta.specs.Torrent.{Metainfo}

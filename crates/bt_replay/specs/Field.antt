@@ -10,12 +10,12 @@ use Rattle.hex.specs.Hex.{decode_of}
 abbrev pub parts_of : (mark : ℕ) → List ℕ → List (List ℕ)
 parts_of mark text = slice_split (λ byte. byte == mark) text
 
--- those behind the first one, which has something behind it or not
+-- those after the first one, which has something after it or not
 abbrev pub more_parts : (mark : ℕ) → Option (List ℕ) → List (List ℕ)
 more_parts mark None = []
 more_parts mark (Some rest) = parts_of mark rest
 
--- the fields behind a line's word, which are parted by one space
+-- the fields after a line's word, which are parted by one space
 abbrev pub fields_in : Option (Bor (List ℕ)) → List (List ℕ)
 fields_in rest = more_parts 32 (option_copied rest)
 

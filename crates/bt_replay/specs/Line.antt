@@ -7,21 +7,21 @@ use Rattle.bt_replay.specs.declared.line.Line.TheVariants.{Torrent, Fault, Flip,
 use Rattle.bt_replay.specs.declared.word.Word.{Word}
 use Rattle.bt_replay.specs.declared.word.Word.TheVariants.{Torrent as torrent, Fault as fault, Flip as flip, Connect as connect, Hello as hello, Feed as feed, Next as next, Lost as lost, Rechoke as rechoke, Adopt as adopt, Flush as flush, Restart as restart, Report as report}
 
--- ---- the fields behind a line's word
+-- ---- the fields after a line's word
 
--- a peer's key, and nothing behind it
+-- a peer's key, and nothing after it
 pub record IsPeer (fields : List (List ℕ)) (key : PeerKey) : Type 0 where
   pub field : List ℕ
   pub only : fields ≡ field ∷ []
   pub number : IsNumber (2 ^ 64) field key.0
 
--- a file's number, and nothing behind it
+-- a file's number, and nothing after it
 pub record IsFile (fields : List (List ℕ)) (file : ℕ) : Type 0 where
   pub field : List ℕ
   pub only : fields ≡ field ∷ []
   pub number : IsNumber (2 ^ 32) field file
 
--- bytes, and nothing behind them
+-- bytes, and nothing after them
 pub record IsBytes (fields : List (List ℕ)) (bytes : List ℕ) : Type 0 where
   pub field : List ℕ
   pub only : fields ≡ field ∷ []

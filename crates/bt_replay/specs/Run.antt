@@ -16,7 +16,7 @@ use Rattle.bt_replay.specs.declared.line.Line.{Line}
 abbrev pub lines_in : Option (Bor (List ℕ)) → List (List ℕ)
 lines_in text = more_parts 10 (option_copied text)
 
--- the lines ran, and what tells of them was written behind what the writer held
+-- the lines ran, and what tells of them was written after what the writer held
 pub record HasRun {D : Type 0} (conduct : Conduct D)
     (dig : List ℕ → List ℕ) (handshake : List ℕ) (first : EngineView D) (lines : List (List ℕ))
     (old new : Option (List ℕ)) (now : EngineView D) : Type 0 where

@@ -13,7 +13,8 @@ use bt_store::Adopted;
 use std::alloc::{AllocError, Global};
 use std::fmt::Write;
 
-/// Adds the lines of an answer. Its frames can be written. Errors: out of memory.
+/// Adds the lines of an answer. Its frames can be written. Errors: out of memory, and then a part of the lines
+/// may have been added.
 pub fn push_answer(alloc: Global, text: &mut String, answer: &Answer) -> Result<(), AllocError>
     requires { AllFit (sent_by answer.now) }
     ensures { OnOk result (string_bytes text.new ≡ string_bytes text.old ++ answer_text answer.now) }

@@ -1,4 +1,4 @@
-//! The fields behind a line's word. Each is None where they are not of its form.
+//! The fields after a line's word. Each is None where they are not of its form.
 ghost use Rattle.std.specs.Prelude.{[], ◌≡◌, ◌≢◌, ℕ, ◌∷◌, List, IfOk, IfSome, IfNone};
 ghost use Rattle.bt_book.specs.declared.names.PeerKey.{PeerKey as Key};
 ghost use Rattle.bt_replay.specs.Field.{fields_in};
@@ -9,7 +9,7 @@ use bt_book::PeerKey;
 use bt_wire::Bytes;
 use std::alloc::{AllocError, Global};
 
-/// A field, and what stands behind it.
+/// A field, and what stands after it.
 fn next_field(rest: Option<&[u8]>) -> Option<(&[u8], Option<&[u8]>)>
     ensures some { IfSome result (λ x. fields_in rest.entry
         ≡ x.0.now ∷ fields_in x.1) }

@@ -37,7 +37,7 @@ fn first_device(alloc: Global, file: &FileEntry) -> Result<Option<Device>, Alloc
     Ok(Some(zero_device(alloc, length)?))
 }
 
-/// A device of so many zeros.
+/// A device of `length` zeros.
 pub(crate) fn zero_device(alloc: Global, length: u64) -> Result<Device, AllocError>
     ensures { IfOk result (λ device. device ≡ zero_device length) }
 {

@@ -57,7 +57,7 @@ fn report<D: Disk + Drop, H: NodeHash>(
     Ok(text)
 }
 
-/// Tells behind a text how far each file is.
+/// Adds to a text how far each file is. Errors: out of memory, and then some of it may have been added.
 fn push_files<D: Disk + Drop, H: NodeHash>(
     text: &mut String,
     engine: &Engine<D, H>,

@@ -7,7 +7,7 @@ use hex::FromHexError;
 use std::alloc::{AllocError, Global};
 use std::str;
 
-/// The first part of a text that is parted by each byte of this kind, and what stands behind it: None where
+/// The first part of a text that is parted by each byte of this kind, and what stands after it: None where
 /// the text has no such byte.
 pub(crate) fn cut(text: &[u8], mark: u8) -> (&[u8], Option<&[u8]>)
     ensures { parts_of mark text.now ≡ result.0.now ∷ more_parts mark (option_copied result.1) }

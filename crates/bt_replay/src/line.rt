@@ -57,7 +57,7 @@ pub fn line_in(alloc: Global, text: &[u8]) -> Result<Option<Line>, AllocError>
     }
 }
 
-/// The line that a word and the fields behind it make.
+/// The line that a word and the fields after it make.
 fn line_with(alloc: Global, word: Word, rest: Option<&[u8]>) -> Result<Option<Line>, AllocError>
     ensures some { IfOk result (λ found. IfSome found (Makes word (fields_in rest.entry))) }
     ensures none { IfOk result (λ found. IfNone found
@@ -94,7 +94,7 @@ fn feed_line(alloc: Global, rest: Option<&[u8]>) -> Result<Option<Line>, AllocEr
     }
 }
 
-/// The same for the words behind which no bytes stand. It takes no memory.
+/// The line that a word and the fields after it make, where the word is none that bytes follow. It takes no memory.
 fn short_line(word: Word, rest: Option<&[u8]>) -> Option<Line>
     requires torrent { word ≢ Word.Torrent }
     requires feed { word ≢ Word.Feed }

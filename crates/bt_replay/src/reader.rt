@@ -17,7 +17,8 @@ pub const MAX_SCRIPT_LENGTH: usize = 1 << 24;
 /// How many bytes are asked for at a time.
 const READ_LEN: usize = 1 << 14;
 
-/// Reads a script: all bytes that the reader has, but no more than a script may have.
+/// Reads a script: all bytes that the reader has, but no more than a script may have, 2^24. Errors: the reader
+/// failed; out of memory.
 pub fn read_script<R: WatchedReader>(alloc: Global, reader: &mut R) -> Result<Vec<u8>, ReplayFault>
     ensures script { IfOk result
         (λ script. GivesScript (R.remaining reader.old) (R.remaining reader.new) script.items) }

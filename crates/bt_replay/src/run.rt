@@ -1,4 +1,4 @@
-//! The lines behind a script's devices, one after the other.
+//! The lines after a script's devices, one after the other.
 ghost use Rattle.std.specs.Prelude.{◌≡◌, ◌+◌, ◌^◌, ◌<◌, OnErr, OnOk, IfErr, length};
 ghost use Rattle.std.specs.Io.KnownBytes.{Appends};
 ghost use Rattle.bt_session.specs.Failures.{OnlyAfterFailure};
@@ -16,6 +16,9 @@ use std::alloc::Global;
 
 /// Does what the lines ask for, one after the other, and writes what tells of each as it is done; at the end the
 /// writer passes on all that it holds. The first of them has this number.
+///
+/// Errors, after which no further line is done: `Line` where a line can't stand there; out of memory; `Write` where
+/// the writer failed.
 pub fn run_all<D: Disk + Drop, H: NodeHash, W: WatchedWriter>(
     alloc: Global,
     engine: &mut Engine<D, H>,

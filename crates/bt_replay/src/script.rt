@@ -23,6 +23,9 @@ use std::alloc::{AllocError, Global};
 
 /// Starts an engine on the devices that a script names, does what its lines ask for, one after the other, and
 /// writes what tells of each as it is done.
+///
+/// Errors, the first that is met: `Line` where a line can't stand there; `Torrent` where the torrent is refused;
+/// out of memory; `Write` where the writer failed.
 pub fn run_script<W: WatchedWriter>(
     alloc: Global,
     script: &[u8],
@@ -108,7 +111,7 @@ fn peer_handshake(torrent: &Torrent) -> [u8; HANDSHAKE_LEN]
     })
 }
 
-/// Starts the engine with a log on the devices that the lines set, and gives the lines behind these settings,
+/// Starts the engine with a log on the devices that the lines set, and gives the lines after these settings,
 /// and how many settings there are.
 fn begin<'a>(
     alloc: Global,

@@ -10,7 +10,7 @@ use crate::field::cut;
 use crate::line::line_in;
 use std::alloc::{AllocError, Global};
 
-/// Makes the settings at the front of the lines. Gives the lines behind them, and how many they are. Errors:
+/// Makes the settings at the front of the lines. Gives the lines after them, and how many they are. Errors:
 /// out of memory.
 pub(crate) fn set_devices<'a>(
     alloc: Global,

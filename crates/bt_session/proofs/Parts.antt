@@ -89,7 +89,7 @@ module _ {D : Type 0} (conduct : Conduct D) (dig : List ℕ → List ℕ) (key :
     comes = inr is;
   }
 
-  -- behind an output the session ended
+  -- after an output the session ended
   pub ended_after : (given taken : ℕ) (first now : Place D) (last : Answer) (close : Option Why) (end : SessionEnd) → taken ≤ given
       → HasRun conduct dig key until every AllWritten first taken last now → ((why : Why) → close ≡ Some why → ClosesPeer why last)
       → (close ≡ None → MayBeDone last) → EndsAfter until now.engine.state close (Some end)

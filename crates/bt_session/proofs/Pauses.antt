@@ -16,7 +16,7 @@ use Rattle.bt_session.specs.Ends.{IsBetweenTurns, HasEnded, IsSessionWithFlushes
 use Rattle.bt_session.specs.Parts.{GoesOn, IsTurnOver, IsPause}
 use Rattle.bt_session.proofs.Progress.{went_on, written_all}
 
--- where none is due, behind a turn bytes are read
+-- where none is due, after a turn bytes are read
 read_is_next : (until : Bool) (every taken : ℕ) (s : EngineState) (last : Answer) → is_flush_due every taken ≡ false → IsTurnOver every taken s last
     → IsBetweenTurns until every taken s last
 read_is_next until every taken s (Rechoked (Ok out)) none over = none

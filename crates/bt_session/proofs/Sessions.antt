@@ -1,4 +1,4 @@
--- The events of a session, and of a flush behind it, lead from the engine before it to the one after it.
+-- The events of a session, and of a flush after it, lead from the engine before it to the one after it.
 use Rattle.std.proofs.Common.{[], ◌≡◌, ◌≢◌, ℕ, List, Option, ap, ◌∙◌, sym, subst, ne_eqb, refl}
 use Rattle.std.specs.Prelude.{Result, Ok, ◌==◌, not}
 use Rattle.bt_disk.specs.Conduct.{Conduct}

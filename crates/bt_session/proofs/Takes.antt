@@ -28,7 +28,7 @@ use Rattle.bt_session.proofs.Parts.{sent, refused, ended_after, not_ended}
 pub fits_too : (send out : List Sent) → send ≡ out → AllFit out → AllFit send
 fits_too send out is fit = subst AllFit (sym is) fit
 
--- the peer stays behind an output that does not close it, with fewer bytes
+-- the peer stays after an output that does not close it, with fewer bytes
 pub stays_alone : (key : PeerKey) (until : Bool) (old new : EngineState) (out : Output) (close : Option Why) → LeavesPeer key old (Ok (Some out)) new
     → close ≡ out.close → EndsAfter until new close None → StaysAlone key old new true
 stays_alone key until old new out close leaves is ends = leaves.0 (sym is ∙ (not_ended until new close ends).0)

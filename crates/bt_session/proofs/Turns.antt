@@ -16,7 +16,7 @@ pub take-set-append : {X : Type 0} (xs rest : List X) (i : ℕ) (x : X) → i < 
 take-set-append xs rest i x within =
     sym (append_assoc (take i xs) (x ∷ []) rest) ∙ ap (λ front. front ++ rest) (sym (take_more_set xs i x within))
 
--- what holds of each element from one on holds of that one, and of each behind it, whatever stands at its place then
+-- what holds of each element from one on holds of that one, and of each after it, whatever stands at its place then
 module _ {X : Type 0} (P : X → Type 0) (xs : List X) (i : ℕ) where
   pub All-first : (d : X) → i < length xs → All P (drop i xs) → P (get_or xs i d)
   All-first d within all = subst P (get_or-drop i xs 0 d ∙ ap (λ k. get_or xs k d) (add-zero i)) (all 0 d (omega (arith, length-drop i xs)))
@@ -37,7 +37,7 @@ untried_later ends links i end link untried =
     count = omega (arith, length-drop i links, length-drop (i + 1) (set links i link), length-set links i link)
 
 module _ {D L : Type 0} (Try : TrialWithFlushes D L) (first : EngineView D) (whole : List L) where
-  -- behind these ends and links, whatever comes in turn makes the whole
+  -- after these ends and links, whatever comes in turn makes the whole
   abbrev pub LeadsOn : (engine : EngineView D) (left : List L) (ends : List PeerEnd) (links : List L) → Type 0
   LeadsOn engine left ends links = (later : List PeerEnd) (rest : List L) (answer : Result (Unit {0}) FlushError) (new : EngineView D)
       → InTurnWithFlushes Try engine left later rest answer new → InTurnWithFlushes Try first whole (ends ++ later) (links ++ rest) answer new
@@ -73,7 +73,7 @@ module _ {D L : Type 0} (Try : TrialWithFlushes D L) (first : EngineView D) (who
       (take-append-drop i links)
       (leads (replicate (length (drop i links)) Untried) (drop i links) (Ok tt) engine (complete engine (drop i links) is_done)))
 
-  -- a flush was refused behind one more that is tried: those behind it are not
+  -- a flush was refused after one more that is tried: those after it are not
   pub refused : (i : ℕ) (engine new : EngineView D) (links : List L) (ends : List PeerEnd) (d after : L) (end : PeerEnd) (error : FlushError)
       → i < length links → i < length ends → all_complete engine.state ≡ false → Try engine (get_or links i d) end (Err error) after new
       → drop i ends ≡ replicate (length (drop i links)) Untried

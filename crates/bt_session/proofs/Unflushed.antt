@@ -78,7 +78,7 @@ module _ {D : Type 0} (conduct : Conduct D) (dig : List ℕ → List ℕ) where
   flushed_end {R} {W} remaining contents until every turns reached ways old new end answer is session =
       subst (λ (r : Option (R × W)). EndsAsWithFlushes conduct dig remaining contents until every turns r old (Session end) answer new) (sym is) session
 
--- the end of a session whose reader failed is told where no flush was refused behind it
+-- the end of a session whose reader failed is told where no flush was refused after it
 pub told_of_reader : {R : Type 0} (has_failed : R → Type 0) (reader : R) (end : SessionEnd) (answer : Result (Unit {0}) FlushError)
     → OnlyAfterFailure ReadFault (has_failed reader) end → OnOk answer (OnlyAfterFailure (Session ReadFault) (OneFailed has_failed) (Session end))
 told_of_reader has_failed reader end (Ok done) failed = λ is. (reader, failed cc)

@@ -89,7 +89,7 @@ pub record HasEnded {D : Type 0} (conduct : Conduct D)
   pub ran : HasRun conduct dig key until_complete every (written_at key last end) first taken last now
   pub comes : Comes key end until_complete every given taken last now.engine.state now.remaining
 
--- A whole session, in which the engine is flushed behind each `every`-th turn, or never where that is 0: it
+-- A whole session, in which the engine is flushed after each `every`-th turn, or never where that is 0: it
 -- has come to its end, and its peer is removed.
 pub record IsSessionWithFlushes {D : Type 0} (conduct : Conduct D)
     (dig : List ℕ → List ℕ) (until_complete : Bool) (every given : ℕ) (first : Place D)

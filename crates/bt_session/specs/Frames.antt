@@ -30,7 +30,7 @@ frames_to key sent = map (λ s. s.1) (filter (is_to key) sent)
 abbrev pub AllFit : List Sent → Type 0
 AllFit sent = (s : Sent) → Contains sent s → CanBeWritten s.1
 
--- The frames are written behind what the writer held. Out of memory there are some, of which nothing is; of a
+-- The frames are written after what the writer held. Out of memory there are some, of which nothing is; of a
 -- writer that failed nothing is known.
 abbrev pub AreWritten : Option (List ℕ) → Option (List ℕ) → List Frame → Result (Unit {0}) SessionEnd → Type 0
 AreWritten old new frames (Ok _) = Appends old new (spellings frames)

@@ -66,18 +66,18 @@ IsPause {D} conduct dig key until every taken old result new =
 
 -- ---- its parts
 
--- one read gave so many bytes, at the front of the buffer: none only where the reader has no more
+-- one read gave this many bytes, at the front of the buffer: none only where the reader has no more
 pub record IsGiven (old new : Option (List ℕ)) (count : ℕ) (buffer : List ℕ) : Type 0 where
   pub within : count ≤ length buffer
   pub taken : Consumes old new (take count buffer)
   pub ended : count ≡ 0 → IsAtEnd new
 
--- behind a wire event the next is taken; where there was none, the peers to serve are chosen
+-- after a wire event the next is taken; where there was none, the peers to serve are chosen
 abbrev pub event_after : PeerKey → (there_was : Bool) → Event
 event_after key true = Next key
 event_after key false = Rechoke
 
--- behind an output the session ends where the peer was closed, or where it is done
+-- after an output the session ends where the peer was closed, or where it is done
 abbrev pub EndsAfter : (until_complete : Bool) → EngineState → Option Why → Option SessionEnd → Type 0
 EndsAfter until s (Some why) end = end ≡ Some (Closed why)
 EndsAfter until s None (Some end) = (end ≡ Complete) × IsDone until s

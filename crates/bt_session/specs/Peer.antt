@@ -13,7 +13,7 @@ use Rattle.bt_session.specs.Ends.{IsSessionWithFlushes}
 use Rattle.bt_session.specs.declared.peer_end.PeerEnd.{PeerEnd}
 use Rattle.bt_session.specs.declared.peer_end.PeerEnd.TheVariants.{Unreachable, Refused, Session}
 
--- An engine has a session with the peer of a reader that has these bytes left, and is flushed in it behind
+-- An engine has a session with the peer of a reader that has these bytes left, and is flushed in it after
 -- each `every`-th turn. What the reader has left then is not looked at, nor what was written.
 pub record HasSessionWithFlushes {D : Type 0} (conduct : Conduct D)
     (dig : List ℕ → List ℕ) (until_complete : Bool) (every turns : ℕ) (remaining contents : Option (List ℕ))
@@ -51,7 +51,7 @@ IsFlushedWhere conduct dig true old answer new =
     StepsTo conduct dig old Flush (Flushed answer) new
 IsFlushedWhere conduct dig false old answer new = (answer ≡ Ok tt) × (new ≡ old)
 
--- A session with flushes came to this end, and the engine was flushed behind it too, unless it never is. Or a
+-- A session with flushes came to this end, and the engine was flushed after it too, unless it never is. Or a
 -- flush in it was refused: then it has the end of one whose reader failed, since no more is read.
 pub data IsFlushedSession {D : Type 0} (conduct : Conduct D)
     (dig : List ℕ → List ℕ) (until_complete : Bool) (every turns : ℕ) (remaining contents : Option (List ℕ))
@@ -70,7 +70,7 @@ pub data IsFlushedSession {D : Type 0} (conduct : Conduct D)
       → IsFlushedSession conduct dig until_complete every turns remaining contents old end
       answer new
 
--- How it ends with a peer where the engine is flushed in its session and behind it, and what the last of
+-- How it ends with a peer where the engine is flushed in its session and after it, and what the last of
 -- these flushes answered: Ok where there was none.
 abbrev pub EndsAsWithFlushes : {D R W : Type 0} → Conduct D
     → (List ℕ → List ℕ) → (remaining : R → Option (List ℕ)) → (contents : W → Option (List ℕ))

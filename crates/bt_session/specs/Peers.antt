@@ -17,7 +17,7 @@ pub record IsDialled {L R W : Type 0} (dials failures : L → ℕ) (gives : L �
   pub given : IfSome reached (λ ways. gives old ways.0 ways.1)
 
 -- A peer is tried: its link is dialled once; where that reaches it, it has a session until the engine is
--- complete, of so many turns at most.
+-- complete, of at most this many turns.
 pub record IsTried {D L R W : Type 0} (conduct : Conduct D)
     (dig : List ℕ → List ℕ) (dials failures : L → ℕ) (gives : L → R → W → Type 0)
     (remaining : R → Option (List ℕ)) (contents : W → Option (List ℕ)) (turns : ℕ) (old : EngineView D)
@@ -30,7 +30,7 @@ pub record IsTried {D L R W : Type 0} (conduct : Conduct D)
 abbrev pub Trial : (D L : Type 0) → Type 1
 Trial D L = EngineView D → L → PeerEnd → L → EngineView D → Type 0
 
--- One after the other is tried, as long as one is left and the engine is not complete. The links behind them
+-- One after the other is tried, as long as one is left and the engine is not complete. The links after them
 -- are as they were, and their ends are Untried.
 pub data InTurn {D L : Type 0} (Try : Trial D L)
     : EngineView D → List L → List PeerEnd → List L → EngineView D → Type 0 where
@@ -44,7 +44,7 @@ pub data InTurn {D L : Type 0} (Try : Trial D L)
 
 -- ---- with flushes
 
--- The same of a peer in whose session the engine is flushed behind each `every`-th turn, and then behind the
+-- The same of a peer in whose session the engine is flushed after each `every`-th turn, and then after the
 -- session, or never where that is 0; and what the last of these flushes answered.
 pub record IsTriedWithFlushes {D L R W : Type 0} (conduct : Conduct D) (dig : List ℕ → List ℕ)
     (dials failures : L → ℕ) (gives : L → R → W → Type 0)

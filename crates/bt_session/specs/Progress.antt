@@ -30,7 +30,7 @@ pub record Place (D : Type 0) : Type 0 where
 abbrev pub place : {D : Type 0} → EngineView D → Option (List ℕ) → Option (List ℕ) → Place D
 place engine remaining contents = record { engine = engine; remaining = remaining; contents = contents }
 
--- How much is written of the frames that were sent to the peer, behind what the writer held.
+-- How much is written of the frames that were sent to the peer, after what the writer held.
 abbrev pub HowMuch : Type 1
 HowMuch = Option (List ℕ) → Option (List ℕ) → List Frame → Type 0
 

@@ -18,7 +18,7 @@ use Rattle.bt_machine.specs.View.{StepsTo, RunsTo}
 abbrev pub IsDone : (until_complete : Bool) → EngineState → Type 0
 IsDone until_complete s = (until_complete ≡ true) × (all_complete s ≡ true)
 
--- a reader is asked for so many bytes
+-- how many bytes a reader is asked for
 abbrev pub read_length : ℕ
 read_length = 16384
 
@@ -32,18 +32,18 @@ abbrev pub is_turn : Event → Bool
 is_turn (Feed key bytes) = true
 is_turn _ = false
 
--- a flush is due behind each `every`-th turn, and where that is 0 never
+-- a flush is due after each `every`-th turn, and where that is 0 never
 abbrev pub is_flush_due : (every taken : ℕ) → Bool
 is_flush_due every taken = not (every == 0) && (taken % every == 0)
 
--- behind a turn the engine is flushed where that is due; where it isn't, bytes are fed
+-- after a turn the engine is flushed where that is due; where it isn't, bytes are fed
 abbrev pub FollowsTurn : (due : Bool) → PeerKey → Event → Type 0
 FollowsTurn true key event = event ≡ Flush
 FollowsTurn false key event = FeedsRead key event
 
--- The event that a session makes after so many turns, behind an answer that left the engine so. Behind a
+-- The event that a session makes after so many turns, after an answer that left the engine so. After a
 -- greeting bytes are fed; then wire events are taken until none is there; then the peers to serve are chosen,
--- and the turn is over. Behind a flush the next one begins.
+-- and the turn is over. After a flush the next one begins.
 abbrev pub Follows : PeerKey → (until_complete : Bool) → (every taken : ℕ) → EngineState → Answer → Event
     → Type 0
 Follows key until every taken s (Connected (Ok _)) event = ¬ IsDone until s × FeedsRead key event

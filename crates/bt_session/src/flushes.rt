@@ -11,7 +11,7 @@ use bt_engine::Engine;
 use bt_machine::FlushError;
 use bt_tree::NodeHash;
 
-/// Flushes the engine where that is due behind the turn of this number, and else does nothing. Errors: the
+/// Flushes the engine where that is due after the turn of this number, and else does nothing. Errors: the
 /// flush was refused.
 pub(crate) fn flush_if_due<D: Disk + Drop, H: NodeHash>(
     engine: &mut Engine<D, H>,
@@ -30,7 +30,7 @@ pub(crate) fn flush_if_due<D: Disk + Drop, H: NodeHash>(
     }
 }
 
-/// Whether a flush is due behind the turn of this number.
+/// Whether a flush is due after the turn of this number.
 fn is_flush_due(every: u64, taken: u64) -> bool
     ensures { result ≡ is_flush_due every taken }
 {

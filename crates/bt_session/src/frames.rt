@@ -63,7 +63,7 @@ fn spell_frames(
     Ok(())
 }
 
-/// Spells a frame behind what the buffer holds. Errors: out of memory.
+/// Spells a frame after what the buffer holds. Errors: out of memory.
 fn spell(alloc: Global, frame: &Frame, buffer: &mut Vec<u8>) -> Result<(), AllocError>
     requires fits { CanBeWritten frame.now }
     ensures spelled { IfOk result (λ _. buffer.new.items ≡ buffer.old.items ++ spelling frame.now) }

@@ -22,7 +22,7 @@ use std::alloc::{AllocError, Global};
 use std::io::ErrorKind;
 use std::marker::Model;
 
-/// A reader is asked for so many bytes at a time.
+/// How many bytes a reader is asked for at a time.
 const READ_LEN: usize = 16384;
 
 /// A buffer of 16,384 bytes. Its memory is exchanged for that of the engine, where this spares a copy.

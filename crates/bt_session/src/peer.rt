@@ -38,8 +38,8 @@ pub fn meet_peer<D: Disk + Drop, H: NodeHash, R: WatchedReader + Drop, W: Watche
     end
 }
 
-/// The same as `meet_peer`, but that the engine is flushed in the session, behind each turn whose number is a
-/// multiple of `flush_every`, and behind the session; and never where that is 0. Gives what the last of these
+/// The same as `meet_peer`, but that the engine is flushed in the session, after each turn whose number is a
+/// multiple of `flush_every`, and after the session; and never where that is 0. Gives what the last of these
 /// flushes answered, Ok where there was none. One that is refused ends the session, which is told then as one
 /// whose reader failed.
 pub fn meet_peer_with_flushes<
@@ -85,7 +85,7 @@ pub fn meet_peer_with_flushes<
     }
 }
 
-/// Flushes an engine behind a session, unless it is never flushed.
+/// Flushes an engine after a session, unless it is never flushed.
 fn flush_behind<D: Disk + Drop, H: NodeHash>(
     engine: &mut Engine<D, H>,
     flush_every: u64,

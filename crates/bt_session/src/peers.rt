@@ -16,7 +16,7 @@ use bt_tree::NodeHash;
 use std::alloc::Global;
 
 /// Dials each peer in its turn, once, until the engine is complete. A peer that is reached has a session
-/// until then, of so many turns at most. `ends` is what came of each: Untried behind the last that was
+/// until then, of at most `turns` turns. `ends` is what came of each: Untried after the last that was
 /// dialled.
 pub fn run_peers<D: Disk + Drop, H: NodeHash, L: Link>(
     alloc: Global,
@@ -40,8 +40,8 @@ pub fn run_peers<D: Disk + Drop, H: NodeHash, L: Link>(
     let _ = run_peers_with_flushes(alloc, engine, links, ends, turns, 0);
 }
 
-/// The same as `run_peers`, but that the engine is flushed in each session, behind each turn whose number is
-/// a multiple of `flush_every`, and behind each session; and never where that is 0.
+/// The same as `run_peers`, but that the engine is flushed in each session, after each turn whose number is
+/// a multiple of `flush_every`, and after each session; and never where that is 0.
 ///
 /// Errors: a flush was refused. No further peer is dialled then; and a session that it ended is told as one
 /// whose reader failed.

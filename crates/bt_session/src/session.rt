@@ -64,7 +64,7 @@ pub fn run_session<D: Disk + Drop, H: NodeHash, R: WatchedReader, W: WatchedWrit
     }
 }
 
-/// The same as `run_session`, but that the engine is flushed behind each turn whose number is a multiple of
+/// The same as `run_session`, but that the engine is flushed after each turn whose number is a multiple of
 /// `flush_every`, and never where that is 0. A flush that is refused ends the session, and is told in place
 /// of its end.
 ///
@@ -182,7 +182,7 @@ fn converse<D: Disk + Drop, H: NodeHash, R: WatchedReader, W: WatchedWriter>(
     }
 }
 
-/// Takes turns with the peer, so many at most, to the session's end, and flushes the engine between them,
+/// Takes turns with the peer, at most `turns`, to the session's end, and flushes the engine between them,
 /// where that is due. Errors: a flush was refused, which was the end.
 fn take_turns<D: Disk + Drop, H: NodeHash, R: WatchedReader, W: WatchedWriter>(
     engine: &mut Engine<D, H>,

@@ -21,7 +21,7 @@ use bt_engine::Engine;
 use bt_machine::Why;
 use bt_tree::NodeHash;
 
-/// The peer of a session, whether it goes on until all files are complete only, and behind how many turns the
+/// The peer of a session, whether it goes on until all files are complete only, and after how many turns the
 /// engine is flushed; 0 for never.
 #[derive(Clone, Copy)]
 pub(crate) struct Partner {
@@ -143,7 +143,7 @@ fn take_event<D: Disk + Drop, H: NodeHash, W: WatchedWriter>(
     }
 }
 
-/// How the session ends behind an output of its peer, if it does: the peer was closed, or all files are
+/// How the session ends after an output of its peer, if it does: the peer was closed, or all files are
 /// complete.
 pub(crate) fn end_after<D: Disk + Drop, H: NodeHash>(
     engine: &Engine<D, H>,

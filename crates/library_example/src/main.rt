@@ -60,7 +60,7 @@ fn adopt_both(store: &mut Store) -> Result<()> {
     Ok(())
 }
 
-/// A session with a peer that sends these bytes, in two parts: how it ended. What is sent to the peer is put behind `sent`.
+/// A session with a peer that sends these bytes, in two parts: how it ended. What is sent to the peer is put after `sent`.
 /// Whatever the bytes are, the marked blocks of honest devices are right, and stay marked.
 fn meet<D: Disk + Drop, H: NodeHash>(
     alloc: Global,

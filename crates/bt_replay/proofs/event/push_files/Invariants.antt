@@ -1,4 +1,4 @@
--- The files so far are told behind the text, and there are as many.
+-- The files so far are told after the text, and there are as many.
 use Rattle.std.proofs.Common.{◌≡◌, ◌≤◌, ◌++◌, length}
 use Rattle.std.specs.Prelude.{flat_map, string_bytes}
 use Rattle.std.specs.List.{range_with_len}
