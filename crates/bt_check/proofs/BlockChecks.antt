@@ -28,7 +28,7 @@ use Rattle.bt_check.proofs.LeafKnowledge.{same_leaves}
 use Rattle.bt_check.proofs.AdoptedGroups.{IsLearned, IsGroupDone, group_done, right_kept, so_far_past, so_far_read, so_far_known, cases_option, leaves_so_far}
 use Rattle.sha2.specs.Sha256.{sha256}
 
--- The blocks before this one were read, and so many of them are right.
+-- The blocks before this one were read, and `marked` of them are right.
 pub record IsChecking {D : Type 0} (conduct : Conduct D) (n : ℕ) (known : KnownLayer)
     (leaves : ℕ → Option (List ℕ)) (disk : D) (from marked : ℕ) (faulty : Bool) (k : Facts) (store : StoreView D) : Type 0 where
   pub reads : List BlockRead
@@ -40,7 +40,7 @@ pub record IsChecking {D : Type 0} (conduct : Conduct D) (n : ℕ) (known : Know
   pub same_file : store.file_length ≡ n
   pub learned : IsLearned n known leaves reads from k
 
--- so many of the blocks before this one are right, by these reads of them
+-- how many of the blocks before this one are right, by these reads of them
 record IsCounted (n : ℕ) (known : KnownLayer) (leaves : ℕ → Option (List ℕ)) (reads : List BlockRead) (from marked : ℕ) (k : Facts) : Type 0 where
   pub each : map block_of reads ≡ range_with_len 0 from
   pub within : from ≤ block_count n

@@ -12,7 +12,7 @@ pub mod AdoptedGroups
 pub mod BlockChecks
 pub mod DeviceBytes
 pub mod EntryChecks
-pub mod SharedTrees
+pub mod KeptTrees
 pub mod CheckFault
 pub mod ReportLines
 pub mod PoolNumbers

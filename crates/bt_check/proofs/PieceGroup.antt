@@ -112,7 +112,7 @@ padding_over (suc k) j =
     ap (λ d. sha256 (d ++ row_node sha256 (λ i. padding_digest sha256 0) k (2 * j + 1))) (padding_over k (2 * j))
     ∙ ap (λ d. sha256 (padding_digest sha256 k ++ d)) (padding_over k (2 * j + 1)) ∙ padding_suc sha256 k
 
--- these are the digests of a piece, from the leaf `from` on: with padding behind the last block of the file
+-- these are the digests of a piece, from the leaf `from` on: with padding after the last block of the file
 pub record ArePieceLeaves (n : ℕ) (known : KnownLayer) (from : ℕ) (leaves : List (List ℕ)) : Type 0 where
   pub all : length leaves ≡ 2 ^ known.layer
   pub past : (i : ℕ) → block_count n ≤ from + i → i < 2 ^ known.layer → get_or leaves i [] ≡ padding_digest sha256 0

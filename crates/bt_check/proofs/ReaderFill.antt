@@ -25,7 +25,7 @@ filled_given old new filled buffer f ended =
 pub filled_lost : (old new : Option (List ℕ)) (filled : ℕ) (buffer : List ℕ) → IsFilled old new filled buffer → LosesFront old new
 filled_lost old new filled buffer f = record { lost = take filled buffer; taken = f.taken }
 
--- one more read, behind what the buffer holds
+-- one more read, after what the buffer holds
 take_more : (filled count room : ℕ) (buffer part : List ℕ) → filled ≤ length buffer → count ≤ length part
     → take (filled + count) (put_mid filled room buffer part) ≡ take filled buffer ++ take count part
 take_more filled count room buffer part within fits =

@@ -36,7 +36,7 @@ same_place first b n t = ap (λ i. i * 2 ^ b.layer) t.index ∙ ap (λ k. first.
 same_span : (first b : BuilderState) (n : ℕ) → TakesBlocks first b n → 2 ^ b.layer ≡ 2 ^ first.layer
 same_span first b n t = ap (λ k. 2 ^ k) t.layer
 
--- the next byte to be pushed is the one behind those that came
+-- the next byte to be pushed is the one after those that came
 next_byte : (old new : Option (List ℕ)) (asked rest : ℕ) (first b : BuilderState) → first.count ≡ 0 → 0 < rest
     → (r : IsReading old new asked rest first b) → 16384 * next_block b ≡ 16384 * first_block first + length r.front
 next_byte old new asked rest first b fresh some r =
@@ -82,7 +82,7 @@ front_has_run file front part start here =
     sym (take-take (length front) (length (front ++ part)) (drop start file) (omega (arith, size)))
     ∙ ap (take (length front)) here ∙ take-append-le (length front) front part (omega arith) ∙ take_all (length front) front (omega arith)
 
--- and the other part behind it
+-- and the other part after it
 pub part_has_run : (file front part : List ℕ) (start next : ℕ) → next ≡ start + length front → HasRun file start (front ++ part) → HasRun file next part
 part_has_run file front part start next e here =
     let size = length-append front part in

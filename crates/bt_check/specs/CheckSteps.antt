@@ -34,7 +34,7 @@ abbrev pub leaves_after : (ℕ → Option (List ℕ)) → List BlockRead → ℕ
 leaves_after leaves reads n known block = option_or (leaves block) (leaf_read reads n known block)
 
 -- there is a read for each block of a file of n bytes, in turn, and no other call failed, or changed an
--- honest device; and so many blocks are right
+-- honest device; and `marked` is how many blocks are right
 pub record IsBlockCheck {D : Type 0} (conduct : Conduct D)
     (n : ℕ) (known : KnownLayer) (leaves : ℕ → Option (List ℕ)) (old : D) (reads : List BlockRead)
     (check : BlockCheck D) : Type 0 where

@@ -29,7 +29,7 @@ number_of (Some disk) = disk.number ∷ []
 abbrev pub AreOfOnePool : List (DataFile PooledView) → Type 0
 AreOfOnePool files = (count : ℕ) × (flat_map (λ d. number_of d.disk) files ≡ range_with_len 1 count)
 
--- a pool that had made so many devices has made so many, which are more by this one, where there is one
+-- a pool that had made `before` devices has made `after`, which are more by this one, where there is one
 abbrev pub IsNextOf : (before after : ℕ) → Option PooledView → Type 0
 IsNextOf before after None = after ≡ before
 IsNextOf before after (Some disk) = (after ≡ before + 1) × (disk.number ≡ after)

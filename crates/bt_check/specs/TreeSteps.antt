@@ -1,5 +1,5 @@
--- Trees that are kept for later files of the same root and length. No public contract cites them.
-use Rattle.std.specs.Prelude.{◌≡◌, ℕ, ◌+◌, ◌<◌, ◌≤◌, ◌⊎◌, true, false, List, [], ◌∷◌, length, Option, None, Some, slice_get}
+-- Trees that are kept for later files of the same root and length.
+use Rattle.std.specs.Prelude.{◌≡◌, ℕ, ◌+◌, ◌-◌, ◌<◌, ◌≤◌, ◌⊎◌, true, false, List, [], ◌∷◌, length, Option, None, Some, slice_get}
 use Rattle.std.specs.List.{filter}
 use Rattle.std.specs.Ordering.{nat_cmp, ordering_then}
 use Rattle.std.specs.Cmp.Lexicographic.{slice_cmp}
@@ -54,7 +54,7 @@ ChecksFile conduct layer file disk old finding new =
     × ((other : File) → HasTree layer before other old → HasTree layer after other new)
 
 -- Trees after some files were checked, before the others: each file that is left has what is kept of it, and
--- is not behind the last of its root and length.
+-- is not after the last of its root and length.
 pub record KeepsTrees (layer : ℕ) (before : List CheckedFile) (left : List File) (trees : SharedTrees)
     : Type 0 where
   pub count : trees.left ≡ length left
@@ -62,13 +62,17 @@ pub record KeepsTrees (layer : ℕ) (before : List CheckedFile) (left : List Fil
   pub last : (i : ℕ) (file : File) → slice_get left i ≡ Some file
       → (behind : ℕ) × (behind + i < length left) × (get key_cmp trees.last (tree_key file) ≡ Some behind)
 
--- the next file was checked, and the trees are kept for those behind it
+-- the next file was checked, and the trees are kept for those after it
 abbrev pub ChecksNext
     : {D : Type 0} → Conduct D → ℕ → File → Option D → SharedTrees → Finding → SharedTrees → Type 0
 ChecksNext conduct layer file disk old finding new =
     (before : List CheckedFile) (rest : List File) → KeepsTrees layer before (file ∷ rest) old
     → (after : List CheckedFile) × IsFileFinding conduct layer before file finding disk after
     × KeepsTrees layer after rest new
+
+-- the same trees where one file less is left
+abbrev pub one_less : SharedTrees → SharedTrees
+one_less trees = record { kept = trees.kept; last = trees.last; left = trees.left - 1 }
 
 -- no file that is left has the root and length of a file
 abbrev pub IsLast : SharedTrees → File → Type 0

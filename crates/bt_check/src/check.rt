@@ -27,8 +27,9 @@ use std::rt::Files;
 /// done, in the order of the torrent, and the last line.
 ///
 /// All files are opened first, and one that can't be opened ends it before anything is written. A read that
-/// fails later does not: the summary tells it. After a fault the writer has a part of the text, or all. The
-/// reads are watched, and where no file is there, a hint tells it.
+/// fails later does not: the summary tells it. The reads are watched, and where no file is there, a hint tells
+/// it. Errors: a file could not be opened, or the text not be written; out of memory. The writer then has a
+/// part of the text, or all.
 pub fn check_torrent<R: Files + AllocGlobal + Clone + Drop, P: Watch, W: Write>(
     rt: &R,
     watch: &P,
@@ -46,12 +47,14 @@ pub fn check_torrent<R: Files + AllocGlobal + Clone + Drop, P: Watch, W: Write>(
         unreachable!();
     };
     layers_are_of_trees();
+    let entries = torrent.files();
     watch.begin(FileCall::Read);
-    let files = open_data_files(rt, watch, dir, torrent.files())?;
+    let files = open_data_files(rt, watch, dir, entries)?;
     if are_absent(&files) {
         hint_at_folder(rt, watch, torrent, dir);
     }
-    let summary = check_files(rt.alloc(), files, size, writer)?;
+    let mut trees = SharedTrees::new(rt.alloc(), entries)?;
+    let summary = check_each(rt.alloc(), files, size, &mut trees, writer)?;
     print(writer, last_words(summary.complete))?;
     Ok(summary)
 }
@@ -61,24 +64,8 @@ fn are_absent<D>(files: &[DataFile<'_, D>]) -> bool {
     files.iter().all(|file| file.disk.is_none())
 }
 
-/// Checks some data files, in turn, and writes the line of each. A file's device goes with it.
-fn check_files<D: Disk + Drop, W: Write>(
-    alloc: Global,
-    files: Vec<DataFile<'_, D>>,
-    size: PieceSize,
-    writer: &mut W,
-) -> Result<Summary, Fault>
-    requires { All (IsCheckable size.layer) (map file_at files.items) }
-    ensures report { IfOk result (λ summary. (found : List FileFinding)
-        × IsReportOf D.conduct size.layer files.entry.items found summary
-        × Appends (W.contents writer.old) (W.contents writer.new) (lines_text found)) }
-    ensures fault { IfErr result (λ fault. (fault ≡ device) ⊎ (fault ≡ out_of_memory)) }
-{
-    let mut trees = SharedTrees::new(alloc, &files)?;
-    check_each(alloc, files, size, &mut trees, writer)
-}
-
-/// Checks some data files, in turn, by trees that were made for them.
+/// Checks some data files, in turn, by trees that were made for them, and writes the line of each. A file's device
+/// goes with it.
 fn check_each<D: Disk + Drop, W: Write>(
     alloc: Global,
     files: Vec<DataFile<'_, D>>,

@@ -52,7 +52,8 @@ pub struct DataFile<'a, D> {
 }
 
 /// Opens the data files of some entries, in turn, to read them. They share a few handles, and tell of their
-/// calls; the bytes of those that are there are to be read.
+/// calls; the bytes of those that are there are to be read. Errors: a device fault, where one can't be opened,
+/// or is no regular file; out of memory.
 pub fn open_data_files<'a, R: Files + AllocGlobal + Clone + Drop, P: Watch>(
     rt: &R,
     watch: &'a P,
@@ -92,7 +93,7 @@ fn open_watched<'a, R: Files + AllocGlobal + Drop, P: Watch>(
     watched(watch, name, file.length, found)
 }
 
-/// The device of a file of so many bytes, which are to be read, as one that tells of its calls by this name. A fault
+/// The device of a file of `length` bytes, which are to be read, as one that tells of its calls by this name. A fault
 /// in opening it is told of too.
 fn watched<'a, D: Drop, P: Watch>(
     watch: &'a P,
@@ -118,8 +119,8 @@ fn watched<'a, D: Drop, P: Watch>(
 }
 
 /// Opens a data file to read it; none where no file can be at the path, which is not kept then: a torrent may
-/// have many long ones. What is there and is no regular file is a device fault: it is not opened, since a
-/// pipe would wait for a writer.
+/// have many long ones. Errors: a device fault, where the file can't be opened, or what is there is no regular
+/// file, which is not opened, since a pipe would wait for a writer.
 pub fn open_data_file<R: Files + Drop>(
     rt: &R,
     pool: &mut HandlePool<R>,

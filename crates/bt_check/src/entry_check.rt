@@ -46,8 +46,8 @@ pub fn absent_finding(length: u64) -> Finding
 /// Checks the bytes of a device against an entry: by the pieces whose digests the entry has, else as a whole.
 ///
 /// The device is asked for its length, and then each block is read, in turn, also after a call that failed.
-/// The blocks of a piece are marked where each was read whole and the piece has its digest. The one error is
-/// out of memory.
+/// The blocks of a piece are marked where each was read whole and the piece has its digest. Errors: out of
+/// memory.
 pub fn check_entry<D: Disk + Drop>(
     alloc: Global,
     disk: D,
@@ -125,7 +125,7 @@ pub fn check_tree<D: Disk + Drop>(
 }
 
 /// How many bytes a device has; none where the call failed.
-fn length_of<D: Disk>(disk: &mut D) -> Option<u64>
+pub fn length_of<D: Disk>(disk: &mut D) -> Option<u64>
     ensures { HasCalls D.conduct disk.old (len_call_of result ∷ []) disk.new }
 {
     match disk.len() {

@@ -24,10 +24,10 @@ mod trees;
 
 pub use call_fault::{fault_name, is_device_fault, told};
 pub use check::check_torrent;
-pub use data_file::{Finding, OPEN_FILES};
+pub use data_file::{Finding, OPEN_FILES, open_data_file};
 pub use digests::{Digests, digest_reader};
 pub use display::display_name;
-pub use entry_check::{EntryCheck, check_entry};
+pub use entry_check::{EntryCheck, check_entry, length_of};
 pub use fault::{Fault, system_fault};
 pub use file_hash::FileHash;
 pub use output::print;
@@ -37,3 +37,4 @@ pub use reader::BUFFER_LEN;
 pub use report::{FileFinding, Summary, last_words, write_line};
 pub use show::show_torrent;
 pub use torrent_file::{Source, load, load_watched, read_text};
+pub use trees::{SharedTrees, key_of, take_tree};

@@ -38,7 +38,7 @@ impl PieceSize {
 }
 
 /// Reads the bytes of a piece, `size` in number, and gives the digest of its node: none where the bytes end
-/// before.
+/// before. Errors: a read failed.
 pub fn read_piece<R: Read>(
     reader: &mut R,
     geometry: Geometry,
@@ -71,7 +71,7 @@ pub struct PieceRun {
 
 /// Reads the pieces that come next, from this one on, where `rest` bytes of the file are left, and gives
 /// their digests: none where the bytes end before. Pieces of fewer than eight blocks are read by eight whole
-/// blocks, as long as so many are left, and any other piece by itself.
+/// blocks, as long as eight are left, and any other piece by itself. Errors: a read failed.
 pub fn read_pieces<R: Read>(
     reader: &mut R,
     geometry: Geometry,
@@ -123,7 +123,7 @@ fn read_eight<R: Read>(
     }))
 }
 
-/// The digests of the nodes so many layers above eight nodes that lie next to each other: the first ones of
+/// The digests of the nodes `layers` layers above eight nodes that lie next to each other: the first ones of
 /// the result, as many as lie above the eight alone.
 fn row_above(nodes: [Hash32; 8], layers: u8) -> [Hash32; 8]
     ensures { (j : ℕ) → (j + 1) * 2 ^ layers ≤ 8

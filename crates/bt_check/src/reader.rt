@@ -12,8 +12,8 @@ use std::io::{ErrorKind, Read};
 /// How many bytes are read at a time: eight blocks, which are digested at once.
 pub const BUFFER_LEN: usize = 8 * BLOCK_LEN;
 
-/// Reads until the buffer is full or the bytes end, and says how many came. A read that was interrupted is
-/// made again.
+/// Reads until the buffer is full or the bytes end, and says how many bytes came. A read that was interrupted
+/// is made again. Errors: a read failed.
 pub fn fill<R: Read>(reader: &mut R, buffer: &mut [u8]) -> Result<usize, DeviceFault>
     ensures count { IfOk result (λ count. count ≤ length buffer.new) }
     ensures given { IfOk result (λ count. Gives
@@ -37,7 +37,7 @@ pub fn fill<R: Read>(reader: &mut R, buffer: &mut [u8]) -> Result<usize, DeviceF
 }
 
 /// Reads the bytes below the builder's node, of which none came before, and gives the node's digest: none
-/// where the bytes end before.
+/// where the bytes end before. Errors: a read failed.
 pub fn read_node<R: Read>(
     reader: &mut R,
     builder: RootBuilder<FileHash>,
@@ -66,7 +66,7 @@ pub fn read_node<R: Read>(
     Ok(Some(builder.finish().unwrap()))
 }
 
-/// Whether the reader has one byte more.
+/// Whether the reader has one byte more, which is read then. Errors: the read failed.
 pub fn has_more<R: Read>(reader: &mut R) -> Result<bool, DeviceFault>
     ensures ok { IfOk result (TellsMore (R.remaining reader.old) (R.remaining reader.new)) }
     ensures err { OnErr result (LosesFront (R.remaining reader.old) (R.remaining reader.new)) }

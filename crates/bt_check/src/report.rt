@@ -29,7 +29,7 @@ pub struct Summary {
 }
 
 impl Summary {
-    /// Of one file more.
+    /// What was found of the files so far and of one more.
     pub fn with(self, finding: Finding) -> Self
         ensures complete { result.complete ≡ (self.complete && is_complete_finding finding) }
         ensures faulty { result.faulty ≡ (self.faulty || finding.faulty) }
@@ -54,7 +54,7 @@ impl Summary {
     }
 }
 
-/// Writes the line of one file.
+/// Writes the line of one file. Errors: a device fault, where it could not be written whole; out of memory.
 pub fn write_line<W: Write>(
     alloc: Global,
     file: &FileFinding<'_>,

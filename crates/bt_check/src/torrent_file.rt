@@ -24,7 +24,7 @@ pub struct Source<'a> {
     pub is_info: bool,
 }
 
-/// Reads a torrent from its file.
+/// Reads a torrent from its file. Errors: it is refused; a call on the file failed; out of memory.
 pub fn load<R: Files + AllocGlobal>(
     rt: &R,
     source: Source<'_>,
@@ -36,7 +36,8 @@ pub fn load<R: Files + AllocGlobal>(
     load_watched(rt, &Unwatched, source, buffer)
 }
 
-/// The same, which tells of the calls on the file.
+/// Reads a torrent from its file, as `load` does, and tells of the calls on the file. Errors: it is refused; a call on
+/// the file failed; out of memory.
 pub fn load_watched<R: Files + AllocGlobal, P: Watch>(
     rt: &R,
     watch: &P,
@@ -75,7 +76,8 @@ fn read_source<R: Read>(
     }
 }
 
-/// The bytes of a torrent: all that the reader has, but no more than show that they are too many.
+/// The bytes of a torrent: all that the reader has, but at most `MAX_TEXT_LENGTH` and one more, which show that
+/// they are too many. Errors: a read failed; out of memory.
 pub fn read_text<R: Read>(
     alloc: Global,
     reader: &mut R,

@@ -1,13 +1,12 @@
 //! Hash trees that files of one root and length share.
-ghost use Rattle.std.specs.Prelude.{◌≡◌, ◌↔◌, [], ◌∷◌, ℕ, List, Option, Some, map, length, IfOk, IsTrue};
+ghost use Rattle.std.specs.Prelude.{◌≡◌, ◌<◌, ◌↔◌, [], ◌∷◌, ℕ, List, Option, None, Some, map, length, IfOk, IsTrue};
 ghost use Rattle.bt_tree.specs.Blocks.{IsFileLength};
 ghost use Rattle.bt_meta.specs.Files.{File, file_of};
 ghost use Rattle.bt_check.specs.Check.{CheckedFile};
-ghost use Rattle.bt_check.specs.DataFile.{file_at};
 ghost use Rattle.bt_check.specs.EntryCheck.{IsCheckable};
-ghost use Rattle.bt_check.specs.TreeSteps.{tree_key, HasTree, TakesTree, ChecksFile, ChecksNext, KeepsTrees, LeavesKept, LetsGo, IsLast};
+ghost use Rattle.bt_check.specs.TreeSteps.{tree_in, tree_key, HasTree, TakesTree, ChecksFile, ChecksNext, KeepsTrees, LeavesKept, LetsGo, IsLast, one_less};
 
-use crate::data_file::{DataFile, Finding};
+use crate::data_file::Finding;
 use crate::entry_check::{absent_finding, check_empty, check_tree, known_tree};
 use crate::file_hash::FileHash;
 use crate::pieces::PieceSize;
@@ -21,23 +20,24 @@ use std::collections::BTreeMap;
 /// The trees of files that were checked, each as long as a later file has its root and length.
 #[derive(Drop)]
 pub struct SharedTrees {
-    kept: BTreeMap<(Hash32, u64), SparseTree<FileHash>>,
-    /// Of each root and length how many files come behind the last file that has it.
+    /// The trees, by the root and the length of their files.
+    pub kept: BTreeMap<(Hash32, u64), SparseTree<FileHash>>,
+    /// Of each root and length how many files come after the last file that has it.
     last: BTreeMap<(Hash32, u64), usize>,
     /// How many files are not checked yet.
     left: usize,
 }
 
 impl SharedTrees {
-    /// Those of some files of which none is checked yet.
-    pub fn new<D>(alloc: Global, files: &[DataFile<'_, D>]) -> Result<SharedTrees, AllocError>
-        ensures { IfOk result (λ trees. (layer : ℕ) → KeepsTrees layer [] (map file_at files.now) trees) }
+    /// The trees for a check of these files, of which none is checked yet. Errors: out of memory.
+    pub fn new(alloc: Global, files: &[FileEntry]) -> Result<SharedTrees, AllocError>
+        ensures { IfOk result (λ trees. (layer : ℕ) → KeepsTrees layer [] (map file_of files.now) trees) }
     {
         let mut last = BTreeMap::new(alloc);
         let mut left = files.len();
-        for data in files {
+        for file in files {
             left -= 1;
-            last.insert(key_of(data.file), left)?;
+            last.insert(key_of(file), left)?;
         }
         Ok(SharedTrees {
             kept: BTreeMap::new(alloc),
@@ -46,7 +46,8 @@ impl SharedTrees {
         })
     }
 
-    /// Checks the next file.
+    /// Checks the next file on its device; with none, all of it is missing. A call that failed is in the finding.
+    /// Errors: out of memory.
     pub fn check<D: Disk + Drop>(
         &mut self,
         alloc: Global,
@@ -60,15 +61,26 @@ impl SharedTrees {
         ensures { IfOk result (λ finding.
             ChecksNext D.conduct size.layer (file_of entry.now) disk self.old finding self.new) }
     {
-        self.left -= 1;
         let finding = check_file(alloc, disk, entry, size, &mut self.kept)?;
-        self.let_go(entry);
+        self.finish(entry);
         Ok(finding)
     }
 
-    /// Lets go of the tree of a file where no file behind it has its root and length.
+    /// Counts a file as checked, and lets go of its tree where no file after it has its root and length.
+    pub fn finish(&mut self, entry: &FileEntry)
+        requires { 0 < self.old.left }
+        ensures goes { LetsGo (file_of entry.now) (one_less self.old) self.new }
+        ensures gone { IsLast (one_less self.old) (file_of entry.now)
+            → tree_in self.new.kept (file_of entry.now) ≡ None }
+    {
+        self.left -= 1;
+        self.let_go(entry);
+    }
+
+    /// Lets go of the tree of a file where no file after it has its root and length.
     fn let_go(&mut self, entry: &FileEntry)
-        ensures { LetsGo (file_of entry.now) self.old self.new }
+        ensures goes { LetsGo (file_of entry.now) self.old self.new }
+        ensures gone { IsLast self.old (file_of entry.now) → tree_in self.new.kept (file_of entry.now) ≡ None }
     {
         if !self.is_last(entry) {
             return;
@@ -76,7 +88,7 @@ impl SharedTrees {
         self.kept.remove(&key_of(entry));
     }
 
-    /// Whether no file behind this one has its root and length.
+    /// Whether no file after this one has its root and length.
     fn is_last(&self, entry: &FileEntry) -> bool
         ensures { IsTrue result ↔ IsLast self.now (file_of entry.now) }
     {
@@ -87,8 +99,8 @@ impl SharedTrees {
     }
 }
 
-/// The root and the length of a file.
-fn key_of(entry: &FileEntry) -> (Hash32, u64)
+/// The root and the length of a file, by which its tree is kept.
+pub fn key_of(entry: &FileEntry) -> (Hash32, u64)
     ensures { result ≡ tree_key (file_of entry.now) }
 {
     (entry.root, entry.length)
@@ -135,8 +147,9 @@ fn check_present<D: Disk + Drop>(
     Ok(check.finding)
 }
 
-/// Takes the tree of a file that is kept, or makes it.
-fn take_tree(
+/// Takes the tree of a file out of those that are kept, or makes it from what the torrent tells. Errors: out of
+/// memory.
+pub fn take_tree(
     alloc: Global,
     geometry: Geometry,
     entry: &FileEntry,

@@ -6,7 +6,7 @@ use Rattle.bt_jobs.specs.JobsSteps.{HearsAll, IsGiven, TakesIn}
 use Rattle.bt_jobs.specs.Told.{IsToldBy}
 use Rattle.bt_jobs.specs.declared.told.Told.{Told}
 
--- behind reads that took nothing
+-- after reads that took nothing
 pub kept_then : (a b c : Option (List ℕ)) (bytes : List ℕ) → Keeps a b → Consumes b c bytes → Consumes a c bytes
 kept_then None b c bytes p q = tt
 kept_then (Some x) None c bytes p q = absurd p

@@ -12,6 +12,7 @@ use Rattle.bt_disk.specs.Pool.{PooledView}
 use Rattle.bt_meta.specs.Files.{File}
 use Rattle.bt_meta.specs.Torrent.{Metainfo}
 use Rattle.bt_check.specs.Check.{CheckedFile}
+use Rattle.bt_check.specs.declared.trees.SharedTrees.{SharedTrees}
 use Rattle.bt_parts.specs.Line.{run_line}
 use Rattle.bt_parts.specs.declared.cut.Part.{Part}
 use Rattle.bt_parts.specs.declared.run.Run.{Run}
@@ -23,7 +24,6 @@ use Rattle.bt_jobs.specs.Trees.{AreRunsOf, ArePartFindings, none, more, GoByRoot
 use Rattle.bt_jobs.specs.TreesSteps.{ChecksNext, IsNextPart, KeepsParts}
 use Rattle.bt_jobs.specs.declared.trees.FilePart.{FilePart}
 use Rattle.bt_jobs.specs.declared.trees.PartFile.{PartFile}
-use Rattle.bt_jobs.specs.declared.trees.PartTrees.{PartTrees}
 
 -- the files of a torrent that some data files are for
 abbrev pub files_in : {D : Type 0} → List (PartFile D) → List File
@@ -31,7 +31,7 @@ files_in opened = map file_in_part (map part_at opened)
 
 module _ {D : Type 0} (conduct : Conduct D) (layer : ℕ) (layer_at : ℕ → List ℕ → List ℕ) where
   -- Some files are told, and these are left.
-  pub record IsPartTelling (all left : List (PartFile D)) (trees : PartTrees) (old new : Option (List ℕ)) : Type 0 where
+  pub record IsPartTelling (all left : List (PartFile D)) (trees : SharedTrees) (old new : Option (List ℕ)) : Type 0 where
     pub done : List (PartFile D)
     pub runs : List Run
     pub checked : List CheckedFile
@@ -42,7 +42,7 @@ module _ {D : Type 0} (conduct : Conduct D) (layer : ℕ) (layer_at : ℕ → Li
     pub keeps : KeepsParts layer layer_at checked (files_in left) trees
     pub lines : Appends old new (runs_text runs)
 
-  pub telling_begun : (all : List (PartFile D)) (trees : PartTrees) (old : Option (List ℕ)) → All (IsReadyPart layer) (map part_at all)
+  pub telling_begun : (all : List (PartFile D)) (trees : SharedTrees) (old : Option (List ℕ)) → All (IsReadyPart layer) (map part_at all)
       → GoByRoots layer_at (files_in all) → KeepsParts layer layer_at [] (files_in all) trees → IsPartTelling all all trees old old
   telling_begun all trees old ready roots keeps = record {
     done = [];
@@ -67,7 +67,7 @@ module _ {D : Type 0} (conduct : Conduct D) (layer : ℕ) (layer_at : ℕ → Li
         (All-head (λ (f : File). f.layer ≡ layer_at f.length f.root) (file_in_part one.part) (files_in left) all)
         (All-nil (λ (f : File). f.layer ≡ layer_at f.length f.root))
 
-  pub first_next : (all before left : List (PartFile D)) (one : PartFile D) (trees : PartTrees) (old new : Option (List ℕ))
+  pub first_next : (all before left : List (PartFile D)) (one : PartFile D) (trees : SharedTrees) (old new : Option (List ℕ))
       → IsPartTelling all before trees old new → before ≡ one ∷ left → IsNextPart layer one.part trees
   first_next all before left one trees old new t taken = (
     layer_at,
@@ -89,7 +89,7 @@ module _ {D : Type 0} (conduct : Conduct D) (layer : ℕ) (layer_at : ℕ → Li
       subst (λ l. ArePartFindings conduct layer before (first ∷ rest ++ one ∷ []) l after) (sym (append_assoc runs later others))
       (more before next after first (rest ++ one ∷ []) runs (later ++ others) own finding (found_more next mid after rest one later others are of is))
 
-  pub telling_more : (all before left : List (PartFile D)) (one : PartFile D) (trees grown : PartTrees) (old mid new : Option (List ℕ))
+  pub telling_more : (all before left : List (PartFile D)) (one : PartFile D) (trees grown : SharedTrees) (old mid new : Option (List ℕ))
       → IsPartTelling all before trees old mid → before ≡ one ∷ left → ChecksNext conduct layer one trees grown mid new
       → IsPartTelling all left grown old new
   telling_more all before left one trees grown old mid new t taken checks =
@@ -109,7 +109,7 @@ module _ {D : Type 0} (conduct : Conduct D) (layer : ℕ) (layer_at : ℕ → Li
         lines = subst (Appends old new) (sym (flat_map-append run_line t.runs made.0)) (Appends-trans old mid new _ _ t.lines made.5);
       }
 
-  pub all_told : (all : List (PartFile D)) (trees : PartTrees) (old new : Option (List ℕ)) → IsPartTelling all [] trees old new
+  pub all_told : (all : List (PartFile D)) (trees : SharedTrees) (old new : Option (List ℕ)) → IsPartTelling all [] trees old new
       → (runs : List Run) × (checked : List CheckedFile) × ArePartFindings conduct layer [] all runs checked × Appends old new (runs_text runs)
   all_told all trees old new t = (
     t.runs,

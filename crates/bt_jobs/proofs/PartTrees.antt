@@ -1,16 +1,10 @@
 -- Trees that are kept for later files of the same root and length in a part, and what is told of a file.
-use Rattle.std.proofs.Common.{◌≡◌, ℕ, zero, suc, ◌-◌, ◌<◌, ◌≤◌, ◌↔◌, ◌⊎◌, ◌&&◌, ◌||◌, ◌==◌, Bool, true, false, true≢false, cond, List, [], ◌∷◌, ◌++◌, length, map, get_or, inl, inr, Option, None, Some, refl, sym, ap, ◌∙◌, subst, arith, IsTrue, append-nil, if◌then◌else◌}
-use Rattle.std.specs.Prelude.{nat_eq, slice_get}
+use Rattle.std.proofs.Common.{◌≡◌, ℕ, ◌-◌, ◌<◌, ◌≤◌, ◌↔◌, ◌⊎◌, ◌||◌, ◌==◌, Bool, true, false, true≢false, cond, List, [], ◌∷◌, ◌++◌, length, map, inl, inr, Option, None, Some, refl, sym, ap, ◌∙◌, subst, arith, IsTrue, append-nil, if◌then◌else◌}
 use Rattle.std.specs.Io.KnownBytes.{Appends, Keeps}
-use Rattle.std.specs.Cmp.Lexicographic.{pointwise}
 use Rattle.std.specs.List.{All, count_by, filter, list_any, range_with_len}
-use Rattle.std.specs.BTreeMap.{get}
 use Rattle.std.proofs.KnownBytes.{Appends-kept, Appends-nil, Appends-trans}
-use Rattle.std.proofs.lemmas.Bool.{eqb-true}
-use Rattle.std.proofs.lemmas.Bool.Decides.{eqb_tells}
 use Rattle.std.proofs.lemmas.Grind.{flat_map-append}
-use Rattle.std.proofs.lemmas.List.Elements.{All-cons, All-head, All-nil, All-push, All-tail, filter-append}
-use Rattle.std.proofs.lemmas.Slice.Eq.{bytes_eq-Decides}
+use Rattle.std.proofs.lemmas.List.Elements.{All-cons, All-head, All-nil, All-push, All-tail}
 use Rattle.bt_tree.specs.Blocks.{block_count}
 use Rattle.bt_tree.specs.TreeShape.{height_of}
 use Rattle.bt_disk.specs.Conduct.{Conduct}
@@ -20,14 +14,14 @@ use Rattle.bt_meta.specs.Files.{File}
 use Rattle.bt_sparse.specs.SparseTree.{Facts}
 use Rattle.bt_sparse.proofs.Values.{none_some}
 use Rattle.bt_store.specs.BlockReads.{BlockRead, call_of, fault_count}
-use Rattle.bt_check.specs.Check.{CheckedFile, are_twins, is_twin, twins_layer, twins_leaf, layer_before, leaves_before}
+use Rattle.bt_check.specs.Check.{CheckedFile, is_twin, twins_layer, layer_before, leaves_before}
 use Rattle.bt_check.specs.CheckSteps.{HoldsLeaves, leaves_after}
-use Rattle.bt_check.specs.EntryCheck.{Answers, is_node_read, len_call_of}
+use Rattle.bt_check.specs.EntryCheck.{is_node_read, len_call_of}
 use Rattle.bt_check.specs.Finding.{KnownLayer, digests_in, is_right_block, known_layer}
-use Rattle.bt_check.specs.TreeSteps.{Kept, HasTree, LeavesKept, LetsGo, key_cmp, tree_in}
-use Rattle.bt_check.proofs.SharedTrees.{TellsLast, first_has, next_trees, trees_begun}
+use Rattle.bt_check.specs.TreeSteps.{Kept, HasTree, KeepsTrees, LetsGo}
+use Rattle.bt_check.specs.declared.trees.SharedTrees.{SharedTrees}
+use Rattle.bt_check.proofs.KeptTrees.{first_has, next_trees, one_length, one_root}
 use Rattle.bt_check.proofs.RightBlocks.{cases_bool}
-use Rattle.bt_check.proofs.AdoptedGroups.{both_true}
 use Rattle.bt_parts.specs.Join.{IsChain, none, more, IsCountOf}
 use Rattle.bt_parts.specs.Line.{run_line}
 use Rattle.bt_parts.specs.Run.{is_fault, is_longer}
@@ -37,96 +31,10 @@ use Rattle.bt_parts.specs.declared.run.Met.TheVariants.{Nothing, Absent, Longer,
 use Rattle.bt_parts.specs.declared.run.Run.{Run}
 use Rattle.bt_jobs.specs.Share.{ChecksShare, IsPieceEdge, IsReadyAt, IsShareCheck, runs_text, share_reads}
 use Rattle.bt_jobs.specs.Trees.{AreRunsOf, GoByRoots, IsPartFinding, absent, blockless, read, IsShareFinding, answers_of, file_in_part, length_calls, share_calls}
-use Rattle.bt_jobs.specs.TreesSteps.{AreLengthRuns, asked, unasked, ChecksBlocks, ChecksPart, IsMeasured, KeepsOthers, KeepsParts, KnowsOwn, TellsAbsent, TellsFirst, TellsLength, TellsMissing, missing_run, no_blocks, shared_of}
+use Rattle.bt_jobs.specs.TreesSteps.{AreLengthRuns, asked, unasked, ChecksBlocks, ChecksPart, IsMeasured, KeepsOthers, KeepsParts, KnowsOwn, TellsAbsent, TellsFirst, TellsLength, TellsMissing, missing_run, no_blocks}
 use Rattle.bt_jobs.specs.declared.trees.FilePart.{FilePart}
-use Rattle.bt_jobs.specs.declared.trees.PartTrees.{PartTrees}
 
 -- ---- twins
-
-first_true : (a b : Bool) → (a && b) ≡ true → a ≡ true
-first_true true b e = refl
-first_true false b e = absurd (true≢false (sym e))
-
-pub one_root : (file other : File) → are_twins file other ≡ true → file.root ≡ other.root
-one_root file other e = (bytes_eq-Decides file.root other.root).0 (first_true _ _ e)
-
-pub one_length : (file other : File) → are_twins file other ≡ true → file.length ≡ other.length
-one_length file other e = eqb-true file.length other.length (both_true _ _ e)
-
-pub own_twin : (file : File) → are_twins file file ≡ true
-own_twin file = ap (λ b. b && file.length == file.length) ((bytes_eq-Decides file.root file.root).1 refl) ∙ same file.length
-  where
-    same : (m : ℕ) → (m == m) ≡ true
-    same m = elim (eqb_tells m m) [ inl is ↦ is.0 | inr is ↦ absurd (is.1 refl) ]
-
-twins_same : (file other : File) (xs : List CheckedFile) → are_twins file other ≡ true → filter (is_twin other) xs ≡ filter (is_twin file) xs
-twins_same file other xs e =
-    ap (λ r. filter (λ (c : CheckedFile). pointwise nat_eq c.file.root r && c.file.length == other.length) xs) (sym (one_root file other e))
-    ∙ ap (λ m. filter (λ (c : CheckedFile). pointwise nat_eq c.file.root file.root && c.file.length == m) xs) (sym (one_length file other e))
-
-tree_same : (file other : File) (kept : Kept) → are_twins file other ≡ true → tree_in kept other ≡ tree_in kept file
-tree_same file other kept e =
-    ap (λ r. get key_cmp kept (r, other.length)) (sym (one_root file other e)) ∙ ap (λ m. get key_cmp kept (file.root, m)) (sym (one_length file other e))
-
--- one file more was checked
-twin_more : (file : File) (before : List CheckedFile) (c : CheckedFile) → is_twin file c ≡ true
-    → filter (is_twin file) (before ++ c ∷ []) ≡ filter (is_twin file) before ++ c ∷ []
-twin_more file before c e = filter-append (is_twin file) before (c ∷ []) ∙ ap (λ b. filter (is_twin file) before ++ cond b (c ∷ []) []) e
-
-twin_not : (file : File) (before : List CheckedFile) (c : CheckedFile) → is_twin file c ≡ false
-    → filter (is_twin file) (before ++ c ∷ []) ≡ filter (is_twin file) before
-twin_not file before c e = filter-append (is_twin file) before (c ∷ []) ∙ ap (λ b. filter (is_twin file) before ++ cond b (c ∷ []) []) e ∙ all (filter (is_twin file) before)
-  where
-    all : (xs : List CheckedFile) → xs ++ [] ≡ xs
-    all [] = refl
-    all (x ∷ xs) = ap (λ l. x ∷ l) (all xs)
-
--- it has another tree
-other_kept : (layer : ℕ) (before : List CheckedFile) (file other : File) (answers : Answers) (old new : Kept) → are_twins file other ≡ false
-    → tree_in new other ≡ tree_in old other → HasTree layer before other old → HasTree layer (before ++ record { file = file; answers = answers } ∷ []) other new
-other_kept layer before file other answers old new apart same has =
-    let c : CheckedFile = record { file = file; answers = answers } in
-    let twins = twin_not other before c apart in
-    record {
-      none = λ some e. twins ∙ has.none some (sym same ∙ e);
-      tree = λ k some e. subst (λ xs. HoldsLeaves other.length (twins_layer layer other xs) (twins_leaf other.length (twins_layer layer other xs) xs) k) (sym twins)
-          (has.tree k some (sym same ∙ e));
-    }
-
--- it has the tree of the file that was checked
-twin_kept : (layer : ℕ) (before : List CheckedFile) (file other : File) (answers : Answers) (new : Kept) → are_twins file other ≡ true
-    → HasTree layer (before ++ record { file = file; answers = answers } ∷ []) file new → HasTree layer (before ++ record { file = file; answers = answers } ∷ []) other new
-twin_kept layer before file other answers new same has =
-    let c : CheckedFile = record { file = file; answers = answers } in
-    let after : List CheckedFile = before ++ c ∷ [] in
-    let long : file.length ≡ other.length = one_length file other same in
-    let twins : filter (is_twin other) after ≡ filter (is_twin file) after = twins_same file other after same in
-    let own : filter (is_twin file) after ≡ filter (is_twin file) before ++ c ∷ [] = twin_more file before c (own_twin file) in
-    record {
-      none = λ some e. twins ∙ has.none (omega (arith, some, long)) (sym (tree_same file other new same) ∙ e);
-      tree = λ k some e.
-          let holds = has.tree k (omega (arith, some, long)) (sym (tree_same file other new same) ∙ e) in
-          let layers : twins_layer layer file (filter (is_twin file) after) ≡ twins_layer layer other (filter (is_twin other) after) =
-          ap (twins_layer layer file) own ∙ same_first (filter (is_twin file) before) c ∙ ap (twins_layer layer other) (sym own ∙ sym twins) in
-          subst (λ m. HoldsLeaves m (twins_layer layer other (filter (is_twin other) after))
-          (twins_leaf m (twins_layer layer other (filter (is_twin other) after)) (filter (is_twin other) after)) k) long
-          (subst (λ l. HoldsLeaves file.length l (twins_leaf file.length l (filter (is_twin other) after)) k) layers
-          (subst (λ xs. HoldsLeaves file.length (twins_layer layer file (filter (is_twin file) after))
-          (twins_leaf file.length (twins_layer layer file (filter (is_twin file) after)) xs) k) (sym twins) holds));
-    }
-  where
-    same_first : (xs : List CheckedFile) (c : CheckedFile) → twins_layer layer file (xs ++ c ∷ []) ≡ twins_layer layer other (xs ++ c ∷ [])
-    same_first [] c = refl
-    same_first (x ∷ xs) c = refl
-
--- what is kept of any file is so after a file was checked
-pub others_after : (layer : ℕ) (before : List CheckedFile) (file : File) (answers : Answers) (old new : Kept)
-    → HasTree layer (before ++ record { file = file; answers = answers } ∷ []) file new → LeavesKept file old new
-    → (other : File) → HasTree layer before other old → HasTree layer (before ++ record { file = file; answers = answers } ∷ []) other new
-others_after layer before file answers old new own others other had = elim (cases_bool (are_twins file other)) [
-  | inl same ↦ twin_kept layer before file other answers new same own
-  | inr apart ↦ other_kept layer before file other answers old new apart (others other apart) had
-]
 
 -- what a length, a root and a layer tell of a tree
 abbrev known_by : ℕ → ℕ → List ℕ → List ℕ → KnownLayer
@@ -319,18 +227,11 @@ ready_at {n} {block} {known} {leaves} {k} holds edge = (
 
 -- ---- all files
 
--- what was read of a list that is mapped twice
-pub read_twice : {X Y Z : Type 0} (f : X → Y) (h : Y → Z) (xs : List X) (i : ℕ) (x : X) → i < length xs → x ≡ get_or xs i x
-    → slice_get (map h (map f xs)) i ≡ Some (h (f x))
-read_twice f h [] i x lt e = absurd (omega (arith, lt))
-read_twice f h (y ∷ xs) zero x lt e = ap (λ z. Some (h (f z))) (sym e)
-read_twice f h (y ∷ xs) (suc i) x lt e = read_twice f h xs i x (omega (arith, lt)) e
-
 -- of some files none is checked yet
-pub parts_begun : (layer : ℕ) (layer_at : ℕ → List ℕ → List ℕ) (files : List File) (trees : PartTrees) → trees.left ≡ length files → trees.kept.entries ≡ []
-    → TellsLast files (length files) trees.last → KeepsParts layer layer_at [] files trees
-parts_begun layer layer_at files trees count empty told = record {
-  kept = trees_begun layer files (shared_of trees) count empty told;
+pub parts_begun : (layer : ℕ) (layer_at : ℕ → List ℕ → List ℕ) (files : List File) (trees : SharedTrees) → KeepsTrees layer [] files trees
+    → KeepsParts layer layer_at [] files trees
+parts_begun layer layer_at files trees keeps = record {
+  kept = keeps;
   by_root = All-nil (λ (c : CheckedFile). c.file.layer ≡ layer_at c.file.length c.file.root);
 }
 
@@ -346,20 +247,20 @@ module _ {D : Type 0} (conduct : Conduct D) where
       (record { file = file; answers = answers_of file.length share len reads }) by_root own
 
 -- the first of the files that are left
-pub first_part : {layer : ℕ} {layer_at : ℕ → List ℕ → List ℕ} {before : List CheckedFile} {file : File} {rest : List File} {trees : PartTrees}
+pub first_part : {layer : ℕ} {layer_at : ℕ → List ℕ → List ℕ} {before : List CheckedFile} {file : File} {rest : List File} {trees : SharedTrees}
     → KeepsParts layer layer_at before (file ∷ rest) trees → GoByRoots layer_at (file ∷ []) → HasTree layer before file trees.kept × KnowsOwn layer before file
 first_part {layer} {layer_at} {before} {file} {rest} {trees} keeps roots =
     (first_has keeps.kept, knows_own layer layer_at file before keeps.by_root (All-head (λ (f : File). f.layer ≡ layer_at f.length f.root) file [] roots))
 
 -- it was checked
 pub next_part : {D : Type 0} (conduct : Conduct D) (layer : ℕ) (layer_at : ℕ → List ℕ → List ℕ)
-    (before after : List CheckedFile) (file : File) (share : Share) (runs : List Run) (disk : Option D) (rest : List File) (old mid new : PartTrees)
+    (before after : List CheckedFile) (file : File) (share : Share) (runs : List Run) (disk : Option D) (rest : List File) (old mid new : SharedTrees)
     → KeepsParts layer layer_at before (file ∷ rest) old → GoByRoots layer_at (file ∷ []) → mid.last ≡ old.last → mid.left ≡ length rest
     → IsPartFinding conduct layer before file share runs disk after
-    → ((other : File) → HasTree layer before other old.kept → HasTree layer after other mid.kept) → LetsGo file (shared_of mid) (shared_of new)
+    → ((other : File) → HasTree layer before other old.kept → HasTree layer after other mid.kept) → LetsGo file mid new
     → KeepsParts layer layer_at after rest new
 next_part conduct layer layer_at before after file share runs disk rest old mid new keeps roots last_is left_is found others goes = record {
-  kept = next_trees layer before after file rest (shared_of old) (shared_of mid) (shared_of new) keeps.kept last_is left_is others goes;
+  kept = next_trees layer before after file rest old mid new keeps.kept last_is left_is others goes;
   by_root = roots_after conduct layer layer_at before after file share runs disk found
       (All-head (λ (f : File). f.layer ≡ layer_at f.length f.root) file [] roots) keeps.by_root;
 }

@@ -22,7 +22,7 @@ use Rattle.bt_check.specs.EntryCheck.{IsCheckable}
 use Rattle.bt_check.specs.Finding.{KnownLayer, digests_in, known_layer}
 use Rattle.bt_check.specs.TreeSteps.{Key, key_cmp, tree_key}
 use Rattle.bt_check.proofs.RightBlocks.{cases_bool}
-use Rattle.bt_check.proofs.SharedTrees.{key_tells}
+use Rattle.bt_check.proofs.KeptTrees.{key_tells, one_length, one_root, own_twin}
 use Rattle.bt_parts.specs.Division.{cut_at, edge_of}
 use Rattle.bt_parts.specs.Unit.{unit_of}
 use Rattle.bt_parts.proofs.Cuts.{shares_whole}
@@ -34,7 +34,6 @@ use Rattle.bt_jobs.specs.PlanSteps.{ArePlacesOf, IsPlanOf, place_in}
 use Rattle.bt_jobs.specs.Share.{IsPieceEdge}
 use Rattle.bt_jobs.specs.declared.plan.Places.{Places}
 use Rattle.bt_jobs.specs.declared.plan.Plan.{Plan}
-use Rattle.bt_jobs.proofs.PartTrees.{one_length, one_root, own_twin}
 
 -- ---- lists, place by place
 
@@ -91,7 +90,7 @@ among done files file =
 
 -- ---- where a file lies
 
--- behind those that have a twin of it nothing counts
+-- after those that have a twin of it nothing counts
 before_known : (files more : List File) (file : File) → has_twin files file ≡ true → files_before file (files ++ more) ≡ files_before file files
 before_known [] more file e = absurd (true≢false (sym e))
 before_known (other ∷ files) more file e = elim (cases_bool (are_twins other file)) [
@@ -103,7 +102,7 @@ before_known (other ∷ files) more file e = elim (cases_bool (are_twins other f
       ∙ sym (ap (λ b. if b then [] else other ∷ files_before file files) apart)
 ]
 
--- the first twin comes behind them
+-- the first twin comes after them
 before_first : (files : List File) (x file : File) → has_twin files file ≡ false → are_twins x file ≡ true → files_before file (files ++ x ∷ []) ≡ files
 before_first [] x file e twin = ap (λ b. if b then [] else x ∷ []) twin
 before_first (other ∷ files) x file e twin = elim (cases_bool (are_twins other file)) [

@@ -57,7 +57,7 @@ joined_next all number file runs rest own behind heard grown one lt is joins par
     (joins_more number all (drop (number + 1) all) file runs rest own behind (map finding_of heard) one.finding
     (subst (λ fs. JoinsRest number all fs runs rest (map finding_of heard)) left joins) parted elsewhere joined))
 
--- no run is left behind the last
+-- no run is left after the last
 none_is : {X : Type 0} (xs : List X) → length xs ≡ 0 → xs ≡ []
 none_is [] e = refl
 none_is (x ∷ xs) e = absurd (omega (arith, e))

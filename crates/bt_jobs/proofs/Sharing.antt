@@ -108,7 +108,7 @@ module _ (n : ℕ) (known : KnownLayer) (leaves : ℕ → Option (List ℕ)) (at
 
 -- ---- runs
 
--- the runs lie behind one another
+-- the runs lie one after another
 chain_forward : (blocks at : ℕ) (runs : List Run) (reached : ℕ) → IsChain blocks at runs reached → at ≤ reached
 chain_forward blocks _ _ _ (none at) = omega arith
 chain_forward blocks _ _ _ (more at run rest reached begins within chain) =

@@ -1,4 +1,4 @@
--- Blocks that are not read, before a share and behind it.
+-- Blocks that are not read, before a share and after it.
 use Rattle.std.proofs.Common.{◌≡◌, ℕ, ◌+◌, ◌-◌, ◌*◌, ◌/◌, ◌^◌, ◌<◌, ◌≤◌, ◌&&◌, false, Option, None, Some, List, [], ◌++◌, length, drop, get_or, inl, inr, arith, refl, sym, ap, ◌∙◌, subst, append-nil, append_assoc, length-append, if◌then◌else◌}
 use Rattle.std.specs.Prelude.{nat_eq}
 use Rattle.std.specs.Cmp.Lexicographic.{pointwise}
@@ -95,7 +95,7 @@ begun_learned n known leaves from k holds edge inside = record {
         get_or_append_left (unread 0 from) [] (failed i) i (omega (arith, before, length_unread 0 from))
         ∙ get_or-map-range_with_len (λ block. failed block) 0 from i i (failed i) before same
 
--- ---- behind a share
+-- ---- after a share
 
 module _ (n : ℕ) (known : KnownLayer) (leaves : ℕ → Option (List ℕ)) (from to : ℕ) (k : Facts) (reads : List BlockRead)
     (learned : IsLearned n known leaves (reads_behind from reads) to k) (begins : length (reads_behind from reads) ≡ to) (inside : to ≤ block_count n) where

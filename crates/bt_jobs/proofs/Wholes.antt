@@ -61,7 +61,7 @@ all_behind : (number from : ℕ) (runs : List Run) → number < from → All (λ
 all_behind number from runs lt all = λ k d inside e. absurd (omega (arith, lt, all k d inside, e))
 
 module _ {D : Type 0} (conduct : Conduct D) (layer : ℕ) where
-  -- so many data files, with numbers from one on
+  -- data files with numbers from one on
   abbrev AreNumbered : ℕ → List (PartFile D) → Type 0
   AreNumbered a opened = map (λ (p : FilePart). p.number) (map part_at opened) ≡ range_with_len a (length opened)
 
@@ -140,7 +140,7 @@ one_layer bytes l m p q = elim (cases_lt l m) [
 cut_same : (c d : Cut) (edge : ℕ) → c.place ≡ d.place → c.blocks ≡ d.blocks → c.unit ≡ d.unit → cut_at c edge ≡ cut_at d edge
 cut_same c d edge place blocks unit = rw (place, blocks, unit) refl
 
--- the runs are what a part of so many tells of a file
+-- the runs are what a part of `count` tells of a file
 record IsOfPart (blocks total count : ℕ) (cut : Cut) (index : ℕ) (own : List Run) : Type 0 where
   pub chain : IsChain blocks (cut_at cut (edge_of total count index)) own (cut_at cut (edge_of total count (index + 1)))
   pub told : IsFirstIn total count index cut → own ≢ []

@@ -5,13 +5,13 @@ use Rattle.bt_parts.specs.declared.run.Run.{Run}
 use Rattle.bt_jobs.specs.Told.{IsToldBy, TellsEach}
 use Rattle.bt_jobs.specs.declared.told.Told.{Told}
 
--- one read gave so many bytes, at the front of the buffer: none only where the reader has no more
+-- one read gave `count` bytes, at the front of the buffer: none only where the reader has no more
 pub record IsGiven (old new : Option (List ℕ)) (count : ℕ) (buffer : List ℕ) : Type 0 where
   pub within : count ≤ length buffer
   pub taken : Consumes old new (take count buffer)
   pub ended : count ≡ 0 → IsAtEnd new
 
--- whatever was told by a text before is told with these bytes behind it
+-- whatever was told by a text before is told with these bytes after it
 abbrev pub TakesIn : List ℕ → Told → Told → Type 0
 TakesIn bytes before after = (text : List ℕ) → IsToldBy text before → IsToldBy (text ++ bytes) after
 

@@ -13,7 +13,7 @@ use Rattle.bt_jobs.specs.Part.{IsPartReport}
 abbrev pub runs_of : ℕ → List Run → List Run
 runs_of number runs = filter (λ run. run.file == number) runs
 
--- These are reports of so many parts: one of each from a part on to the last.
+-- These are reports of the parts of a check in `count` parts: one of each from part `index` on to the last.
 pub data AreReports (dir : List ℕ) (torrent : Metainfo) (count : ℕ)
     : (index : ℕ) → List (List Run) → Type 0 where
   none : AreReports dir torrent count count []

@@ -16,7 +16,7 @@ use Rattle.bt_parts.specs.declared.cut.Share.{Share}
 abbrev pub has_twin : List File → File → Bool
 has_twin files file = list_any (λ other. are_twins other file) files
 
--- how many bytes are counted of some files that come behind others
+-- how many bytes are counted of some files that come after others
 abbrev pub counted_behind : (before files : List File) → ℕ
 counted_behind before [] = 0
 counted_behind before (file ∷ files) =
@@ -31,7 +31,7 @@ abbrev pub files_before : File → List File → List File
 files_before file [] = []
 files_before file (other ∷ files) = if are_twins other file then [] else other ∷ files_before file files
 
--- where a file lies: behind the bytes that are counted of these
+-- where a file lies: after the bytes that are counted of these
 abbrev pub place_of : List File → File → ℕ
 place_of files file = total_of (files_before file files)
 
@@ -41,7 +41,7 @@ pub record IsCutOf (layer : ℕ) (files : List File) (file : File) (cut : Cut) :
   pub blocks : cut.blocks ≡ block_count file.length
   pub unit : cut.unit ≡ unit_of layer file
 
--- the part has this share of a file, where so many bytes are counted in all
+-- the part has this share of a file, where `total` bytes are counted in all
 pub record IsShareOf (total : ℕ) (part : Part) (cut : Cut) (share : Share) : Type 0 where
   pub from : share.from ≡ cut_at cut (edge_of total part.count part.index)
   pub to : share.to ≡ cut_at cut (edge_of total part.count (part.index + 1))

@@ -18,11 +18,11 @@ use Rattle.bt_parts.specs.declared.cut.Share.{Share}
 use Rattle.bt_parts.specs.declared.run.Met.TheVariants.{Nothing, Unread}
 use Rattle.bt_parts.specs.declared.run.Run.{Run}
 
--- so many blocks from one on, none of which was read: it is as if their reads had failed
+-- `count` blocks from `from` on, none of which was read: it is as if their reads had failed
 abbrev pub unread : ℕ → ℕ → List BlockRead
 unread from count = map (λ block. failed block) (range_with_len from count)
 
--- the reads of all blocks of a file of so many, where those of a share were made, and no others
+-- the reads of all blocks of a file of `blocks` blocks, where those of a share were made, and no others
 abbrev pub share_reads : (blocks from to : ℕ) → List BlockRead → List BlockRead
 share_reads blocks from to reads = unread 0 from ++ (reads ++ unread to (blocks - to))
 
@@ -83,7 +83,7 @@ pub record IsWithGroups (run : Run) (groups : AdoptedGroups) (new : Run) : Type 
   pub faulty : 0 < groups.faults → new.met ≡ Unread
   pub sound : groups.faults ≡ 0 → new.met ≡ run.met
 
--- a run was told, and the next one begins behind it; or it was not, and goes on
+-- a run was told, and the next one begins after it; or it was not, and goes on
 abbrev pub TellsOrKeeps : Run → ℕ → (old new : Option (List ℕ)) → Run → Type 0
 TellsOrKeeps run end old new next =
     (Appends old new (run_line run) × (next ≡ run_at run.file run.to))

@@ -39,7 +39,7 @@ IsEarlyEnd code fault =
 
 -- ---- starts
 
--- a program, and the words behind its name
+-- a program, and the words after its name
 pub record Start : Type 0 where
   pub program : List ℕ
   pub words : List (List ℕ)
@@ -52,7 +52,7 @@ start_of command = record { program = command_program command; words = command_a
 abbrev pub start_with : List (List ℕ) → Start
 start_with words = record { program = program_text; words = words }
 
--- how so many parts are started, from the first one on
+-- how `count` parts are started, from the first one on
 abbrev pub part_starts : (is_info : Bool) (dir : List ℕ) (count : ℕ) → List Start
 part_starts is_info dir count =
     map (λ index. start_with (part_words is_info dir index count)) (range_with_len 0 count)

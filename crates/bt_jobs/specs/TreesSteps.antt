@@ -22,19 +22,14 @@ use Rattle.bt_jobs.specs.Share.{IsShareCheck, runs_text}
 use Rattle.bt_jobs.specs.Trees.{AreRunsOf, GoByRoots, IsPartFinding, answers_of, file_in_part, length_calls}
 use Rattle.bt_jobs.specs.declared.trees.FilePart.{FilePart}
 use Rattle.bt_jobs.specs.declared.trees.PartFile.{PartFile}
-use Rattle.bt_jobs.specs.declared.trees.PartTrees.{PartTrees}
 
 -- ---- trees
-
--- the same trees, as a check of the whole keeps them
-abbrev pub shared_of : PartTrees → SharedTrees
-shared_of trees = record { kept = trees.kept; last = trees.last; left = trees.left }
 
 -- Trees after some files were checked, before the others; and the layer of each file that was checked goes by
 -- its length and root.
 pub record KeepsParts (layer : ℕ) (layer_at : ℕ → List ℕ → List ℕ) (before : List CheckedFile)
-    (left : List File) (trees : PartTrees) : Type 0 where
-  pub kept : KeepsTrees layer before left (shared_of trees)
+    (left : List File) (trees : SharedTrees) : Type 0 where
+  pub kept : KeepsTrees layer before left trees
   pub by_root : All (λ c. c.file.layer ≡ layer_at c.file.length c.file.root) before
 
 -- the files before tell no other layer of a file's tree than the file itself
@@ -142,15 +137,15 @@ ChecksPart conduct layer part disk kept grown old new =
 -- ---- all files
 
 -- The part is of the next file.
-abbrev pub IsNextPart : ℕ → FilePart → PartTrees → Type 0
+abbrev pub IsNextPart : ℕ → FilePart → SharedTrees → Type 0
 IsNextPart layer part trees =
     (layer_at : ℕ → List ℕ → List ℕ) × (before : List CheckedFile) × (rest : List File)
     × KeepsParts layer layer_at before (file_in_part part ∷ rest) trees
     × GoByRoots layer_at (file_in_part part ∷ [])
 
--- It was checked and told, and the trees are kept for the files behind it.
-abbrev pub ChecksNext : {D : Type 0} → Conduct D → ℕ → PartFile D → PartTrees
-    → PartTrees → (old new : Option (List ℕ)) → Type 0
+-- It was checked and told, and the trees are kept for the files after it.
+abbrev pub ChecksNext : {D : Type 0} → Conduct D → ℕ → PartFile D → SharedTrees
+    → SharedTrees → (old new : Option (List ℕ)) → Type 0
 ChecksNext conduct layer one trees grown old new =
     let file = file_in_part one.part in
     (layer_at : ℕ → List ℕ → List ℕ) (before : List CheckedFile) (rest : List File)

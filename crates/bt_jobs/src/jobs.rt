@@ -14,7 +14,6 @@ ghost use Rattle.bt_jobs.specs.Starts.{AreStarted, IsCheckByParts, part_starts, 
 ghost use Rattle.bt_jobs.specs.Told.{IsToldBy, TellsEach};
 
 use crate::children::{end_all, look_at_all, part_commands, wait_for_all};
-use crate::part::open_data_file;
 use crate::report::{heard_of, write_report};
 use crate::source::{Loaded, load_text};
 use crate::start_fault::{StartFault, unstarted};
@@ -22,6 +21,7 @@ use crate::starter::Starter;
 use crate::told::Told;
 use bt_check::{
     Fault, OPEN_FILES, Source, Summary, check_torrent, data_path, fault_name, is_device_fault,
+    open_data_file,
 };
 use bt_disk::HandlePool;
 use bt_meta::FileEntry;
@@ -54,13 +54,14 @@ pub struct Job<'a> {
     pub count: u32,
 }
 
-/// Checks the files of a folder against a torrent by so many runs of this program side by side, and writes what they
-/// find: what a check by one writes, once all are done.
+/// Checks the files of a folder against a torrent by `job.count` runs of this program side by side, and writes what
+/// they find: what a check by one writes, once all are done.
 ///
 /// All files are looked at first, and one that can't be opened ends it before anything is started. A part that can't
 /// be started, that ends without having done what it was to, tells what is no part of a check, or finds no file where
 /// one was opened before, is a device that failed, but for want of memory, which is told as such; nothing is written
-/// then.
+/// then. Errors: the torrent is refused, which is found before anything is written; a call on a file, the pipe or the
+/// writer failed, or a part did; out of memory.
 pub fn check_by_parts<R: Files + AllocGlobal + Clone + Drop, L: Starter, P: Watch, W: Write>(
     rt: &R,
     starter: &mut L,

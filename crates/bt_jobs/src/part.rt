@@ -1,11 +1,9 @@
 //! A part of a check, as a run of the program does it.
-ghost use Rattle.std.specs.Prelude.{◌≡◌, ◌⊎◌, ◌↔◌, ◌<◌, ◌^◌, ℕ, Bool, List, [], Ok, None, map, length, IfOk, IfErr, IfSome, IsSome, IsSomeAnd, IsTrue, OnOk};
+ghost use Rattle.std.specs.Prelude.{◌≡◌, ◌⊎◌, ◌↔◌, ◌<◌, ◌^◌, ℕ, Bool, List, [], map, length, IfOk, IfErr, IfSome, IsTrue, OnOk};
 ghost use Rattle.std.specs.List.{All, range_with_len};
 ghost use Rattle.std.specs.Io.KnownBytes.{Appends};
-ghost use Rattle.std.specs.Path.{path_buf_bytes};
 ghost use Rattle.bt_meta.specs.Files.{file_of};
 ghost use Rattle.bt_check.specs.Check.{CheckedFile};
-ghost use Rattle.bt_check.specs.DataFile.{IsAbsence};
 ghost use Rattle.bt_check.specs.Fault.{device, out_of_memory};
 ghost use Rattle.bt_check.specs.Paths.{path_below};
 ghost use Rattle.bt_check.specs.TorrentFile.{HasText};
@@ -17,21 +15,20 @@ ghost use Rattle.bt_jobs.specs.Trees.{ArePartFindings, GoByRoots, IsReadyPart, f
 ghost use Rattle.bt_jobs.specs.TreesSteps.{KeepsParts};
 
 use crate::plan::shares_of;
-use crate::trees::{FilePart, PartFile, PartTrees};
-use bt_check::{Fault, OPEN_FILES, PieceSize, data_path};
-use bt_disk::{Disk, HandlePool, PooledDisk, is_absence};
+use crate::trees::{FilePart, PartFile, check_next};
+use bt_check::{Fault, OPEN_FILES, PieceSize, SharedTrees, data_path, open_data_file};
+use bt_disk::{Disk, HandlePool, PooledDisk};
 use bt_meta::{FileEntry, Torrent, layers_are_of_trees};
 use bt_parts::{Part, Share};
 use std::alloc::Global;
-use std::fs;
-use std::io::{ErrorKind, Write};
-use std::path::PathBuf;
+use std::io::Write;
 use std::rt::Files;
 
 /// Checks a part of the files of a folder against a torrent, and writes a line for each run of blocks as it is done.
 ///
 /// The torrent is one that was read. All files of which the part has something are opened first. A file that can't be
-/// opened ends it; a read that fails later does not: the lines tell it.
+/// opened ends it; a read that fails later does not: the lines tell it. Errors: a file could not be opened, or a line
+/// not be written; out of memory.
 pub fn check_part<R: Files + AllocGlobal + Clone + Drop, W: Write>(
     rt: &R,
     torrent: &Torrent,
@@ -52,7 +49,7 @@ pub fn check_part<R: Files + AllocGlobal + Clone + Drop, W: Write>(
     let entries = torrent.files();
     let shares = shares_of(rt.alloc(), entries, size, part)?;
     let files = open_part(rt, dir, entries, &shares)?;
-    let mut trees = PartTrees::new(rt.alloc(), &files)?;
+    let mut trees = SharedTrees::new(rt.alloc(), entries)?;
     check_each(rt.alloc(), files, size, &mut trees, writer)
 }
 
@@ -113,55 +110,12 @@ fn is_nothing(share: Share) -> bool
     !share.is_first && share.from >= share.to
 }
 
-/// Opens a data file to read it; none where no file can be at the path. What is there and is no regular file is a
-/// device fault.
-pub(crate) fn open_data_file<R: Files + Drop>(
-    rt: &R,
-    pool: &mut HandlePool<R>,
-    path: PathBuf,
-) -> Result<Option<PooledDisk<R>>, Fault>
-    ensures path { IfOk result (λ found. IfSome found (λ disk. disk.path ≡ path_buf_bytes path)) }
-    ensures fault { IfErr result (λ fault. fault ≡ device) }
-{
-    let trouble = fs::metadata(rt, path.as_path())
-        .err()
-        .map(|error| error.kind());
-    device_at(pool, path, trouble)
-}
-
-/// The device of a path, a look at which met this trouble: none where that says that no file can be there.
-fn device_at<R: Files + Drop>(
-    pool: &mut HandlePool<R>,
-    path: PathBuf,
-    trouble: Option<ErrorKind>,
-) -> Result<Option<PooledDisk<R>>, Fault>
-    ensures absent { IsSomeAnd trouble IsAbsence → result ≡ Ok None }
-    ensures present { ¬ IsSomeAnd trouble IsAbsence → IfOk result (λ found. IsSome found) }
-    ensures path { IfOk result (λ found. IfSome found (λ disk. disk.path ≡ path_buf_bytes path)) }
-    ensures fault { IfErr result (λ fault. fault ≡ device) }
-{
-    if tells_absence(trouble) {
-        return Ok(None);
-    }
-    Ok(Some(pool.reading(path.into_string())?))
-}
-
-/// Whether the trouble that a look at a path met says that no file can be there.
-fn tells_absence(trouble: Option<ErrorKind>) -> bool
-    ensures { IsTrue result ↔ IsSomeAnd trouble IsAbsence }
-{
-    match trouble {
-        Some(kind) => is_absence(kind),
-        None => false,
-    }
-}
-
 /// Checks what a part has of some files, in turn. A file's device goes with it.
 fn check_each<D: Disk + Drop, W: Write>(
     alloc: Global,
     files: Vec<PartFile<'_, D>>,
     size: PieceSize,
-    trees: &mut PartTrees,
+    trees: &mut SharedTrees,
     writer: &mut W,
 ) -> Result<(), Fault>
     requires ready { All (IsReadyPart size.layer) (map part_at files.items) }
@@ -174,7 +128,7 @@ fn check_each<D: Disk + Drop, W: Write>(
     ensures fault { IfErr result (λ fault. (fault ≡ device) ⊎ (fault ≡ out_of_memory)) }
 {
     for data in files {
-        trees.check(alloc, data, size, writer)?;
+        check_next(alloc, trees, data, size, writer)?;
     }
     Ok(())
 }

@@ -4,11 +4,10 @@ ghost use Rattle.std.specs.List.{All};
 ghost use Rattle.bt_meta.specs.Limits.{max_file_count};
 ghost use Rattle.bt_meta.specs.Files.{File, file_of};
 ghost use Rattle.bt_check.specs.EntryCheck.{IsCheckable};
-ghost use Rattle.bt_check.specs.TreeSteps.{tree_key};
 ghost use Rattle.bt_jobs.specs.Plan.{AreShares};
 ghost use Rattle.bt_jobs.specs.PlanSteps.{ArePlacesOf, IsPlanOf, place_in};
 
-use bt_check::PieceSize;
+use bt_check::{PieceSize, key_of};
 use bt_meta::FileEntry;
 use bt_parts::{Cut, Part, Share, blocks_of, share_of, unit_of};
 use bt_tree::Hash32;
@@ -78,7 +77,7 @@ struct Places {
 }
 
 impl Places {
-    /// Where a file lies: behind all others, if none of them has its root and length.
+    /// Where a file lies: after all others, if none of them has its root and length.
     fn place_of(&mut self, file: &FileEntry) -> Result<u64, AllocError>
         requires { self.old.total + max 1 file.now.length < 2 ^ 64 }
         ensures known { IfOk result (λ place. place_in self.new (file_of file.now) ≡ Some place) }
@@ -93,11 +92,4 @@ impl Places {
         self.total += file.length.max(1);
         Ok(place)
     }
-}
-
-/// The root and the length of a file.
-pub(crate) fn key_of(file: &FileEntry) -> (Hash32, u64)
-    ensures { result ≡ tree_key (file_of file.now) }
-{
-    (file.root, file.length)
 }

@@ -68,7 +68,7 @@ fn first_fault(file: u32, runs: &[Run]) -> Option<Met> {
     None
 }
 
-/// Writes the line of each file, behind what is told of a fault there, and the last line.
+/// Writes the line of each file, after what is told of a fault there, and the last line.
 pub(crate) fn write_report<P: Watch, W: Write>(
     alloc: Global,
     watch: &P,

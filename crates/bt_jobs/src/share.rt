@@ -92,7 +92,7 @@ fn with_groups(run: Run, groups: AdoptedGroups) -> Run
     }
 }
 
-/// Tells a run that is long, or the last before a block, and gives the one that begins behind it; any other run it
+/// Tells a run that is long, or the last before a block, and gives the one that begins after it; any other run it
 /// gives back.
 fn told_if_long<W: Write>(alloc: Global, run: Run, end: u32, writer: &mut W) -> Result<Run, Fault>
     requires { run.from ≤ run.to }

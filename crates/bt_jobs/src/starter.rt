@@ -35,7 +35,7 @@ pub struct ProcessStarter<'a, S> {
 }
 
 impl<'a, S> ProcessStarter<'a, S> {
-    /// One that starts processes there.
+    /// A starter of the processes of this system.
     pub fn new(system: &'a S) -> Self {
         ProcessStarter { system }
     }

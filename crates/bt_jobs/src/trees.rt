@@ -1,28 +1,22 @@
 //! Hash trees that files of one root and length share in a part.
-ghost use Rattle.std.specs.Prelude.{◌≡◌, ◌⊎◌, ◌≤◌, ◌↔◌, [], ◌∷◌, ℕ, List, Option, Some, map, IfOk, IfErr, IsTrue, OnOk};
+ghost use Rattle.std.specs.Prelude.{◌≡◌, ◌⊎◌, ◌≤◌, List, Some, IfErr, OnOk};
 ghost use Rattle.std.specs.Io.KnownBytes.{Appends};
 ghost use Rattle.bt_tree.specs.Blocks.{IsFileLength, block_count};
-ghost use Rattle.bt_disk.specs.Calls.{HasCalls};
-ghost use Rattle.bt_meta.specs.Files.{file_of};
 ghost use Rattle.bt_check.specs.Check.{CheckedFile};
-ghost use Rattle.bt_check.specs.CheckSteps.{HoldsLeaves};
-ghost use Rattle.bt_check.specs.EntryCheck.{IsCheckable, len_call_of};
 ghost use Rattle.bt_check.specs.Fault.{device, out_of_memory};
-ghost use Rattle.bt_check.specs.Finding.{known_layer, no_leaves};
-ghost use Rattle.bt_check.specs.TreeSteps.{HasTree, TakesTree, LeavesKept, LetsGo, IsLast};
+ghost use Rattle.bt_check.specs.TreeSteps.{HasTree};
 ghost use Rattle.bt_parts.specs.Line.{run_line};
-ghost use Rattle.bt_jobs.specs.Trees.{IsReadyPart, file_in_part, part_at};
-ghost use Rattle.bt_jobs.specs.TreesSteps.{ChecksBlocks, ChecksNext, ChecksPart, IsMeasured, IsNextPart, KeepsParts, KnowsOwn, TellsAbsent, TellsFirst, TellsLength, TellsMissing, no_blocks, shared_of};
+ghost use Rattle.bt_jobs.specs.Trees.{IsReadyPart, file_in_part};
+ghost use Rattle.bt_jobs.specs.TreesSteps.{ChecksBlocks, ChecksNext, ChecksPart, IsMeasured, IsNextPart, KnowsOwn, TellsAbsent, TellsFirst, TellsLength, TellsMissing, no_blocks};
 
-use crate::plan::key_of;
 use crate::share::{check_share, tell};
-use bt_check::{Fault, FileHash, PieceSize};
+use bt_check::{Fault, FileHash, PieceSize, SharedTrees, key_of, length_of, take_tree};
 use bt_disk::Disk;
 use bt_meta::FileEntry;
 use bt_parts::{Met, Run, Share};
 use bt_sparse::SparseTree;
-use bt_tree::{Geometry, Hash32, LayerError};
-use std::alloc::{AllocError, Global};
+use bt_tree::{Geometry, Hash32};
+use std::alloc::Global;
 use std::collections::BTreeMap;
 use std::io::Write;
 
@@ -34,83 +28,32 @@ pub(crate) struct FilePart<'a> {
     pub share: Share,
 }
 
-/// The same with the device that has the file's bytes: none where no file can be at its path, or the part has nothing
-/// of it.
+/// What a part has of a file, with the device that has the file's bytes: none where no file can be at its path, or the
+/// part has nothing of it.
 #[derive(Drop)]
 pub(crate) struct PartFile<'a, D> {
     pub part: FilePart<'a>,
     pub disk: Option<D>,
 }
 
-/// The trees of files that were checked, each as long as a later file has its root and length.
-#[derive(Drop)]
-pub(crate) struct PartTrees {
-    kept: BTreeMap<(Hash32, u64), SparseTree<FileHash>>,
-    /// Of each root and length how many files come behind the last file that has it.
-    last: BTreeMap<(Hash32, u64), usize>,
-    /// How many files are not checked yet.
-    left: usize,
-}
-
-impl PartTrees {
-    /// Those of some files of which none is checked yet.
-    pub(crate) fn new<D>(alloc: Global, files: &[PartFile<'_, D>]) -> Result<PartTrees, AllocError>
-        ensures { IfOk result (λ trees. (layer : ℕ) (layer_at : ℕ → List ℕ → List ℕ)
-            → KeepsParts layer layer_at [] (map file_in_part (map part_at files.now)) trees) }
-    {
-        let mut last = BTreeMap::new(alloc);
-        let mut left = files.len();
-        for data in files {
-            left -= 1;
-            last.insert(key_of(data.part.file), left)?;
-        }
-        Ok(PartTrees {
-            kept: BTreeMap::new(alloc),
-            last,
-            left: files.len(),
-        })
-    }
-
-    /// Checks what the part has of the next file, and tells of it.
-    pub(crate) fn check<D: Disk + Drop, W: Write>(
-        &mut self,
-        alloc: Global,
-        opened: PartFile<'_, D>,
-        size: PieceSize,
-        writer: &mut W,
-    ) -> Result<(), Fault>
-        requires ready { IsReadyPart size.layer opened.part }
-        requires trees { IsNextPart size.layer opened.part self.old }
-        ensures told { OnOk result (ChecksNext D.conduct size.layer opened.entry
-            self.old self.new (W.contents writer.old) (W.contents writer.new)) }
-        ensures fault { IfErr result (λ fault. (fault ≡ device) ⊎ (fault ≡ out_of_memory)) }
-    {
-        let PartFile { part, disk } = opened;
-        self.left -= 1;
-        check_file(alloc, part, disk, size, &mut self.kept, writer)?;
-        self.let_go(part.file);
-        Ok(())
-    }
-
-    /// Lets go of the tree of a file where no file behind it has its root and length.
-    fn let_go(&mut self, entry: &FileEntry)
-        ensures { LetsGo (file_of entry.now) (shared_of self.old) (shared_of self.new) }
-    {
-        if !self.is_last(entry) {
-            return;
-        }
-        self.kept.remove(&key_of(entry));
-    }
-
-    /// Whether no file behind this one has its root and length.
-    fn is_last(&self, entry: &FileEntry) -> bool
-        ensures { IsTrue result ↔ IsLast (shared_of self.now) (file_of entry.now) }
-    {
-        match self.last.get(&key_of(entry)) {
-            Some(behind) => *behind >= self.left,
-            None => true,
-        }
-    }
+/// Checks what the part has of the next file, and tells of it.
+pub(crate) fn check_next<D: Disk + Drop, W: Write>(
+    alloc: Global,
+    trees: &mut SharedTrees,
+    opened: PartFile<'_, D>,
+    size: PieceSize,
+    writer: &mut W,
+) -> Result<(), Fault>
+    requires ready { IsReadyPart size.layer opened.part }
+    requires trees { IsNextPart size.layer opened.part trees.old }
+    ensures told { OnOk result (ChecksNext D.conduct size.layer opened.entry
+        trees.old trees.new (W.contents writer.old) (W.contents writer.new)) }
+    ensures fault { IfErr result (λ fault. (fault ≡ device) ⊎ (fault ≡ out_of_memory)) }
+{
+    let PartFile { part, disk } = opened;
+    check_file(alloc, part, disk, size, &mut trees.kept, writer)?;
+    trees.finish(part.file);
+    Ok(())
 }
 
 /// Checks what a part has of a file, and tells of it.
@@ -288,16 +231,6 @@ fn tell_none<W: Write>(
     tell(alloc, run, writer)
 }
 
-/// How many bytes a device has; none where the call failed.
-fn length_of<D: Disk>(disk: &mut D) -> Option<u64>
-    ensures { HasCalls D.conduct disk.old (len_call_of result ∷ []) disk.new }
-{
-    match disk.len() {
-        Ok(length) => Some(length),
-        Err(_) => None,
-    }
-}
-
 /// What is met where a device tells this length, or none.
 fn measured(length: Option<u64>, file_length: u64) -> Met
     ensures { IsMeasured file_length length result }
@@ -316,55 +249,5 @@ fn length_met(length: u64, file_length: u64) -> Met
         Met::Longer
     } else {
         Met::Nothing
-    }
-}
-
-/// Takes the tree of a file that is kept, or makes it.
-fn take_tree(
-    alloc: Global,
-    geometry: Geometry,
-    entry: &FileEntry,
-    size: PieceSize,
-    kept: &mut BTreeMap<(Hash32, u64), SparseTree<FileHash>>,
-) -> Result<SparseTree<FileHash>, AllocError>
-    requires checkable { IsCheckable size.layer (file_of entry.now) }
-    requires length { geometry ≡ entry.now.length }
-    requires lawful { IsFileLength geometry }
-    ensures tree { IfOk result (TakesTree size.layer (file_of entry.now) kept.old) }
-    ensures kept { IfOk result (λ _. LeavesKept (file_of entry.now) kept.old kept.new) }
-{
-    match kept.remove(&key_of(entry)) {
-        Some(tree) => Ok(tree),
-        None => known_tree(alloc, geometry, entry, size),
-    }
-}
-
-/// The tree of a file as far as a torrent tells it: down to the layer of its pieces, or the root alone.
-fn known_tree(
-    alloc: Global,
-    geometry: Geometry,
-    entry: &FileEntry,
-    size: PieceSize,
-) -> Result<SparseTree<FileHash>, AllocError>
-    requires checkable { IsCheckable size.layer (file_of entry.now) }
-    requires length { geometry ≡ entry.now.length }
-    requires lawful { IsFileLength geometry }
-    ensures { IfOk result (HoldsLeaves geometry (known_layer size.layer (file_of entry.now)) no_leaves) }
-{
-    if entry.layer.is_empty() {
-        return SparseTree::new(alloc, FileHash, geometry, entry.root);
-    }
-    match SparseTree::with_layer(
-        alloc,
-        FileHash,
-        geometry,
-        entry.root,
-        size.layer,
-        &entry.layer,
-    ) {
-        Ok(tree) => Ok(tree),
-        Err(LayerError::OutOfMemory) => Err(AllocError),
-        // the layers of a torrent that was read are those of its files
-        Err(LayerError::Size | LayerError::Differs) => unreachable!(),
     }
 }

@@ -27,7 +27,7 @@ use Rattle.bt_make.specs.declared.command.FolderFile.{FolderFile}
 
 -- ---- files as they are found
 
--- behind the files so far comes the next path
+-- after the files so far comes the next path
 split_more : {A B : Type 0} (f : A → B) (all left rest : List B) (old new : List A) (x : A) → all ≡ map f old ++ left → left ≡ f x ∷ rest
     → new ≡ old ++ x ∷ [] → all ≡ map f new ++ rest
 split_more f all left rest old new x each first more =
@@ -71,7 +71,7 @@ all_files all files path [] each none =
     sym (each ∙ ap (λ l. map elements_in files ++ l) (file_paths_none path) ∙ append-nil (map elements_in files))
 all_files all files path (entry ∷ left) each none = absurd (omega (arith, none))
 
--- what is refused behind files of which none is
+-- what is refused after files of which none is
 refusal_at_last : (size : ℕ) (old : List FolderFile) (file : FolderFile) → first_count_refusal size old ≡ None
     → first_count_refusal size (old ++ file ∷ []) ≡ first_of (refusal_behind size old file ∷ [])
 refusal_at_last size old file none =

@@ -1,4 +1,4 @@
--- Lemmas on the order of a walk: the paths of the files that were found, and behind them those of the entries that
+-- Lemmas on the order of a walk: the paths of the files that were found, and after them those of the entries that
 -- wait, the next one first, ascend.
 use Rattle.std.proofs.Common.{String, Global, ◌≡◌, ◌++◌, ◌≤◌, ℕ, refl, subst, List, [], ◌∷◌, map, length, take, string_bytes, sym, ◌∙◌, ap, arith, take_all, take_at, length-take-le}
 use Rattle.std.proofs.lemmas.List.{append_assoc, append-nil, length-map, length-take, map-append, reverse-append, reverse-reverse, take-take}
@@ -246,7 +246,7 @@ ordered_begun found path depth old new none top flat empty put =
           (subst AreInOrder (sym paths) (entries_first [] put.names [] put.ascending tt tt)));
     })
 
--- the next entry, and what waits behind it
+-- the next entry, and what waits after it
 pub record IsNext (found more left : List FolderEntry) (path next : Path) (entry : FolderEntry) : Type 0 where
   pub last : next ≡ last_path [] more
   pub stack : IsStack next (reverse left)

@@ -20,7 +20,7 @@ name_of entry = entry.name
 
 -- ---- entries that are put
 
--- of all names, the greatest have their entries behind those that were there, and the others are left
+-- of all names, the greatest have their entries after those that were there, and the others are left
 pub record ArePut (depth : ℕ) (all left : List (String Global)) (old new : List FolderEntry) : Type 0 where
   pub names : List (String Global)
   pub split : all ≡ left ++ names

@@ -67,7 +67,7 @@ IsMakeTorrent name piece_length new = (paths : Paths) × IsTorrentOf paths name 
 abbrev pub total_piece_count : ℕ → List FolderFile → ℕ
 total_piece_count piece_length files = sum_by (λ file. piece_count piece_length file.length) files
 
--- a file, behind those that were found before it
+-- a file, after those that were found before it
 abbrev pub refusal_behind : ℕ → List FolderFile → FolderFile → Option MakeError
 refusal_behind piece_length before file =
     count_refusal (length before) (total_piece_count piece_length before) piece_length

@@ -20,13 +20,13 @@ elements_in file = elements_of file.path
 abbrev pub file_of_made : Made → FolderFile
 file_of_made made = record { path = made.path; length = made.length }
 
--- the digests of some bytes, so many
+-- the digests of `count` bytes
 pub record AreOfSomeBytes (count layer : ℕ) (digests : Digests) : Type 0 where
   pub bytes : List ℕ
   pub whole : length bytes ≡ count
   pub are : AreDigestsOf bytes layer digests
 
--- a file with this path was put behind those that are counted, and these are the counts with it
+-- a file with this path was put after those that are counted, and these are the counts with it
 pub record AddsFile (size files pieces : ℕ) (path : List (String Global)) (old new : List FolderFile)
     (next_files next_pieces : ℕ) : Type 0 where
   pub file : FolderFile
@@ -37,7 +37,7 @@ pub record AddsFile (size files pieces : ℕ) (path : List (String Global)) (old
   pub count : next_files ≡ files + 1
   pub sum : next_pieces ≡ pieces + piece_count size file.length
 
--- a file with this path, of some length, is refused behind those that are counted
+-- a file with this path, of some length, is refused after those that are counted
 pub record IsFileRefusal (size files pieces : ℕ) (path : List (String Global)) (fault : Fault) : Type 0 where
   pub bytes : ℕ
   pub cause : MakeError

@@ -12,7 +12,7 @@ use Rattle.bt_make.specs.declared.folder.EntryKind.{EntryKind}
 use Rattle.bt_make.specs.declared.folder.EntryKind.TheVariants.{File, Folder}
 use Rattle.bt_make.specs.declared.folder.FolderEntry.{FolderEntry}
 
--- the path of an entry, behind an entry with this path: the two folders' common elements, and its name
+-- the path of an entry, after an entry with this path: the two folders' common elements, and its name
 abbrev pub path_behind : List (List ℕ) → FolderEntry → List (List ℕ)
 path_behind before entry = take entry.depth before ++ string_bytes entry.name ∷ []
 
@@ -21,7 +21,7 @@ abbrev pub path_of_file : EntryKind → List (List ℕ) → List (List (List ℕ
 path_of_file File path = path ∷ []
 path_of_file Folder path = []
 
--- the paths of the files among entries, behind an entry with this path
+-- the paths of the files among entries, after an entry with this path
 unfoldable pub file_paths : List (List ℕ) → List FolderEntry → List (List (List ℕ))
 file_paths before [] = []
 file_paths before (entry ∷ entries) =

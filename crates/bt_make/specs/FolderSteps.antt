@@ -8,7 +8,7 @@ use Rattle.bt_make.specs.declared.folder.EntryKind.TheVariants.{File, Folder}
 use Rattle.bt_make.specs.declared.folder.FolderEntry.{FolderEntry}
 use Rattle.bt_make.specs.declared.folder.Walk.{Walk}
 
--- entries of a folder that lies so deep were put behind those that were there, by their names: the greatest
+-- entries of a folder that lies at `depth` were put after those that were there, by their names: the greatest
 -- first
 pub record PutsEntries (depth : ℕ) (old new : List FolderEntry) : Type 0 where
   pub names : List (String Global)

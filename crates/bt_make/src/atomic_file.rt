@@ -163,7 +163,7 @@ fn target_of<R: Files + AllocGlobal>(rt: &R, path: &str) -> Result<Target, Fault
     ensures { IfErr result (λ fault. (fault ≡ device) ⊎ (fault ≡ out_of_memory)) }
 {
     let mut path = String::from_str(rt.alloc(), path)?;
-    // a look at each link, and one at the file behind them
+    // a look at each link, and one at the file to which the last leads
     for _ in 0..=MAX_LINKS {
         match found_at(rt, path.as_str())? {
             Found::Replaceable(permissions) => return Ok(Target { path, permissions }),

@@ -31,7 +31,9 @@ use std::rt::Files;
 
 /// Makes the torrent of a folder. The first fault ends it, and is looked for in the piece length, then in the
 /// folder, then in the file that the torrent is written to, which is to be none of the folder's, and then in
-/// these. The reads are watched, and a fault of the device is told of.
+/// these. The reads are watched, and a fault of the device is told of. Errors: no torrent is made of such a
+/// folder, or of pieces of this length; the torrent's file is one of the folder's; a call on a file failed, or
+/// a file has other bytes than it had; out of memory.
 pub fn make<R: Files + AllocGlobal + Clone + Drop, P: Watch>(
     rt: &R,
     watch: &P,
@@ -265,7 +267,7 @@ fn read_file<R: Files + AllocGlobal, P: Watch>(
     })
 }
 
-/// The digests of the file at a path, which has so many bytes.
+/// The digests of the file at a path, which has `bytes` bytes.
 fn digests_at<R: Files + AllocGlobal, P: Watch>(
     rt: &R,
     watch: &P,

@@ -29,7 +29,7 @@ pub enum EntryKind {
     Folder,
 }
 
-/// A file or a folder that a walk comes to. Its path is its name behind the first `depth` elements of the
+/// A file or a folder that a walk comes to. Its path is its name after the first `depth` elements of the
 /// path of the entry before it. So none is kept: where folders lie deep, paths are much longer than names.
 #[derive(Drop)]
 pub struct FolderEntry {
@@ -43,7 +43,8 @@ pub struct FolderEntry {
 /// A symbolic link is left out, and so is anything else that is neither a file nor a folder, and a part file
 /// that a run left which was ended while it wrote.
 ///
-/// A name that is not UTF-8 is refused; a folder that can't be listed is a device fault, which is told of.
+/// Errors: a name is not UTF-8, which is refused; a folder can't be listed, which is a device fault, and told
+/// of; out of memory.
 pub fn files_in<R: Files + AllocGlobal + Clone + Drop, P: Watch>(
     rt: &R,
     watch: &P,

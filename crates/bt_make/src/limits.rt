@@ -19,7 +19,7 @@ pub struct Counts {
 }
 
 impl Counts {
-    /// Those of no file.
+    /// The counts of a torrent without a file.
     pub fn new() -> Self
         ensures files { result.files ≡ 0 }
         ensures pieces { result.pieces ≡ 0 }

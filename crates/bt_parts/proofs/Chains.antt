@@ -47,7 +47,7 @@ chain_more blocks _ _ _ run (none at) begins within = more at run [] run.to begi
 chain_more blocks _ mid _ run (more at first rest reached from_at fits chain) begins within =
     more at first (rest ++ run ∷ []) run.to from_at fits (chain_more blocks first.to mid rest run chain begins within)
 
--- so many runs of a file were joined
+-- these runs of a file, which reach to a block, were joined
 pub record IsJoining (file blocks : ℕ) (runs : List Run) (joined : Joined) : Type 0 where
   pub own : All (λ run. run.file ≡ file) runs
   pub chain : IsChain blocks 0 runs joined.reached
@@ -220,7 +220,7 @@ not_whole file blocks i all joined so_far within ends few own rest finding split
           absurd (omega (arith, early, end))
     ]
 
--- behind the first runs there is none, or one of another file
+-- after the first runs there is none, or one of another file
 pub elsewhere_at : (file i : ℕ) (all : List Run) (d : Run) → (i < length all → (get_or all i d).file ≢ file) → BeginsElsewhere file (drop i all)
 elsewhere_at file zero [] d other = tt
 elsewhere_at file (suc i) [] d other = tt

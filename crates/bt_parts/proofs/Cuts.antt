@@ -14,7 +14,7 @@ min_one zero = inl (refl, refl)
 min_one (suc r) = inr (omega arith, omega arith)
 
 module _ (x y : ℕ) where
-  -- so many times y reach x
+  -- y, as many times as `div_ceil` says, reaches x
   ceil_covers : 0 < y → x ≤ div_ceil x y * y
   ceil_covers pos =
       let whole = div-add-mod' x y in

@@ -15,7 +15,7 @@ some_fields text e =
     let none : length (fields_of text) ≡ 0 = ap length e in
     omega (arith, count, none)
 
--- what stands behind a first field is what stands behind it
+-- one list has one rest after its first field
 pub same_rest : (first second : List ℕ) (rest more fields : List (List ℕ)) → fields ≡ first ∷ rest
     → fields ≡ second ∷ more → rest ≡ more
 same_rest first second rest more fields a b = ap tail_of (sym a ∙ b)

@@ -30,7 +30,7 @@ digits_alone : (n : ℕ) → n < 2 ^ 32 → All (λ byte. (byte == 32) ≡ false
 digits_alone n small = All-from_get_or (λ byte. (byte == 32) ≡ false) (decimal n) 0 (λ i below.
     other (get_or (decimal n) i 0) (omega (arith, (digit_at (decimal n) i (number n small).digits.1 below).0)))
 
--- a number, and what stands behind the space that ends it
+-- a number, and what stands after the space that ends it
 pub after_number : (n : ℕ) (rest : List ℕ) → n < 2 ^ 32 → fields_of (decimal n ++ 32 ∷ rest) ≡ decimal n ∷ fields_of rest
 after_number n rest small = slice_split_at (λ byte. byte == 32) (decimal n) 32 rest (digits_alone n small) refl
 
@@ -41,7 +41,7 @@ word_alone Longer = refl
 word_alone Unmeasured = refl
 word_alone Unread = refl
 
--- the fields of a line, each behind those before it
+-- the fields of a line, each after those before it
 nested : (a b c d e end : List ℕ)
     → a ++ codes " " ++ b ++ codes " " ++ c ++ codes " " ++ d ++ codes " " ++ e ++ end
     ≡ a ++ (32 ∷ (b ++ (32 ∷ (c ++ (32 ∷ (d ++ (32 ∷ (e ++ end))))))))

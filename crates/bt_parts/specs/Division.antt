@@ -10,7 +10,7 @@ use Rattle.bt_parts.specs.declared.cut.Cut.{Cut}
 abbrev pub edge_of : (total count index : ℕ) → ℕ
 edge_of total count index = total * index / count
 
--- the block of a file that begins the first unit whose first byte is this one or lies behind it
+-- the block of a file that begins the first unit whose first byte is this one or lies after it
 abbrev pub cut_at : Cut → ℕ → ℕ
 cut_at file edge =
     min (div_ceil (edge - file.place) (file.unit * full_block_length) * file.unit) file.blocks

@@ -7,7 +7,7 @@ use Rattle.std.specs.Str.Parse.{IsNumeral, digits_value}
 abbrev pub fields_of : List ℕ → List (List ℕ)
 fields_of text = slice_split (λ byte. byte == 32) text
 
--- those of what stands behind a field, where something does
+-- the fields of what stands after a field, where something does
 abbrev pub fields_in : Option (Bor (List ℕ)) → List (List ℕ)
 fields_in None = []
 fields_in (Some rest) = fields_of rest.now

@@ -5,7 +5,7 @@ use Rattle.bt_check.specs.declared.data_file.Finding.{Finding}
 use Rattle.bt_parts.specs.Run.{IsWithin, is_fault, is_longer}
 use Rattle.bt_parts.specs.declared.run.Run.{Run}
 
--- In a file of so many blocks each run begins where the one before it ends: the first at block `at`, and the last ends
+-- In a file of `blocks` blocks each run begins where the one before it ends: the first at block `at`, and the last ends
 -- before block `reached`. So none of the blocks from `at` on to there is left out, or counted twice.
 pub data IsChain (blocks : ℕ) : (at : ℕ) → List Run → (reached : ℕ) → Type 0 where
   none : (at : ℕ) → IsChain blocks at [] at

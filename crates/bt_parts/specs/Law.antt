@@ -18,7 +18,7 @@ abbrev pub LinesAreReadBack : Type 0
 LinesAreReadBack = (run : Run) → IsSmall run → IsRunLine (line_before [] run) run
 
 -- A file is shared among `count` parts of `total` bytes. The beginning of the first part cuts it before its first block,
--- the end of the last part behind its last block, and each further part begins no earlier. So the shares, each of which
+-- the end of the last part after its last block, and each further part begins no earlier. So the shares, each of which
 -- ends where the next begins, are the whole file. And one part, and no other, has the byte at which the file begins.
 pub record IsDivided (file : Cut) (total count : ℕ) : Type 0 where
   pub begin : cut_at file (edge_of total count 0) ≡ 0

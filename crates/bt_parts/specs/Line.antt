@@ -14,7 +14,7 @@ word_text Longer = codes "longer"
 word_text Unmeasured = codes "unmeasured"
 word_text Unread = codes "unread"
 
--- A line, without its end, tells a run: the number of the file, the run's first block, the block behind its last,
+-- A line, without its end, tells a run: the number of the file, the run's first block, the block after its last,
 -- how many are right, and what was met.
 pub record IsRunLine (line : List ℕ) (run : Run) : Type 0 where
   pub file : List ℕ

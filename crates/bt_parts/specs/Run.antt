@@ -5,7 +5,7 @@ use Rattle.bt_parts.specs.declared.run.Met.{Met}
 use Rattle.bt_parts.specs.declared.run.Met.TheVariants.{Nothing, Absent, Longer, Unmeasured, Unread}
 use Rattle.bt_parts.specs.declared.run.Run.{Run}
 
--- a file of so many blocks has these, and no more are right than there are
+-- a file of `blocks` blocks has these, and no more are right than there are
 pub record IsWithin (blocks : ℕ) (run : Run) : Type 0 where
   pub forward : run.from ≤ run.to
   pub inside : run.to ≤ blocks

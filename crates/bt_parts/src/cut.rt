@@ -38,7 +38,7 @@ impl Part {
 pub struct Cut {
     /// The number of its first byte. A file without a byte counts as one byte.
     pub place: u64,
-    /// How many it has.
+    /// How many blocks it has.
     pub blocks: u32,
     /// How many blocks are not parted: one at least.
     pub unit: u32,
@@ -50,7 +50,7 @@ pub struct Cut {
 pub struct Share {
     /// The first block.
     pub from: u32,
-    /// The block behind the last.
+    /// The block after the last.
     pub to: u32,
     /// Whether the part has the byte at which the file begins. It tells of the file's length then.
     pub is_first: bool,

@@ -6,7 +6,7 @@ ghost use Rattle.bt_parts.specs.declared.cut.TheConstants.{MAX_PARTS, MAX_TOTAL}
 use crate::cut::{Cut, Part, Share};
 use bt_tree::BLOCK_LEN;
 
-/// The share that a part has of a file, where so many bytes are counted in all.
+/// The share that a part has of a file, where `total` bytes are counted in all.
 pub fn share_of(part: Part, total: u64, file: Cut) -> Share
     requires limit { total ≤ MAX_TOTAL }
     requires inside { file.place < total }
@@ -34,7 +34,7 @@ fn edge_of(total: u64, count: u32, index: u32) -> u64
 }
 
 /// The block at which a file is cut where all bytes are cut before one of them: the first of the units that begin there
-/// or behind it.
+/// or after it.
 fn cut_at(file: Cut, edge: u64) -> u32
     ensures { result ≡ cut_at file edge }
 {

@@ -4,7 +4,7 @@ ghost use Rattle.bt_parts.specs.Field.{IsNumber, fields_in, fields_of};
 
 use std::str;
 
-/// The first field of a text, and what stands behind it: None where the text has no space.
+/// The first field of a text, and what stands after the space that ends it: None where the text has no space.
 pub fn first_field(text: &[u8]) -> (&[u8], Option<&[u8]>)
     ensures { fields_of text.now ≡ result.0.now ∷ fields_in result.1 }
 {
@@ -21,7 +21,7 @@ fn first_space(text: &[u8]) -> Option<usize>
     text.iter().position(|byte| *byte == b' ')
 }
 
-/// The next field, and what stands behind it.
+/// The next field of what is left of a text, and what stands after it: None where nothing is left.
 pub fn next_field(rest: Option<&[u8]>) -> Option<(&[u8], Option<&[u8]>)>
     ensures some { IfSome result (λ x. fields_in rest.entry ≡ x.0.now ∷ fields_in x.1) }
     ensures none { IfNone result (fields_in rest.entry ≡ []) }
@@ -32,7 +32,7 @@ pub fn next_field(rest: Option<&[u8]>) -> Option<(&[u8], Option<&[u8]>)>
     }
 }
 
-/// The one field that is left.
+/// The field that is left of a text, where just one is left.
 pub fn last_field(rest: Option<&[u8]>) -> Option<&[u8]>
     ensures some { IfSome result (λ field. fields_in rest.entry ≡ field.now ∷ []) }
     ensures none { IfNone result ((field : List ℕ) → fields_in rest.entry ≢ field ∷ []) }

@@ -9,7 +9,7 @@ pub struct Run {
     pub file: u32,
     /// The first block.
     pub from: u32,
-    /// The block behind the last.
+    /// The block after the last.
     pub to: u32,
     /// How many of them are right.
     pub marked: u32,
@@ -31,7 +31,7 @@ pub enum Met {
 }
 
 impl Run {
-    /// Whether a file of so many blocks has these, and no more of them are told to be right than there are.
+    /// Whether a file of `blocks` blocks has these, and no more of them are told to be right than there are.
     pub fn is_within(self, blocks: u32) -> bool
         ensures { IsTrue result ↔ IsWithin blocks self }
     {

@@ -9,7 +9,7 @@ use bt_check::PieceSize;
 use bt_meta::FileEntry;
 use bt_tree::Geometry;
 
-/// How many blocks of a file are not parted: a piece, and eight blocks where pieces are shorter, since so many are
+/// How many blocks of a file are not parted: a piece, and eight blocks where pieces are shorter, since eight are
 /// digested together. A file of which no piece hashes are known is not parted.
 pub fn unit_of(file: &FileEntry, size: PieceSize) -> u32
     requires { file.now.length ≤ max_file_length }

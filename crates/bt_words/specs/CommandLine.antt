@@ -27,7 +27,7 @@ use Rattle.bt_words.specs.declared.command_line.Task.TheVariants.{Make, Show, Ch
 
 -- ---- words
 
--- the value of an option is a number of so many bits
+-- the value of an option is a number of `bits` bits
 pub record HasNumber (bits : ℕ) (rows : List Row) (id : Text) (n : ℕ) : Type 0 where
   pub text : List ℕ
   pub given : first_of id rows ≡ Some text
@@ -76,7 +76,7 @@ pub record IsSourceIn (rows : List Row) (source : Source) : Type 0 where
   pub path : first_of (codes "TORRENT") rows ≡ Some source.path.now
   pub info : IsFlagIn (codes "info") source.is_info rows
 
--- all of a check, by so many processes; or a part, by one
+-- all of a check, by `n` processes; or a part, by one
 abbrev pub IsWorkIn : List Row → Work → Type 0
 IsWorkIn rows (Jobs n) = HasJobs rows n × (first_of (codes "part") rows ≡ None)
 IsWorkIn rows (Part part) = HasJobs rows 1 × HasPart rows part
@@ -87,7 +87,7 @@ pub record IsCheckTaskIn (rows : List Row) (task : CheckTask) : Type 0 where
   pub work : IsWorkIn rows task.work
   pub verbose : IsFlagIn (codes "verbose") task.verbose rows
 
--- so many connections, or all that come: one of the two is said, and not both
+-- `n` connections, or all that come: one of the two is said, and not both
 abbrev pub IsServingIn : List Row → Serving → Type 0
 IsServingIn rows (Count n) = HasNumber 32 rows (codes "serve") n × ¬ IsGiven (codes "forever") rows
 IsServingIn rows Forever = (first_of (codes "serve") rows ≡ None) × IsGiven (codes "forever") rows

@@ -63,7 +63,7 @@ peers_rule = record (required_rule (codes "PEER")) { action = Some Append }
 
 -- ---- commands
 
--- a command with these words, in turn, behind those that it has
+-- a command with these words, in turn, after those that it has
 abbrev pub with_rules : App → List Rule → App
 with_rules app rules = on_top (λ shape. record shape { rules = shape.rules ++ rules }) app
 

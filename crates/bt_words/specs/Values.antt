@@ -7,7 +7,7 @@ use Rattle.bt_parts.specs.declared.cut.TheConstants.{MAX_PARTS}
 use Rattle.bt_parts.specs.declared.cut.Part.{Part}
 use Rattle.bt_words.specs.declared.peer.Peer.{Peer}
 
--- a decimal number of so many bits: digits alone, with leading zeros or not
+-- a decimal number of `bits` bits: digits alone, with leading zeros or not
 pub record IsNumber (bits : ℕ) (text : List ℕ) (n : ℕ) : Type 0 where
   pub digits : IsNumeral 10 text
   pub value : n ≡ digits_value 10 text

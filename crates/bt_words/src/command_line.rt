@@ -60,7 +60,7 @@ pub struct CheckTask<'a> {
 /// How much of a check is done.
 #[derive(Clone, Copy, Debug)]
 pub enum Work {
-    /// All of it, by so many processes: 1 to 64.
+    /// All of it, by this many processes: 1 to 64.
     Jobs(u32),
     /// One of the parts into which it is divided.
     Part(Part),
@@ -266,7 +266,7 @@ fn work_of(matches: &ArgMatches<'_>) -> Result<Work, Refusal>
     }
 }
 
-/// The same, where so many processes are asked for.
+/// How much of a check is done, where `count` processes are asked for: all of it, or a part.
 fn work_by(matches: &ArgMatches<'_>, count: u32) -> Result<Work, Refusal>
     requires { HasJobs (rows_of (found_of matches.now)) count }
     ensures work { IfOk result (IsWorkIn (rows_of (found_of matches.now))) }
@@ -279,7 +279,7 @@ fn work_by(matches: &ArgMatches<'_>, count: u32) -> Result<Work, Refusal>
     }
 }
 
-/// The part that a word names, where so many processes are asked for.
+/// The part of a check that a word names, where `count` processes are asked for, which then have to be one.
 fn part_by(matches: &ArgMatches<'_>, word: &str, count: u32) -> Result<Work, Refusal>
     requires jobs { HasJobs (rows_of (found_of matches.now)) count }
     requires given { first_of (codes "part") (rows_of (found_of matches.now)) ≡ Some word.now }

@@ -11,7 +11,7 @@ pub struct Peer<'a> {
 /// How many connections are served, one after the other.
 #[derive(Clone, Copy, Debug, PartialEq, Eq)]
 pub enum Serving {
-    /// So many.
+    /// This many.
     Count(u32),
     /// All that come, until the program is ended.
     Forever,

@@ -26,7 +26,7 @@ struct Word<'a> {
 enum Kind<'a> {
     /// It must be there, by its place.
     Needed,
-    /// The same, and more may follow.
+    /// It must be there, by its place, and more may follow.
     NeededList,
     /// An option with a value, which must be there.
     NeededOption,
@@ -34,7 +34,7 @@ enum Kind<'a> {
     Default(&'a str),
     /// An option with a value of this name.
     Value(&'a str),
-    /// The same, and its value where it is not there.
+    /// An option with a value of this name, and its value where it is not there.
     ValueOr(&'a str, &'a str),
     /// An option without a value.
     Flag,
@@ -239,7 +239,7 @@ fn with_version<'a>(command: Command<'a>, about: &'a str, version: &'a str) -> C
     command.about(about).version(version)
 }
 
-/// A command whose words begin behind the program's name: a subcommand must be there, and with no word at all
+/// A command whose words begin after the program's name: a subcommand must be there, and with no word at all
 /// there is help.
 fn with_demands<'a>(command: Command<'a>) -> Command<'a>
     ensures { app_of result ≡ with_demands (app_of command.entry) }

@@ -42,7 +42,7 @@ pub fn part_in(word: &str) -> Option<Part>
     Part::new(index, count)
 }
 
-/// The port that decimal digits write: the same of 16 bits.
+/// The port, a number of 16 bits, that decimal digits write, if it fits. Leading zeros are allowed, a sign is not.
 pub fn port_in(text: &str) -> Option<u16>
     ensures some { IfSome result (IsNumber 16 text.now) }
     ensures none { IfNone result ((n : ℕ) → ¬ IsNumber 16 text.now n) }

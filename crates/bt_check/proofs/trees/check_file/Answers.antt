@@ -3,7 +3,7 @@ use Rattle.std.proofs.lemmas.Result.{IfOk-weaker}
 use Rattle.bt_meta.specs.Files.{file_of}
 use Rattle.bt_check.specs.Check.{IsFileFinding, absent, layer_before, leaves_before}
 use Rattle.bt_check.proofs.EntryChecks.{absent_found}
-use Rattle.bt_check.proofs.SharedTrees.{absent_checked, checked_with}
+use Rattle.bt_check.proofs.KeptTrees.{absent_checked, checked_with}
 use Rattle.bt_check.proofs.trees.check_file.Goals as goal
 
 pub returns-in-Some : goal.returns-in-Some

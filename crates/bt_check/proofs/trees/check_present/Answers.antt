@@ -3,7 +3,7 @@ use Rattle.bt_meta.specs.Files.{file_of}
 use Rattle.bt_check.specs.Check.{layer_before, leaves_before}
 use Rattle.bt_check.specs.EntryCheck.{IsEntryCheck}
 use Rattle.bt_check.proofs.EntryChecks.{unshaped, is_known, checked_at}
-use Rattle.bt_check.proofs.SharedTrees.{present_checked, empty_kept, tree_kept, others_kept, put_at}
+use Rattle.bt_check.proofs.KeptTrees.{present_checked, empty_kept, tree_kept, others_kept, put_at}
 use Rattle.bt_check.proofs.trees.check_present.Goals as goal
 
 pub returns-in_default : goal.returns-in_default

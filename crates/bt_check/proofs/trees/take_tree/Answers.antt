@@ -1,7 +1,7 @@
 use Rattle.std.proofs.Common.{None, sym, ◌∙◌}
 use Rattle.std.proofs.lemmas.Result.{IfOk-weaker}
 use Rattle.bt_meta.specs.Files.{file_of}
-use Rattle.bt_check.proofs.SharedTrees.{others_kept, kept_taken, new_taken}
+use Rattle.bt_check.proofs.KeptTrees.{others_kept, kept_taken, new_taken}
 use Rattle.bt_check.proofs.trees.take_tree.Goals as goal
 
 pub returns-in-Some-clause-tree : goal.returns-in-Some-clause-tree

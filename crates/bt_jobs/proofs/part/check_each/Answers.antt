@@ -18,15 +18,15 @@ loop-data-init g c =
           (telling_begun d.conduct c.args.size.layer t.0 files c.args.trees.now old c.requires.ready t.1 t.2),
     )
 
-pub check-requires-clause-ready : goal.check-requires-clause-ready
-check-requires-clause-ready g c =
+pub check_next-requires-clause-ready : goal.check_next-requires-clause-ready
+check_next-requires-clause-ready g c =
     let d = g.D.Disk in
     let (layer_at, t) = c.loop-data.invariant in
     first_ready d.conduct c.args.size.layer layer_at c.in-Some.«data» _
     (subst (λ left. All (IsReadyPart c.args.size.layer) (map part_at left)) c.in-Some.ensures.steps.0 t.ready)
 
-pub check-requires-clause-trees : goal.check-requires-clause-trees
-check-requires-clause-trees g c =
+pub check_next-requires-clause-trees : goal.check_next-requires-clause-trees
+check_next-requires-clause-trees g c =
     let d = g.D.Disk in
     let (layer_at, t) = c.loop-data.invariant in
     first_next d.conduct c.args.size.layer layer_at c.args.files.items _ _ c.in-Some.«data» _ _ _ t c.in-Some.ensures.steps.0
@@ -37,7 +37,7 @@ loop-data-preserved g c =
     let (layer_at, t) = c.loop-data.invariant in (
       layer_at,
       telling_more d.conduct c.args.size.layer layer_at c.args.files.items _ _ c.in-Some.«data» _ _ _ _ _ t c.in-Some.ensures.steps.0
-          c.in_ok-check.ensures.told,
+          c.in_ok-check_next.ensures.told,
     )
 
 pub returns-clause-told : goal.returns-clause-told

@@ -3,12 +3,13 @@ use Rattle.std.specs.List.{range_with_len}
 use Rattle.std.proofs.lemmas.List.{length-map}
 use Rattle.std.proofs.lemmas.Result.{on_ok_weaker}
 use Rattle.bt_meta.specs.Files.{file_of}
+use Rattle.bt_check.specs.TreeSteps.{KeepsTrees}
 use Rattle.bt_check.proofs.CheckFault.{all_checkable}
 use Rattle.bt_jobs.specs.Plan.{AreShares}
 use Rattle.bt_jobs.specs.Trees.{GoByRoots, file_in_part, part_at}
-use Rattle.bt_jobs.specs.TreesSteps.{KeepsParts}
 use Rattle.bt_jobs.proofs.Openings.{parts_ready, shares_each}
 use Rattle.bt_jobs.proofs.PartReports.{part_report}
+use Rattle.bt_jobs.proofs.PartTrees.{parts_begun}
 use Rattle.bt_jobs.proofs.Roots.{text_by_root}
 use Rattle.bt_jobs.proofs.part.check_part.Goals as goal
 
@@ -41,8 +42,8 @@ check_each-requires-clause-trees g c =
     let roots = text_by_root c.requires.0 c.args.torrent.now c.requires.1 in (
       roots.0,
       subst (GoByRoots roots.0) (sym (c.in_ok-files.ensures.files ∙ c.files-entries.ensures.said)) roots.1,
-      subst (λ files. KeepsParts size.layer roots.0 [] (map file_in_part (map part_at files)) c.in_ok-trees.trees) c.deref-2.ensures.value
-          (c.in_ok-trees.ensures size.layer roots.0),
+      parts_begun size.layer roots.0 (map file_in_part (map part_at opened)) c.in_ok-trees.trees
+          (subst (λ files. KeepsTrees size.layer [] files c.in_ok-trees.trees) (sym c.in_ok-files.ensures.files) (c.in_ok-trees.ensures size.layer)),
     )
 
 pub returns-clause-report : goal.returns-clause-report

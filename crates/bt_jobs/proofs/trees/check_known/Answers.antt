@@ -1,8 +1,8 @@
 use Rattle.std.proofs.Common.{◌<◌, sym, ◌∙◌, subst, inr, arith}
-use Rattle.bt_check.proofs.SharedTrees.{others_kept, put_at, tree_kept}
+use Rattle.bt_check.proofs.KeptTrees.{others_after, others_kept, put_at, tree_kept}
 use Rattle.bt_jobs.specs.Share.{IsPieceEdge}
 use Rattle.bt_jobs.specs.Trees.{answers_of, file_in_part}
-use Rattle.bt_jobs.proofs.PartTrees.{nothing_checked, others_after, ready_at, share_at}
+use Rattle.bt_jobs.proofs.PartTrees.{nothing_checked, ready_at, share_at}
 use Rattle.bt_jobs.proofs.trees.check_known.Goals as goal
 
 pub check_share-requires-clause-ready : goal.check_share-requires-clause-ready

@@ -1,4 +1,4 @@
--- The entries of the greatest names were put behind those that were there. Each turn takes a name.
+-- The entries of the greatest names were put after those that were there. Each turn takes a name.
 use Rattle.std.proofs.Common.{length}
 use Rattle.std.specs.BTreeMap.{keys}
 use Rattle.bt_make.proofs.FolderWalk.{ArePut}

@@ -2,7 +2,7 @@ use Rattle.std.proofs.Common.{ap, sym, ◌∙◌}
 use Rattle.std.specs.BTreeMap.{get}
 use Rattle.bt_meta.specs.Files.{file_of}
 use Rattle.bt_check.specs.TreeSteps.{key_cmp}
-use Rattle.bt_check.proofs.SharedTrees.{tells_last, tells_none}
+use Rattle.bt_check.proofs.KeptTrees.{tells_last, tells_none}
 use Rattle.bt_check.proofs.trees.SharedTrees.is_last.Goals as goal
 
 pub returns-in-Some : goal.returns-in-Some

@@ -1,11 +1,11 @@
 -- The last of each root and length among the files so far.
 use Rattle.std.proofs.Common.{◌≡◌, ◌+◌, map, length}
-use Rattle.bt_check.specs.DataFile.{file_at}
-use Rattle.bt_check.proofs.SharedTrees.{TellsLast}
+use Rattle.bt_meta.specs.Files.{file_of}
+use Rattle.bt_check.proofs.KeptTrees.{TellsLast}
 use Rattle.bt_check.proofs.trees.SharedTrees.new.Given as goal
 
-abbrev pub invariant-loop-data : goal.invariant-loop-data
-invariant-loop-data g l = record {
-  count : l.left + l.data-index ≡ length l.files;
-  told : TellsLast (map file_at l.files) l.data-index l.last;
+abbrev pub invariant-loop-file : goal.invariant-loop-file
+invariant-loop-file l = record {
+  count : l.left + l.file-index ≡ length l.files;
+  told : TellsLast (map file_of l.files) l.file-index l.last;
 }

@@ -68,13 +68,13 @@ first_true : (a b : Bool) → (a && b) ≡ true → a ≡ true
 first_true true b e = refl
 first_true false b e = absurd (true≢false (sym e))
 
-one_root : (file other : File) → are_twins file other ≡ true → file.root ≡ other.root
+pub one_root : (file other : File) → are_twins file other ≡ true → file.root ≡ other.root
 one_root file other e = (bytes_eq-Decides file.root other.root).0 (first_true _ _ e)
 
-one_length : (file other : File) → are_twins file other ≡ true → file.length ≡ other.length
+pub one_length : (file other : File) → are_twins file other ≡ true → file.length ≡ other.length
 one_length file other e = eqb-true file.length other.length (both_true _ _ e)
 
-own_twin : (file : File) → are_twins file file ≡ true
+pub own_twin : (file : File) → are_twins file file ≡ true
 own_twin file = ap (λ b. b && file.length == file.length) ((bytes_eq-Decides file.root file.root).1 refl) ∙ same file.length
   where
     same : (m : ℕ) → (m == m) ≡ true
@@ -162,6 +162,15 @@ twin_kept layer before file other answers new same has =
     same_first [] c = refl
     same_first (x ∷ xs) c = refl
 
+-- what is kept of any file is so after a file was checked
+pub others_after : (layer : ℕ) (before : List CheckedFile) (file : File) (answers : Answers) (old new : Kept)
+    → HasTree layer (before ++ record { file = file; answers = answers } ∷ []) file new → LeavesKept file old new
+    → (other : File) → HasTree layer before other old → HasTree layer (before ++ record { file = file; answers = answers } ∷ []) other new
+others_after layer before file answers old new own others other had = elim (cases_bool (are_twins file other)) [
+  | inl same ↦ twin_kept layer before file other answers new same own
+  | inr apart ↦ other_kept layer before file other answers old new apart (others other apart) had
+]
+
 -- there is no data file, or it is known that there is one
 pub absent_checked : {D : Type 0} {conduct : Conduct D} {layer : ℕ} {file : File} {disk : Option D} {kept : Kept} {finding : Finding} → disk ≡ None
     → ((before : List CheckedFile) → IsFileFinding conduct layer before file finding None before) → ChecksFile conduct layer file disk kept finding kept
@@ -184,10 +193,7 @@ module _ (layer : ℕ) (file : File) (old new : Kept) where
       let made = checked before has in (
         before ++ record { file = file; answers = made.0 } ∷ [],
         present disk after made.0 made.1,
-        λ other had. elim (cases_bool (are_twins file other)) [
-          | inl same ↦ twin_kept layer before file other made.0 new same made.2
-          | inr apart ↦ other_kept layer before file other made.0 old new apart (others other apart) had
-        ],
+        others_after layer before file made.0 old new made.2 others,
       )
 
   -- it is empty
@@ -269,7 +275,7 @@ read_mapped f [] i x lt e = absurd (omega (arith, lt))
 read_mapped f (y ∷ xs) zero x lt e = ap (λ z. Some (f z)) (sym e)
 read_mapped f (y ∷ xs) (suc i) x lt e = read_mapped f xs i x (omega (arith, lt)) e
 
--- how many files come behind the last of each root and length among the first files
+-- how many files come after the last of each root and length among the first files
 abbrev pub TellsLast : List File → ℕ → BTreeMap Key ℕ → Type 0
 TellsLast files count last = (i : ℕ) (file : File) → i < count → slice_get files i ≡ Some file
     → (behind : ℕ) × (behind + i < length files) × (get key_cmp last (tree_key file) ≡ Some behind)
