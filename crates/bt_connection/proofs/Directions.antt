@@ -13,7 +13,7 @@ use Rattle.bt_connection.specs.TranslationSteps.{IsApart, IsOrderly, EndsWithFra
 use Rattle.bt_connection.proofs.Frames.{ends_with_frame}
 use Rattle.bt_connection.proofs.Rooms.{none_ready}
 
--- as many bytes as are wanted come, and of these so much is received
+-- as many bytes as are wanted come, and these are received
 gathered : (old new : DirectionState) (before after : Option (List ℕ)) (room room' : List ℕ) (count most : ℕ)
     → (t : IsTakenIn before after room count room') → IsWanted old most → length old.flow.unread ≡ length room → count ≤ most
     → (count ≡ 0 → 0 < most → IsAtEnd after) → Receives old.blocks old.side old.flow t.came new.flow new.waiting
@@ -56,7 +56,7 @@ module _ (side : Side) (blocks : List Ask) (passing ready : ℕ) (room : List �
 
   module _ (before after : Option (List ℕ)) (count most : ℕ) (room' : List ℕ) (t : IsTakenIn before after room count room') (wanted : IsWanted old most)
       (few : count ≤ most) (ended : count ≡ 0 → 0 < most → IsAtEnd after) where
-    -- so many of the bytes that pass
+    -- `count` of the bytes that pass
     pub pass_collected : IsApart passing (drop ready room) → 0 < passing → IsCollected before after old count (seen (passing - count) count room')
     pass_collected apart some =
         let empty : room ≡ [] = elim apart [ inl zero ↦ absurd (omega (arith, zero, some)) | inr nothing ↦ sym all_unread ∙ nothing ] in

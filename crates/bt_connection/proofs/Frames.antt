@@ -89,7 +89,7 @@ missing_few unread field w long number front =
       kind = inr (field, record { number = number; front = front; has_field = long; whole = omega (arith, less) });
     }
 
--- with no more than are missing behind them they end with a frame, if they begin with one
+-- with no more than are missing after them they end with a frame, if they begin with one
 pub ends_with_frame : (unread came : List ℕ) (missing : ℕ) → IsMissing unread missing → length came ≤ missing → EndsWithFrame (unread ++ came)
 ends_with_frame unread came missing m few n b =
     let body : List ℕ = b.frame.body in

@@ -22,7 +22,7 @@ pub shortened : (short : Ask) (frame : List ℕ) → frame ≡ message_spelling 
     → take 13 frame ++ to_be_bytes w32 short.length ++ drop (13 + 4) frame ≡ message_spelling (Request short)
 shortened short frame is = ap (λ (xs : List ℕ). take 13 xs ++ to_be_bytes w32 short.length ++ drop 17 xs) is
 
--- with zeros behind it, and the length field of a whole block, a piece is the one of the filled block
+-- with zeros after it, and the length field of a whole block, a piece is the one of the filled block
 pub filled_up : (p b : ℕ) (block frame : List ℕ) → frame ≡ message_spelling (Piece p b block) → length frame ≤ frame_room_length
     → (let all : List ℕ = frame ++ replicate (frame_room_length - length frame) 0 in take 0 all ++ to_be_bytes w32 16393 ++ drop (0 + 4) all)
     ≡ message_spelling (Piece p b (filled block))

@@ -80,7 +80,7 @@ rest_some m passes = grind (arith, nat_tests, passes)
 some_rest : (m : ℕ) → 0 < m → nat_lt 0 m ≡ true
 some_rest m lt = grind (arith, nat_tests)
 
--- the block behind the whole ones is the last one
+-- the block after the whole ones is the last one
 last_inside : (bytes : ℕ) → 0 < bytes % 16384 → bytes / 16384 < (bytes + 16383) / 16384
 last_inside bytes some = omega arith
 

@@ -1,4 +1,4 @@
--- Messages one behind the other, and what their bytes lead to.
+-- Messages one after the other, and what their bytes lead to.
 use Rattle.std.proofs.Common.{◌≡◌, ◌≤◌, ◌<◌, ℕ, ◌+◌, ◌-◌, min, List, [], ◌++◌, take, drop, length, ⊎_elim, length-drop, sym, ◌∙◌, ap, subst, arith, zero-add, length-append, take_all}
 use Rattle.std.proofs.lemmas.List.{length-take-le, take-append-drop}
 use Rattle.std.proofs.lemmas.Bool.{cases_lt}
@@ -6,7 +6,7 @@ use lib.Seq.{take-add}
 use Rattle.bt_wire.specs.Frames.{BeginsFrame, message_length}
 use Rattle.bt_connection.specs.Messages.{AreMessages, one_more, Leads, in_message, to_message, into_message}
 
--- one more message, behind those that were found
+-- one more message, after those that were found
 pub messages_more : (bytes : List ℕ) (at count : ℕ) → AreMessages (take at bytes) → BeginsFrame (drop at bytes) count
     → AreMessages (take (at + count) bytes)
 messages_more bytes at count all begins =
@@ -21,7 +21,7 @@ leads_in bytes owed more =
     subst (λ (b : List ℕ). Leads owed b left) (sym (take_all (length bytes) bytes (omega arith)))
     (subst (λ (n : ℕ). Leads n bytes left) whole (in_message bytes left))
 
--- it is, and whole messages stand behind it
+-- it is, and whole messages stand after it
 pub leads_to : (bytes : List ℕ) (owed count : ℕ) → owed ≤ length bytes → AreMessages (take count (drop owed bytes))
     → Leads owed (take (owed + count) bytes) 0
 leads_to bytes owed count within all =
@@ -58,13 +58,13 @@ stays (in_message part left) none = omega (arith, none)
 stays (to_message rest messages all) none = omega (arith, none, length-append rest messages)
 stays (into_message rest messages begin left all four whole) none = absurd (omega (arith, four, none, length-append (rest ++ messages) begin))
 
--- one more step, behind none
+-- one more step, after none
 pub leads_more : (first owed left : ℕ) (none bytes : List ℕ) → Leads first none owed → length none ≡ 0 → Leads owed bytes left
     → Leads first bytes left
 leads_more first owed left none bytes before empty after =
     subst (λ (n : ℕ). Leads n bytes left) (sym (stays before empty)) after
 
--- what may be given of bytes, where messages begin behind the rest of one
+-- what may be given of bytes, where messages begin after the rest of one
 pub leads_cut : (bytes : List ℕ) (owed begin count : ℕ) → begin ≡ min owed (length bytes) → count ≤ length (drop begin bytes)
     → AreMessages (take count (drop begin bytes)) → Leads owed (take (begin + count) bytes) (owed - begin)
 leads_cut bytes owed begin count at within all = ⊎_elim

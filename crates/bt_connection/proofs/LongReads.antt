@@ -113,7 +113,7 @@ module _ {R : Type 0} (remaining : R → Option (List ℕ)) (old mid : PaddedSta
   pub again_at_once : KeepsWhatCame remaining old mid
   again_at_once = record { came = []; mid = old; takes = none_yet; loses_nothing = loses }
 
--- ---- at the end of the reader behind
+-- ---- at the end of the inner reader
 
 module _ {R : Type 0} (remaining : R → Option (List ℕ)) where
   ended_read : (p : PaddedState R) (buffer : List ℕ) → p.waiting ≡ [] → IsAtEnd (remaining p.inner) → IsRead remaining p 0 buffer p

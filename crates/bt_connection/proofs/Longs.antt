@@ -13,7 +13,7 @@ long_later bytes at next lefts more = All-weaker (IsLongAt bytes at) (IsLongAt b
     (λ left is. record { there = is.there; message = is.message; within = omega (arith, is.within, more) })
     lefts
 
--- one more of them stands behind the others
+-- one more of them stands after the others
 pub long_more : (bytes : List ℕ) (at len most : ℕ) (lefts : List ℕ) → All (IsLongAt bytes at) lefts → BeginsFrame (drop at bytes) len
     → at ≤ length bytes → len ≡ BLOCK_MESSAGE_LEN → All (IsLongAt bytes (at + len)) (take most (lefts ++ (length bytes - at) ∷ []))
 long_more bytes at len most lefts all begins inside size =

@@ -8,7 +8,7 @@ use Rattle.bt_connection.specs.MessageSteps.{HasLong}
 use Rattle.bt_connection.proofs.Longs.{long_after}
 use Rattle.bt_connection.specs.ReadAhead.{ahead_room_length, IsOrderly}
 
--- what stands behind those that may be given stays where it is
+-- what stands after those that may be given stays where it is
 same_behind : (all front new : List ℕ) (ready count : ℕ) → all ≡ front ++ new → length front ≡ count → count ≤ ready
     → drop ready all ≡ drop (ready - count) new
 same_behind all front new ready count parts size within =
@@ -33,7 +33,7 @@ orderly_after all front new ready count order parts size within fits =
           (eq-zero-or-pos count);
     }
 
--- nothing of a message is left of those that may be given, but what stands behind those that are
+-- nothing of a message is left of those that may be given, but what stands after those that are
 pub long_after_given : (all front new : List ℕ) (ready count : ℕ) (lefts : List ℕ) → HasLong all ready lefts → all ≡ front ++ new
     → length front ≡ count → HasLong new (ready - count) lefts
 long_after_given all front new ready count lefts has parts size =

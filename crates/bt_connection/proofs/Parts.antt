@@ -132,7 +132,7 @@ module _ (torrent : Metainfo) (side : Side) where
   IsGivenOn come parts left = (given : List ℕ) × (all_given parts ≡ take come.passing (all_came parts) ++ given)
       × GivesOn blocks side left.unread (come.unread ++ drop come.passing (all_came parts)) given
 
-  -- what comes behind a part, where the first bytes of it pass
+  -- what comes after a part, where the first bytes of it pass
   passed : (come left : Flow) (part : Part) (parts : List Part) → length part.came ≤ come.passing
       → part.given ≡ part.came → IsGivenOn (flow (come.passing - length part.came) come.unread) parts left → IsGivenOn come (part ∷ parts) left
   passed come left part parts few same next =

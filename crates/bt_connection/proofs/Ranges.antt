@@ -13,7 +13,7 @@ advanced xs start count end fits =
     ∙ drop-take count rest (drop start xs)
     ∙ ap (λ (l : List ℕ). take rest l) (drop-drop count start xs)
 
--- what stands in front, with the elements behind it
+-- what stands in front, with the elements after it
 pub joined : (xs front : List ℕ) (size count : ℕ) → take size xs ≡ front
     → slice_range xs 0 (size + count) ≡ front ++ take count (drop size xs)
 joined xs front size count first =

@@ -1,4 +1,4 @@
--- What a reader takes of the one behind it and gives, and what a writer takes and gives on.
+-- What a reader takes of its inner reader and gives, and what a writer takes and gives on.
 use Rattle.std.proofs.Common.{◌≡◌, ◌<◌, ◌+◌, ℕ, List, [], ◌++◌, take, length, Option, Some, sym, ◌∙◌, ap, subst, arith, take_at, length-append}
 use Rattle.std.specs.Prelude.{min}
 use Rattle.std.specs.Io.KnownBytes.{Appends}

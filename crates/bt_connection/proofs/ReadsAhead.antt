@@ -6,7 +6,7 @@ use Rattle.bt_connection.specs.ReadAheadSteps.{KeepsAll}
 use Rattle.std.specs.Io.KnownBytes.{Consumes, Keeps, IsAtEnd, prepend_known}
 use Rattle.bt_connection.specs.ReadAhead.{ReaderState, Takes, IsFilled, IsGiven, IsRead, LosesNothing, reader_remaining}
 
--- bytes came behind those that wait, and then the first were given
+-- bytes came after those that wait, and then the first were given
 pub given_of : (before after : Option (List ℕ)) (old came front new : List ℕ) → Consumes before after came → old ++ came ≡ front ++ new
     → Consumes (prepend_known old before) (prepend_known new after) front
 given_of None after old came front new lost same = tt
@@ -17,7 +17,7 @@ given_of (Some x) (Some y) old came front new lost same =
     ∙ ap (λ (l : List ℕ). l ++ y) same
     ∙ append_assoc front new y
 
--- bytes came behind those that wait
+-- bytes came after those that wait
 kept_of : (before after : Option (List ℕ)) (old came new : List ℕ) → Consumes before after came → new ≡ old ++ came
     → Keeps (prepend_known old before) (prepend_known new after)
 kept_of None after old came new lost same = tt
@@ -89,7 +89,7 @@ module _ {R : Type 0} (remaining : R → Option (List ℕ)) where
       let at_end = fills.ended none in
       end_of (remaining filled.inner) filled.waiting at_end.1 at_end.0
 
-  -- an error of the reader behind, after other bytes came
+  -- an error of the inner reader, after other bytes came
   pub lost_after : (first now new : ReaderState R) (came : List ℕ) → Takes remaining first came now → KeepsAll remaining now new
       → first.ready ≡ 0 → now.ready ≡ 0 → first.owed ≡ now.owed → LosesNothing remaining first new
   lost_after first now new came takes keeps asked none place = record {

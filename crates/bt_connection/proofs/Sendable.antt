@@ -25,7 +25,7 @@ piece_few p b bytes fits = omega (arith, fits.limit)
 filled_length : (bytes : List ℕ) → length (filled bytes) ≡ length bytes + (16384 - length bytes)
 filled_length bytes = length-append bytes (replicate (16384 - length bytes) 0) ∙ ap (λ n. length bytes + n) (length-replicate (16384 - length bytes) 0)
 
--- with zeros behind it still is
+-- with zeros after it still is
 pub filled_fits : (p b : ℕ) (bytes : List ℕ) → CanBeSent (Piece p b bytes) → CanBeSent (Piece p b (filled bytes))
 filled_fits p b bytes can =
     let numbers = can.is_message in

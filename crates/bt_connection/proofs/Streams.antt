@@ -1,4 +1,4 @@
--- Frames one behind the other, and the events that they are.
+-- Frames one after the other, and the events that they are.
 use Rattle.std.proofs.Common.{◌≡◌, ◌≤◌, ◌+◌, ℕ, suc, true, inr, drop, Option, Some, None, List, [], ◌∷◌, ◌++◌, length, refl, sym, ◌∙◌, ap, subst, arith, length-append}
 use Rattle.std.proofs.lemmas.List.{append_assoc, append-nil}
 use Rattle.std.specs.Int.{w32, to_be_bytes}
@@ -25,7 +25,7 @@ use Rattle.bt_connection.proofs.Frames.{frame_long, one_frame}
 use Rattle.bt_connection.proofs.Parts.{given_on, no_frame}
 use Rattle.bt_connection.proofs.Sendable.{sendable_in, sendable_out}
 
--- ---- an event behind a handshake is a frame
+-- ---- an event after a handshake is a frame
 
 spelled_frame : (b : Option Body) → length_field b ≤ MAX_LENGTH_FIELD → IsFrame (frame_spelling b)
 spelled_frame None few = record { body = []; limit = omega arith; spelled = refl }

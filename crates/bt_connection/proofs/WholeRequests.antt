@@ -1,4 +1,4 @@
--- Whole requests behind whole requests are whole requests.
+-- Whole requests after whole requests are whole requests.
 use Rattle.std.proofs.Common.{◌≡◌, List, ℕ, [], ◌++◌, Option, Some, None, Result, Ok, Err, if◌then◌else◌, sym, subst, append_assoc}
 use Rattle.std.proofs.lemmas.List.{append-nil}
 use Rattle.std.specs.Prelude.{is_ok, is_some, IfSome}
@@ -14,7 +14,7 @@ behind held are no_request = subst AreRequests (sym (append-nil held)) are
 behind held are (one_more before request earlier last) =
     subst AreRequests (append_assoc held before request) (one_more (held ++ before) request (behind held are earlier) last)
 
--- put behind them, where there was memory
+-- put after them, where there was memory
 pub extended : {T E : Type 0} (held bytes new : List ℕ) (r : Result T E) → new ≡ (if is_ok r then held ++ bytes else held)
     → AreRequests held → AreRequests bytes → AreRequests new
 extended held bytes new (Ok _) are earlier later = subst AreRequests (sym are) (behind held earlier later)

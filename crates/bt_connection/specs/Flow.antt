@@ -7,7 +7,7 @@ use Rattle.bt_wire.specs.declared.handshake.TheConstants.{HANDSHAKE_LEN}
 use Rattle.bt_wire.specs.declared.frames.TheConstants.{REQUEST_FIELD, PIECE_FIELD}
 use Rattle.bt_wire.specs.Frames.{IsFrame}
 
--- how many bytes still pass as they come, and what of a frame has come behind them
+-- how many bytes still pass as they come, and what of a frame has come after them
 pub record Flow : Type 0 where
   pub passing : ℕ
   pub unread : List ℕ
@@ -36,7 +36,7 @@ pub record Waits (unread : List ℕ) : Type 0 where
   pub kind : (length unread < 4)
       ⊎ ((field : ℕ) × (to_be_bytes w32 field ≡ take 4 unread) × MayBeOfInterest unread field)
 
--- the beginning of any other message, of which so many bytes are missing
+-- the beginning of any other message, of which `missing` bytes are missing
 pub record IsOther (unread : List ℕ) (missing : ℕ) : Type 0 where
   pub field : ℕ
   pub number : field < 2 ^ 32

@@ -12,14 +12,14 @@ IsFront bytes Frame = (n : ℕ) × BeginsFrame bytes n
 IsFront bytes Part = Waits bytes
 IsFront bytes (Other missing) = IsOther bytes missing
 
--- so many bytes are missing of a frame with this length field
+-- `missing` bytes are missing of a frame with this length field
 pub record IsMissingOf (bytes : List ℕ) (missing field : ℕ) : Type 0 where
   pub number : field < 2 ^ 32
   pub front : to_be_bytes w32 field ≡ take 4 bytes
   pub has_field : 4 ≤ length bytes
   pub whole : missing + length bytes ≡ 4 + field
 
--- so many are missing of the length field, or else of the frame; and there is room for them
+-- `missing` bytes are missing of the length field, or else of the frame; and there is room for them
 pub record IsMissing (bytes : List ℕ) (missing : ℕ) : Type 0 where
   pub some : 0 < missing
   pub fits : length bytes + missing ≤ frame_room_length

@@ -42,7 +42,7 @@ RemembersShortBlocks = (blocks : List Ask) (passages : List Passage) (now : Memo
 
 -- ---- what a peer is served
 
--- The engine's piece ends where its file ends, and has zeros behind.
+-- The engine's piece ends where its file ends, and has zeros after that.
 pub record IsFilledAtEnd (torrent : Metainfo) (piece begin : ℕ) (bytes : List ℕ) (given : Message)
     : Type 0 where
   pub short : IsShortBlock torrent (ask_of piece begin (length bytes))

@@ -5,6 +5,7 @@ pub mod Messages
 pub mod MessageSteps
 pub mod ReadAhead
 pub mod ReadAheadSteps
+pub mod ObserverSteps
 -- clients that pad short blocks
 pub mod ShortBlocks
 pub mod Padding

@@ -1,4 +1,4 @@
--- The messages of a peer, one behind the other (BEP 3), and those that may carry a whole block.
+-- The messages of a peer, one after the other (BEP 3), and those that may carry a whole block.
 use Rattle.std.specs.Prelude.{◌≡◌, ℕ, ◌+◌, ◌-◌, ◌≤◌, List, [], ◌++◌, length, get_or, take, drop}
 use Rattle.bt_wire.specs.Limits.{piece_kind}
 use Rattle.bt_wire.specs.declared.frames.TheConstants.{BLOCK_MESSAGE_LEN}
@@ -14,7 +14,7 @@ pub record IsHeld (bytes : List ℕ) : Type 0 where
   pub part : HasNoMessage bytes
   pub block : MayCarryBlock bytes
 
--- messages, one behind the other
+-- messages, one after the other
 pub data AreMessages : List ℕ → Type 0 where
   no_message : AreMessages []
   one_more : (before message : List ℕ) → AreMessages before → IsFrame message
@@ -30,14 +30,14 @@ pub record IsBlockLong (message : List ℕ) : Type 0 where
   pub frame : IsFrame message
   pub size : length message ≡ BLOCK_MESSAGE_LEN
 
--- such a message begins where so many of the bytes are left, and is whole among the first `ready`
+-- such a message begins where `left` of the bytes are left, and is whole among the first `ready`
 pub record IsLongAt (bytes : List ℕ) (ready left : ℕ) : Type 0 where
   pub there : left ≤ length bytes
   pub message : IsBlockLong (take BLOCK_MESSAGE_LEN (drop (length bytes - left) bytes))
   pub within : length bytes - left + BLOCK_MESSAGE_LEN ≤ ready
 
--- Bytes before which `owed` bytes of a message were to come, and behind which `left` bytes of one are: they
--- are a part of the rest of that message; or the rest of it and whole messages; or these and the begin of a
+-- Bytes before which `owed` bytes of a message were to come, and after which `left` bytes of one are: they
+-- are a part of the rest of that message; or the rest of it and whole messages; or these and the beginning of a
 -- message.
 pub data Leads : ℕ → List ℕ → ℕ → Type 0 where
   in_message : (part : List ℕ) (left : ℕ) → Leads (length part + left) part left

@@ -7,7 +7,7 @@ use Rattle.bt_connection.specs.declared.translation.Side.{Side}
 use Rattle.bt_connection.specs.Flow.{Flow, flow, new_flow}
 use Rattle.bt_connection.specs.Translation.{Receives}
 
--- the reader or the writer behind it, where the bytes come from, the short blocks, what has come, and what a
+-- the inner reader or writer, where the bytes come from, the short blocks, what has come, and what a
 -- reader is to give of it yet
 pub record PaddedState (T : Type 0) : Type 0 where
   pub inner : T
@@ -16,14 +16,14 @@ pub record PaddedState (T : Type 0) : Type 0 where
   pub flow : Flow
   pub waiting : List ℕ
 
--- what of that one direction has, without what is behind it
+-- what of that one direction has, without its inner reader or writer
 pub record DirectionState : Type 0 where
   pub side : Side
   pub blocks : List Ask
   pub flow : Flow
   pub waiting : List ℕ
 
--- the first bytes in its room are to be given on, and those behind them came of a frame
+-- the first bytes in its room are to be given on, and those after them came of a frame
 abbrev pub direction_state : Side → (blocks : List Ask) → (passing : ℕ) → (room : List ℕ) → (ready : ℕ)
     → DirectionState
 direction_state side blocks passing room ready =
@@ -39,12 +39,12 @@ new_padded side inner blocks =
 
 -- ---- reads
 
--- how many bytes there is room for, and the reader behind gives at most at a time: a message with a whole
+-- how many bytes there is room for, and the inner reader gives at most at a time: a message with a whole
 -- block
 abbrev pub frame_room_length : ℕ
 frame_room_length = BLOCK_MESSAGE_LEN
 
--- the reader behind gave these bytes, and what is given on of them waits
+-- the inner reader gave these bytes, and what is given on of them waits
 pub record TakesPart {R : Type 0} (remaining : R → Option (List ℕ)) (old : PaddedState R) (part : List ℕ)
     (new : PaddedState R) : Type 0 where
   pub given : List ℕ
@@ -62,20 +62,20 @@ pub data TakesParts {R : Type 0} (remaining : R → Option (List ℕ)) (first : 
   one_more : (came part : List ℕ) (mid now : PaddedState R) → TakesParts remaining first came mid
       → TakesPart remaining mid part now → TakesParts remaining first (came ++ part) now
 
--- until something waits, or to the end of the reader behind
+-- until something waits, or to the end of the inner reader
 pub record IsFilled {R : Type 0} (remaining : R → Option (List ℕ)) (old new : PaddedState R) : Type 0 where
   pub came : List ℕ
   pub takes : TakesParts remaining old came new
   pub ended : new.waiting ≡ [] → IsAtEnd (remaining new.inner)
 
--- so many of the bytes that wait are given, in their order; none only where there is no room or none waits
+-- `count` of the bytes that wait are given, in their order; none only where there is no room or none waits
 pub record IsGiven {R : Type 0} (old : PaddedState R) (count : ℕ) (buffer : List ℕ) (new : PaddedState R)
     : Type 0 where
   pub first : old.waiting ≡ take count buffer ++ new.waiting
   pub all : count ≡ 0 → 0 < length buffer → new.waiting ≡ []
   pub others : new ≡ record old { waiting = new.waiting }
 
--- what a read gives: none only where there is no room, or at the end of the reader behind
+-- what a read gives: none only where there is no room, or at the end of the inner reader
 pub record IsRead {R : Type 0} (remaining : R → Option (List ℕ)) (old : PaddedState R) (count : ℕ)
     (buffer : List ℕ) (new : PaddedState R) : Type 0 where
   pub filled : PaddedState R
@@ -83,7 +83,7 @@ pub record IsRead {R : Type 0} (remaining : R → Option (List ℕ)) (old : Padd
   pub gives : IsGiven filled count buffer new
   pub ended : count ≡ 0 → 0 < length buffer → IsAtEnd (remaining new.inner)
 
--- the reader behind keeps its bytes, and all else is as it was
+-- the inner reader keeps its bytes, and all else is as it was
 pub record LosesNothing {R : Type 0} (remaining : R → Option (List ℕ)) (old new : PaddedState R)
     : Type 0 where
   pub kept : Keeps (remaining old.inner) (remaining new.inner)
@@ -99,7 +99,7 @@ pub record KeepsWhatCame {R : Type 0} (remaining : R → Option (List ℕ)) (old
 
 -- ---- writes
 
--- so many of the bytes are taken, some where there are any, and what is given on of them is written
+-- `count` of the bytes are taken, some where there are any, and what is given on of them is written
 pub record IsWritten {W : Type 0} (contents : W → Option (List ℕ)) (old : PaddedState W) (bytes : List ℕ)
     (count : ℕ) (new : PaddedState W) : Type 0 where
   pub given : List ℕ

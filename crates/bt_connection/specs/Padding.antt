@@ -1,5 +1,5 @@
 -- Messages between an engine and a peer that counts each block as 16,384 bytes, the short last block of a
--- file too: it asks for so many there, and wants them filled up with zeros.
+-- file too: it asks for as many there, and wants them filled up with zeros.
 use Rattle.std.specs.Prelude.{◌≡◌, ℕ, ◌-◌, List, ◌∷◌, ◌++◌, [], length, drop, replicate, Contains}
 use Rattle.bt_tree.specs.Limits.{full_block_length}
 use Rattle.bt_wire.specs.declared.message.Ask.{Ask}
@@ -16,7 +16,7 @@ Memory = List Ask
 abbrev pub new_memory : Memory
 new_memory = []
 
--- with one request more; beyond the limit the oldest is forgotten
+-- what is remembered, with one request more; beyond the limit the oldest is forgotten
 abbrev pub with_asked : Memory → Ask → Memory
 with_asked asked ask = drop (length asked - (MAX_REMEMBERED - 1)) asked ++ ask ∷ []
 
@@ -30,7 +30,7 @@ pub record IsTaken (old : Memory) (ask : Ask) (new : Memory) : Type 0 where
 
 -- ---- what comes in
 
--- one of these short blocks, asked for with its padding
+-- the message asks for one of these short blocks with its padding
 abbrev pub AsksPadded : (blocks : List Ask) → Message → Ask → Type 0
 AsksPadded blocks m ask = Contains blocks ask × (m ≡ Request (padded ask))
 
@@ -51,7 +51,7 @@ pub record Answers (blocks : List Ask) (old : Memory) (m : Message) (ask : Ask) 
   pub whole : length bytes ≡ ask.length
   pub message : m ≡ Piece ask.piece ask.begin bytes
 
--- with zeros behind, up to the length of a block
+-- the bytes with zeros at the end, up to the length of a block
 abbrev pub filled : List ℕ → List ℕ
 filled bytes = bytes ++ replicate (full_block_length - length bytes) 0
 

@@ -8,7 +8,7 @@ use Rattle.bt_connection.specs.Messages.{IsHeld, Leads}
 abbrev pub ahead_room_length : ℕ
 ahead_room_length = 135168
 
--- the reader behind it, what was read and is not given, how many of these bytes may be given, and how many
+-- the inner reader, what was read and is not given, how many of these bytes may be given, and how many
 -- are to come yet of a message that is given as it comes
 pub record ReaderState (R : Type 0) : Type 0 where
   pub inner : R
@@ -16,32 +16,32 @@ pub record ReaderState (R : Type 0) : Type 0 where
   pub ready : ℕ
   pub owed : ℕ
 
--- at a connection's begin
+-- at a connection's beginning
 abbrev pub new_reader : {R : Type 0} → R → ReaderState R
 new_reader inner = record { inner = inner; waiting = []; ready = 0; owed = HANDSHAKE_LEN }
 
--- what is to be read of it: what waits, and then what the reader behind has left
+-- what is to be read of it: what waits, and then what the inner reader has left
 abbrev pub reader_remaining : {R : Type 0} → (R → Option (List ℕ)) → ReaderState R → Option (List ℕ)
 reader_remaining remaining s = prepend_known s.waiting (remaining s.inner)
 
--- so many of the bytes that wait may be given, some where the room is full; what is behind them is held back
+-- the first `ready` of the bytes that wait may be given, some where the room is full; what comes after them is kept
 pub record IsOrderly (waiting : List ℕ) (ready : ℕ) : Type 0 where
   pub within : ready ≤ length waiting
   pub held : IsHeld (drop ready waiting)
   pub some : ready ≡ 0 → length waiting < ahead_room_length
 
--- Behind the bytes that may be given nothing is held back but the begin of a message that may carry a whole
+-- After the bytes that may be given nothing is held back but the beginning of a message that may carry a whole
 -- block: what shows a fault is given as it comes.
 abbrev pub HoldsBlockAlone : {R : Type 0} → ReaderState R → Type 0
 HoldsBlockAlone s = IsHeld (drop s.ready s.waiting)
 
--- the reader behind gave these bytes, and they wait behind the others
+-- the inner reader gave these bytes, and they wait after the others
 pub record Takes {R : Type 0} (remaining : R → Option (List ℕ)) (old : ReaderState R) (came : List ℕ)
     (new : ReaderState R) : Type 0 where
   pub lost : Consumes (remaining old.inner) (remaining new.inner) came
   pub waits : new.waiting ≡ old.waiting ++ came
 
--- Until something may be given, or to the end; the reader behind is not asked where something may be given.
+-- Until something may be given, or to the end; the inner reader is not asked where something may be given.
 -- What may be given is told by messages, but for what is left at the end.
 pub record IsFilled {R : Type 0} (remaining : R → Option (List ℕ)) (old new : ReaderState R) : Type 0 where
   pub came : List ℕ
@@ -51,7 +51,7 @@ pub record IsFilled {R : Type 0} (remaining : R → Option (List ℕ)) (old new 
   pub leads : old.ready ≡ 0 → (Leads old.owed (take new.ready new.waiting) new.owed)
       ⊎ (IsAtEnd (remaining new.inner) × (new.ready ≡ length new.waiting))
 
--- of the bytes that may be given so many are, in their order: as many as there is room for
+-- of the bytes that may be given, `count` are given, in their order: as many as there is room for
 pub record IsGiven {R : Type 0} (old : ReaderState R) (count : ℕ) (buffer : List ℕ) (new : ReaderState R)
     : Type 0 where
   pub count_is : count ≡ min old.ready (length buffer)

@@ -1,10 +1,10 @@
--- What one read of the reader behind does.
+-- What one read of the inner reader does.
 use Rattle.std.specs.Prelude.{◌≡◌, ℕ, ◌<◌, List, ◌++◌, Option, length, take}
 use Rattle.std.specs.Io.KnownBytes.{IsAtEnd, Keeps}
 use Rattle.bt_connection.specs.Messages.{Leads, IsBlockLong}
 use Rattle.bt_connection.specs.ReadAhead.{ahead_room_length, ReaderState, Takes}
 
--- so many bytes came, none at the end, where all that waits may be given
+-- `count` bytes came, none at the end, where all that waits may be given
 pub record IsRefilled {R : Type 0} (remaining : R → Option (List ℕ)) (old : ReaderState R) (count : ℕ)
     (new : ReaderState R) : Type 0 where
   pub came : List ℕ
@@ -15,7 +15,7 @@ pub record IsRefilled {R : Type 0} (remaining : R → Option (List ℕ)) (old : 
   pub ended : count ≡ 0 → IsAtEnd (remaining new.inner)
   pub all : count ≡ 0 → new.ready ≡ length new.waiting
 
--- the reader behind keeps its bytes, and all else is as it was
+-- the inner reader keeps its bytes, and all else is as it was
 pub record KeepsAll {R : Type 0} (remaining : R → Option (List ℕ)) (old new : ReaderState R) : Type 0 where
   pub kept : Keeps (remaining old.inner) (remaining new.inner)
   pub others : new ≡ record old { inner = new.inner }

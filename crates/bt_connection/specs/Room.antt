@@ -2,7 +2,7 @@
 use Rattle.std.specs.Prelude.{◌≡◌, ℕ, List, ◌++◌, Option, length}
 use Rattle.std.specs.Io.KnownBytes.{Consumes}
 
--- so many bytes came of a reader, and stand behind the others
+-- `count` bytes came of a reader, and stand after the others
 pub record IsTakenIn (before after : Option (List ℕ)) (old : List ℕ) (count : ℕ) (new : List ℕ) : Type 0 where
   pub came : List ℕ
   pub size : length came ≡ count

@@ -15,7 +15,7 @@ ask_of piece begin length = record { piece = piece; begin = begin; length = leng
 abbrev pub padded : Ask → Ask
 padded ask = record ask { length = full_block_length }
 
--- the file has bytes behind its whole blocks
+-- the file has bytes after its whole blocks
 abbrev pub has_short_block : File → Bool
 has_short_block file = nat_lt 0 (file.length % full_block_length)
 
@@ -29,7 +29,7 @@ short_block piece_length file =
 unfoldable pub short_blocks_of : Metainfo → List Ask
 short_blocks_of torrent = map (short_block torrent.piece_length) (filter has_short_block torrent.files)
 
--- each stands in a piece of its own, behind those of the ones before
+-- each stands in a piece of its own, after those of the ones before
 abbrev pub AreInTurn : List Ask → Type 0
 AreInTurn blocks = AllPairs (λ ask later. ask.piece < later.piece) blocks
 

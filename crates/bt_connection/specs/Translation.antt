@@ -24,7 +24,7 @@ pub record Gives (blocks : List Ask) (side : Side) (old : Memory) (frame given :
   pub bytes : ((m : Message) → ¬ IsSent m frame) → given ≡ frame
   pub memory : ((m : Message) → ¬ IsSent m frame) → new ≡ old
 
--- What becomes of bytes behind those that pass, and what is given on of them. They wait. Or they are the
+-- What becomes of bytes after those that pass, and what is given on of them. They wait. Or they are the
 -- beginning of a message of no interest, and pass, as what is missing of it will. Or they are a frame: the two
 -- directions of a connection share what is remembered, so some memory is found and some is kept; of what
 -- becomes of it until the next frame nothing is said, since no contract knows what a cell holds.
@@ -36,7 +36,7 @@ pub data Settles (blocks : List Ask) (side : Side) (come : List ℕ) (left : Flo
   translated : (found kept : Memory) → IsFrame come → Gives blocks side found come given kept
       → left ≡ flow 0 [] → Settles blocks side come left given
 
--- Bytes of a side come, and this is given on: they pass, no more of them than do; or they stand behind what
+-- Bytes of a side come, and this is given on: they pass, no more of them than do; or they stand after what
 -- has come.
 pub data Receives (blocks : List Ask) (side : Side) (come : Flow) (bytes : List ℕ) (left : Flow)
     (given : List ℕ) : Type 0 where

@@ -36,7 +36,7 @@ all_given parts = flat_map (λ part. part.given) parts
 abbrev pub BeginsWithNoFrame : List ℕ → Type 0
 BeginsWithNoFrame bytes = (frame rest : List ℕ) → IsFrame frame → bytes ≢ frame ++ rest
 
--- For each frame of a stream stands what is given on in its place; of a rest that begins with none, so much is
+-- For each frame of a stream stands what is given on in its place; of a rest that begins with none, `held` is
 -- held back, and what stands before that is given on as it is.
 pub data GivesOn (blocks : List Ask) (side : Side) (held : List ℕ) : (came given : List ℕ) → Type 0 where
   ends : (came given : List ℕ) → BeginsWithNoFrame came → came ≡ given ++ held
@@ -47,14 +47,14 @@ pub data GivesOn (blocks : List Ask) (side : Side) (held : List ℕ) : (came giv
 
 -- ---- event by event
 
--- the bytes are these events, one behind the other, and nothing else; a handshake has come before
+-- the bytes are these events, one after the other, and nothing else; a handshake has come before
 abbrev pub AreEvents : List WireEvent → List ℕ → Type 0
 AreEvents [] bytes = bytes ≡ []
 AreEvents (e ∷ events) bytes =
     (front : List ℕ) × (back : List ℕ)
     × IsEvent true e front × (bytes ≡ front ++ back) × AreEvents events back
 
--- as many whole events are given on, and behind them what is given on of the rest
+-- as many whole events are given on, and after them what is given on of the rest
 pub record GivesEvents (blocks : List Ask) (side : Side) (held : List ℕ) (came : List WireEvent)
     (rest given : List ℕ) : Type 0 where
   pub gone : List WireEvent
@@ -65,7 +65,7 @@ pub record GivesEvents (blocks : List Ask) (side : Side) (held : List ℕ) (came
   pub behind : GivesOn blocks side held rest back
   pub all : given ≡ front ++ back
 
--- Over all that a side sends, in any parts, a handshake passes as it is, and what is given on behind it is a
+-- Over all that a side sends, in any parts, a handshake passes as it is, and what is given on after it is a
 -- stream as far as what came is one.
 abbrev pub GivesStreams : Type 0
 GivesStreams = (torrent : Metainfo) (side : Side) (parts : List Part) (left : Flow) (came : List WireEvent)

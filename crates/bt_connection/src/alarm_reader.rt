@@ -5,7 +5,8 @@ use bt_devices::Alarm;
 use std::io::{self, ErrorKind, Read};
 use std::marker::Model;
 
-/// A reader that gives nothing more while an alarm rings: each read fails then. Else it is what it has inside.
+/// A reader that gives nothing more while an alarm rings: each read fails then. Else it gives what its inner
+/// reader gives.
 #[derive(Drop)]
 pub struct AlarmReader<'a, R> {
     inner: R,
@@ -19,6 +20,7 @@ impl<'a, R> Model for AlarmReader<'a, R> {
 }
 
 impl<'a, R> AlarmReader<'a, R> {
+    /// A reader of `inner` that fails while the alarm rings.
     pub fn new(inner: R, alarm: &'a Alarm) -> Self
         ensures { result ≡ inner }
     {
@@ -29,7 +31,7 @@ impl<'a, R> AlarmReader<'a, R> {
 impl<'a, R: Read> Read for AlarmReader<'a, R> {
     ghost remaining = { λ r. R.remaining r };
 
-    /// Errors: those of the reader inside, and `Other` while the alarm rings, where nothing is read.
+    /// Errors: those of the inner reader, and `Other` while the alarm rings, where nothing is read.
     fn read(&mut self, buffer: &mut [u8]) -> io::Result<usize> {
         if self.alarm.is_ringing() {
             return Err(io::Error::from(ErrorKind::Other));

@@ -9,10 +9,10 @@ use bt_tree::BLOCK_LEN;
 use bt_wire::frames::PIECE_HEAD_LEN;
 use std::marker::Model;
 
-/// There is room for no more such messages (`AheadRoom`), and so many blocks are digested together,
+/// How many messages with a whole block there is room for (`AheadRoom`), and how many blocks are digested together.
 const COUNT: usize = 8;
 
-/// of which so many have to be there: the lanes of those that are missing cost as much as the others.
+/// How many of these blocks have to be there at least: the lanes of those that are missing cost as much as the others.
 const FEWEST: usize = 5;
 
 /// Where the first eight messages with a whole block begin, each by how many bytes are left there. So nothing changes
@@ -39,7 +39,7 @@ impl Blocks {
         }
     }
 
-    /// Notes one more, behind the others. Where eight are known, nothing is done.
+    /// Notes one more, after the others. Where eight are known, nothing is done.
     pub(crate) fn push(&mut self, left: usize)
         ensures { self.new ≡ take COUNT (self.old ++ left ∷ []) }
     {
@@ -48,7 +48,7 @@ impl Blocks {
         }
     }
 
-    /// Whether one begins where so many bytes are left.
+    /// Whether one of them begins where `left` bytes are left.
     pub(crate) fn begin_at(&self, left: usize) -> bool
         ensures { IsTrue result ↔ Contains self.now left }
     {

@@ -16,7 +16,7 @@ pub(crate) enum Front {
     Frame,
     /// What may become a message that is translated.
     Part,
-    /// Another message, of which so many bytes are missing.
+    /// Another message, and how many bytes of it are missing.
     Other(usize),
 }
 
@@ -39,7 +39,7 @@ pub(crate) fn front_of(bytes: &[u8]) -> Front
     }
 }
 
-/// How many bytes are missing behind these until there is a length field, or else until the frame is whole.
+/// How many bytes are missing after these until there is a length field, or else until the frame is whole.
 pub(crate) fn missing_of(bytes: &[u8]) -> usize
     requires { Waits bytes.now }
     ensures { IsMissing bytes.now result }

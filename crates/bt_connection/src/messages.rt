@@ -9,12 +9,12 @@ use crate::blocks::Blocks;
 use crate::observer::{Observer, Rest, tell_message};
 use bt_wire::frames::{BLOCK_MESSAGE_LEN, LENGTH_LEN, PIECE, first_message, message_len};
 
-/// Messages one behind the other.
+/// Messages one after the other.
 #[derive(Drop)]
 struct Run {
-    /// They have so many bytes.
+    /// How many bytes they have.
     len: usize,
-    /// Those that carry a whole block.
+    /// The messages among them that carry a whole block.
     blocks: Blocks,
 }
 
@@ -62,18 +62,18 @@ fn may_carry_block(part: &[u8]) -> bool
 /// Where bytes that wait are cut.
 #[derive(Drop)]
 pub(crate) struct Cut {
-    /// So many bytes may be given,
+    /// How many bytes may be given,
     pub(crate) ready: usize,
-    /// and these messages among them carry a whole block.
+    /// and which messages among them carry a whole block.
     pub(crate) blocks: Blocks,
-    /// So many bytes are to come of a message that is given as it comes,
+    /// How many bytes are to come of a message that is given as it comes,
     pub(crate) owed: usize,
-    /// and they are this.
+    /// and what they are.
     pub(crate) rest: Rest,
 }
 
 /// Cuts bytes of which the first `owed` are the rest of a message that is given as it comes: these may be
-/// given, as far as they are there, and the whole messages behind them, and what there is of one that can't carry
+/// given, as far as they are there, and the whole messages after them, and what there is of one that can't carry
 /// a whole block.
 fn cut_messages<O: Observer>(owed: usize, rest: Rest, bytes: &[u8], observer: &O) -> Cut
     ensures cut { IsCut bytes.now result }
@@ -102,7 +102,7 @@ fn cut_messages<O: Observer>(owed: usize, rest: Rest, bytes: &[u8], observer: &O
 }
 
 /// Cuts bytes that wait, of which `count` came by the last read, and tells what came. Where none came, all may be
-/// given, and so may whatever comes behind an end.
+/// given, and so may whatever comes after an end.
 pub(crate) fn cut_behind<O: Observer>(
     count: usize,
     owed: usize,

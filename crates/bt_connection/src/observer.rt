@@ -1,4 +1,6 @@
 //! Who is told what a peer sends, as it comes.
+ghost use Rattle.std.specs.Prelude.{◌≡◌};
+ghost use Rattle.bt_connection.specs.ObserverSteps.{IsArrivalOf};
 
 use bt_hashreq::number_at;
 use bt_wire::Ask;
@@ -11,7 +13,7 @@ pub enum Arrival {
     Handshake,
     /// A message without a kind, by which a connection is kept alive.
     KeepAlive,
-    /// A part of a bitfield, in which so many bits are set. It may come in several, and behind the last of
+    /// A part of a bitfield, and how many bits are set in it. It may come in several, and after the last of
     /// them it is told as a message.
     Bits(u64),
     /// A piece with the bytes of this range, whole.
@@ -26,7 +28,7 @@ pub trait Observer {
     fn came(&self, arrival: Arrival);
 }
 
-/// The payload of a piece begins with so many bytes: its index, and where its block begins.
+/// How many bytes the payload of a piece begins with: its index, and where its block begins.
 const PLACE_LEN: usize = 8;
 
 /// What has come of the payload of a piece.
@@ -34,12 +36,14 @@ const PLACE_LEN: usize = 8;
 pub(crate) struct PiecePayload {
     /// The first bytes of it, as far as they have come.
     place: [u8; PLACE_LEN],
-    /// So many bytes have come.
+    /// How many bytes have come.
     len: usize,
 }
 
 impl PiecePayload {
-    fn new() -> Self {
+    fn new() -> Self
+        ensures { result.len ≡ 0 }
+    {
         PiecePayload {
             place: [0; PLACE_LEN],
             len: 0,
@@ -56,7 +60,9 @@ impl PiecePayload {
     }
 
     /// What came, where this is all.
-    fn arrival(&self) -> Arrival {
+    fn arrival(&self) -> Arrival
+        ensures { IsArrivalOf self.now result }
+    {
         match self.len.checked_sub(PLACE_LEN) {
             Some(len) => Arrival::Block(Ask {
                 piece: number_at(&self.place, 0),
@@ -71,12 +77,12 @@ impl PiecePayload {
 /// What is to come of a handshake or a message that is given as it comes.
 #[derive(Clone, Copy)]
 pub(crate) enum Rest {
-    /// Nothing, or what nobody is told of: bytes behind an end.
+    /// Nothing, or what nobody is told of: bytes after an end.
     Nothing,
     Handshake,
     /// All but the length of a message.
     Message,
-    /// The payload of a piece, behind what has come of it.
+    /// The payload of a piece, after what has come of it.
     Piece(PiecePayload),
     /// The payload of another message, of this kind.
     Payload(u8),
@@ -91,7 +97,7 @@ impl Rest {
         }
     }
 
-    /// Tells of the next bytes of it, which may be the last ones, and says what is to come behind them.
+    /// Tells of the next bytes of it, which may be the last ones, and says what is to come after them.
     pub(crate) fn tell<O: Observer>(self, observer: &O, part: &[u8], is_last: bool) -> Rest {
         let rest = self.tell_part(observer, part);
         if !is_last {
@@ -106,7 +112,7 @@ impl Rest {
         Rest::Nothing
     }
 
-    /// Tells of what the next bytes have of a payload, and says what is to come behind them where they are
+    /// Tells of what the next bytes have of a payload, and says what is to come after them where they are
     /// not the last ones.
     fn tell_part<O: Observer>(self, observer: &O, part: &[u8]) -> Rest {
         match (self, part) {
@@ -117,7 +123,8 @@ impl Rest {
         }
     }
 
-    /// The same, where the next bytes have no kind.
+    /// Tells of what the next bytes have of a payload, where they don't begin with a kind, and says what is to come
+    /// after them where they are not the last ones.
     fn tell_payload<O: Observer>(self, observer: &O, part: &[u8]) -> Rest {
         match self {
             Rest::Piece(payload) => Rest::Piece(payload.with(part)),

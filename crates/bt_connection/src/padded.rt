@@ -36,7 +36,7 @@ impl<'a, T> Model for Padded<'a, T> {
 }
 
 impl<'a, T> Padded<'a, T> {
-    /// One at a connection's begin. What is in the room is forgotten.
+    /// A reader or a writer at a connection's beginning. What is in the room is forgotten.
     pub fn new(
         side: Side,
         inner: T,
@@ -77,9 +77,9 @@ impl<'a, R: Read> Padded<'a, R> {
 }
 
 impl<'a, R: Read, O: Observer> Padded<'a, ReadAhead<'a, R, O>> {
-    /// Gives of a message that is longer than a request, where the reader behind knows that one comes next, and
+    /// Gives of a message that is longer than a request, where the inner reader knows that one comes next, and
     /// says how many bytes; or says 0, where that reader is at its end. None: something else comes, or it is not
-    /// known. Errors: those of the reader behind.
+    /// known. Errors: those of the inner reader.
     fn read_long(&mut self, buffer: &mut [u8]) -> io::Result<Option<usize>>
         ensures bound { IfOk result (λ found. IfSome found (λ count. count ≤ length buffer.new)) }
         ensures given { IfOk result (λ found. IfSome found (λ count.
@@ -105,7 +105,7 @@ impl<'a, R: Read, O: Observer> Padded<'a, ReadAhead<'a, R, O>> {
 
 // What is to come depends on what is remembered by then, so it is not known.
 impl<'a, R: Read, O: Observer> Read for Padded<'a, ReadAhead<'a, R, O>> {
-    /// Reads until something waits to be given, or to the end. Errors: those of the reader behind. After each the read
+    /// Reads until something waits to be given, or to the end. Errors: those of the inner reader. After each the read
     /// may be made again, and nothing is lost.
     fn read(&mut self, buffer: &mut [u8]) -> io::Result<usize>
         ensures bound { ReadsAtMost result buffer.new }
@@ -137,10 +137,10 @@ impl<'a, W: Write> Padded<'a, W> {
     }
 }
 
-// What the writer behind holds depends on what is remembered, so it is not known of this one.
+// What the inner writer holds depends on what is remembered, so it is not known of this one.
 impl<'a, W: Write> Write for Padded<'a, W> {
-    /// Takes some of the bytes, to the end of a message at most, and writes what is given on. Errors: the writer
-    /// behind failed. A part of the bytes may have been taken then, so the error is none after which a caller tries
+    /// Takes some of the bytes, to the end of a message at most, and writes what is given on. Errors: the inner writer
+    /// failed. A part of the bytes may have been taken then, so the error is none after which a caller tries
     /// again.
     fn write(&mut self, bytes: &[u8]) -> io::Result<usize>
         ensures bound { WritesAtMost result bytes.now }

@@ -39,7 +39,8 @@ impl Model for Padding {
 }
 
 impl Padding {
-    /// Nothing is remembered. All the memory that is ever taken for it is taken here. Errors: out of memory.
+    /// A padding that remembers nothing yet. All the memory that is ever taken for it is taken here. Errors: out of
+    /// memory.
     pub fn new(alloc: Global) -> Result<Self, AllocError>
         ensures { IfOk result (λ padding. padding ≡ new_memory) }
     {

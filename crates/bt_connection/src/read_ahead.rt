@@ -18,7 +18,7 @@ use std::io;
 use std::io::Read;
 use std::marker::Model;
 
-/// For so many bytes there is room (`ahead_room_length`): eight messages of a whole block each, and a part
+/// How many bytes there is room for (`ahead_room_length`): eight messages of a whole block each, and a part
 /// of one more.
 const ROOM_LEN: usize = 135_168;
 
@@ -28,8 +28,8 @@ pub type AheadRoom = Room<ROOM_LEN>;
 /// A reader of what a peer sends, which reads ahead of its engine, tells an observer what comes, and has the blocks
 /// in it digested eight at a time, before the engine asks for their digests one by one.
 ///
-/// It gives just the bytes of the reader behind, in order, whatever they are. Those of a message that may carry
-/// a whole block wait until it is whole or the reader behind has ended; all others may be given as they come,
+/// It gives just the bytes of the inner reader, in order, whatever they are. Those of a message that may carry
+/// a whole block wait until it is whole or the inner reader has ended; all others may be given as they come,
 /// since they may show a fault. While something may be given, that reader is not asked, since it could wait for
 /// ever.
 #[derive(Drop)]
@@ -38,13 +38,13 @@ pub struct ReadAhead<'a, R, O> {
     cache: &'a RefCell<DigestCache>,
     observer: &'a O,
     room: RefMut<'a, AheadRoom>,
-    /// So many of the bytes in the room may be given,
+    /// How many of the bytes in the room may be given,
     ready: usize,
-    /// and these messages among them carry a whole block; those that were given stay noted.
+    /// which messages among them carry a whole block; those that were given stay noted.
     blocks: Blocks,
-    /// So many bytes are to come of a message that is given as it comes; then all in the room may be given.
+    /// How many bytes are to come of a message that is given as it comes; while some are, all in the room may be given.
     owed: usize,
-    /// What these bytes are.
+    /// What the bytes that are to come are.
     rest: Rest,
 }
 
@@ -67,7 +67,7 @@ impl<'a, R, O> Model for ReadAhead<'a, R, O> {
 }
 
 impl<'a, R: Drop, O> ReadAhead<'a, R, O> {
-    /// A reader at a connection's begin. What is in the room is forgotten. It takes no memory.
+    /// A reader at a connection's beginning. What is in the room is forgotten. It takes no memory.
     pub fn new(
         inner: R,
         cache: &'a RefCell<DigestCache>,
@@ -131,7 +131,7 @@ impl<'a, R, O> ReadAhead<'a, R, O> {
 
 impl<'a, R: Read, O: Observer> ReadAhead<'a, R, O> {
     /// Reads once, and looks what may be given now: how many bytes came, none at the end. What came is told, and
-    /// the blocks in it are digested. Errors: those of the reader behind.
+    /// the blocks in it are digested. Errors: those of the inner reader.
     fn refill(&mut self) -> io::Result<usize>
         requires { self.old.ready ≡ 0 }
         ensures refilled { IfOk result (λ count. IsRefilled R.remaining self.old count self.new) }
@@ -168,7 +168,7 @@ impl<'a, R: Read, O: Observer> ReadAhead<'a, R, O> {
 impl<'a, R: Read, O: Observer> Read for ReadAhead<'a, R, O> {
     ghost remaining = { reader_remaining R.remaining };
 
-    /// Errors: those of the reader behind. After each of them, Interrupted too, the read may be made again,
+    /// Errors: those of the inner reader. After each of them, Interrupted too, the read may be made again,
     /// and nothing is lost.
     fn read(&mut self, buffer: &mut [u8]) -> io::Result<usize>
         ensures bound { ReadsAtMost result buffer.new }

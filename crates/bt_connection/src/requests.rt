@@ -1,5 +1,5 @@
 //! Requests that are sent together, right before their connection is read: a peer that gets several at once
-//! answers them without being waked for each.
+//! answers them without being woken for each.
 ghost use Rattle.std.specs.Prelude.{◌≡◌, ◌≤◌, ℕ, List, [], ◌++◌, length, take, IfOk, OnOk};
 ghost use Rattle.std.specs.Bool.{OnTrue, OnFalse};
 ghost use Rattle.std.specs.Io.{ReadsAtMost, WritesAtMost};
@@ -14,7 +14,7 @@ use std::cell::RefCell;
 use std::io::{self, Read, Write};
 use std::marker::Model;
 
-/// For so many bytes there is room: 64 requests, four times as many as an engine asks one peer for.
+/// How many bytes there is room for: 64 requests, four times as many as an engine asks one peer for.
 const ROOM_LEN: usize = 64 * REQUEST_LEN;
 
 /// Requests that were written and are not sent yet: whole ones, and nothing else. So whoever borrows them
@@ -36,7 +36,7 @@ impl Model for Requests {
 }
 
 impl Requests {
-    /// None yet. All the memory that is ever taken for them is taken here. Errors: out of memory.
+    /// No requests yet. All the memory that is ever taken for them is taken here. Errors: out of memory.
     pub fn new(alloc: Global) -> Result<Self, AllocError>
         ensures { IfOk result (λ requests. requests ≡ []) }
     {
@@ -45,14 +45,14 @@ impl Requests {
         })
     }
 
-    /// Forgets them, as for a connection that begins.
+    /// Forgets the requests, as for a connection that begins.
     pub fn forget(&mut self)
         ensures { self.new ≡ [] }
     {
         self.bytes.clear();
     }
 
-    /// Takes bytes behind those that are held already, where they are requests and nothing else, and there is
+    /// Takes bytes after those that are held already, where they are requests and nothing else, and there is
     /// room. Says whether it did.
     fn hold(&mut self, bytes: &[u8]) -> bool
         ensures held { OnTrue result (self.new ≡ self.old ++ bytes.now) }
@@ -88,7 +88,7 @@ fn begins_request(bytes: &[u8]) -> bool
     read_request(&bytes[..REQUEST_LEN]).is_some()
 }
 
-/// Whether these bytes are requests, one behind the other, and nothing else.
+/// Whether these bytes are requests, one after the other, and nothing else.
 fn are_requests(bytes: &[u8]) -> bool
     ensures { OnTrue result (AreRequests bytes.now) }
 {
@@ -137,6 +137,7 @@ impl<'a, W> Model for HoldingWriter<'a, W> {
 }
 
 impl<'a, W> HoldingWriter<'a, W> {
+    /// A writer to `inner` that holds back the requests that are written to it, in `requests`.
     pub fn new(inner: W, requests: &'a RefCell<Requests>) -> Self
         ensures { result ≡ inner }
     {
@@ -144,13 +145,13 @@ impl<'a, W> HoldingWriter<'a, W> {
     }
 }
 
-// What lies in a cell no clause knows, so it is not known what the writer behind has got of what was written.
+// What lies in a cell no clause knows, so it is not known what the inner writer has got of what was written.
 impl<'a, W: Write> Write for HoldingWriter<'a, W> {
     ghost use Rattle.std.specs.Prelude.{None};
 
     ghost contents = { λ _. None };
 
-    /// Errors: those of the writer behind. What was held is lost where it can't be sent, and the connection is
+    /// Errors: those of the inner writer. What was held is lost where it can't be sent, and the connection is
     /// to be closed.
     fn write(&mut self, bytes: &[u8]) -> io::Result<usize>
         ensures bound { WritesAtMost result bytes.now }
@@ -186,6 +187,7 @@ impl<'a, S> Model for SendingReader<'a, S> {
 }
 
 impl<'a, S> SendingReader<'a, S> {
+    /// A reader of `inner` that first sends the requests that are held in `requests`.
     pub fn new(inner: S, requests: &'a RefCell<Requests>) -> Self
         ensures { result ≡ inner }
     {

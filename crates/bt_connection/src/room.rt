@@ -7,11 +7,11 @@ use std::alloc::{AllocError, Global};
 use std::io::{self, Read};
 use std::marker::Model;
 
-/// Room for so many bytes, and those that are in it. A reader or a writer may borrow it for as long as it is there.
+/// Room for `LEN` bytes, and those that are in it. A reader or a writer may borrow it for as long as it is there.
 #[derive(Drop)]
 pub struct Room<const LEN: usize> {
     bytes: Vec<u8>,
-    /// Those from `start` to `end` are in it, so none is moved where some are given.
+    /// The bytes from `start` to `end` are in it, so none is moved where some are given.
     start: usize,
     end: usize,
 }
@@ -55,7 +55,7 @@ impl<const LEN: usize> Room<LEN> {
         &self.bytes[self.start..self.end]
     }
 
-    /// Reads once, so many bytes at most, and says how many came. Errors: those of the reader.
+    /// Reads once, at most `most` bytes, and says how many came. Errors: those of the reader.
     pub fn read_from<R: Read>(&mut self, from: &mut R, most: usize) -> io::Result<usize>
         requires { length self.old + most ≤ LEN }
         ensures came { IfOk result (λ count.
@@ -82,7 +82,7 @@ impl<const LEN: usize> Room<LEN> {
         put_over(&mut self.bytes[self.start..self.end], at, part);
     }
 
-    /// Fills the room with zeros behind the bytes.
+    /// Fills the room with zeros after the bytes.
     pub fn fill(&mut self)
         ensures { self.new ≡ self.old ++ replicate (LEN - length self.old) 0 }
     {
@@ -93,7 +93,7 @@ impl<const LEN: usize> Room<LEN> {
         self.end = LEN;
     }
 
-    /// Gives the first of them, at most `most`, as many as the buffer has room for, and says how many.
+    /// Gives the first of the bytes, at most `most`, as many as the buffer has room for, and says how many.
     pub fn give(&mut self, most: usize, buffer: &mut [u8]) -> usize
         requires { most ≤ length self.old }
         ensures count { result ≡ min most (length buffer.old) }
@@ -106,7 +106,7 @@ impl<const LEN: usize> Room<LEN> {
         count
     }
 
-    /// Gives the first `len` of them: as many as the buffer has room for, and says how many; the others
+    /// Gives the first `len` of the bytes: as many as the buffer has room for, and says how many; the others
     /// take the place of what is in another room.
     pub fn give_to<const OTHER: usize>(
         &mut self,
@@ -138,7 +138,7 @@ impl<const LEN: usize> Room<LEN> {
         self.end = part.len();
     }
 
-    /// Drops so many bytes in front.
+    /// Drops the first `count` bytes.
     pub fn drop_front(&mut self, count: usize)
         requires { count ≤ length self.old }
         ensures { self.new ≡ drop count self.old }
@@ -159,7 +159,7 @@ fn move_to_front(bytes: &mut Vec<u8>, start: usize, end: usize)
     }
 }
 
-/// Reads once into so many bytes from `held` on, and says how many came. Those before stay.
+/// Reads once into at most `most` bytes from `held` on, and says how many came. Those before stay.
 fn read_behind<R: Read>(
     from: &mut R,
     bytes: &mut [u8],

@@ -28,7 +28,7 @@ impl Model for ShortBlocks {
 }
 
 impl ShortBlocks {
-    /// Those of a torrent: at most 65,536. Errors: out of memory.
+    /// The short blocks of a torrent's files: at most 65,536. Errors: out of memory.
     pub fn new(alloc: Global, torrent: &Torrent) -> Result<Self, AllocError>
         ensures of_torrent { IfOk result (λ blocks. blocks ≡ short_blocks_of torrent.now) }
         ensures few { IfOk result (λ blocks. length blocks ≤ max_file_count) }

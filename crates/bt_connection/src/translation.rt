@@ -15,7 +15,7 @@ use std::cell::{RefCell, RefMut};
 use std::io::{self, Read, Write};
 use std::marker::Model;
 
-/// For so many bytes of a direction there is room (`frame_room_length`): those of a piece with a whole block.
+/// How many bytes of a direction there is room for (`frame_room_length`): those of a piece with a whole block.
 const ROOM_LEN: usize = BLOCK_MESSAGE_LEN;
 
 /// Room for what has come of one direction of a connection, and is not given on yet.
@@ -37,7 +37,7 @@ pub(crate) struct Direction<'a> {
     pub(crate) blocks: &'a ShortBlocks,
     pub(crate) padding: &'a RefCell<Padding>,
     pub(crate) room: RefMut<'a, FrameRoom>,
-    /// So many of the bytes in the room are to be given on. Those behind came of a frame that is not whole.
+    /// How many of the bytes in the room are to be given on. Those after them came of a frame that is not whole.
     pub(crate) ready: usize,
     /// How many bytes still pass as they come.
     pub(crate) passing: usize,
@@ -153,7 +153,7 @@ impl<'a> Direction<'a> {
 }
 
 /// What comes of the bytes in a room, which end no later than with a frame. None: they wait. Else what is in the
-/// room then is given on, and so many bytes behind it pass as they come.
+/// room then is given on, and as many bytes after it as the number says pass as they come.
 fn settle(
     side: Side,
     blocks: &ShortBlocks,

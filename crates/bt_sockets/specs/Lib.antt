@@ -4,4 +4,6 @@ pub mod StreamSteps
 pub mod Listener
 pub mod ListenerSteps
 pub mod OpenSteps
+pub mod OutgoingSteps
 pub mod TimingSteps
+pub mod TimedStreamSteps

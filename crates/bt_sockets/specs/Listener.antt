@@ -6,7 +6,7 @@ use Rattle.bt_session.specs.declared.peer_end.PeerEnd.{PeerEnd}
 use Rattle.bt_session.specs.Peer.{EndsAs}
 
 -- It was ready for a session, which gave such a reader and writer, or was gone already, and ended as follows
--- from that. The session goes on behind the last block too.
+-- from that. The session goes on after the last block too.
 pub record IsServed {D R W : Type 0} (conduct : Conduct D)
     (dig : List ℕ → List ℕ) (gives : R → W → Type 0) (remaining : R → Option (List ℕ))
     (contents : W → Option (List ℕ)) (turns : ℕ) (old : EngineView D) (end : PeerEnd) (new : EngineView D)

@@ -11,7 +11,7 @@ pub record IsOpened (old : List Ask) (ask : Ask) (new : List Ask) : Type 0 where
   pub full : length old ≡ most_open → new ≡ old
   pub opened : ¬ Contains old ask → length old < most_open → new ≡ old ++ ask ∷ []
 
--- one of them is taken out, and the last one takes its place
+-- one of the open requests is taken out, and the last one takes its place
 abbrev pub IsWithout : List Ask → Ask → List Ask → Type 0
 IsWithout old ask new = (i : ℕ) × (i < length old) × (slice_index_or old i ask ≡ ask)
     × (new ≡ swap_remove old i ask)

@@ -5,7 +5,7 @@ use Rattle.bt_connection.specs.ReadAhead.{new_reader as read_ahead, ReaderState 
 use Rattle.bt_connection.specs.Padded.{new_padded, PaddedState}
 use Rattle.bt_connection.specs.declared.translation.Side.TheVariants.{Peer, Engine}
 
--- A reader and a writer are those of a connection's begin: the reader reads this socket, and of it nothing has
+-- A reader and a writer are those of a connection's beginning: the reader reads this socket, and of it nothing has
 -- come, waits or was translated; the writer writes to a socket, and has got nothing. Both know these short
 -- blocks.
 pub record AreNewWays {S : Type 0} (short_blocks : List Ask) (socket : S)
@@ -14,6 +14,6 @@ pub record AreNewWays {S : Type 0} (short_blocks : List Ask) (socket : S)
   pub reads : reader ≡ new_padded Peer (read_ahead socket) short_blocks
   pub writes : writer ≡ new_padded Engine written_to short_blocks
 
--- so are they, at some socket
+-- a reader and a writer are those of a connection's beginning, at some socket
 abbrev pub AreNew : {S : Type 0} → List Ask → PaddedState (AheadState S) → PaddedState S → Type 0
 AreNew {S} short_blocks reader writer = (socket : S) × AreNewWays short_blocks socket reader writer

@@ -5,6 +5,7 @@ mod link;
 mod listener;
 mod open_requests;
 mod outgoing;
+mod outgoing_state;
 mod passage;
 mod stream;
 mod timed_stream;

@@ -44,6 +44,7 @@ impl<'a, R: Net + Clock> Model for TcpLink<'a, R> {
       host = a.host.now;
       port = a.port;
       short_blocks = a.passage.short_blocks.now;
+      pieces = a.passage.pieces;
       all = a.dials;
       failed = a.failures;
     } };
@@ -52,11 +53,11 @@ impl<'a, R: Net + Clock> Model for TcpLink<'a, R> {
 }
 
 impl<'a, R: Net + Clock> TcpLink<'a, R> {
-    /// A link that was not dialled yet. A peer that is idle for so long is given up; no time at all is refused at each
+    /// A link that was not dialled yet. A peer that is idle for `idle` is given up; no time at all is refused at each
     /// dial. Links that are dialled in turn may share their passage. Neither a dial nor the connection that it gives takes
     /// memory, but for what the system takes to look up a host's name; where it has none, the peer is not reached.
     pub fn new(net: &'a R, host: &'a str, port: u16, idle: Duration, passage: Passage<'a>) -> Self
-        ensures { result ≡ undialled host.now port passage.entry.short_blocks.now }
+        ensures { result ≡ undialled host.now port passage.entry.short_blocks.now passage.entry.pieces }
     {
         TcpLink {
             net,

@@ -20,17 +20,18 @@ use std::net::{Net, OpenListener, TcpListener};
 use std::thread;
 use std::time::{Clock, Duration};
 
-/// A session takes so many turns at most.
+/// How many turns a session takes at most.
 pub const SESSION_TURNS: u64 = 0x1_0000_0000;
 
-/// A connection that can't be taken is waited for so many times at most, a minute and a half with the pauses in
+/// How many times at most a connection that can't be taken is waited for, a minute and a half with the pauses in
 /// between.
 pub const ACCEPT_TRIES: u32 = 100;
 
-/// The first of these pauses has so many milliseconds, and each is twice as long as the one before,
+/// How many milliseconds the first pause has, before another try to take a connection; each is twice as long as the one
+/// before, up to `LONGEST_PAUSE_MILLIS`.
 const FIRST_PAUSE_MILLIS: u64 = 10;
 
-/// up to so many.
+/// How many milliseconds a pause between two tries to take a connection has at most.
 const LONGEST_PAUSE_MILLIS: u64 = 1000;
 
 /// What accept(2) fails with where the socket is none that listens: EBADF, EINVAL and ENOTSOCK of Linux. EOPNOTSUPP may
@@ -61,7 +62,7 @@ pub fn port_of<L: OpenListener>(listener: &L) -> Result<u16, Fault>
     }
 }
 
-/// Whether an error says that a socket is none at which connections can be taken. Behind any other the next one
+/// Whether an error says that a socket is none at which connections can be taken. After any other the next one
 /// may be: its peer was gone already, or the system is out of descriptors or of memory for now.
 fn is_no_listener(error: &io::Error) -> bool
     ensures { IsTrue result ↔ IsNoListener (raw_os_error error.now) }
@@ -72,7 +73,7 @@ fn is_no_listener(error: &io::Error) -> bool
     )
 }
 
-/// Waits for a connection. One that can't be taken is left, and the next one waited for, so many times at most.
+/// Waits for a connection. One that can't be taken is left, and the next one waited for, `ACCEPT_TRIES` times at most.
 /// Errors: the socket is none that listens; none could be taken.
 fn accepted<L: OpenListener, C: Clock>(clock: &C, listener: &L) -> io::Result<L::Stream> {
     let longest = Duration::from_millis(LONGEST_PAUSE_MILLIS);
@@ -88,7 +89,7 @@ fn accepted<L: OpenListener, C: Clock>(clock: &C, listener: &L) -> io::Result<L:
     Err(io::Error::from(ErrorKind::NotConnected))
 }
 
-/// Waits for a connection and serves it, as long as its peer is not idle for so long, and does not take too long
+/// Waits for a connection and serves it, as long as its peer is not idle for `idle`, and does not take too long
 /// otherwise: Unreachable where it was gone already. Errors: none could be taken, though it was tried again and
 /// again.
 pub fn serve<'a, D: Disk + Drop, H: NodeHash, R: Net + Clock>(

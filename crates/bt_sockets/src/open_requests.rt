@@ -5,20 +5,20 @@ ghost use Rattle.bt_sockets.specs.OpenSteps.{IsOpened, IsWithout};
 
 use bt_wire::Ask;
 
-/// So many are noted at most: as many as an engine asks one peer for.
+/// How many are noted at most: as many as an engine asks one peer for.
 const MOST_OPEN: usize = 16;
 
 /// The ranges that were asked for, each noted once, and that have not come.
 #[derive(Clone, Copy)]
 pub(crate) struct OpenRequests {
     asks: [Ask; MOST_OPEN],
-    /// So many of these are open, the first ones.
+    /// How many of these are open, the first ones.
     count: usize,
     ghost within: { count ≤ 16 },
 }
 
 impl OpenRequests {
-    /// None is open.
+    /// No request is open.
     pub(crate) fn new() -> Self
         ensures { result.count ≡ 0 }
     {

@@ -30,8 +30,8 @@ pub struct Shared {
 }
 
 impl Shared {
-    /// Nothing is digested ahead, remembered or held back, and the alarm does not ring. All the memory that a
-    /// connection ever takes is taken here. Errors: out of memory.
+    /// What connections share before the first one: nothing is digested ahead, remembered or held back, and the alarm
+    /// does not ring. All the memory that a connection ever takes is taken here. Errors: out of memory.
     pub fn new(alloc: Global) -> Result<Self, AllocError> {
         let digests = RefCell::new(DigestCache::new(alloc)?);
         let padding = RefCell::new(Padding::new(alloc)?);

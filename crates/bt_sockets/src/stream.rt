@@ -80,7 +80,7 @@ pub(crate) struct Terms {
 
 /// Makes a connection ready for a session: what is read from it, ahead of its engine, and what is written to
 /// it, which are one socket. Each write leaves at once, but for requests, which leave before the next read or
-/// write. A read or a write fails where the peer was idle for so long, or has taken too long otherwise; a read
+/// write. A read or a write fails where the peer was idle for `terms.idle`, or has taken too long otherwise; a read
 /// also where a device has refused a write since. Both ways are new: nothing of another connection waits in them,
 /// and what was remembered of its peer, or held back for it, is forgotten. It takes no memory. Errors: the system
 /// refuses this; a connection for the same passage is there still.

@@ -1,8 +1,9 @@
 //! A socket at which nobody waits for ever.
 ghost use Rattle.std.specs.Prelude.{◌≡◌, ◌↔◌, ◌⊎◌, ◌≤◌, ◌++◌, min, IsTrue, IfOk, length, take};
-ghost use Rattle.std.specs.Io.{ReadsAtMost};
-ghost use Rattle.std.specs.Io.KnownBytes.{ReadConsumes};
+ghost use Rattle.std.specs.Io.{ReadsAtMost, WritesAtMost};
+ghost use Rattle.std.specs.Io.KnownBytes.{ReadConsumes, WriteAppends};
 ghost use Rattle.bt_connection.specs.Room.{IsTakenIn};
+ghost use Rattle.bt_sockets.specs.TimedStreamSteps.{IsWritten};
 
 use crate::timing::Timing;
 use bt_connection::Room;
@@ -13,20 +14,20 @@ use std::marker::Model;
 use std::net::OpenStream;
 use std::time::{Clock, Duration, Instant};
 
-/// A read waits for so many milliseconds at a time, before it is looked whether the peer has taken too long,
+/// How many milliseconds a read waits at a time, before it is looked whether the peer has taken too long.
 const READ_TURN_MILLIS: u64 = 1000;
 
-/// and a write for so many, before what has come meanwhile is taken in,
+/// How many milliseconds a write waits at a time, before what has come meanwhile is taken in.
 const WRITE_TURN_MILLIS: u64 = 50;
 
-/// for which so many are waited.
+/// How many milliseconds are waited for what has come meanwhile.
 const LOOK_MILLIS: u64 = 1;
 
-/// For so many bytes that came early there is room: sixteen messages of a whole block, as many as an engine asks one
+/// How many bytes that came early there is room for: sixteen messages of a whole block, as many as an engine asks one
 /// peer for.
 pub const EARLY_LEN: usize = 16 * BLOCK_MESSAGE_LEN;
 
-/// So many of them are taken in at a time.
+/// How many bytes that came early are taken in at a time.
 const PART_LEN: usize = 16_384;
 
 /// A handle of a connection's socket. It waits for the peer in turns, as long as the socket's time-outs are, and
@@ -37,7 +38,7 @@ const PART_LEN: usize = 16_384;
 pub struct TimedStream<'a, S, C> {
     inner: S,
     clock: &'a C,
-    /// So long may a peer send nothing, or neither take nor send anything.
+    /// How long a peer may send nothing, or neither take nor send anything.
     idle: Duration,
     timing: &'a Timing,
     early: &'a RefCell<Room<EARLY_LEN>>,
@@ -81,7 +82,7 @@ impl<'a, S, C: Clock> TimedStream<'a, S, C> {
         Ok(now)
     }
 
-    /// Waits on behind a call of the socket that failed, as since then: says since when, since what is not counted
+    /// Waits on after a call of the socket that failed, as since then: says since when, since what is not counted
     /// against the peer is not waited for it. Errors: this one, where no such call is to be made again; TimedOut where
     /// the peer was idle for too long, or has taken too long otherwise; the clock fails.
     fn wait_on(&self, begun: Instant, error: io::Error) -> io::Result<Instant> {
@@ -200,7 +201,7 @@ fn is_again(kind: ErrorKind) -> bool
 
 // What comes early lies in a cell, so it is not known what is left to be read.
 impl<'a, S: Read, C: Clock> Read for TimedStream<'a, S, C> {
-    /// None is given, too, where the peer has nothing more to give. Errors, which come before that: those of the
+    /// No byte is given, too, where the peer has nothing more to give. Errors, which come before that: those of the
     /// socket; the peer sent nothing for too long, or has taken too long otherwise; the clock fails.
     fn read(&mut self, buffer: &mut [u8]) -> io::Result<usize> {
         let result = self.read_in_time(buffer);
@@ -245,10 +246,19 @@ impl<'a, S: Read, C: Clock> TimedStream<'a, S, C> {
     }
 }
 
+// What the socket got before is not known, since it is read while it takes nothing.
 impl<'a, S: Read + Write + OpenStream, C: Clock> Write for TimedStream<'a, S, C> {
+    ghost use Rattle.std.specs.Prelude.{None};
+
+    ghost contents = { λ _. None };
+
     /// Errors: those of the socket; the peer took and sent nothing for too long, or has taken too long
     /// otherwise; the clock fails.
-    fn write(&mut self, bytes: &[u8]) -> io::Result<usize> {
+    fn write(&mut self, bytes: &[u8]) -> io::Result<usize>
+        ensures bound { WritesAtMost result bytes.now }
+        ensures bytes { WriteAppends None None result bytes.now }
+        ensures written { IfOk result (λ count. IsWritten S.contents bytes.now count self.new) }
+    {
         let result = self.write_in_time(bytes);
         self.leave();
         result
@@ -262,7 +272,8 @@ impl<'a, S: Read + Write + OpenStream, C: Clock> Write for TimedStream<'a, S, C>
 impl<'a, S: Read + Write + OpenStream, C: Clock> TimedStream<'a, S, C> {
     /// Writes, and takes in what comes meanwhile. Errors: as `write`.
     fn write_in_time(&mut self, bytes: &[u8]) -> io::Result<usize>
-        ensures { IfOk result (λ count. count ≤ length bytes.now) }
+        ensures bound { IfOk result (λ count. count ≤ length bytes.now) }
+        ensures written { IfOk result (λ count. IsWritten S.contents bytes.now count self.new) }
     {
         let mut begun = self.begin()?;
         // A bound, so that it ends whatever the system gives.

@@ -2,10 +2,12 @@
 //! itself is at work, or is stopped, these times stand still.
 ghost use Rattle.std.specs.Prelude.{◌≡◌, ◌↔◌, ◌⊎◌, ◌-◌, ◌<◌, IsTrue, true, false, [], length, Contains};
 ghost use Rattle.bt_sockets.specs.OpenSteps.{IsOpened, IsWithout};
-ghost use Rattle.bt_sockets.specs.TimingSteps.{HavePassed, IsResumed, IsSpent, IsStranger, KeepsOthers, open_asks};
+ghost use Rattle.bt_sockets.specs.TimingSteps.{HasCome, HasGone, HasKind, HasMessage, HaveBegun, HavePassed, HavePassedOut};
+ghost use Rattle.bt_sockets.specs.TimingSteps.{IsLookedAt, IsResumed, IsSpent, IsStranger, KeepsOthers, MayHaveGone, open_asks, with_pieces};
 
 use crate::open_requests::OpenRequests;
-use crate::outgoing::{Outgoing, Sent};
+use crate::outgoing::Sent;
+use crate::outgoing_state::Outgoing;
 use bt_connection::{Arrival, Observer};
 use bt_wire::Ask;
 use bt_wire::frames::{
@@ -14,18 +16,18 @@ use bt_wire::frames::{
 use std::cell::Cell;
 use std::time::{Duration, Instant};
 
-/// A peer that is served, and is a stranger, has so many seconds for its handshake, in all.
+/// How many seconds a peer that is served, and is a stranger, has for its handshake, in all.
 pub const HANDSHAKE_SECONDS: u64 = 15;
 
-/// A session has so many seconds from one message to the next that is of use: a block or hashes that were asked
+/// How many seconds a session has from one message to the next that is of use: a block or hashes that were asked
 /// for; and, of a peer that is served, what was sent for a request of it.
 pub const USE_SECONDS: u64 = 600;
 
-/// A peer that is fetched from has so many seconds for the first block, and from one block to the next, while
+/// How many seconds a peer that is fetched from has for the first block, and from one block to the next, while
 /// requests of blocks are open and it sends other messages.
 pub const BLOCK_SECONDS: u64 = 60;
 
-/// Where so many seconds or more pass between two looks at the clock, more than a turn of the socket waits, this
+/// Where this many seconds or more pass between two looks at the clock, more than a turn of the socket waits, this
 /// program was at work, or was stopped, and they are not counted against the peer. Shorter work is: else one that sends
 /// what is of no use, faster than it is read, would hardly ever be late.
 pub const WORK_SECONDS: u64 = 2;
@@ -35,7 +37,7 @@ pub const WORK_SECONDS: u64 = 2;
 pub enum Role {
     /// Blocks are fetched from its peer.
     Fetch,
-    /// Its peer is served.
+    /// The connection's peer is served.
     Serve,
 }
 
@@ -58,15 +60,15 @@ struct Times {
     requests: OpenRequests,
     /// the first of them since then; or else the last block came then.
     asked: Instant,
-    /// So many requests of hashes are open.
+    /// How many requests of hashes are open.
     pending_hashes: u64,
-    /// Whether the peer refused one of them.
+    /// Whether the peer refused a request of hashes.
     is_refused: bool,
     /// Whether the peer was told last that blocks are wanted of it.
     is_interested: bool,
-    /// So many pieces the torrent has,
+    /// How many pieces the torrent has,
     pieces: u64,
-    /// and so many the peer says that it has.
+    /// and how many of them the peer says that it has.
     had: u64,
     /// Whether another message came when a block was overdue.
     is_overdue: bool,
@@ -74,7 +76,10 @@ struct Times {
 }
 
 impl Times {
-    fn new(role: Role, pieces: u32, now: Instant) -> Self {
+    /// Nothing has passed over a connection that begins now, for a torrent of `pieces` pieces.
+    fn new(role: Role, pieces: u32, now: Instant) -> Self
+        ensures { HaveBegun role pieces now result }
+    {
         Times {
             role,
             begun: now,
@@ -141,7 +146,9 @@ impl Times {
     }
 
     /// Notes what came, by the last bytes that did.
-    fn came(&mut self, arrival: Arrival) {
+    fn came(&mut self, arrival: Arrival)
+        ensures { HasCome self.old arrival self.new }
+    {
         match arrival {
             Arrival::Handshake => self.is_greeted = true,
             Arrival::KeepAlive => self.look_for_block(self.last),
@@ -152,38 +159,64 @@ impl Times {
     }
 
     /// Notes bytes that went out.
-    fn pass_out(&mut self, bytes: &[u8], now: Instant) {
+    fn pass_out(&mut self, bytes: &[u8], now: Instant)
+        ensures { HavePassedOut now self.old bytes.now [] self.new }
+    {
         let mut rest = bytes;
         'passing: while !rest.is_empty() {
-            let (count, whole) = self.outgoing.pass(rest);
-            if let Some(sent) = whole {
-                self.went(sent, now);
-            }
-            rest = &rest[count..];
+            let passed = self.outgoing.pass(rest);
+            self.note_whole(passed.1, now);
+            rest = &rest[passed.0..];
+        }
+    }
+
+    /// Notes the message that is whole, if one is.
+    fn note_whole(&mut self, whole: Option<Sent>, now: Instant)
+        ensures { MayHaveGone self.old whole now self.new }
+    {
+        if let Some(sent) = whole {
+            self.went(sent, now);
         }
     }
 
     /// A block came. It is of use where it was asked for: else a peer could stay for ever by bytes that nobody wants.
+    /// Any other is a message like another.
     fn block_came(&mut self, ask: Ask, now: Instant)
         ensures closed { Contains (open_asks self.old.requests) ask
             → IsWithout (open_asks self.old.requests) ask (open_asks self.new.requests) }
         ensures used { Contains (open_asks self.old.requests) ask → self.new.used ≡ now }
         ensures asked { Contains (open_asks self.old.requests) ask → self.new.asked ≡ now }
-        ensures unasked { ¬ Contains (open_asks self.old.requests) ask → self.new ≡ self.old }
+        ensures others { Contains (open_asks self.old.requests) ask
+            → self.new ≡ record self.old { requests = self.new.requests; used = now; asked = now } }
+        ensures unasked { ¬ Contains (open_asks self.old.requests) ask → IsLookedAt self.old now self.new }
     {
         if self.requests.remove(ask) {
             self.used = now;
             self.asked = now;
+        } else {
+            self.look_for_block(now);
         }
     }
 
-    /// The peer says that it has so many pieces more.
-    fn note_pieces(&mut self, count: u64) {
+    /// The peer says that it has `count` pieces more.
+    fn note_pieces(&mut self, count: u64)
+        ensures { self.new ≡ with_pieces self.old count }
+    {
         self.had = self.had.saturating_add(count);
     }
 
     /// Another message came. Hashes are of use where some were asked for, and a choke closes all requests.
-    fn other_came(&mut self, kind: u8, now: Instant) {
+    fn other_came(&mut self, kind: u8, now: Instant)
+        ensures { HasMessage self.old kind now self.new }
+    {
+        self.note_kind(kind, now);
+        self.look_for_block(now);
+    }
+
+    /// Notes what a message of this kind says.
+    fn note_kind(&mut self, kind: u8, now: Instant)
+        ensures { HasKind self.old kind now self.new }
+    {
         match kind {
             CHOKE => self.choke(),
             UNCHOKE => self.is_choked = false,
@@ -198,20 +231,22 @@ impl Times {
             }
             _ => {}
         }
-        self.look_for_block(now);
     }
 
     /// The peer chokes us, and answers no request that is open.
     fn choke(&mut self)
         ensures choked { self.new.is_choked ≡ true }
         ensures closed { open_asks self.new.requests ≡ [] }
+        ensures others { self.new ≡ record self.old { is_choked = true; requests = self.new.requests } }
     {
         self.is_choked = true;
         self.requests = OpenRequests::new();
     }
 
     /// Looks whether a block is overdue as another message comes.
-    fn look_for_block(&mut self, now: Instant) {
+    fn look_for_block(&mut self, now: Instant)
+        ensures { IsLookedAt self.old now self.new }
+    {
         self.is_overdue = self.is_overdue
             || self.role == Role::Fetch
                 && !self.requests.is_empty()
@@ -219,7 +254,9 @@ impl Times {
     }
 
     /// A message went out.
-    fn went(&mut self, sent: Sent, now: Instant) {
+    fn went(&mut self, sent: Sent, now: Instant)
+        ensures { HasGone self.old sent now self.new }
+    {
         match sent {
             Sent::Request(ask) => self.ask_went(ask, now),
             Sent::Cancel(ask) => {
@@ -243,6 +280,7 @@ impl Times {
             → IsOpened (open_asks self.old.requests) ask (open_asks self.new.requests) }
         ensures first { self.old.is_choked ≡ false → open_asks self.old.requests ≡ [] → self.new.asked ≡ now }
         ensures further { 0 < length (open_asks self.old.requests) → self.new.asked ≡ self.old.asked }
+        ensures others { self.new ≡ record self.old { requests = self.new.requests; asked = self.new.asked } }
     {
         if self.is_choked {
             return;
@@ -254,14 +292,14 @@ impl Times {
     }
 }
 
-/// Whether so many seconds have passed since.
+/// Whether `seconds` seconds or more have passed since then.
 fn has_passed(since: Instant, seconds: u64, now: Instant) -> bool
     ensures { IsTrue result ↔ HavePassed seconds since now }
 {
     now.duration_since(since) >= Duration::from_secs(seconds)
 }
 
-/// Since when a time runs that stood still since the clock was looked at before, where that is long ago: so much of it
+/// Since when a time runs that stood still since the clock was looked at before, where that is long ago: as much of it
 /// is over now as was then.
 fn resumed(since: Instant, looked: Instant, now: Instant) -> Instant
     ensures { IsResumed WORK_SECONDS looked now since result }
@@ -281,14 +319,14 @@ pub struct Timing {
 }
 
 impl Timing {
-    /// No connection was there yet.
+    /// A timing of no connection yet.
     pub fn new() -> Self {
         Timing {
             times: Cell::new(None),
         }
     }
 
-    /// A connection begins, for a torrent of so many pieces.
+    /// A connection begins, for a torrent of `pieces` pieces.
     pub fn begin(&self, role: Role, pieces: u32, now: Instant) {
         self.times.set(Some(Times::new(role, pieces, now)));
     }

@@ -16,7 +16,7 @@ first_left before after address step =
     ap (λ n. take n (array_into_iter_items (take_source before))) (sym step.1 ∙ add-one (take_count after))
     ∙ ap (take (suc (take_count after))) step.0
 
--- what holds of all that were left holds of it, and of those behind it
+-- what holds of all that were left holds of it, and of those after it
 module _ (P : SocketAddr → Type 0) (before after : HostAddrs) (address : SocketAddr) (step : take_steps array_steps before (Some address) after)
     (all : All P (host_addrs before)) where
   now : P address
