@@ -69,7 +69,8 @@ pub record IsWholeResult (source : Source) (dir : List ℕ) (status : ℕ) (text
   pub lines : text ≡ report_text found
   pub answer : status ≡ (if is_complete_report found then 0 else 1)
 
--- the same; or parts told what was found of the files: of all blocks of each, each once
+-- a torrent was read, and what was found of its files is that of the files in a folder, or is what parts told: of all
+-- blocks of each file, each once; no device failed
 pub record IsJoinedResult (source : Source) (dir : List ℕ) (status : ℕ) (text : List ℕ) : Type 0 where
   pub torrent : Metainfo
   pub loaded : HasText source.is_info torrent
@@ -158,7 +159,7 @@ IsTaskFault (Fetch task) fault = IsStoreEnd task.torrent.is_info for_fetch task.
 IsTaskFault Replay fault = ⊥
 
 -- a fault ended a task; where it is a refusal, nothing was written, but that a task's log is full shows as
--- what is known is written to it, behind the lines of what was done
+-- what is known is written to it, after the lines of what was done
 pub record IsTaskEnd (task : Task) (old new : Option (List ℕ)) (fault : Fault) : Type 0 where
   pub cause : IsTaskFault task fault
   pub refused : status_of fault ≡ 2 → ¬ IsLogFull (task_log task) fault → Keeps old new

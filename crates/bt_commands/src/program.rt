@@ -83,8 +83,8 @@ pub fn run<
     ensures answer { IsRun (map string_bytes words.now) (I.remaining reader.old) (I.remaining reader.new)
         (O.contents writer.old) (O.contents writer.new) result }
 
-    // where the words, the torrent or a log are refused, nothing is written; but that a log is full shows behind
-    // what was done, and a script's bad line comes behind the answers of those before it
+    // where the words, the torrent or a log are refused, nothing is written; but that a log is full shows after
+    // what was done, and a script's bad line comes after the answers of those before it
     ensures refused { ¬ IsTaskOf (map string_bytes words.now) Replay → result ≡ 2
         → Keeps (O.contents writer.old) (O.contents writer.new)
         ⊎ FillsLog (map string_bytes words.now) (O.contents writer.old) (O.contents writer.new) }

@@ -44,7 +44,7 @@ adoptions_chosen filled = adoptions_more filled true
 adoptions_passed : (filled : List Bool) → adoptions (filled ++ false ∷ []) ≡ adoptions filled
 adoptions_passed filled = adoptions_more filled false ∙ append-nil (adoptions filled)
 
--- so many of them, and one more
+-- the first ones of them, up to this file, and one more
 one_more : (filled : List Bool) (file : ℕ) (this : Bool) → file < length filled → slice_get filled file ≡ Some this
     → take (file + 1) filled ≡ take file filled ++ this ∷ []
 one_more filled file this inside is =
@@ -92,7 +92,7 @@ module _ (dig : List ℕ → List ℕ) where
   adoption_keeps_peers {s} {new} {file} (no_memory none a y) = groups_peers s new file 0 _ _ a.adopts
 
 module _ {D : Type 0} (conduct : Conduct D) (dig : List ℕ → List ℕ) where
-  -- so many files were seen to, and no peer is connected
+  -- the first `count` files were seen to, and no peer is connected
   pub record IsTaking (first : EngineView D) (filled : List Bool) (count : ℕ) (now : EngineView D) : Type 0 where
     pub taken : TakesIn conduct dig first (take count filled) now
     pub shaped : IsShaped first.state.torrent now.state

@@ -109,7 +109,7 @@ pub record AreOpened (usage : FileUse) (dir : List ℕ) (entries : List FileEntr
   pub each : length filled ≡ count
   pub are_filled : AreFilled (map file_of (take count entries)) filled
 
--- An entry was passed: an empty one has no device, and that of another was put behind those before.
+-- An entry was passed: an empty one has no device, and that of another was put after those before.
 devices_more : (usage : FileUse) (dir : List ℕ) (files : List File) (file : File) (disks after : List DeviceView) (made now : ℕ) (found : Option DeviceView)
     → AreNewDevices usage dir files disks → made ≡ length disks → IsOpenedFor usage dir file made found now → IsPushed disks found after
     → AreNewDevices usage dir (files ++ file ∷ []) after × (now ≡ length after)

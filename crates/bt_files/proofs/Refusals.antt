@@ -103,7 +103,7 @@ knows_more before after identity count knows added = record {
   );
 }
 
--- behind the last file all are known, but for a read-only use
+-- after the last file all are known, but for a read-only use
 pub knows_opened : (usage : FileUse) (folder : OpenFolder) (entries : List FileEntry) (count : ℕ) → count ≡ length entries
     → (count ≡ 0 → IsUnused folder) → (is_read_only usage ≡ false → 0 < count → KnowsFiles folder.files count)
     → (is_read_only usage ≡ true → IsUnused folder) → KnowsOpened usage (map file_of entries) folder.files

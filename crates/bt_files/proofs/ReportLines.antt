@@ -29,7 +29,7 @@ take_zip_more xs ys i x y here there =
     (get_or-zip xs ys i (x, y) below within
     ∙ ap (λ a. (a, get_or ys i y)) (get_or_from_slice_get xs i x x here) ∙ ap (λ b. (x, b)) (get_or_from_slice_get ys i y y there))
 
--- the lines of so many files
+-- the lines of the first `count` files
 abbrev pub lines_to : EngineState → ℕ → List ℕ
 lines_to s count = flat_map (λ p. state_line p.0 p.1) (take count (zip s.files s.torrent.files))
 

@@ -11,7 +11,7 @@ use Rattle.bt_files.specs.Adoption.{IsTakenIn}
 use Rattle.bt_files.specs.Waiting.{IsWholeWaiting, TakesInWaiting, none_yet, passed, taken}
 
 module _ {D : Type 0} (conduct : Conduct D) (dig : List ℕ → List ℕ) where
-  -- so many files were seen to, and no peer is connected
+  -- the first `count` files were seen to, and no peer is connected
   pub record IsSeeing (first : EngineView D) (count : ℕ) (now : EngineView D) : Type 0 where
     pub seen : TakesInWaiting conduct dig first count now
     pub shaped : IsShaped first.state.torrent now.state

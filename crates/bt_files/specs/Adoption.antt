@@ -12,7 +12,7 @@ use Rattle.bt_machine.specs.View.{StepsTo, RunsTo}
 use Rattle.bt_check.specs.Fault.{device, out_of_memory}
 use Rattle.bt_check.specs.declared.fault.Fault.{Fault}
 
--- Those files are taken in, in their order, of which this is said; the first has the number 0.
+-- The files of which the list says true are taken in, in their order; the first has the number 0.
 abbrev pub adoptions : List Bool → List Event
 adoptions filled = map (λ p. Adopt p.0) (filter (λ p. p.1) (enumerate_from 0 filled))
 

@@ -35,7 +35,8 @@ pub record IsNewFile (usage : FileUse) (nth : ℕ) (at : List ℕ) (file : Poole
   pub is_written : file.is_written ≡ false
   pub failed : file.failed ≡ 0
 
--- its device, no call of which failed or was refused: a read-only one is closed to writes from the beginning
+-- the device of such a file, no call of which failed or was refused: a read-only one is closed to writes from the
+-- beginning
 pub record IsNewDevice (usage : FileUse) (nth : ℕ) (at : List ℕ) (disk : DeviceView) : Type 0 where
   pub file : IsNewFile usage nth at disk.inner.inner
   pub ahead : disk.inner ≡ new_ahead disk.inner.inner

@@ -38,6 +38,6 @@ IsStoreFault is_info usage log fault =
     ⊎ ((fault ≡ same_file) × (is_read_only usage ≡ false) × HasPathsOfOneFile is_info)
     ⊎ ((log ≢ None) × IsLogRefusal fault)
 
--- the log is full, where one is asked for: that shows as what is known is written to it, behind the work
+-- the log is full, where one is asked for: that shows as what is known is written to it, after the work
 abbrev pub IsLogFull : Option (Bor (List ℕ)) → Fault → Type 0
 IsLogFull log fault = (log ≢ None) × (fault ≡ log_full)

@@ -40,7 +40,7 @@ abbrev pub IsFileFault : FileUse → OpenFolder → OpenFolder → List (List �
 IsFileFault usage old new path identity =
     IsCallFaultOr ((is_read_only usage ≡ false) × IsOfAnotherPath old new path identity)
 
--- what is known of files is what the system told of so many of them
+-- what is known of files is what the system told of `count` of them
 pub record KnowsFiles (files : KnownFiles) (count : ℕ) : Type 0 where
   pub identities : List (Option FileIdentity)
   pub each : length identities ≡ count

@@ -18,7 +18,7 @@ pub record IsWholeWaiting (s : EngineState) (file : ℕ) : Type 0 where
   pub some : 0 < count_by is_waiting state.states
   pub whole : count_by is_marked state.states + count_by is_waiting state.states ≡ length state.states
 
--- Of so many files, from the first on, each that is so when its turn comes was taken in, and no read of it
+-- Of this many files, from the first on, each that is so when its turn comes was taken in, and no read of it
 -- failed; nothing else happened.
 pub data TakesInWaiting {D : Type 0} (conduct : Conduct D)
     (dig : List ℕ → List ℕ) (first : EngineView D) : ℕ → EngineView D → Type 0 where
@@ -30,7 +30,7 @@ pub data TakesInWaiting {D : Type 0} (conduct : Conduct D)
       → StepsTo conduct dig mid (Adopt count) answer now → IsTakenIn answer
       → TakesInWaiting conduct dig first (count + 1) now
 
--- of all files
+-- each of all files that is so when its turn comes was taken in, and no read of it failed
 abbrev pub TakesInAllWaiting : {D : Type 0} → Conduct D → (List ℕ → List ℕ)
     → EngineView D → EngineView D → Type 0
 TakesInAllWaiting conduct dig old new =

@@ -11,9 +11,9 @@ use bt_disk::Disk;
 use bt_engine::{AdoptError, Engine};
 use bt_tree::NodeHash;
 
-/// Takes in what the devices of those files have of which bytes are there, file after file; of no other file is a
-/// device called. `filled` tells it of each file. Errors: a read failed, or out of memory; the files before stay taken
-/// in.
+/// Takes in, file after file, what the devices of those files have of which `filled` tells that bytes are there; of no
+/// other file is a device called. `filled` has an entry for each file. Errors: a read failed, or out of memory; the
+/// files before stay taken in.
 pub fn adopt_files<D: Disk + Drop, H: NodeHash>(
     engine: &mut Engine<D, H>,
     filled: &[bool],

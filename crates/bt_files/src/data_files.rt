@@ -49,7 +49,7 @@ impl<D: Drop> OpenFiles<D> {
         }
     }
 
-    /// Puts a file behind those before.
+    /// Puts a file after those before.
     fn push(&mut self, file: OpenFile<D>) -> Result<(), AllocError>
         ensures disks { OnOk result (IsPushed self.old.disks.items file.disk self.new.disks.items) }
         ensures filled { OnOk result
@@ -137,7 +137,7 @@ fn push_devices<'a, R: Files + AllocGlobal + Clone + Drop, P: Watch>(
     Ok(())
 }
 
-/// Puts an item, if there is one, behind others.
+/// Puts an item, if there is one, after others.
 fn push_some<T: Drop>(items: &mut Vec<T>, item: Option<T>) -> Result<(), AllocError>
     ensures { OnOk result (IsPushed items.old.items item items.new.items) }
 {

@@ -5,11 +5,11 @@ ghost use Rattle.bt_files.specs.FileUse.{is_read_only};
 /// What the data files of a torrent are opened for.
 #[derive(Clone, Copy, Debug, PartialEq, Eq)]
 pub enum FileUse {
-    /// What is missing is fetched into them.
+    /// What is missing is fetched into the files.
     Fetch,
-    /// They are served, and what is missing may come from those who are served.
+    /// The files are served, and what is missing may come from those who are served.
     Seed,
-    /// They are served, and never written.
+    /// The files are served, and never written.
     ReadOnly,
 }
 

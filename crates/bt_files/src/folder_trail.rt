@@ -102,7 +102,7 @@ impl FolderTrail {
         folders.len()
     }
 
-    /// Leaves the folders but for so many below the first one.
+    /// Leaves the folders but for the `depth` ones below the first one.
     fn go_back<R: Files + AllocGlobal, P: Watch>(
         &mut self,
         rt: &R,

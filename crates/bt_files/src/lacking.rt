@@ -23,7 +23,7 @@ fn lacking<D: Disk + Drop, H: NodeHash>(engine: &Engine<D, H>, file: u32) -> u64
     }
 }
 
-/// How many bytes so many whole blocks have.
+/// How many bytes `blocks` whole blocks have.
 fn length_of(blocks: u32) -> u64 {
     u64::from(blocks) * BLOCK_LEN as u64
 }

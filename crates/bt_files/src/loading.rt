@@ -12,6 +12,9 @@ use std::rt::Files;
 
 /// Reads a torrent from its file, and opens the store of its files in a folder, with a log where the path of one is
 /// given. The calls on the files are told. The first fault ends it.
+///
+/// Errors: `Torrent` where the torrent is refused; `SameFile` where two of its paths are one file that may be written;
+/// `LogAmongFiles`, `OtherTorrent` or `LogTooLong` where the log is refused; `Device`; `OutOfMemory`.
 pub fn load_store<'a, R: Files + AllocGlobal + Clone + Drop, P: Watch>(
     rt: &R,
     watch: &'a P,

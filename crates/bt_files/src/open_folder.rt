@@ -26,7 +26,7 @@ pub(crate) struct OpenFolder {
 }
 
 impl OpenFolder {
-    /// No file was opened.
+    /// A folder of which no file was opened yet.
     pub(crate) fn new(alloc: Global) -> Self
         ensures { IsUnused result }
     {

@@ -13,7 +13,7 @@ use std::alloc::Global;
 use std::io::Write;
 
 /// Writes a line for each file of an engine's torrent, in order, and the last line; and gives whether all are
-/// complete.
+/// complete. Errors: `Device` where the writer fails; `OutOfMemory`.
 pub fn write_report<D: Disk + Drop, H: NodeHash, W: Write>(
     alloc: Global,
     engine: &Engine<D, H>,

@@ -75,7 +75,7 @@ pub(crate) fn hint_at_unmarked<D: Disk + Drop, H: NodeHash, P: Watch>(
     }
 }
 
-/// What is told then.
+/// What is told where a log marks nothing although files have bytes.
 fn unmarked_text(usage: FileUse) -> &'static str {
     match usage {
         FileUse::Fetch => {

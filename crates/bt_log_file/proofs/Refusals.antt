@@ -57,7 +57,7 @@ pub on_no : (b : Bool) (P Q : Type 0) → b ≡ false → MatchBool b P Q → Q
 on_no true P Q said is = absurd (false≢true (sym said))
 on_no false P Q said is = is
 
--- something holds of each of so many files
+-- something holds of each of the first `count` files
 abbrev pub EachBefore : (File → Type 0) → List File → ℕ → Type 0
 EachBefore P files count = (number : ℕ) (file : File) → number < count → slice_get files number ≡ Some file → P file
 

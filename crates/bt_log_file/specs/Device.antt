@@ -24,7 +24,7 @@ new_log_file at identity = record {
   failed = 0;
 }
 
--- its device, which is not closed to writes
+-- the device of a log's file, which is not closed to writes
 abbrev pub new_log_device : List ℕ → Option FileIdentity → LogDiskView
 new_log_device at identity = new_sealed (new_ahead (new_log_file at identity))
 

@@ -33,7 +33,7 @@ pub record IsFileAt (tells : Tells) (dir : List ℕ) (files : List File) (path :
   pub here : slice_get files number ≡ Some file
   pub is_at : IsAt tells dir path found file.path true
 
--- none is
+-- none of these files is the one at the path
 abbrev pub IsNoneAt : Tells → List ℕ → List File → List ℕ → Option FileIdentity → Type 0
 IsNoneAt tells dir files path found = (number : ℕ) (file : File) → slice_get files number ≡ Some file
     → IsAt tells dir path found file.path false

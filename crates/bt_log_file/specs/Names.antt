@@ -22,7 +22,7 @@ pub record AreAlike (file : List (List ℕ)) (path name other : List ℕ) : Type
 abbrev pub AreNoneAlike : (file : List (List ℕ)) (path : List ℕ) → Type 0
 AreNoneAlike file path = (name other : List ℕ) → ¬ AreAlike file path name other
 
--- so it is with these two, and a folder's listing, as it was read, lacks one of them
+-- the last names are alike, and a folder's listing, as it was read, lacks one of them
 pub record IsNameOf (file : List (List ℕ)) (path : List ℕ) : Type 0 where
   pub name : List ℕ
   pub other : List ℕ
@@ -30,7 +30,7 @@ pub record IsNameOf (file : List (List ℕ)) (path : List ℕ) : Type 0 where
   pub listing : FolderNames
   pub lacks : (has_name listing name && has_name listing other) ≡ false
 
--- so it is with the name of one of these files
+-- the path's name is such a name of one of these files
 pub record HasNameOfFile (files : List File) (path : List ℕ) : Type 0 where
   pub number : ℕ
   pub file : File
@@ -58,14 +58,15 @@ pub record IsFileByName (tells : Tells) (lists : Lists) (dir : List ℕ) (file :
   pub is_folder : IsFolderOf tells (folder_of path) (path_below dir file) true
   pub lacks : HasBoth lists (folder_of path) name other false
 
--- It is not: where there are such names, they lie in two folders, or in one that has both.
+-- A torrent's file is not the one at a path by such names: where there are some, they lie in two folders, or in one
+-- that has both.
 abbrev pub IsNoFileByName : Tells → Lists → (dir : List ℕ) (file : List (List ℕ)) (path : List ℕ) → Type 0
 IsNoFileByName tells lists dir file path = (name other : List ℕ) → AreAlike file path name other
     → IsFolderOf tells (folder_of path) (path_below dir file) false
     ⊎ (IsFolderOf tells (folder_of path) (path_below dir file) true
     × HasBoth lists (folder_of path) name other true)
 
--- so it is with one of these files
+-- one of these files is the one at the path by such names
 pub record HasFileByName (tells : Tells) (lists : Lists) (dir : List ℕ) (files : List File) (path : List ℕ)
     : Type 0 where
   pub number : ℕ

@@ -49,7 +49,8 @@ abbrev pub IsLogIn : Metainfo → List ℕ → Option FileIdentity → LogView L
 IsLogIn torrent path identity log =
     IsAttached device_conduct torrent.infohash (new_log_device path identity) log
 
--- so it is, and that very file was added, which was none of those before where the system tells them apart
+-- the log is in the file at the path, and that very file was added, which was none of those before where the system
+-- tells them apart
 pub record IsFurtherLog (before : KnownFiles) (torrent : Metainfo) (path : List ℕ)
     (after : KnownFiles) (log : LogView LogDiskView) : Type 0 where
   pub identity : Option FileIdentity
@@ -85,6 +86,6 @@ IsLogFaultBy called named known torrent path fault =
     (identity : Option FileIdentity)
     × IsLogFaultOf known identity torrent.infohash called named (new_log_device path identity) fault
 
--- so it is, where nothing is known of what the system told
+-- why a log is not opened in the file at a path, where nothing is known of what the system told
 abbrev pub IsLogFault : KnownFiles → Metainfo → List ℕ → Fault → Type 0
 IsLogFault known torrent path = IsLogFaultBy IsCallFault (HasNameOfFile torrent.files path) known torrent path

@@ -24,7 +24,8 @@ pub(crate) fn folder_of(path: &str) -> &str
     }
 }
 
-/// Has the name of a file kept, by a sync of the folder that it lies in, behind all links. A fault is told of.
+/// Has the name of a file kept, by a sync of the folder that it lies in once all links are followed. A fault is told
+/// of.
 pub(crate) fn keep_name<R: LogFolder, P: Watch>(rt: &R, watch: &P, path: &str) -> Result<(), Fault>
     ensures { IfErr result (IsCallFaultBy ((folder : List ℕ) × R.loses rt.now folder)) }
 {
@@ -34,7 +35,8 @@ pub(crate) fn keep_name<R: LogFolder, P: Watch>(rt: &R, watch: &P, path: &str) -
     told(rt.alloc(), watch, FileCall::Sync, folder, synced)
 }
 
-/// The path of a file behind all links. Where the system tells none, or one that is no text, it is the one given.
+/// The path of a file once all links are followed. Where the system tells none, or one that is no text, it is the one
+/// given.
 fn real_path<R: Files + AllocGlobal>(rt: &R, path: &str) -> Result<PathBuf, Fault>
     ensures { IfErr result (λ fault. fault ≡ out_of_memory) }
 {

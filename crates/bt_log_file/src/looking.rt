@@ -15,6 +15,8 @@ use std::rt::Files;
 /// folder `dir`: before anything is made, so that nothing is. What a look does not show [`open_log`] finds, once all
 /// files of the torrent are open: so this one is for the user's sake.
 ///
+/// Errors: `LogAmongFiles`; or memory is refused.
+///
 /// [`open_log`]: crate::open_log
 pub fn refuse_data_file<R: Files + AllocGlobal + Clone + Drop + Lookup>(
     rt: &R,

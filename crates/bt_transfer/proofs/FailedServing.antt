@@ -25,14 +25,6 @@ pub on_ok : {T E : Type 0} (r : Result T E) (P : Type 0) → P → OnOk r P
 on_ok (Ok x) P holds = holds
 on_ok (Err e) P holds = tt
 
--- an alarm is told as a device
-pub heard : (rang is_complete : Bool) (r : Result (Unit {0}) Fault) → (is_complete ≡ true → r ≡ Ok tt) → (rang ≡ false → r ≡ Ok tt)
-    → (rang ≡ true → is_complete ≡ false → r ≡ Err device) → IfErr r (λ fault. fault ≡ device)
-heard rang is_complete (Ok done) complete quiet fault = tt
-heard rang true (Err told) complete quiet fault = let bad : Err told ≡ Ok tt = complete refl in absurd cc
-heard false false (Err told) complete quiet fault = let bad : Err told ≡ Ok tt = quiet refl in absurd cc
-heard true false (Err told) complete quiet fault = let is : Err told ≡ Err device = fault refl refl in cc
-
 module _ {D : Type 0} (conduct : Conduct D) (dig : List ℕ → List ℕ) where
   -- a connection was served, and then all was synced
   pub met_and_synced : (old mid new : EngineView D) (met told : Result PeerEnd Fault) → IfOk met (λ end. MeetsOverTcp conduct dig old end mid)

@@ -13,7 +13,8 @@ use Rattle.bt_session.specs.Peers.{InTurn, InTurnWithFlushes, IsDialled, IsTried
 use Rattle.bt_session.specs.Peers.InTurn.{none_left, complete, tried}
 use Rattle.bt_session.specs.Peers.InTurnWithFlushes.{none_left as no_more, complete as is_complete, tried as went, stopped}
 use Rattle.bt_session.proofs.Unflushed.{unflushed_end, unflushed_turns}
-use Rattle.bt_wire.specs.declared.message.Ask.{Ask}
+use Rattle.bt_connection.specs.ShortBlocks.{short_blocks_of}
+use Rattle.bt_meta.specs.Torrent.{Metainfo, total_pieces}
 use Rattle.bt_sockets.specs.Link.{Dials, undialled}
 use Rattle.bt_sockets.specs.Listener.{IsServed}
 use Rattle.bt_transfer.specs.Fetch.{HasFetched, TriesAndSyncs, Turns, TurnsOverTcp, among, behind, flush_turns, links_of}
@@ -185,13 +186,13 @@ fetched_by InTurns To carry conduct dig peers old links before now status rest n
 
 -- over links to these peers, peers are tried over TCP
 pub fetched_over_tcp : {D R W : Type 0} (conduct : Conduct D) (dig : List ℕ → List ℕ)
-    (gives : Dials → R → W → Type 0) (remaining : R → Option (List ℕ)) (contents : W → Option (List ℕ)) (short : List Ask) (peers : List Peer)
+    (gives : Dials → R → W → Type 0) (remaining : R → Option (List ℕ)) (contents : W → Option (List ℕ)) (torrent : Metainfo) (peers : List Peer)
     (log : Option (Bor (List ℕ))) (every : ℕ) (old : EngineView D) (links : List Dials) (before now : Option (List ℕ)) (status : ℕ) (rest : List Dials) (new : EngineView D)
-    → links ≡ links_of short peers → every ≡ flush_turns log
+    → links ≡ links_of torrent peers → every ≡ flush_turns log
     → HasFetched (InTurnWithFlushes (IsTriedWithFlushes conduct dig (λ (l : Dials). l.all) (λ (l : Dials). l.failed) gives remaining contents every SESSION_TURNS))
     conduct dig peers old links before now status rest new
-    → HasFetched (TurnsOverTcp conduct dig log) conduct dig peers old (links_of short peers) before now status rest new
-fetched_over_tcp conduct dig gives remaining contents short peers log every old links before now status rest new are often fetched =
+    → HasFetched (TurnsOverTcp conduct dig log) conduct dig peers old (links_of torrent peers) before now status rest new
+fetched_over_tcp conduct dig gives remaining contents torrent peers log every old links before now status rest new are often fetched =
     subst (λ given. HasFetched (TurnsOverTcp conduct dig log) conduct dig peers old given before now status rest new) are
     (fetched_by _ (TurnsOverTcp conduct dig log) (turns_over_tcp conduct dig gives remaining contents log)
     conduct dig peers old links before now status rest new
@@ -200,7 +201,7 @@ fetched_over_tcp conduct dig gives remaining contents short peers log every old 
     conduct dig peers old links before now status rest new) often fetched))
 
 -- none of these links was dialled
-pub links_undialled : (short : List Ask) (peers : List Peer) (links : List Dials) → links ≡ links_of short peers → All (λ (link : Dials). link.all ≡ 0) links
-links_undialled short peers links are =
+pub links_undialled : (torrent : Metainfo) (peers : List Peer) (links : List Dials) → links ≡ links_of torrent peers → All (λ (link : Dials). link.all ≡ 0) links
+links_undialled torrent peers links are =
     subst (All (λ (link : Dials). link.all ≡ 0)) (sym are)
-    (All-map (λ (link : Dials). link.all ≡ 0) (λ (peer : Peer). undialled peer.host.now peer.port short) peers (λ k d within. refl))
+    (All-map (λ (link : Dials). link.all ≡ 0) (λ (peer : Peer). undialled peer.host.now peer.port (short_blocks_of torrent) (total_pieces torrent)) peers (λ k d within. refl))

@@ -40,7 +40,7 @@ served_line number end = line_text (codes "served " ++ decimal number ++ codes "
 abbrev pub served_lines : List PeerEnd → List ℕ
 served_lines ends = flat_map (λ p. served_line p.0 p.1) (enumerate_from 1 ends)
 
--- so many were served, and a line tells of each
+-- this many were served, and a line tells of each
 pub record HasServed {D : Type 0} (Meet : Meeting D) (count : ℕ) (old : EngineView D)
     (before after : Option (List ℕ)) (new : EngineView D) : Type 0 where
   pub ends : List PeerEnd

@@ -6,7 +6,7 @@ use Rattle.bt_disk.specs.Conduct.{Conduct}
 use Rattle.bt_resume.specs.ResumeLog.{LogView}
 use Rattle.bt_files.specs.Waiting.{TakesInAllWaiting}
 use Rattle.bt_meta.specs.Files.{File}
-use Rattle.bt_meta.specs.Torrent.{Metainfo}
+use Rattle.bt_meta.specs.Torrent.{Metainfo, total_pieces}
 use Rattle.bt_machine.specs.declared.error.FlushError.{FlushError}
 use Rattle.bt_machine.specs.declared.event.Event.TheVariants.{Flush}
 use Rattle.bt_machine.specs.declared.event.Answer.TheVariants.{Flushed}
@@ -63,13 +63,13 @@ pub record HasFetched {D L : Type 0} (InTurns : Turns D L) (conduct : Conduct D)
 
 -- ---- over TCP
 
--- Behind each so many turns of a peer's session a fetch with a log flushes; one without a log never does, for
--- which 0 stands.
+-- After how many turns of a peer's session, each time, a fetch with a log flushes; one without a log never
+-- does, for which 0 stands.
 abbrev pub flush_turns : Option (Bor (List ℕ)) → ℕ
 flush_turns None = 0
-flush_turns (Some path) = 16384
+flush_turns (Some path) = 2048
 
--- Peers are tried in turn, and where there is a log, also flushed in their sessions and behind these. Without
+-- Peers are tried in turn, and where there is a log, also flushed in their sessions and after these. Without
 -- one there is no flush among them.
 abbrev pub TurnsOverTcp : {D : Type 0} → Conduct D → (List ℕ → List ℕ)
     → (log : Option (Bor (List ℕ))) → Turns D Dials
@@ -80,17 +80,21 @@ TurnsOverTcp conduct dig (Some path) old links ends rest answer new =
     old links ends rest answer new
 
 -- A link to each peer's host and port, in their order, none of which was dialled. What stands before their
--- sockets goes by these short blocks.
-abbrev pub links_of : List Ask → List Peer → List Dials
-links_of short peers = map (λ peer. undialled peer.host.now peer.port short) peers
+-- sockets goes by these short blocks, and by how many pieces there are.
+abbrev pub links_by : List Ask → (pieces : ℕ) → List Peer → List Dials
+links_by short pieces peers = map (λ peer. undialled peer.host.now peer.port short pieces) peers
 
--- The same over a new link to each of the peers, for the short last blocks of the engine's own torrent.
+-- by those of a torrent
+abbrev pub links_of : Metainfo → List Peer → List Dials
+links_of torrent peers = links_by (short_blocks_of torrent) (total_pieces torrent) peers
+
+-- The same over a new link to each of the peers, for the engine's own torrent.
 pub record HasFetchedOverTcp {D : Type 0} (conduct : Conduct D)
     (dig : List ℕ → List ℕ) (peers : List Peer) (log : Option (Bor (List ℕ))) (old : EngineView D)
     (before after : Option (List ℕ)) (status : ℕ) (new : EngineView D) : Type 0 where
   pub rest : List Dials
   pub fetched : HasFetched (TurnsOverTcp conduct dig log) conduct dig peers
-      old (links_of (short_blocks_of old.state.torrent) peers) before after status rest new
+      old (links_of old.state.torrent peers) before after status rest new
 
 -- ---- the whole
 

@@ -11,7 +11,7 @@ use Rattle.bt_machine.specs.State.{EngineView}
 use Rattle.bt_session.specs.declared.peer_end.PeerEnd.{PeerEnd}
 use Rattle.bt_transfer.specs.Fetch.{TriesAndSyncs, Turns}
 
--- Peers were tried in turn, and a flush among them or behind them was refused, which is told as this fault.
+-- Peers were tried in turn, and a flush among them or after them was refused, which is told as this fault.
 pub record FailsToSync {D L : Type 0} (InTurns : Turns D L) (conduct : Conduct D) (dig : List ℕ → List ℕ)
     (old : EngineView D) (links : List L) (ends : List PeerEnd)
     (rest : List L) (fault : Fault) (new : EngineView D) : Type 0 where
@@ -19,8 +19,8 @@ pub record FailsToSync {D L : Type 0} (InTurns : Turns D L) (conduct : Conduct D
   pub told : fault ≡ flush_fault error
   pub tried : TriesAndSyncs InTurns conduct dig old links ends rest (Err error) new
 
--- A fetch fails for want of memory, before any peer is tried; or by a flush among the peers or behind them that was
--- refused. Or it fails behind a flush that was made: as the peers' lines are written, as a file is taken in, or with
+-- A fetch fails for want of memory, before any peer is tried; or by a flush among the peers or after them that was
+-- refused. Or it fails after a flush that was made: as the peers' lines are written, as a file is taken in, or with
 -- the flush at its end.
 pub data BreaksOff {D L : Type 0} (InTurns : Turns D L) (conduct : Conduct D) (dig : List ℕ → List ℕ)
     (old : EngineView D) (links rest : List L) (fault : Fault)

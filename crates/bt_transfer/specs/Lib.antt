@@ -4,4 +4,5 @@ pub mod Fetch
 pub mod FetchSteps
 pub mod Connections
 pub mod FullLog
+pub mod Hearing
 pub mod Seed

@@ -15,7 +15,7 @@ TriesOverTcp conduct dig =
     IsTried conduct dig (λ link. link.all) (λ link. link.failed) (λ link given taken. ⊤)
     (λ bytes. bytes) (λ bytes. bytes) SESSION_TURNS
 
--- the same, and the engine is flushed behind each `every`-th turn of the session, and behind the session
+-- the same, and the engine is flushed after each `every`-th turn of the session, and after the session
 abbrev pub TriesWithFlushesOverTcp : {D : Type 0} → Conduct D
     → (List ℕ → List ℕ) → (every : ℕ) → TrialWithFlushes D Dials
 TriesWithFlushesOverTcp conduct dig every =

@@ -31,7 +31,8 @@ abbrev pub connection_count : Serving → ℕ
 connection_count (Count count) = count
 connection_count Forever = 2 ^ 64 - 1
 
--- So many were served, behind each all devices were synced, and so they were at the end: also where it was none.
+-- As many were served as is said, after each all devices were synced, and so they were at the end: also where
+-- it was none.
 pub record HasServedAll {D : Type 0} (conduct : Conduct D)
     (dig : List ℕ → List ℕ) (serving : Serving) (old : EngineView D) (before after : Option (List ℕ))
     (new : EngineView D) : Type 0 where

@@ -20,7 +20,7 @@ use std::io::Write;
 use std::net::Net;
 use std::time::{Clock, Duration};
 
-/// Serves so many connections, one after the other, whatever came of those before; behind each it has all put on the
+/// Serves `count` connections, one after the other, whatever came of those before; after each it has all put on the
 /// devices, and into the log, and then writes how it ended with it.
 pub(crate) fn serve_each<D: Disk + Drop, H: NodeHash, N: Net + Clock, W: Write>(
     alloc: Global,
@@ -46,7 +46,7 @@ pub(crate) fn serve_each<D: Disk + Drop, H: NodeHash, N: Net + Clock, W: Write>(
 
 /// Serves a connection, which has this number; has all put on the devices, and into the log, also where none could be
 /// taken; and then writes how it ended. Errors: none could be taken; a device or the writer failed; out of memory; the
-/// log is full. Where a flush is refused, that is told, behind the line.
+/// log is full. Where a flush is refused, that is told, after the line.
 fn serve_and_sync<D: Disk + Drop, H: NodeHash, N: Net + Clock, W: Write>(
     alloc: Global,
     reception: &Reception<'_, N>,

@@ -1,16 +1,37 @@
-//! What a command tells at its end of an alarm, which a device rings that refuses a write.
-ghost use Rattle.std.specs.Prelude.{◌≡◌, Ok, Err, false, true};
+//! What a command tells at its end of a bell, which rings where a device refuses a write.
+ghost use Rattle.std.specs.Prelude.{⊤, ◌≡◌, Bool, false, true, IfErr, OnOk};
 ghost use Rattle.bt_check.specs.Fault.{device};
+ghost use Rattle.bt_transfer.specs.Hearing.{IsHeard};
 
 use bt_check::Fault;
+use bt_devices::Alarm;
 
-/// What comes of an alarm that rang, or did not, where all files are complete or not. Errors: it rang, and not all are.
-pub(crate) fn hear(rang: bool, is_complete: bool) -> Result<(), Fault>
-    ensures complete { is_complete ≡ true → result ≡ Ok tt }
-    ensures quiet { rang ≡ false → result ≡ Ok tt }
-    ensures fault { rang ≡ true → is_complete ≡ false → result ≡ Err device }
+/// What rings where a device refuses a write.
+pub(crate) trait Bell {
+    /// That it told whether it ever rang.
+    ghost tells: { Self → Bool → Type 0 };
+
+    /// Whether it ever rang.
+    fn has_rung(&self) -> bool
+        ensures { tells self.now result };
+}
+
+// What lies in its cell no clause knows.
+impl Bell for Alarm {
+    ghost tells = { λ _ _. ⊤ };
+
+    fn has_rung(&self) -> bool {
+        Alarm::has_rung(self)
+    }
+}
+
+/// Hears a bell, where all files are complete or not. Errors: it ever rang, and not all are.
+pub(crate) fn hear<B: Bell>(bell: &B, is_complete: bool) -> Result<(), Fault>
+    ensures heard { OnOk result (IsHeard (B.tells bell.now) is_complete) }
+    ensures fault { IfErr result
+        (λ fault. (fault ≡ device) × B.tells bell.now true × (is_complete ≡ false)) }
 {
-    if rang && !is_complete {
+    if bell.has_rung() && !is_complete {
         return Err(Fault::Device);
     }
     Ok(())

@@ -5,18 +5,19 @@ ghost use Rattle.bt_check.specs.Fault.{log_full, status_of};
 ghost use Rattle.bt_files.specs.Ending.{IsEndFault};
 ghost use Rattle.bt_files.specs.Loading.{IsLogFull, IsStoreFault};
 ghost use Rattle.bt_files.specs.declared.file_use.FileUse.TheVariants.{Fetch};
+ghost use Rattle.bt_machine.specs.Report.{all_complete};
 ghost use Rattle.bt_meta.specs.Torrent.{Metainfo};
-ghost use Rattle.bt_connection.specs.ShortBlocks.{short_blocks_of};
 ghost use Rattle.bt_session.specs.Peers.{InTurnWithFlushes, IsTriedWithFlushes};
 ghost use Rattle.bt_resume.specs.ResumeLog.{LogView};
 ghost use Rattle.bt_engine.specs.Leads.{LeadsTo};
-ghost use Rattle.bt_transfer.specs.Fetch.{EndsFetch, HasFetched, HasFetchedOverTcp, IsFetch, TriesAndSyncs, flush_turns, links_of};
+ghost use Rattle.bt_transfer.specs.Fetch.{EndsFetch, HasFetched, HasFetchedOverTcp, IsFetch, TriesAndSyncs, flush_turns, links_by, links_of};
 ghost use Rattle.bt_transfer.specs.FetchSteps.{BreaksOff, FailsToSync};
 ghost use Rattle.bt_transfer.specs.FullLog.{FindsLogFull, HasFilledLog};
+ghost use Rattle.bt_transfer.specs.Hearing.{IsHeard};
 ghost use Rattle.bt_files.specs.Store.{HasBegun, IsFlushFault};
 
 use crate::device_context::device_context;
-use crate::hearing::hear;
+use crate::hearing::{Bell, hear};
 use crate::peer_lines::write_peers;
 use bt_check::{Fault, Source};
 use bt_connection::ShortBlocks;
@@ -35,10 +36,11 @@ use std::net::Net;
 use std::rt::Files;
 use std::time::{Clock, Duration};
 
-/// Behind each so many turns with a peer, a fetch that has a log puts what came on the devices, and what is known of
-/// it into the log, so that little has to come again where the fetch is killed. A turn takes in what one read from the
-/// peer gives, 16 KiB at most: so at most 256 MiB come between two flushes.
-const FLUSH_TURNS: u64 = 16_384;
+/// After how many turns with a peer a fetch that has a log puts what came on the devices, and what is known of it into
+/// the log, so that little has to come again where the fetch is killed. A turn takes in what one read from the peer
+/// gives, 16 KiB at most: so at most 32 MiB come between two flushes. Each turn may end a small file, which is synced for
+/// itself, and meanwhile the peer waits, who may give up.
+const FLUSH_TURNS: u64 = 2048;
 
 /// Opens the store of a torrent's files in a folder, as `load_store` does; takes peers in turn until all
 /// files are complete; writes how it ended with each that was tried; takes in the files whose blocks all came,
@@ -46,12 +48,12 @@ const FLUSH_TURNS: u64 = 16_384;
 /// program: 0 where all files are complete, else 1.
 ///
 /// Where the path of a log is given, it has all put on the devices, and what is known of it into the log, also while it
-/// fetches, behind each so many turns with a peer, and behind each peer.
+/// fetches, after each 2,048 turns with a peer, and after each peer.
 ///
 /// It is told how much is read of what the files have, and then how much is written of what they lack.
 ///
 /// A session ends where a device refuses a write. Where that was so of one of them, and files are not complete, the
-/// device's fault comes behind the report.
+/// device's fault comes after the report.
 ///
 /// Errors: the torrent or the log is refused, or two of the torrent's paths are one file, and then nothing is written;
 /// a device or the writer failed; out of memory; the log is full.
@@ -110,16 +112,19 @@ fn fetch_store<D: Disk + Drop, H: NodeHash, N: Net + Clock, P: Watch, W: Write>(
     whole_runs_keep_promises(&engine);
     let mut engine = engine;
     begin_fetching(watch, &engine);
-    let short_blocks = ShortBlocks::new(alloc, engine.torrent())?;
+    let torrent = engine.torrent();
+    let short_blocks = ShortBlocks::new(alloc, torrent)?;
     let passage = Passage {
         short_blocks: &short_blocks,
-        pieces: engine.torrent().pieces(),
+        pieces: torrent.pieces(),
         shared,
     };
-    fetch_from(alloc, net, &mut engine, passage, peers, log, writer)
+    let mut links = links_to(alloc, net, peers, passage)?;
+    let bell = &shared.alarm;
+    fetch_from(alloc, &mut engine, peers, &mut links, log, bell, writer)
 }
 
-/// Behind how many turns with a peer a fetch flushes: never, for which 0 stands, without a log.
+/// After how many turns with a peer a fetch flushes: never, for which 0 stands, without a log.
 fn flush_turns(log: Option<&str>) -> u64
     ensures { result ≡ flush_turns log.entry }
 {
@@ -129,39 +134,31 @@ fn flush_turns(log: Option<&str>) -> u64
     }
 }
 
-/// Takes peers in turn, over TCP, until an engine of a torrent is complete, and tells of it as `fetch_over` does; where
-/// the path of its log is given, with flushes among them. Errors: also where a session ended because a device refused a
-/// write, and files are not complete.
-fn fetch_from<D: Disk + Drop, H: NodeHash, N: Net + Clock, W: Write>(
+/// Takes peers in turn, each by its link over TCP, until an engine of a torrent is complete, and tells of it as
+/// `fetch_over` does; where the path of its log is given, with flushes among them; then it hears a bell. Errors: also
+/// where that rang, since a device refused a write, and files are not complete.
+fn fetch_from<D: Disk + Drop, H: NodeHash, N: Net + Clock, B: Bell, W: Write>(
     alloc: Global,
-    net: &N,
     engine: &mut Engine<D, H>,
-    passage: Passage<'_>,
     peers: &[Peer<'_>],
+    links: &mut [TcpLink<'_, N>],
     log: Option<&str>,
+    bell: &B,
     writer: &mut W,
 ) -> Result<u8, Fault>
     requires no_peer { engine.old.state.peers ≡ [] }
-    requires own_short_blocks { passage.short_blocks.now ≡ short_blocks_of engine.old.state.torrent }
+    requires own_links { links.old ≡ links_of engine.old.state.torrent peers.now }
     ensures fetched { IfOk result (λ status. HasFetchedOverTcp D.conduct H.digest peers.now
         log.entry engine.old (W.contents writer.old) (W.contents writer.new) status engine.new) }
+    ensures heard { OnOk result (IsHeard (B.tells bell.now) (all_complete engine.new.state)) }
     ensures run { LeadsTo D.conduct H.digest engine.old engine.new }
     ensures fault { IfErr result (IsEndFault engine.old.log) }
     ensures full { IfErr result
         (λ fault. fault ≡ log_full → FindsLogFull D.conduct H.digest engine.old) }
 {
-    let mut links = links_to(alloc, net, peers, passage)?;
     let every = flush_turns(log);
-    let status = fetch_over(
-        alloc,
-        engine,
-        peers,
-        &mut links,
-        SESSION_TURNS,
-        every,
-        writer,
-    )?;
-    hear(passage.shared.alarm.has_rung(), status == 0)?;
+    let status = fetch_over(alloc, engine, peers, links, SESSION_TURNS, every, writer)?;
+    hear(bell, engine.is_complete())?;
     Ok(status)
 }
 
@@ -172,7 +169,8 @@ fn links_to<'a, N: Net + Clock>(
     peers: &'a [Peer<'a>],
     passage: Passage<'a>,
 ) -> Result<Vec<TcpLink<'a, N>>, AllocError>
-    ensures { IfOk result (λ links. links.items ≡ links_of passage.entry.short_blocks.now peers.now) }
+    ensures { IfOk result (λ links. links.items
+        ≡ links_by passage.entry.short_blocks.now passage.entry.pieces peers.now) }
 {
     let idle = Duration::from_secs(IDLE_SECONDS);
     let mut links = Vec::new(alloc);
@@ -185,8 +183,8 @@ fn links_to<'a, N: Net + Clock>(
 
 /// Takes peers in turn, each by its link, until the engine is complete; has all put on the devices; writes how
 /// it ended with each peer that was tried; takes in the files whose blocks came without their hashes; and then
-/// concludes. A peer's session has so many turns at most, with a flush behind each `flush_every`-th and behind the
-/// session, or with none where that is 0. Errors: also where a flush was refused, which is told of behind the lines of
+/// concludes. A peer's session has at most `turns` turns, with a flush after each `flush_every`-th and after the
+/// session, or with none where that is 0. Errors: also where a flush was refused, which is told of after the lines of
 /// the peers, whether these could be written or not; and where they can't be, what came is on the devices all the same.
 fn fetch_over<D: Disk + Drop, H: NodeHash, L: Link, W: Write>(
     alloc: Global,

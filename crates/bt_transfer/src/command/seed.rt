@@ -5,19 +5,21 @@ ghost use Rattle.bt_check.specs.Fault.{device, log_full, out_of_memory, status_o
 ghost use Rattle.bt_files.specs.Ending.{IsEndFault};
 ghost use Rattle.bt_files.specs.Loading.{IsLogFull, IsStoreFault};
 ghost use Rattle.bt_files.specs.Report.{engine_report};
+ghost use Rattle.bt_machine.specs.Report.{all_complete};
 ghost use Rattle.bt_machine.specs.State.{EngineView};
-ghost use Rattle.bt_meta.specs.Torrent.{Metainfo};
+ghost use Rattle.bt_meta.specs.Torrent.{Metainfo, total_pieces};
 ghost use Rattle.bt_connection.specs.ShortBlocks.{short_blocks_of};
 ghost use Rattle.bt_resume.specs.ResumeLog.{LogView};
 ghost use Rattle.bt_engine.specs.Leads.{LeadsTo};
 ghost use Rattle.bt_transfer.specs.Connections.{FailsToServe};
 ghost use Rattle.bt_transfer.specs.FullLog.{HasFilledLog};
+ghost use Rattle.bt_transfer.specs.Hearing.{IsHeard};
 ghost use Rattle.bt_transfer.specs.Seed.{EndsSeed, FailsToSeed, HasListened, HasServedAll, IsPortFor, IsSeed, connection_count, listening_line, seed_use};
 ghost use Rattle.bt_files.specs.Store.{HasBegun};
 
 use crate::connections::serve_each;
 use crate::device_context::device_context;
-use crate::hearing::hear;
+use crate::hearing::{Bell, hear};
 use crate::reception::Reception;
 use bt_check::{Fault, Source, print};
 use bt_connection::ShortBlocks;
@@ -37,7 +39,7 @@ use std::time::Clock;
 
 /// Opens the store of a torrent's files in a folder, as `load_store` does; listens, and writes at which port;
 /// and serves connections, one after the other, whatever came of those before, each with a line that tells how
-/// it ended. Behind each, and before its line, all is put on the devices, and what is known of it into the log, where
+/// it ended. After each, and before its line, all is put on the devices, and what is known of it into the log, where
 /// the path of one is given; so it is at the end, also where none is served. The answer is the program's status, 0.
 ///
 /// Where all files are complete at first, none is written from then on, but the log is: a session ends in which a block
@@ -159,10 +161,11 @@ fn seed_store<D: Disk + Drop, H: NodeHash, N: Net + Clock, P: Watch, W: Write>(
     let mut engine = engine;
     hint_at_lack(watch, &engine);
     watch.begin(FileCall::Read);
-    let short_blocks = ShortBlocks::new(alloc, engine.torrent())?;
+    let torrent = engine.torrent();
+    let short_blocks = ShortBlocks::new(alloc, torrent)?;
     let passage = Passage {
         short_blocks: &short_blocks,
-        pieces: engine.torrent().pieces(),
+        pieces: torrent.pieces(),
         shared,
     };
     listen_and_serve(alloc, net, &mut engine, passage, service, writer)?;
@@ -189,6 +192,7 @@ fn listen_and_serve<D: Disk + Drop, H: NodeHash, N: Net + Clock, W: Write>(
 ) -> Result<(), Fault>
     requires no_peer { engine.old.state.peers ≡ [] }
     requires own_short_blocks { passage.short_blocks.now ≡ short_blocks_of engine.old.state.torrent }
+    requires own_pieces { passage.pieces ≡ total_pieces engine.old.state.torrent }
     ensures run { LeadsTo D.conduct H.digest engine.old engine.new }
     ensures served { OnOk result (HasListened D.conduct H.digest service.entry
         engine.old (W.contents writer.old) (W.contents writer.new) engine.new) }
@@ -203,7 +207,8 @@ fn listen_and_serve<D: Disk + Drop, H: NodeHash, N: Net + Clock, W: Write>(
         listener: &listener,
         passage,
     };
-    serve_all(alloc, &reception, engine, service.serving, writer)
+    let bell = &passage.shared.alarm;
+    serve_all(alloc, &reception, engine, service.serving, bell, writer)
 }
 
 /// Writes at which port connections are waited for, of a listener that was asked for one.
@@ -263,16 +268,18 @@ fn connection_count(serving: Serving) -> u64
     }
 }
 
-/// Serves as many connections as is said, and has all put on the devices, and into the log. Errors: also where a
-/// session ended because a device refused a write, and files are not complete.
-fn serve_all<D: Disk + Drop, H: NodeHash, N: Net + Clock, W: Write>(
+/// Serves as many connections as is said, and has all put on the devices, and into the log; then it hears a bell.
+/// Errors: also where that rang, since a device refused a write, and files are not complete.
+fn serve_all<D: Disk + Drop, H: NodeHash, N: Net + Clock, B: Bell, W: Write>(
     alloc: Global,
     reception: &Reception<'_, N>,
     engine: &mut Engine<D, H>,
     serving: Serving,
+    bell: &B,
     writer: &mut W,
 ) -> Result<(), Fault>
     requires no_peer { engine.old.state.peers ≡ [] }
+    ensures heard { OnOk result (IsHeard (B.tells bell.now) (all_complete engine.new.state)) }
     ensures served { OnOk result (HasServedAll D.conduct H.digest serving
         engine.old (W.contents writer.old) (W.contents writer.new) engine.new) }
     ensures kept { IfErr result
@@ -284,8 +291,5 @@ fn serve_all<D: Disk + Drop, H: NodeHash, N: Net + Clock, W: Write>(
     serve_each(alloc, reception, engine, count, writer)?;
     // also where there was no connection
     finish(engine)?;
-    hear(
-        reception.passage.shared.alarm.has_rung(),
-        engine.is_complete(),
-    )
+    hear(bell, engine.is_complete())
 }

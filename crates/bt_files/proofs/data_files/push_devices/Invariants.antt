@@ -1,6 +1,6 @@
 -- The devices so far are those of the entries so far, and there are no others of the pool. Before the first no file was
--- opened; behind it those so far are known, but for a read-only use, of which none is. But for such a use the devices so far
--- are of files of their own, and these are known.
+-- opened; after it those so far are known, but for a read-only use, of which none is. But for such a use the devices so
+-- far are of files of their own, and these are known.
 use Rattle.std.proofs.Common.{◌≡◌, ◌<◌, true, false}
 use Rattle.bt_files.specs.FileUse.{is_read_only}
 use Rattle.bt_files.specs.OpenFolder.{IsUnused, KnowsFiles}

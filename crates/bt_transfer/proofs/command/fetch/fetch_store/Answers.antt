@@ -1,12 +1,18 @@
 use Rattle.std.proofs.Common.{ap, inr, refl, ◌∙◌}
 use Rattle.bt_connection.specs.ShortBlocks.{short_blocks_of}
 use Rattle.bt_files.proofs.Faults.{ok_weaker, passed_on}
+use Rattle.bt_meta.specs.Torrent.{total_pieces}
+use Rattle.bt_transfer.specs.Fetch.{links_by}
 use Rattle.bt_transfer.proofs.EndFaults.{call_not_full}
 use Rattle.bt_transfer.proofs.WholeRuns.{ends_fetch}
 use Rattle.bt_transfer.proofs.command.fetch.fetch_store.Goals as goal
 
-pub fetch_from-requires-clause-own_short_blocks : goal.fetch_from-requires-clause-own_short_blocks
-fetch_from-requires-clause-own_short_blocks g c = c.in_ok-short_blocks.ensures.of_torrent ∙ ap short_blocks_of c.torrent.ensures
+pub fetch_from-requires-clause-own_links : goal.fetch_from-requires-clause-own_links
+fetch_from-requires-clause-own_links g c =
+    c.deref_mut.ensures.value ∙ c.in_ok-links.ensures
+    ∙ ap (λ short. links_by short c.pieces.result c.args.peers.now) (c.in_ok-short_blocks.ensures.of_torrent ∙ ap short_blocks_of c.torrent-torrent.ensures)
+    ∙ ap (λ pieces. links_by (short_blocks_of c.args.engine.state.torrent) pieces c.args.peers.now)
+    (c.pieces.ensures.counted ∙ ap total_pieces c.torrent-torrent.ensures)
 
 pub returns-clause-fetched : goal.returns-clause-fetched
 returns-clause-fetched g c = λ torrent given attached filled begun. ok_weaker c.fetch_from.result _ _
@@ -18,3 +24,7 @@ returns-clause-fetched g c = λ torrent given attached filled begun. ok_weaker c
 pub returns-in_err-short_blocks-clause-full : goal.returns-in_err-short_blocks-clause-full
 returns-in_err-short_blocks-clause-full g c =
     passed_on c.from_residual.result _ _ c.from_residual.ensures.1 (λ full. absurd (call_not_full _ (inr refl) full))
+
+pub returns-in_err-links-clause-full : goal.returns-in_err-links-clause-full
+returns-in_err-links-clause-full g c =
+    passed_on c.from_residual-in_err-links.result _ _ c.from_residual-in_err-links.ensures.1 (λ full. absurd (call_not_full _ (inr refl) full))

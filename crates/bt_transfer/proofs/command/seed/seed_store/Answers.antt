@@ -1,11 +1,15 @@
 use Rattle.std.proofs.Common.{inl, inr, ap, ◌∙◌, refl}
 use Rattle.bt_connection.specs.ShortBlocks.{short_blocks_of}
+use Rattle.bt_meta.specs.Torrent.{total_pieces}
 use Rattle.bt_files.proofs.Faults.{passed_on}
 use Rattle.bt_transfer.proofs.WholeRuns.{ends_seed}
 use Rattle.bt_transfer.proofs.command.seed.seed_store.Goals as goal
 
 pub listen_and_serve-requires-clause-own_short_blocks : goal.listen_and_serve-requires-clause-own_short_blocks
-listen_and_serve-requires-clause-own_short_blocks g c = c.in_ok-short_blocks.ensures.of_torrent ∙ ap short_blocks_of c.torrent.ensures
+listen_and_serve-requires-clause-own_short_blocks g c = c.in_ok-short_blocks.ensures.of_torrent ∙ ap short_blocks_of c.torrent-torrent.ensures
+
+pub listen_and_serve-requires-clause-own_pieces : goal.listen_and_serve-requires-clause-own_pieces
+listen_and_serve-requires-clause-own_pieces g c = c.pieces.ensures.counted ∙ ap total_pieces c.torrent-torrent.ensures
 
 pub returns-clause-listened : goal.returns-clause-listened
 returns-clause-listened g c = λ torrent given attached filled begun.

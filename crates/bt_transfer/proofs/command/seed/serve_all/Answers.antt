@@ -4,7 +4,7 @@ use Rattle.bt_files.specs.Ending.{IsEndFault}
 use Rattle.bt_files.proofs.Faults.{call_ends, err_weaker, passed_on}
 use Rattle.bt_files.proofs.Unlogged.{flush_fault_before}
 use Rattle.bt_transfer.specs.Connections.{HasServed, MeetsAndSyncs}
-use Rattle.bt_transfer.proofs.FailedServing.{fails_by_call, fails_by_flush, heard, on_ok}
+use Rattle.bt_transfer.proofs.FailedServing.{fails_by_call, fails_by_flush, on_ok}
 use Rattle.bt_transfer.proofs.command.seed.serve_all.Goals as goal
 
 pub returns-clause-served : goal.returns-clause-served
@@ -31,8 +31,7 @@ returns-in_err-finish-clause-fault g c =
 
 pub returns-clause-fault : goal.returns-clause-fault
 returns-clause-fault g c =
-    err_weaker c.hear.result _ _ (λ fault at_device. call_ends c.args.engine.now.log fault (inl at_device))
-    (heard _ _ c.hear.result c.hear.ensures.complete c.hear.ensures.quiet c.hear.ensures.fault)
+    err_weaker c.hear.result _ _ (λ fault rang. call_ends c.args.engine.now.log fault (inl rang.0)) c.hear.ensures.fault
 
 pub returns-in_err-finish-clause-kept : goal.returns-in_err-finish-clause-kept
 returns-in_err-finish-clause-kept g c =
@@ -43,6 +42,6 @@ returns-in_err-finish-clause-kept g c =
 pub returns-clause-kept : goal.returns-clause-kept
 returns-clause-kept g c =
     err_weaker c.hear.result _ _
-    (λ fault at_device. fails_by_call g.D.Disk.conduct g.H.NodeHash.digest c.args.engine.now c.serve_each.new.engine c.finish.new.engine fault
-    c.serve_each.ensures.run c.in_ok-finish.ensures.flushed (inl at_device))
-    (heard _ _ c.hear.result c.hear.ensures.complete c.hear.ensures.quiet c.hear.ensures.fault)
+    (λ fault rang. fails_by_call g.D.Disk.conduct g.H.NodeHash.digest c.args.engine.now c.serve_each.new.engine c.finish.new.engine fault
+    c.serve_each.ensures.run c.in_ok-finish.ensures.flushed (inl rang.0))
+    c.hear.ensures.fault
