@@ -22,7 +22,7 @@ pub fn builder_row(
     }
 }
 
-/// A new builder, of the root of a file of so many bytes.
+/// A new builder, of the root of a file of as many bytes as a word says.
 fn new_row(
     builder: &mut Option<RootBuilder<Plain>>,
     words: &mut Words,

@@ -25,7 +25,7 @@ pub fn make_row(
     }
 }
 
-/// Adds so many files of this path, length, root and layer.
+/// Adds as many files as a word says, of this path, length, root and layer.
 fn files_row(
     alloc: Global,
     files: &mut Vec<Made>,

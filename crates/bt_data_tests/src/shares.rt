@@ -53,7 +53,7 @@ fn line_row(alloc: Global, words: &mut Words, out: &mut String) -> Result<(), Al
     push_text(out, text.as_bytes())
 }
 
-/// What runs come to that are all of a file's, and how many runs of other files stand behind them.
+/// What runs come to that are all of a file's, and how many runs of other files stand after them.
 fn join_row(alloc: Global, words: &mut Words, out: &mut String) -> Result<(), AllocError> {
     let file = words.number();
     let blocks = words.number();

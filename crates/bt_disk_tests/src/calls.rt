@@ -73,7 +73,7 @@ fn read_row<D: Disk>(
     }
 }
 
-/// Tells the bytes that came, and whether one behind them is no nine.
+/// Tells the bytes that came, and whether one after them is no nine.
 fn tell_front(alloc: Global, out: &mut String, room: &[u8], count: usize) -> Result<(), RowError> {
     if count > room.len() {
         return tell(out, "more than there is room for");

@@ -7,7 +7,8 @@ use bt_rows::{RowError, Words, tell};
 use std::alloc::AllocError;
 
 /// As many files of the folder as the row says, each with a byte of its own at the place of its number, in a
-/// pool of so many handles: whether each gives its byte, in turn and then at random. The pool is dropped before.
+/// pool of as many handles as a word says: whether each gives its byte, in turn and then at random. The pool is
+/// dropped before.
 pub fn many_row(shop: &Shop, words: &mut Words, out: &mut String) -> Result<(), RowError> {
     let count = words.number()?;
     let limit = words.number()? as usize;

@@ -71,7 +71,7 @@ impl<'a> Shop<'a> {
         tell(out, "a system")
     }
 
-    /// A pool of at most so many open handles.
+    /// A pool of at most as many open handles as a word says.
     fn pool_row(&mut self, words: &mut Words, out: &mut String) -> Result<(), RowError> {
         let limit = words.number()? as usize;
         if limit == 0 {

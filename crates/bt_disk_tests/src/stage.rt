@@ -37,7 +37,7 @@ impl<'a> Stage<'a> {
         }
     }
 
-    /// What a row answers that is made so many times.
+    /// What a row answers that is made as often as a word says.
     fn times(&mut self, alloc: Global, words: &str) -> Result<String, AllocError> {
         let (count, row) = words.split_once(' ').unwrap_or((words, ""));
         let answer = self.once(alloc, row)?;

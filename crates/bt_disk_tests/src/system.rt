@@ -133,7 +133,7 @@ impl Counts {
         self.manner.get()
     }
 
-    /// Counts a read or write of so many bytes, and says how many it moves.
+    /// Counts a read or write of `wanted` bytes, and says how many it moves.
     fn moved(&self, wanted: usize) -> io::Result<usize> {
         count(&self.moves);
         let number = self.moves.get();

@@ -18,7 +18,7 @@ pub struct Calls {
 pub enum Defect {
     /// The call fails.
     Once,
-    /// It and all behind it fail.
+    /// It and all after it fail.
     Stop,
     /// From it on the byte at a place is read with its low bit changed.
     Flip(u64),
@@ -85,7 +85,7 @@ impl Medium {
     }
 }
 
-/// Reads so many zeros from a place on, as many as there are and as there is room for.
+/// Reads zeros of a device of `len` bytes from a place on, as many as there are and as there is room for.
 fn read_zeros(len: u64, at: u64, out: &mut [u8]) -> usize
     ensures { result ≤ length out.new }
 {
@@ -102,7 +102,7 @@ impl TestDisk {
         TestDisk::new(Medium::Memory(with_defect(disk, defect, call)))
     }
 
-    /// A device of so many zeros, that keeps nothing of what is written to it but how long it makes it.
+    /// A device of `len` zeros, that keeps nothing of what is written to it but how long it makes it.
     pub fn of_zeros(len: u64) -> Self {
         TestDisk::new(Medium::Zeros(len))
     }

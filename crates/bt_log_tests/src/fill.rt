@@ -6,7 +6,7 @@ use bt_resume::{Hint, ResumeLog};
 use bt_sparse::Digests;
 use std::alloc::{AllocError, Global};
 
-/// A log has at most so many bytes, of which the header takes 40.
+/// How many bytes a log has at most, of which the header takes 40.
 const MAX_LOG_LEN: u64 = 1 << 40;
 
 const HEADER_LEN: u64 = 40;
@@ -19,8 +19,8 @@ const PROOF_LEN: u64 = 49 + 32 * 529;
 
 const RUN_LEN: u64 = 13;
 
-/// Appends proofs, and then runs, to a log that has no hint, until of the bytes that it may have so many are left, or up to
-/// twelve more; then flushes it. False where a call is refused.
+/// Appends proofs, and then runs, to a log that has no hint, until `left` of the bytes that it may have are left, or up
+/// to twelve more; then flushes it. False where a call is refused.
 pub fn fill<D: Disk + Drop>(
     alloc: Global,
     log: &mut ResumeLog<D>,

@@ -66,7 +66,7 @@ fn greet(
 }
 
 /// Tells which blocks of the first piece are asked of a peer that comes, has all pieces, and does not choke us: each
-/// by its number, behind a minus.
+/// by its number, after a minus.
 pub fn tell_asked(
     alloc: Global,
     engine: &mut TestEngine,
@@ -187,7 +187,7 @@ fn take_in(
     }
 }
 
-/// Takes events of a peer, at most so many, until none has come whole or the peer is gone.
+/// Takes events of a peer, at most this many, until none has come whole or the peer is gone.
 fn take_events(
     engine: &mut TestEngine,
     peer: PeerKey,

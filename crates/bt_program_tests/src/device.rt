@@ -6,8 +6,8 @@ use std::io::{self, ErrorKind, Read, Seek, SeekFrom, Write};
 use std::path::PathBuf;
 use std::rt::Files;
 
-/// The calls that fail. Of the reads of a folder's list, and of standard input, that is the one behind all that is there. Output fails when
-/// it is flushed.
+/// The calls that fail. Of the reads of a folder's list, and of standard input, that is the one after all that is
+/// there. Output fails when it is flushed.
 #[derive(Clone, Copy, PartialEq, Eq)]
 pub enum Failing {
     Nothing,
@@ -37,12 +37,12 @@ impl Failing {
     }
 }
 
-/// The host's file system, of which some calls fail, in which every folder lists these names, each with a zero behind it, and in which a
-/// path that ends in `pipe` is a device, which neither a read nor a write is to reach. Of looks and opens those
-/// of a path that ends in `last` fail, and of reads the third of each file. A file that has bytes takes no mode
-/// any more, and one that has none is not synced. Folders are synced apart from files. What lies at `proc` and at `sys` is a folder to a look that follows
-/// links, of the number 1, each on a device of its own, and what lies at `null` is a device. What lies at `gone` is not there
-/// to such a look while it has bytes, and has none from then on.
+/// The host's file system, of which some calls fail, in which every folder lists these names, each with a zero after
+/// it, and in which a path that ends in `pipe` is a device, which neither a read nor a write is to reach. Of looks and
+/// opens those of a path that ends in `last` fail, and of reads the third of each file. A file that has bytes takes no
+/// mode any more, and one that has none is not synced. Folders are synced apart from files. What lies at `proc` and at
+/// `sys` is a folder to a look that follows links, of the number 1, each on a device of its own, and what lies at
+/// `null` is a device. What lies at `gone` is not there to such a look while it has bytes, and has none from then on.
 #[derive(Clone, Copy)]
 pub struct Device<'a> {
     pub host: &'a HostRuntime,
@@ -164,7 +164,7 @@ impl<'a> Files for Device<'a> {
     }
 }
 
-/// What a folder lists: its names, each with a zero behind it.
+/// What a folder lists: its names, each with a zero after it.
 #[derive(Drop)]
 pub struct DeviceDir<'a> {
     names: &'a [u8],

@@ -19,10 +19,10 @@ const PAUSE: u64 = 20;
 /// The most bytes that are printed one by one.
 const MOST_SHOWN: usize = 256;
 
-/// Connects to the port that the first word names, or waits for a connection where it is `listen`, and does what each word behind it says:
-/// bytes are sent, `get:N` takes N bytes and prints them, `end` takes and prints those that come until the other side ends, and `rest` takes
-/// nothing for 20 seconds.
-/// Errors: there is no connection, a word that is none of these, or the other side takes or gives less.
+/// Connects to the port that the first word names, or waits for a connection where it is `listen`, and does what each
+/// word after it says: bytes are sent, `get:N` takes N bytes and prints them, `end` takes and prints those that come
+/// until the other side ends, and `rest` takes nothing for 20 seconds. Errors: there is no connection, a word that is
+/// none of these, or the other side takes or gives less.
 pub fn meet(rt: &HostRuntime, words: &[String]) -> io::Result<()> {
     let Some((place, steps)) = words.split_first() else {
         return Err(io::Error::from(ErrorKind::InvalidInput));

@@ -11,8 +11,8 @@ use std::alloc::Global;
 use std::fs;
 use std::io::{self, ErrorKind, Read, Write};
 
-/// Prints what standard input has, or the fault: it gives so many bytes at a time as the first word says, and fails at the read that the
-/// second counts, if it is a number. Gives the status of the fault.
+/// Prints what standard input has, or the fault: it gives as many bytes at a time as the first word says, and fails at
+/// the read that the second counts, if it is a number. Gives the status of the fault.
 pub fn text(rt: &HostRuntime, words: &[String]) -> io::Result<u8> {
     let [most, fails_at] = words else {
         return Err(io::Error::from(ErrorKind::InvalidInput));

@@ -5,7 +5,8 @@ use std::io::{self, ErrorKind, Read, Write};
 /// The number of a read that never comes.
 pub const NEVER: u32 = u32::MAX;
 
-/// A reader of bytes that gives at most so many at a time, is interrupted before each read, and fails at one of them, or where it has no more.
+/// A reader of bytes that gives at most this many at a time, is interrupted before each read, and fails at one of them,
+/// or where it has no more.
 #[derive(Drop)]
 pub struct Slow<'a> {
     pub bytes: &'a [u8],

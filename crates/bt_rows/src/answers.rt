@@ -39,12 +39,12 @@ pub fn is_comment(row: &str) -> bool {
     row.is_empty() || row.starts_with('#')
 }
 
-/// The answer of what is no row.
+/// The answer of what is no row. Errors: out of memory.
 pub fn not_understood(alloc: Global, row: &str) -> Result<String, AllocError> {
     format!(in alloc; "not understood: {row}")
 }
 
-/// The answer of a row of which each word has to be read. What is no row says so.
+/// The answer of a row of which each word has to be read. What is no row says so. Errors: out of memory.
 pub fn whole_answer(
     alloc: Global,
     row: &str,
@@ -59,7 +59,7 @@ pub fn whole_answer(
     }
 }
 
-/// Adds words of the program's own to an answer.
+/// Adds words of the program's own to an answer. Errors: out of memory.
 pub fn tell(out: &mut String, text: &str) -> Result<(), RowError> {
     Ok(out.push_str(text)?)
 }

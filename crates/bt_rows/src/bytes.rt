@@ -23,7 +23,7 @@ impl Spelling for Hexadecimal {
     }
 }
 
-/// The bytes that a word spells: parts that are joined by `+`. None where it is no such word.
+/// The bytes that a word spells: parts that are joined by `+`. None where it is no such word. Errors: out of memory.
 pub fn bytes_of(alloc: Global, word: &str) -> Result<Option<Vec<u8>>, AllocError> {
     let mut bytes = Vec::new(alloc);
     if push_parts(alloc, &mut bytes, word)? {
@@ -42,9 +42,9 @@ fn push_parts(alloc: Global, bytes: &mut Vec<u8>, word: &str) -> Result<bool, Al
     Ok(!word.is_empty())
 }
 
-/// Adds the bytes of one part: bytes in hexadecimal, with `*COUNT` behind them where they stand so many
+/// Adds the bytes of one part: bytes in hexadecimal, with `*COUNT` after them where they stand COUNT
 /// times; or `FROM..END:HEX`, each number from FROM up to END in four bytes, the high one first, with HEX
-/// behind each. False where it is none.
+/// after each. False where it is none.
 fn push_part(alloc: Global, bytes: &mut Vec<u8>, part: &str) -> Result<bool, AllocError> {
     match part.split_once(':') {
         Some((range, digits)) => push_numbers(alloc, bytes, range, digits),
@@ -66,7 +66,7 @@ fn push_often(alloc: Global, bytes: &mut Vec<u8>, part: &str) -> Result<bool, Al
     }
 }
 
-/// Adds a run of bytes so many times.
+/// Adds a run of bytes `count` times. Errors: out of memory.
 pub fn push_run(bytes: &mut Vec<u8>, run: &[u8], count: u32) -> Result<(), AllocError> {
     if let [byte] = run {
         return bytes.resize(bytes.len().saturating_add(count as usize), *byte);
@@ -112,18 +112,19 @@ fn push_between(bytes: &mut Vec<u8>, from: u32, end: u32, run: &[u8]) -> Result<
     Ok(())
 }
 
-/// Adds bytes in hexadecimal.
+/// Adds bytes in hexadecimal. Errors: out of memory.
 pub fn push_hex(alloc: Global, out: &mut String, bytes: &[u8]) -> Result<(), AllocError> {
     let text = hex::encode(alloc, bytes)?;
     out.push_str(text.as_str())
 }
 
-/// Adds the SHA-256 of bytes.
+/// Adds the SHA-256 of bytes, in hexadecimal. Errors: out of memory.
 pub fn push_digest(alloc: Global, out: &mut String, bytes: &[u8]) -> Result<(), AllocError> {
     push_hex(alloc, out, &Plain.block(bytes))
 }
 
-/// Adds bytes in hexadecimal, where they are so many at most, else how many they are and their SHA-256.
+/// Adds bytes in hexadecimal, where they are `most` at most, else how many they are and their SHA-256. Errors: out of
+/// memory.
 pub fn push_shown(
     alloc: Global,
     out: &mut String,

@@ -15,7 +15,7 @@ pub struct NotedWords<'a, S> {
 }
 
 impl<'a, S: Spelling> NotedWords<'a, S> {
-    /// All words of a row, which spell bytes so.
+    /// All words of a row, whose bytes are spelled as `spelling` says.
     pub fn new(spelling: &'a S, row: &'a str) -> Self {
         NotedWords {
             words: Words::new(row),
@@ -24,7 +24,7 @@ impl<'a, S: Spelling> NotedWords<'a, S> {
         }
     }
 
-    /// Whether none is left.
+    /// Whether no word is left.
     pub fn is_at_end(&self) -> bool {
         self.words.is_at_end()
     }
@@ -55,32 +55,32 @@ impl<'a, S: Spelling> NotedWords<'a, S> {
         }
     }
 
-    /// The number that the next word is; 0 where it is none.
+    /// The number of up to 32 bits that the next word is; 0 where it is none.
     pub fn number(&mut self) -> u32 {
         let number = self.words.number().ok();
         self.noted(number, 0)
     }
 
-    /// The same of a longer number.
+    /// The number of up to 64 bits that the next word is; 0 where it is none.
     pub fn long(&mut self) -> u64 {
         let number = self.words.long().ok();
         self.noted(number, 0)
     }
 
-    /// The bytes that the next word spells; none where it is wrong.
+    /// The bytes that the next word spells; none where it is wrong. Errors: out of memory.
     pub fn bytes(&mut self, alloc: Global) -> Result<Vec<u8>, AllocError> {
         let word = self.words.word();
         let bytes = self.spelling.spelled(alloc, word)?;
         Ok(self.noted(bytes, Vec::new(alloc)))
     }
 
-    /// As many bytes as are wanted; zeros where the next word spells another number of them.
+    /// The N bytes that the next word spells; zeros where it spells another number of them. Errors: out of memory.
     pub fn array<const N: usize>(&mut self, alloc: Global) -> Result<[u8; N], AllocError> {
         let bytes = self.bytes(alloc)?;
         Ok(self.noted(array_of(&bytes), [0; N]))
     }
 
-    /// Digests, one after the other.
+    /// The digests that the next word spells, one after the other. Errors: out of memory.
     pub fn digests(&mut self, alloc: Global) -> Result<Vec<Hash32>, AllocError> {
         let bytes = self.bytes(alloc)?;
         let (digests, rest) = bytes.as_chunks::<32>();

@@ -46,7 +46,7 @@ impl<'a> Words<'a> {
         Words { rest: row }
     }
 
-    /// Whether none is left.
+    /// Whether no word is left.
     pub fn is_at_end(&self) -> bool {
         self.rest.is_empty()
     }
@@ -58,22 +58,23 @@ impl<'a> Words<'a> {
         word
     }
 
-    /// The number that the next word is.
+    /// The number of up to 32 bits that the next word is. Errors: `Unread` where it is none.
     pub fn number(&mut self) -> Result<u32, RowError> {
         self.word().parse::<u32>().or(Err(RowError::Unread))
     }
 
-    /// The same of a longer number.
+    /// The number of up to 64 bits that the next word is. Errors: `Unread` where it is none.
     pub fn long(&mut self) -> Result<u64, RowError> {
         self.word().parse::<u64>().or(Err(RowError::Unread))
     }
 
-    /// The shape of a file of so many bytes.
+    /// The shape of a file of as many bytes as the next word says. Errors: `Unread` where it says no number, or no
+    /// file has as many.
     pub fn geometry(&mut self) -> Result<Geometry, RowError> {
         Geometry::new(self.long()?).ok_or(RowError::Unread)
     }
 
-    /// The bytes that the next word spells.
+    /// The bytes that the next word spells. Errors: `Unread` where it spells none; out of memory.
     pub fn bytes(&mut self, alloc: Global) -> Result<Vec<u8>, RowError> {
         let word = self.word();
         match Hexadecimal.spelled(alloc, word)? {
@@ -82,7 +83,7 @@ impl<'a> Words<'a> {
         }
     }
 
-    /// The digest that the next word spells.
+    /// The digest that the next word spells. Errors: `Unread` where it spells none; out of memory.
     pub fn digest(&mut self, alloc: Global) -> Result<Hash32, RowError> {
         let bytes = self.bytes(alloc)?;
         match bytes.as_chunks::<32>() {
@@ -91,7 +92,8 @@ impl<'a> Words<'a> {
         }
     }
 
-    /// Digests, one after the other.
+    /// The digests that the next word spells, one after the other. Errors: `Unread` where it spells no whole ones; out
+    /// of memory.
     pub fn digests(&mut self, alloc: Global) -> Result<Vec<Hash32>, RowError> {
         let bytes = self.bytes(alloc)?;
         let (digests, rest) = bytes.as_chunks::<32>();

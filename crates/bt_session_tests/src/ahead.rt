@@ -12,7 +12,7 @@ use std::cell::{Cell, RefCell};
 use std::fmt::Write;
 use std::io::{self, Read};
 
-/// So many bytes are read at once at most.
+/// How many bytes are read at once at most.
 const MOST_READ: usize = 0x1_0000;
 
 /// Adds what a row answers. What is no row says so.
@@ -33,7 +33,7 @@ fn answer_of(alloc: Global, words: &mut Words) -> Result<String, RowError> {
     }
 }
 
-/// Bytes of which a read gives so many at most, and how many it gave.
+/// Bytes, how many of them a read gives at most, and how many it gave.
 #[derive(Drop)]
 struct Parts<'a> {
     rest: &'a [u8],
@@ -85,7 +85,7 @@ fn digested_read(
     Ok(text)
 }
 
-/// What an observer is told of bytes that come in parts, and behind how many of them.
+/// What an observer is told of bytes that come in parts, and after how many of them.
 fn told_row(alloc: Global, words: &mut Words) -> Result<String, RowError> {
     let most = words.number()? as usize;
     let bytes = words.bytes(alloc)?;
@@ -106,7 +106,7 @@ fn told_row(alloc: Global, words: &mut Words) -> Result<String, RowError> {
     notes.text(alloc)
 }
 
-/// Reads all, by reads of so many bytes at most.
+/// Reads all, by reads of at most this many bytes.
 fn read_all<'a, O: Observer>(
     digests: &'a RefCell<DigestCache>,
     observer: &'a O,
@@ -172,7 +172,7 @@ struct Device<'a> {
     digests: &'a RefCell<DigestCache>,
 }
 
-/// What comes of each read of a device of so many blocks, a call of which fails.
+/// What comes of each read of a device of as many blocks as a word says, a call of which fails.
 fn device_row(alloc: Global, words: &mut Words) -> Result<String, RowError> {
     let blocks = words.number()?.min(0xff) as u8;
     let failing = words.number()?.min(0xff) as u8;
@@ -187,7 +187,8 @@ fn device_row(alloc: Global, words: &mut Words) -> Result<String, RowError> {
     Ok(text)
 }
 
-/// A device of so many blocks, the first of them all ones, the next all twos; the k-th call of it fails, or none where that is 0.
+/// A device of this many blocks, the first of them all ones, the next all twos; the k-th call of it fails, or none
+/// where that is 0.
 fn failing_disk(
     alloc: Global,
     blocks: u8,
@@ -236,7 +237,7 @@ impl Device<'_> {
         }
     }
 
-    /// Reads so many bytes from a block's begin on: `a` where its digest was made ahead, `-` where it was not.
+    /// Reads `len` bytes from a block's beginning on: `a` where its digest was made ahead, `-` where it was not.
     fn read(&mut self, block: u8, len: usize) -> char {
         let mut bytes = [0; MOST_READ];
         let end = len.min(bytes.len());

@@ -7,7 +7,7 @@ use std::io::{Read, Result, Write};
 /// Bytes on their way.
 pub type Queue = RefCell<VecDeque<u8>>;
 
-/// What a peer sends; a read gives so many bytes at most.
+/// What a peer sends; a read gives at most this many bytes.
 #[derive(Drop)]
 pub struct Source<'a> {
     pub queue: &'a Queue,

@@ -30,7 +30,7 @@ fn feed_of(alloc: Global, key: PeerKey, word: &str) -> Result<Option<Event>, All
     }
 }
 
-/// The bytes of a peer one by one, and behind each that the next wire event is taken; None where the words say no bytes.
+/// The bytes of a peer one by one, and after each that the next wire event is taken; None where the words say no bytes.
 pub fn byte_events(alloc: Global, rest: &str) -> Result<Option<Vec<Event>>, AllocError> {
     let (first, second) = rest.split_once(' ').unwrap_or((rest, ""));
     let key = PeerKey(first.parse().unwrap_or(0));

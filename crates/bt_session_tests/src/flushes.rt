@@ -10,8 +10,8 @@ use bt_session::{SessionEnd, run_session_with_flushes};
 use std::alloc::{AllocError, Global};
 use std::fmt::Write;
 
-/// Runs a session until all files are complete, with a flush behind each turn whose number is a multiple of the first word, and
-/// tells of it.
+/// Runs a session until all files are complete, with a flush after each turn whose number is a multiple of the first
+/// word, and tells of it.
 pub fn flushing_row(
     alloc: Global,
     engine: &mut TestEngine,

@@ -60,7 +60,7 @@ fn both(
     Ok(trees)
 }
 
-/// The tree of a file of so many bytes, of which the root alone is known.
+/// The tree of a file of as many bytes as a word says, of which the root alone is known.
 fn tree_from(alloc: Global, words: &mut Words) -> Result<SparseTree<Plain>, RowError> {
     let geometry = words.geometry()?;
     let root = words.digest(alloc)?;

@@ -70,8 +70,8 @@ pub fn peers_row(
     }
 }
 
-/// Tries three peers, with a flush behind each `every`-th turn and behind each session: what came of each, and what the last
-/// flush answered.
+/// Tries three peers, with a flush after each `every`-th turn and after each session: what came of each, and what the
+/// last flush answered.
 pub fn peers_with_flushes(
     alloc: Global,
     engine: &mut TestEngine,

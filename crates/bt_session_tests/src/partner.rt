@@ -12,7 +12,7 @@ pub enum Reading {
     Fault,
 }
 
-/// A reader that finds one thing after the other, and nothing behind the last.
+/// A reader that finds one thing after the other, and nothing after the last.
 #[derive(Drop)]
 pub struct TestReader {
     readings: Vec<Reading>,

@@ -17,11 +17,11 @@ pub enum Act {
     Works(Duration),
     /// The program is stopped for so long as it reads, and that read is interrupted.
     Stops(Duration),
-    /// From now on it takes so many bytes, and no more.
+    /// From now on it takes this many bytes, and no more.
     Takes(usize),
 }
 
-/// What the peer does, one behind the other, and how far it is. Behind the last it closes its connection.
+/// What the peer does, one after the other, and how far it is. After the last it closes its connection.
 #[derive(Drop)]
 pub struct Scene {
     acts: Vec<Act>,
@@ -36,7 +36,7 @@ pub struct Scene {
     read_turn: Cell<Duration>,
     write_turn: Cell<Duration>,
     now: Cell<Duration>,
-    /// So many connections can't be taken before this one can, each with an error of this number.
+    /// How many connections can't be taken before this one can, each with an error of this number.
     refused: Cell<u32>,
     code: i32,
 }

@@ -85,8 +85,8 @@ impl Sessions {
     }
 }
 
-/// The devices of files, of which each word has the bytes, and behind `!` the call that fails, where one does. None where a
-/// word has no bytes.
+/// The devices of files, of which each word has the bytes, and after `!` the call that fails, where one does. None
+/// where a word has no bytes.
 fn disks_of(alloc: Global, words: &str) -> Result<Option<Vec<TestDisk>>, AllocError> {
     let mut disks = Vec::new(alloc);
     if push_disks(alloc, &mut disks, words)? {

@@ -41,7 +41,7 @@ fn patience() -> Duration {
 }
 
 /// Adds what a row answers: whether a closed port is reached, or a name of several addresses, a byte that goes there and back, whether
-/// requests wait to be sent, what comes of so many milliseconds of silence, or of a peer that takes its time.
+/// requests wait to be sent, what comes of this many milliseconds of silence, or of a peer that takes its time.
 pub fn socket_row(
     net: &HostRuntime,
     alloc: Global,
@@ -191,7 +191,7 @@ fn tell_echo(out: &mut String, byte: Option<u8>) -> Result<(), AllocError> {
     }
 }
 
-/// Two requests, one behind the other, of which each has so many bytes.
+/// Two requests, one after the other, each of `REQUEST_LEN` bytes.
 const REQUESTS: [u8; 2 * REQUEST_LEN] = [
     0, 0, 0, 13, 6, 0, 0, 0, 1, 0, 0, 0, 0, 0, 0, 64, 0, 0, 0, 0, 13, 6, 0, 0, 0, 2, 0, 0, 0, 0, 0,
     0, 64, 0,

@@ -79,7 +79,7 @@ fn next_row(alloc: Global, stream: &mut Stream, out: &mut String) -> Result<(), 
     }
 }
 
-/// Whether the cutter has room for more than so many bytes.
+/// Whether the cutter has room for more bytes than a word says.
 fn room_row(stream: &Stream, words: &mut Words, out: &mut String) -> Result<(), AllocError> {
     let limit = words.number();
     out.push_str(if is_above(stream, limit as usize) {
@@ -90,7 +90,7 @@ fn room_row(stream: &Stream, words: &mut Words, out: &mut String) -> Result<(), 
     write!(out, "{limit}")
 }
 
-/// Feeds bytes so many times, and takes what is there behind each, which has to be the same, and in no more
+/// Feeds bytes as often as a word says, and takes what is there after each, which has to be the same, and in no more
 /// room than this.
 fn turns_row(
     alloc: Global,
@@ -105,7 +105,7 @@ fn turns_row(
     push_other_turn(alloc, stream, &bytes, limit, count, out)
 }
 
-/// Takes the turns behind the first, up to one that finds something else, which is added.
+/// Takes the turns after the first, up to one that finds something else, which is added.
 fn push_other_turn(
     alloc: Global,
     stream: &mut Stream,
@@ -144,7 +144,7 @@ fn push_other(out: &mut String, found: &str) -> Result<bool, AllocError> {
     Ok(true)
 }
 
-/// Feeds a part and takes what is there. Behind a fault nothing is fed.
+/// Feeds a part and takes what is there. After a fault nothing is fed.
 fn read_part(
     alloc: Global,
     stream: &mut Stream,
@@ -161,7 +161,7 @@ fn read_part(
     take_all(alloc, stream, found)
 }
 
-/// Takes the events that are there and puts them behind the others; a fault is the last.
+/// Takes the events that are there and puts them after the others; a fault is the last.
 fn take_all(alloc: Global, stream: &mut Stream, found: &mut String) -> Result<(), AllocError> {
     for _ in 0..u64::MAX {
         if !take_one(alloc, stream, found)? {
@@ -250,7 +250,7 @@ fn push_other_cut(alloc: Global, bytes: &[u8], out: &mut String) -> Result<(), A
     Ok(())
 }
 
-/// Whether three parts, of which the first has so many bytes, say something else, which is added.
+/// Whether three parts, of which the first has this many bytes, say something else, which is added.
 fn is_other_second(
     alloc: Global,
     bytes: &[u8],

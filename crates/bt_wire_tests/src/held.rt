@@ -10,9 +10,9 @@ use bt_book::{BlockId, MAX_REQUESTS, PeerKey};
 pub enum Held {
     All,
     None,
-    /// Those of one file.
+    /// The blocks of one file.
     File(u32),
-    /// Those of each file from this number on.
+    /// The blocks of each file from this number on.
     Rest(u32),
     /// All where this number is even, else two of three of the files of random calls.
     Thirds(u32),

@@ -25,7 +25,7 @@ impl Random {
         if limit == 0 { 0 } else { high % limit }
     }
 
-    /// A block of the files 0, 2 and 3: one of 5, of so many, and of 3.
+    /// A block of the files 0, 2 and 3: one of 5, of `count`, and of 3.
     fn block(&mut self, count: u32) -> BlockId {
         let (file, count) = [(0, 5), (2, count), (3, 3)][self.below(3) as usize % 3];
         BlockId {
@@ -58,7 +58,7 @@ enum Call {
     Asked,
 }
 
-/// Makes so many random calls. What each answers is told, or a dot, and behind it a `+` where a block is
+/// Makes as many random calls as a word says. What each answers is told, or a dot, and after it a `+` where a block is
 /// wanted that the peer has whose turn it is, of 70.
 pub fn random_row(
     random: &mut Random,

@@ -57,7 +57,7 @@ fn weak_row(
     out.push_str("a tree")
 }
 
-/// A tree of which the root alone is known; none, where no file has so many bytes.
+/// A tree of which the root alone is known; none, where no file has as many bytes.
 fn root_tree<H: NodeHash>(
     alloc: Global,
     hash: H,
