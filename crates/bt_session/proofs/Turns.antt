@@ -1,14 +1,15 @@
 -- Peers that are tried one after the other: what was done so far leads from any rest of the list to the whole.
-use Rattle.std.proofs.Common.{[], ◌≡◌, ℕ, ◌+◌, ◌-◌, ◌≤◌, ◌<◌, true, false, List, ◌∷◌, ◌++◌, length, take, drop, set, get_or, replicate, sym, ◌∙◌, ap, subst, arith, add-zero}
+use Rattle.std.proofs.Common.{[], ◌≡◌, ℕ, ◌+◌, ◌-◌, ◌≤◌, ◌<◌, true, false, Option, List, ◌∷◌, ◌++◌, length, take, drop, set, get_or, replicate, sym, ◌∙◌, ap, subst, arith, add-zero}
 use Rattle.std.specs.Prelude.{All, Result, Ok, Err}
 use Rattle.std.proofs.lemmas.List.{append-nil, append_assoc, take-append-drop, drop_all, drop_more, drop-drop, drop-replicate, drop-set-lt, get_or-drop, length-drop, length-set, take_more_set, take_all}
 use Rattle.std.proofs.lemmas.List.Elements.{All-drop}
+use Rattle.bt_disk.specs.Conduct.{Conduct}
 use Rattle.bt_machine.specs.Report.{all_complete}
 use Rattle.bt_machine.specs.State.{EngineView}
 use Rattle.bt_session.specs.declared.peer_end.PeerEnd.{PeerEnd}
 use Rattle.bt_session.specs.declared.peer_end.PeerEnd.TheVariants.{Untried}
 use Rattle.bt_machine.specs.declared.error.FlushError.{FlushError}
-use Rattle.bt_session.specs.Peers.{InTurnWithFlushes, TrialWithFlushes}
+use Rattle.bt_session.specs.Peers.{InTurnWithFlushes, TrialWithFlushes, IsTriedWithFlushes, IsTriedAndTold}
 use Rattle.bt_session.specs.Peers.InTurnWithFlushes.{none_left, complete, tried, stopped}
 
 -- a part of a list and an element more
@@ -35,6 +36,28 @@ untried_later ends links i end link untried =
   where
     count : length (drop i links) - 1 ≡ length (drop (i + 1) (set links i link))
     count = omega (arith, length-drop i links, length-drop (i + 1) (set links i link), length-set links i link)
+
+-- peers of which one thing is said in turn, another one too that follows
+pub in_turn_by : {D L : Type 0} (Try To : TrialWithFlushes D L)
+    → ((old : EngineView D) (link : L) (end : PeerEnd) (answer : Result (Unit {0}) FlushError) (after : L) (new : EngineView D) → Try old link end answer after new
+    → To old link end answer after new)
+    → {old : EngineView D} {links : List L} {ends : List PeerEnd} {rest : List L} {answer : Result (Unit {0}) FlushError} {new : EngineView D}
+    → InTurnWithFlushes Try old links ends rest answer new → InTurnWithFlushes To old links ends rest answer new
+in_turn_by Try To carry (none_left engine) = none_left engine
+in_turn_by Try To carry (complete engine links is_done) = complete engine links is_done
+in_turn_by Try To carry (tried old mid new link after end links rest ends answer not_done went turns) =
+    tried old mid new link after end links rest ends answer not_done (carry old link end (Ok tt) after mid went) (in_turn_by Try To carry turns)
+in_turn_by Try To carry (stopped old new link after end links error not_done went) =
+    stopped old new link after end links error not_done (carry old link end (Err error) after new went)
+
+-- peers that are tried, and told of, are tried
+pub told_are_tried : {D L R W : Type 0} (failed : Type 0) (conduct : Conduct D) (dig : List ℕ → List ℕ) (dials failures : L → ℕ) (gives : L → R → W → Type 0)
+    (remaining : R → Option (List ℕ)) (contents : W → Option (List ℕ)) (every turns : ℕ)
+    → {old : EngineView D} {links : List L} {ends : List PeerEnd} {rest : List L} {answer : Result (Unit {0}) FlushError} {new : EngineView D}
+    → InTurnWithFlushes (IsTriedAndTold failed conduct dig dials failures gives remaining contents every turns) old links ends rest answer new
+    → InTurnWithFlushes (IsTriedWithFlushes conduct dig dials failures gives remaining contents every turns) old links ends rest answer new
+told_are_tried failed conduct dig dials failures gives remaining contents every turns all =
+    in_turn_by _ (IsTriedWithFlushes conduct dig dials failures gives remaining contents every turns) (λ old link end answer after new told. told.tried) all
 
 module _ {D L : Type 0} (Try : TrialWithFlushes D L) (first : EngineView D) (whole : List L) where
   -- after these ends and links, whatever comes in turn makes the whole

@@ -1,6 +1,6 @@
 -- Where the engine is never flushed, no flush is refused, and all is as without flushes.
-use Rattle.std.proofs.Common.{◌≡◌, ℕ, Bool, true, false, List, Option, Some, None, refl, sym, subst}
-use Rattle.std.specs.Prelude.{Result, Ok, Err, OnOk}
+use Rattle.std.proofs.Common.{◌≡◌, ℕ, ◌⊎◌, inl, inr, Bool, true, false, List, Option, Some, None, refl, sym, subst}
+use Rattle.std.specs.Prelude.{Result, Ok, Err}
 use Rattle.bt_disk.specs.Conduct.{Conduct}
 use Rattle.bt_machine.specs.declared.error.FlushError.{FlushError}
 use Rattle.bt_machine.specs.State.{EngineView}
@@ -9,7 +9,7 @@ use Rattle.bt_session.specs.declared.end.SessionEnd.TheVariants.{ReadFault}
 use Rattle.bt_session.specs.declared.peer_end.PeerEnd.{PeerEnd}
 use Rattle.bt_session.specs.declared.peer_end.PeerEnd.TheVariants.{Untried, Unreachable, Refused, Session}
 use Rattle.bt_session.specs.Failures.{OnlyAfterFailure, OneFailed}
-use Rattle.bt_session.specs.Peer.{HasSession, HasSessionWithFlushes, IsFlushedSession, behind, within, EndsAs, EndsAsWithFlushes}
+use Rattle.bt_session.specs.Peer.{HasSession, HasSessionWithFlushes, IsFlushedSession, behind, within, IsCutShort, EndsAs, EndsAsWithFlushes}
 use Rattle.bt_session.specs.Peers.{InTurn, IsTried, InTurnWithFlushes, IsTriedWithFlushes}
 use Rattle.bt_session.specs.Peers.InTurn.{none_left, complete, tried}
 use Rattle.bt_session.specs.Peers.InTurnWithFlushes.{none_left as no_more, complete as is_complete, tried as went, stopped}
@@ -78,8 +78,23 @@ module _ {D : Type 0} (conduct : Conduct D) (dig : List ℕ → List ℕ) where
   flushed_end {R} {W} remaining contents until every turns reached ways old new end answer is session =
       subst (λ (r : Option (R × W)). EndsAsWithFlushes conduct dig remaining contents until every turns r old (Session end) answer new) (sym is) session
 
--- the end of a session whose reader failed is told where no flush was refused after it
-pub told_of_reader : {R : Type 0} (has_failed : R → Type 0) (reader : R) (end : SessionEnd) (answer : Result (Unit {0}) FlushError)
-    → OnlyAfterFailure ReadFault (has_failed reader) end → OnOk answer (OnlyAfterFailure (Session ReadFault) (OneFailed has_failed) (Session end))
-told_of_reader has_failed reader end (Ok done) failed = λ is. (reader, failed cc)
-told_of_reader has_failed reader end (Err error) failed = tt
+  -- a flush was refused in the session with a peer that was reached
+  pub cut_short : {R W : Type 0} (remaining : R → Option (List ℕ)) (contents : W → Option (List ℕ)) (until : Bool) (every turns : ℕ) (reached : Option (R × W)) (ways : R × W)
+      (old new : EngineView D) (error : FlushError) → reached ≡ Some ways
+      → HasSessionWithFlushes conduct dig until every turns (remaining ways.0) (contents ways.1) old (Err error) new
+      → IsCutShort conduct dig remaining contents until every turns (Err error) reached old new
+  cut_short {R} {W} remaining contents until every turns reached ways old new error is session =
+      subst (λ (r : Option (R × W)). IsCutShort conduct dig remaining contents until every turns (Err error) r old new) (sym is) session
+
+-- the end of a session whose reader failed is told
+pub told_of_reader : {R Cut : Type 0} (has_failed : R → Type 0) (reader : R) (end : SessionEnd)
+    → OnlyAfterFailure ReadFault (has_failed reader) end → OnlyAfterFailure (Session ReadFault) (OneFailed has_failed ⊎ Cut) (Session end)
+told_of_reader has_failed reader end failed = λ is. inl (reader, failed cc)
+
+-- where no session was cut short, that a reader failed is told only where one did
+pub not_cut : {Failed : Type 0} (end : PeerEnd) → OnlyAfterFailure (Session ReadFault) (Failed ⊎ ⊥) end → OnlyAfterFailure (Session ReadFault) Failed end
+not_cut {Failed} end told = λ is. one (told is)
+  where
+    one : Failed ⊎ ⊥ → Failed
+    one (inl failed) = failed
+    one (inr none) = absurd none

@@ -70,6 +70,16 @@ pub data IsFlushedSession {D : Type 0} (conduct : Conduct D)
       → IsFlushedSession conduct dig until_complete every turns remaining contents old end
       answer new
 
+-- A session with a peer that was reached was cut short: a flush in it was refused, as this answer says.
+abbrev pub IsCutShort : {D R W : Type 0} → Conduct D → (List ℕ → List ℕ)
+    → (remaining : R → Option (List ℕ)) → (contents : W → Option (List ℕ)) → (until_complete : Bool)
+    → (every turns : ℕ) → (answer : Result (Unit {0}) FlushError) → (reached : Option (R × W))
+    → EngineView D → EngineView D → Type 0
+IsCutShort conduct dig remaining contents until every turns (Err error) (Some ways) old new =
+    HasSessionWithFlushes conduct dig until every turns (remaining ways.0) (contents ways.1) old
+    (Err error) new
+IsCutShort conduct dig remaining contents until every turns _ _ old new = ⊥
+
 -- How it ends with a peer where the engine is flushed in its session and after it, and what the last of
 -- these flushes answered: Ok where there was none.
 abbrev pub EndsAsWithFlushes : {D R W : Type 0} → Conduct D

@@ -1,13 +1,15 @@
 -- Peers that are tried one after the other, until the engine is complete.
-use Rattle.std.specs.Prelude.{[], ℕ, ◌≡◌, ◌+◌, true, false, List, ◌∷◌, length, replicate, Option, IfSome, Result, Ok, Err}
+use Rattle.std.specs.Prelude.{[], ℕ, ◌≡◌, ◌+◌, ◌⊎◌, true, false, List, ◌∷◌, length, replicate, Option, IfSome, Result, Ok, Err}
 use Rattle.bt_disk.specs.Conduct.{Conduct}
 use Rattle.bt_machine.specs.declared.error.FlushError.{FlushError}
 use Rattle.bt_machine.specs.Report.{all_complete}
 use Rattle.bt_machine.specs.State.{EngineView}
+use Rattle.bt_session.specs.declared.end.SessionEnd.TheVariants.{ReadFault}
 use Rattle.bt_session.specs.declared.peer_end.PeerEnd.{PeerEnd}
-use Rattle.bt_session.specs.declared.peer_end.PeerEnd.TheVariants.{Untried}
+use Rattle.bt_session.specs.declared.peer_end.PeerEnd.TheVariants.{Untried, Session}
+use Rattle.bt_session.specs.Failures.{OnlyAfterFailure}
 use Rattle.bt_session.specs.Link.{failure_count}
-use Rattle.bt_session.specs.Peer.{EndsAs, EndsAsWithFlushes}
+use Rattle.bt_session.specs.Peer.{EndsAs, EndsAsWithFlushes, IsCutShort}
 
 -- A link was dialled once, and reached its peer by a reader and a writer, or did not.
 pub record IsDialled {L R W : Type 0} (dials failures : L → ℕ) (gives : L → R → W → Type 0) (old : L)
@@ -55,6 +57,18 @@ pub record IsTriedWithFlushes {D L R W : Type 0} (conduct : Conduct D) (dig : Li
   pub dialled : IsDialled dials failures gives link reached after
   pub ended : EndsAsWithFlushes conduct dig remaining contents true every turns reached old end
       answer new
+
+-- The same of a peer of which a fault of its reader is told only where a reader failed, or where its session
+-- was cut short by a flush.
+pub record IsTriedAndTold {D L R W : Type 0} (read_failed : Type 0) (conduct : Conduct D)
+    (dig : List ℕ → List ℕ) (dials failures : L → ℕ) (gives : L → R → W → Type 0)
+    (remaining : R → Option (List ℕ)) (contents : W → Option (List ℕ)) (every turns : ℕ) (old : EngineView D)
+    (link : L) (end : PeerEnd) (answer : Result (Unit {0}) FlushError) (after : L) (new : EngineView D)
+    : Type 0 where
+  pub tried : IsTriedWithFlushes conduct dig dials failures gives remaining contents every turns old
+      link end answer after new
+  pub read_fault : OnlyAfterFailure (Session ReadFault) (read_failed ⊎ IsCutShort conduct dig remaining
+      contents true every turns answer tried.reached old new) end
 
 -- what is said of one peer: of the engine and its link, its end and what the last flush answered, and both
 -- afterwards

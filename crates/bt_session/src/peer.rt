@@ -1,10 +1,10 @@
 //! One peer.
-ghost use Rattle.std.specs.Prelude.{[], ◌≡◌, ◌==◌, not, OnOk};
+ghost use Rattle.std.specs.Prelude.{[], ◌≡◌, ◌==◌, ◌⊎◌, not};
 ghost use Rattle.bt_engine.specs.Leads.{LeadsTo, Stands};
 ghost use Rattle.bt_session.specs.declared.end.SessionEnd.TheVariants.{ReadFault, WriteFault};
 ghost use Rattle.bt_session.specs.declared.peer_end.PeerEnd.TheVariants.{Session};
 ghost use Rattle.bt_session.specs.Failures.{OneFailed, OnlyAfterFailure};
-ghost use Rattle.bt_session.specs.Peer.{EndsAs, EndsAsWithFlushes, IsFlushedWhere};
+ghost use Rattle.bt_session.specs.Peer.{EndsAs, EndsAsWithFlushes, IsCutShort, IsFlushedWhere};
 
 use crate::end::SessionEnd;
 use crate::peer_end::PeerEnd;
@@ -58,8 +58,9 @@ pub fn meet_peer_with_flushes<
     requires no_peer { engine.old.state.peers ≡ [] }
     ensures ended { EndsAsWithFlushes D.conduct H.digest R.remaining W.contents
         until_complete flush_every turns reached engine.old result.0 result.1 engine.new }
-    ensures read_fault { OnOk result.1
-        (OnlyAfterFailure (Session ReadFault) (OneFailed R.has_failed) result.0) }
+    ensures read_fault { OnlyAfterFailure (Session ReadFault) (OneFailed R.has_failed
+        ⊎ IsCutShort D.conduct H.digest R.remaining W.contents until_complete flush_every turns
+        result.1 reached engine.old engine.new) result.0 }
     ensures write_fault { OnlyAfterFailure (Session WriteFault) (OneFailed W.has_failed) result.0 }
     ensures gone { engine.new.state.peers ≡ [] }
     ensures run { LeadsTo D.conduct H.digest engine.old engine.new }

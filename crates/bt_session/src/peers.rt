@@ -4,7 +4,7 @@ ghost use Rattle.bt_engine.specs.Leads.{LeadsTo, Stands};
 ghost use Rattle.bt_session.specs.declared.end.SessionEnd.TheVariants.{ReadFault, WriteFault};
 ghost use Rattle.bt_session.specs.declared.peer_end.PeerEnd.TheVariants.{Session};
 ghost use Rattle.bt_session.specs.Failures.{OneFailed, OnlyAfterFailure};
-ghost use Rattle.bt_session.specs.Peers.{IsTried, InTurn, IsTriedWithFlushes, InTurnWithFlushes};
+ghost use Rattle.bt_session.specs.Peers.{IsTried, InTurn, IsTriedWithFlushes, IsTriedAndTold, InTurnWithFlushes};
 
 use crate::link::Link;
 use crate::peer::meet_peer_with_flushes;
@@ -61,6 +61,9 @@ pub fn run_peers_with_flushes<D: Disk + Drop, H: NodeHash, L: Link>(
         links.new result engine.new }
     ensures read_fault { OnOk result
         (All (OnlyAfterFailure (Session ReadFault) (OneFailed L.R.has_failed)) ends.new) }
+    ensures told { InTurnWithFlushes (IsTriedAndTold (OneFailed L.R.has_failed) D.conduct H.digest L.dials
+        L.failures L.gives L.R.remaining L.W.contents flush_every turns) engine.old links.old ends.new
+        links.new result engine.new }
     ensures write_fault { All (OnlyAfterFailure (Session WriteFault) (OneFailed L.W.has_failed)) ends.new }
     ensures gone { engine.new.state.peers ≡ [] }
     ensures run { LeadsTo D.conduct H.digest engine.old engine.new }
@@ -90,11 +93,9 @@ fn try_peer<D: Disk + Drop, H: NodeHash, L: Link>(
 ) -> Result<(), FlushError>
     requires undialled { L.dials link.old ≡ 0 }
     requires no_peer { engine.old.state.peers ≡ [] }
-    ensures tried { IsTriedWithFlushes D.conduct H.digest L.dials L.failures L.gives
-        L.R.remaining L.W.contents flush_every turns engine.old link.old end.new result link.new
-        engine.new }
-    ensures read_fault { OnOk result
-        (OnlyAfterFailure (Session ReadFault) (OneFailed L.R.has_failed) end.new) }
+    ensures tried { IsTriedAndTold (OneFailed L.R.has_failed) D.conduct H.digest L.dials L.failures
+        L.gives L.R.remaining L.W.contents flush_every turns engine.old link.old end.new result
+        link.new engine.new }
     ensures write_fault { OnlyAfterFailure (Session WriteFault) (OneFailed L.W.has_failed) end.new }
     ensures gone { engine.new.state.peers ≡ [] }
     ensures run { LeadsTo D.conduct H.digest engine.old engine.new }

@@ -1,9 +1,9 @@
-use Rattle.std.proofs.Common.{Err, rules, refl}
+use Rattle.std.proofs.Common.{Err, inr, rules, refl}
 use Rattle.bt_machine.specs.declared.event.Event.TheVariants.{Connect}
 use Rattle.bt_engine.specs.Leads.{none, one, both}
 use Rattle.bt_session.specs.declared.end.SessionEnd.TheVariants.{ReadFault}
 use Rattle.bt_session.specs.Peer.{behind, within}
-use Rattle.bt_session.proofs.Unflushed.{flushed_end, told_of_reader}
+use Rattle.bt_session.proofs.Unflushed.{flushed_end, cut_short, told_of_reader}
 use Rattle.bt_session.proofs.Sessions.{session_leads}
 use Rattle.bt_session.proofs.peer.meet_peer_with_flushes.Goals as goal
 
@@ -59,5 +59,10 @@ returns-clause-stands g c = c.in-Err.ensures.stands
 
 pub returns-in-Ok-Ok-clause-read_fault : goal.returns-in-Ok-Ok-clause-read_fault
 returns-in-Ok-Ok-clause-read_fault g c =
-    told_of_reader g.R.WatchedReader.has_failed c.run_session_with_flushes.new.reader c.in-Ok-Ok.end c.flush_behind.result
+    told_of_reader g.R.WatchedReader.has_failed c.run_session_with_flushes.new.reader c.in-Ok-Ok.end
     (rw c.in-Ok-Ok.field-0-is at c.in-Ok-Ok.ensures.read_fault)
+
+pub returns-in-Ok-Err-clause-read_fault : goal.returns-in-Ok-Err-clause-read_fault
+returns-in-Ok-Err-clause-read_fault g c = λ is.
+    inr (cut_short g.D.Disk.conduct g.H.NodeHash.digest g.R.Read.remaining g.W.Write.contents c.args.until_complete c.args.flush_every c.args.turns c.args.reached _ c.args.engine.now c.run_session_with_flushes.new.engine c.in-Ok-Err.error c.in-Some.is
+    (record { left = _; written = _; session = rw c.in-Ok-Err.field-0-is at c.in-Ok-Err.ensures.session }))
