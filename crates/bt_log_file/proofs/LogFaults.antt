@@ -101,6 +101,10 @@ pub where_ok : {T E : Type 0} (r : Result T E) (P : Type 0) → P → OnOk r P
 where_ok (Ok x) P holds = holds
 where_ok (Err it) P holds = tt
 
+pub ok_weaker : {T E : Type 0} (r : Result T E) (A B : Type 0) → (A → B) → OnOk r A → OnOk r B
+ok_weaker (Ok x) A B gives holds = gives holds
+ok_weaker (Err it) A B gives holds = tt
+
 pub where_both : {T E : Type 0} (r : Result T E) (P : T → Type 0) (A : Type 0) (Q : T → Type 0) → ((x : T) → P x → A → Q x)
     → IfOk r P → OnOk r A → IfOk r Q
 where_both (Ok x) P A Q gives holds also = gives x holds also

@@ -6,7 +6,6 @@ use Rattle.bt_folder.specs.Lookup.{Lists}
 use Rattle.bt_folder.specs.declared.folder_names.ListingError.{ListingError}
 use Rattle.bt_folder.specs.declared.folder_names.ListingError.TheVariants.{Device as CallFailed, OutOfMemory as NoMemory}
 use Rattle.bt_folder.specs.declared.known_files.KnownFiles.{KnownFiles}
-use Rattle.bt_meta.specs.Files.{File}
 use Rattle.bt_meta.specs.Torrent.{Metainfo}
 use Rattle.bt_resume.specs.ResumeLog.{LogView, IsAttached}
 use Rattle.bt_check.specs.Fault.{device, log_among_files, out_of_memory}
@@ -14,6 +13,7 @@ use Rattle.bt_check.specs.declared.fault.Fault.{Fault}
 use Rattle.bt_log_file.specs.Attaching.{IsAttachFault}
 use Rattle.bt_log_file.specs.Device.{LogDiskView, device_conduct, new_log_device}
 use Rattle.bt_log_file.specs.Folder.{folder_of}
+use Rattle.bt_log_file.specs.Keeping.{HasFolderThat, Leads}
 use Rattle.bt_log_file.specs.Names.{HasNameOfFile}
 
 -- a call failed, or memory was refused
@@ -24,10 +24,10 @@ IsCallFault fault = (fault ≡ device) ⊎ (fault ≡ out_of_memory)
 abbrev pub IsCallFaultBy : (failed : Type 0) → Fault → Type 0
 IsCallFaultBy failed fault = ((fault ≡ device) × failed) ⊎ (fault ≡ out_of_memory)
 
--- The file at a path was not opened, its folder not listed, or a folder not synced.
-abbrev pub HasFailed : (refuses loses : List ℕ → Type 0) → Lists → List ℕ → Type 0
-HasFailed refuses loses lists path =
-    refuses path ⊎ lists (folder_of path) (Err CallFailed) ⊎ ((folder : List ℕ) × loses folder)
+-- The file at a path was not opened, its folder not listed, or not synced.
+abbrev pub HasFailed : (refuses loses : List ℕ → Type 0) → Leads → Lists → List ℕ → Type 0
+HasFailed refuses loses leads lists path =
+    refuses path ⊎ lists (folder_of path) (Err CallFailed) ⊎ HasFolderThat leads loses path
 
 -- why the program ends where a folder can't be listed
 abbrev pub listing_fault : ListingError → Fault

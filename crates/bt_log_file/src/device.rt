@@ -2,13 +2,13 @@
 ghost use Rattle.std.specs.Prelude.{◌≡◌, IfErr, IfOk};
 ghost use Rattle.bt_devices.specs.Disk.{new_ahead};
 ghost use Rattle.bt_devices.specs.SealedDisk.{new_sealed};
-ghost use Rattle.bt_log_file.specs.Device.{new_log_device, new_log_file};
+ghost use Rattle.bt_log_file.specs.Device.{new_log_device};
 ghost use Rattle.bt_log_file.specs.Opening.{IsCallFaultBy};
 
-use crate::log_folder::LogFolder;
+use crate::log_folder::{LogFolder, OpenedLog};
 use bt_check::{Fault, fault_name, told};
 use bt_devices::{Alarm, DigestCache, ReadAheadDisk, Seal, SealedDisk, Watched};
-use bt_disk::{Opening, PooledDisk};
+use bt_disk::PooledDisk;
 use bt_progress::{FileCall, Watch};
 use std::cell::RefCell;
 use std::rt::Files;
@@ -29,40 +29,39 @@ pub struct LogContext<'a> {
     pub seal: &'a Seal,
 }
 
-/// The file of a log that was opened: its device, and what the system told of it.
-#[derive(Drop)]
-pub(crate) struct OpenedLog<D> {
-    pub disk: D,
-    pub opening: Opening,
-}
-
 /// Opens the file of a log to be read and written: one that is absent is made, with no bytes, and one that is there
 /// keeps them. What is there and is no regular file is a device fault, told without waiting on it. Symbolic links
 /// are followed. A fault is told of, and so is the first call on the device that fails.
-pub(crate) fn open_device<'a, R: LogFolder, P: Watch>(
+pub(crate) fn open_device<'a, 'p, R: LogFolder, P: Watch>(
     rt: &R,
     watch: &'a P,
     context: LogContext<'a>,
-    path: &str,
-) -> Result<OpenedLog<LogDisk<'a, R, P>>, Fault>
+    path: &'p str,
+) -> Result<OpenedLog<'p, LogDisk<'a, R, P>>, Fault>
+    ensures path { IfOk result (λ log. log.path.now ≡ path.now) }
     ensures device { IfOk result (λ log. log.disk ≡ new_log_device path.now log.opening.identity) }
+    ensures opening { IfOk result (λ log. R.opens rt.now path.now log.opening) }
     ensures fault { IfErr result (IsCallFaultBy (R.refuses rt.now path.now)) }
 {
     let name = fault_name(rt.alloc(), watch, path)?;
-    let opened = told(rt.alloc(), watch, FileCall::Open, path, open_file(rt, path))?;
-    let OpenedLog { disk, opening } = opened;
+    let opened = told(
+        rt.alloc(),
+        watch,
+        FileCall::Open,
+        path,
+        rt.open_log_file(path),
+    )?;
+    let OpenedLog {
+        path,
+        disk,
+        opening,
+    } = opened;
     let disk = Watched::with_alarm(device_of(context, disk), watch, name, context.alarm);
-    Ok(OpenedLog { disk, opening })
-}
-
-/// Opens a file, and has what the system told of it.
-fn open_file<R: LogFolder>(rt: &R, path: &str) -> Result<OpenedLog<PooledDisk<R>>, Fault>
-    ensures file { IfOk result (λ log. log.disk ≡ new_log_file path.now log.opening.identity) }
-    ensures fault { IfErr result (IsCallFaultBy (R.refuses rt.now path.now)) }
-{
-    let disk = rt.open_log_file(path)?;
-    let opening = disk.opening();
-    Ok(OpenedLog { disk, opening })
+    Ok(OpenedLog {
+        path,
+        disk,
+        opening,
+    })
 }
 
 /// A file as a device that is written until the log's seal is closed.

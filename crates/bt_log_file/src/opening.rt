@@ -6,13 +6,14 @@ ghost use Rattle.bt_meta.specs.Files.{file_of};
 ghost use Rattle.bt_resume.specs.ResumeLog.{IsAttached};
 ghost use Rattle.bt_log_file.specs.Device.{device_conduct};
 ghost use Rattle.bt_log_file.specs.Folder.{folder_of};
+ghost use Rattle.bt_log_file.specs.Keeping.{IsKeptFile, IsKeptIfEmpty};
 ghost use Rattle.bt_log_file.specs.Names.{HasFileByName, HasNoFileByName};
 ghost use Rattle.bt_log_file.specs.Opening.{AddsFile, HasFailed, IsAdded, IsCallFaultBy, IsFileFault, IsFurtherLog, IsLogFaultBy, IsLogFaultOf, IsNameFault, listing_fault};
 
 use crate::attaching::attach_log;
-use crate::device::{LogContext, LogDisk, OpenedLog, open_device};
+use crate::device::{LogContext, LogDisk, open_device};
 use crate::folder::{folder_of, keep_name};
-use crate::log_folder::LogFolder;
+use crate::log_folder::{LogFolder, OpenedLog};
 use crate::names::is_own_name;
 use bt_check::{Fault, told};
 use bt_disk::FileIdentity;
@@ -44,42 +45,44 @@ pub fn open_log<'a, R: Files + AllocGlobal + Clone + Drop + Lookup + LogFolder, 
     ensures log { IfOk result (IsFurtherLog known.old torrent.now path.now known.new) }
     ensures own_name { OnOk result (HasNoFileByName
         (R.tells rt.now) (R.lists rt.now) dir.now torrent.now.files path.now) }
-    ensures fault { let failed = HasFailed (R.refuses rt.now) (R.loses rt.now) (R.lists rt.now) path.now
+    ensures kept { OnOk result (IsKeptFile (R.opens rt.now) (R.leads rt.now) (R.keeps rt.now) path.now) }
+    ensures fault { let failed = HasFailed (R.refuses rt.now) (R.loses rt.now) (R.leads rt.now) (R.lists rt.now) path.now
         in let named = HasFileByName (R.tells rt.now) (R.lists rt.now) dir.now torrent.now.files path.now
         in IfErr result (IsLogFaultBy (IsCallFaultBy failed) named known.old torrent.now path.now) }
 {
     let opened = open_device(rt, watch, context, path)?;
-    open_in_file(rt, watch, known, dir, torrent, path, opened)
+    open_in_file(rt, watch, known, dir, torrent, opened)
 }
 
-/// Opens the log of a torrent in the file at a path that was opened, on its device. Errors: the file is one of the
-/// torrent's; it is not kept; and those of [`ResumeLog::attach`].
+/// Opens the log of a torrent in a file that was opened. Errors: the file is one of the torrent's; it is not kept; and
+/// those of [`ResumeLog::attach`].
 fn open_in_file<'a, R: Lookup + LogFolder, P: Watch>(
     rt: &R,
     watch: &P,
     known: &mut KnownFiles,
     dir: &str,
     torrent: &Torrent,
-    path: &str,
-    opened: OpenedLog<LogDisk<'a, R, P>>,
+    opened: OpenedLog<'_, LogDisk<'a, R, P>>,
 ) -> Result<ResumeLog<LogDisk<'a, R, P>>, Fault>
     ensures log { IfOk result
         (IsAttached device_conduct torrent.now.infohash opened.entry.disk) }
     ensures further { OnOk result (AddsFile known.old opened.entry.opening.identity known.new) }
     ensures own_name { OnOk result (HasNoFileByName
-        (R.tells rt.now) (R.lists rt.now) dir.now torrent.now.files path.now) }
-    ensures fault { let failed = HasFailed (R.refuses rt.now) (R.loses rt.now) (R.lists rt.now) path.now
-        in let named = HasFileByName (R.tells rt.now) (R.lists rt.now) dir.now torrent.now.files path.now
+        (R.tells rt.now) (R.lists rt.now) dir.now torrent.now.files opened.entry.path.now) }
+    ensures kept { OnOk result (IsKeptIfEmpty
+        (R.leads rt.now) (R.keeps rt.now) opened.entry.opening opened.entry.path.now) }
+    ensures fault { let path = opened.entry.path.now
+        in let failed = HasFailed (R.refuses rt.now) (R.loses rt.now) (R.leads rt.now) (R.lists rt.now) path
+        in let named = HasFileByName (R.tells rt.now) (R.lists rt.now) dir.now torrent.now.files path
         in IfErr result (IsLogFaultOf known.old opened.entry.opening.identity torrent.now.infohash
         (IsCallFaultBy failed) named opened.entry.disk) }
 {
-    let OpenedLog { disk, opening } = opened;
-    refuse_known(known, opening.identity)?;
-    refuse_other_name(rt, watch, dir, torrent.files(), path)?;
-    if opening.len == 0 {
-        keep_name(rt, watch, path)?;
+    refuse_known(known, opened.opening.identity)?;
+    refuse_other_name(rt, watch, dir, torrent.files(), opened.path)?;
+    if opened.opening.len == 0 {
+        keep_name(rt, watch, opened.path)?;
     }
-    attach_log(rt.alloc(), disk, torrent.infohash())
+    attach_log(rt, opened, torrent.infohash())
 }
 
 /// Adds the file of a log to those that are known. Errors: it is one of them, by what the system tells of it, or

@@ -1,4 +1,4 @@
-use Rattle.std.proofs.Common.{Bool, true, false, arith, subst}
+use Rattle.std.proofs.Common.{Bool, false, arith, subst}
 use Rattle.bt_meta.specs.Files.{File, file_of}
 use Rattle.bt_log_file.specs.Looking.{IsAt}
 use Rattle.bt_log_file.proofs.Refusals.{each_more, each_of_all, file_at}

@@ -12,9 +12,9 @@ use Rattle.bt_log_file.proofs.opening.open_in_file.Goals as goal
 pub returns-in_err-refuse_known-clause-fault : goal.returns-in_err-refuse_known-clause-fault
 returns-in_err-refuse_known-clause-fault g c =
     let identity = c.args.opened.opening.identity in
-    let named = HasFileByName (g.R.Lookup.tells c.args.rt.now) (g.R.Lookup.lists c.args.rt.now) c.args.dir.now c.args.torrent.now.files c.args.path.now in
+    let named = HasFileByName (g.R.Lookup.tells c.args.rt.now) (g.R.Lookup.lists c.args.rt.now) c.args.dir.now c.args.torrent.now.files c.args.opened.path.now in
     let failed =
-    HasFailed (g.R.LogFolder.refuses c.args.rt.now) (g.R.LogFolder.loses c.args.rt.now) (g.R.Lookup.lists c.args.rt.now) c.args.path.now in
+    HasFailed (g.R.LogFolder.refuses c.args.rt.now) (g.R.LogFolder.loses c.args.rt.now) (g.R.LogFolder.leads c.args.rt.now) (g.R.Lookup.lists c.args.rt.now) c.args.opened.path.now in
     passed_on c.from_residual.result c.in_err-refuse_known.field-0.0
     (IsLogFaultOf c.args.known.now identity c.args.torrent.now.infohash (IsCallFaultBy failed) named c.args.opened.disk) c.from_residual.ensures.1
     (of_known c.args.known.now identity c.args.torrent.now.infohash failed c.args.opened.disk _ named c.in_err-refuse_known.ensures.fault)
@@ -22,9 +22,9 @@ returns-in_err-refuse_known-clause-fault g c =
 pub returns-in_err-refuse_other_name-clause-fault : goal.returns-in_err-refuse_other_name-clause-fault
 returns-in_err-refuse_other_name-clause-fault g c =
     let identity = c.args.opened.opening.identity in
-    let named = λ (files : List File). HasFileByName (g.R.Lookup.tells c.args.rt.now) (g.R.Lookup.lists c.args.rt.now) c.args.dir.now files c.args.path.now in
+    let named = λ (files : List File). HasFileByName (g.R.Lookup.tells c.args.rt.now) (g.R.Lookup.lists c.args.rt.now) c.args.dir.now files c.args.opened.path.now in
     let failed =
-    HasFailed (g.R.LogFolder.refuses c.args.rt.now) (g.R.LogFolder.loses c.args.rt.now) (g.R.Lookup.lists c.args.rt.now) c.args.path.now in
+    HasFailed (g.R.LogFolder.refuses c.args.rt.now) (g.R.LogFolder.loses c.args.rt.now) (g.R.LogFolder.leads c.args.rt.now) (g.R.Lookup.lists c.args.rt.now) c.args.opened.path.now in
     passed_on c.from_residual-in_err-refuse_other_name.result c.in_err-refuse_other_name.field-0.0
     (IsLogFaultOf c.args.known.now identity c.args.torrent.now.infohash (IsCallFaultBy failed) (named c.args.torrent.now.files) c.args.opened.disk)
     c.from_residual-in_err-refuse_other_name.ensures.1
@@ -45,15 +45,15 @@ returns-clause-further g c =
 
 pub returns-clause-own_name : goal.returns-clause-own_name
 returns-clause-own_name g c =
-    let own = λ (files : List File). HasNoFileByName (g.R.Lookup.tells c.args.rt.now) (g.R.Lookup.lists c.args.rt.now) c.args.dir.now files c.args.path.now in
+    let own = λ (files : List File). HasNoFileByName (g.R.Lookup.tells c.args.rt.now) (g.R.Lookup.lists c.args.rt.now) c.args.dir.now files c.args.opened.path.now in
     where_ok c.attach_log.result (own c.args.torrent.now.files) (subst own c.files.ensures.said c.in_ok-refuse_other_name.ensures.own_name)
 
 pub returns-clause-fault : goal.returns-clause-fault
 returns-clause-fault g c =
     let identity = c.args.opened.opening.identity in
-    let named = HasFileByName (g.R.Lookup.tells c.args.rt.now) (g.R.Lookup.lists c.args.rt.now) c.args.dir.now c.args.torrent.now.files c.args.path.now in
+    let named = HasFileByName (g.R.Lookup.tells c.args.rt.now) (g.R.Lookup.lists c.args.rt.now) c.args.dir.now c.args.torrent.now.files c.args.opened.path.now in
     let failed =
-    HasFailed (g.R.LogFolder.refuses c.args.rt.now) (g.R.LogFolder.loses c.args.rt.now) (g.R.Lookup.lists c.args.rt.now) c.args.path.now in
+    HasFailed (g.R.LogFolder.refuses c.args.rt.now) (g.R.LogFolder.loses c.args.rt.now) (g.R.LogFolder.leads c.args.rt.now) (g.R.Lookup.lists c.args.rt.now) c.args.opened.path.now in
     where_err c.attach_log.result (IsAttachFault device_conduct c.infohash.result c.args.opened.disk)
     (IsLogFaultOf c.args.known.now identity c.args.torrent.now.infohash (IsCallFaultBy failed) named c.args.opened.disk)
     (λ fault is. of_device c.args.known.now identity c.args.torrent.now.infohash failed c.args.opened.disk fault named c.infohash.result c.infohash.ensures is)

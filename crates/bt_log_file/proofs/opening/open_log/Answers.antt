@@ -1,16 +1,18 @@
-use Rattle.std.proofs.Common.{None, inl, subst}
+use Rattle.std.proofs.Common.{ℕ, List, None, inl, subst}
+use Rattle.std.specs.Prelude.{OnOk}
 use Rattle.bt_resume.specs.ResumeLog.{IsAttached}
 use Rattle.bt_log_file.specs.Device.{LogDiskView, device_conduct}
-use Rattle.bt_log_file.specs.Names.{HasFileByName}
+use Rattle.bt_log_file.specs.Keeping.{IsKeptFile, IsKeptIfEmpty}
+use Rattle.bt_log_file.specs.Names.{HasFileByName, HasNoFileByName}
 use Rattle.bt_log_file.specs.Opening.{AddsFile, HasFailed, IsCallFaultBy, IsFurtherLog, IsLogFaultBy, IsLogFaultOf}
-use Rattle.bt_log_file.proofs.LogFaults.{of_call, passed_on, where_both, where_err}
+use Rattle.bt_log_file.proofs.LogFaults.{of_call, ok_weaker, passed_on, where_both, where_err}
 use Rattle.bt_log_file.proofs.opening.open_log.Goals as goal
 
 pub returns-in_err-opened-clause-fault : goal.returns-in_err-opened-clause-fault
 returns-in_err-opened-clause-fault g c =
     let named = HasFileByName (g.R.Lookup.tells c.args.rt.now) (g.R.Lookup.lists c.args.rt.now) c.args.dir.now c.args.torrent.now.files c.args.path.now in
     let failed =
-    HasFailed (g.R.LogFolder.refuses c.args.rt.now) (g.R.LogFolder.loses c.args.rt.now) (g.R.Lookup.lists c.args.rt.now) c.args.path.now in
+    HasFailed (g.R.LogFolder.refuses c.args.rt.now) (g.R.LogFolder.loses c.args.rt.now) (g.R.LogFolder.leads c.args.rt.now) (g.R.Lookup.lists c.args.rt.now) c.args.path.now in
     passed_on c.from_residual.result c.in_err-opened.field-0.0
     (IsLogFaultBy (IsCallFaultBy failed) named c.args.known.now c.args.torrent.now c.args.path.now)
     c.from_residual.ensures.1 (None, inl (of_call _ failed _ (λ refused. inl refused) c.in_err-opened.ensures.fault))
@@ -28,13 +30,36 @@ returns-clause-log g c =
       adds = adds;
     }) c.open_in_file.ensures.log c.open_in_file.ensures.further
 
+pub returns-clause-own_name : goal.returns-clause-own_name
+returns-clause-own_name g c =
+    subst (λ (p : List ℕ). OnOk c.open_in_file.result
+    (HasNoFileByName (g.R.Lookup.tells c.args.rt.now) (g.R.Lookup.lists c.args.rt.now) c.args.dir.now c.args.torrent.now.files p)) c.in_ok-opened.ensures.path
+    c.open_in_file.ensures.own_name
+
+pub returns-clause-kept : goal.returns-clause-kept
+returns-clause-kept g c =
+    let leads = g.R.LogFolder.leads c.args.rt.now in
+    let keeps = g.R.LogFolder.keeps c.args.rt.now in
+    let opening = c.in_ok-opened.opened.opening in
+    ok_weaker c.open_in_file.result (IsKeptIfEmpty leads keeps opening c.in_ok-opened.opened.path.now)
+    (IsKeptFile (g.R.LogFolder.opens c.args.rt.now) leads keeps c.args.path.now) (λ kept. record {
+      opening = opening;
+      told = c.in_ok-opened.ensures.opening;
+      kept = subst (λ (p : List ℕ). IsKeptIfEmpty leads keeps opening p) c.in_ok-opened.ensures.path kept;
+    }) c.open_in_file.ensures.kept
+
 pub returns-clause-fault : goal.returns-clause-fault
 returns-clause-fault g c =
     let identity = c.in_ok-opened.opened.opening.identity in
-    let named = HasFileByName (g.R.Lookup.tells c.args.rt.now) (g.R.Lookup.lists c.args.rt.now) c.args.dir.now c.args.torrent.now.files c.args.path.now in
-    let failed =
-    HasFailed (g.R.LogFolder.refuses c.args.rt.now) (g.R.LogFolder.loses c.args.rt.now) (g.R.Lookup.lists c.args.rt.now) c.args.path.now in
-    let fault_of = IsLogFaultOf c.args.known.now identity c.args.torrent.now.infohash (IsCallFaultBy failed) named in
-    where_err c.open_in_file.result (fault_of c.in_ok-opened.opened.disk)
-    (IsLogFaultBy (IsCallFaultBy failed) named c.args.known.now c.args.torrent.now c.args.path.now)
-    (λ fault is. (identity, subst (λ (d : LogDiskView). fault_of d fault) c.in_ok-opened.ensures.device is)) c.open_in_file.ensures.fault
+    let named = λ (p : List ℕ). HasFileByName (g.R.Lookup.tells c.args.rt.now) (g.R.Lookup.lists c.args.rt.now) c.args.dir.now c.args.torrent.now.files p in
+    let failed = λ (p : List ℕ).
+    HasFailed (g.R.LogFolder.refuses c.args.rt.now) (g.R.LogFolder.loses c.args.rt.now) (g.R.LogFolder.leads c.args.rt.now) (g.R.Lookup.lists c.args.rt.now) p in
+    let fault_of = λ (p : List ℕ). IsLogFaultOf c.args.known.now identity c.args.torrent.now.infohash (IsCallFaultBy (failed p)) (named p) in
+    let path = c.args.path.now in
+    where_err c.open_in_file.result (fault_of c.in_ok-opened.opened.path.now c.in_ok-opened.opened.disk)
+    (IsLogFaultBy (IsCallFaultBy (failed path)) (named path) c.args.known.now c.args.torrent.now path)
+    (λ fault is. (
+      identity,
+      subst (λ (d : LogDiskView). fault_of path d fault) c.in_ok-opened.ensures.device
+          (subst (λ (p : List ℕ). fault_of p c.in_ok-opened.opened.disk fault) c.in_ok-opened.ensures.path is),
+    )) c.open_in_file.ensures.fault
