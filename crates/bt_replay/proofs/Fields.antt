@@ -1,5 +1,5 @@
 -- Lemmas on the fields of a line.
-use Rattle.std.proofs.Common.{[], ◌≡◌, ℕ, true, List, ◌∷◌, Option, Some, None, length, sym, ap, subst, ◌∙◌, arith}
+use Rattle.std.proofs.Common.{[], ◌≡◌, ℕ, true, List, ◌∷◌, Option, Some, None, Result, Ok, Err, OnErr, length, sym, ap, subst, ◌∙◌, arith}
 use Rattle.std.specs.Prelude.{◌==◌, is_some, IfNone}
 use Rattle.std.specs.Borrow.{Bor}
 use Rattle.std.proofs.lemmas.List.Splits.{length-slice_split}
@@ -15,6 +15,10 @@ none_holds {A} {P} r h e = let Q : Option A → Type 0 = λ r. IfNone r P in sub
 pub none_always : {A P : Type 0} (r : Option A) → P → IfNone r P
 none_always None p = p
 none_always (Some x) p = tt
+
+pub err_always : {A E P : Type 0} (r : Result A E) → P → OnErr r P
+err_always (Ok x) p = tt
+err_always (Err e) p = p
 
 -- ---- fields
 

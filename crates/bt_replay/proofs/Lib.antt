@@ -7,3 +7,5 @@ pub mod ScriptLines
 pub mod ScriptEnd
 pub mod ReaderScript
 pub mod Failures
+pub mod Hex
+pub mod Memory

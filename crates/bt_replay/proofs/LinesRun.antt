@@ -100,8 +100,8 @@ ends_here conduct dig handshake first mid start number all text line rest more o
     (parted_more all at.done (lines_in more) line text (at.parted ∙ ap (λ lines. at.done ++ lines) here) cut)
     (kept_run conduct dig handshake first mid at.done old new newer at.ran kept) bad
     (is ∙ ap bad_line_at at.counted)
-ends_here conduct dig handshake first mid start number all text line rest more old new newer fault at here cut (no_memory is kept) =
+ends_here conduct dig handshake first mid start number all text line rest more old new newer fault at here cut (no_memory takes is kept) =
     without_memory at.done (lines_in more) line mid
     (parted_more all at.done (lines_in more) line text (at.parted ∙ ap (λ lines. at.done ++ lines) here) cut)
-    (kept_run conduct dig handshake first mid at.done old new newer at.ran kept) is
+    (kept_run conduct dig handshake first mid at.done old new newer at.ran kept) takes is
 ends_here conduct dig handshake first mid start number all text line rest more old new newer fault at here cut (not_written is) = unwritten is

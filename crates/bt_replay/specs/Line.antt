@@ -101,6 +101,18 @@ pub record Spells (text : List ℕ) (line : Line) : Type 0 where
   pub parted : parts_of 32 text ≡ word_text word ∷ fields
   pub makes : Makes word fields line
 
+-- bytes stand in a line: to keep them takes memory
+abbrev pub HasBytes : Line → Type 0
+HasBytes (Torrent bytes) = Unit {0}
+HasBytes (Feed key bytes) = Unit {0}
+HasBytes _ = ⊥
+
+-- it spells one in which bytes stand
+pub record SpellsBytes (text : List ℕ) : Type 0 where
+  pub line : Line
+  pub spells : Spells text line
+  pub has : HasBytes line
+
 -- it spells none
 abbrev pub SpellsNone : List ℕ → Type 0
 SpellsNone text = (line : Line) → ¬ Spells text line

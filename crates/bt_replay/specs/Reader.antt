@@ -10,8 +10,8 @@ pub record GivesScript (old new : Option (List ℕ)) (script : List ℕ) : Type 
   pub within : length script ≤ 2 ^ 24
   pub ended : length script < 2 ^ 24 → IsAtEnd new
 
--- no script came: the reader failed, or memory was refused, and the bytes that were read are lost
+-- no script came, and the bytes that were read are lost: the reader failed, or memory for these bytes was refused
 pub record IsUnread (old new : Option (List ℕ)) (fault : ReplayFault) : Type 0 where
   pub lost : List ℕ
   pub taken : Consumes old new lost
-  pub cause : (fault ≡ Read) ⊎ (fault ≡ OutOfMemory)
+  pub cause : (fault ≡ Read) ⊎ ((fault ≡ OutOfMemory) × (0 < length lost))

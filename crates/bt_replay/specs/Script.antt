@@ -16,7 +16,7 @@ use Rattle.bt_replay.specs.Devices.{Device, SetsFront, first_device, zero_device
 use Rattle.bt_replay.specs.Event.{peer_handshake}
 use Rattle.bt_replay.specs.Fault.{torrent_fault}
 use Rattle.bt_replay.specs.Field.{parts_of}
-use Rattle.bt_replay.specs.Line.{Spells, SpellsNone}
+use Rattle.bt_replay.specs.Line.{Spells, SpellsBytes, SpellsNone}
 use Rattle.bt_replay.specs.Run.{EndsEarly, HasRun}
 use Rattle.bt_replay.specs.declared.fault.ReplayFault.{ReplayFault}
 use Rattle.bt_replay.specs.declared.fault.ReplayFault.TheVariants.{Line as bad_line_at, OutOfMemory}
@@ -49,7 +49,8 @@ pub record NamesTorrent (text : List ℕ) (torrent : Metainfo) : Type 0 where
   pub has : torrent_bytes line ≡ Some bytes
   pub is_torrent : IsTorrent bytes torrent
 
--- a text names none: it spells no such line; the torrent is refused, which want of memory is not; or memory was
+-- a text names none: it spells no such line; the torrent is refused, which want of memory is not; or memory for
+-- its bytes was
 pub data NamesNone (text : List ℕ) (fault : ReplayFault) : Type 0 where
   no_line : SpellsNone text → fault ≡ bad_line_at 1 → NamesNone text fault
   other_line : (line : Line) → Spells text line → torrent_bytes line ≡ None → fault ≡ bad_line_at 1
@@ -57,7 +58,7 @@ pub data NamesNone (text : List ℕ) (fault : ReplayFault) : Type 0 where
   refused : (line : Line) (bytes : List ℕ) (refusal : MetaError) → Spells text line
       → torrent_bytes line ≡ Some bytes → IsRefused first_fault bytes refusal
       → fault ≡ torrent_fault refusal → NamesNone text fault
-  no_memory : fault ≡ OutOfMemory → NamesNone text fault
+  no_memory : SpellsBytes text → fault ≡ OutOfMemory → NamesNone text fault
 
 -- ---- the engine
 
@@ -82,7 +83,7 @@ pub record BeginsOn (torrent : Metainfo) (lines : List (List ℕ)) (engine : Eng
 -- ---- the whole
 
 -- All lines ran; or they ended early, which a writer that fails makes them do; or nothing was begun, and
--- nothing written.
+-- nothing written: no torrent is named, or memory was refused for what the torrent is started on.
 pub data Replays (script : List ℕ) (old new : Option (List ℕ)) (outcome : Result (Unit {0}) ReplayFault)
     : Type 0 where
   whole : (first : List ℕ) (lines rest : List (List ℕ)) (torrent : Metainfo) (engine now : EngineView Device)
@@ -100,4 +101,6 @@ pub data Replays (script : List ℕ) (old new : Option (List ℕ)) (outcome : Re
   unbegun : (first : List ℕ) (lines : List (List ℕ)) (fault : ReplayFault)
       → script_lines script ≡ first ∷ lines → NamesNone first fault → Keeps old new → outcome ≡ Err fault
       → Replays script old new outcome
-  without_memory : Keeps old new → outcome ≡ Err OutOfMemory → Replays script old new outcome
+  without_memory : (first : List ℕ) (lines : List (List ℕ)) (torrent : Metainfo)
+      → script_lines script ≡ first ∷ lines → NamesTorrent first torrent → Keeps old new
+      → outcome ≡ Err OutOfMemory → Replays script old new outcome

@@ -1,5 +1,5 @@
 //! The lines that tell what an event answered, and how far the files are.
-ghost use Rattle.std.specs.Prelude.{◌≡◌, ◌++◌, OnOk, IfErr, Ok, Some, string_bytes};
+ghost use Rattle.std.specs.Prelude.{◌≡◌, ◌++◌, OnErr, OnOk, IfErr, IfOk, Ok, Some, string_bytes};
 ghost use Rattle.bt_machine.specs.Law.{sent_by};
 ghost use Rattle.bt_machine.specs.declared.event.Answer.TheVariants.{Connected, Fed, Stepped, Lost, Rechoked, Adopted as AdoptedAnswer, Flushed, Restarted};
 ghost use Rattle.bt_replay.specs.Answer.{AllFit, answer_text, refused_text, connect_refusal, event_refusal, adopt_refusal, flush_refusal, restart_refusal, file_line, line_text};
@@ -13,9 +13,29 @@ use bt_store::Adopted;
 use std::alloc::{AllocError, Global};
 use std::fmt::Write;
 
-/// Adds the lines of an answer. Its frames can be written. Errors: out of memory, and then a part of the lines
-/// may have been added.
+/// Adds the lines of an answer. Its frames can be written. Errors: out of memory, and then nothing is added.
 pub fn push_answer(alloc: Global, text: &mut String, answer: &Answer) -> Result<(), AllocError>
+    requires { AllFit (sent_by answer.now) }
+    ensures added { OnOk result (string_bytes text.new ≡ string_bytes text.old ++ answer_text answer.now) }
+    ensures kept { OnErr result (string_bytes text.new ≡ string_bytes text.old) }
+{
+    let lines = text_of(alloc, answer)?;
+    text.push_str(lines.as_str())
+}
+
+/// The lines of an answer.
+pub(crate) fn text_of(alloc: Global, answer: &Answer) -> Result<String, AllocError>
+    requires { AllFit (sent_by answer.now) }
+    ensures { IfOk result (λ text. string_bytes text ≡ answer_text answer.now) }
+{
+    let mut text = String::new(alloc);
+    push_lines(alloc, &mut text, answer)?;
+    Ok(text)
+}
+
+/// Adds the lines of an answer. Errors: out of memory, and then a part of them may have been added, here and in
+/// all functions below.
+fn push_lines(alloc: Global, text: &mut String, answer: &Answer) -> Result<(), AllocError>
     requires { AllFit (sent_by answer.now) }
     ensures { OnOk result (string_bytes text.new ≡ string_bytes text.old ++ answer_text answer.now) }
 {

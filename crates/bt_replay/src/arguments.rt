@@ -1,5 +1,5 @@
 //! The fields after a line's word. Each is None where they are not of its form.
-ghost use Rattle.std.specs.Prelude.{[], ◌≡◌, ◌≢◌, ℕ, ◌∷◌, List, IfOk, IfSome, IfNone};
+ghost use Rattle.std.specs.Prelude.{[], ◌≡◌, ◌≢◌, ℕ, ◌∷◌, List, IfOk, IfSome, IfNone, OnErr};
 ghost use Rattle.bt_book.specs.declared.names.PeerKey.{PeerKey as Key};
 ghost use Rattle.bt_replay.specs.Field.{fields_in};
 ghost use Rattle.bt_replay.specs.Line.{IsBytes, IsCall, IsFile, IsFileAndCall, IsFileCallAndPlace, IsPeer, IsPeerAndBytes};
@@ -52,11 +52,12 @@ pub(crate) fn file_in(rest: Option<&[u8]>) -> Option<u32>
     small_number_in(field)
 }
 
-/// Bytes. Errors: out of memory.
+/// Bytes. Errors: out of memory, where they are of their form.
 pub(crate) fn bytes_after(alloc: Global, rest: Option<&[u8]>) -> Result<Option<Bytes>, AllocError>
     ensures some { IfOk result (λ found. IfSome found (IsBytes (fields_in rest.entry))) }
     ensures none { IfOk result (λ found. IfNone found
         ((bytes : List ℕ) → ¬ IsBytes (fields_in rest.entry) bytes)) }
+    ensures memory { OnErr result ((bytes : List ℕ) × IsBytes (fields_in rest.entry) bytes) }
 {
     let Some(field) = only_field(rest) else {
         return Ok(None);
@@ -67,7 +68,7 @@ pub(crate) fn bytes_after(alloc: Global, rest: Option<&[u8]>) -> Result<Option<B
     }
 }
 
-/// A peer's key, and bytes. Errors: out of memory.
+/// A peer's key, and bytes. Errors: out of memory, where they are of their form.
 pub(crate) fn peer_and_bytes_in(
     alloc: Global,
     rest: Option<&[u8]>,
@@ -76,6 +77,8 @@ pub(crate) fn peer_and_bytes_in(
         (λ x. IsPeerAndBytes (fields_in rest.entry) x.0 x.1)) }
     ensures none { IfOk result (λ found. IfNone found
         ((key : Key) (bytes : List ℕ) → ¬ IsPeerAndBytes (fields_in rest.entry) key bytes)) }
+    ensures memory { OnErr result
+        ((key : Key) × (bytes : List ℕ) × IsPeerAndBytes (fields_in rest.entry) key bytes) }
 {
     let Some((field, rest)) = next_field(rest) else {
         return Ok(None);

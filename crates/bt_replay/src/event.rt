@@ -1,11 +1,11 @@
 //! The events that lines ask for, and the text that tells of them.
-ghost use Rattle.std.specs.Prelude.{◌≡◌, ◌++◌, IfOk, IfSome, IfNone, None, OnOk, string_bytes};
+ghost use Rattle.std.specs.Prelude.{◌≡◌, ◌++◌, IfOk, IfSome, IfNone, None, OnErr, OnOk, string_bytes};
 ghost use Rattle.bt_machine.specs.Law.{sent_by};
-ghost use Rattle.bt_replay.specs.Answer.{AllFit, answer_text, report_text};
+ghost use Rattle.bt_replay.specs.Answer.{AllFit, report_text};
 ghost use Rattle.bt_replay.specs.Event.{Does, IsIdle, event_of};
 ghost use Rattle.bt_replay.specs.EventSteps.{AnswersLine};
 
-use crate::answer::{push_answer, push_file};
+use crate::answer::{push_file, text_of};
 use crate::line::Line;
 use bt_disk::Disk;
 use bt_engine::Engine;
@@ -14,7 +14,7 @@ use bt_tree::NodeHash;
 use std::alloc::{AllocError, Global};
 
 /// Does what a line asks for, and gives the text that tells of it; None where it asks for no event and no
-/// report. Errors: out of memory.
+/// report. Errors: out of memory, where it asks for one.
 pub(crate) fn told<D: Disk + Drop, H: NodeHash>(
     alloc: Global,
     engine: &mut Engine<D, H>,
@@ -26,6 +26,7 @@ pub(crate) fn told<D: Disk + Drop, H: NodeHash>(
         Does D.conduct H.digest handshake.now engine.old line.now (string_bytes text)
         engine.new)) }
     ensures idle { IfOk result (λ found. IfNone found (IsIdle handshake.now line.now)) }
+    ensures memory { OnErr result (¬ IsIdle handshake.now line.now) }
 {
     if let Line::Report = line {
         return Ok(Some(report(alloc, engine)?));
@@ -34,15 +35,6 @@ pub(crate) fn told<D: Disk + Drop, H: NodeHash>(
         Some(answer) => Ok(Some(text_of(alloc, &answer)?)),
         None => Ok(None),
     }
-}
-
-fn text_of(alloc: Global, answer: &Answer) -> Result<String, AllocError>
-    requires { AllFit (sent_by answer.now) }
-    ensures { IfOk result (λ text. string_bytes text ≡ answer_text answer.now) }
-{
-    let mut text = String::new(alloc);
-    push_answer(alloc, &mut text, answer)?;
-    Ok(text)
 }
 
 /// How far each file is.

@@ -1,6 +1,8 @@
 //! Parts of a text, and what the fields of a line spell.
-ghost use Rattle.std.specs.Prelude.{◌≡◌, ◌==◌, ℕ, ◌^◌, ◌∷◌, List, position, IfOk, IfSome, IfNone};
+ghost use Rattle.std.specs.Prelude.{◌≡◌, ◌==◌, ℕ, ◌^◌, ◌∷◌, List, position, IfOk, IfSome, IfNone, OnErr};
+ghost use Rattle.std.specs.List.{list_all};
 ghost use Rattle.std.specs.Option.{option_copied};
+ghost use Rattle.hex.specs.Hex.{is_hex_digit};
 ghost use Rattle.bt_replay.specs.Field.{IsHex, IsNumber, more_parts, parts_of};
 
 use hex::FromHexError;
@@ -59,12 +61,14 @@ pub(crate) fn small_number_in(field: &[u8]) -> Option<u32>
     Some(number as u32)
 }
 
-/// The bytes that a field spells in hexadecimal, where it does. Errors: out of memory.
+/// The bytes that a field spells in hexadecimal, where it does. Errors: out of memory, where it does.
 pub(crate) fn bytes_in(alloc: Global, field: &[u8]) -> Result<Option<Vec<u8>>, AllocError>
     ensures some { IfOk result (λ found. IfSome found (λ bytes. IsHex field.now bytes.items)) }
     ensures none { IfOk result (λ found. IfNone found ((bytes : List ℕ) → ¬ IsHex field.now bytes)) }
+    ensures memory { OnErr result ((bytes : List ℕ) × IsHex field.now bytes) }
 {
-    if field.is_empty() {
+    // `decode` asks for memory before it reads the digits.
+    if field.is_empty() || !are_digits(field) {
         return Ok(None);
     }
     match hex::decode(alloc, field) {
@@ -72,4 +76,10 @@ pub(crate) fn bytes_in(alloc: Global, field: &[u8]) -> Result<Option<Vec<u8>>, A
         Err(FromHexError::OutOfMemory) => Err(AllocError),
         Err(_) => Ok(None),
     }
+}
+
+fn are_digits(field: &[u8]) -> bool
+    ensures { result ≡ list_all is_hex_digit field.now }
+{
+    field.iter().all(|digit| digit.is_ascii_hexdigit())
 }

@@ -1,7 +1,7 @@
 //! The lines of a script.
-ghost use Rattle.std.specs.Prelude.{[], ◌≡◌, ◌≢◌, IfOk, IfSome, IfNone};
+ghost use Rattle.std.specs.Prelude.{[], ◌≡◌, ◌≢◌, IfOk, IfSome, IfNone, OnErr};
 ghost use Rattle.bt_replay.specs.Field.{fields_in};
-ghost use Rattle.bt_replay.specs.Line.{Makes, Spells, SpellsNone};
+ghost use Rattle.bt_replay.specs.Line.{HasBytes, Makes, Spells, SpellsBytes, SpellsNone};
 ghost use Rattle.bt_replay.specs.declared.line.Line.{Line as ScriptLine};
 ghost use Rattle.bt_replay.specs.declared.word.Word.TheVariants as Word;
 
@@ -45,10 +45,11 @@ pub enum Line {
     Report,
 }
 
-/// The line that a text spells; None where it spells none. Errors: out of memory.
+/// The line that a text spells; None where it spells none. Errors: out of memory, where it spells one that has bytes.
 pub fn line_in(alloc: Global, text: &[u8]) -> Result<Option<Line>, AllocError>
     ensures some { IfOk result (λ found. IfSome found (Spells text.now)) }
     ensures none { IfOk result (λ found. IfNone found (SpellsNone text.now)) }
+    ensures memory { OnErr result (SpellsBytes text.now) }
 {
     let (name, rest) = cut(text, b' ');
     match word_in(name) {
@@ -62,6 +63,8 @@ fn line_with(alloc: Global, word: Word, rest: Option<&[u8]>) -> Result<Option<Li
     ensures some { IfOk result (λ found. IfSome found (Makes word (fields_in rest.entry))) }
     ensures none { IfOk result (λ found. IfNone found
         ((line : ScriptLine) → ¬ Makes word (fields_in rest.entry) line)) }
+    ensures memory { OnErr result
+        ((line : ScriptLine) × Makes word (fields_in rest.entry) line × HasBytes line) }
 {
     match word {
         Word::Torrent => torrent_line(alloc, rest),
@@ -75,6 +78,8 @@ fn torrent_line(alloc: Global, rest: Option<&[u8]>) -> Result<Option<Line>, Allo
         (Makes Word.Torrent (fields_in rest.entry))) }
     ensures none { IfOk result (λ found. IfNone found
         ((line : ScriptLine) → ¬ Makes Word.Torrent (fields_in rest.entry) line)) }
+    ensures memory { OnErr result
+        ((line : ScriptLine) × Makes Word.Torrent (fields_in rest.entry) line × HasBytes line) }
 {
     match bytes_after(alloc, rest)? {
         Some(bytes) => Ok(Some(Line::Torrent(bytes))),
@@ -87,6 +92,8 @@ fn feed_line(alloc: Global, rest: Option<&[u8]>) -> Result<Option<Line>, AllocEr
         (Makes Word.Feed (fields_in rest.entry))) }
     ensures none { IfOk result (λ found. IfNone found
         ((line : ScriptLine) → ¬ Makes Word.Feed (fields_in rest.entry) line)) }
+    ensures memory { OnErr result
+        ((line : ScriptLine) × Makes Word.Feed (fields_in rest.entry) line × HasBytes line) }
 {
     match peer_and_bytes_in(alloc, rest)? {
         Some((key, bytes)) => Ok(Some(Line::Feed(key, bytes))),

@@ -1,9 +1,9 @@
-use Rattle.std.proofs.Common.{IfErr, OnOk, refl, sym, ap, subst, ◌+◌, ◌∙◌, arith}
+use Rattle.std.proofs.Common.{Err, IfErr, OnOk, refl, sym, ap, subst, ◌+◌, ◌∙◌, arith}
 use Rattle.std.proofs.KnownBytes.{Keeps-refl}
 use Rattle.std.proofs.lemmas.Result.{err_from_is_err_and}
 use Rattle.sha2.specs.Sha256.{sha256}
 use Rattle.bt_replay.specs.Field.{parts_of}
-use Rattle.bt_replay.specs.Script.{device_conduct, unbegun}
+use Rattle.bt_replay.specs.Script.{device_conduct, unbegun, without_memory}
 use Rattle.bt_replay.specs.Run.{EndsEarly, HasRun, lines_in}
 use Rattle.bt_replay.proofs.DeviceSettings.{front_count}
 use Rattle.bt_replay.proofs.ScriptEnd.{replayed}
@@ -17,6 +17,14 @@ returns-in_err-torrent-clause-replays g c =
     rw (p.1, p.2)
     (unbegun c.cut.result.0.now (lines_in c.cut.result.1) c.in_err-torrent.field-0.0 lines c.in_err-torrent.ensures.fault
     (Keeps-refl (g.W.Write.contents c.args.writer.now)) refl)
+
+pub returns-in_err-engine-clause-replays : goal.returns-in_err-engine-clause-replays
+returns-in_err-engine-clause-replays g c =
+    let p = err_from_is_err_and c.from_residual-in_err-engine.result c.from_residual-in_err-engine.ensures.1 in
+    let lines = ap (parts_of 10) (sym c.without_last_feed.ensures) ∙ c.cut.ensures in
+    rw (p.1, p.2)
+    (without_memory c.cut.result.0.now (lines_in c.cut.result.1) c.in_ok-torrent.torrent lines c.in_ok-torrent.ensures.torrent
+    (Keeps-refl (g.W.Write.contents c.args.writer.now)) (ap Err c.in_err-engine.ensures.fault))
 
 pub begin-requires : goal.begin-requires
 begin-requires g c =
