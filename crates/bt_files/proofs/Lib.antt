@@ -8,3 +8,4 @@ pub mod ReportLines
 pub mod Faults
 pub mod Refusals
 pub mod OwnFiles
+pub mod PathNames

@@ -1,22 +1,21 @@
 -- Which files are refused, since they are those of other paths.
 use Rattle.std.proofs.Common.{◌≡◌, ◌↔◌, ◌⊎◌, inl, inr, ℕ, zero, suc, ◌+◌, ◌<◌, Bool, true, false, List, [], ◌∷◌, ◌++◌, length, length-append, map, get_or, Option, Some, None, Result, Ok, Err, IfOk, refl, sym, ap, subst, ◌∙◌, arith}
-use Rattle.std.specs.Prelude.{Contains, IsTrue, MatchBool, OnOk, option_map}
+use Rattle.std.specs.Prelude.{Contains, IsTrue, MatchBool, OnOk}
 use Rattle.std.specs.Bool.{OnFalse}
 use Rattle.std.specs.declared.alloc.AllocError.{AllocError}
-use Rattle.std.proofs.lemmas.Option.{none-some, same_Some, slice_get-map, slice_get_read}
+use Rattle.std.proofs.lemmas.Option.{none-some, same_Some}
 use Rattle.std.proofs.lemmas.List.{length-map}
 use Rattle.std.proofs.lemmas.List.Elements.{Contains-append_cases, Contains-append_left, Contains-append_right}
 use Rattle.bt_disk.specs.declared.opening.FileIdentity.{FileIdentity}
-use Rattle.bt_folder.specs.CasePaths.{HasNoPath}
 use Rattle.bt_folder.specs.KnownFiles.{IsKnown}
 use Rattle.bt_folder.specs.declared.known_files.KnownFiles.{KnownFiles}
-use Rattle.bt_folder.proofs.Looks.{none_yet}
 use Rattle.bt_machine.proofs.Lists.{contains_cases, contains_none, here}
-use Rattle.bt_meta.specs.Files.{file_of}
+use Rattle.bt_log_file.proofs.Refusals.{file_at}
+use Rattle.bt_meta.specs.Files.{File, file_of}
 use Rattle.bt_meta.specs.declared.torrent.FileEntry.{FileEntry}
 use Rattle.bt_check.specs.declared.fault.Fault.{Fault}
 use Rattle.bt_files.specs.FileUse.{is_read_only}
-use Rattle.bt_files.specs.OpenFolder.{IsAdded, IsOfAnotherPath, IsCallFaultOr, IsFileFault, IsOpeningFault, IsUnused, KnowsFiles, KnowsOpened}
+use Rattle.bt_files.specs.OpenFolder.{IsAdded, IsCallFaultOr, IsFileFault, IsOpeningFault, IsPathFault, IsUnused, KnowsFiles, KnowsOpened}
 use Rattle.bt_files.specs.declared.file_use.FileUse.{FileUse}
 use Rattle.bt_files.specs.declared.file_use.FileUse.TheVariants.{Fetch, Seed, ReadOnly}
 use Rattle.bt_files.specs.declared.open_folder.OpenFolder.{OpenFolder}
@@ -48,18 +47,9 @@ pub or_weaker : (P Q : Type 0) (fault : Fault) → (P → Q) → IsCallFaultOr P
 or_weaker P Q fault follows (inl call) = inl call
 or_weaker P Q fault follows (inr same) = inr (same.0, follows same.1)
 
--- the first file is no other
-not_another : (old new : OpenFolder) (path : List (List ℕ)) (identity : Option FileIdentity) → IsUnused old → IsOfAnotherPath old new path identity → ⊥
-not_another old new path None unused (inl known) = known
-not_another old new path (Some file) unused (inl known) = unused.0 file known
-not_another old new path identity unused (inr named) = none_yet old.paths new.paths path unused.1 named
-
 -- no file is opened on the way to the next one
-pub still_unused : (old new : OpenFolder) → new.files ≡ old.files → new.paths ≡ old.paths → IsUnused old → IsUnused new
-still_unused old new files paths unused = (
-  λ file known. unused.0 file (subst (λ (them : KnownFiles). IsKnown them file) files known),
-  subst HasNoPath (sym paths) unused.1,
-)
+pub still_unused : (old new : OpenFolder) → new.files ≡ old.files → IsUnused old → IsUnused new
+still_unused old new files unused = λ file known. unused file (subst (λ (them : KnownFiles). IsKnown them file) files known)
 
 -- ---- what is known of the files before
 
@@ -74,7 +64,7 @@ knows_none files none = record {
 -- then those so far
 knows_so_far : (folder : OpenFolder) (count : ℕ) → (count ≡ 0 → IsUnused folder) → (0 < count → KnowsFiles folder.files count)
     → KnowsFiles folder.files count
-knows_so_far folder zero unused knows = knows_none folder.files (unused refl).0
+knows_so_far folder zero unused knows = knows_none folder.files (unused refl)
 knows_so_far folder (suc i) unused knows = knows (omega arith)
 
 pub knows_before : (usage : FileUse) (folder went : OpenFolder) (count : ℕ) → went.files ≡ folder.files → (count ≡ 0 → IsUnused folder)
@@ -107,35 +97,38 @@ knows_more before after identity count knows added = record {
 pub knows_opened : (usage : FileUse) (folder : OpenFolder) (entries : List FileEntry) (count : ℕ) → count ≡ length entries
     → (count ≡ 0 → IsUnused folder) → (is_read_only usage ≡ false → 0 < count → KnowsFiles folder.files count)
     → (is_read_only usage ≡ true → IsUnused folder) → KnowsOpened usage (map file_of entries) folder.files
-knows_opened ReadOnly folder entries count all unused knows unread = knows_none folder.files (unread refl).0
+knows_opened ReadOnly folder entries count all unused knows unread = knows_none folder.files (unread refl)
 knows_opened Fetch folder entries count all unused knows unread =
     subst (KnowsFiles folder.files) (all ∙ sym (length-map entries file_of)) (knows_so_far folder count unused (knows refl))
 knows_opened Seed folder entries count all unused knows unread =
     subst (KnowsFiles folder.files) (all ∙ sym (length-map entries file_of)) (knows_so_far folder count unused (knows refl))
 
--- a further file may be of another path
-pub of_another_file : (usage : FileUse) (folder old new : OpenFolder) (entries : List FileEntry) (i : ℕ) (entry : FileEntry)
-    (identity : Option FileIdentity) (fault : Fault) → i < length entries → entry ≡ get_or entries i entry → old.files ≡ folder.files
-    → old.paths ≡ folder.paths → (i ≡ 0 → IsUnused folder) → (is_read_only usage ≡ false → 0 < i → KnowsFiles folder.files i)
-    → IsFileFault usage old new entry.path identity fault → IsOpeningFault usage (map file_of entries) fault
-of_another_file usage folder old new entries i entry identity fault lt at files paths unused knows (inl call) = inl call
-of_another_file usage folder old new entries zero entry identity fault lt at files paths unused knows (inr same) =
-    absurd (not_another old new entry.path identity (still_unused folder old files paths (unused refl)) same.1.1)
-of_another_file usage folder old new entries (suc i) entry identity fault lt at files paths unused knows (inr same) =
+-- ---- refusals as they are told of all files
+
+-- a further file may be one before it
+pub of_known_file : (usage : FileUse) (folder went : OpenFolder) (entries : List FileEntry) (i : ℕ) (entry : FileEntry)
+    (identity : Option FileIdentity) (fault : Fault) → i < length entries → entry ≡ get_or entries i entry → went.files ≡ folder.files
+    → (i ≡ 0 → IsUnused folder) → (is_read_only usage ≡ false → 0 < i → KnowsFiles folder.files i)
+    → IsFileFault usage went.files identity fault → IsOpeningFault usage (map file_of entries) fault
+of_known_file usage folder went entries i entry identity fault lt at files unused knows (inl call) = inl call
+of_known_file usage folder went entries i entry None fault lt at files unused knows (inr same) = absurd same.1.1
+of_known_file usage folder went entries i entry (Some identity) fault lt at files unused knows (inr same) =
     inr (
       same.0,
       (
         same.1.0,
-        record {
-          number = suc i;
-          further = omega arith;
+        inl (record {
+          number = i;
           file = file_of entry;
-          listed = slice_get-map file_of entries (suc i) ∙ ap (option_map file_of) (slice_get_read entries (length entries) (suc i) entry refl lt at);
-          old = old;
-          before = knows_before usage folder old (suc i) files unused knows same.1.0;
-          new = new;
+          listed = file_at entries i entry lt at;
+          known = went.files;
+          before = knows_before usage folder went i files unused knows same.1.0;
           identity = identity;
-          of_another = same.1.1;
-        },
+          is_known = same.1.1;
+        }),
       ),
     )
+
+-- a name on its path may be that of another
+pub of_path : (usage : FileUse) (files : List File) (fault : Fault) → IsPathFault usage files fault → IsOpeningFault usage files fault
+of_path usage files fault = or_weaker _ _ fault (λ same. (same.0, inr same.1))

@@ -1,6 +1,7 @@
 pub mod Adoption
 pub mod Waiting
 pub mod FileUse
+pub mod OwnPaths
 pub mod OpenFolder
 pub mod DataFiles
 pub mod DataFilesSteps

@@ -10,14 +10,16 @@ ghost use Rattle.bt_files.specs.DataFilesSteps.{IsOpenedFor, IsPushed};
 ghost use Rattle.bt_files.specs.FileUse.{is_read_only};
 ghost use Rattle.bt_files.specs.OpenFolder.{IsCallFault, IsOpeningFault, KnowsOpened};
 ghost use Rattle.bt_files.specs.OwnFiles.{AreApart, AreKnown, identity_of};
+ghost use Rattle.bt_files.specs.OwnPaths.{AreOwnPaths};
 
 use crate::device_context::DeviceContext;
 use crate::file_use::FileUse;
 use crate::open_folder::OpenFolder;
+use crate::own_paths::look_at_paths;
 use bt_check::{Fault, OPEN_FILES, data_path, fault_name, told};
 use bt_devices::{ReadAheadDisk, SealedDisk, Watched};
 use bt_disk::{DeviceFault, FileDisk, HandlePool, Opening, PooledDisk};
-use bt_folder::KnownFiles;
+use bt_folder::{KnownFiles, Lookup};
 use bt_meta::FileEntry;
 use bt_progress::{FileCall, Watch};
 use std::alloc::{AllocError, Global};
@@ -73,9 +75,10 @@ struct OpenFile<D> {
 /// handles, and what is read ahead, and tell of their calls; their bytes are to be read.
 ///
 /// But for a read-only use, missing folders and files are made, also the files of empty entries, and are kept: the
-/// folder of each is synced. A file that is there keeps its bytes; what is there and is no regular file is a device
-/// fault, and is not opened. Nor may two paths be one file, unless they are only read.
-pub(crate) fn open_devices<'a, R: Files + AllocGlobal + Clone + Drop, P: Watch>(
+/// folders on the way to each file are synced that was made, or has no byte yet. A file that is there keeps its bytes;
+/// what is there and is no regular file is a device fault, and is not opened. Nor may two paths be one file, unless they
+/// are only read: by what the system tells of each as it is opened, and then by the names on the paths.
+pub(crate) fn open_devices<'a, R: Files + AllocGlobal + Clone + Drop + Lookup, P: Watch>(
     rt: &R,
     watch: &'a P,
     context: DeviceContext<'a>,
@@ -92,6 +95,8 @@ pub(crate) fn open_devices<'a, R: Files + AllocGlobal + Clone + Drop, P: Watch>(
         → AreKnown files.known files.disks.items) }
     ensures apart { IfOk result (λ files. is_read_only context.entry.usage ≡ false
         → AreApart files.disks.items) }
+    ensures own { OnOk result (is_read_only context.entry.usage ≡ false
+        → AreOwnPaths (R.lists rt.now) dir.now (map file_of entries.now)) }
     ensures fault { IfErr result (IsOpeningFault context.entry.usage (map file_of entries.now)) }
 {
     let mut pool = HandlePool::new(rt.alloc(), rt.clone()?, OPEN_FILES)?;
@@ -101,7 +106,7 @@ pub(crate) fn open_devices<'a, R: Files + AllocGlobal + Clone + Drop, P: Watch>(
 }
 
 /// Opens the data files of some entries by a new pool, and gives the devices of those that have a byte.
-fn push_devices<'a, R: Files + AllocGlobal + Clone + Drop, P: Watch>(
+fn push_devices<'a, R: Files + AllocGlobal + Clone + Drop + Lookup, P: Watch>(
     rt: &R,
     watch: &'a P,
     context: DeviceContext<'a>,
@@ -123,15 +128,25 @@ fn push_devices<'a, R: Files + AllocGlobal + Clone + Drop, P: Watch>(
         → AreKnown files.new.known files.new.disks.items) }
     ensures apart { OnOk result (is_read_only context.entry.usage ≡ false
         → AreApart files.new.disks.items) }
+    ensures own { OnOk result (is_read_only context.entry.usage ≡ false
+        → AreOwnPaths (R.lists rt.now) dir.now (map file_of entries.now)) }
     ensures fault { IfErr result (IsOpeningFault context.entry.usage (map file_of entries.now)) }
 {
     let mut folder = OpenFolder::new(rt.alloc());
     for entry in entries {
         folder.go_to(rt, watch, context.usage, dir, &entry.path)?;
         let file = open_entry(rt, watch, context, pool, dir, entry)?;
-        folder.add(rt, watch, context.usage, dir, &entry.path, file.opening)?;
+        folder.add(
+            rt.alloc(),
+            watch,
+            context.usage,
+            dir,
+            &entry.path,
+            file.opening,
+        )?;
         files.push(file)?;
     }
+    look_at_paths(rt, watch, context.usage, dir, entries)?;
     folder.end(rt, watch, context.usage, dir)?;
     files.known = folder.into_files();
     Ok(())

@@ -1,4 +1,4 @@
-//! The folders on the way to a file, and what was made in them.
+//! The folders on the way to a file, and what is new in them.
 ghost use Rattle.std.specs.Prelude.{IfErr};
 ghost use Rattle.bt_files.specs.OpenFolder.{IsCallFault};
 
@@ -10,14 +10,16 @@ use std::alloc::Global;
 use std::path::Path;
 use std::rt::Files;
 
-/// The folders on the way to a file below a folder, which is the first of them. A folder in which something was made
-/// is synced as the way leaves it. In the order of a torrent the way enters and leaves each folder once.
+/// The folders on the way to a file below a folder, which is the first of them. A folder in which something is new is
+/// synced as the way leaves it. In the order of a torrent the way enters and leaves each folder once.
 #[derive(Drop)]
 pub(crate) struct FolderTrail {
     /// The names of those below the first one.
     names: Vec<String>,
-    /// Whether something was made in each of them, the first one's first: none, before the way begins.
-    has_new: Vec<bool>,
+    /// Whether the way has begun: then the first one is there.
+    has_begun: bool,
+    /// In how many of them, from the first one on, something may be new.
+    new_count: usize,
 }
 
 impl FolderTrail {
@@ -25,7 +27,8 @@ impl FolderTrail {
     pub(crate) fn new(alloc: Global) -> Self {
         FolderTrail {
             names: Vec::new(alloc),
-            has_new: Vec::new(alloc),
+            has_begun: false,
+            new_count: 0,
         }
     }
 
@@ -53,11 +56,10 @@ impl FolderTrail {
         Ok(())
     }
 
-    /// Something was made in the folder that the way leads to.
+    /// Something is new in the folder that the way leads to. So may each folder on the way be: a run that was killed may
+    /// have made it, and not have synced the one above.
     pub(crate) fn add_new(&mut self) {
-        if let Some(has_new) = self.has_new.last_mut() {
-            *has_new = true;
-        }
+        self.new_count = self.names.len().saturating_add(1);
     }
 
     /// Leaves all folders. Errors: one can't be synced, which is told of; memory is refused.
@@ -82,12 +84,12 @@ impl FolderTrail {
     ) -> Result<(), Fault>
         ensures fault { IfErr result IsCallFault }
     {
-        if !self.has_new.is_empty() {
+        if self.has_begun {
             return Ok(());
         }
         let made = make_folders(rt, dir).map_err(|_| Fault::Device);
         told(rt.alloc(), watch, FileCall::Create, dir, made)?;
-        self.has_new.push(false)?;
+        self.has_begun = true;
         Ok(())
     }
 
@@ -133,11 +135,10 @@ impl FolderTrail {
         if was_made(rt, watch, folder.as_path())? {
             self.add_new();
         }
-        self.has_new.push(false)?;
         Ok(())
     }
 
-    /// Leaves the last folder, and syncs it where something was made in it.
+    /// Leaves the last folder, and syncs it where something is new in it.
     fn leave<R: Files + AllocGlobal, P: Watch>(
         &mut self,
         rt: &R,
@@ -146,10 +147,11 @@ impl FolderTrail {
     ) -> Result<(), Fault>
         ensures fault { IfErr result IsCallFault }
     {
-        let has_new = self.has_new.pop().unwrap_or(false);
-        if has_new {
+        let depth = self.names.len();
+        if self.new_count > depth {
             let folder = found_path(rt.alloc(), dir, &self.names)?;
             sync(rt, watch, folder.as_path())?;
+            self.new_count = depth;
         }
         self.names.pop();
         Ok(())

@@ -11,6 +11,7 @@ mod folder_trail;
 mod lacking;
 mod loading;
 mod open_folder;
+mod own_paths;
 mod report;
 mod store;
 mod store_log;

@@ -1,11 +1,15 @@
 //! The store of a torrent that is read from its file.
-ghost use Rattle.std.specs.Prelude.{IfErr, IfOk};
+ghost use Rattle.std.specs.Prelude.{◌≡◌, false, IfErr, IfOk};
 ghost use Rattle.bt_check.specs.TorrentFile.{HasText, IsLoadFault};
+ghost use Rattle.bt_files.specs.FileUse.{is_read_only};
 ghost use Rattle.bt_files.specs.Loading.{IsLoaded, IsStoreFault};
+ghost use Rattle.bt_files.specs.OwnPaths.{AreOwnPaths};
+ghost use Rattle.bt_files.specs.StoreLog.{IsLogApart};
 
 use crate::device_context::DeviceContext;
 use crate::store::{Store, open_store};
 use bt_check::{BUFFER_LEN, Fault, Source, load_watched};
+use bt_folder::Lookup;
 use bt_meta::Torrent;
 use bt_progress::{FileCall, Watch};
 use std::rt::Files;
@@ -15,7 +19,7 @@ use std::rt::Files;
 ///
 /// Errors: `Torrent` where the torrent is refused; `SameFile` where two of its paths are one file that may be written;
 /// `LogAmongFiles`, `OtherTorrent` or `LogTooLong` where the log is refused; `Device`; `OutOfMemory`.
-pub fn load_store<'a, R: Files + AllocGlobal + Clone + Drop, P: Watch>(
+pub fn load_store<'a, R: Files + AllocGlobal + Clone + Drop + Lookup, P: Watch>(
     rt: &R,
     watch: &'a P,
     context: DeviceContext<'a>,
@@ -24,6 +28,10 @@ pub fn load_store<'a, R: Files + AllocGlobal + Clone + Drop, P: Watch>(
     log: Option<&str>,
 ) -> Result<Store<'a, R, P>, Fault>
     ensures loaded { IfOk result (IsLoaded source.entry.is_info context.entry.usage dir.now log.entry) }
+    ensures looked { IfOk result (λ engine.
+        IsLogApart (R.tells rt.now) dir.now engine.state.torrent.files log.entry) }
+    ensures own { IfOk result (λ engine. is_read_only context.entry.usage ≡ false
+        → AreOwnPaths (R.lists rt.now) dir.now engine.state.torrent.files) }
     ensures fault { IfErr result (IsStoreFault source.entry.is_info context.entry.usage log.entry) }
 {
     let torrent = load_torrent(rt, watch, source)?;

@@ -1,5 +1,5 @@
 //! The store of a torrent's files: an engine over them, from its opening to its flush.
-ghost use Rattle.std.specs.Prelude.{◌≡◌, Bool, List, Ok, Err, None, Some, length, IfOk, IfErr, IfSome, OnOk};
+ghost use Rattle.std.specs.Prelude.{◌≡◌, false, Bool, List, Ok, Err, None, Some, length, IfOk, IfErr, IfSome, OnOk};
 ghost use Rattle.sha2.specs.Sha256.{sha256};
 ghost use Rattle.bt_machine.specs.declared.error.FlushError.{FlushError};
 ghost use Rattle.bt_machine.specs.declared.event.Event.TheVariants.{Flush};
@@ -8,8 +8,11 @@ ghost use Rattle.bt_machine.specs.Start.{device_count};
 ghost use Rattle.bt_machine.specs.View.{StepsTo};
 ghost use Rattle.bt_engine.specs.Leads.{LeadsTo};
 ghost use Rattle.bt_check.specs.Fault.{out_of_memory};
+ghost use Rattle.bt_files.specs.FileUse.{is_read_only};
 ghost use Rattle.bt_files.specs.OpenFolder.{IsCallFault};
+ghost use Rattle.bt_files.specs.OwnPaths.{AreOwnPaths};
 ghost use Rattle.bt_files.specs.Store.{HasBegun, IsFlushFault, IsOpened, IsOpenFault, IsSameButPending, flush_fault};
+ghost use Rattle.bt_files.specs.StoreLog.{IsLogApart};
 
 use crate::adoption::adopt_files;
 use crate::data_files::{DataDisk, OpenFiles, open_devices};
@@ -20,6 +23,7 @@ use bt_check::Fault;
 use bt_devices::CachedLanes;
 use bt_disk::Disk;
 use bt_engine::{Engine, FlushError, StartError};
+use bt_folder::Lookup;
 use bt_meta::{FileEntry, Torrent};
 use bt_progress::Watch;
 use bt_resume::ResumeLog;
@@ -35,7 +39,7 @@ pub type Store<'a, R, P> = Engine<DataDisk<'a, R, P>, CachedLanes<'a>>;
 /// given, it is opened, and made where it is absent, and tells which blocks are there, and what they have beside these
 /// does not count. The first fault ends it; a log whose file is one of the torrent's, as far as a look tells, comes
 /// before any file is made.
-pub(crate) fn open_store<'a, R: Files + AllocGlobal + Clone + Drop, P: Watch>(
+pub(crate) fn open_store<'a, R: Files + AllocGlobal + Clone + Drop + Lookup, P: Watch>(
     rt: &R,
     watch: &'a P,
     context: DeviceContext<'a>,
@@ -44,6 +48,9 @@ pub(crate) fn open_store<'a, R: Files + AllocGlobal + Clone + Drop, P: Watch>(
     log: Option<&str>,
 ) -> Result<Store<'a, R, P>, Fault>
     ensures opened { IfOk result (IsOpened context.entry.usage dir.now log.entry torrent) }
+    ensures looked { OnOk result (IsLogApart (R.tells rt.now) dir.now torrent.files log.entry) }
+    ensures own { OnOk result (is_read_only context.entry.usage ≡ false
+        → AreOwnPaths (R.lists rt.now) dir.now torrent.files) }
     ensures fault { IfErr result (IsOpenFault context.entry.usage torrent log.entry) }
 {
     look_at_log(rt, dir, &torrent, log)?;

@@ -1,13 +1,13 @@
 //! The log of a store, where it is to have one.
-ghost use Rattle.std.specs.Prelude.{IfErr, IfOk};
-ghost use Rattle.bt_files.specs.StoreLog.{IsLogAt, IsLogFaultAt, IsLookFault};
+ghost use Rattle.std.specs.Prelude.{IfErr, IfOk, OnOk};
+ghost use Rattle.bt_files.specs.StoreLog.{IsLogApart, IsLogAt, IsLogFaultAt, IsLookFaultBy};
 
 use crate::device_context::DeviceContext;
 use crate::file_use::FileUse;
 use bt_check::Fault;
 use bt_disk::Disk;
 use bt_engine::Engine;
-use bt_folder::KnownFiles;
+use bt_folder::{KnownFiles, Lookup};
 use bt_log_file::{LogContext, LogDisk, open_log, refuse_data_file};
 use bt_meta::Torrent;
 use bt_progress::Watch;
@@ -16,13 +16,15 @@ use bt_tree::NodeHash;
 use std::rt::Files;
 
 /// Refuses the file of a log where a look shows that it is one of the torrent's, before any of them is opened or made.
-pub(crate) fn look_at_log<R: Files + AllocGlobal + Clone + Drop>(
+pub(crate) fn look_at_log<R: Files + AllocGlobal + Clone + Drop + Lookup>(
     rt: &R,
     dir: &str,
     torrent: &Torrent,
     log: Option<&str>,
 ) -> Result<(), Fault>
-    ensures { IfErr result (IsLookFault log.entry) }
+    ensures looked { OnOk result (IsLogApart (R.tells rt.now) dir.now torrent.now.files log.entry) }
+    ensures fault { IfErr result
+        (IsLookFaultBy (R.tells rt.now) dir.now torrent.now.files log.entry) }
 {
     match log {
         Some(path) => refuse_data_file(rt, dir, torrent, path),

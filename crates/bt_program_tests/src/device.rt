@@ -18,10 +18,12 @@ pub enum Failing {
     Flushes,
     Syncs,
     Folders,
+    LastFolders,
     Renames,
     Modes,
     Links,
     Listings,
+    EarlyListings,
     Input,
     Output,
 }
@@ -35,12 +37,22 @@ impl Failing {
             Ok(())
         }
     }
+
+    /// Which calls fail on what was opened at a path.
+    fn of_path(self, path: &str) -> Failing {
+        if self == Failing::LastFolders && path.ends_with("last") {
+            Failing::Folders
+        } else {
+            self
+        }
+    }
 }
 
 /// The host's file system, of which some calls fail, in which every folder lists these names, each with a zero after
 /// it, and in which a path that ends in `pipe` is a device, which neither a read nor a write is to reach. Of looks and
 /// opens those of a path that ends in `last` fail, and of reads the third of each file. A file that has bytes takes no
-/// mode any more, and one that has none is not synced. Folders are synced apart from files. What lies at `proc` and at
+/// mode any more, and one that has none is not synced. Folders are synced apart from files: all fail, or those of a path
+/// that ends in `last`. An early listing is one of a folder in which no file `last` lies yet. What lies at `proc` and at
 /// `sys` is a folder to a look that follows links, of the number 1, each on a device of its own, and what lies at
 /// `null` is a device. What lies at `gone` is not there to such a look while it has bytes, and has none from then on.
 #[derive(Clone, Copy)]
@@ -81,6 +93,13 @@ fn empty(host: &HostRuntime, path: &str) -> io::Result<()> {
     Err(io::Error::from(ErrorKind::NotFound))
 }
 
+/// Whether something lies at `last` in a folder.
+fn has_last(host: &HostRuntime, folder: &str) -> io::Result<bool> {
+    let mut path = PathBuf::from_str(host.alloc(), folder)?;
+    path.push("last")?;
+    Ok(host.symlink_metadata(path.as_path().as_str()).is_ok())
+}
+
 impl Alloc for Device<'_> {
     type A = Global;
 
@@ -100,7 +119,7 @@ impl<'a> Files for Device<'a> {
         }
         Ok(DeviceFile {
             file: self.host.open_file(how, path)?,
-            failing: self.failing,
+            failing: self.failing.of_path(path),
             reads: 0,
             has_bytes: false,
         })
@@ -109,6 +128,9 @@ impl<'a> Files for Device<'a> {
     fn open_dir(&self, path: &str) -> io::Result<DeviceDir<'a>> {
         if path.ends_with("last/") {
             self.failing.at(Failing::Opens)?;
+        }
+        if !has_last(self.host, path)? {
+            self.failing.at(Failing::EarlyListings)?;
         }
         Ok(DeviceDir {
             names: self.names,

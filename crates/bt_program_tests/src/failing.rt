@@ -17,10 +17,12 @@ const CALLS: &[(&str, Failing)] = &[
     ("flushes", Failing::Flushes),
     ("syncs", Failing::Syncs),
     ("folders", Failing::Folders),
+    ("last-folders", Failing::LastFolders),
     ("renames", Failing::Renames),
     ("modes", Failing::Modes),
     ("links", Failing::Links),
     ("listings", Failing::Listings),
+    ("early-listings", Failing::EarlyListings),
     ("input", Failing::Input),
     ("output", Failing::Output),
 ];

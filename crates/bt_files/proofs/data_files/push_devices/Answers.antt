@@ -3,7 +3,7 @@ use Rattle.bt_meta.specs.Files.{file_of}
 use Rattle.bt_files.proofs.Devices.{opened_more}
 use Rattle.bt_files.proofs.Faults.{passed_on}
 use Rattle.bt_files.proofs.OwnFiles.{apart_more, known_more}
-use Rattle.bt_files.proofs.Refusals.{knows_before, knows_more, knows_opened, of_another_file, still_unused}
+use Rattle.bt_files.proofs.Refusals.{knows_before, knows_more, knows_opened, of_known_file, of_path, still_unused}
 use Rattle.bt_files.specs.OpenFolder.{IsOpeningFault, IsUnused, KnowsOpened}
 use Rattle.bt_files.specs.OwnFiles.{AreKnown}
 use Rattle.bt_folder.specs.declared.known_files.KnownFiles.{KnownFiles}
@@ -22,7 +22,7 @@ loop-entry-preserved g c = record {
       c.loop-entry.invariant.first c.loop-entry.invariant.known writes)
       (c.in_ok-add.ensures.added writes);
   unread = λ only_read. subst IsUnused (sym (c.in_ok-add.ensures.kept only_read))
-      (still_unused c.loop-entry.folder c.go_to.new.self c.go_to.ensures.files c.go_to.ensures.paths (c.loop-entry.invariant.unread only_read));
+      (still_unused c.loop-entry.folder c.go_to.new.self c.go_to.ensures.files (c.loop-entry.invariant.unread only_read));
   told = λ writes. known_more c.go_to.new.self.files c.add.new.self.files _ c.loop-entry.files.disks.items c.push.new.self.disks.items c.in_ok-file.file.disk
       (c.in_ok-add.ensures.added writes) c.in_ok-file.ensures.identity c.in_ok-push.ensures.disks
       (subst (λ (them : KnownFiles). AreKnown them c.loop-entry.files.disks.items) (sym c.go_to.ensures.files) (c.loop-entry.invariant.told writes));
@@ -36,9 +36,15 @@ pub returns-in_err-add-clause-fault : goal.returns-in_err-add-clause-fault
 returns-in_err-add-clause-fault g c =
     passed_on c.from_residual-in_err-add.result c.in_err-add.field-0.0 (IsOpeningFault c.args.context.usage (map file_of c.args.entries.now))
     c.from_residual-in_err-add.ensures.1
-    (of_another_file c.args.context.usage c.loop-entry.folder c.go_to.new.self c.add.new.self c.args.entries.now c.loop-entry.entry-index
-    c.entry-item.result _ c.in_err-add.field-0.0 c.loop-entry-test.true c.entry-item.is c.go_to.ensures.files c.go_to.ensures.paths
+    (of_known_file c.args.context.usage c.loop-entry.folder c.go_to.new.self c.args.entries.now c.loop-entry.entry-index
+    c.entry-item.result _ c.in_err-add.field-0.0 c.loop-entry-test.true c.entry-item.is c.go_to.ensures.files
     c.loop-entry.invariant.first c.loop-entry.invariant.known c.in_err-add.ensures.fault)
+
+pub returns-in_err-look_at_paths-clause-fault : goal.returns-in_err-look_at_paths-clause-fault
+returns-in_err-look_at_paths-clause-fault g c =
+    passed_on c.from_residual-in_err-look_at_paths.result c.in_err-look_at_paths.field-0.0
+    (IsOpeningFault c.args.context.usage (map file_of c.args.entries.now)) c.from_residual-in_err-look_at_paths.ensures.1
+    (of_path c.args.context.usage (map file_of c.args.entries.now) c.in_err-look_at_paths.field-0.0 c.in_err-look_at_paths.ensures.fault)
 
 pub returns-clause-known : goal.returns-clause-known
 returns-clause-known g c =

@@ -1,3 +1,8 @@
+use Rattle.std.proofs.Common.{sym, subst}
+use Rattle.bt_meta.specs.Torrent.{Metainfo}
+use Rattle.bt_log_file.proofs.LogFaults.{where_both}
+use Rattle.bt_files.specs.OwnPaths.{AreOwnPaths}
+use Rattle.bt_files.specs.StoreLog.{IsLogApart}
 use Rattle.bt_files.proofs.Faults.{err_weaker, ok_weaker, while_opening}
 use Rattle.bt_files.proofs.loading.load_store.Goals as goal
 
@@ -7,6 +12,16 @@ returns-clause-loaded g c = ok_weaker c.open_store.result _ _ (λ engine opened.
   read = c.in_ok-torrent.ensures.torrent;
   opened = opened;
 }) c.open_store.ensures.opened
+
+pub returns-clause-looked : goal.returns-clause-looked
+returns-clause-looked g c = where_both c.open_store.result _ _ _
+    (λ engine opened looked. subst (λ (torrent : Metainfo). IsLogApart (g.R.Lookup.tells c.args.rt.now) c.args.dir.now torrent.files c.args.log)
+    (sym opened.begun.same) looked) c.open_store.ensures.opened c.open_store.ensures.looked
+
+pub returns-clause-own : goal.returns-clause-own
+returns-clause-own g c = where_both c.open_store.result _ _ _
+    (λ engine opened own writes. subst (λ (torrent : Metainfo). AreOwnPaths (g.R.Lookup.lists c.args.rt.now) c.args.dir.now torrent.files)
+    (sym opened.begun.same) (own writes)) c.open_store.ensures.opened c.open_store.ensures.own
 
 pub returns-clause-fault : goal.returns-clause-fault
 returns-clause-fault g c = err_weaker c.open_store.result _ _

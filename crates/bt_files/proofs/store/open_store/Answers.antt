@@ -4,10 +4,12 @@ use Rattle.bt_meta.specs.Files.{File, file_of}
 use Rattle.bt_machine.specs.Start.{device_count}
 use Rattle.bt_files.specs.DataFiles.{AreFilled, AreNewDevices}
 use Rattle.bt_files.specs.OpenFolder.{IsOpeningFault, KnowsOpened}
+use Rattle.bt_files.specs.OwnPaths.{AreOwnPaths}
 use Rattle.bt_files.specs.Store.{IsOpenFault}
 use Rattle.bt_files.proofs.Devices.{device_count_is}
 use Rattle.bt_files.proofs.Faults.{err_weaker, ok_weaker, passed_on}
-use Rattle.bt_files.proofs.StoreLogs.{log_is_own}
+use Rattle.bt_files.proofs.StoreLogs.{by_look, log_is_own}
+use Rattle.bt_log_file.proofs.LogFaults.{where_ok}
 use Rattle.bt_files.proofs.store.open_store.Goals as goal
 
 pub begin_store-requires-clause-devices : goal.begin_store-requires-clause-devices
@@ -26,7 +28,9 @@ begin_store-requires-clause-own_log g c =
 pub returns-in_err-look_at_log-clause-fault : goal.returns-in_err-look_at_log-clause-fault
 returns-in_err-look_at_log-clause-fault g c =
     passed_on c.from_residual.result c.in_err-look_at_log.field-0.0 (IsOpenFault c.args.context.usage c.args.torrent c.args.log)
-    c.from_residual.ensures.1 (inl c.in_err-look_at_log.ensures)
+    c.from_residual.ensures.1
+    (inl (by_look (g.R.Lookup.tells c.args.rt.now) c.args.dir.now c.args.torrent.files c.args.log c.in_err-look_at_log.field-0.0
+    c.in_err-look_at_log.ensures.fault))
 
 pub returns-in_err-files-clause-fault : goal.returns-in_err-files-clause-fault
 returns-in_err-files-clause-fault g c =
@@ -59,6 +63,14 @@ returns-clause-opened g c = ok_weaker c.begin_store.result _ _ (λ engine begun.
   begun = begun;
   are_filled = subst (λ (files : List File). AreFilled files c.in_ok-files.files.filled.items) c.files.ensures.said c.in_ok-files.ensures.filled;
 }) c.begin_store.ensures.begun
+
+pub returns-clause-looked : goal.returns-clause-looked
+returns-clause-looked g c = where_ok c.begin_store.result _ c.in_ok-look_at_log.ensures.looked
+
+pub returns-clause-own : goal.returns-clause-own
+returns-clause-own g c = where_ok c.begin_store.result _ (λ writes.
+    subst (λ (files : List File). AreOwnPaths (g.R.Lookup.lists c.args.rt.now) c.args.dir.now files) c.files.ensures.said
+    (c.in_ok-files.ensures.own writes))
 
 pub returns-clause-fault : goal.returns-clause-fault
 returns-clause-fault g c = err_weaker c.begin_store.result _ _ (λ fault call. inr (inl (inl call))) c.begin_store.ensures.fault

@@ -1,11 +1,18 @@
 use Rattle.std.proofs.Common.{IfErr, sym, subst}
-use Rattle.bt_log_file.proofs.LogFaults.{look_alone}
-use Rattle.bt_files.specs.StoreLog.{IsLookFault}
-use Rattle.bt_files.proofs.Faults.{err_weaker, some_path}
+use Rattle.std.specs.Prelude.{OnOk}
+use Rattle.bt_files.specs.StoreLog.{IsLogApart, IsLookFaultBy}
 use Rattle.bt_files.proofs.store_log.look_at_log.Goals as goal
 
-pub returns-in-Some : goal.returns-in-Some
-returns-in-Some g c =
-    subst (λ log. IfErr c.refuse_data_file.result (IsLookFault log)) (sym c.in-Some.is)
-    (err_weaker c.refuse_data_file.result _ _ (λ fault found. (some_path c.in-Some.path, look_alone _ _ _ _ fault found))
-    c.refuse_data_file.ensures.fault)
+pub returns-in-Some-clause-looked : goal.returns-in-Some-clause-looked
+returns-in-Some-clause-looked g c =
+    subst (λ log. OnOk c.refuse_data_file.result (IsLogApart (g.R.Lookup.tells c.args.rt.now) c.args.dir.now c.args.torrent.now.files log)) (sym c.in-Some.is)
+    c.refuse_data_file.ensures.free
+
+pub returns-in-Some-clause-fault : goal.returns-in-Some-clause-fault
+returns-in-Some-clause-fault g c =
+    subst (λ log. IfErr c.refuse_data_file.result (IsLookFaultBy (g.R.Lookup.tells c.args.rt.now) c.args.dir.now c.args.torrent.now.files log)) (sym c.in-Some.is)
+    c.refuse_data_file.ensures.fault
+
+pub returns-in-None-clause-looked : goal.returns-in-None-clause-looked
+returns-in-None-clause-looked g c =
+    subst (λ log. IsLogApart (g.R.Lookup.tells c.args.rt.now) c.args.dir.now c.args.torrent.now.files log) (sym c.in-None.is) tt
