@@ -4,7 +4,8 @@ use crate::bytes::push_shown;
 use crate::names::Words;
 use crate::stage::Objects;
 use crate::torrent::take;
-use bt_meta::{Made, Torrent, make, read_torrent};
+use bt_meta::{Made, MadeTorrent, Torrent, make, make_torrent, read_torrent};
+use bt_rows::push_hex;
 use bt_tree::Hash32;
 use std::alloc::{AllocError, Global};
 use std::fmt::Write;
@@ -18,6 +19,7 @@ pub fn make_row(
     match words.word() {
         "files" => files_row(alloc, &mut objects.files, words, out),
         "torrent" => made_row(alloc, objects, words, out),
+        "infohash" => infohash_row(alloc, objects, words, out),
         _ => {
             words.are_wrong();
             Ok(())
@@ -129,4 +131,32 @@ fn read_back(
     push_shown(alloc, out, text)?;
     out.push_str(" is ")?;
     take(alloc, torrent, read_torrent(alloc, text), out)
+}
+
+/// The same by `make_torrent`: first the infohash that it gives.
+fn infohash_row(
+    alloc: Global,
+    objects: &mut Objects,
+    words: &mut Words,
+    out: &mut String,
+) -> Result<(), AllocError> {
+    let name = words.bytes(alloc)?;
+    let piece_length = words.number();
+    match make_torrent(alloc, &name, piece_length, &objects.files) {
+        Ok(made) => push_made(alloc, &mut objects.torrent, &made, out)?,
+        Err(error) => write!(out, "{error}")?,
+    }
+    objects.files.clear();
+    Ok(())
+}
+
+fn push_made(
+    alloc: Global,
+    torrent: &mut Option<Torrent>,
+    made: &MadeTorrent,
+    out: &mut String,
+) -> Result<(), AllocError> {
+    push_hex(alloc, out, &made.infohash)?;
+    out.push_str(" of ")?;
+    read_back(alloc, torrent, &made.text, out)
 }

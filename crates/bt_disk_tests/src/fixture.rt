@@ -6,7 +6,9 @@ ghost use Rattle.std.specs.Bool.{OnTrue};
 use bt_disk::{FaultDisk, MemoryDisk};
 use bt_rows::RowError;
 use bt_sparse::{AnswerError, Claim, SparseTree};
-use bt_store::{Adopted, BlockState, FileStore, Put, ReadError, Rechecked, Settled, StoreError};
+use bt_store::{
+    Adopted, AdoptedGroups, BlockState, FileStore, Put, ReadError, Rechecked, Settled, StoreError,
+};
 use bt_tree::{BLOCK_LEN, Hash32, NodeHash};
 use std::alloc::{AllocError, Global};
 
@@ -77,6 +79,13 @@ impl<H: NodeHash> Fixture<H> {
             return None;
         }
         Some(self.store.adopt(&mut self.tree, from))
+    }
+
+    pub fn adopt_groups(&mut self, from: u32) -> Option<Result<AdoptedGroups, AllocError>> {
+        if !self.fits() || from >= self.store.geometry().blocks() {
+            return None;
+        }
+        Some(self.store.adopt_groups(&mut self.tree, from))
     }
 
     pub fn accept(&mut self, claim: &Claim) -> bool {

@@ -7,7 +7,9 @@ use crate::fixture::{Fixture, make_fixture};
 use bt_lanes::Lanes;
 use bt_rows::{RowError, Words, put, tell};
 use bt_sparse::{Claim, Digests, SparseTree};
-use bt_store::{Adopted, BlockState, Put, ReadError, Rechecked, Settled, StoreError};
+use bt_store::{
+    Adopted, AdoptedGroups, BlockState, Put, ReadError, Rechecked, Settled, StoreError,
+};
 use bt_tree::{BLOCK_LEN, Geometry, Hash32, NodeHash, Plain};
 use std::alloc::Global;
 use std::fmt::Write;
@@ -179,9 +181,11 @@ fn change_row<H: NodeHash>(
     out: &mut String,
 ) -> Result<(), RowError> {
     match name {
-        "learn" => learn_row(alloc, f, words, out),
+        "learn" => learn_row(alloc, f, 0, words, out),
+        "layer" => layer_row(alloc, f, words, out),
         "restore" => restore_row(f, words, out),
         "adopt" => adopt_row(f, words, out),
+        "groups" => groups_row(f, words, out),
         "clear" => clear_row(f, out),
         "sync" => sync_row(f, out),
         _ => look_row(alloc, f, name, words, out),
@@ -215,28 +219,45 @@ fn look_row<H: NodeHash>(
     }
 }
 
-/// The claim of the first leaves.
-fn learn_row<H: NodeHash>(
+/// The claim of the first nodes of a layer, which a word says.
+fn layer_row<H: NodeHash>(
     alloc: Global,
     f: &mut Fixture<H>,
     words: &mut Words,
     out: &mut String,
 ) -> Result<(), RowError> {
-    let leaves = words.digests(alloc)?;
-    let is_learned = is_learned(alloc, f, leaves);
+    let base = words.number()?;
+    learn_row(alloc, f, base, words, out)
+}
+
+/// The claim of the first nodes of layer `base`.
+fn learn_row<H: NodeHash>(
+    alloc: Global,
+    f: &mut Fixture<H>,
+    base: u32,
+    words: &mut Words,
+    out: &mut String,
+) -> Result<(), RowError> {
+    let nodes = words.digests(alloc)?;
+    let is_learned = is_learned(alloc, f, base, nodes);
     tell_whether(out, is_learned, "learned", "refused")
 }
 
-fn is_learned<H: NodeHash>(alloc: Global, f: &mut Fixture<H>, leaves: Vec<Hash32>) -> bool {
-    let claim = claim_of(alloc, leaves);
+fn is_learned<H: NodeHash>(
+    alloc: Global,
+    f: &mut Fixture<H>,
+    base: u32,
+    nodes: Vec<Hash32>,
+) -> bool {
+    let claim = claim_of(alloc, base, nodes);
     f.accept(&claim)
 }
 
-fn claim_of(alloc: Global, leaves: Vec<Hash32>) -> Claim {
+fn claim_of(alloc: Global, base: u32, nodes: Vec<Hash32>) -> Claim {
     Claim {
-        base: 0,
+        base,
         index: 0,
-        run: Digests::new(leaves),
+        run: Digests::new(nodes),
         uncles: Digests::new(Vec::new(alloc)),
     }
 }
@@ -385,6 +406,29 @@ fn tell_adopted(out: &mut String, adopted: Adopted) -> Result<(), RowError> {
         out,
         "next {next}, anchor {anchor}, marked {marked}, faults {faults}"
     )?)
+}
+
+/// From a block, one group or several.
+fn groups_row<H: NodeHash>(
+    f: &mut Fixture<H>,
+    words: &mut Words,
+    out: &mut String,
+) -> Result<(), RowError> {
+    let from = words.number()?;
+    match f.adopt_groups(from) {
+        Some(Ok(adopted)) => tell_groups(out, adopted),
+        Some(Err(_)) => tell(out, "out of memory"),
+        None => Err(RowError::Unread),
+    }
+}
+
+fn tell_groups(out: &mut String, adopted: AdoptedGroups) -> Result<(), RowError> {
+    let AdoptedGroups {
+        next,
+        marked,
+        faults,
+    } = adopted;
+    Ok(write!(out, "next {next}, marked {marked}, faults {faults}")?)
 }
 
 fn state_row<H: NodeHash>(

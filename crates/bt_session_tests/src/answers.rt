@@ -57,7 +57,7 @@ fn tell_step(alloc: Global, out: &mut String, output: &Output) -> Result<(), All
 }
 
 /// An event of a peer that answers nothing else.
-fn tell_done(
+pub fn tell_done(
     out: &mut String,
     line: &str,
     told: &Result<(), EngineError>,

@@ -1,5 +1,6 @@
 //! Lists of events: the engine that they happen to, and its torrent and devices before it begins.
 
+use crate::buffer::buffer_row;
 use crate::device::Device;
 use crate::engine::{TestDisk, start, torrent_of};
 use crate::event::{byte_events, event_of};
@@ -162,6 +163,24 @@ fn tell_of(
         "report" => run.tell_reports(out),
         "peers" => run.tell_peers(out),
         "each" => each_row(alloc, run, rest, out),
+        _ => call_of(alloc, run, name, rest, out),
+    }
+}
+
+/// What is no event of a list. One match for all rows costs more proof.
+fn call_of(
+    alloc: Global,
+    run: &mut Run,
+    name: &str,
+    rest: &str,
+    out: &mut String,
+) -> Result<(), AllocError> {
+    match name {
+        "buffer" => buffer_row(alloc, &mut run.engine, rest, out),
+        "plain" => {
+            run.be_plain();
+            Ok(())
+        }
         _ => writeln!(out, "no line {name}"),
     }
 }

@@ -6,6 +6,7 @@
 
 mod ahead;
 mod answers;
+mod buffer;
 mod bytes;
 mod device;
 mod ends;

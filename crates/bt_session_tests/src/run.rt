@@ -2,7 +2,7 @@
 
 use crate::answers::tell_answer;
 use crate::engine::{TestEngine, tell_reports};
-use bt_engine::run_as_promised;
+use bt_engine::{run_as_promised, run_events};
 use bt_machine::{Answer, Event};
 use std::alloc::{AllocError, Global};
 use std::fmt::Write;
@@ -10,8 +10,10 @@ use std::fmt::Write;
 /// An engine, with events that it is still to run.
 #[derive(Drop)]
 pub struct Run {
-    engine: TestEngine,
+    pub engine: TestEngine,
     events: Vec<Event>,
+    /// Whether lists are run by `run_events`, and not by `run_as_promised`.
+    is_plain: bool,
 }
 
 impl Run {
@@ -19,7 +21,13 @@ impl Run {
         Run {
             engine,
             events: Vec::new(alloc),
+            is_plain: false,
         }
+    }
+
+    /// From here on lists are run by `run_events`.
+    pub fn be_plain(&mut self) {
+        self.is_plain = true;
     }
 
     pub fn push(&mut self, event: Event) -> Result<(), AllocError> {
@@ -42,7 +50,7 @@ impl Run {
     /// What the events answer, which have run then.
     fn answers(&mut self, alloc: Global) -> Result<Vec<Answer>, AllocError> {
         let mut answers = Vec::new(alloc);
-        run_all(&mut self.engine, &self.events, &mut answers)?;
+        run_all(&mut self.engine, &self.events, &mut answers, self.is_plain)?;
         self.events.clear();
         Ok(answers)
     }
@@ -62,7 +70,11 @@ fn run_all(
     engine: &mut TestEngine,
     events: &[Event],
     answers: &mut Vec<Answer>,
+    is_plain: bool,
 ) -> Result<(), AllocError> {
+    if is_plain {
+        return run_events(engine, events, answers);
+    }
     run_as_promised(engine, events, answers)
 }
 

@@ -246,7 +246,7 @@ fn tell_closed(out: &mut String, why: &Why) -> Result<(), AllocError> {
 }
 
 /// How many bytes, and which: in hexadecimal where they are few, else their SHA-256.
-fn tell_written(alloc: Global, out: &mut String, bytes: &[u8]) -> Result<(), AllocError> {
+pub fn tell_written(alloc: Global, out: &mut String, bytes: &[u8]) -> Result<(), AllocError> {
     write!(out, "{} bytes ", bytes.len())?;
     if bytes.len() <= MOST_SHOWN {
         push_hex(alloc, out, bytes)?;

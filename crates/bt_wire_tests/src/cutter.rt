@@ -1,6 +1,6 @@
 //! Streams, whole and in parts.
 
-use crate::bytes::Words;
+use crate::bytes::{Words, push_shown};
 use crate::message::push_event;
 use bt_wire::{Cutter, WireError, WireEvent};
 use std::alloc::{AllocError, Global};
@@ -31,6 +31,7 @@ pub fn cutter_row(
             out.push_str("a cutter")
         }
         "feed" => feed_row(alloc, stream, words, out),
+        "buffer" => buffer_row(alloc, stream, words, out),
         "next" => next_row(alloc, stream, out),
         "room" => room_row(stream, words, out),
         "turns" => turns_row(alloc, stream, words, out),
@@ -43,6 +44,12 @@ pub fn cutter_row(
 
 fn feed(stream: &mut Stream, bytes: &[u8]) -> Result<(), WireError> {
     stream.cutter.feed(bytes)
+}
+
+/// Feeds the first `count` bytes of a buffer, or all, where it has no more.
+fn feed_buffer(stream: &mut Stream, buffer: &mut Vec<u8>, count: usize) -> Result<(), WireError> {
+    let count = count.min(buffer.len());
+    stream.cutter.feed_buffer(buffer, count)
 }
 
 fn next(stream: &mut Stream) -> Result<Option<WireEvent>, WireError> {
@@ -61,6 +68,23 @@ fn feed_row(
 ) -> Result<(), AllocError> {
     let bytes = words.bytes(alloc)?;
     push_fed(out, feed(stream, &bytes))
+}
+
+/// Feeds a buffer that has room for more bytes, as many as the first word says: what that answers, and what the buffer
+/// has then.
+fn buffer_row(
+    alloc: Global,
+    stream: &mut Stream,
+    words: &mut Words,
+    out: &mut String,
+) -> Result<(), AllocError> {
+    let room = words.number();
+    let count = words.number();
+    let mut buffer = words.bytes(alloc)?;
+    buffer.reserve(room as usize)?;
+    push_fed(out, feed_buffer(stream, &mut buffer, count as usize))?;
+    out.push_str("; ")?;
+    push_shown(alloc, out, &buffer)
 }
 
 fn push_fed(out: &mut String, fed: Result<(), WireError>) -> Result<(), AllocError> {
