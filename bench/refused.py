@@ -1119,13 +1119,24 @@ class Trial:
         return not self.wrong
 
 
+def never_refused(trials):
+    """The kinds of calls of which allocations were refused, and that never answered so. What a flush asks for is of its devices."""
+    told = [name_and_answer for trial in trials for name_and_answer in trial.told]
+    asked = {name for name, _ in told} - {"the program itself", "flush", *SILENT, *FREE}
+    return sorted(asked - {name for name, came in told if came == "out of memory" or came.startswith("told by")})
+
+
 def main(words):
     folder = pathlib.Path(words[0] if words else tempfile.mkdtemp(prefix="refused-"))
     folder.mkdir(parents=True, exist_ok=True)
     program = tried(folder / "sources", "refused", CRATES)
     run = refuses(program, folder)
     trials = [Trial(name, EXAMPLES[name](), run, folder) for name in words[1:] or EXAMPLES]
-    return all([trial.tell() for trial in trials])
+    is_as_owed = all([trial.tell() for trial in trials])
+    lacking = never_refused(trials)
+    for name in lacking:
+        print(f"NOT AS OWED: {name} never answers that it is out of memory")
+    return is_as_owed and not lacking
 
 
 if __name__ == "__main__":

@@ -80,7 +80,8 @@ impl SharedTrees {
     /// Lets go of the tree of a file where no file after it has its root and length.
     fn let_go(&mut self, entry: &FileEntry)
         ensures goes { LetsGo (file_of entry.now) self.old self.new }
-        ensures gone { IsLast self.old (file_of entry.now) → tree_in self.new.kept (file_of entry.now) ≡ None }
+        ensures gone { IsLast self.old (file_of entry.now)
+            → tree_in self.new.kept (file_of entry.now) ≡ None }
     {
         if !self.is_last(entry) {
             return;

@@ -104,7 +104,8 @@ pub record IsLookedAt (old : Times) (now : Instant) (new : Times) : Type 0 where
 -- A block came: one that was asked for closes its request, and the time of the next one begins; any other is a message
 -- like another.
 pub record HasBlock (old : Times) (ask : Ask) (now : Instant) (new : Times) : Type 0 where
-  pub closed : Contains (open_asks old.requests) ask → IsWithout (open_asks old.requests) ask (open_asks new.requests)
+  pub closed : Contains (open_asks old.requests) ask
+      → IsWithout (open_asks old.requests) ask (open_asks new.requests)
   pub others : Contains (open_asks old.requests) ask
       → new ≡ record old { requests = new.requests; used = now; asked = now }
   pub unasked : ¬ Contains (open_asks old.requests) ask → IsLookedAt old now new
@@ -159,7 +160,8 @@ pub record HasAsked (old : Times) (ask : Ask) (now : Instant) (new : Times) : Ty
 
 -- the cancel of a request went out, which is open no more
 pub record HasCancelled (old : Times) (ask : Ask) (new : Times) : Type 0 where
-  pub closed : Contains (open_asks old.requests) ask → IsWithout (open_asks old.requests) ask (open_asks new.requests)
+  pub closed : Contains (open_asks old.requests) ask
+      → IsWithout (open_asks old.requests) ask (open_asks new.requests)
   pub others : new ≡ record old { requests = new.requests }
   pub unasked : ¬ Contains (open_asks old.requests) ask → new ≡ old
 
