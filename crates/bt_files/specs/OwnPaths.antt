@@ -12,7 +12,8 @@ pub data KnowsPaths (files : List File) : ℕ → CasePaths → Type 0 where
       → slice_get files count ≡ Some file → GoesTo old new file.path → KnowsPaths files (count + 1) new
 
 -- each name on the path of a file is its own, by what was listed, as those before it were looked at
-pub record IsOwnAfter (lists : Lists) (dir : List ℕ) (files : List File) (number : ℕ) (file : File) : Type 0 where
+pub record IsOwnAfter (lists : Lists) (dir : List ℕ) (files : List File) (number : ℕ) (file : File)
+    : Type 0 where
   pub old : CasePaths
   pub before : KnowsPaths files number old
   pub new : CasePaths

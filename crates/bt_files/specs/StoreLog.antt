@@ -32,7 +32,8 @@ IsLogApart tells dir files log = IfSome log (λ path. HasNoFileAt tells dir file
 
 -- or that it is one of them; or memory was refused
 abbrev pub IsLookFaultBy : Tells → (dir : List ℕ) → List File → Option (Bor (List ℕ)) → Fault → Type 0
-IsLookFaultBy tells dir files log fault = IsSomeAnd log (λ path. IsDataFileFault tells dir files path.now fault)
+IsLookFaultBy tells dir files log fault =
+    IsSomeAnd log (λ path. IsDataFileFault tells dir files path.now fault)
 
 -- the same, where nothing is known of what was told
 abbrev pub IsLookFault : Option (Bor (List ℕ)) → Fault → Type 0

@@ -3,7 +3,7 @@ ghost use Rattle.std.specs.Prelude.{IfErr};
 ghost use Rattle.bt_files.specs.OpenFolder.{IsCallFault};
 
 use bt_check::{Fault, found_path, told};
-use bt_folder::{make_folders, sync_folder};
+use bt_folder::{folder_above, make_folders, sync_folder};
 use bt_meta::FilePath;
 use bt_progress::{FileCall, Watch};
 use std::alloc::Global;
@@ -11,7 +11,8 @@ use std::path::Path;
 use std::rt::Files;
 
 /// The folders on the way to a file below a folder, which is the first of them. A folder in which something is new is
-/// synced as the way leaves it. In the order of a torrent the way enters and leaves each folder once.
+/// synced as the way leaves it, and with the first one those that its path leads through. In the order of a torrent the
+/// way enters and leaves each folder once.
 #[derive(Drop)]
 pub(crate) struct FolderTrail {
     /// The names of those below the first one.
@@ -62,7 +63,9 @@ impl FolderTrail {
         self.new_count = self.names.len().saturating_add(1);
     }
 
-    /// Leaves all folders. Errors: one can't be synced, which is told of; memory is refused.
+    /// Leaves all folders. Where something is new in the first one, that may be new too, with those above it, as each on
+    /// the way may be: so those that its path leads through are synced. Errors: one can't be synced, which is told of;
+    /// memory is refused.
     pub(crate) fn end<R: Files + AllocGlobal, P: Watch>(
         &mut self,
         rt: &R,
@@ -72,7 +75,12 @@ impl FolderTrail {
         ensures fault { IfErr result IsCallFault }
     {
         self.go_back(rt, watch, dir, 0)?;
-        self.leave(rt, watch, dir)
+        let has_new = self.new_count > 0;
+        self.leave(rt, watch, dir)?;
+        if has_new {
+            sync_above(rt, watch, dir)?;
+        }
+        Ok(())
     }
 
     /// Makes the first folder, where the way has not begun.
@@ -179,6 +187,22 @@ fn is_folder<R: Files>(rt: &R, path: &str) -> bool {
         Ok(metadata) => metadata.is_dir(),
         Err(_) => false,
     }
+}
+
+/// Has each name kept that the path of a folder leads through, the last one first. A fault is told of.
+fn sync_above<R: Files + AllocGlobal, P: Watch>(
+    rt: &R,
+    watch: &P,
+    folder: &str,
+) -> Result<(), Fault>
+    ensures fault { IfErr result IsCallFault }
+{
+    for path in Path::new(folder).ancestors() {
+        if let Some(above) = folder_above(path.as_str()) {
+            sync(rt, watch, Path::new(above))?;
+        }
+    }
+    Ok(())
 }
 
 /// Has what was made in a folder kept. A fault is told of.

@@ -81,10 +81,12 @@ pub(crate) fn hint_at_unmarked<D: Disk + Drop, H: NodeHash, P: Watch>(
 fn unmarked_text(usage: FileUse) -> &'static str {
     match usage {
         FileUse::Fetch => {
-            "no block of what is here is marked in the log, so all is fetched: without --log what is here is taken in"
+            "no block of what is here is marked in the log, so all is fetched: \
+             without --log what is here is taken in"
         }
         FileUse::Seed | FileUse::ReadOnly => {
-            "no block of what is here is marked in the log, so none is served: run fetch with this log, or seed without one"
+            "no block of what is here is marked in the log, so none is served: \
+             run fetch with this log, or seed without one"
         }
     }
 }

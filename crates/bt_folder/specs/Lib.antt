@@ -5,3 +5,4 @@ pub mod CaseFolders
 pub mod CasePaths
 pub mod CasePathsSteps
 pub mod KnownFiles
+pub mod FolderSync

@@ -1,5 +1,6 @@
 //! Folders that are made, and kept with what was made in them.
-ghost use Rattle.std.specs.Prelude.{◌≡◌, ◌<◌, ◌↔◌, ◌⊎◌, IsTrue, length};
+ghost use Rattle.std.specs.Prelude.{◌≡◌, ◌<◌, ◌↔◌, ◌⊎◌, IsTrue, length, option_copied};
+ghost use Rattle.bt_folder.specs.FolderSync.{folder_above};
 
 use bt_disk::DeviceFault;
 use std::fs::{Files, OpenFile, OpenOptions};
@@ -75,18 +76,32 @@ fn before_slash(path: &str, end: usize) -> Option<&str> {
 /// Makes a folder where it is missing, and syncs the one above it then.
 fn make_folder<R: Files>(rt: &R, folder: &str) -> Result<(), DeviceFault> {
     match rt.create_dir(folder) {
-        Ok(()) => sync_above(rt, Path::new(folder)),
+        Ok(()) => sync_above(rt, folder),
         Err(_) if is_folder(rt, folder) => Ok(()),
         Err(_) => Err(DeviceFault),
     }
 }
 
-/// Syncs the folder in which a path's last name lies.
-fn sync_above<R: Files>(rt: &R, path: Path<'_>) -> Result<(), DeviceFault> {
-    match path.parent() {
-        Some(folder) => sync_folder(rt, folder.as_str()),
+/// Syncs the folder that a path's last name lies in.
+fn sync_above<R: Files>(rt: &R, path: &str) -> Result<(), DeviceFault> {
+    match folder_above(path) {
+        Some(folder) => sync_folder(rt, folder),
         None => Ok(()),
     }
+}
+
+/// The folder that the last name of a path lies in. The dot is the one that the program runs in. A path has none that
+/// ends in `..`, or in no name: the empty one, the root, the dot alone.
+pub fn folder_above(path: &str) -> Option<&str>
+    ensures { option_copied result ≡ folder_above path.now }
+{
+    let path = Path::new(path);
+    let _name = path.file_name()?;
+    let folder = path.parent()?;
+    if folder.as_str().is_empty() {
+        return Some(".");
+    }
+    Some(folder.as_str())
 }
 
 fn is_folder<R: Files>(rt: &R, path: &str) -> bool {
