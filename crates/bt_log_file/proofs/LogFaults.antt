@@ -1,6 +1,6 @@
 -- Why a log is not opened in a file, by why one of its steps failed.
 use Rattle.std.proofs.Common.{◌≡◌, ◌≢◌, ◌⊎◌, inl, inr, ℕ, List, Option, Result, Ok, Err, IfErr, refl, sym, subst}
-use Rattle.std.specs.Prelude.{IfOk, IsErrAnd, OnOk}
+use Rattle.std.specs.Prelude.{⊤, IfOk, IsErrAnd, OnOk}
 use Rattle.bt_disk.specs.declared.opening.FileIdentity.{FileIdentity}
 use Rattle.bt_folder.specs.Lookup.{IsListingError, Lists, Tells}
 use Rattle.bt_folder.specs.declared.folder_names.ListingError.{ListingError}
@@ -10,11 +10,10 @@ use Rattle.bt_meta.specs.Files.{File}
 use Rattle.bt_meta.specs.Torrent.{Metainfo}
 use Rattle.bt_check.specs.Fault.{log_among_files, out_of_memory}
 use Rattle.bt_check.specs.declared.fault.Fault.{Fault}
-use Rattle.bt_log_file.specs.Attaching.{IsAttachFault}
-use Rattle.bt_log_file.specs.Device.{LogDiskView, device_conduct, new_log_device}
+use Rattle.bt_log_file.specs.Device.{LogDiskView, new_log_device}
 use Rattle.bt_log_file.specs.Looking.{IsDataFileFault}
-use Rattle.bt_log_file.specs.Names.{HasFileByName, HasNameOfFile}
-use Rattle.bt_log_file.specs.Opening.{IsCallFault, IsCallFaultBy, IsFileFault, IsLogFault, IsLogFaultBy, IsLogFaultOf, IsNameFault, listing_fault}
+use Rattle.bt_log_file.specs.Names.{HasFileByName, HasNameOfFile, HasNoFileByName}
+use Rattle.bt_log_file.specs.Opening.{IsCallFault, IsCallFaultBy, IsCallFaultOf, IsFileFault, IsLogFault, IsLogFaultBy, IsLogFaultOf, IsNameFault, listing_fault}
 
 -- what holds of a fault holds where it is passed on
 pub passed_on : {T : Type 0} (r : Result T Fault) (fault : Fault) (P : Fault → Type 0) → IsErrAnd r (λ told. told ≡ fault) → P fault → IfErr r P
@@ -36,28 +35,20 @@ pub of_call : (one all : Type 0) (fault : Fault) → (one → all) → IsCallFau
 of_call one all fault is_of (inl failed) = inl (failed.0, is_of failed.1)
 of_call one all fault is_of (inr short) = inr short
 
-module _ (known : KnownFiles) (identity : Option FileIdentity) (infohash : List ℕ) (failed : Type 0) (disk : LogDiskView) (fault : Fault) where
-  abbrev Fails : Type 0 → Type 0
-  Fails named = IsLogFaultOf known identity infohash (IsCallFaultBy failed) named disk fault
+module _ (known : KnownFiles) (identity : Option FileIdentity) (infohash : List ℕ) (failed lost : Type 0) (disk : LogDiskView) (fault : Fault) where
+  abbrev Fails : (named own : Type 0) → Type 0
+  Fails named own = IsLogFaultOf known identity infohash (IsCallFaultOf failed lost) named own disk fault
 
   -- the file is one of those that are known
-  pub of_known : (named : Type 0) → IsFileFault known identity fault → Fails named
-  of_known named (inl short) = inl (inr short)
-  of_known named (inr among) = inr (inl (among.0, inl among.1))
+  pub of_known : (named own : Type 0) → IsFileFault known identity fault → Fails named own
+  of_known named own (inl short) = inl (inr short)
+  of_known named own (inr among) = inr (inl (among.0, inl among.1))
 
   -- it is one by its name
-  pub of_name : (one : Type 0) (named : List File → Type 0) (files all : List File) → (one → failed) → files ≡ all → IsNameFault one (named files) fault
-      → Fails (named all)
-  of_name one named files all is_of same (inl call) = inl (of_call one failed fault is_of call)
-  of_name one named files all is_of same (inr among) = inr (inl (among.0, inr (subst named same among.1)))
-
-  -- its name is not kept
-  pub of_folder : (one named : Type 0) → (one → failed) → IsCallFaultBy one fault → Fails named
-  of_folder one named is_of call = inl (of_call one failed fault is_of call)
-
-  -- no log is opened on its device
-  pub of_device : (named : Type 0) (whose : List ℕ) → whose ≡ infohash → IsAttachFault device_conduct whose disk fault → Fails named
-  of_device named whose same is = inr (inr (subst (λ (h : List ℕ). IsAttachFault device_conduct h disk fault) same is))
+  pub of_name : (one : Type 0) (named own : List File → Type 0) (files all : List File) → (one → failed) → files ≡ all → IsNameFault one (named files) fault
+      → Fails (named all) (own all)
+  of_name one named own files all is_of same (inl call) = inl (of_call one _ fault (λ is. inl (is_of is)) call)
+  of_name one named own files all is_of same (inr among) = inr (inl (among.0, inr (subst named same among.1)))
 
 -- ---- what is known of names where nothing is known of what the system told
 
@@ -76,19 +67,27 @@ module _ (tells : Tells) (lists : Lists) (dir : List ℕ) (files : List File) (p
     };
   }
 
-  less : (known : KnownFiles) (identity : Option FileIdentity) (infohash : List ℕ) (failed : Type 0) (disk : LogDiskView) (fault : Fault)
-      → IsLogFaultOf known identity infohash (IsCallFaultBy failed) (HasFileByName tells lists dir files path) disk fault
-      → IsLogFaultOf known identity infohash IsCallFault (HasNameOfFile files path) disk fault
-  less known identity infohash failed disk fault (inl (inl call)) = inl (inl call.0)
-  less known identity infohash failed disk fault (inl (inr short)) = inl (inr short)
-  less known identity infohash failed disk fault (inr (inl (among, inl old))) = inr (inl (among, inl old))
-  less known identity infohash failed disk fault (inr (inl (among, inr named))) = inr (inl (among, inr (by_name named)))
-  less known identity infohash failed disk fault (inr (inr refused)) = inr (inr refused)
+  less : (known : KnownFiles) (identity : Option FileIdentity) (infohash : List ℕ) (failed lost own : Type 0) (disk : LogDiskView) (fault : Fault)
+      → IsLogFaultOf known identity infohash (IsCallFaultOf failed lost) (HasFileByName tells lists dir files path) own disk fault
+      → IsLogFaultOf known identity infohash (λ free. IsCallFault) (HasNameOfFile files path) ⊤ disk fault
+  less known identity infohash failed lost own disk fault (inl (inl call)) = inl (inl call.0)
+  less known identity infohash failed lost own disk fault (inl (inr short)) = inl (inr short)
+  less known identity infohash failed lost own disk fault (inr (inl (among, inl old))) = inr (inl (among, inl old))
+  less known identity infohash failed lost own disk fault (inr (inl (among, inr named))) = inr (inl (among, inr (by_name named)))
+  less known identity infohash failed lost own disk fault (inr (inr refused)) = inr (inr record {
+    is_free = (refused.is_free.0, tt);
+    cause = refused.cause;
+    after = refused.after;
+    opens = refused.opens;
+    told = refused.told;
+  })
 
-pub log_fault_alone : (tells : Tells) (lists : Lists) (dir : List ℕ) (failed : Type 0) (known : KnownFiles) (torrent : Metainfo) (path : List ℕ) (fault : Fault)
-    → IsLogFaultBy (IsCallFaultBy failed) (HasFileByName tells lists dir torrent.files path) known torrent path fault → IsLogFault known torrent path fault
-log_fault_alone tells lists dir failed known torrent path fault is =
-    (is.0, less tells lists dir torrent.files path known is.0 torrent.infohash failed (new_log_device path is.0) fault is.1)
+pub log_fault_alone : (tells : Tells) (lists : Lists) (dir : List ℕ) (failed : Type 0) {lost : Type 0} (known : KnownFiles) (torrent : Metainfo) (path : List ℕ) (fault : Fault)
+    → IsLogFaultBy (IsCallFaultOf failed lost) (HasFileByName tells lists dir torrent.files path) (HasNoFileByName tells lists dir torrent.files path) known torrent path fault
+    → IsLogFault known torrent path fault
+log_fault_alone tells lists dir failed {lost} known torrent path fault is =
+    let own = HasNoFileByName tells lists dir torrent.files path in
+    (is.0, less tells lists dir torrent.files path known is.0 torrent.infohash failed lost own (new_log_device path is.0) fault is.1)
 
 pub look_alone : (tells : Tells) (dir : List ℕ) (files : List File) (path : List ℕ) (fault : Fault) → IsDataFileFault tells dir files path fault
     → (fault ≡ log_among_files) ⊎ (fault ≡ out_of_memory)

@@ -14,9 +14,10 @@ log_fault TooLong = log_too_long
 log_fault Device = device
 log_fault OutOfMemory = out_of_memory
 
--- the fault is that of the refusal which the log's opening on the device ended with
+-- The fault is that of the refusal which the log's opening on the device ended with; and its file is free to be a log's.
 pub record IsAttachFault {D : Type 0} (conduct : Conduct D)
-    (infohash : List ℕ) (disk : D) (fault : Fault) : Type 0 where
+    (infohash : List ℕ) (free : Type 0) (disk : D) (fault : Fault) : Type 0 where
+  pub is_free : free
   pub cause : LogError
   pub after : D
   pub opens : Opens conduct infohash disk (Err cause) after

@@ -5,3 +5,4 @@ pub mod Keeping
 pub mod Looking
 pub mod Names
 pub mod Opening
+pub mod OtherFiles

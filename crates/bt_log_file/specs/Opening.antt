@@ -1,5 +1,5 @@
 -- A log that is opened in a file, which is none of its torrent's.
-use Rattle.std.specs.Prelude.{◌≡◌, ◌⊎◌, ◌↔◌, ℕ, List, Option, Some, Err, IfSome, IsSomeAnd}
+use Rattle.std.specs.Prelude.{◌≡◌, ◌⊎◌, ◌↔◌, ⊤, ℕ, List, Option, Some, Err, IfSome, IsSomeAnd}
 use Rattle.bt_disk.specs.declared.opening.FileIdentity.{FileIdentity}
 use Rattle.bt_folder.specs.KnownFiles.{IsKnown}
 use Rattle.bt_folder.specs.Lookup.{Lists}
@@ -13,7 +13,6 @@ use Rattle.bt_check.specs.declared.fault.Fault.{Fault}
 use Rattle.bt_log_file.specs.Attaching.{IsAttachFault}
 use Rattle.bt_log_file.specs.Device.{LogDiskView, device_conduct, new_log_device}
 use Rattle.bt_log_file.specs.Folder.{folder_of}
-use Rattle.bt_log_file.specs.Keeping.{HasFolderThat, Leads}
 use Rattle.bt_log_file.specs.Names.{HasNameOfFile}
 
 -- a call failed, or memory was refused
@@ -24,10 +23,14 @@ IsCallFault fault = (fault ≡ device) ⊎ (fault ≡ out_of_memory)
 abbrev pub IsCallFaultBy : (failed : Type 0) → Fault → Type 0
 IsCallFaultBy failed fault = ((fault ≡ device) × failed) ⊎ (fault ≡ out_of_memory)
 
--- The file at a path was not opened, its folder not listed, or not synced.
-abbrev pub HasFailed : (refuses loses : List ℕ → Type 0) → Leads → Lists → List ℕ → Type 0
-HasFailed refuses loses leads lists path =
-    refuses path ⊎ lists (folder_of path) (Err CallFailed) ⊎ HasFolderThat leads loses path
+-- a call failed, as is known by the first of these, or, on a file that is free to be a log's, by the second; or memory
+-- was refused
+abbrev pub IsCallFaultOf : (failed lost free : Type 0) → Fault → Type 0
+IsCallFaultOf failed lost free = IsCallFaultBy (failed ⊎ (free × lost))
+
+-- the file at a path was not opened, or its folder not listed
+abbrev pub HasFailed : (refuses : List ℕ → Type 0) → Lists → List ℕ → Type 0
+HasFailed refuses lists path = refuses path ⊎ lists (folder_of path) (Err CallFailed)
 
 -- why the program ends where a folder can't be listed
 abbrev pub listing_fault : ListingError → Fault
@@ -70,22 +73,28 @@ IsNameFault failed named fault = IsCallFaultBy failed fault ⊎ ((fault ≡ log_
 abbrev pub IsAmongFiles : KnownFiles → Option FileIdentity → (named : Type 0) → Type 0
 IsAmongFiles known identity named = IsSomeAnd identity (IsKnown known) ⊎ named
 
--- Why no log is in a file that was opened, of which the system tells this: a call failed, or memory was refused; the
--- file is one of the torrent's; or its device is one that a log is not opened on.
+-- It is none of them: it is not known, and is none by its name. Then it is free to be a log's.
+abbrev pub IsNoneOfFiles : KnownFiles → Option FileIdentity → (own_name : Type 0) → Type 0
+IsNoneOfFiles known identity own_name = IfSome identity (λ file. ¬ IsKnown known file) × own_name
+
+-- Why no log is in a file that was opened, of which the system tells this: a call failed, of which some come only where
+-- the file is none of the torrent's, or memory was refused; it is one of them; or it is none, and its device is one that
+-- a log is not opened on.
 abbrev pub IsLogFaultOf : KnownFiles → Option FileIdentity → (infohash : List ℕ)
-    → (called : Fault → Type 0) → (named : Type 0) → LogDiskView → Fault → Type 0
-IsLogFaultOf known identity infohash called named disk fault =
-    called fault
+    → (called : Type 0 → Fault → Type 0) → (named own_name : Type 0) → LogDiskView → Fault → Type 0
+IsLogFaultOf known identity infohash called named own_name disk fault =
+    called (IsNoneOfFiles known identity own_name) fault
     ⊎ ((fault ≡ log_among_files) × IsAmongFiles known identity named)
-    ⊎ IsAttachFault device_conduct infohash disk fault
+    ⊎ IsAttachFault device_conduct infohash (IsNoneOfFiles known identity own_name) disk fault
 
 -- why a log is not opened in the file at a path, whatever the system tells of that file
-abbrev pub IsLogFaultBy : (called : Fault → Type 0) (named : Type 0) → KnownFiles → Metainfo → List ℕ
-    → Fault → Type 0
-IsLogFaultBy called named known torrent path fault =
+abbrev pub IsLogFaultBy : (called : Type 0 → Fault → Type 0) (named own_name : Type 0) → KnownFiles → Metainfo
+    → List ℕ → Fault → Type 0
+IsLogFaultBy called named own_name known torrent path fault =
     (identity : Option FileIdentity)
-    × IsLogFaultOf known identity torrent.infohash called named (new_log_device path identity) fault
+    × IsLogFaultOf known identity torrent.infohash called named own_name (new_log_device path identity) fault
 
 -- why a log is not opened in the file at a path, where nothing is known of what the system told
 abbrev pub IsLogFault : KnownFiles → Metainfo → List ℕ → Fault → Type 0
-IsLogFault known torrent path = IsLogFaultBy IsCallFault (HasNameOfFile torrent.files path) known torrent path
+IsLogFault known torrent path =
+    IsLogFaultBy (λ free. IsCallFault) (HasNameOfFile torrent.files path) ⊤ known torrent path

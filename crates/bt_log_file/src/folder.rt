@@ -1,13 +1,16 @@
 //! The folder that a log's file lies in.
 ghost use Rattle.std.specs.Prelude.{◌≡◌, Ok, IfErr, IfOk, OnOk};
 ghost use Rattle.std.specs.Path.{path_buf_bytes};
-ghost use Rattle.bt_check.specs.Fault.{out_of_memory};
+ghost use Rattle.bt_check.specs.Fault.{device, out_of_memory};
 ghost use Rattle.bt_log_file.specs.Folder.{folder_of};
 ghost use Rattle.bt_log_file.specs.Keeping.{HasFolderThat, IsEndOfLinks, IsEndBy};
 ghost use Rattle.bt_log_file.specs.Opening.{IsCallFaultBy};
+ghost use Rattle.bt_log_file.specs.OtherFiles.{IsFree};
 
-use crate::log_folder::LogFolder;
+use crate::log_folder::{LogFolder, OpenedLog};
+use crate::other_files::OtherFiles;
 use bt_check::{Fault, told};
+use bt_folder::Lookup;
 use bt_progress::{FileCall, Watch};
 use std::alloc::Global;
 use std::io::{self, ErrorKind};
@@ -23,14 +26,30 @@ pub(crate) fn folder_of(path: &str) -> &str
     }
 }
 
-/// Has the name of a file kept, by a sync of the folder that it lies in once all links are followed. A fault is told
-/// of.
-pub(crate) fn keep_name<R: LogFolder, P: Watch>(rt: &R, watch: &P, path: &str) -> Result<(), Fault>
-    ensures kept { OnOk result (HasFolderThat (R.leads rt.now) (R.keeps rt.now) path.now) }
-    ensures fault { IfErr result (IsCallFaultBy (HasFolderThat (R.leads rt.now) (R.loses rt.now) path.now)) }
+/// Has the name of a file kept that was opened for a log, and is none of those that it may not be: by a sync of the
+/// folder that it lies in once all links are followed. A fault is told of.
+pub(crate) fn keep_name<R: LogFolder + Lookup, P: Watch, D>(
+    rt: &R,
+    watch: &P,
+    others: &OtherFiles<'_>,
+    opened: &OpenedLog<'_, D>,
+) -> Result<(), Fault>
+    requires free { let file = opened.now
+        in IsFree (R.tells rt.now) (R.lists rt.now) others.now file.opening.identity file.path.now }
+    ensures kept { OnOk result (HasFolderThat (R.leads rt.now) (R.keeps rt.now) opened.now.path.now) }
+    ensures fault { let lost = HasFolderThat (R.leads rt.now) (R.loses rt.now) opened.now.path.now
+        in IfErr result (IsCallFaultBy lost) }
 {
-    let file = real_path(rt, path)?;
+    let file = real_path(rt, opened.path)?;
     let folder = folder_of(file.as_path().as_str());
+    keep_folder(rt, watch, folder)
+}
+
+/// Has what was made in a folder kept. A fault is told of.
+fn keep_folder<R: LogFolder, P: Watch>(rt: &R, watch: &P, folder: &str) -> Result<(), Fault>
+    ensures kept { OnOk result (R.keeps rt.now folder.now) }
+    ensures fault { IfErr result (λ fault. (fault ≡ device) × R.loses rt.now folder.now) }
+{
     let synced = rt.keep_folder(folder).map_err(|_| Fault::Device);
     told(rt.alloc(), watch, FileCall::Sync, folder, synced)
 }

@@ -9,6 +9,7 @@ mod log_folder;
 mod looking;
 mod names;
 mod opening;
+mod other_files;
 
 pub use device::{LogContext, LogDisk};
 pub use log_folder::LogFolder;

@@ -1,5 +1,5 @@
 //! Names of a torrent's files that are one with the name of a log's file but for case.
-ghost use Rattle.std.specs.Prelude.{◌≡◌, ◌-◌, ◌↔◌, not, length, map, option_copied, slice_get, IfErr, IfNone, IfOk, IfSome, IsTrue, MatchBool};
+ghost use Rattle.std.specs.Prelude.{◌≡◌, ◌-◌, ◌↔◌, not, length, map, option_copied, slice_get, Err, IfErr, IfNone, IfOk, IfSome, IsTrue, MatchBool};
 ghost use Rattle.std.specs.StrCase.Upper.{str_to_uppercase};
 ghost use Rattle.bt_folder.specs.Lookup.{IsListingError};
 ghost use Rattle.bt_meta.specs.Files.{file_of};
@@ -129,7 +129,7 @@ fn lacks_one<R: Files + AllocGlobal + Clone + Drop + Lookup>(
 ) -> Result<bool, ListingError>
     ensures lacks { IfOk result
         (λ lacks. HasBoth (R.lists rt.now) folder.now name.now other.now (not lacks)) }
-    ensures error { IfErr result (IsListingError (R.lists rt.now) folder.now) }
+    ensures error { IfErr result (λ error. R.lists rt.now folder.now (Err error)) }
 {
     let listing = rt.names_in(folder)?;
     Ok(!(listing.has(name) && listing.has(other)))

@@ -1,20 +1,21 @@
 //! The log of a torrent, opened in its file.
-ghost use Rattle.std.specs.Prelude.{◌≡◌, IfErr, IfOk, IfSome, OnOk, MatchBool, IsSomeAnd, map};
+ghost use Rattle.std.specs.Prelude.{◌≡◌, Ok, Err, IfErr, IfOk, IfSome, OnOk, MatchBool, IsSomeAnd, map};
 ghost use Rattle.bt_folder.specs.KnownFiles.{IsKnown};
 ghost use Rattle.bt_folder.specs.declared.folder_names.ListingError.TheVariants.{Device as CallFailed};
 ghost use Rattle.bt_meta.specs.Files.{file_of};
 ghost use Rattle.bt_resume.specs.ResumeLog.{IsAttached};
 ghost use Rattle.bt_log_file.specs.Device.{device_conduct};
 ghost use Rattle.bt_log_file.specs.Folder.{folder_of};
-ghost use Rattle.bt_log_file.specs.Keeping.{IsKeptFile, IsKeptIfEmpty};
+ghost use Rattle.bt_log_file.specs.Keeping.{HasFolderThat, IsKeptFile, IsKeptIfEmpty};
 ghost use Rattle.bt_log_file.specs.Names.{HasFileByName, HasNoFileByName};
-ghost use Rattle.bt_log_file.specs.Opening.{AddsFile, HasFailed, IsAdded, IsCallFaultBy, IsFileFault, IsFurtherLog, IsLogFaultBy, IsLogFaultOf, IsNameFault, listing_fault};
+ghost use Rattle.bt_log_file.specs.Opening.{AddsFile, HasFailed, IsAdded, IsCallFaultBy, IsCallFaultOf, IsFileFault, IsFurtherLog, IsLogFaultBy, IsLogFaultOf, IsNameFault, listing_fault};
 
 use crate::attaching::attach_log;
 use crate::device::{LogContext, LogDisk, open_device};
 use crate::folder::{folder_of, keep_name};
 use crate::log_folder::{LogFolder, OpenedLog};
 use crate::names::is_own_name;
+use crate::other_files::OtherFiles;
 use bt_check::{Fault, told};
 use bt_disk::FileIdentity;
 use bt_folder::{KnownFiles, ListingError, Lookup};
@@ -23,6 +24,7 @@ use bt_progress::{FileCall, Watch};
 use bt_resume::ResumeLog;
 use std::alloc::AllocError;
 use std::rt::Files;
+use std::snapshot::Snapshot;
 
 /// Opens the log of a torrent in the file at a path, which is made where it is absent. All files of the torrent were
 /// opened before, or made, below the folder `dir`: `known` has them, and the log's file is added to it.
@@ -46,9 +48,11 @@ pub fn open_log<'a, R: Files + AllocGlobal + Clone + Drop + Lookup + LogFolder, 
     ensures own_name { OnOk result (HasNoFileByName
         (R.tells rt.now) (R.lists rt.now) dir.now torrent.now.files path.now) }
     ensures kept { OnOk result (IsKeptFile (R.opens rt.now) (R.leads rt.now) (R.keeps rt.now) path.now) }
-    ensures fault { let failed = HasFailed (R.refuses rt.now) (R.loses rt.now) (R.leads rt.now) (R.lists rt.now) path.now
+    ensures fault { let failed = HasFailed (R.refuses rt.now) (R.lists rt.now) path.now
+        in let lost = HasFolderThat (R.leads rt.now) (R.loses rt.now) path.now
         in let named = HasFileByName (R.tells rt.now) (R.lists rt.now) dir.now torrent.now.files path.now
-        in IfErr result (IsLogFaultBy (IsCallFaultBy failed) named known.old torrent.now path.now) }
+        in let own = HasNoFileByName (R.tells rt.now) (R.lists rt.now) dir.now torrent.now.files path.now
+        in IfErr result (IsLogFaultBy (IsCallFaultOf failed lost) named own known.old torrent.now path.now) }
 {
     let opened = open_device(rt, watch, context, path)?;
     open_in_file(rt, watch, known, dir, torrent, opened)
@@ -72,17 +76,24 @@ fn open_in_file<'a, R: Lookup + LogFolder, P: Watch>(
     ensures kept { OnOk result (IsKeptIfEmpty
         (R.leads rt.now) (R.keeps rt.now) opened.entry.opening opened.entry.path.now) }
     ensures fault { let path = opened.entry.path.now
-        in let failed = HasFailed (R.refuses rt.now) (R.loses rt.now) (R.leads rt.now) (R.lists rt.now) path
+        in let failed = HasFailed (R.refuses rt.now) (R.lists rt.now) path
+        in let lost = HasFolderThat (R.leads rt.now) (R.loses rt.now) path
         in let named = HasFileByName (R.tells rt.now) (R.lists rt.now) dir.now torrent.now.files path
+        in let own = HasNoFileByName (R.tells rt.now) (R.lists rt.now) dir.now torrent.now.files path
         in IfErr result (IsLogFaultOf known.old opened.entry.opening.identity torrent.now.infohash
-        (IsCallFaultBy failed) named opened.entry.disk) }
+        (IsCallFaultOf failed lost) named own opened.entry.disk) }
 {
+    let others = OtherFiles {
+        known: Snapshot::of(known),
+        dir,
+        torrent,
+    };
     refuse_known(known, opened.opening.identity)?;
     refuse_other_name(rt, watch, dir, torrent.files(), opened.path)?;
     if opened.opening.len == 0 {
-        keep_name(rt, watch, opened.path)?;
+        keep_name(rt, watch, &others, &opened)?;
     }
-    attach_log(rt, opened, torrent.infohash())
+    attach_log(rt, &others, opened)
 }
 
 /// Adds the file of a log to those that are known. Errors: it is one of them, by what the system tells of it, or
@@ -146,11 +157,19 @@ fn has_own_name<R: Files + AllocGlobal + Clone + Drop + Lookup, P: Watch>(
         (HasFileByName (R.tells rt.now) (R.lists rt.now) dir.now all path.now)) }
     ensures fault { IfErr result (IsCallFaultBy (R.lists rt.now (folder_of path.now) (Err CallFailed))) }
 {
-    let is_own = match is_own_name(rt, dir, files, path) {
+    let is_own = own_or_fault(is_own_name(rt, dir, files, path));
+    told(rt.alloc(), watch, FileCall::List, folder_of(path), is_own)
+}
+
+/// The answer to whether a name is a log's own, or why the program ends where a folder can't be listed for it.
+fn own_or_fault(is_own: Result<bool, ListingError>) -> Result<bool, Fault>
+    ensures answer { IfOk is_own (λ answer. result ≡ Ok answer) }
+    ensures fault { IfErr is_own (λ error. result ≡ Err (listing_fault error)) }
+{
+    match is_own {
         Ok(is_own) => Ok(is_own),
         Err(error) => Err(listing_fault(error)),
-    };
-    told(rt.alloc(), watch, FileCall::List, folder_of(path), is_own)
+    }
 }
 
 /// Why the program ends where a folder can't be listed.

@@ -1,21 +1,23 @@
-use Rattle.std.proofs.Common.{ℕ, List, None, inl, subst}
+use Rattle.std.proofs.Common.{◌⊎◌, ℕ, List, None, inl, subst}
 use Rattle.std.specs.Prelude.{OnOk}
 use Rattle.bt_resume.specs.ResumeLog.{IsAttached}
 use Rattle.bt_log_file.specs.Device.{LogDiskView, device_conduct}
-use Rattle.bt_log_file.specs.Keeping.{IsKeptFile, IsKeptIfEmpty}
+use Rattle.bt_log_file.specs.Keeping.{HasFolderThat, IsKeptFile, IsKeptIfEmpty}
 use Rattle.bt_log_file.specs.Names.{HasFileByName, HasNoFileByName}
-use Rattle.bt_log_file.specs.Opening.{AddsFile, HasFailed, IsCallFaultBy, IsFurtherLog, IsLogFaultBy, IsLogFaultOf}
+use Rattle.bt_log_file.specs.Opening.{AddsFile, HasFailed, IsCallFaultOf, IsFurtherLog, IsLogFaultBy, IsLogFaultOf, IsNoneOfFiles}
 use Rattle.bt_log_file.proofs.LogFaults.{of_call, ok_weaker, passed_on, where_both, where_err}
 use Rattle.bt_log_file.proofs.opening.open_log.Goals as goal
 
 pub returns-in_err-opened-clause-fault : goal.returns-in_err-opened-clause-fault
 returns-in_err-opened-clause-fault g c =
-    let named = HasFileByName (g.R.Lookup.tells c.args.rt.now) (g.R.Lookup.lists c.args.rt.now) c.args.dir.now c.args.torrent.now.files c.args.path.now in
-    let failed =
-    HasFailed (g.R.LogFolder.refuses c.args.rt.now) (g.R.LogFolder.loses c.args.rt.now) (g.R.LogFolder.leads c.args.rt.now) (g.R.Lookup.lists c.args.rt.now) c.args.path.now in
+    let path = c.args.path.now in
+    let named = HasFileByName (g.R.Lookup.tells c.args.rt.now) (g.R.Lookup.lists c.args.rt.now) c.args.dir.now c.args.torrent.now.files path in
+    let own = HasNoFileByName (g.R.Lookup.tells c.args.rt.now) (g.R.Lookup.lists c.args.rt.now) c.args.dir.now c.args.torrent.now.files path in
+    let failed = HasFailed (g.R.LogFolder.refuses c.args.rt.now) (g.R.Lookup.lists c.args.rt.now) path in
+    let lost = HasFolderThat (g.R.LogFolder.leads c.args.rt.now) (g.R.LogFolder.loses c.args.rt.now) path in
     passed_on c.from_residual.result c.in_err-opened.field-0.0
-    (IsLogFaultBy (IsCallFaultBy failed) named c.args.known.now c.args.torrent.now c.args.path.now)
-    c.from_residual.ensures.1 (None, inl (of_call _ failed _ (λ refused. inl refused) c.in_err-opened.ensures.fault))
+    (IsLogFaultBy (IsCallFaultOf failed lost) named own c.args.known.now c.args.torrent.now path)
+    c.from_residual.ensures.1 (None, inl (of_call _ (failed ⊎ (IsNoneOfFiles c.args.known.now None own × lost)) _ (λ refused. inl (inl refused)) c.in_err-opened.ensures.fault))
 
 pub returns-clause-log : goal.returns-clause-log
 returns-clause-log g c =
@@ -52,12 +54,13 @@ pub returns-clause-fault : goal.returns-clause-fault
 returns-clause-fault g c =
     let identity = c.in_ok-opened.opened.opening.identity in
     let named = λ (p : List ℕ). HasFileByName (g.R.Lookup.tells c.args.rt.now) (g.R.Lookup.lists c.args.rt.now) c.args.dir.now c.args.torrent.now.files p in
-    let failed = λ (p : List ℕ).
-    HasFailed (g.R.LogFolder.refuses c.args.rt.now) (g.R.LogFolder.loses c.args.rt.now) (g.R.LogFolder.leads c.args.rt.now) (g.R.Lookup.lists c.args.rt.now) p in
-    let fault_of = λ (p : List ℕ). IsLogFaultOf c.args.known.now identity c.args.torrent.now.infohash (IsCallFaultBy (failed p)) (named p) in
+    let own = λ (p : List ℕ). HasNoFileByName (g.R.Lookup.tells c.args.rt.now) (g.R.Lookup.lists c.args.rt.now) c.args.dir.now c.args.torrent.now.files p in
+    let failed = HasFailed (g.R.LogFolder.refuses c.args.rt.now) (g.R.Lookup.lists c.args.rt.now) in
+    let lost = HasFolderThat (g.R.LogFolder.leads c.args.rt.now) (g.R.LogFolder.loses c.args.rt.now) in
+    let fault_of = λ (p : List ℕ). IsLogFaultOf c.args.known.now identity c.args.torrent.now.infohash (IsCallFaultOf (failed p) (lost p)) (named p) (own p) in
     let path = c.args.path.now in
     where_err c.open_in_file.result (fault_of c.in_ok-opened.opened.path.now c.in_ok-opened.opened.disk)
-    (IsLogFaultBy (IsCallFaultBy (failed path)) (named path) c.args.known.now c.args.torrent.now path)
+    (IsLogFaultBy (IsCallFaultOf (failed path) (lost path)) (named path) (own path) c.args.known.now c.args.torrent.now path)
     (λ fault is. (
       identity,
       subst (λ (d : LogDiskView). fault_of path d fault) c.in_ok-opened.ensures.device
