@@ -106,8 +106,8 @@ abbrev pub IsFilesFault : Paths → List ℕ → ℕ → Fault → Type 0
 IsFilesFault paths name piece_length fault =
     IsMeasuringFault paths piece_length fault ⊎ IsMakeRefusal paths name piece_length fault
 
--- the piece length is not lawful; the folder can't be listed; OUT is one of its files; or the files of some
--- paths have a fault
+-- the piece length is not lawful; the folder can't be listed, or OUT can't be written, by a device or for want
+-- of memory; OUT is one of its files; or the files of some paths have a fault
 abbrev pub IsMakeFault : List ℕ → ℕ → Fault → Type 0
 IsMakeFault name piece_length fault =
     ((fault ≡ make_fault PieceLength) × ¬ IsPieceLength piece_length)

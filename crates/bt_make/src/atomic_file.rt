@@ -38,6 +38,26 @@ impl ReadyTorrent {
     }
 }
 
+/// Sees that a file can be written, before the work whose result it is to have: looks where its path leads, and
+/// makes a part file beside that, which is removed at once, so that a run that is killed at this work leaves
+/// none. A call that fails is told of as [`publish`] would tell of it: a part file that can't be removed could
+/// not be renamed.
+pub fn probe_file<R: Files + AllocGlobal, P: Watch>(
+    rt: &R,
+    watch: &P,
+    path: &str,
+) -> Result<(), Fault>
+    ensures { IfErr result (λ fault. (fault ≡ device) ⊎ (fault ≡ out_of_memory)) }
+{
+    let target = target_at(rt, watch, path)?;
+    let path = target.path.as_str();
+    let (part, file) = part_beside(rt, watch, path)?;
+    // closed first: over a network a file that is removed while it is open stays, by another name
+    drop(file);
+    let outcome = of_device(fs::remove_file(rt, part.as_str()));
+    told(rt.alloc(), watch, FileCall::Rename, path, outcome)
+}
+
 /// Writes the text of a torrent to its file, and then the line that tells of it. No file is replaced but here,
 /// with the line at hand: out of memory in forming it leaves the old file. A call that fails is told of.
 pub fn publish<R: Files + AllocGlobal, P: Watch, O: Write>(
@@ -73,9 +93,38 @@ fn replace_file<R: Files + AllocGlobal, P: Watch>(
 ) -> Result<(), Fault>
     ensures { IfErr result (λ fault. (fault ≡ device) ⊎ (fault ≡ out_of_memory)) }
 {
-    let target = told(rt.alloc(), watch, FileCall::Look, path, target_of(rt, path));
-    let Target { path, permissions } = target?;
+    let Target { path, permissions } = target_at(rt, watch, path)?;
     replace_target(rt, watch, path.as_str(), permissions, bytes)
+}
+
+/// The file that is replaced, where a path leads to it. A fault is told of.
+fn target_at<R: Files + AllocGlobal, P: Watch>(
+    rt: &R,
+    watch: &P,
+    path: &str,
+) -> Result<Target, Fault>
+    ensures { IfErr result (λ fault. (fault ≡ device) ⊎ (fault ≡ out_of_memory)) }
+{
+    told(rt.alloc(), watch, FileCall::Look, path, target_of(rt, path))
+}
+
+/// Makes a part file beside the file at a path. A fault is told of.
+fn part_beside<R: Files + AllocGlobal, P: Watch>(
+    rt: &R,
+    watch: &P,
+    path: &str,
+) -> Result<(String, R::File), Fault>
+    ensures part { IfOk result
+        (λ part. (number : ℕ) × IsSibling path.now (part_name number) (string_bytes part.0)) }
+    ensures fault { IfErr result (λ fault. (fault ≡ device) ⊎ (fault ≡ out_of_memory)) }
+{
+    told(
+        rt.alloc(),
+        watch,
+        FileCall::Create,
+        path,
+        create_part(rt, path),
+    )
 }
 
 /// Writes the file at a path, which has these permissions where it is there.
@@ -90,14 +139,7 @@ fn replace_target<R: Files + AllocGlobal, P: Watch>(
 {
     // before anything is changed, since it takes memory
     let folder = sibling(rt.alloc(), path, ".")?;
-    let part = told(
-        rt.alloc(),
-        watch,
-        FileCall::Create,
-        path,
-        create_part(rt, path),
-    );
-    let (part, mut file) = part?;
+    let (part, mut file) = part_beside(rt, watch, path)?;
     let written = write_part(&mut file, permissions, bytes);
     match put_in_place(rt, watch, part.as_str(), path, written) {
         Ok(()) => {

@@ -11,6 +11,7 @@ ghost use Rattle.bt_make.specs.Folder.{file_paths};
 ghost use Rattle.bt_make.specs.Command.{HasContent, IsFilesFault, IsMakeFault, IsMakeTorrent, IsMeasuringFault, IsTorrentOf, first_count_refusal, total_piece_count};
 ghost use Rattle.bt_make.specs.CommandSteps.{AddsFile, AreOfSomeBytes, IsFileRefusal, elements_in, file_of_made};
 
+use crate::atomic_file::probe_file;
 use crate::device_call::of_device;
 use crate::folder::{EntryKind, FolderEntry, files_in, follow};
 use crate::limits::Counts;
@@ -30,10 +31,11 @@ use std::path::Path;
 use std::rt::Files;
 
 /// Makes the torrent of a folder. The first fault ends it, and is looked for in the piece length, then in the
-/// folder, then in the file that the torrent is written to, which is to be none of the folder's, and then in
-/// these. The reads are watched, and a fault of the device is told of. Errors: no torrent is made of such a
-/// folder, or of pieces of this length; the torrent's file is one of the folder's; a call on a file failed, or
-/// a file has other bytes than it had; out of memory.
+/// folder; then in the file that the torrent is written to, which is to be none of the folder's; then in these and
+/// how long they are; then in whether that file can be written, so that this is not told after hours of reads;
+/// and then in what these have. The reads are watched, and a fault of the device is told of. Errors: no torrent is
+/// made of such a folder, or of pieces of this length; the torrent's file is one of the folder's; a call on a file
+/// failed, or a file has other bytes than it had; out of memory.
 pub fn make<R: Files + AllocGlobal + Clone + Drop, P: Watch>(
     rt: &R,
     watch: &P,
@@ -51,11 +53,19 @@ pub fn make<R: Files + AllocGlobal + Clone + Drop, P: Watch>(
     if is_among(rt, watch, request.out, request.dir, &entries)? {
         return Err(Fault::OutAmongFiles);
     }
-    torrent_of(rt, watch, request.dir, request.name, size, entries)
+    torrent_of(
+        rt,
+        watch,
+        request.dir,
+        request.out,
+        request.name,
+        size,
+        entries,
+    )
 }
 
 /// Whether the file at a path, if there is one, is one of these of a folder: also by another name of it, or by
-/// a link. What else is wrong with it shows when it is written.
+/// a link. What else is wrong with it [`probe_file`] tells.
 fn is_among<R: Files + AllocGlobal, P: Watch>(
     rt: &R,
     watch: &P,
@@ -123,11 +133,13 @@ fn is_same_file(one: &Metadata, other: &Metadata) -> bool {
     one.dev() == other.dev() && one.ino() == other.ino()
 }
 
-/// Makes the torrent of the files among these entries of a folder.
+/// Makes the torrent of the files among these entries of a folder, which is to be written to the file `out`: before
+/// any of them is read, it is seen that this can be done.
 fn torrent_of<R: Files + AllocGlobal, P: Watch>(
     rt: &R,
     watch: &P,
     dir: &str,
+    out: &str,
     name: &str,
     size: PieceSize,
     entries: Vec<FolderEntry>,
@@ -139,6 +151,10 @@ fn torrent_of<R: Files + AllocGlobal, P: Watch>(
     torrents_are_made_from_files();
     watch.begin(FileCall::Read);
     let files = measured_files(rt, watch, dir, entries, size)?;
+    // Of no file no torrent is made.
+    if !files.is_empty() {
+        probe_file(rt, watch, out)?;
+    }
     let files = read_files(rt, watch, dir, files, size)?;
     let made = make_torrent(alloc, name.as_bytes(), size.bytes, &files)?;
     let infohash = made.infohash;
