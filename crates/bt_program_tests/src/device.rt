@@ -21,6 +21,7 @@ pub enum Failing {
     LastFolders,
     Renames,
     Modes,
+    Removals,
     Links,
     Listings,
     EarlyListings,
@@ -160,6 +161,10 @@ impl<'a> Files for Device<'a> {
         self.host.read_link(alloc, path)
     }
 
+    fn canonicalize<B: Allocator>(&self, alloc: B, path: &str) -> io::Result<PathBuf<B>> {
+        self.host.canonicalize(alloc, path)
+    }
+
     fn copy(&self, from: &str, to: &str) -> io::Result<u64> {
         self.host.copy(from, to)
     }
@@ -170,6 +175,7 @@ impl<'a> Files for Device<'a> {
     }
 
     fn remove_file(&self, path: &str) -> io::Result<()> {
+        self.failing.at(Failing::Removals)?;
         self.host.remove_file(path)
     }
 

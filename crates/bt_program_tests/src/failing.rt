@@ -20,6 +20,7 @@ const CALLS: &[(&str, Failing)] = &[
     ("last-folders", Failing::LastFolders),
     ("renames", Failing::Renames),
     ("modes", Failing::Modes),
+    ("removals", Failing::Removals),
     ("links", Failing::Links),
     ("listings", Failing::Listings),
     ("early-listings", Failing::EarlyListings),

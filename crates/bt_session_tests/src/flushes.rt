@@ -1,4 +1,4 @@
-//! Sessions and peers in turn between whose turns the engine is flushed.
+//! Sessions, a peer and peers in turn between whose turns the engine is flushed.
 
 use crate::engine::TestEngine;
 use crate::links::peers_with_flushes;
@@ -6,7 +6,7 @@ use crate::partner::{TestReader, TestWriter};
 use crate::row::{Row, row_of};
 use crate::sessions::{tell_end, tell_rest};
 use bt_machine::{ConnectError, FlushError};
-use bt_session::{SessionEnd, run_session_with_flushes};
+use bt_session::{PeerEnd, SessionEnd, end_text, meet_peer_with_flushes, run_session_with_flushes};
 use std::alloc::{AllocError, Global};
 use std::fmt::Write;
 
@@ -34,6 +34,24 @@ pub fn flushing_peers_row(
 ) -> Result<(), AllocError> {
     let (every, words) = every_of(words);
     peers_with_flushes(alloc, engine, every, words, out)
+}
+
+/// Has a session with a peer that was reached, until all files are complete, with these flushes and one behind it, and
+/// tells of it. Where no word follows the first, the peer is not reached.
+pub fn meeting_row(
+    alloc: Global,
+    engine: &mut TestEngine,
+    words: &str,
+    out: &mut String,
+) -> Result<(), AllocError> {
+    let (every, words) = every_of(words);
+    if words.is_empty() {
+        return no_meeting(alloc, engine, every, out);
+    }
+    match row_of(alloc, words)? {
+        Some(row) => meeting(alloc, engine, every, row, out),
+        None => out.push_str("no session\n"),
+    }
 }
 
 /// The number of the first word, 0 where it is none, and the other words.
@@ -78,6 +96,83 @@ fn end_of(
         return None;
     }
     Some(run_session_with_flushes(alloc, engine, reader, writer, true, turns, every))
+}
+
+/// A peer that is not reached.
+fn no_meeting(
+    alloc: Global,
+    engine: &mut TestEngine,
+    every: u64,
+    out: &mut String,
+) -> Result<(), AllocError> {
+    if engine.peers() != 0 {
+        return out.push_str("a peer is there\n");
+    }
+    let reached: Option<(TestReader, TestWriter)> = None;
+    let (end, flushed) = meet_peer_with_flushes(alloc, engine, reached, true, 1, every);
+    tell_met(out, end, flushed)?;
+    out.push_str("\n")
+}
+
+fn meeting(
+    alloc: Global,
+    engine: &mut TestEngine,
+    every: u64,
+    row: Row,
+    out: &mut String,
+) -> Result<(), AllocError> {
+    let Row {
+        turns,
+        fault,
+        readings,
+    } = row;
+    let mut reader = TestReader::new(readings);
+    let mut writer = TestWriter::new(alloc, fault);
+    match met(alloc, engine, &mut reader, &mut writer, turns, every) {
+        Some((end, flushed)) => {
+            tell_met(out, end, flushed)?;
+            tell_rest(alloc, engine, reader.left(), &writer.bytes, out)
+        }
+        None => out.push_str("a peer is there\n"),
+    }
+}
+
+/// What came of a peer that was reached, and what the last flush answered; none, where a peer is there before.
+fn met(
+    alloc: Global,
+    engine: &mut TestEngine,
+    reader: &mut TestReader,
+    writer: &mut TestWriter,
+    turns: u64,
+    every: u64,
+) -> Option<(PeerEnd, Result<(), FlushError>)> {
+    if engine.peers() != 0 {
+        return None;
+    }
+    // A tuple of two `&mut` that a name holds is not moved into the call.
+    Some(meet_peer_with_flushes(
+        alloc,
+        engine,
+        Some((&mut *reader, &mut *writer)),
+        true,
+        turns,
+        every,
+    ))
+}
+
+fn tell_met(
+    out: &mut String,
+    end: PeerEnd,
+    flushed: Result<(), FlushError>,
+) -> Result<(), AllocError> {
+    match end {
+        PeerEnd::Session(end) => tell_end(out, &Ok(end))?,
+        end => out.push_str(end_text(end))?,
+    }
+    match flushed {
+        Ok(()) => Ok(()),
+        Err(error) => write!(out, ", flush refused {error}"),
+    }
 }
 
 fn tell_flushed_end(

@@ -3,7 +3,7 @@
 use crate::answers::tell_why;
 use crate::device::with_fault;
 use crate::engine::{TestDisk, TestEngine, memory_disk, start, tell_reports, torrent_of};
-use crate::flushes::{flushing_peers_row, flushing_row};
+use crate::flushes::{flushing_peers_row, flushing_row, meeting_row};
 use crate::links::peers_row;
 use crate::partner::{TestReader, TestWriter};
 use crate::row::{Row, row_of};
@@ -129,6 +129,7 @@ fn engine_row(
         "serve" => session_row(alloc, engine, false, rest, out),
         "peers" => peers_row(alloc, engine, rest, out),
         "flushing" => flushing_row(alloc, engine, rest, out),
+        "meeting" => meeting_row(alloc, engine, rest, out),
         "flushing_peers" => flushing_peers_row(alloc, engine, rest, out),
         _ => writeln!(out, "no line {name}"),
     }
