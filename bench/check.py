@@ -3,7 +3,7 @@
 
     python3 bench/check.py COMMIT [FOLDER]
 
-Both programs are proved: the other commit's is proved and built in FOLDER (a new temporary folder by default), which takes half an hour;
+Both programs are proved: the other commit's is proved and built in FOLDER (a new temporary folder by default), which takes most of an hour;
 this one's where `./prove` has not built it yet. The file is checked with the digests of its pieces, and by its info dictionary alone, as
 one piece. The commands take turns, fourteen times. Printed are the least processor time of each, which other work on the machine disturbs
 less than the time on the clock, the median, and the greatest peak memory. How fast a run is hangs on where the system puts its stack, by
