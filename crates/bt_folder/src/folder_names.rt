@@ -3,6 +3,7 @@ ghost use Rattle.std.specs.Prelude.{◌≡◌, ◌≢◌, ◌↔◌, ◌||◌, �
 ghost use Rattle.bt_folder.specs.FolderNames.{has_name};
 ghost use Rattle.bt_folder.specs.declared.folder_names.ListingError.TheVariants.{Device, OutOfMemory};
 
+use crate::folder_sync::or_dot;
 use std::alloc::{AllocError, Global};
 use std::collections::BTreeSet;
 use std::fs::{self, DirEntry, ReadDir};
@@ -35,14 +36,15 @@ pub struct FolderNames {
 }
 
 impl FolderNames {
-    /// The names in a folder, which is listed once. Names that are no UTF-8 are left out.
+    /// The names in a folder, which is listed once. The empty path is the folder that the program runs in. Names that
+    /// are no UTF-8 are left out.
     ///
     /// Errors: the folder can't be listed, or memory is refused.
     pub fn read<R: Files + AllocGlobal + Clone + Drop>(
         rt: &R,
         folder: &str,
     ) -> Result<Self, ListingError> {
-        match fs::read_dir(rt, folder) {
+        match fs::read_dir(rt, or_dot(folder)) {
             Ok(entries) => names_among(rt.alloc(), entries),
             Err(error) => Err(listing_error(error.kind())),
         }

@@ -1,6 +1,6 @@
 //! Folders that are made, and kept with what was made in them.
 ghost use Rattle.std.specs.Prelude.{◌≡◌, ◌<◌, ◌↔◌, ◌⊎◌, IsTrue, length, option_copied};
-ghost use Rattle.bt_folder.specs.FolderSync.{folder_above};
+ghost use Rattle.bt_folder.specs.FolderSync.{folder_above, or_dot};
 
 use bt_disk::DeviceFault;
 use std::fs::{Files, OpenFile, OpenOptions};
@@ -13,8 +13,7 @@ use std::path::Path;
 /// A folder that may not be read, and one of a file system that syncs no folders, is no fault: nothing more can be
 /// done for it. Errors: any other call that fails.
 pub fn sync_folder<R: Files>(rt: &R, folder: &str) -> Result<(), DeviceFault> {
-    let path = if folder.is_empty() { "." } else { folder };
-    let synced = match OpenOptions::new().read(true).open(rt, path) {
+    let synced = match OpenOptions::new().read(true).open(rt, or_dot(folder)) {
         Ok(file) => file.sync_all(),
         Err(error) => Err(error),
     };
@@ -98,10 +97,14 @@ pub fn folder_above(path: &str) -> Option<&str>
     let path = Path::new(path);
     let _name = path.file_name()?;
     let folder = path.parent()?;
-    if folder.as_str().is_empty() {
-        return Some(".");
-    }
-    Some(folder.as_str())
+    Some(or_dot(folder.as_str()))
+}
+
+/// A path, where the dot stands for the empty one, which the system's calls don't take.
+pub fn or_dot(path: &str) -> &str
+    ensures { result.now ≡ or_dot path.now }
+{
+    if path.is_empty() { "." } else { path }
 }
 
 fn is_folder<R: Files>(rt: &R, path: &str) -> bool {

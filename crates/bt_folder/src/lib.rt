@@ -13,7 +13,7 @@ mod paths_so_far;
 
 pub use case_names::CaseNames;
 pub use folder_names::{FolderNames, ListingError};
-pub use folder_sync::{folder_above, make_folders, sync_folder};
+pub use folder_sync::{folder_above, make_folders, or_dot, sync_folder};
 pub use known_files::KnownFiles;
 pub use lookup::Lookup;
 pub use paths_so_far::CasePaths;

@@ -19,7 +19,8 @@ pub(crate) fn attach_log<R: LogFolder + Lookup, D: Disk + Drop>(
     others: &OtherFiles<'_>,
     opened: OpenedLog<'_, D>,
 ) -> Result<ResumeLog<D>, Fault>
-    requires free { IsFree (R.tells rt.now) (R.lists rt.now) others.now opened.opening.identity opened.path.now }
+    requires free { IsFree
+        (R.tells rt.now) (R.lists rt.now) others.now opened.opening.identity opened.path.now }
     requires kept { IsKeptIfEmpty (R.leads rt.now) (R.keeps rt.now) opened.opening opened.path.now }
     ensures log { IfOk result (IsAttached D.conduct others.now.torrent.now.infohash opened.entry.disk) }
     ensures fault { let file = opened.entry

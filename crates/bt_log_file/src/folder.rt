@@ -10,7 +10,7 @@ ghost use Rattle.bt_log_file.specs.OtherFiles.{IsFree};
 use crate::log_folder::{LogFolder, OpenedLog};
 use crate::other_files::OtherFiles;
 use bt_check::{Fault, told};
-use bt_folder::Lookup;
+use bt_folder::{Lookup, or_dot};
 use bt_progress::{FileCall, Watch};
 use std::alloc::Global;
 use std::io::{self, ErrorKind};
@@ -21,8 +21,8 @@ pub(crate) fn folder_of(path: &str) -> &str
     ensures { result.now ≡ folder_of path.now }
 {
     match Path::new(path).parent() {
-        Some(folder) if !folder.as_str().is_empty() => folder.as_str(),
-        _ => ".",
+        Some(folder) => or_dot(folder.as_str()),
+        None => ".",
     }
 }
 

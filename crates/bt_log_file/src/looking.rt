@@ -1,8 +1,9 @@
 //! What a look tells of the file of a log, before any file of its torrent is opened or made.
 ghost use Rattle.std.specs.Prelude.{◌≡◌, ◌↔◌, IsTrue, IfErr, IfOk, MatchBool, OnOk, map};
 ghost use Rattle.bt_meta.specs.Files.{file_of};
-ghost use Rattle.bt_log_file.specs.Looking.{AreOne, HasFileAt, HasNoFileAt, IsAt, IsFileAt, IsDataFileFault, IsNoneAt};
+ghost use Rattle.bt_log_file.specs.Looking.{AreOne, EndAlike, HasFileAt, HasNoFileAt, IsAt, IsFileAt, IsDataFileFault, IsNoneAt, IsOnePlace};
 
+use crate::folder::folder_of;
 use bt_check::{Fault, data_path};
 use bt_disk::FileIdentity;
 use bt_folder::Lookup;
@@ -57,7 +58,7 @@ fn is_among<R: Files + AllocGlobal + Clone + Drop + Lookup>(
 }
 
 /// Whether a file of a torrent lies at a path, by what the system tells of both; or, where it tells nothing of what
-/// lies there, by how the paths are spelled.
+/// lies there, by whether both lead to one place.
 fn is_at<R: Files + AllocGlobal + Clone + Drop + Lookup>(
     rt: &R,
     dir: &str,
@@ -68,10 +69,42 @@ fn is_at<R: Files + AllocGlobal + Clone + Drop + Lookup>(
     ensures { IfOk result (IsAt (R.tells rt.now) dir.now path.now found file.now) }
 {
     let data = data_path(rt.alloc(), dir, file)?;
+    let data = data.as_path().as_str();
     Ok(match found {
-        Some(_) => are_one(found, rt.identity_at(data.as_path().as_str())),
-        None => data.as_path() == Path::new(path),
+        Some(_) => are_one(found, rt.identity_at(data)),
+        None => is_one_place(rt, data, path),
     })
+}
+
+/// Whether two paths, at which nothing lies yet, lead to one place: they end in one name, and the folders that this is in
+/// are one, by what the system tells of them; or, where it tells of neither, these lead to one place.
+fn is_one_place<R: Lookup>(rt: &R, path: &str, other: &str) -> bool
+    ensures { IsOnePlace (R.tells rt.now) path.now other.now result }
+{
+    let mut path = path;
+    let mut other = other;
+    'places: while end_alike(path, other) {
+        let folder = folder_of(path);
+        let other_folder = folder_of(other);
+        let told = rt.identity_at(folder);
+        let other_told = rt.identity_at(other_folder);
+        if told.is_some() || other_told.is_some() || folder.len() >= path.len() {
+            return are_one(told, other_told);
+        }
+        path = folder;
+        other = other_folder;
+    }
+    false
+}
+
+/// Whether two paths end in one name.
+fn end_alike(path: &str, other: &str) -> bool
+    ensures { IsTrue result ↔ EndAlike path.now other.now }
+{
+    match (Path::new(path).file_name(), Path::new(other).file_name()) {
+        (Some(name), Some(other)) => name == other,
+        _ => false,
+    }
 }
 
 /// Whether the system told of one file, or of one folder, twice.
