@@ -224,10 +224,14 @@ enum Found {
     Link(String),
 }
 
-/// What lies at a path itself: nothing, a regular file or a link. Anything else is a device fault.
+/// What lies at a path itself: nothing, a regular file or a link. Anything else is a device fault, and so is the empty
+/// path, where no file can be though nothing lies there.
 fn found_at<R: Files + AllocGlobal>(rt: &R, path: &str) -> Result<Found, Fault>
     ensures { IfErr result (λ fault. (fault ≡ device) ⊎ (fault ≡ out_of_memory)) }
 {
+    if path.is_empty() {
+        return Err(Fault::Device);
+    }
     match fs::symlink_metadata(rt, path) {
         Ok(metadata) => found_by(rt, path, &metadata),
         Err(error) => found_by_none(error.kind()),
