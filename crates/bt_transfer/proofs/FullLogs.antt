@@ -15,7 +15,7 @@ use Rattle.bt_machine.specs.declared.error.FlushError.{FlushError}
 use Rattle.bt_machine.specs.declared.error.FlushError.TheVariants.{Device, LogFull}
 use Rattle.bt_machine.specs.declared.event.Event.TheVariants.{Flush}
 use Rattle.bt_machine.specs.declared.event.Answer.TheVariants.{Flushed}
-use Rattle.bt_engine.specs.Leads.{LeadsTo}
+use Rattle.bt_engine.specs.Leads.{LeadsTo, both}
 use Rattle.bt_transfer.specs.FullLog.{FindsLogFull, HasFilledLog}
 use Rattle.bt_transfer.proofs.EndFaults.{call_not_full}
 
@@ -37,6 +37,10 @@ module _ {D : Type 0} (conduct : Conduct D) (dig : List ℕ → List ℕ) where
       → StepsTo conduct dig mid Flush (Flushed (Err error)) new → fault ≡ flush_fault error → fault ≡ log_full → FindsLogFull conduct dig old
   refused_full old mid new error fault led step told full =
       record { mid = mid; led = led; last = new; full = answered_full mid new (Err error) fault step told full }
+
+  -- behind events that came before
+  pub found_later : (old mid : EngineView D) → LeadsTo conduct dig old mid → FindsLogFull conduct dig mid → FindsLogFull conduct dig old
+  found_later old mid led found = record { mid = found.mid; led = both old mid found.mid led found.led; last = found.last; full = found.full }
 
 -- of the store that was opened
 pub filled_log : (is_info : Bool) (usage : FileUse) (dir : List ℕ) (log : Option (Bor (List ℕ))) (store : EngineView DeviceView)

@@ -1,8 +1,8 @@
 -- What a fetch and a seed come to, from the start of their torrent on.
-use Rattle.std.proofs.Common.{[], ◌≡◌, ℕ, suc, ◌+◌, inl, inr, Bool, true, false, List, ◌∷◌, length, Option, Some, None, refl, sym, subst, ◌∙◌, arith}
+use Rattle.std.proofs.Common.{[], ◌≡◌, ℕ, suc, ◌+◌, inl, inr, Bool, true, false, List, ◌∷◌, length, Option, Some, None, Ok, refl, sym, subst, ◌∙◌, arith}
 use Rattle.std.specs.List.{count_by, list_all}
 use Rattle.std.specs.Borrow.{Bor}
-use Rattle.std.specs.Prelude.{◌&&◌, ◌==◌, not, if◌then◌else◌, slice_get, Contains}
+use Rattle.std.specs.Prelude.{◌&&◌, ◌==◌, not, if◌then◌else◌, is_some, slice_get, Contains}
 use Rattle.std.proofs.lemmas.Bool.{eqb-true}
 use Rattle.std.proofs.lemmas.List.Sums.{count_by-le-length, sum_by-cons}
 use Rattle.bt_disk.specs.Conduct.{Conduct}
@@ -18,6 +18,7 @@ use Rattle.bt_machine.specs.Report.{all_complete}
 use Rattle.bt_machine.proofs.Lists.{and_true, contains_cases, contains_none, range_contains, some_below}
 use Rattle.bt_engine.specs.Leads.{LeadsTo, both}
 use Rattle.bt_engine.specs.WholeRuns.{HasWholeRun, WhatLeadsOnIsWhole}
+use Rattle.bt_session.specs.Peer.{IsFlushedWhere}
 use Rattle.bt_transfer.specs.Fetch.{EndsFetch, HasFetchedOverTcp}
 use Rattle.bt_files.specs.Report.{IsCalledComplete}
 use Rattle.bt_transfer.specs.Seed.{EndsSeed, HasListened}
@@ -81,11 +82,14 @@ module _ {D : Type 0} (conduct : Conduct D) (dig : List ℕ → List ℕ)
   whole_run = promises torrent given begun.placed attached begun.first last begun.begins (subst (λ (t : Metainfo). IsLawful t.piece_length t.files) begun.same lawful)
       begun.devices (both begun.first old last begun.run leads)
 
-  pub ends_fetch : (peers : List Peer) (log : Option (Bor (List ℕ))) → HasFetchedOverTcp conduct dig peers log old before after status last
+  pub ends_fetch : (peers : List Peer) (log : Option (Bor (List ℕ))) (ready : EngineView D)
+      → IsFlushedWhere conduct dig (is_some log) old (Ok tt) ready → HasFetchedOverTcp conduct dig peers log ready before after status last
       → EndsFetch begun.begins old peers log before after status
-  ends_fetch peers log fetched =
+  ends_fetch peers log ready flushed fetched =
       let found = whole_run in
       let whole = found.promised in record {
+        ready = ready;
+        flushed = flushed;
         last = last;
         fetched = fetched;
         whole = found;

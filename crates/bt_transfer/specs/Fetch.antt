@@ -1,5 +1,5 @@
 -- What a fetch comes to.
-use Rattle.std.specs.Prelude.{◌≡◌, ℕ, Bool, List, Ok, Err, Option, Result, Some, None, map, slice_get}
+use Rattle.std.specs.Prelude.{◌≡◌, ℕ, Bool, List, Ok, Err, Option, Result, Some, None, is_some, map, slice_get}
 use Rattle.std.specs.Borrow.{Bor}
 use Rattle.std.specs.Io.KnownBytes.{Appends}
 use Rattle.bt_disk.specs.Conduct.{Conduct}
@@ -14,6 +14,7 @@ use Rattle.bt_machine.specs.Opening.{BeginsOn}
 use Rattle.bt_machine.specs.State.{EngineView}
 use Rattle.bt_machine.specs.View.{StepsTo}
 use Rattle.bt_connection.specs.ShortBlocks.{short_blocks_of}
+use Rattle.bt_session.specs.Peer.{IsFlushedWhere}
 use Rattle.bt_session.specs.Peers.{InTurn, InTurnWithFlushes}
 use Rattle.bt_session.specs.declared.peer_end.PeerEnd.{PeerEnd}
 use Rattle.bt_wire.specs.declared.message.Ask.{Ask}
@@ -98,19 +99,21 @@ pub record HasFetchedOverTcp {D : Type 0} (conduct : Conduct D)
 
 -- ---- the whole
 
--- An engine that began so, with a torrent, and with a log or without, and has come to `old`, fetched the rest
--- from the peers; `log` is the path of its log, if there is one. The whole, from its start on, is a run as
--- promised. Where the report calls a file complete, each of its blocks is marked in this run, or since its
--- start, by bytes whose digest lies at its leaf, on a checked path to the file's root (`reported`); and what
--- its device has is the published file, where that is honest (`published`). With status 0 each file of the
+-- An engine that began so, with a torrent, and with a log or without, and has come to `old`, was flushed first
+-- where there is a log, whose path is `log`, and then fetched the rest from the peers. The whole, from its start
+-- on, is a run as promised. Where the report calls a file complete, each of its blocks is marked in this run, or
+-- since its start, by bytes whose digest lies at its leaf, on a checked path to the file's root (`reported`); and
+-- what its device has is the published file, where that is honest (`published`). With status 0 each file of the
 -- torrent is so (`complete`).
 pub record EndsFetch {D : Type 0} {conduct : Conduct D}
     {dig : List ℕ → List ℕ} {torrent : Metainfo} {placed : List (Option D)} {attached : Option (LogView D)}
     {first : EngineView D} (begins : BeginsOn conduct dig torrent placed attached first)
     (old : EngineView D) (peers : List Peer) (log : Option (Bor (List ℕ))) (before after : Option (List ℕ))
     (status : ℕ) : Type 0 where
+  pub ready : EngineView D
+  pub flushed : IsFlushedWhere conduct dig (is_some log) old (Ok tt) ready
   pub last : EngineView D
-  pub fetched : HasFetchedOverTcp conduct dig peers log old before after status last
+  pub fetched : HasFetchedOverTcp conduct dig peers log ready before after status last
   pub whole : HasWholeRun begins last
   pub reported : ReportsMarked begins whole.runs
   pub published : ReportsPublished conduct dig torrent last

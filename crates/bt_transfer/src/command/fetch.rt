@@ -1,12 +1,14 @@
 //! The command `fetch`: peers are tried in turn, and what came of it is told.
-ghost use Rattle.std.specs.Prelude.{[], ◌≡◌, ◌≢◌, ◌⊎◌, All, Bool, List, Option, Ok, length, IfErr, IfOk, OnOk};
+ghost use Rattle.std.specs.Prelude.{[], ◌≡◌, ◌≢◌, ◌⊎◌, All, Bool, Err, List, Option, Ok, is_some, length, IfErr, IfOk, OnOk};
 ghost use Rattle.std.specs.Io.KnownBytes.{Keeps};
 ghost use Rattle.bt_check.specs.Fault.{log_full, status_of};
 ghost use Rattle.bt_files.specs.Ending.{IsEndFault};
 ghost use Rattle.bt_files.specs.Loading.{IsLogFull, IsStoreFault};
 ghost use Rattle.bt_files.specs.declared.file_use.FileUse.TheVariants.{Fetch};
+ghost use Rattle.bt_machine.specs.declared.error.FlushError.{FlushError};
 ghost use Rattle.bt_machine.specs.Report.{all_complete};
 ghost use Rattle.bt_meta.specs.Torrent.{Metainfo};
+ghost use Rattle.bt_session.specs.Peer.{IsFlushedWhere};
 ghost use Rattle.bt_session.specs.Peers.{InTurnWithFlushes, IsTriedWithFlushes};
 ghost use Rattle.bt_resume.specs.ResumeLog.{LogView};
 ghost use Rattle.bt_engine.specs.Leads.{LeadsTo};
@@ -14,7 +16,7 @@ ghost use Rattle.bt_transfer.specs.Fetch.{EndsFetch, HasFetched, HasFetchedOverT
 ghost use Rattle.bt_transfer.specs.FetchSteps.{BreaksOff, FailsToSync};
 ghost use Rattle.bt_transfer.specs.FullLog.{FindsLogFull, HasFilledLog};
 ghost use Rattle.bt_transfer.specs.Hearing.{IsHeard};
-ghost use Rattle.bt_files.specs.Store.{HasBegun, IsFlushFault};
+ghost use Rattle.bt_files.specs.Store.{HasBegun, IsFlushFault, IsSameButPending, flush_fault};
 
 use crate::device_context::device_context;
 use crate::hearing::{Bell, hear};
@@ -47,15 +49,15 @@ const FLUSH_TURNS: u64 = 2048;
 /// some of them without their hashes; has all put on the devices; and reports. The answer is the status of the
 /// program: 0 where all files are complete, else 1.
 ///
-/// Where the path of a log is given, it has all put on the devices, and what is known of it into the log, also while it
-/// fetches, after each 2,048 turns with a peer, and after each peer.
+/// Where the path of a log is given, it has all put on the devices, and what is known of it into the log, also before
+/// the first peer is dialled, and then while it fetches, after each 2,048 turns with a peer, and after each peer.
 ///
 /// It is told how much is read of what the files have, and then how much is written of what they lack.
 ///
 /// A session ends where a device refuses a write. Where that was so of one of them, and files are not complete, the
 /// device's fault comes after the report.
 ///
-/// Errors: the torrent or the log is refused, or two of the torrent's paths are one file, and then nothing is written;
+/// Errors: the torrent or the log is refused, or two of the torrent's paths are one file, and then nothing is printed;
 /// a device or the writer failed; out of memory; the log is full.
 pub fn fetch<R: Files + AllocGlobal + Clone + Drop, N: Net + Clock, P: Watch, W: Write>(
     rt: &R,
@@ -85,8 +87,8 @@ pub fn fetch<R: Files + AllocGlobal + Clone + Drop, N: Net + Clock, P: Watch, W:
 }
 
 /// Takes peers in turn, over TCP, for an engine that began with a torrent, which it takes, and tells of it as
-/// `fetch_over` does; where the path of its log is given, with flushes among them. What stands before the sockets goes
-/// by that torrent.
+/// `fetch_over` does; where the path of its log is given, with a flush before them and flushes among them. What stands
+/// before the sockets goes by that torrent.
 fn fetch_store<D: Disk + Drop, H: NodeHash, N: Net + Clock, P: Watch, W: Write>(
     alloc: Global,
     net: &N,
@@ -112,6 +114,7 @@ fn fetch_store<D: Disk + Drop, H: NodeHash, N: Net + Clock, P: Watch, W: Write>(
     whole_runs_keep_promises(&engine);
     let mut engine = engine;
     begin_fetching(watch, &engine);
+    flush_first(&mut engine, log)?;
     let torrent = engine.torrent();
     let short_blocks = ShortBlocks::new(alloc, torrent)?;
     let passage = Passage {
@@ -122,6 +125,29 @@ fn fetch_store<D: Disk + Drop, H: NodeHash, N: Net + Clock, P: Watch, W: Write>(
     let mut links = links_to(alloc, net, peers, passage)?;
     let bell = &shared.alarm;
     fetch_from(alloc, &mut engine, peers, &mut links, log, bell, writer)
+}
+
+/// Where the path of a log is given, has all put on the devices while no peer waits yet. A file that was opened to be
+/// written counts as not synced until its first flush. So this one opens and syncs each of the torrent, which takes
+/// minutes where there are thousands; later ones sync those that were written since. Errors: it was refused.
+fn flush_first<D: Disk + Drop, H: NodeHash>(
+    engine: &mut Engine<D, H>,
+    log: Option<&str>,
+) -> Result<(), Fault>
+    ensures flushed { OnOk result
+        (IsFlushedWhere D.conduct H.digest (is_some log.entry) engine.old (Ok tt) engine.new) }
+    ensures failed { IfErr result (λ fault. (error : FlushError) × (fault ≡ flush_fault error)
+        × IsFlushedWhere D.conduct H.digest (is_some log.entry) engine.old (Err error) engine.new) }
+    ensures same { IsSameButPending engine.old.state engine.new.state }
+    ensures run { LeadsTo D.conduct H.digest engine.old engine.new }
+    ensures fault { IfErr result (IsFlushFault engine.old.log) }
+    ensures full { IfErr result
+        (λ fault. fault ≡ log_full → FindsLogFull D.conduct H.digest engine.old) }
+{
+    match log {
+        Some(_) => finish(engine),
+        None => Ok(()),
+    }
 }
 
 /// After how many turns with a peer a fetch flushes: never, for which 0 stands, without a log.

@@ -53,7 +53,7 @@ use std::time::Clock;
 /// device's fault comes at the end.
 ///
 /// Errors: the torrent or the log is refused, two of the torrent's paths are one file that may be written, or the port
-/// can't be had, and then nothing is written; a device, the writer or the socket failed; out of memory; the log is
+/// can't be had, and then nothing is printed; a device, the writer or the socket failed; out of memory; the log is
 /// full.
 pub fn seed<R: Files + AllocGlobal + Clone + Drop, N: Net + Clock, P: Watch, W: Write>(
     rt: &R,
