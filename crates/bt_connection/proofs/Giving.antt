@@ -9,7 +9,7 @@ use Rattle.bt_wire.specs.Law.{StreamsHaveOneReading}
 use Rattle.bt_wire.specs.declared.message.Ask.{Ask}
 use Rattle.bt_wire.specs.declared.message.Message.TheVariants.{Request, Piece}
 use Rattle.bt_connection.specs.ShortBlocks.{ask_of, padded}
-use Rattle.bt_connection.specs.Padding.{Memory, with_asked, filled, request, piece, other}
+use Rattle.bt_connection.specs.Padding.{Memory, with_asked, without, filled, request, exact, piece, other}
 use Rattle.bt_connection.specs.PaddingSteps.{IsFirstAt}
 use Rattle.bt_connection.specs.Padded.{frame_room_length}
 use Rattle.bt_connection.specs.Translation.{Gives}
@@ -36,22 +36,34 @@ filled_up p b block frame is few =
     ∙ ap (λ n. to_be_bytes w32 n ++ drop 4 (message_spelling (Piece p b block) ++ replicate (full_block_length - length block) 0)) field
 
 module _ (law : StreamsHaveOneReading) (blocks : List Ask) (memory : Memory) (frame : List ℕ) where
-  -- a request that is for no short block with its padding
+  -- a request that is for no short block, with its padding or without
   pub request_passes : (ask : Ask) → IsSent (Request ask) frame → ((short : Ask) → Contains blocks short → ask ≡ padded short → ⊥)
-      → Gives blocks Peer memory frame frame memory
-  request_passes ask sent unfit = record {
-    message = λ m is. (
-      m,
-      other (λ short asks. unfit short asks.0 (ap ask_in (one_message law (Request ask) m frame sent is ∙ asks.1))) refl refl,
-      is.spelled,
-    );
+      → ¬ Contains blocks ask → Gives blocks Peer memory frame frame memory
+  request_passes ask sent unfit none-such = record {
+    message = λ m is.
+        let named : (a : Ask) → m ≡ Request a → ask ≡ a = λ a of. ap ask_in (one_message law (Request ask) m frame sent is ∙ of) in (
+          m,
+          other (
+            λ short asks. unfit short asks.0 (named (padded short) asks.1),
+            λ short asks. none-such (subst (λ (a : Ask). Contains blocks a) (sym (named short asks.1)) asks.0),
+          ) refl refl,
+          is.spelled,
+        );
     bytes = λ none. refl;
     memory = λ none. refl;
   }
 
-  -- one that is
+  -- one that is for what the file has there
+  pub request_exact : (ask : Ask) → IsSent (Request ask) frame → Contains blocks ask → Gives blocks Peer memory frame frame (without memory ask)
+  request_exact ask sent there = record {
+    message = λ m is. (m, exact ask (there, one_message law m (Request ask) frame is sent) refl refl, is.spelled);
+    bytes = λ none. refl;
+    memory = λ none. absurd (none (Request ask) sent);
+  }
+
+  -- one with padding
   pub request_shortened : (ask short : Ask) → IsSent (Request ask) frame → Contains blocks short → ask ≡ padded short
-      → Gives blocks Peer memory frame (message_spelling (Request short)) (with_asked memory short)
+      → Gives blocks Peer memory frame (message_spelling (Request short)) (with_asked (without memory short) short)
   request_shortened ask short sent there same = record {
     message = λ m is. (
       Request short,

@@ -9,6 +9,7 @@ pub mod Parts
 pub mod Streams
 pub mod Giving
 pub mod Passages
+pub mod Plain
 pub mod Readers
 -- reading ahead
 pub mod Ranges

@@ -21,7 +21,10 @@ long_gives : (blocks : List Ask) (message : List ℕ) → IsBlockLong message �
 long_gives blocks message is = record {
   message = λ m sent. (
     m,
-    other (λ ask asks. omega (arith, is.size, ap (λ (l : List ℕ). length l) (sent.spelled ∙ ap message_spelling asks.1))) refl refl,
+    other (
+      λ ask asks. omega (arith, is.size, ap (λ (l : List ℕ). length l) (sent.spelled ∙ ap message_spelling asks.1)),
+      λ ask asks. omega (arith, is.size, ap (λ (l : List ℕ). length l) (sent.spelled ∙ ap message_spelling asks.1)),
+    ) refl refl,
     sent.spelled,
   );
   bytes = λ none. refl;

@@ -87,7 +87,10 @@ module _ (torrent : Metainfo) (side : Side) where
 
   stands : (s : Side) (rest more : List ℕ) (missing : ℕ) (m : Message) → IsOther rest missing → rest ++ more ≡ message_spelling m → Stands blocks s [] m m []
   stands Peer rest more missing m t same =
-      unchanged (λ ask asks. not_asked rest more missing (padded ask) t (same ∙ ap message_spelling asks.1)) refl refl
+      unchanged (
+        λ ask asks. not_asked rest more missing (padded ask) t (same ∙ ap message_spelling asks.1),
+        λ ask asks. not_asked rest more missing ask t (same ∙ ap message_spelling asks.1),
+      ) refl refl
   stands Engine rest more missing m t same =
       unchanged (λ ask bytes a. not_answered rest more missing ask bytes t a.short a.whole (same ∙ ap message_spelling a.message)) refl refl
 

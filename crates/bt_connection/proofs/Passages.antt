@@ -1,15 +1,17 @@
 -- Passages one after the other: what is remembered, and what it is used for.
-use Rattle.std.proofs.Common.{◌≡◌, ◌⊎◌, ◌≤◌, ◌+◌, ◌-◌, ℕ, Bool, true, false, cond, ◌&&◌, List, [], ◌∷◌, ◌++◌, take, drop, length, get_or, sym, ◌∙◌, ap, arith, subst, Contains, count_by, nat_lt, inl, inr}
+use Rattle.std.proofs.Common.{◌≡◌, ◌⊎◌, ◌≤◌, ◌+◌, ◌-◌, ℕ, Bool, true, false, cond, ◌&&◌, List, [], ◌∷◌, ◌++◌, take, drop, length, get_or, not, refl, sym, ◌∙◌, ap, arith, subst, Contains, count_by, nat_lt, inl, inr}
+use Rattle.std.specs.Prelude.{filter}
 use Rattle.std.proofs.lemmas.List.{take-append-drop}
 use Rattle.std.proofs.lemmas.Bool.Decides.{nat_tests}
-use Rattle.std.proofs.lemmas.List.Elements.{Contains-append_right, Contains-append_left, Contains-append_cases}
+use Rattle.std.proofs.lemmas.List.Elements.{Contains-append_right, Contains-append_left, Contains-append_cases, All-contains, All-contains_itself, All-filter, All-weaker}
+use Rattle.std.proofs.lemmas.List.Filters.{sum_by-filter_both}
 use Rattle.std.proofs.lemmas.List.Sums.{sum_by-append, sum_by-cons}
 use Rattle.bt_wire.specs.declared.message.Ask.{Ask}
 use Rattle.bt_wire.specs.declared.message.Message.{Message}
 use Rattle.bt_wire.specs.declared.message.Message.TheVariants.{Piece}
 use Rattle.bt_meta.specs.Torrent.{Metainfo}
 use Rattle.bt_connection.specs.ShortBlocks.{short_blocks_of, IsShortBlock, ask_of}
-use Rattle.bt_connection.specs.Padding.{Memory, new_memory, with_asked, filled, IsTaken, ComesIn, GoesOut, request, piece, other}
+use Rattle.bt_connection.specs.Padding.{Memory, new_memory, is_ask, with_asked, without, filled, IsTaken, ComesIn, GoesOut, request, exact, piece, other}
 use Rattle.bt_connection.proofs.MessageParts.{place_in, bytes_in, answer_range}
 use Rattle.bt_connection.proofs.LastBlocks.{short_blocks_are}
 use Rattle.bt_connection.specs.Law.{Passage, comes, goes, Passes, Pass, RemembersShortBlocks, IsFilledAtEnd, ZerosLieBehindTheEnd, is_at, is_padded_request, is_piece_at, data_length, asks_at, pads_at, PadsWhatWasAsked}
@@ -44,12 +46,18 @@ module _ (blocks : List Ask) where
       ] in
       all x (subst (λ (l : List Ask). Contains l x) (sym t.was) was)
 
+  others : (xs : List Ask) (ask : Ask) → AreThere xs → AreThere (without xs ask)
+  others xs ask all x there =
+      let before = All-weaker (Contains xs) (Contains blocks) all xs (All-contains_itself xs) in
+      All-contains (Contains blocks) (without xs ask) x (All-filter (λ y. not (is_ask ask y)) (Contains blocks) xs before) there
+
   kept : (old new : Memory) → new ≡ old → AreThere old → AreThere new
   kept old new same all = subst (λ (m : Memory). AreThere m) (sym same) all
 
   step_in : (old new : Memory) (m given : Message) → AreThere old → ComesIn blocks old m given new → AreThere new
   step_in old new m given all (request ask asks given-is new-is) =
-      subst (λ (xs : List Ask). AreThere xs) (sym new-is) (one_more old _ ask all asks.0)
+      subst (λ (xs : List Ask). AreThere xs) (sym new-is) (one_more (without old ask) _ ask (others old ask all) asks.0)
+  step_in old new m given all (exact ask asks given-is new-is) = kept (without old ask) new new-is (others old ask all)
   step_in old new m given all (other _ given-is new-is) = kept old new new-is all
 
   step_out : (old new : Memory) (m given : Message) → AreThere old → GoesOut blocks old m given new → AreThere new
@@ -106,6 +114,12 @@ module _ (p b : ℕ) where
       let all : held (take n xs) + held (drop n xs) ≡ held xs = sym (held_append (take n xs) (drop n xs)) ∙ ap held (take-append-drop n xs) in
       omega (arith, all, held_append (drop n xs) (ask ∷ []), held_cons ask [])
 
+  held_others : (xs : List Ask) (ask : Ask) → held (without xs ask) ≤ held xs
+  held_others xs ask =
+      let parts : held (filter (is_ask ask) xs) + held (without xs ask) ≡ held xs
+      = sum_by-filter_both (is_ask ask) (λ y. not (is_ask ask y)) (λ y. refl) (λ a. cond (is_at p b a) 1 0) xs in
+      omega (arith, parts)
+
   held_less : (xs ys : List Ask) (ask : Ask) (t : IsTaken xs ask ys) → cond (is_at p b ask) 1 0 + held ys ≡ held xs
   held_less xs ys ask t =
       let one : held ys ≡ held t.before + held t.after = ap held t.now ∙ held_append t.before t.after in
@@ -123,9 +137,13 @@ module _ (p b : ℕ) where
     tally_in : (old new : Memory) (m given : Message) → ComesIn blocks old m given new
         → held new ≤ cond (is_padded_request p b m) 1 0 + held old
     tally_in old new m given (request ask asks given-is new-is) =
-        let now : held new ≡ held (with_asked old ask) = ap held new-is in
+        let rest : Memory = without old ask in
+        let now : held new ≡ held (with_asked rest ask) = ap held new-is in
         let asked : cond {A = ℕ} (is_padded_request p b m) 1 0 ≡ cond (is_at p b ask) 1 0 = ap (λ (n : Message). cond {A = ℕ} (is_padded_request p b n) 1 0) asks.1 in
-        omega (arith, now, asked, held_more old (length old - 1023) ask)
+        omega (arith, now, asked, held_more rest (length rest - 1023) ask, held_others old ask)
+    tally_in old new m given (exact ask asks given-is new-is) =
+        let now : held new ≡ held (without old ask) = ap held new-is in
+        omega (arith, now, held_others old ask)
     tally_in old new m given (other _ given-is new-is) = let same : held new ≡ held old = ap held new-is in omega (arith, same)
 
     tally_out : (old new : Memory) (m given : Message) → GoesOut blocks old m given new

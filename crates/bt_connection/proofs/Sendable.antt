@@ -7,7 +7,7 @@ use Rattle.bt_wire.specs.declared.message.Message.{Message}
 use Rattle.bt_wire.specs.declared.message.Message.TheVariants.{Request, Piece}
 use Rattle.bt_meta.specs.Torrent.{Metainfo}
 use Rattle.bt_connection.specs.ShortBlocks.{padded, short_blocks_of}
-use Rattle.bt_connection.specs.Padding.{Memory, filled, ComesIn, GoesOut, request, piece, other}
+use Rattle.bt_connection.specs.Padding.{Memory, filled, ComesIn, GoesOut, request, exact, piece, other}
 use Rattle.bt_connection.specs.Law.{CanBeSent, GivenOnCanBeSent}
 use Rattle.bt_connection.proofs.LastBlocks.{short_blocks_are}
 
@@ -39,6 +39,7 @@ sendable_in torrent old new m given can (request ask asks given-is new-is) =
     let short = ((short_blocks_are torrent ask).0 asks.0).short in
     subst (λ (x : Message). CanBeSent x) (sym given-is)
     (request_fits ask (record { piece = numbers.piece; begin = numbers.begin; length = omega (arith, short) }))
+sendable_in torrent old new m given can (exact ask asks given-is new-is) = subst (λ (x : Message). CanBeSent x) (sym given-is) can
 sendable_in torrent old new m given can (other _ given-is new-is) = subst (λ (x : Message). CanBeSent x) (sym given-is) can
 
 pub sendable_out : (torrent : Metainfo) (old new : Memory) (m given : Message) → CanBeSent m → GoesOut (short_blocks_of torrent) old m given new

@@ -1,5 +1,5 @@
 -- What follows for whole conversations.
-use Rattle.std.specs.Prelude.{◌≡◌, ◌↔◌, ◌⊎◌, ℕ, ◌+◌, ◌*◌, ◌≤◌, Bool, false, ◌&&◌, ◌==◌, nat_lt, List, [], ◌∷◌, length, Contains, count_by}
+use Rattle.std.specs.Prelude.{◌≡◌, ◌≢◌, ◌↔◌, ◌⊎◌, ℕ, ◌+◌, ◌*◌, ◌≤◌, Bool, false, ◌&&◌, ◌==◌, nat_lt, List, [], ◌∷◌, length, Contains, count_by}
 use Rattle.bt_tree.specs.Limits.{full_block_length}
 use Rattle.bt_wire.specs.Message.{IsMessage, Fits}
 use Rattle.bt_wire.specs.declared.message.Ask.{Ask}
@@ -7,7 +7,7 @@ use Rattle.bt_wire.specs.declared.message.Message.{Message}
 use Rattle.bt_wire.specs.declared.message.Message.TheVariants.{Request, Piece}
 use Rattle.bt_meta.specs.Torrent.{Metainfo}
 use Rattle.bt_connection.specs.ShortBlocks.{ask_of, short_blocks_of, IsShortBlock}
-use Rattle.bt_connection.specs.Padding.{Memory, new_memory, filled, AsksPadded, ComesIn, GoesOut}
+use Rattle.bt_connection.specs.Padding.{Memory, new_memory, filled, AsksPadded, AsksExact, ComesIn, GoesOut}
 
 -- ---- short blocks
 
@@ -95,12 +95,26 @@ pub record IsSame (old : Memory) (m given : Message) (new : Memory) : Type 0 whe
   pub message : given ≡ m
   pub memory : new ≡ old
 
--- what comes of it, which asks for no padding, and all that goes to it passes as it is
+-- It passes as it is. Where nothing was remembered nothing is, and else what was is, but where the message asks
+-- for a short block.
+pub record IsPlain (blocks : List Ask) (old : Memory) (m given : Message) (new : Memory) : Type 0 where
+  pub message : given ≡ m
+  pub none : old ≡ new_memory → new ≡ new_memory
+  pub memory : ((ask : Ask) → ¬ AsksExact blocks m ask) → new ≡ old
+
+-- What comes of it, which asks for no padding, and all that goes to it passes as it is. And whatever was
+-- remembered, what it asks for next without padding is answered without.
 pub record PlainPassesThrough : Type 0 where
   pub incoming : (blocks : List Ask) (old new : Memory) (m given : Message)
-      → ((ask : Ask) → ¬ AsksPadded blocks m ask) → ComesIn blocks old m given new → IsSame old m given new
+      → ((ask : Ask) → ¬ AsksPadded blocks m ask) → ComesIn blocks old m given new
+      → IsPlain blocks old m given new
   pub outgoing : (blocks : List Ask) (new : Memory) (m given : Message)
       → GoesOut blocks new_memory m given new → IsSame new_memory m given new
+  pub answer : (blocks : List Ask) (old mid new : Memory) (ask : Ask) (bytes : List ℕ) (asked given : Message)
+      → ask.length ≢ full_block_length → length bytes ≡ ask.length
+      → ComesIn blocks old (Request ask) asked mid
+      → GoesOut blocks mid (Piece ask.piece ask.begin bytes) given new
+      → given ≡ Piece ask.piece ask.begin bytes
 
 -- ---- what is given on
 

@@ -1,6 +1,6 @@
 -- Messages between an engine and a peer that counts each block as 16,384 bytes, the short last block of a
 -- file too: it asks for as many there, and wants them filled up with zeros.
-use Rattle.std.specs.Prelude.{◌≡◌, ℕ, ◌-◌, List, ◌∷◌, ◌++◌, [], length, drop, replicate, Contains}
+use Rattle.std.specs.Prelude.{◌≡◌, ℕ, ◌-◌, Bool, not, ◌&&◌, ◌==◌, List, ◌∷◌, ◌++◌, [], length, drop, filter, replicate, Contains}
 use Rattle.bt_tree.specs.Limits.{full_block_length}
 use Rattle.bt_wire.specs.declared.message.Ask.{Ask}
 use Rattle.bt_wire.specs.declared.message.Message.{Message}
@@ -20,6 +20,14 @@ new_memory = []
 abbrev pub with_asked : Memory → Ask → Memory
 with_asked asked ask = drop (length asked - (MAX_REMEMBERED - 1)) asked ++ ask ∷ []
 
+-- both name the same range of a piece
+abbrev pub is_ask : Ask → Ask → Bool
+is_ask ask other = other.piece == ask.piece && other.begin == ask.begin && other.length == ask.length
+
+-- what is remembered, without a request
+abbrev pub without : Memory → Ask → Memory
+without asked ask = filter (λ other. not (is_ask ask other)) asked
+
 -- the first of these that is the request is taken out
 pub record IsTaken (old : Memory) (ask : Ask) (new : Memory) : Type 0 where
   pub before : List Ask
@@ -34,12 +42,23 @@ pub record IsTaken (old : Memory) (ask : Ask) (new : Memory) : Type 0 where
 abbrev pub AsksPadded : (blocks : List Ask) → Message → Ask → Type 0
 AsksPadded blocks m ask = Contains blocks ask × (m ≡ Request (padded ask))
 
+-- the message asks for one of them as the file has it
+abbrev pub AsksExact : (blocks : List Ask) → Message → Ask → Type 0
+AsksExact blocks m ask = Contains blocks ask × (m ≡ Request ask)
+
+-- it asks for none of them, in neither way
+abbrev pub AsksForNone : (blocks : List Ask) → Message → Type 0
+AsksForNone blocks m = ((ask : Ask) → ¬ AsksPadded blocks m ask) × ((ask : Ask) → ¬ AsksExact blocks m ask)
+
 -- What an engine gets of a message of its peer: a request for a padded block as one for what the file has,
--- and it is remembered; and any other message as it came.
+-- and it is remembered; and any other message as it came. A request for a short block, in either way, comes
+-- where those for it before have been answered or never are: they are forgotten.
 pub data ComesIn (blocks : List Ask) (old : Memory) (m given : Message) (new : Memory) : Type 0 where
-  request : (ask : Ask) → AsksPadded blocks m ask → given ≡ Request ask → new ≡ with_asked old ask
+  request : (ask : Ask) → AsksPadded blocks m ask → given ≡ Request ask
+      → new ≡ with_asked (without old ask) ask → ComesIn blocks old m given new
+  exact : (ask : Ask) → AsksExact blocks m ask → given ≡ m → new ≡ without old ask
       → ComesIn blocks old m given new
-  other : ((ask : Ask) → ¬ AsksPadded blocks m ask) → given ≡ m → new ≡ old → ComesIn blocks old m given new
+  other : AsksForNone blocks m → given ≡ m → new ≡ old → ComesIn blocks old m given new
 
 -- ---- what goes out
 

@@ -1,7 +1,7 @@
 //! What is remembered of a peer that counts each block as 16,384 bytes, and what stands for its messages.
 ghost use Rattle.std.specs.Prelude.{◌≡◌, IfOk, IfSome, IfNone, Contains};
 ghost use Rattle.bt_wire.specs.Frames.{IsFrame};
-ghost use Rattle.bt_connection.specs.Padding.{new_memory, with_asked};
+ghost use Rattle.bt_connection.specs.Padding.{new_memory, with_asked, without};
 ghost use Rattle.bt_connection.specs.PaddingSteps.{IsFirstAt};
 ghost use Rattle.bt_connection.specs.Translation.{Gives};
 ghost use Rattle.bt_connection.specs.declared.translation.Side.TheVariants.{Peer, Engine};
@@ -18,7 +18,8 @@ use std::marker::Model;
 /// How many requests are remembered at most.
 const MAX_REMEMBERED: usize = 1024;
 
-/// The requests of a peer for padded blocks, shortened as they were given on, that are not answered yet.
+/// The requests of a peer for padded blocks, shortened as they were given on, that are not answered yet. One that the
+/// engine ignores, as while the peer is choked, stays until the next request for its block comes.
 #[derive(Drop)]
 pub struct Padding {
     /// From the oldest on.
@@ -55,7 +56,8 @@ impl Padding {
         self.asked.clear();
     }
 
-    /// Puts what an engine gets of a frame of its peer in its place.
+    /// Puts what an engine gets of a frame of its peer in its place. What is remembered for a block is forgotten where
+    /// it is asked for again.
     pub(crate) fn incoming(&mut self, blocks: &ShortBlocks, frame: &mut FrameRoom)
         ensures { Gives blocks.now Peer self.old frame.old frame.new self.new }
     {
@@ -63,12 +65,17 @@ impl Padding {
         let Some(ask) = read_request(frame.as_slice()) else {
             return;
         };
-        if ask.length != BLOCK_LEN as u32 {
+        let Some(short) = blocks.at(ask.piece, ask.begin) else {
             return;
-        }
-        if let Some(short) = blocks.at(ask.piece, ask.begin) {
+        };
+        // A session writes all answers before it reads on, so a request for this block that still is remembered is
+        // ignored for good. Its padding must not go to this one.
+        if ask.length == BLOCK_LEN as u32 {
+            self.take_back(short);
             self.remember(short);
             frame.put(PIECE_HEAD_LEN, &short.length.to_be_bytes());
+        } else if ask.length == short.length {
+            self.take_back(short);
         }
     }
 
@@ -100,6 +107,13 @@ impl Padding {
             return None;
         }
         self.asked.iter().position(|other| *other == ask)
+    }
+
+    /// Forgets a request, however often it was remembered.
+    fn take_back(&mut self, ask: Ask)
+        ensures { self.new ≡ without self.old ask }
+    {
+        self.asked.retain(|other| *other != ask);
     }
 
     /// Remembers a request; beyond the limit the oldest is forgotten.
