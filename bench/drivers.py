@@ -5,7 +5,7 @@
     python3 bench/drivers.py peer PORT STEP..       is a peer that connects to a port of this machine
     python3 bench/drivers.py peer listen STEP..     is one that tells a port and waits for a connection
 
-README.md of that crate says what a word of bytes and a step are.
+The README of `bt_rows` says what a word of bytes is, `src/peer.rt` of `bt_program_tests` what a step is.
 """
 
 import socket

@@ -3,9 +3,10 @@
 
     python3 bench/refused_commands.py [PROGRAM [COMMAND..]]
 
-The commands are `make`, `show`, `check`, by two parts too, of which none is left then, `seed` and `fetch`, these two with a log and
-without, `replay`, and words that are refused. The files are one of three bytes, one of three blocks and an empty one. A library in front of the C library refuses
-an allocation (`refusing.py`); of a check by parts to the whole, or to one part. The peer of a `fetch` is a `seed`, and that of a `seed` a
+The commands are `make`, through a link too, `show`, `check`, by two parts too, of which none is left then, `seed` and `fetch`,
+these two with a log and without, `replay`, and words that are refused. The files are one of three bytes, one of three blocks and
+an empty one. A library in front of the C library refuses an allocation (`refusing.py`); of a check by parts to the whole, or to
+one part. The peer of a `fetch` is a `seed`, and that of a `seed` a
 `fetch`, to which none is refused. Then the same words are given once more, with ample memory, in the folder that the run before left.
 
 A run has to end in one of these ways:
@@ -237,6 +238,23 @@ class Make(Command):
         return wrong
 
 
+class MakeThroughLink(Make):
+    """`OUT` is a symbolic link to a file in another folder, which stays one."""
+
+    def prepare(self, folder):
+        (folder / "link").mkdir()
+        (folder / "link" / "t").symlink_to("../out/t")
+        super().prepare(folder)
+
+    def words(self, folder):
+        return ["make", self.bench.files, folder / "link" / "t", "--name", "n", "--piece-length", BLOCK]
+
+    def look(self, folder, ended):
+        left = sorted(path.name for path in (folder / "link").iterdir())
+        is_link = (folder / "link" / "t").is_symlink()
+        return super().look(folder, ended) + [f"beside the link: {left}"] * (left != ["t"]) + ["the link is gone"] * (not is_link)
+
+
 class Show(Command):
     def words(self, _folder):
         return ["show", self.bench.torrent]
@@ -455,8 +473,8 @@ class Replay(Command):
 
 
 COMMANDS = {command.__name__: command for command in (
-    Make, Show, Check, CheckInfo, CheckJobs, CheckJobsFirstPart, CheckJobsLastPart, CheckPart, Fetch, FetchWithLog, FetchWithLogLikeFile,
-    FetchWithLogAmongFiles, Seed, SeedWithLog, Replay, Mistake)}
+    Make, MakeThroughLink, Show, Check, CheckInfo, CheckJobs, CheckJobsFirstPart, CheckJobsLastPart, CheckPart, Fetch,
+    FetchWithLog, FetchWithLogLikeFile, FetchWithLogAmongFiles, Seed, SeedWithLog, Replay, Mistake)}
 
 
 def main(words):

@@ -1,4 +1,4 @@
-"""Torrents, logs and scripts read by BEP 3, BEP 52 and the READMEs of `bt_meta`, `bt_resume` and `bt_replay`, by none of these crates' code.
+"""Torrents, logs and scripts read by BEP 3, BEP 52, `docs/REFUSALS.md` and the READMEs of `bt_resume` and `bt_replay`, by none of these crates' code.
 `fuzz_library.py` compares both."""
 
 import re
