@@ -19,6 +19,9 @@ use Rattle.bt_meta.specs.Layers.{piece_layer_of}
 use Rattle.bt_meta.specs.Torrent.{IsLawfulFile}
 use Rattle.bt_meta.specs.ReaderSteps.{Refuses, AreShort, pieces_in}
 use Rattle.bt_meta.specs.LayerSteps.{layer_bytes_fault}
+use Rattle.bt_meta.specs.Fields.{string_at}
+use Rattle.bt_meta.specs.Faults.{layer_check_for}
+use Rattle.std.proofs.Common.{nat_lt, true}
 
 -- ==== looking up a key among ascending ones
 
@@ -87,6 +90,11 @@ module _ (n bytes : ℕ) (root layer : List ℕ) {k : ℕ} (is : k ≡ piece_lay
   layer_differs size h =
       let sized = rw is at size in
       rw (eq-eqb _ _ sized.size, false_from_ne_true _ (λ t. rw is at h (record { size = sized; folds = (bytes_eq-Decides _ _).0 t }))) refl
+
+-- the layer of a root that is there has what is wrong with its string
+pub fault_of_string : (n : ℕ) (layers : Data) (bytes : ℕ) (root layer : List ℕ) → nat_lt n bytes ≡ true → string_at layers root ≡ Some layer
+    → layer_check_for n layers bytes root ≡ layer_bytes_fault n bytes root layer
+fault_of_string n layers bytes root layer long there = rw (long, there) refl
 
 -- ---- all files
 

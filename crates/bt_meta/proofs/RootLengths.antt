@@ -1,6 +1,11 @@
 -- What the lengths of roots tell once one length more is noted.
 use Rattle.bt_meta.proofs.Base.{◌≡◌, ◌≢◌, ℕ, Bool, true, false, List, Option, None, Some, refl, sym, ap, ◌∙◌, arith, not, ◌&&◌, ◌||◌, ◌==◌, cond, nat_cmp, is_eq, slice_cmp, or-false, list_any-append, ◌++◌, ◌∷◌, [], and_parts, false_from_ne_true, nat_tests, is_eq-slice_cmp, bytes_eq-Decides, Content, is_conflict, Lengths, length_at, is_other_length, NotesLength}
 use Rattle.bt_meta.specs.PropertySteps.{HasLengths}
+use Rattle.bt_meta.specs.LayerSteps.{AreRight, IsNotedRight}
+use Rattle.bt_bencode.specs.Value.{Data}
+use Rattle.bt_meta.specs.Faults.{layer_check_for}
+use Rattle.std.specs.Prelude.{◌⊎◌}
+use Rattle.std.proofs.Common.{inl, inr}
 
 module _ (length n : ℕ) where
   at : (b : Bool) (o p : Option ℕ) → is_other_length o length ≡ false → (b ≡ true → o ≡ p)
@@ -39,3 +44,29 @@ module _ (root : List ℕ) (n : ℕ) (other : List ℕ) (m : ℕ) where
       let some : m ≢ 0 = grind (arith, nat_tests) in
       let same = agree some ((bytes_eq-Decides _ _).0 q.1) in
       grind (arith, nat_tests))
+
+-- ---- the roots whose layers are right
+
+noted_one : {A : Type 0} (b : Bool) (length n : ℕ) (p o : Option ℕ) → (b ≡ true → A) → o ≡ cond b (Some length) p → o ≡ Some n
+    → (p ≡ Some n) ⊎ (A × (n ≡ length))
+noted_one true length n p o same e h = let q : Some length ≡ Some n = sym e ∙ h in inr (same refl, cc)
+noted_one false length n p o same e h = inl (sym e ∙ h)
+
+pub noted_right : (old new : Lengths) (root : List ℕ) (length : ℕ)
+    → ((other : List ℕ) → length_at new other ≡ cond (is_eq (slice_cmp nat_cmp root other)) (Some length) (length_at old other))
+    → IsNotedRight old new root length
+noted_right old new root length noted other n =
+    noted_one _ length n (length_at old other) _ (λ e. sym ((bytes_eq-Decides root other).0 (sym (is_eq-slice_cmp root other) ∙ e))) (noted other)
+
+pub right_more : (n : ℕ) (layers : Data) (old new : Lengths) {root : List ℕ} {length : ℕ} → AreRight n layers old
+    → IsNotedRight old new root length → layer_check_for n layers length root ≡ None → AreRight n layers new
+right_more n layers old new right noted faultless other m h = elim (noted other m h) [
+  | inl before ↦ right other m before
+  | inr now ↦ rw (now.0, now.1) faultless
+]
+
+pub none_right : (n : ℕ) (layers : Data) (none : Lengths) → none.entries ≡ [] → AreRight n layers none
+none_right n layers none empty root length h =
+    let nothing : length_at none root ≡ None = rw empty refl in
+    let q : None ≡ Some length = sym nothing ∙ h in
+    cc

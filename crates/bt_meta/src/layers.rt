@@ -1,5 +1,5 @@
 //! The layers that a torrent's `piece layers` hold.
-ghost use Rattle.std.specs.Prelude.{◌≡◌, ◌<◌, ◌≤◌, map, OnOk, IfErr, option_copied, None, true};
+ghost use Rattle.std.specs.Prelude.{◌≡◌, ◌<◌, ◌≤◌, map, OnOk, IfErr, option_copied, None, Some, true};
 ghost use Rattle.std.specs.Option.{option_map};
 ghost use Rattle.std.specs.Result.{result_err};
 ghost use Rattle.bt_bencode.specs.Value.{dictionary as dictionary_of};
@@ -12,7 +12,8 @@ ghost use Rattle.bt_meta.specs.Fields.{string_at};
 ghost use Rattle.bt_meta.specs.Files.{file_of};
 ghost use Rattle.bt_meta.specs.Faults.{first_of, is_piece_length, layers_of};
 ghost use Rattle.bt_meta.specs.ReaderSteps.{Refuses, AreShort};
-ghost use Rattle.bt_meta.specs.LayerSteps.{HasStringsOf, with_layer, layer_fault, layer_faults, layer_bytes_fault};
+ghost use Rattle.bt_meta.specs.LayerSteps.{HasStringsOf, with_layer, layer_fault, layer_faults, layer_bytes_fault, AreRight, IsNotedRight};
+ghost use Rattle.bt_meta.specs.PropertySteps.{length_at};
 
 use crate::error::MetaError;
 use crate::fields::{as_string, dictionary, entries};
@@ -20,6 +21,7 @@ use crate::torrent::FileEntry;
 use bt_bencode::Value;
 use bt_tree::{Geometry, Hash32, LayerError, Plain, check_layer};
 use std::alloc::Global;
+use std::collections::BTreeMap;
 
 /// Gives each file that is longer than a piece its layer, out of the `piece layers` of the torrent.
 pub(crate) fn add_layers(
@@ -74,28 +76,33 @@ fn add_layers_of(
     ensures refused { IfErr result (Refuses (first_of (
         layer_faults piece_length (dictionary_of (entries_of entries.now)) (map file_of files.old)))) }
 {
+    let mut right = BTreeMap::new(alloc);
     for file in files.iter_mut() {
-        add_layer(alloc, file, entries, piece_length)?;
+        add_layer(alloc, file, entries, &mut right, piece_length)?;
     }
     Ok(())
 }
 
-/// Gives the file its layer, if it is longer than a piece.
+/// Gives the file its layer, if it is longer than a piece. `right` has the roots whose layer was digested.
 fn add_layer(
     alloc: Global,
     file: &mut FileEntry,
     entries: &[(Vec<u8>, Value)],
+    right: &mut BTreeMap<Hash32, u64>,
     piece_length: u32,
 ) -> Result<(), MetaError>
     requires lawful { is_piece_length piece_length ≡ true }
     requires short { file.old.length ≤ max_file_length }
     requires ascending { EntriesAscend (entries_of entries.now) }
+    requires right { AreRight piece_length (dictionary_of (entries_of entries.now)) right.old }
     ensures whole { OnOk result (file_of file.new
         ≡ with_layer piece_length (dictionary_of (entries_of entries.now)) (file_of file.old)) }
     ensures faultless { OnOk result (
         layer_fault piece_length (dictionary_of (entries_of entries.now)) (file_of file.old) ≡ None) }
     ensures refused { IfErr result (Refuses (
         layer_fault piece_length (dictionary_of (entries_of entries.now)) (file_of file.old))) }
+    ensures right { OnOk result (
+        AreRight piece_length (dictionary_of (entries_of entries.now)) right.new) }
 {
     let length = file.length;
     if length <= piece_length as u64 {
@@ -105,7 +112,7 @@ fn add_layer(
     let Some(layer) = layer_at(entries, &file.root) else {
         return Err(MetaError::LayerMissing);
     };
-    check(&file.root, length, piece_length, layer)?;
+    check_once(right, &file.root, length, piece_length, layer)?;
     file.layer = Vec::from_slice(alloc, layer)?;
     Ok(())
 }
@@ -128,6 +135,32 @@ fn find<'a>(entries: &'a [(Vec<u8>, Value)], key: &[u8]) -> Option<&'a Value>
         Ok(index) => Some(&entries[index].1),
         Err(_) => None,
     }
+}
+
+/// Refuses a layer that is not the one of a file's pieces. Many files may share a root and so a layer: it is
+/// digested for the first of them alone, and the root is noted with its files' length.
+fn check_once(
+    right: &mut BTreeMap<Hash32, u64>,
+    root: &Hash32,
+    length: u64,
+    piece_length: u32,
+    layer: &[u8],
+) -> Result<(), MetaError>
+    requires lawful { is_piece_length piece_length ≡ true }
+    requires long { piece_length < length }
+    requires short { length ≤ max_file_length }
+    requires noted { length_at right.old root.now ≡ Some length
+        → layer_bytes_fault piece_length length root.now layer.now ≡ None }
+    ensures faultless { OnOk result (layer_bytes_fault piece_length length root.now layer.now ≡ None) }
+    ensures refused { IfErr result (Refuses (layer_bytes_fault piece_length length root.now layer.now)) }
+    ensures noted { OnOk result (IsNotedRight right.old right.new root.now length) }
+{
+    if right.get(root) == Some(&length) {
+        return Ok(());
+    }
+    check(root, length, piece_length, layer)?;
+    right.insert(*root, length)?;
+    Ok(())
 }
 
 /// Refuses a layer that is not the one of a file's pieces.
