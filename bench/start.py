@@ -5,7 +5,9 @@
 
 The file is one of zeros, of 2^20 blocks by default (16 GiB, of which nothing is kept): BLOCKS is a power of two from 512 on. The torrent
 tells its leaves, and the log has just their marks, as one run and as a run for each; or the torrent tells the root alone, and the log has
-what an adoption leaves, the leaves' proofs and one run. The program `bench/start/main.rt.in` is proved and built beside copies of the
+what an adoption leaves, the leaves' proofs and one run. Two logs are hostile: one has all these proofs but the last, and 80,000 runs of
+2^26 blocks, each of which has all blocks of the file; the other has just such runs, of a file of 2^26 blocks of which the root alone is
+known, and is told beside a log of one such run. The program `bench/start/main.rt.in` is proved and built beside copies of the
 crates that it stands on in FOLDER (a new temporary folder by default), which takes some minutes; it then runs twice for each. Told are
 the better time, without reading the torrent, and the greater peak of memory, with the torrent's text. A log is read from its file.
 """
@@ -22,7 +24,10 @@ from measure import apart, built
 
 CRATES = ["bt_engine", "bt_machine", "bt_meta", "bt_resume", "bt_disk", "bt_lanes", "bt_tree", "anyhow"]
 BLOCK_LEN = 16_384
+MOST_PIECES = 1 << 21
 RUN = 512
+HOSTILE = 80_000
+LONGEST = 1 << 26
 
 
 def sha256(text):
@@ -38,10 +43,11 @@ def zero_nodes(height):
 
 
 def info_of(nodes, blocks):
-    """The info dictionary of a file of zeros, in pieces of one block."""
+    """The info dictionary of a file of zeros, in pieces of one block, or of as many as the most pieces of a torrent leave."""
     root = nodes[blocks.bit_length() - 1]
     tree = b"d5:zerosd0:d6:lengthi%de11:pieces root32:%beee" % (blocks * BLOCK_LEN, root)
-    return b"d9:file tree%b12:meta versioni2e4:name5:zeros12:piece lengthi%dee" % (tree, BLOCK_LEN)
+    piece_length = BLOCK_LEN * max(1, blocks // MOST_PIECES)
+    return b"d9:file tree%b12:meta versioni2e4:name5:zeros12:piece lengthi%dee" % (tree, piece_length)
 
 
 def torrent_of(nodes, blocks):
@@ -77,7 +83,14 @@ def prepare(folder, blocks):
     write(folder / "torrent", [torrent_of(nodes, blocks)])
     write(folder / "run", [header, all_blocks])
     write(folder / "marks", [header, *(run_hint(block, 1) for block in range(blocks))])
-    write(folder / "proofs", [header, *proof_hints(nodes, blocks), all_blocks])
+    proofs = list(proof_hints(nodes, blocks))
+    write(folder / "proofs", [header, *proofs, all_blocks])
+    write(folder / "over", [header, *proofs[:-1], run_hint(0, LONGEST) * HOSTILE])
+    longest = info_of(zero_nodes(26), LONGEST)
+    header = b"btseed-2" + sha256(longest)
+    write(folder / "longest", [longest])
+    write(folder / "longest-one", [header, run_hint(0, LONGEST)])
+    write(folder / "longest-over", [header, run_hint(0, LONGEST) * HOSTILE])
 
 
 def run_once(words):
@@ -92,15 +105,15 @@ def run_once(words):
 
 
 def tell(program, folder, blocks, kind, log):
-    """Prints what one start takes."""
-    words = [program, kind, folder / kind, *([folder / log] if log else [])]
+    """Prints what one start takes, after which so many blocks are marked."""
+    words = [program, "torrent" if kind == "torrent" else "info", folder / kind, *([folder / log] if log else [])]
     runs = [run_once(words) for _ in range(2)]
     if any(marked != blocks for marked, _, _ in runs):
-        sys.exit(f"not all {blocks} blocks are marked: {words}")
+        sys.exit(f"not just {blocks} blocks are marked: {words}")
     size = f"a log of {(folder / log).stat().st_size:,} bytes" if log else "adoption"
     known = "leaves" if kind == "torrent" else "root"
     seconds = min(nanoseconds for _, nanoseconds, _ in runs) / 1e9
-    print(f"{known:6} known, {log or '':6} {size:31}: {seconds:7.2f} s, {max(peak for _, _, peak in runs):5.0f} MiB")
+    print(f"{known:6} known, {log or '':12} {size:31}: {seconds:7.2f} s, {max(peak for _, _, peak in runs):5.0f} MiB")
 
 
 def main():
@@ -111,6 +124,9 @@ def main():
     apart(prepare, folder, blocks)
     for kind, log in [("torrent", None), ("torrent", "run"), ("torrent", "marks"), ("info", None), ("info", "proofs")]:
         tell(program, folder, blocks, kind, log)
+    tell(program, folder, blocks - RUN, "info", "over")
+    for log in ("longest-one", "longest-over"):
+        tell(program, folder, 0, "longest", log)
 
 
 if __name__ == "__main__":

@@ -1,13 +1,14 @@
 -- Which blocks wait once runs of marks were recalled.
-use Rattle.bt_machine.proofs.Base.{[], ◌≡◌, ℕ, zero, suc, ◌+◌, ◌-◌, ◌<◌, ◌≤◌, min, inl, inr, ◌==◌, ◌&&◌, is_some, Bool, true, false, if◌then◌else◌, List, ◌∷◌, length, filter, Option, Some, None, refl, sym, ap, ◌∙◌, subst, arith, slice_get, slice_set, option_map, option_map_or, range_with_len, length-set, cases_lt, eq-eqb, lt-ltb, le-ltb, Facts, value_at, HashKey, BlockState, Missing, Marked, Waiting}
+use Rattle.bt_machine.proofs.Base.{[], ◌≡◌, ℕ, zero, suc, ◌+◌, ◌-◌, ◌<◌, ◌≤◌, min, inl, inr, ◌==◌, ◌&&◌, is_some, Bool, true, false, if◌then◌else◌, List, ◌∷◌, length, drop, get_or, filter, Option, Some, None, refl, sym, ap, ◌∙◌, subst, arith, slice_get, slice_set, option_map, option_map_or, range_with_len, length-set, cases_lt, eq-eqb, lt-ltb, le-ltb, Facts, value_at, BlockState, Missing, Marked, Waiting}
 use Rattle.std.specs.Prelude.{◌||◌, nat_le, nat_lt}
 use Rattle.std.specs.List.{list_any}
 use Rattle.std.proofs.lemmas.Bool.{cases_eq, ne_eqb, eqb-true, le-leb, lt-leb}
 use Rattle.std.proofs.lemmas.List.Elements.{filter_agree}
 use Rattle.std.proofs.lemmas.Map.Views.{any-filter_same}
 use Rattle.std.proofs.lemmas.Option.{slice_get_past}
+use Rattle.bt_book.specs.declared.names.BlockId.{BlockId}
 use Rattle.bt_resume.specs.declared.hint.Hint.{Hint}
-use Rattle.bt_resume.specs.declared.hint.Hint.TheVariants.{Proof, Marks}
+use Rattle.bt_resume.specs.declared.hint.Hint.TheVariants.{Marks}
 use Rattle.bt_store.specs.BlockStates.{is_missing}
 use Rattle.bt_store.specs.FileStore.{StoreView}
 use Rattle.bt_store.specs.Law.{all_recalled}
@@ -18,6 +19,8 @@ use Rattle.bt_machine.specs.Recovery.{recorded_blocks}
 use Rattle.bt_machine.proofs.Lists.{some_is, set_same, set_other, get_some, some_below}
 use Rattle.bt_engine_recall.specs.Recalling.{known_in_run}
 use Rattle.bt_engine_state.specs.declared.slot.Slot.{Slot}
+use Rattle.bt_engine_recall.specs.Runs.{marks_of_run, marks_of}
+use Rattle.bt_engine_recall.specs.declared.runs.MarkRun.{MarkRun}
 use Rattle.bt_engine_recall.specs.MarksSteps.{Meant, recalled_store, recalled_in, recalled_slot, with_run}
 
 -- lists that are alike everywhere are one
@@ -145,40 +148,44 @@ module _ (dig : List ℕ → List ℕ) (k : Facts) where
     ]
   ]
 
-  among_run : (n first count i : ℕ) → i < n → is_among i (known_in_run dig k n first count) ≡ (is_known i && in_run first count i)
-  among_run n first count i lt =
-      any-filter_same (λ b. b == i) is_known (is_known i) (λ j e. ap is_known (eqb-true j i e)) (range_with_len first (min count (n - first)))
-      ∙ ap (λ b. is_known i && b) (run_range n first count i lt)
+  among_run : (n : ℕ) (run : MarkRun) (i : ℕ) → i < n → is_among i (known_in_run dig k n run) ≡ (is_known i && in_run run.first (run.end - run.first) i)
+  among_run n run i lt =
+      any-filter_same (λ b. b == i) is_known (is_known i) (λ j e. ap is_known (eqb-true j i e))
+      (range_with_len run.first (min (run.end - run.first) (n - run.first)))
+      ∙ ap (λ b. is_known i && b) (run_range n run.first (run.end - run.first) i lt)
 
-  one_more : (hints : List Hint) (file n first count i : ℕ) → i < n
-      → (is_among i (known_in_run dig k n first count) || is_among i (recorded_blocks dig k hints file n))
-      ≡ is_among i (recorded_blocks dig k (Marks file first count ∷ hints) file n)
-  one_more hints file n first count i lt =
+  one_more : (hints : List Hint) (n : ℕ) (run : MarkRun) (i : ℕ) → i < n
+      → (is_among i (known_in_run dig k n run) || is_among i (recorded_blocks dig k hints run.file n))
+      ≡ is_among i (recorded_blocks dig k (marks_of_run run ∷ hints) run.file n)
+  one_more hints n run i lt =
+      let file = run.file in
+      let first = run.first in
+      let count = run.end - run.first in
       let r = is_recorded hints (block_id file i) in
-      ap (λ b. b || is_among i (recorded_blocks dig k hints file n)) (among_run n first count i lt)
+      ap (λ b. b || is_among i (recorded_blocks dig k hints file n)) (among_run n run i lt)
       ∙ ap (λ b. (is_known i && in_run first count i) || b) (among_recorded hints file n i lt)
       ∙ both_or r (in_run first count i) (is_known i)
       ∙ ap (λ b. (((b && in_run first count i) || r) && is_known i) && true) (sym (eq-eqb file file refl))
       ∙ sym (among_recorded (Marks file first count ∷ hints) file n i lt)
 
   -- first the blocks of a run, and then those that other hints record
-  pub run_then : (hints : List Hint) (file first count : ℕ) (states : List BlockState)
-      → all_recalled (all_recalled states (known_in_run dig k (length states) first count)) (recorded_blocks dig k hints file (length states))
-      ≡ all_recalled states (recorded_blocks dig k (Marks file first count ∷ hints) file (length states))
-  run_then hints file first count states =
+  pub run_then : (hints : List Hint) (run : MarkRun) (states : List BlockState)
+      → all_recalled (all_recalled states (known_in_run dig k (length states) run)) (recorded_blocks dig k hints run.file (length states))
+      ≡ all_recalled states (recorded_blocks dig k (marks_of_run run ∷ hints) run.file (length states))
+  run_then hints run states =
       let n = length states in
-      let run = known_in_run dig k n first count in
-      let rest = recorded_blocks dig k hints file n in
-      let all = recorded_blocks dig k (Marks file first count ∷ hints) file n in
-      same_lists (all_recalled (all_recalled states run) rest) (all_recalled states all)
+      let one = known_in_run dig k n run in
+      let rest = recorded_blocks dig k hints run.file n in
+      let all = recorded_blocks dig k (marks_of_run run ∷ hints) run.file n in
+      same_lists (all_recalled (all_recalled states one) rest) (all_recalled states all)
       (λ i. elim (cases_lt i n) [
         | inl lt ↦
-            state_then (all_recalled states run) rest i ∙ ap (option_map (touched (is_among i rest))) (state_then states run i)
-            ∙ touched_twice (is_among i run) (is_among i rest) (slice_get states i)
-            ∙ ap (λ b. option_map (touched b) (slice_get states i)) (one_more hints file n first count i lt) ∙ sym (state_then states all i)
+            state_then (all_recalled states one) rest i ∙ ap (option_map (touched (is_among i rest))) (state_then states one i)
+            ∙ touched_twice (is_among i one) (is_among i rest) (slice_get states i)
+            ∙ ap (λ b. option_map (touched b) (slice_get states i)) (one_more hints n run i lt) ∙ sym (state_then states all i)
         | inr past ↦
-            slice_get_past (all_recalled (all_recalled states run) rest) i
-            (omega (arith, past, length-recalled (all_recalled states run) rest, length-recalled states run))
+            slice_get_past (all_recalled (all_recalled states one) rest) i
+            (omega (arith, past, length-recalled (all_recalled states one) rest, length-recalled states one))
             ∙ sym (slice_get_past (all_recalled states all) i (omega (arith, past, length-recalled states all)))
       ])
 
@@ -189,6 +196,13 @@ module _ (dig : List ℕ → List ℕ) (k : Facts) where
       filter_agree (λ i. is_recorded hints (block_id file i) && is_known i) (λ i. is_recorded (Marks other first count ∷ hints) (block_id file i) && is_known i)
       (λ i. ap (λ b. ((b && in_run first count i) || is_recorded hints (block_id file i)) && is_known i) (sym (ne_eqb other file apart)))
       (range_with_len 0 n)
+
+  -- what other hints record as well
+  pub recorded_alike : (hints more : List Hint) (file n : ℕ) → ((b : BlockId) → is_recorded more b ≡ is_recorded hints b)
+      → recorded_blocks dig k more file n ≡ recorded_blocks dig k hints file n
+  recorded_alike hints more file n same =
+      filter_agree (λ i. is_recorded more (block_id file i) && is_known i) (λ i. is_recorded hints (block_id file i) && is_known i)
+      (λ i. ap (λ b. b && is_known i) (same (block_id file i))) (range_with_len 0 n)
 
   none_filtered : (p : ℕ → Bool) (xs : List ℕ) → filter (λ i. false && p i) xs ≡ []
   none_filtered p [] = refl
@@ -221,13 +235,13 @@ module _ {D H : Type 0} (trees : List Facts) where
       ∙ ap (λ (o : Option (StoreView D)). with_store slot (option_map (recalled_store a k) o)) has
 
   -- a slot of which a run was recalled
-  pub run_in_slot : (dig : List ℕ → List ℕ) (first count : ℕ) {slot : Slot D H} {store new : StoreView D} {k : Facts}
+  pub run_in_slot : (dig : List ℕ → List ℕ) (run : MarkRun) {slot : Slot D H} {store new : StoreView D} {k : Facts}
       → slot.store ≡ Some store → slice_get trees slot.tree ≡ Some k
-      → new.states ≡ all_recalled store.states (known_in_run dig k (length store.states) first count) → new ≡ record store { states = new.states }
-      → with_store slot (Some new) ≡ with_run dig trees first count slot
-  run_in_slot dig first count {slot} {store} has stands states others =
+      → new.states ≡ all_recalled store.states (known_in_run dig k (length store.states) run) → new ≡ record store { states = new.states }
+      → with_store slot (Some new) ≡ with_run dig trees run slot
+  run_in_slot dig run {slot} {store} has stands states others =
       ap (λ (s : StoreView D). with_store slot (Some s)) (others ∙ ap (λ xs. record store { states = xs }) states)
-      ∙ sym (one_recalled (λ k blocks. known_in_run dig k blocks first count) slot has stands)
+      ∙ sym (one_recalled (λ k blocks. known_in_run dig k blocks run) slot has stands)
 
   -- the same blocks are meant
   meant_alike : (a b : Meant) → ((k : Facts) (n : ℕ) → a k n ≡ b k n) → (slot : Slot D H) → recalled_in a trees slot ≡ recalled_in b trees slot
@@ -276,11 +290,22 @@ module _ {D H : Type 0} (trees : List Facts) where
           ∙ ap (with_store slot) (store k slot.store)
 
   module _ (dig : List ℕ → List ℕ) (hints : List Hint) where
-    slot_run : (file first count : ℕ) (slot : Slot D H)
-        → recalled_slot dig hints trees file (with_run dig trees first count slot) ≡ recalled_slot dig (Marks file first count ∷ hints) trees file slot
-    slot_run file first count slot =
-        meant_both (λ k blocks. known_in_run dig k blocks first count) (λ k n. recorded_blocks dig k hints file n)
-        (λ k n. recorded_blocks dig k (Marks file first count ∷ hints) file n) (λ k states. run_then dig k hints file first count states) slot
+    slot_run : (run : MarkRun) (slot : Slot D H)
+        → recalled_slot dig hints trees run.file (with_run dig trees run slot) ≡ recalled_slot dig (marks_of_run run ∷ hints) trees run.file slot
+    slot_run run slot =
+        meant_both (λ k blocks. known_in_run dig k blocks run) (λ k n. recorded_blocks dig k hints run.file n)
+        (λ k n. recorded_blocks dig k (marks_of_run run ∷ hints) run.file n) (λ k states. run_then dig k hints run states) slot
+
+    slots_alike : (more : List Hint) (file : ℕ) → ((b : BlockId) → is_recorded more b ≡ is_recorded hints b) → (slot : Slot D H)
+        → recalled_slot dig more trees file slot ≡ recalled_slot dig hints trees file slot
+    slots_alike more file same slot =
+        meant_alike (λ k n. recorded_blocks dig k more file n) (λ k n. recorded_blocks dig k hints file n) (λ k n. recorded_alike dig k hints more file n same) slot
+
+    -- other hints with the same marks recall the same blocks
+    pub recalled_alike : (more : List Hint) (file : ℕ) → ((b : BlockId) → is_recorded more b ≡ is_recorded hints b) → (o : Option (Slot D H))
+        → option_map (recalled_slot dig more trees file) o ≡ option_map (recalled_slot dig hints trees file) o
+    recalled_alike more file same None = refl
+    recalled_alike more file same (Some slot) = ap (λ s. Some s) (slots_alike more file same slot)
 
     slot_other : (file other first count : ℕ) (slot : Slot D H) → (other ≡ file → ⊥)
         → recalled_slot dig hints trees file slot ≡ recalled_slot dig (Marks other first count ∷ hints) trees file slot
@@ -302,47 +327,44 @@ module _ {D H : Type 0} (dig : List ℕ → List ℕ) (trees : List Facts) (all 
   pub recall_first : rest ≡ all → RecallsTo dig trees all rest old old
   recall_first is i = ap (λ (hs : List Hint). option_map (recalled_slot dig hs trees i) (slice_get old i)) is
 
-  pub recall_past : (hints : List Hint) (key : HashKey) (digests : List (List ℕ)) → hints ≡ Proof key digests ∷ rest
-      → RecallsTo dig trees all hints old now → RecallsTo dig trees all rest old now
-  recall_past hints key digests is leads = subst (λ (hs : List Hint). RecallsTo dig trees all hs old now) is leads
-
   others_alike : (i file first count : ℕ) (o : Option (Slot D H)) → ((slot : Slot D H) → o ≡ Some slot → file ≡ i → ⊥)
       → option_map (recalled_slot dig rest trees i) o ≡ option_map (recalled_slot dig (Marks file first count ∷ rest) trees i) o
   others_alike i file first count None apart = refl
   others_alike i file first count (Some slot) apart = ap (λ s. Some s) (slot_other trees dig rest i file first count slot (apart slot refl))
 
-  module _ (next : List (Slot D H)) (file first count : ℕ)
-      (in_it : (slot : Slot D H) → slice_get now file ≡ Some slot → next ≡ slice_set now file (with_run dig trees first count slot))
-      (out : length now ≤ file → next ≡ now) where
+  module _ (next : List (Slot D H)) (run : MarkRun)
+      (in_it : (slot : Slot D H) → slice_get now run.file ≡ Some slot → next ≡ slice_set now run.file (with_run dig trees run slot))
+      (out : length now ≤ run.file → next ≡ now) where
     abbrev Steps : ℕ → Type 0
     Steps i = option_map (recalled_slot dig rest trees i) (slice_get next i)
-        ≡ option_map (recalled_slot dig (Marks file first count ∷ rest) trees i) (slice_get now i)
+        ≡ option_map (recalled_slot dig (marks_of_run run ∷ rest) trees i) (slice_get now i)
 
-    steps_there : (slot : Slot D H) → slice_get now file ≡ Some slot → (i : ℕ) → Steps i
+    steps_there : (slot : Slot D H) → slice_get now run.file ≡ Some slot → (i : ℕ) → Steps i
     steps_there slot at i =
-        let new = with_run dig trees first count slot in
+        let file = run.file in
+        let new = with_run dig trees run slot in
         elim (cases_eq i file) [
           | inl same ↦ subst (λ n. Steps n) (sym same)
               (ap (λ (slots : List (Slot D H)). option_map (recalled_slot dig rest trees file) (slice_get slots file)) (in_it slot at)
               ∙ ap (option_map (recalled_slot dig rest trees file)) (set_same now file {x = new} at)
-              ∙ ap (λ s. Some s) (slot_run trees dig rest file first count slot)
-              ∙ ap (option_map (recalled_slot dig (Marks file first count ∷ rest) trees file)) (sym at))
+              ∙ ap (λ s. Some s) (slot_run trees dig rest run slot)
+              ∙ ap (option_map (recalled_slot dig (marks_of_run run ∷ rest) trees file)) (sym at))
           | inr apart ↦
               ap (λ (slots : List (Slot D H)). option_map (recalled_slot dig rest trees i) (slice_get slots i)) (in_it slot at)
               ∙ ap (option_map (recalled_slot dig rest trees i)) (set_other now file i new apart)
-              ∙ others_alike i file first count (slice_get now i) (λ s e same. apart (sym same))
+              ∙ others_alike i file run.first (run.end - run.first) (slice_get now i) (λ s e same. apart (sym same))
         ]
 
-    steps_past : length now ≤ file → (i : ℕ) → Steps i
+    steps_past : length now ≤ run.file → (i : ℕ) → Steps i
     steps_past past i =
         ap (λ (slots : List (Slot D H)). option_map (recalled_slot dig rest trees i) (slice_get slots i)) (out past)
-        ∙ others_alike i file first count (slice_get now i) (λ s e same. (let lt = some_below now i e in omega (arith, lt, past, same)))
+        ∙ others_alike i run.file run.first (run.end - run.first) (slice_get now i) (λ s e same. (let lt = some_below now i e in omega (arith, lt, past, same)))
 
-    pub recall_on : (hints : List Hint) → hints ≡ Marks file first count ∷ rest → RecallsTo dig trees all hints old now → RecallsTo dig trees all rest old next
+    pub recall_on : (hints : List Hint) → hints ≡ marks_of_run run ∷ rest → RecallsTo dig trees all hints old now → RecallsTo dig trees all rest old next
     recall_on hints is leads i =
-        let before : RecallsTo dig trees all (Marks file first count ∷ rest) old now = subst (λ (hs : List Hint). RecallsTo dig trees all hs old now) is leads in
-        elim (cases_lt file (length now)) [
-          | inl lt ↦ (let slot = get_some now file lt in steps_there slot.0 slot.1 i ∙ before i)
+        let before : RecallsTo dig trees all (marks_of_run run ∷ rest) old now = subst (λ (hs : List Hint). RecallsTo dig trees all hs old now) is leads in
+        elim (cases_lt run.file (length now)) [
+          | inl lt ↦ (let slot = get_some now run.file lt in steps_there slot.0 slot.1 i ∙ before i)
           | inr past ↦ steps_past past i ∙ before i
         ]
 
@@ -353,3 +375,12 @@ module _ {D H : Type 0} (dig : List ℕ → List ℕ) (trees : List Facts) (all 
   pub recall_last : rest ≡ [] → RecallsTo dig trees all rest old now → (i : ℕ) → slice_get now i ≡ option_map (recalled_slot dig all trees i) (slice_get old i)
   recall_last none leads i =
       none_stays i (slice_get now i) ∙ subst (λ (hs : List Hint). RecallsTo dig trees all hs old now) none leads i
+
+-- of the runs from one on, the first
+pub marks_from : (runs : List MarkRun) (i : ℕ) {run : MarkRun} (d : MarkRun) → i < length runs → run ≡ get_or runs i d
+    → marks_of (drop i runs) ≡ marks_of_run run ∷ marks_of (drop (i + 1) runs)
+marks_from [] i d lt is = absurd (omega (arith, lt))
+marks_from (first ∷ runs) zero {run} d lt is = ap (λ r. marks_of_run r ∷ marks_of runs) (sym is)
+marks_from (first ∷ runs) (suc i) {run} d lt is =
+    let further : suc (i + 1) ≡ suc i + 1 = omega arith in
+    marks_from runs i d (omega (arith, lt)) is ∙ ap (λ n. marks_of_run run ∷ marks_of (drop n (first ∷ runs))) further

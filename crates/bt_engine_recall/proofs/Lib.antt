@@ -1,4 +1,5 @@
 pub mod Recallings
+pub mod Joins
 pub mod Takings
 pub mod Follows
 pub mod Readings

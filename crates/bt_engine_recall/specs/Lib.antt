@@ -1,4 +1,5 @@
 pub mod Recalling
+pub mod Runs
 pub mod Taking
 pub mod TakingSteps
 pub mod Recovering

@@ -7,6 +7,7 @@ use Rattle.bt_store.specs.FileStore.{StoreView}
 use Rattle.bt_store.specs.Law.{all_recalled}
 use Rattle.bt_machine.specs.Recovery.{recorded_blocks}
 use Rattle.bt_engine_recall.specs.Recalling.{known_in_run}
+use Rattle.bt_engine_recall.specs.declared.runs.MarkRun.{MarkRun}
 use Rattle.bt_engine_state.specs.declared.slot.Slot.{Slot}
 
 -- of the file's tree, which blocks of it are meant
@@ -30,7 +31,5 @@ recalled_slot dig hints trees file slot =
     recalled_in (λ k count. recorded_blocks dig k hints file count) trees slot
 
 -- those of one run
-abbrev pub with_run : {D H : Type 0} → (List ℕ → List ℕ) → List Facts → (first count : ℕ)
-    → Slot D H → Slot D H
-with_run dig trees first count slot =
-    recalled_in (λ k blocks. known_in_run dig k blocks first count) trees slot
+abbrev pub with_run : {D H : Type 0} → (List ℕ → List ℕ) → List Facts → MarkRun → Slot D H → Slot D H
+with_run dig trees run slot = recalled_in (λ k blocks. known_in_run dig k blocks run) trees slot

@@ -8,8 +8,10 @@ mod places;
 mod reads;
 mod recalling;
 mod recovery;
+mod runs;
 mod taking;
 
 pub use recalling::recall_run;
 pub use recovery::recover_files;
+pub use runs::{MarkRun, recorded_runs};
 pub use taking::take_proofs;

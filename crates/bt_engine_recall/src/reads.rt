@@ -1,34 +1,34 @@
 //! The blocks that wait are read.
-ghost use Rattle.std.specs.Prelude.{◌≡◌, ℕ, Some, map, slice_get};
-ghost use Rattle.bt_resume.specs.LogText.{hints_in};
+ghost use Rattle.std.specs.Prelude.{◌≡◌, ℕ, List, Some, map, slice_get};
+ghost use Rattle.bt_resume.specs.declared.hint.Hint.{Hint};
 ghost use Rattle.bt_engine_recall.specs.Recovering.{AreMissing};
+ghost use Rattle.bt_engine_recall.specs.Runs.{AreRunsOf};
 ghost use Rattle.bt_engine_recall.specs.RestoringSteps.{tree_and_length, block_total};
 ghost use Rattle.bt_engine_recall.specs.RestoringSteps.{HasTree, HaveTrees, RestoresSlots};
 ghost use Rattle.bt_engine_recall.specs.ReadsSteps.{IsSettled};
 
 use crate::marks::recall_marks;
+use crate::runs::MarkRun;
 use bt_disk::Disk;
 use bt_engine_state::Slot;
-use bt_resume::Hints;
 use bt_sparse::SparseTree;
 use bt_tree::NodeHash;
 
-/// File after file, each block that the hints record and whose leaf is known is read, once and upwards, eight
-/// at a time, and is marked where its bytes are right. All other blocks are missing, as all were before. Of
-/// hints the marks alone are looked at: the trees are those that have taken the proofs. Takes no memory.
+/// File after file, each block of the runs whose leaf is known is read, once and upwards, eight at a time, and
+/// is marked where its bytes are right. All other blocks are missing, as all were before. Takes no memory.
 pub(crate) fn restore_files<D: Disk + Drop, H: NodeHash>(
     slots: &mut [Slot<D, H>],
     trees: &[SparseTree<H>],
-    hints: &Hints,
+    runs: &[MarkRun],
 )
     requires trees { HaveTrees trees.now slots.old }
     requires missing { AreMissing slots.old }
-    ensures restores { RestoresSlots D.conduct H.digest (hints_in hints.now) trees.now
-        slots.old slots.new }
+    ensures restores { (hints : List Hint) → AreRunsOf hints runs.now
+        → RestoresSlots D.conduct H.digest hints trees.now slots.old slots.new }
     ensures kept { map tree_and_length slots.new ≡ map tree_and_length slots.old }
     ensures sizes { map block_total slots.new ≡ map block_total slots.old }
 {
-    recall_marks(slots, trees, hints);
+    recall_marks(slots, trees, runs);
     settle_files(slots, trees);
 }
 

@@ -1,34 +1,34 @@
 //! The files of an engine that begins anew with a log.
-ghost use Rattle.std.specs.Prelude.{[], ◌≡◌, IsSome};
+ghost use Rattle.std.specs.Prelude.{[], ◌≡◌};
 ghost use Rattle.bt_machine.specs.Restart.{KeepsPlaces};
 ghost use Rattle.bt_machine.specs.Shape.{IsShaped};
-ghost use Rattle.bt_engine_state.specs.Parts.{state_of};
+ghost use Rattle.bt_engine_state.specs.Parts.{state_of, hints_of};
 ghost use Rattle.bt_engine_state.specs.Ties.{IsTied};
 ghost use Rattle.bt_engine_recall.specs.Recovering.{AreMissing, RecoversFiles};
+ghost use Rattle.bt_engine_recall.specs.Runs.{AreRunsOf};
 
 use crate::following::follow_files;
 use crate::reads::restore_files;
+use crate::runs::MarkRun;
 use bt_disk::Disk;
 use bt_engine_state::Parts;
 use bt_tree::NodeHash;
 
-/// Restores the files of an engine, by the marks of the hints that were last read from its log. All blocks
-/// are missing, no peer is connected, and the trees have taken the log's proofs. Takes no memory.
-pub fn recover_files<D: Disk + Drop, H: NodeHash>(parts: &mut Parts<D, H>)
+/// Restores the files of an engine, by the marks of the hints that were last read from its log, which are
+/// given as runs. All blocks are missing, no peer is connected, and the trees have taken the log's proofs.
+/// Takes no memory.
+pub fn recover_files<D: Disk + Drop, H: NodeHash>(parts: &mut Parts<D, H>, runs: &[MarkRun])
     requires tied { IsTied parts.old }
     requires shaped { IsShaped parts.old.torrent (state_of parts.old) }
     requires alone { parts.old.peers.items ≡ [] }
     requires missing { AreMissing parts.old.slots.items }
-    requires logged { IsSome parts.old.log }
+    requires runs { AreRunsOf (hints_of parts.old.log) runs.now }
     ensures recovers { RecoversFiles D.conduct H.digest parts.old parts.new }
     ensures places { KeepsPlaces (state_of parts.old) (state_of parts.new) }
     ensures torrent { parts.new.torrent ≡ parts.old.torrent }
     ensures log { parts.new.log ≡ parts.old.log }
     ensures tied { IsTied parts.new }
 {
-    let Some(open) = &parts.log else {
-        unreachable!();
-    };
-    restore_files(&mut parts.slots, &parts.trees, open.log.hints());
+    restore_files(&mut parts.slots, &parts.trees, runs);
     follow_files(parts);
 }

@@ -2,17 +2,18 @@
 ghost use Rattle.std.specs.Prelude.{[], ◌≡◌, IfOk, IfErr, IsSome, option_map};
 ghost use Rattle.sha2.specs.Sha256.{sha256};
 ghost use Rattle.bt_machine.specs.Shape.{IsShaped};
-ghost use Rattle.bt_engine_state.specs.Parts.{state_of, disks_of, pending_of};
+ghost use Rattle.bt_engine_state.specs.Parts.{state_of, disks_of, hints_of, pending_of};
 ghost use Rattle.bt_engine_state.specs.Ties.{IsTied};
 ghost use Rattle.bt_engine_state.specs.Handling.{AreInShape, KeepsWritten};
 ghost use Rattle.bt_engine_start.specs.Books.{AreNewBooks};
 ghost use Rattle.bt_engine_recall.specs.Recovering.{AreMissing};
+ghost use Rattle.bt_engine_recall.specs.Runs.{AreRunsOf};
 ghost use Rattle.bt_engine_restart.specs.Restarting.{RestartsWith};
 ghost use Rattle.bt_engine_restart.specs.WithLogSteps.{IsReadAgain, AreTreesFrom, HasBegun};
 
 use crate::anew::clear_slots;
 use bt_disk::Disk;
-use bt_engine_recall::{recover_files, take_proofs};
+use bt_engine_recall::{MarkRun, recorded_runs, recover_files, take_proofs};
 use bt_engine_start::{Books, new_books, new_trees};
 use bt_engine_state::{OpenLog, Parts};
 use bt_machine::RestartError;
@@ -46,9 +47,9 @@ pub(crate) fn restart_with_log<D: Disk + Drop, H: NodeHash>(
         return Err(RestartError::Log(cause));
     }
     match made_from_log(alloc, hash, parts) {
-        Ok((trees, books)) => {
+        Ok((trees, books, runs)) => {
             begin_with_log(parts, trees, books);
-            recover_files(parts);
+            recover_files(parts, &runs);
             Ok(())
         }
         Err(AllocError) => Err(RestartError::OutOfMemory),
@@ -67,24 +68,27 @@ fn read_again<D: Disk + Drop>(log: &mut Option<OpenLog<D>>) -> Result<(), LogErr
 }
 
 /// All that takes memory: the trees that the torrent has, in the order of those that are there, which have
-/// taken the log's proofs; and books of which all blocks are missing. Errors: out of memory.
+/// taken the log's proofs; books of which all blocks are missing; and the runs of blocks that the log records.
+/// Errors: out of memory.
 fn made_from_log<D: Disk + Drop, H: NodeHash>(
     alloc: Global,
     hash: H,
     parts: &Parts<D, H>,
-) -> Result<(Vec<SparseTree<H>>, Books), AllocError>
+) -> Result<(Vec<SparseTree<H>>, Books, Vec<MarkRun>), AllocError>
     requires digest { H.digest ≡ sha256 }
     requires sound { AreInShape parts.now }
     requires logged { IsSome parts.now.log }
     ensures trees { IfOk result (λ made. AreTreesFrom H.digest parts.now made.0.items) }
     ensures books { IfOk result (λ made. AreNewBooks parts.now.torrent made.1) }
+    ensures runs { IfOk result (λ made. AreRunsOf (hints_of parts.now.log) made.2.items) }
 {
     let Some(open) = &parts.log else {
         unreachable!();
     };
     let mut trees = new_trees(alloc, hash, &parts.torrent, &parts.roots.first_files)?;
     take_proofs(alloc, &mut trees, open.log.hints())?;
-    Ok((trees, new_books(alloc, &parts.torrent)?))
+    let runs = recorded_runs(alloc, open.log.hints())?;
+    Ok((trees, new_books(alloc, &parts.torrent)?, runs))
 }
 
 /// Begins all anew with these trees and books. The files are to be restored then.

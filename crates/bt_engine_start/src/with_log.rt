@@ -9,6 +9,7 @@ ghost use Rattle.bt_machine.specs.Shape.{IsShaped};
 ghost use Rattle.bt_machine.specs.Sound.{IsSound};
 ghost use Rattle.bt_machine.specs.Opening.{AnswersStart};
 ghost use Rattle.bt_machine.specs.Start.{device_count as count_of_devices};
+ghost use Rattle.bt_engine_recall.specs.Runs.{AreRunsOf};
 ghost use Rattle.bt_engine_state.specs.Parts.{state_of, disks_of};
 ghost use Rattle.bt_engine_state.specs.Ties.{IsTied};
 ghost use Rattle.bt_engine_start.specs.Starting.{answer_of};
@@ -18,7 +19,7 @@ use crate::beginning::bare_parts;
 use crate::devices::{device_count, hand_out};
 use bt_disk::Disk;
 use bt_engine_pending::Pending;
-use bt_engine_recall::{recover_files, take_proofs};
+use bt_engine_recall::{MarkRun, recorded_runs, recover_files, take_proofs};
 use bt_engine_state::{OpenLog, Parts};
 use bt_machine::{StartError, StartRefused, starts_keep_laws};
 use bt_meta::{Torrent, blocks_and_ranges_agree};
@@ -70,10 +71,10 @@ pub(crate) fn start_with_log<D: Disk + Drop, H: NodeHash>(
     }
     let mut disks = disks;
     match begun_with(alloc, torrent, hash, &mut disks, &log) {
-        Ok(mut parts) => {
+        Ok((mut parts, runs)) => {
             let pending = Pending::new(alloc);
             parts.log = Some(OpenLog { log, pending });
-            recover_files(&mut parts);
+            recover_files(&mut parts, &runs);
             Ok(parts)
         }
         Err(AllocError) => Err(StartRefused {
@@ -91,23 +92,26 @@ fn is_same(infohash: &Hash32, other: &Hash32) -> bool
     infohash == other
 }
 
-/// The parts before the files are restored, without the log, the proofs of which the trees have taken. Where
-/// memory is refused, all devices are back.
+/// The parts before the files are restored, without the log, the proofs of which the trees have taken, and the
+/// runs of blocks that the log records. Where memory is refused, all devices are back.
 fn begun_with<D: Disk + Drop, H: NodeHash>(
     alloc: Global,
     torrent: Torrent,
     hash: H,
     disks: &mut Vec<D>,
     log: &ResumeLog<D>,
-) -> Result<Parts<D, H>, AllocError>
+) -> Result<(Parts<D, H>, Vec<MarkRun>), AllocError>
     requires digest { H.digest ≡ sha256 }
     requires enough { length disks.old.items ≡ count_of_devices torrent.files }
-    ensures begun { IfOk result (HaveBegunWith H.digest torrent disks.old.items log.now.hints) }
+    ensures begun { IfOk result (λ made.
+        HaveBegunWith H.digest torrent disks.old.items log.now.hints made.0) }
+    ensures runs { IfOk result (λ made. AreRunsOf log.now.hints made.1.items) }
     ensures refused { OnErr result (disks.new.items ≡ disks.old.items) }
 {
     blocks_and_ranges_agree();
     let mut parts = bare_parts(alloc, torrent, hash)?;
     take_proofs(alloc, &mut parts.trees, log.hints())?;
+    let runs = recorded_runs(alloc, log.hints())?;
     hand_out(alloc, hash, parts.torrent.files(), &mut parts.slots, disks)?;
-    Ok(parts)
+    Ok((parts, runs))
 }

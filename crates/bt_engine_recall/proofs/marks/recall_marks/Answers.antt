@@ -1,36 +1,25 @@
-use Rattle.std.proofs.Common.{◌∷◌, ap, ◌∙◌}
-use Rattle.bt_resume.specs.LogText.{hints_in}
-use Rattle.bt_resume.specs.LentHint.{hint_of}
-use Rattle.bt_engine_recall.proofs.FileRecallings.{recall_first, recall_past, recall_on, recall_last}
+use Rattle.std.proofs.Common.{◌+◌, List, drop, drop_of_length-le, refl, ap, arith}
+use Rattle.bt_engine_recall.specs.Runs.{marks_of}
+use Rattle.bt_engine_recall.specs.declared.runs.MarkRun.{MarkRun}
+use Rattle.bt_engine_recall.proofs.FileRecallings.{recall_first, recall_on, recall_last, marks_from}
 use Rattle.bt_engine_recall.proofs.marks.recall_marks.Goals as goal
 
-pub loop-hint-init : goal.loop-hint-init
-loop-hint-init g c = record {
-  can = tt;
-  finite = tt;
-  leads = recall_first g.H.NodeHash.digest c.args.trees.now (hints_in c.args.hints.now) c.into_iter-hint-iterator.result c.args.slots.now c.args.slots.now
-      (c.into_iter-hint-iterator.ensures.into_iter_gives ∙ c.iter-hint-items.ensures);
-}
+pub loop-run-init : goal.loop-run-init
+loop-run-init g c =
+    let runs = c.args.runs.now in
+    recall_first g.H.NodeHash.digest c.args.trees.now (marks_of runs) (marks_of runs) c.args.slots.now c.args.slots.now refl
+
+pub loop-run-preserved : goal.loop-run-preserved
+loop-run-preserved g c =
+    let runs = c.args.runs.now in
+    let i = c.loop-run.run-index in
+    recall_on g.H.NodeHash.digest c.args.trees.now (marks_of runs) (marks_of (drop (i + 1) runs)) c.args.slots.now c.loop-run.slots
+    c.recall_in_file.new.slots _ c.recall_in_file.ensures.inside c.recall_in_file.ensures.outside
+    (marks_of (drop i runs)) (marks_from runs i _ (omega (arith, c.loop-run-test.true)) refl) c.loop-run.invariant
 
 pub returns : goal.returns
 returns g c =
-    recall_last g.H.NodeHash.digest c.args.trees.now (hints_in c.args.hints.now) c.loop-hint.hint-iterator c.args.slots.now c.loop-hint.slots
-    c.in-None.ensures.steps.0 c.loop-hint.invariant.leads
-
-pub loop-hint-preserved-in-Marks : goal.loop-hint-preserved-in-Marks
-loop-hint-preserved-in-Marks g c = record {
-  can = tt;
-  finite = tt;
-  leads = recall_on g.H.NodeHash.digest c.args.trees.now (hints_in c.args.hints.now) c.next.new.self c.args.slots.now c.loop-hint.slots
-      c.recall_in_file.new.slots c.in-Marks.file c.in-Marks.first c.in-Marks.count c.recall_in_file.ensures.inside c.recall_in_file.ensures.outside
-      c.loop-hint.hint-iterator (c.in-Some.ensures.steps ∙ ap (λ hint. hint_of hint ∷ c.next.new.self) c.in-Marks.is) c.loop-hint.invariant.leads;
-}
-
-pub loop-hint-preserved : goal.loop-hint-preserved
-loop-hint-preserved g c = record {
-  can = tt;
-  finite = tt;
-  leads = recall_past g.H.NodeHash.digest c.args.trees.now (hints_in c.args.hints.now) c.next.new.self c.args.slots.now c.loop-hint.slots
-      c.loop-hint.hint-iterator c.in_default.field-0 c.in_default.field-1.now
-      (c.in-Some.ensures.steps ∙ ap (λ hint. hint_of hint ∷ c.next.new.self) c.in_default.is) c.loop-hint.invariant.leads;
-}
+    let runs = c.args.runs.now in
+    let i = c.loop-run.run-index in
+    recall_last g.H.NodeHash.digest c.args.trees.now (marks_of runs) (marks_of (drop i runs)) c.args.slots.now c.loop-run.slots
+    (ap (λ (rs : List MarkRun). marks_of rs) (drop_of_length-le runs (omega (arith, c.loop-run-test.false)))) c.loop-run.invariant

@@ -4,24 +4,16 @@ use Rattle.std.proofs.lemmas.Bool.{cases_lt}
 use Rattle.bt_tree.specs.Blocks.{block_count}
 use Rattle.bt_store.specs.FileStore.{StoreView}
 use Rattle.bt_store.specs.Review.{recalled}
-use Rattle.bt_engine_recall.specs.Recalling.{known_in_run}
-use Rattle.bt_engine_recall.proofs.Recallings.{none_recalled, after, after_one, others_kept}
+use Rattle.bt_engine_recall.proofs.Recallings.{after, after_one, others_kept}
 use Rattle.bt_engine_recall.proofs.recalling.recall_run.Goals as goal
 use Rattle.bt_engine_recall.proofs.recalling.recall_run.Goals.{then-is_some, else-is_some}
-
-pub returns-then-from-clause-states : goal.returns-then-from-clause-states
-returns-then-from-clause-states g c =
-    let states = c.args.store.now.states in
-    let all : c.blocks-blocks.result ≡ length states = c.blocks-blocks.ensures.value ∙ ap block_count c.geometry.ensures.value ∙ sym c.geometry.ensures.states in
-    none_recalled states (known_in_run g.H.NodeHash.digest c.args.tree.now (length states) c.args.first c.args.count)
-    (omega (arith, all, c.if-from.true, c.from.ensures, c.from-2.ensures, c.from-3.ensures, c.marked.ensures, c.waiting.ensures))
 
 pub loop-block-preserved : goal.loop-block-preserved
 loop-block-preserved g c =
     let dig = g.H.NodeHash.digest in
     let states = c.args.store.now.states in
     let block = c.loop-block.block in
-    let first = c.args.first in
+    let first = c.args.run.now.first in
     let n = block - first in
     let here : first + n ≡ block = omega (arith, c.loop-block.invariant.from) in
     let next : block + 1 - first ≡ suc n = omega (arith, c.loop-block.invariant.from) in
@@ -47,13 +39,13 @@ loop-block-preserved g c =
 pub returns-clause-states : goal.returns-clause-states
 returns-clause-states g c =
     let states = c.args.store.now.states in
-    let first = c.args.first in
+    let first = c.args.run.now.first in
     let all : c.blocks-blocks.result ≡ length states = c.blocks-blocks.ensures.value ∙ ap block_count c.geometry.ensures.value ∙ sym c.geometry.ensures.states in
-    let count : c.loop-block.block - first ≡ min c.args.count (length states - first) = elim (cases_lt first c.loop-block.block) [
+    let count : c.loop-block.block - first ≡ min (c.args.run.now.end - first) (length states - first) = elim (cases_lt first c.loop-block.block) [
       | inl past ↦ (
           let end = c.loop-block.invariant.within past in
-          omega (arith, end, all, c.loop-block-test.false, c.min-end.ensures, c.saturating_add.ensures, c.blocks-blocks.ensures.limit)
+          omega (arith, end, all, c.loop-block-test.false, c.min-end.ensures, c.blocks-blocks.ensures.limit)
           )
-      | inr none ↦ omega (arith, none, all, c.loop-block-test.false, c.min-end.ensures, c.saturating_add.ensures, c.loop-block.invariant.from, c.blocks-blocks.ensures.limit)
+      | inr none ↦ omega (arith, none, all, c.loop-block-test.false, c.min-end.ensures, c.loop-block.invariant.from, c.blocks-blocks.ensures.limit)
     ] in
     c.loop-block.invariant.states ∙ ap (λ n. after g.H.NodeHash.digest c.args.tree.now states first n) count

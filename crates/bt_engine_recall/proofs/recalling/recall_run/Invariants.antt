@@ -4,8 +4,8 @@ use Rattle.bt_engine_recall.proofs.recalling.recall_run.Given as goal
 
 abbrev pub invariant-loop-block : goal.invariant-loop-block
 invariant-loop-block g l = record {
-  from : l.first ≤ l.block;
-  within : l.first < l.block → l.block ≤ l.end;
-  states : l.store.states ≡ after g.H.NodeHash.digest l.tree l.fn.store.states l.first (l.block - l.first);
+  from : l.run.first ≤ l.block;
+  within : l.run.first < l.block → l.block ≤ l.end;
+  states : l.store.states ≡ after g.H.NodeHash.digest l.tree l.fn.store.states l.run.first (l.block - l.run.first);
   others : l.store ≡ record l.fn.store { states = l.store.states };
 }

@@ -1,4 +1,4 @@
-use Rattle.std.proofs.Common.{sym, ap, ◌∙◌, subst}
+use Rattle.std.proofs.Common.{refl, sym, ap, ◌∙◌, subst}
 use Rattle.std.proofs.lemmas.List.{with_items_is}
 use Rattle.std.specs.Vec.{with_items}
 use Rattle.bt_engine_state.specs.Parts.{hints_of}
@@ -30,7 +30,7 @@ returns-clause-recovers g c =
     let are = with_items_is old.slots made (c.restore_files.auto.slots ∙ c.deref_mut.ensures.len) in
     recovers old (with_items old.slots made) (seen_alike tree_and_length old.slots are c.restore_files.ensures.kept c.deref_mut.ensures.value)
     (seen_alike block_total old.slots are c.restore_files.ensures.sizes c.deref_mut.ensures.value) c.follow_files.new.parts c.follow_files.ensures.others c.requires.alone
-    (restored_alike (c.hints.ensures ∙ sym (ap hints_of c.in-Some.is)) c.deref.ensures.value c.deref_mut.ensures.value are c.restore_files.ensures.restores)
+    (restored_alike refl c.deref.ensures.value c.deref_mut.ensures.value are (c.restore_files.ensures.restores (hints_of old.log) c.requires.runs))
 
 pub returns-clause-places : goal.returns-clause-places
 returns-clause-places g c =

@@ -2,6 +2,8 @@ use Rattle.std.proofs.Common.{List, ℕ, ◌≢◌, sym, ap, ◌∙◌, subst}
 use Rattle.std.specs.List.{AllPairs}
 use Rattle.std.proofs.lemmas.List.{with_items_is}
 use Rattle.bt_sparse.specs.SparseTree.{Facts}
+use Rattle.bt_resume.specs.declared.hint.Hint.{Hint}
+use Rattle.bt_engine_recall.specs.Runs.{AreRunsOf}
 use Rattle.bt_engine_state.specs.Parts.{hints_of}
 use Rattle.bt_engine_start.specs.Trees.{AreTreesOf}
 use Rattle.bt_engine_restart.proofs.Logs.{made_apart, trees_from}
@@ -20,3 +22,7 @@ returns-clause-trees g c =
     trees_from trees c.in_ok-trees.ensures c.deref.ensures.value c.deref_mut.ensures.value
     (with_items_is trees made (c.take_proofs.auto.trees ∙ c.deref_mut.ensures.len)) c.in_ok-take_proofs.ensures.taken
     (c.hints.ensures ∙ sym (ap hints_of c.in-Some.is)) c.take_proofs.ensures.roots c.take_proofs.ensures.lengths
+
+pub returns-clause-runs : goal.returns-clause-runs
+returns-clause-runs g c =
+    subst (λ (hints : List Hint). AreRunsOf hints c.in_ok-runs.runs.items) (c.hints-2.ensures ∙ sym (ap hints_of c.in-Some.is)) c.in_ok-runs.ensures

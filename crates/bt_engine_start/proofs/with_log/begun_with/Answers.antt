@@ -2,6 +2,8 @@ use Rattle.std.proofs.Common.{◌≡◌, None, List, map, All, refl, sym, ap, �
 use Rattle.std.specs.Vec.{with_items}
 use Rattle.std.proofs.lemmas.List.{with_items_is}
 use Rattle.bt_sparse.specs.SparseTree.{Facts}
+use Rattle.bt_resume.specs.declared.hint.Hint.{Hint}
+use Rattle.bt_engine_recall.specs.Runs.{AreRunsOf}
 use Rattle.bt_engine_state.specs.declared.slot.Slot.{Slot}
 use Rattle.bt_engine_start.proofs.RootTrees.{all_short, none_bare}
 use Rattle.bt_engine_start.proofs.Beginnings.{have_begun}
@@ -34,3 +36,6 @@ returns-clause-begun g c =
       lengths = ap (λ (ks : List Facts). map (λ k. k.file_length) ks) are ∙ c.take_proofs.ensures.lengths
           ∙ ap (λ (ks : List Facts). map (λ k. k.file_length) ks) c.deref_mut.ensures.value;
     }
+
+pub returns-clause-runs : goal.returns-clause-runs
+returns-clause-runs g c = subst (λ (hints : List Hint). AreRunsOf hints c.in_ok-runs.runs.items) c.hints-2.ensures c.in_ok-runs.ensures

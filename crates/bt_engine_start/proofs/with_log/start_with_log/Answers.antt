@@ -1,9 +1,11 @@
-use Rattle.std.proofs.Common.{◌≡◌, false, true, Some, refl, sym, ap, ◌∙◌}
+use Rattle.std.proofs.Common.{◌≡◌, false, true, List, Some, refl, sym, ap, ◌∙◌, subst}
 use Rattle.bt_resume.specs.ResumeLog.{LogView}
 use Rattle.bt_machine.specs.Opening.{bare as begins, starts, other_count, other_log, no_memory}
 use Rattle.bt_machine.specs.Start.{device_count}
 use Rattle.bt_machine.proofs.Lists.{some_is}
 use Rattle.bt_engine_pending.specs.Pending.{PendingView}
+use Rattle.bt_engine_recall.specs.Runs.{AreRunsOf}
+use Rattle.bt_engine_recall.specs.declared.runs.MarkRun.{MarkRun}
 use Rattle.bt_engine_state.specs.Parts.{state_of, disks_of, log_of}
 use Rattle.bt_engine_state.specs.declared.open_log.OpenLog.{OpenLog}
 use Rattle.bt_engine_start.proofs.LogStarts.{logged_tied, logged_shaped, logged_alone, logged_missing, placed, begins_with, begins_new, lawful_new}
@@ -48,6 +50,10 @@ pub recover_files-requires-clause-missing : goal.recover_files-requires-clause-m
 recover_files-requires-clause-missing g c =
     let held : OpenLog g.row.D.Denot = record { log = c.args.log; pending = c.new-pending.result } in
     logged_missing c.in-Ok.parts held (ap (λ (p : PendingView). p.hints) c.new-pending.ensures) c.in-Ok.ensures.begun
+
+pub recover_files-requires-clause-runs : goal.recover_files-requires-clause-runs
+recover_files-requires-clause-runs g c =
+    subst (λ (runs : List MarkRun). AreRunsOf c.args.log.hints runs) (sym c.deref.ensures.value) c.in-Ok.ensures.runs
 
 pub returns-in-Ok-clause-answer : goal.returns-in-Ok-clause-answer
 returns-in-Ok-clause-answer g c =
