@@ -46,9 +46,7 @@ pub use bt_session::{
 
 // Several peers at a time: the caller gives the engine each event, and sends what it answers.
 pub use bt_book::{BlockId, PeerKey};
-pub use bt_engine::{
-    Answer, EngineError, Event, Frame, Note, Output, run_as_promised, run_events,
-};
+pub use bt_engine::{Answer, EngineError, Event, Frame, Note, Output, run_as_promised, run_events};
 
 // The wire (BEP 3, BEP 52): messages, how they are written, and how a stream of bytes is cut into them.
 pub use bt_hashreq::{HashKey, KEY_LEN, read_key, write_key};

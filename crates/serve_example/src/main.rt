@@ -156,7 +156,10 @@ fn read_bytes(rt: &HostRuntime) -> Result<Vec<u8>> {
 fn load(rt: &HostRuntime) -> Result<Store> {
     let bytes = read_bytes(rt)?;
     let torrent = torrent_of(rt.alloc(), &bytes)?;
-    println!(rt; "infohash {}", hex::encode(rt.alloc(), &torrent.infohash())?)?;
+    println!(rt;
+        "infohash {}",
+        hex::encode(rt.alloc(), &torrent.infohash())?
+    )?;
     let mut store = start(rt.alloc(), torrent, bytes)?;
     store.adopt(0)?;
     println!(rt; "{:?}", store.report(0))?;
