@@ -94,7 +94,7 @@ fn take_events<D: Disk + Drop, H: NodeHash>(
     peer: PeerKey,
     sent: &mut Vec<u8>,
 ) -> Result<Option<Why>>
-    ensures { LeadsTo D.conduct H.digest store.old store.new }
+    ensures run { LeadsTo D.conduct H.digest store.old store.new }
 {
     for _ in 0..u64::MAX {
         let Some(output) = store.next(peer)? else {
@@ -136,7 +136,7 @@ fn hear_events<D: Disk + Drop, H: NodeHash>(
     bytes: &[u8],
     sent: &mut Vec<u8>,
 ) -> Result<Option<Why>>
-    ensures { LeadsTo D.conduct H.digest store.old store.new }
+    ensures run { LeadsTo D.conduct H.digest store.old store.new }
 {
     store.feed(peer, bytes)?;
     let closed = take_events(alloc, store, peer, sent)?;
