@@ -90,28 +90,41 @@ fn parsed_again(alloc: Global, text: &[u8]) -> Result<Doc, BencodeError> {
     }
 }
 
-/// A tree of a file of this length and root: which digests are asked for its first leaf, how many nodes it holds once these have
-/// come, and what is asked for then.
+/// A tree of a file of this length and root: which digests are asked for a leaf, how many nodes it holds once these have come, and
+/// what is asked for then.
 fn proof_row(alloc: Global, words: &mut Words, out: &mut String) -> Result<(), AllocError> {
     let length = words.long();
     let root = words.array(alloc)?;
+    let leaf = words.number();
     let digests = words.bytes(alloc)?;
     let Some(geometry) = Geometry::new(length) else {
         return out.push_str("no tree");
     };
     let mut tree = tree_again(alloc, geometry, root)?;
-    let Some(key) = plan(&tree, 0) else {
+    let Some(key) = planned(&tree, leaf) else {
         return out.push_str("nothing is asked for");
     };
+    push_key(out, &key)?;
+    match proved_again(alloc, &mut tree, &key, &digests) {
+        Ok(count) => write!(out, "{count} nodes, then {:?}", planned(&tree, leaf)),
+        Err(error) => write!(out, "{error}"),
+    }
+}
+
+/// What is asked for a leaf; None also where there is no such block.
+fn planned(tree: &SparseTree<Plain>, leaf: u32) -> Option<HashKey> {
+    if leaf >= tree.geometry().blocks() {
+        return None;
+    }
+    plan(tree, leaf)
+}
+
+fn push_key(out: &mut String, key: &HashKey) -> Result<(), AllocError> {
     write!(
         out,
         "base {}, index {}, length {}, layers {}: ",
         key.base, key.index, key.length, key.layers
-    )?;
-    match proved_again(alloc, &mut tree, &key, &digests) {
-        Ok(count) => write!(out, "{count} nodes, then {:?}", plan(&tree, 0)),
-        Err(error) => write!(out, "{error}"),
-    }
+    )
 }
 
 fn tree_again(
@@ -136,7 +149,9 @@ fn proved_again(
         claim => claim?,
     };
     match tree.accept(&claim) {
-        Err(ProofError::OutOfMemory) if tree.known(0, 0).is_none() => tree.accept(&claim),
+        Err(ProofError::OutOfMemory) if tree.known(key.base, key.index).is_none() => {
+            tree.accept(&claim)
+        }
         accepted => accepted,
     }
 }
