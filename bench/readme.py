@@ -5,8 +5,8 @@
 
 Of each page the lines behind the prompt `$ ` are run, in their order, by a shell in a folder of their own, which has a copy of `examples`
 and the program as `./btseed`: the one that is named, or else what `./btseed` runs at the top. What two machines do (`one$`, `two$`) is left
-out. Then it looks for the parts that `docs/LIBRARY.md` shows in the program of the crate `library_example`. The status is 0 where all is as
-printed.
+out. Then it looks for the parts that `docs/LIBRARY.md` shows in the programs of the crates `library_example` and `serve_example`. The
+status is 0 where all is as printed.
 """
 
 import pathlib
@@ -20,6 +20,7 @@ from measure import TOP
 
 PAGES = ("README.md", "examples/README.md")
 PROMPT = "    $ "
+EXAMPLES = "library_example", "serve_example"
 
 
 def shown(text):
@@ -55,11 +56,11 @@ def differing(page, program):
 
 
 def is_library_stale():
-    """Whether a part of a program that LIBRARY.md shows is none of that of its crate."""
-    program = (TOP / "crates/library_example/src/main.rt").read_text()
+    """Whether LIBRARY.md shows a part of a program that none of the examples has."""
+    programs = "".join((TOP / f"crates/{crate}/src/main.rt").read_text() for crate in EXAMPLES)
     parts = re.findall(r"^```rust\n(.*?)^```$", (TOP / "docs/LIBRARY.md").read_text(), re.DOTALL | re.MULTILINE)
-    is_stale = not parts or any(part not in program for part in parts)
-    print("docs/LIBRARY.md:", "another program than that of" if is_stale else "parts of the program of", "library_example")
+    is_stale = not parts or any(part not in programs for part in parts)
+    print("docs/LIBRARY.md:", "other programs than those of" if is_stale else "parts of the programs of", *EXAMPLES)
     return is_stale
 
 

@@ -29,14 +29,27 @@ fn parse_row(alloc: Global, words: &mut Words, out: &mut String) -> Result<(), A
     }
 }
 
-fn push_doc(alloc: Global, value: &Value, text: &[u8], out: &mut String) -> Result<(), AllocError> {
+/// A value, and whether it is written as the text. Where memory is refused it is written once more.
+pub fn push_doc(
+    alloc: Global,
+    value: &Value,
+    text: &[u8],
+    out: &mut String,
+) -> Result<(), AllocError> {
     push_value(out, value)?;
-    let written = write(alloc, value)?;
+    let written = written_again(alloc, value)?;
     out.push_str(if written.as_slice() == text {
         "; written so"
     } else {
         "; written another way"
     })
+}
+
+fn written_again(alloc: Global, value: &Value) -> Result<Vec<u8>, AllocError> {
+    match write(alloc, value) {
+        Err(AllocError) => write(alloc, value),
+        written => written,
+    }
 }
 
 /// Adds a number as it stands, a string between quotes, and what a list or a dictionary has between brackets.

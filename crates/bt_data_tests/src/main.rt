@@ -7,6 +7,7 @@ mod builder;
 mod bytes;
 mod digest;
 mod make;
+mod memory;
 mod names;
 mod parts;
 mod shares;

@@ -4,6 +4,7 @@ use crate::bencode::bencode_row;
 use crate::builder::builder_row;
 use crate::digest::digest_row;
 use crate::make::make_row;
+use crate::memory::memory_row;
 use crate::names::{Names, Words};
 use crate::shares::part_row;
 use crate::torrent::{laws_row, texts_row, torrent_row};
@@ -105,6 +106,7 @@ fn object_row(
         "builder" => builder_row(alloc, &mut objects.builder, words, out),
         "torrent" => torrent_row(alloc, &mut objects.torrent, words, out),
         "make" => make_row(alloc, objects, words, out),
+        "memory" => memory_row(alloc, objects, words, out),
         "texts" => texts_row(out),
         "laws" => laws_row(out),
         _ => {
