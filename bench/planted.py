@@ -18,6 +18,7 @@ Printed are all but those of the first kind, and a table. The status is 0 where 
 import argparse
 import collections
 import concurrent.futures
+import os
 import pathlib
 import queue
 import re
@@ -29,6 +30,8 @@ from edits import made, planted
 from measure import TOP
 
 OWN, NAME, LIMIT, PROVED, UNKNOWN, NONE = KINDS = ("own goal", "answer's name", "limit", "proved", "not judged", "no edit")
+# How many processes a check has.
+JOBS = "1"
 FUNCTION = re.compile(r"^( *)(?:pub(?:\([a-z]+\))? )?(?:const )?(?:unsafe )?fn (\w+)", re.MULTILINE)
 GONE = re.compile(r"has no field|is not in scope|has no `|was not admitted|is no name")
 AT_LIMIT = re.compile(r"could not tell|ran out of|outgrew the memory limit|stopped at the step limit")
@@ -81,6 +84,7 @@ def checked(crate, batch):
     were = {file: (crate / file).read_text(encoding="utf-8") for file in texts}
     modules = sorted({module for _, functions in batch for module, _ in functions})
     words = ["--allow-holes", *(word for module in modules for word in ("--only", module))] if modules else []
+    words += ["--jobs", JOBS]
     try:
         for file, text in texts.items():
             (crate / file).write_text(text, encoding="utf-8")
@@ -148,11 +152,11 @@ def try_crate(name, edits, copies):
     try:
         crate = copy / "crates" / name
         batches, faults = batches_of(edits, crate)
-        # in what is proved here a batch is judged in a minute
-        subprocess.run(["rt", "check"], cwd=crate, stdout=subprocess.DEVNULL, stderr=subprocess.DEVNULL, check=False)
         told = {edit: (NONE, why) for edit, why in faults}
+        # what this proves is not proved again with the edits
+        whole = subprocess.run(["rt", "check", "--jobs", JOBS], cwd=crate, stdout=subprocess.DEVNULL, stderr=subprocess.DEVNULL, check=False)
         for batch in batches:
-            told |= judge(crate, batch)
+            told |= judge(crate, batch) if whole.returncode == 0 else {edit: (UNKNOWN, "the crate is not proved") for edit, _ in batch}
     finally:
         copies.put(copy)
     for edit, (kind, line) in sorted(told.items()):
@@ -168,6 +172,8 @@ def main():
     parser.add_argument("--lanes", type=int, default=1)
     parser.add_argument("crates", nargs="*")
     words = parser.parse_args()
+    global JOBS
+    JOBS = str(max(1, len(os.sched_getaffinity(0)) // words.lanes))
     every = planted()
     lacking = [name for name in words.crates if name not in every]
     if lacking:
