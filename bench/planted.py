@@ -6,8 +6,8 @@
 The last commit is copied to a temporary folder. There edits of different functions of a crate are put into its text together, and judged by
 one check of the modules that they change; edits of one function are judged one after the other, those of no function alone, by a check of
 the whole crate. What can't be judged with others, say since the text does not compile, is tried once more alone. With --lanes N so many
-crates are tried at a time, each in a copy of its own. Without names it is all crates: an hour on four processors, where all crates were
-proved on this machine before.
+crates are tried at a time, each in a copy of its own, which takes least where all crates were proved on this machine before. Without names
+it is all crates.
 
 An edit is refused at its own goal, where something that the function promises can't be proved of it; at an answer's name only, where the
 proof that was written by hand names what the edit took away, which says little of the contract: then a clause or a row has to refuse it;
