@@ -1,7 +1,7 @@
 #!/usr/bin/env python3
 """Runs the gate, `rt ci`, and prints what each crate's proof, tests and edits took of the processors, beside what each may take.
 
-    python3 bench/gate.py [--kept] [CRATE..]
+    python3 bench/gate.py [--kept | --write] [CRATE..]
     python3 bench/gate.py --log FILE
 
 With names of crates only these and those below them are tried. Everything is proved from nothing; with --kept, what earlier runs on
@@ -9,7 +9,8 @@ this machine passed is not proved again, so that a table of what a change costs 
 proves all anew each time. What the gate prints goes to standard error, the table to standard output, in processor minutes.
 `bench/gate.txt` has what each crate may take: a line each, with the minutes of its proof, of its tests and of its edits. A crate that
 takes more, or that the file does not name, ends the run with status 1, and so does a whole gate from nothing that takes more than MOST;
-a gate that fails, with its own.
+a gate that fails, with its own. With --write the file then gets what was measured, and a tenth more, in place of what it had for these
+crates: for a run alone on the machine.
 
 The second form reads what `.ci/run` wrote to standard output and standard error, and judges its sum alone: `rt ci` tells no times of
 crates. Where it took some proofs from earlier runs, that is said, and the sum is not judged.
@@ -112,6 +113,19 @@ def limits():
     return found
 
 
+def write_limits(taken):
+    """Puts what was measured, and a tenth more, into the file, for the crates that were proved: half a minute at least where a part is made."""
+    lines = []
+    for line in LIMITS.read_text().splitlines():
+        crate = line.split("#")[0].partition(" ")[0]
+        minutes = [taken[crate, part] / 60 for part in PARTS]
+        if minutes[0]:
+            proof, tests, edits = (max(0.5, 1.1 * much) if much else 0.0 for much in minutes)
+            line = f"{crate:20}{proof:4.1f}{tests:6.1f}{edits:7.1f}"
+        lines.append(line)
+    LIMITS.write_text("\n".join(lines) + "\n")
+
+
 def is_too_much(minutes):
     """Tells of a whole gate from nothing whether it took more than it may."""
     print(f"{minutes:.1f} processor minutes of {MOST}{': too many' if minutes > MOST else ''}")
@@ -156,6 +170,9 @@ def main(words):
     sums = [sum(much for (_, of), much in taken.items() if of == part) / 60 for part in PARTS]
     print(f"{'together':16}" + "".join(f"{much:8.1f}{'':10}" for much in sums).rstrip())
     print(f"in all {whole / 60:.1f} processor minutes, in {minutes:.1f} minutes")
+    if "--write" in words and status == 0:
+        write_limits(taken)
+        over = False
     if not names and "--kept" not in words:
         over = is_too_much(whole / 60) or over
     return status or int(over)
