@@ -101,12 +101,14 @@ def verdict_on(function, crate, said):
     lines = [line for line in said.splitlines() if re.match(rf"fn {crate}::(?:{module}::)?(?:\S+::)?{name}(?:::\S+)?: ", line)]
     if not lines:
         return UNKNOWN, "no line tells of it"
-    own = re.compile(rf"`Rattle\.{crate}\.proofs\.{module.replace('::', '.')}\.(?:\S+\.)?\+?{name}\.")
+    # of functions that call each other the answers stand together, each with its function's name in front
+    own = re.compile(rf"`Rattle\.{crate}\.proofs\.{module.replace('::', '.')}\.(?:\S+\.)?(?:\+?{name}\.|\+\w+\.\w+\.{name}-)")
     line = next((line for line in lines if "did not prove" in line or own.search(line)), None)
     if line is None:
         kind = LIMIT if any(AT_LIMIT.search(line) for line in lines) else PROVED
         return kind, lines[0]
-    errors = re.findall(rf"proofs/{module.replace('::', '/')}/(?:\S+/)?\+?{name}/\S+?:\d+:\d+: error: .*", said)
+    of_answers = rf"proofs/{module.replace('::', '/')}/(?:\S+/)?(?:\+?{name}/\S+: error: |\+\w+/\S+: error: `{name}-).*"
+    errors = re.findall(of_answers, said)
     if "did not prove" not in line and errors and all(GONE.search(error) for error in errors):
         return NAME, errors[0]
     return OWN, line
