@@ -55,8 +55,8 @@ def tried(folder, name, stands_on):
     shutil.copy2(TOP / "btseed", folder)
     for part in ("scripts", *(f"crates/{crate}/src" for crate in lines)):
         shutil.copytree(TOP / part, folder / part, dirs_exist_ok=True)
-    clang = folder / "scripts" / "clang"
-    clang.write_text(clang.read_text().replace("-O3", "-O1"))
+    compiling = folder / "scripts" / "compile.sh"
+    compiling.write_text(compiling.read_text().replace('btseed "$2" 3', 'btseed "$2" 1'))
     source = folder / "crates" / "btseed" / "src"
     source.mkdir(parents=True, exist_ok=True)
     shutil.copy2(TOP / "bench" / name / "main.rt.in", source / "main.rt")

@@ -14,16 +14,29 @@ put_in_place() {
     mv "$1/btseed" "$unproved" && mv "$1/level" "$unproved_for" || exit 70
 }
 
+# Compiles a program of the repository for a level, with this much effort of the optimiser, in a new folder. What was said is in its
+# file `log`; where the kit's module has not the words that are looked for, these are in its file `unknown`.
+compile_in() {
+    local room=$1 name=$2
+    echo "$3" >"$room/level"
+    echo "$4" >"$room/effort"
+    ln -s "$(dirname -- "$(rt doc)")" "$room/kit"
+    "$top/scripts/without_proof" "$room" "$name" </dev/null >"$room/log" 2>&1
+}
+
+# The same of btseed, which is run once, for its help.
+compile_btseed() {
+    compile_in "$1" btseed "$2" 3 && "$1/btseed" --help >/dev/null 2>>"$1/log"
+}
+
 # Compiles for a level, in a folder that is removed afterwards. Fails where the kit's module has not the words that are looked for.
 compile_for() {
     local status=0 word=
     room=$(mktemp -d "${unproved%/*}/room.XXXXXX") || exit 70
     trap 'rm -rf "$room"' EXIT
     touch "$room/started"
-    echo "$1" >"$room/level"
-    ln -s "$(dirname -- "$(rt doc)")" "$room/kit"
     echo 'compiling without proof, some two minutes; ./prove proves and builds it, some 50 minutes' >&2
-    in_group "$top/scripts/without_proof" "$room" </dev/null >"$room/log" 2>&1 || status=$?
+    in_group compile_btseed "$room" "$1" || status=$?
     if [[ -e $room/unknown ]]; then
         word=$(<"$room/unknown")
         echo "what this kit compiles has no line like $word, so ./prove is done instead, some 50 minutes" >&2
