@@ -1,5 +1,5 @@
 -- What a flush kept stands over all lives after it.
-use Rattle.bt_machine.proofs.Base.{[], ◌≡◌, ℕ, ◌+◌, ◌*◌, ◌≤◌, inl, inr, List, ◌∷◌, length, flat_map, Option, Some, Result, Ok, Err, refl, sym, ap, ◌∙◌, subst, arith, slice_get, Contains, ⊤, option_and_then, IsRight, BlockRead, given, block_of, call_of, Marked, BlockId, File, Facts, Call, AdoptMarksByBytes, CallsKeepBytes, IsImage, History, Metainfo}
+use Rattle.bt_machine.proofs.Base.{[], ◌≡◌, ℕ, ◌+◌, ◌*◌, ◌≤◌, inl, inr, List, ◌∷◌, length, flat_map, Option, Some, Result, Ok, Err, sym, ap, ◌∙◌, subst, arith, slice_get, Contains, ⊤, option_and_then, IsRight, BlockRead, given, block_of, call_of, Marked, BlockId, File, Facts, Call, AdoptMarksByBytes, CallsKeepBytes, IsImage, History, Metainfo}
 use Rattle.std.specs.Prelude.{MatchResult}
 use Rattle.bt_tree.specs.Limits.{digest_length}
 use Rattle.bt_disk.specs.Conduct.{Conduct}
@@ -8,7 +8,7 @@ use Rattle.bt_disk.specs.History.{moment_of, LeftBefore, LeftSince}
 use Rattle.bt_disk.specs.Calls.{IsRead}
 use Rattle.bt_disk.specs.Law.{KeptFromNow}
 use Rattle.bt_resume.specs.LogText.{LogText, hints_in, IsText, GoesOn}
-use Rattle.bt_resume.specs.ResumeLog.{LogView, IsAttached, Opens}
+use Rattle.bt_resume.specs.ResumeLog.{LogView, IsAttached}
 use Rattle.bt_resume.specs.declared.error.LogError.{LogError}
 use Rattle.bt_resume.specs.Law.{Begin, KeepsText, KeepsFirst, IsTextKeptSince, IsNotOfBytes, HintsComeFirst, KeptDevicesOpen, AttachKeeps, AttachStands, ReloadStands, AppendStands, FlushStands, FlushedStand, AppendHolds, FlushHolds, ReloadHolds}
 use Rattle.bt_machine.specs.State.{FileState, EngineState, EngineView}
@@ -19,7 +19,7 @@ use Rattle.bt_machine.specs.Opening.{unopened, BeginsOn}
 use Rattle.bt_machine.specs.Shape.{IsShaped}
 use Rattle.bt_machine.specs.Stored.{stored_block}
 use Rattle.bt_machine.specs.Backing.{RunsAreBacked}
-use Rattle.bt_machine.specs.Reopening.{NoneFailed, RestartsReadAll, AreLeft, IsLogLeft, FlushedLogsAreKept}
+use Rattle.bt_machine.specs.Reopening.{NoneFailed, RestartsReadAll, IsLogLeft, FlushedLogsAreKept}
 use Rattle.bt_machine.specs.Lives.{SyncedIsSettled, IsSettled, IsLife, Lives, own, further, refused, ReadAll, FlushedBlocksAreMarkedAgain, FlushedBlocksAreKept, FlushedLogsOpen}
 use Rattle.bt_machine.specs.LogCalls.{AreLogCalls}
 use Rattle.bt_machine.proofs.Machine.{Digest}

@@ -1,5 +1,5 @@
 -- What a log kept at a flush that answered Ok, over the events that follow and in what a stop leaves.
-use Rattle.bt_machine.proofs.Base.{◌≡◌, true, List, flat_map, Some, ap, ◌∙◌, subst, Metainfo}
+use Rattle.bt_machine.proofs.Base.{◌≡◌, true, flat_map, Some, ap, ◌∙◌, subst, Metainfo}
 use Rattle.bt_disk.specs.Conduct.{Conduct}
 use Rattle.bt_disk.specs.History.{moment_of}
 use Rattle.bt_resume.specs.LogText.{LogText}
