@@ -1,7 +1,14 @@
 -- The calls of a log, parted and put together.
-use Rattle.std.proofs.Common.{[], ◌≡◌, List, ◌∷◌, ◌++◌, Option, Some, None, refl, ap, ◌∙◌}
+use Rattle.std.specs.Prelude.{is_some, option_map}
+use Rattle.std.proofs.Common.{[], ◌≡◌, true, List, ◌∷◌, ◌++◌, length, Option, Some, None, refl, sym, ap, ◌∙◌}
+use Rattle.bt_tree.specs.Limits.{digest_length}
 use Rattle.bt_disk.specs.Conduct.{Conduct}
+use Rattle.bt_resume.specs.ResumeLog.{LogView}
+use Rattle.bt_machine.specs.Backing.{GoesByLog}
 use Rattle.bt_machine.specs.LogCalls.{LogCall, AreLogCalls, HaveLogCalls}
+use Rattle.bt_engine_state.specs.declared.open_log.OpenLog.{OpenLog}
+use Rattle.bt_engine_state.specs.declared.parts.Parts.{Parts}
+use Rattle.bt_engine.specs.Kept.{view_of}
 
 module _ {D : Type 0} (conduct : Conduct D) where
   calls_parted : (old new : _) (calls more : List LogCall) → AreLogCalls conduct old (calls ++ more) new
@@ -40,3 +47,21 @@ module _ {D : Type 0} (conduct : Conduct D) where
   pub no_log_calls : (log : Option _) → HaveLogCalls conduct log [] log
   no_log_calls (Some log) = refl
   no_log_calls None = refl
+
+-- the parts go by their log, where its infohash has 32 bytes
+pub goes_by : {D H : Type 0} (parts : Parts D H)
+    → ((open_log : OpenLog D) → parts.log ≡ Some open_log → length open_log.log.infohash ≡ digest_length) → GoesByLog (view_of parts)
+goes_by {D} parts whole log is = by parts.log refl
+  where
+    same : {a b : LogView D} → Some a ≡ Some b → a ≡ b
+    same e = cc
+
+    none : {l : LogView D} → None ≡ Some l → ⊥
+    none e = cc
+
+    by : (o : Option (OpenLog D)) → parts.log ≡ o → (is_some parts.log ≡ true) × (length log.infohash ≡ digest_length)
+    by (Some open_log) e = (
+      ap is_some e,
+      ap (λ (l : LogView D). length l.infohash) (same (sym is ∙ ap (option_map (λ (x : OpenLog D). x.log)) e)) ∙ whole open_log e,
+    )
+    by None e = absurd (none (sym (ap (option_map (λ (x : OpenLog D). x.log)) e) ∙ is))

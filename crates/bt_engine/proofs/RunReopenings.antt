@@ -8,7 +8,7 @@ use Rattle.bt_resume.specs.declared.error.LogError.{LogError}
 use Rattle.bt_machine.specs.declared.error.StartError.TheVariants.{DiskCount, OtherLog, OutOfMemory}
 use Rattle.bt_machine.specs.declared.error.StartRefused.{StartRefused}
 use Rattle.bt_machine.specs.Opening.{AnswersStart, BeginsOn, starts, other_count, other_log, no_memory}
-use Rattle.bt_machine.specs.Reopening.{FlushedLogsAreKept}
+use Rattle.bt_machine.specs.Lives.{FlushedLogsOpen}
 use Rattle.bt_machine.specs.Start.{device_count}
 use Rattle.bt_machine.specs.State.{EngineView}
 use Rattle.bt_engine.specs.Reopened.{IsReopened, IsBackedByLog}
@@ -48,10 +48,10 @@ module _ {D : Type 0} (conduct : Conduct D) (dig : List ℕ → List ℕ) where
         same_log = subst (λ (r : StartRefused D (LogView D)). r.log ≡ Some log) one back.same_log;
       }
 
-  pub refuses_none : FlushedLogsAreKept conduct dig → (torrent : Metainfo) (log new : D) (cause : LogError)
+  pub refuses_none : FlushedLogsOpen conduct dig → (torrent : Metainfo) (log new : D) (cause : LogError)
       → Opens conduct torrent.infohash log (Err cause) new → RefusesNoneFlushed conduct dig torrent log cause
-  refuses_none kept torrent log new cause opens flushed last synced stopped r left =
-      (kept torrent flushed last synced stopped r left.was_honest).opens log new (Err cause) left opens
+  refuses_none law torrent log new cause opens flushed since now log_since log_now lives left =
+      law torrent flushed since now log_since log_now log new (Err cause) lives left opens
 
   -- ---- what a start with an opened log comes to
 

@@ -1,5 +1,5 @@
 -- What is marked again where a stop after a flush has left devices and a log.
-use Rattle.std.specs.Prelude.{◌≡◌, ℕ, true, List, Option, Some}
+use Rattle.std.specs.Prelude.{◌≡◌, ℕ, List, Option, Some}
 use Rattle.bt_disk.specs.Conduct.{Conduct}
 use Rattle.bt_meta.specs.Torrent.{Metainfo}
 use Rattle.bt_resume.specs.ResumeLog.{LogView, IsAttached}
@@ -8,23 +8,23 @@ use Rattle.bt_book.specs.declared.names.BlockId.{BlockId}
 use Rattle.bt_machine.specs.State.{EngineView}
 use Rattle.bt_machine.specs.Blocks.{state_at}
 use Rattle.bt_machine.specs.Start.{AreDevicesOf}
-use Rattle.bt_machine.specs.Backing.{HasBacking, is_backed_after}
-use Rattle.bt_machine.specs.Reopening.{RunsPastFlush, RestartsReadAll, AreLeft, IsLogLeft, NoneFailed}
+use Rattle.bt_machine.specs.Backing.{HasBacking}
+use Rattle.bt_machine.specs.Lives.{Lives, ReadAll}
+use Rattle.bt_machine.specs.Reopening.{AreLeft, IsLogLeft, NoneFailed}
 
 module _ {D : Type 0} (conduct : Conduct D)
     (dig : List ℕ → List ℕ) where
   -- An engine has begun over these devices and this log. Where they are what a stop has left of those of an
-  -- engine of the torrent, at any moment since a flush that answered Ok, and the log was opened, and no read
-  -- failed: each block is marked that was marked at the flush. A restart since the flush counts as a
-  -- reopening: no read of it failed either. Of the restarts before the flush none ran out of memory since the
-  -- last one that was accepted.
+  -- engine of the torrent, at any moment since a flush that answered Ok, in the life of the flush or in a later one
+  -- that began with what such a stop had left, and the log was opened, and no read failed: each block is marked that
+  -- was marked at the flush. A restart since the flush, and the start of each later life, counts as a reopening: no
+  -- read of it failed either. Of the restarts before the flush none ran out of memory since the last one that was
+  -- accepted, and where none was, no call was made of the log between its opening and the start.
   abbrev pub MarksAgain : Metainfo → (left : List (Option D)) → (opened : LogView D) → EngineView D → Type 0
-  MarksAgain torrent left opened again = (flushed last : EngineView D) (synced stopped : LogView D)
-      (log_left : D) (b : BlockId)
-      → (r : RunsPastFlush conduct dig torrent flushed last synced stopped)
-      → is_backed_after true r.answers ≡ true → RestartsReadAll r.later r.goes_on.calls
-      → AreLeft conduct flushed.disks last.disks left
-      → IsLogLeft conduct synced stopped log_left
+  MarksAgain torrent left opened again = (flushed : EngineView D) (since now : List (Option D))
+      (log_since log_now log_left : D) (b : BlockId)
+      → (lives : Lives conduct dig torrent flushed since now log_since log_now) → ReadAll lives
+      → AreLeft conduct since now left → IsLogLeft conduct log_since log_now log_left
       → IsAttached conduct torrent.infohash log_left opened → NoneFailed conduct left again.disks
       → state_at flushed.state b ≡ Some Marked → state_at again.state b ≡ Some Marked
 

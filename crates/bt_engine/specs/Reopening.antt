@@ -8,7 +8,8 @@ use Rattle.bt_resume.specs.declared.error.LogError.{LogError}
 use Rattle.bt_machine.specs.declared.error.StartError.{StartError}
 use Rattle.bt_machine.specs.declared.error.StartError.TheVariants.{DiskCount, OtherLog}
 use Rattle.bt_machine.specs.Opening.{BeginsOn}
-use Rattle.bt_machine.specs.Reopening.{RunsPastFlush, IsLogLeft}
+use Rattle.bt_machine.specs.Lives.{Lives}
+use Rattle.bt_machine.specs.Reopening.{IsLogLeft}
 use Rattle.bt_machine.specs.Start.{device_count, AreDevicesOf}
 use Rattle.bt_machine.specs.State.{EngineView}
 use Rattle.bt_machine.specs.Backing.{HasBacking}
@@ -41,11 +42,11 @@ module _ {D : Type 0} (conduct : Conduct D)
       pub backed : HasBacking conduct dig engine
 
   -- No log is refused for what its bytes are that a stop has left, at any moment since a flush that answered
-  -- Ok, of that of an engine of the torrent.
+  -- Ok, in its life or a later one, of that of an engine of the torrent.
   abbrev pub RefusesNoneFlushed : Metainfo → (log : D) → LogError → Type 0
-  RefusesNoneFlushed torrent log cause = (flushed last : EngineView D) (synced stopped : LogView D)
-      → RunsPastFlush conduct dig torrent flushed last synced stopped
-      → IsLogLeft conduct synced stopped log → IsNotOfBytes cause
+  RefusesNoneFlushed torrent log cause = (flushed : EngineView D) (since now : List (Option D))
+      (log_since log_now : D) → Lives conduct dig torrent flushed since now log_since log_now
+      → IsLogLeft conduct log_since log_now log → IsNotOfBytes cause
 
   -- The log was not opened, or it was and no engine has begun. All is given back.
   pub data IsNotReopened (torrent : Metainfo) (given : List D) (log : D) (refused : ReopenRefused D) : Type 0

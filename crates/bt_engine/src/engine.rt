@@ -5,6 +5,7 @@ ghost use Rattle.std.specs.Option.{option_and_then, option_copied};
 ghost use Rattle.sha2.specs.Sha256.{sha256};
 ghost use Rattle.bt_tree.specs.Limits.{digest_length};
 ghost use Rattle.bt_meta.specs.Torrent.{IsLawful};
+ghost use Rattle.bt_machine.specs.Backing.{HasBacking, GoesByLog};
 ghost use Rattle.bt_machine.specs.Frames.{AreSparseTrees};
 ghost use Rattle.bt_machine.specs.Law.{AreRooted};
 ghost use Rattle.bt_machine.specs.Orderly.{IsOrderly};
@@ -14,6 +15,7 @@ ghost use Rattle.bt_machine.specs.Sound.{IsSound};
 ghost use Rattle.bt_machine.specs.Opening.{AnswersStart};
 ghost use Rattle.bt_machine.specs.View.{StepsTo};
 ghost use Rattle.bt_engine_adopt.specs.Unknown.{HasUnknownLeaf};
+ghost use Rattle.bt_engine.specs.Kept.{view_of};
 ghost use Rattle.bt_engine.specs.Standing.{Stands, KeepsBlocks, KeepsHints};
 ghost use Rattle.bt_engine.specs.Reopened.{IsReopened, IsBackedByLog};
 
@@ -225,7 +227,8 @@ impl<D: Disk + Drop, H: NodeHash> Engine<D, H> {
     }
 
     /// Begins all anew, as a start does, with what a log has now, which is read again first. No peer is
-    /// connected, and nothing waits for the log. Keys and turns go on.
+    /// connected, and nothing waits for the log. Keys and turns go on. A log then has enough of each marked block,
+    /// whatever it held before, as by hints that were appended to it between its opening and the start.
     ///
     /// Errors: `Log` where the log could not be read, and then nothing has changed; out of memory, and then a
     /// log was read again, and nothing else has changed. No device of a file is called then.
@@ -233,8 +236,11 @@ impl<D: Disk + Drop, H: NodeHash> Engine<D, H> {
         ensures step { StepsTo D.conduct H.digest
             self.old Event.Restart (Answer.Restarted result) self.new }
         ensures devices { IfErr result (λ _. self.new.disks ≡ self.old.disks) }
+        ensures backed { OnOk result (HasBacking D.conduct H.digest self.new) }
     {
         steps_keep_laws::<D, H>(self.hash);
+        logs_back_engines::<D, H>(self.hash);
+        goes_by_log(&self.parts);
         bt_engine_restart::restart(self.alloc, self.hash, &mut self.parts)
     }
 
@@ -311,6 +317,16 @@ fn infohash_is_whole(torrent: &Torrent)
     ensures { length torrent.now.infohash ≡ digest_length }
 {
     is_whole(torrent.infohash());
+}
+
+/// The parts have a log exactly where their state says so, and its infohash has 32 bytes. It does nothing when it
+/// runs.
+fn goes_by_log<D: Disk + Drop, H: NodeHash>(parts: &Parts<D, H>)
+    ensures { GoesByLog (view_of parts.now) }
+{
+    if let Some(open) = &parts.log {
+        is_whole(open.log.infohash());
+    }
 }
 
 /// A digest has 32 bytes, which its type says. It does nothing when it runs.

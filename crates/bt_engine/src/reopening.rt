@@ -7,7 +7,7 @@ ghost use Rattle.bt_engine.specs.Reopening.{HasReopened, IsNotReopened, IsNotSta
 
 use crate::engine::Engine;
 use bt_disk::Disk;
-use bt_machine::{StartError, StartRefused, logs_back_engines};
+use bt_machine::{StartError, StartRefused, flushed_blocks_are_marked_again};
 use bt_meta::Torrent;
 use bt_resume::{LogError, ResumeLog};
 use bt_tree::NodeHash;
@@ -35,11 +35,12 @@ pub struct ReopenRefused<D> {
 
 /// Opens the log of a torrent on a device, and starts an engine with it over the devices of the torrent's files.
 ///
-/// Once a flush answered Ok on an engine that was started with a log as it was opened, a stop at any later
-/// moment, also within an event, leaves devices over which this marks each block that was marked at the flush,
-/// where it answers Ok and no read of them fails; and it refuses the log then only for a device fault or for
-/// want of memory. So it is of honest devices, where no read of a restart failed after the flush, and after a
-/// restart before it that ran out of memory another one was accepted.
+/// Once a flush answered Ok on an engine with a log, a stop at any later moment, also within an event, leaves devices
+/// over which this marks each block that was marked at the flush, where it answers Ok and no read of them fails; and
+/// it refuses the log then only for a device fault or for want of memory. So it is too where the stopped engine was
+/// itself started over what such a stop had left, however often. All this is of honest devices, where no read failed
+/// in a start or a restart since the flush. Before the flush the engine was started with the log as it was opened, or
+/// a restart was accepted; and after the last restart that ran out of memory another one was.
 ///
 /// Errors: `Log` as `ResumeLog::attach` has it, and `Start` as `Engine::start`.
 pub fn reopen<D: Disk + Drop, H: NodeHash>(
@@ -55,7 +56,7 @@ pub fn reopen<D: Disk + Drop, H: NodeHash>(
     ensures refused { IfErr result
         (IsNotReopened D.conduct H.digest torrent disks.items log) }
 {
-    logs_back_engines::<D, H>(hash);
+    flushed_blocks_are_marked_again::<D, H>(hash);
     match ResumeLog::attach(alloc, log, torrent.infohash()) {
         Ok(opened) => start_with(alloc, torrent, hash, disks, opened),
         Err(refused) => Err(ReopenRefused {

@@ -139,12 +139,12 @@ impl TestDisk {
         self.calls
     }
 
-    /// What a crash now leaves, as a device without a defect.
-    pub fn image(&self, alloc: Global, loss: Loss) -> Result<TestDisk, AllocError> {
+    /// What a crash now leaves, as a device that stops at the call of this number; at none, where it is 0.
+    pub fn image(&self, alloc: Global, loss: Loss, call: u64) -> Result<TestDisk, AllocError> {
         match &self.medium {
             Medium::Memory(disk) => {
                 let bytes = disk.inner().image(loss)?;
-                Ok(TestDisk::in_memory(alloc, bytes, Defect::Once, 0))
+                Ok(TestDisk::in_memory(alloc, bytes, Defect::Stop, call))
             }
             Medium::Zeros(len) => Ok(TestDisk::of_zeros(*len)),
         }

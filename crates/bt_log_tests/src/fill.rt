@@ -54,7 +54,8 @@ fn long_proof(alloc: Global) -> Result<Hint, AllocError> {
     Ok(Hint::Proof(key, Digests::new(digests)))
 }
 
-fn append_times<D: Disk + Drop>(log: &mut ResumeLog<D>, hint: &Hint, count: u64) -> bool {
+/// Appends a hint so many times. False where a call is refused.
+pub fn append_times<D: Disk + Drop>(log: &mut ResumeLog<D>, hint: &Hint, count: u64) -> bool {
     for _ in 0..count {
         if !hint.can_be_read() || log.append(hint).is_err() {
             return false;

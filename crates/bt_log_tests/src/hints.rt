@@ -24,6 +24,20 @@ pub fn tell_log(
     }
 }
 
+/// In which format a log's device goes on. A copy of its bytes is read.
+pub fn tell_format(
+    alloc: Global,
+    disk: &TestDisk,
+    infohash: Hash32,
+    out: &mut String,
+) -> Result<(), RowError> {
+    let bytes = Vec::from_slice(alloc, disk.bytes())?;
+    match ResumeLog::attach(alloc, MemoryDisk::new(alloc, bytes), infohash) {
+        Ok(log) => Ok(write!(out, "format {}", log.format())?),
+        Err(refused) => tell_refusal(out, refused.cause),
+    }
+}
+
 /// Why a log is refused.
 pub fn tell_refusal(out: &mut String, cause: LogError) -> Result<(), RowError> {
     if cause == LogError::OutOfMemory {

@@ -3,15 +3,15 @@
 use crate::bytes::tell_bytes;
 use crate::device::{Defect, TestDisk};
 use crate::events::{adopt_row, flush_row, peers_row, report_row, restart_row};
-use crate::fill::fill;
-use crate::hints::{tell_log, tell_refusal};
+use crate::fill::{append_times, fill};
+use crate::hints::{tell_format, tell_log, tell_refusal};
 use crate::peers::{connect_row, hashes_row, lost_row, piece_row};
-use crate::stops::{Stopped, stop_row, tell_not_reopened};
+use crate::stops::{Stopped, images_of, loss_of, stop_row, tell_not_reopened};
 use bt_engine::{Engine, ReopenRefused, reopen};
 use bt_lanes::Lanes;
 use bt_machine::{StartError, StartRefused};
 use bt_meta::{MetaError, Torrent, read_info, read_torrent};
-use bt_resume::{LogError, Refused, ResumeLog};
+use bt_resume::{Hint, LogError, Refused, ResumeLog};
 use bt_rows::{RowError, Rows, Words, put, tell, whole_answer};
 use bt_tree::Hash32;
 use std::alloc::{AllocError, Global};
@@ -62,6 +62,8 @@ pub struct Stage {
     log: Option<TestDisk>,
     /// How many bytes of those that a log may have are left, where it is filled before the start; else 0.
     left: u64,
+    /// What is appended to it between its opening and the start, and not flushed.
+    hint: Option<Hint>,
     engine: Option<TestEngine>,
 }
 
@@ -78,6 +80,7 @@ impl Stage {
             disks: Vec::new(alloc),
             log: None,
             left: 0,
+            hint: None,
             engine: None,
         }
     }
@@ -97,6 +100,7 @@ impl Stage {
             "start" => self.start_row(words, out),
             "reopen" => self.reopen_row(out),
             "stop" => self.stop_row(out),
+            "life" => self.life_row(words, out),
             "calls" => self.calls_row(words, out),
             name => self.engine_row(name, words, out),
         }
@@ -127,6 +131,7 @@ impl Stage {
         let count = torrent.files().len();
         self.infohash = torrent.infohash();
         self.left = 0;
+        put(&mut self.hint, None);
         put(&mut self.source, source);
         put(&mut self.torrent, Some(torrent));
         put(&mut self.disks, Vec::new(self.alloc));
@@ -149,9 +154,14 @@ impl Stage {
             "bytes" => self.log_bytes(out),
             "calls" => tell_calls(out, self.log_disk()?),
             "hints" => tell_log(self.alloc, self.log_disk()?, self.infohash, out),
+            "format" => tell_format(self.alloc, self.log_disk()?, self.infohash, out),
             "left" => {
                 self.left = words.long()?;
                 tell(out, "to be filled")
+            }
+            "marks" => {
+                put(&mut self.hint, Some(run_of(words)?));
+                tell(out, "to be appended")
             }
             kind => {
                 let disk = device_of(self.alloc, kind, words)?;
@@ -218,6 +228,11 @@ impl Stage {
         if self.left > 0 && !fill(self.alloc, &mut log, self.left)? {
             return tell(out, "not filled");
         }
+        if let Some(hint) = &self.hint
+            && !append_times(&mut log, hint, 1)
+        {
+            return tell(out, "not appended");
+        }
         let Some(torrent) = self.torrent.take() else {
             return Err(RowError::Unread);
         };
@@ -270,16 +285,38 @@ impl Stage {
         tell_not_reopened(out, cause)
     }
 
-    /// What a stop leaves of the devices, of an engine or of none, and what is marked over it.
+    /// What a stop leaves of the devices, and what is marked over it.
     fn stop_row(&self, out: &mut String) -> Result<(), RowError> {
+        stop_row(self.alloc, &self.source, self.stopped()?, out)
+    }
+
+    /// The devices that are there, of an engine or of none.
+    fn stopped(&self) -> Result<Stopped<'_>, RowError> {
         if let Some(engine) = &self.engine {
-            return stop_row(self.alloc, &self.source, Stopped::Engine(engine), out);
+            return Ok(Stopped::Engine(engine));
         }
-        let Some(log) = &self.log else {
+        match &self.log {
+            Some(log) => Ok(Stopped::Devices(self.disks.as_slice(), log)),
+            None => Err(RowError::Unread),
+        }
+    }
+
+    /// All stops: what that leaves, by a loss, are the devices of the next life, of which each of a file and that of
+    /// the log stop at a call of their own.
+    fn life_row(&mut self, words: &mut Words, out: &mut String) -> Result<(), RowError> {
+        let loss = loss_of(words)?;
+        let call = words.long()?;
+        let log_call = words.long()?;
+        let stopped = self.stopped()?;
+        let disks = images_of(self.alloc, stopped, loss, call)?;
+        let Some(log) = stopped.log() else {
             return Err(RowError::Unread);
         };
-        let devices = Stopped::Devices(self.disks.as_slice(), log);
-        stop_row(self.alloc, &self.source, devices, out)
+        let log = log.image(self.alloc, loss, log_call)?;
+        put(&mut self.disks, disks);
+        put(&mut self.log, Some(log));
+        put(&mut self.engine, None);
+        tell(out, "stopped")
     }
 
     /// An event, or what is told of the engine.
@@ -313,6 +350,15 @@ impl Rows for Stage {
         let answer = self.row_answer(&mut words);
         whole_answer(alloc, row, &words, answer)
     }
+}
+
+/// A run of marks: its file, the first block and how many.
+fn run_of(words: &mut Words) -> Result<Hint, RowError> {
+    Ok(Hint::Marks {
+        file: words.number()?,
+        first: words.number()?,
+        count: words.number()?,
+    })
 }
 
 /// A device: `zeros`, and how many; or its defect, the call of it, and its bytes.

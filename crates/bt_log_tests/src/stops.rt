@@ -8,7 +8,7 @@ use bt_disk::Loss;
 use bt_engine::{ReopenError, reopen};
 use bt_lanes::Lanes;
 use bt_machine::StartError;
-use bt_rows::{RowError, tell};
+use bt_rows::{RowError, Words, tell};
 use std::alloc::{AllocError, Global};
 use std::fmt::Write;
 
@@ -47,7 +47,7 @@ impl<'a> Stopped<'a> {
         }
     }
 
-    fn log(self) -> Option<&'a TestDisk> {
+    pub fn log(self) -> Option<&'a TestDisk> {
         match self {
             Stopped::Engine(engine) => engine.log_disk(),
             Stopped::Devices(_, log) => Some(log),
@@ -85,22 +85,44 @@ fn tell_starts(
     let mut between = "";
     for loss_of_log in &LOSSES {
         tell(out, between)?;
-        let disks = images_of(alloc, stopped, loss)?;
-        tell_start(alloc, source, disks, log.image(alloc, *loss_of_log)?, out)?;
+        let disks = images_of(alloc, stopped, loss, 0)?;
+        tell_start(
+            alloc,
+            source,
+            disks,
+            log.image(alloc, *loss_of_log, 0)?,
+            out,
+        )?;
         between = ", ";
     }
     Ok(())
 }
 
-/// What a crash leaves of the devices of files.
-fn images_of(alloc: Global, stopped: Stopped<'_>, loss: Loss) -> Result<Vec<TestDisk>, AllocError> {
+/// What a crash leaves of the devices of files. Each stops at the call of this number; at none, where it is 0.
+pub fn images_of(
+    alloc: Global,
+    stopped: Stopped<'_>,
+    loss: Loss,
+    call: u64,
+) -> Result<Vec<TestDisk>, AllocError> {
     let mut images = Vec::new(alloc);
     for number in 0..stopped.count() {
         if let Some(disk) = stopped.disk(number) {
-            images.push(disk.image(alloc, loss)?)?;
+            images.push(disk.image(alloc, loss, call)?)?;
         }
     }
     Ok(images)
+}
+
+/// The loss that a word names: `kept`, or the byte that fills what is lost.
+pub fn loss_of(words: &mut Words) -> Result<Loss, RowError> {
+    match words.word() {
+        "kept" => Ok(Loss::Kept),
+        "0" => Ok(Loss::Filled(0)),
+        "77" => Ok(Loss::Filled(77)),
+        "255" => Ok(Loss::Filled(255)),
+        _ => Err(RowError::Unread),
+    }
 }
 
 /// What is marked over these, or why the log is refused.

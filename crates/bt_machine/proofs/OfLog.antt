@@ -13,7 +13,7 @@ use Rattle.bt_machine.proofs.Machine.{Digest, Event, Connect, Feed, Next, Lost, 
 use Rattle.bt_machine.proofs.Restarts.{restart_or, recovered}
 use Rattle.bt_machine.proofs.Shape.{step_keeps}
 use Rattle.bt_machine.proofs.Backing.{log_split}
-use Rattle.bt_machine.proofs.PastFlush.{infohash_stays}
+use Rattle.bt_machine.proofs.LogCalls.{infohash_stays}
 use Rattle.bt_disk.specs.Conduct.{Conduct}
 
 -- ---- calls that read nothing

@@ -52,6 +52,12 @@ read_same (resize_fault len) h g is a = absurd is
 read_same sync_made h g is a = absurd is
 read_same sync_fault h g is a = absurd is
 
+-- reads change nothing
+pub reads_same : (cs : List Call) (h g : History) → ((c : Call) → Contains cs c → IsRead c) → AreAnswered h cs g → g ≡ h
+reads_same [] h g all a = a
+reads_same (c ∷ cs) h g all a =
+    reads_same cs a.0 g (λ x m. all x (later c cs m)) a.2 ∙ read_same c h a.0 (all c (here cs refl)) a.1
+
 bytes_are : (cs : List Call) (h g : History) → ((c : Call) → Contains cs c → IsRead c) → AreAnswered h cs g → (at wanted : ℕ) (bytes : List ℕ)
     → Contains cs (bytes_given at wanted bytes) → bytes ≡ take wanted (drop at h.now.bytes)
 bytes_are [] h g all a at wanted bytes among = absurd (contains_none among)

@@ -47,7 +47,7 @@ block_stands n i bytes image size each =
 -- ---- syncs
 
 -- where all is on the medium, a crash leaves what a read gives
-synced_image : (bytes image : List ℕ) → IsImage (synced_state bytes) image → image ≡ bytes
+pub synced_image : (bytes image : List ℕ) → IsImage (synced_state bytes) image → image ≡ bytes
 synced_image bytes image left =
     ext_get_or 0 image bytes (omega (arith, left.no_shorter, left.no_longer))
     (λ i lt. left.kept i (omega (arith, left.no_longer)) (λ k d none. absurd (omega arith)))

@@ -44,3 +44,4 @@ pub mod Changes
 pub mod Frames
 pub mod Backing
 pub mod Reopening
+pub mod Lives

@@ -2,12 +2,15 @@
 //! begin anew with. The functions do nothing when they run.
 ghost use Rattle.bt_machine.specs.Hints.{HintsStayRecorded, JoinedRunsAreLongest};
 ghost use Rattle.bt_machine.specs.View.{StartsOfLog, StepKeepsOfLog, RunKeepsOfLog};
-ghost use Rattle.bt_machine.specs.Backing.{SameTreesTakeSame, HintsAreSplit, JoiningKeepsTrees, HintsForgetNothing, AcceptedProofsFollow, ClaimsThatAddNothing, PendingKeepsBacking, TorrentTreesAreOne, RecoveredIsBacked, GroupProofsFollow, OtherRootsStay, StartIsBacked, StepKeepsBacking, RunsAreBacked};
-ghost use Rattle.bt_machine.specs.Reopening.{BackedBlocksAreMarkedAgain, StepKeepsLog, FlushKeepsHints, FlushedLogsAreKept, FlushedBlocksAreKept, FlushedBlocksAreMarkedAgain, NoRestartsReadAll, CountsTellReads};
+ghost use Rattle.bt_machine.specs.Backing.{SameTreesTakeSame, HintsAreSplit, JoiningKeepsTrees, HintsForgetNothing, AcceptedProofsFollow, ClaimsThatAddNothing, PendingKeepsBacking, TorrentTreesAreOne, RecoveredIsBacked, GroupProofsFollow, OtherRootsStay, StartIsBacked, RestartIsBacked, StepKeepsBacking, BackingGoesOn, RunsAreBacked};
+ghost use Rattle.bt_machine.specs.Reopening.{BackedBlocksAreMarkedAgain, StepKeepsLog, FlushKeepsHints, FlushedLogsAreKept, NoRestartsReadAll, CountsTellReads};
+ghost use Rattle.bt_machine.specs.Lives.{SyncedIsSettled, FlushedBlocksAreKept, FlushedBlocksAreMarkedAgain, FlushedLogsOpen};
 
-use crate::law::{runs_compose, runs_keep_shape, starts_keep_laws, steps_keep_laws};
+use crate::law::{starts_keep_laws, steps_keep_laws};
 use bt_disk::{Disk, calls_keep_bytes};
-use bt_resume::{hints_are_read_back, kept_devices_open, kept_hints_stand, logs_hold_hints};
+use bt_resume::{
+    hints_are_read_back, kept_devices_open, kept_hints_stand, logs_hold_hints, logs_keep_hints,
+};
 use bt_sparse::{answers_agree, answers_are_taken, keeps_rooted};
 use bt_store::adopt_marks_by_bytes;
 use bt_tree::{NodeHash, heights_are_least};
@@ -67,11 +70,13 @@ pub fn group_proofs_follow<H: NodeHash>(hash: H)
 
 /// A log that was opened for an engine backs it from its start on: with what is pending, it has each mark, and
 /// leads a torrent's trees to what the engine's know. Every event keeps it so, but for a restart that ran out
-/// of memory, until one is accepted. From a flush that answered Ok on, what the log held then is in whatever a
-/// stop leaves of it.
+/// of memory, until one is accepted. An accepted restart makes it so whatever the log held, and the engine knew,
+/// before it. From a flush that answered Ok on, what the log held then is in whatever a stop leaves of it.
 pub fn logs_back_engines<D: Disk, H: NodeHash>(hash: H)
     ensures starts { StartIsBacked D.conduct H.digest }
+    ensures restarts { RestartIsBacked D.conduct H.digest }
     ensures steps { StepKeepsBacking D.conduct H.digest }
+    ensures goes_on { BackingGoesOn D.conduct H.digest }
     ensures runs { RunsAreBacked D.conduct H.digest }
     ensures flushed { FlushedLogsAreKept D.conduct H.digest }
 {
@@ -91,19 +96,21 @@ pub fn restarts_read_all<D: Disk, H: NodeHash>()
     ensures counted { CountsTellReads D.conduct H.digest }
 {}
 
-/// Once a flush answered Ok on an engine with a log, a stop at any later moment, also within an event, leaves
-/// enough: each block that was marked at the flush is right in what it leaves of an honest device, and all are marked
-/// where the devices and the log are opened again and no read fails. A restart since the flush counts as a reopening:
-/// no read of it failed either.
+/// Once a flush answered Ok on an engine with a log, a stop at any later moment, in its life or in a later one that
+/// began with what such a stop had left, also within an event, leaves enough: each block that was marked at the flush
+/// is right in what it leaves of an honest device, and all are marked where the devices and the log are opened again
+/// and no read fails. A restart since the flush counts as a reopening: no read of it failed either. What it leaves of
+/// the log is not refused for what its bytes are.
 pub fn flushed_blocks_are_marked_again<D: Disk, H: NodeHash>(hash: H)
     ensures kept { FlushedBlocksAreKept D.conduct H.digest }
     ensures marked { FlushedBlocksAreMarkedAgain D.conduct H.digest }
+    ensures opens { FlushedLogsOpen D.conduct H.digest }
+    ensures settled { SyncedIsSettled D.conduct }
 {
     logs_back_engines::<D, H>(hash);
-    runs_keep_shape::<H>();
-    runs_compose::<D, H>();
     kept_devices_open::<D>();
     kept_hints_stand::<D>();
+    logs_keep_hints::<D>();
     logs_hold_hints::<D>();
     hints_are_read_back();
     adopt_marks_by_bytes(hash);

@@ -19,5 +19,5 @@ pub returns-in-Err-clause-refused : goal.returns-in-Err-clause-refused
 returns-in-Err-clause-refused g c =
     let opens = rw c.infohash.ensures at c.in-Err.ensures.refused in
     unopened c.in-Err.refused.cause refl refl opens
-    (refuses_none g.D.Disk.conduct g.H.NodeHash.digest c.logs_back_engines.ensures.flushed c.args.torrent c.args.log
+    (refuses_none g.D.Disk.conduct g.H.NodeHash.digest c.flushed_blocks_are_marked_again.ensures.opens c.args.torrent c.args.log
     c.in-Err.refused.disk c.in-Err.refused.cause opens)

@@ -1,4 +1,4 @@
-use Rattle.bt_machine.proofs.Backing.{start_backed, step_backed, runs_backed}
+use Rattle.bt_machine.proofs.Backing.{start_backed, restart_backed, step_backed, backing_goes_on, runs_backed}
 use Rattle.bt_machine.proofs.PastFlush.{logs_kept}
 use Rattle.bt_machine.proofs.log_law.logs_back_engines.Goals as goal
 
@@ -15,10 +15,12 @@ returns g c =
     let rooted = c.keeps_rooted.ensures in
     record {
       starts = start_backed d.conduct dig hold.attach;
+      restarts = restart_backed d.conduct dig hold.reload hold.append hold.flush hold.attach;
       steps = step_backed d.conduct dig hold.reload hold.append hold.flush sizes rooted groups.lead groups.others;
+      goes_on = backing_goes_on d.conduct dig hold.reload hold.append hold.flush sizes rooted groups.lead groups.others
+          hold.attach next.shaped next.sparse;
       runs = runs_backed d.conduct dig hold.reload hold.append hold.flush sizes rooted groups.lead groups.others
-          hold.attach first.shaped first.sparse next.shaped next.sparse;
-      flushed = logs_kept d.conduct dig hold.reload hold.append hold.flush sizes rooted groups.lead groups.others
-          hold.attach first.shaped first.sparse next.shaped next.sparse stand.reload stand.append stand.flush stand.flushed
-          c.kept_devices_open.ensures.opens;
+          hold.attach next.shaped next.sparse first.shaped first.sparse;
+      flushed = logs_kept d.conduct dig hold.reload hold.append hold.flush hold.attach
+          stand.reload stand.append stand.flush stand.flushed c.kept_devices_open.ensures.opens;
     }
