@@ -26,11 +26,6 @@ new_fault_disk inner = record {
   failed = 0;
 }
 
--- The call of a setting, once it was set to the k-th after this many calls: one that was made before leaves the
--- old setting as it is.
-abbrev pub setting_after : ℕ → ℕ → Option ℕ → Option ℕ
-setting_after calls k old = if nat_lt calls k then Some k else old
-
 -- how many calls failed, by a setting or inside
 abbrev pub fault_count : {D : Type 0} → Conduct D → FaultView D → ℕ
 fault_count conduct disk = min max_count (disk.failed + conduct.faults disk.inner)
@@ -51,7 +46,7 @@ fault_conduct conduct = record {
 abbrev pub next_call : {D : Type 0} → FaultView D → ℕ
 next_call disk = one_more disk.calls
 
--- the next call is to fail
+-- the next call is to fail: it is the one that is to, or comes no earlier than that from which on all are to
 abbrev pub fails_next : {D : Type 0} → FaultView D → Bool
 fails_next disk =
     option_map_or (λ k. nat_eq k (next_call disk)) disk.failing_once false

@@ -4,6 +4,7 @@ use Rattle.bt_disk.specs.Limits.{max_count}
 use Rattle.bt_disk.specs.Conduct.{Conduct, untrusted}
 use Rattle.bt_disk.specs.FileDisk.{Access, absent, reading, writing}
 use Rattle.bt_disk.specs.declared.opening.FileIdentity.{FileIdentity}
+use Rattle.bt_disk.specs.declared.open_handles.OpenHandle.{OpenHandle}
 use Rattle.bt_disk.specs.declared.pool.Use.{Use}
 use Rattle.bt_disk.specs.declared.pool.Use.TheVariants.{Absent, Reading, Writing}
 
@@ -42,6 +43,11 @@ pub record PooledView : Type 0 where
   pub is_synced : Bool
   pub is_written : Bool
   pub failed : ℕ
+
+-- a handle is this device's, and of the file that was opened first
+pub record IsHandleOf {F : Type 0} (disk : PooledView) (handle : OpenHandle F) : Type 0 where
+  pub own : handle.device ≡ disk.number
+  pub same : handle.identity ≡ disk.identity
 
 -- of what a file of the system holds nothing is known
 abbrev pub pooled_conduct : Conduct PooledView

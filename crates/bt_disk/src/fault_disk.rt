@@ -1,7 +1,7 @@
 //! A device that fails where it is told to.
 ghost use Rattle.std.specs.Prelude.{◌≡◌, ◌-◌, ◌^◌, ◌<◌};
 ghost use Rattle.std.specs.Bool.{OnTrue, OnFalse};
-ghost use Rattle.bt_disk.specs.FaultDisk.{new_fault_disk, setting_after, next_call, fails_next, after_failure, flipped};
+ghost use Rattle.bt_disk.specs.FaultDisk.{new_fault_disk, next_call, fails_next, after_failure, flipped};
 
 use crate::disk::{DeviceFault, Disk};
 use std::marker::Model;
@@ -10,8 +10,9 @@ use std::marker::Model;
 /// device inside, which a call that fails here does not reach.
 ///
 /// Calls are counted from 1, from its making, in a count that stays at 2^64 - 1. The three settings stand
-/// side by side, and each may be made between calls. A second one of a kind replaces the first, but one whose
-/// call was made before has no effect; a flip has, since it lasts. A device that has a flip is not honest.
+/// side by side, and each may be made between calls. A second one of a kind replaces the first, also where its
+/// call was made before: no call fails by such a `failing_once` then, and each further one by such a
+/// `failing_from`. A device that has a flip is not honest.
 #[derive(Drop)]
 pub struct FaultDisk<D: Disk + Drop> {
     inner: D,
@@ -53,28 +54,24 @@ impl<D: Disk + Drop> FaultDisk<D> {
         }
     }
 
-    /// Lets the k-th call fail, k from 1 to 2^64 - 2; it does nothing, where that call was made before.
+    /// Lets the k-th call fail, and no other by this setting, k from 1 to 2^64 - 2.
     pub fn failing_once(mut self, k: u64) -> Self
         requires some { 0 < k }
         requires within { k < 2 ^ 64 - 1 }
-        ensures { result ≡ record self { failing_once = setting_after self.calls k self.failing_once } }
+        ensures { result ≡ record self { failing_once = Some k } }
     {
-        if self.calls < k {
-            self.once = Some(k);
-        }
+        self.once = Some(k);
         self
     }
 
-    /// Lets every call from the k-th on fail, k from 1 to 2^64 - 2; it does nothing, where the k-th was made
+    /// Lets every call from the k-th on fail, k from 1 to 2^64 - 2: each further one, where the k-th was made
     /// before.
     pub fn failing_from(mut self, k: u64) -> Self
         requires some { 0 < k }
         requires within { k < 2 ^ 64 - 1 }
-        ensures { result ≡ record self { failing_from = setting_after self.calls k self.failing_from } }
+        ensures { result ≡ record self { failing_from = Some k } }
     {
-        if self.calls < k {
-            self.from = Some(k);
-        }
+        self.from = Some(k);
         self
     }
 

@@ -1,5 +1,5 @@
 //! What the system tells of a file when it is opened.
-ghost use Rattle.std.specs.Prelude.{◌≡◌, None, false};
+ghost use Rattle.std.specs.Prelude.{◌≡◌, ◌↔◌, IsTrue, None, false};
 ghost use Rattle.std.specs.Fs.{metadata_len};
 
 use std::fs::Metadata;
@@ -46,6 +46,17 @@ impl Opening {
             len: metadata.len(),
             was_made,
         }
+    }
+}
+
+/// Whether a file that is opened again is the one that was opened first, by what the system tells.
+pub(crate) fn is_same_file(first: Option<FileIdentity>, again: Option<FileIdentity>) -> bool
+    ensures { IsTrue result ↔ (again ≡ first) }
+{
+    match (first, again) {
+        (Some(first), Some(again)) => first.device == again.device && first.inode == again.inode,
+        (None, None) => true,
+        _ => false,
     }
 }
 

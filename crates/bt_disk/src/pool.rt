@@ -1,14 +1,14 @@
 //! Files of the system that share a few open handles.
-ghost use Rattle.std.specs.Prelude.{◌≡◌, ◌≢◌, ◌+◌, ◌<◌, ◌≤◌, IfOk, IfErr, OnOk, OnErr, true, false, length, take, string_bytes};
+ghost use Rattle.std.specs.Prelude.{◌≡◌, ◌≢◌, ◌+◌, ◌<◌, ◌≤◌, IfOk, IfErr, IfSome, OnOk, OnErr, true, false, length, take, string_bytes};
 ghost use Rattle.bt_disk.specs.FileDisk.{writing};
 ghost use Rattle.bt_disk.specs.Handle.{IsReadOfFile, IsWrittenToFile};
-ghost use Rattle.bt_disk.specs.Pool.{access_of_use, new_pool, IsNoDeviceLeft, IsNotMade};
+ghost use Rattle.bt_disk.specs.Pool.{access_of_use, new_pool, IsNoDeviceLeft, IsNotMade, IsHandleOf};
 
 use crate::device_files::DeviceFiles;
 use crate::disk::{DeviceFault, Disk, counted_fault};
-use crate::handle::{Opened, file_len, open_present, read_file, write_file};
-use crate::open_handles::OpenHandles;
-use crate::opening::Opening;
+use crate::handle::{file_len, open_present, read_file, write_file};
+use crate::open_handles::{OpenHandle, OpenHandles};
+use crate::opening::{Opening, is_same_file};
 use std::alloc::{AllocError, Global};
 use std::cell::RefCell;
 use std::fs::{Files, OpenFile};
@@ -27,7 +27,8 @@ struct Shared<R: Files + Drop> {
 ///
 /// A call takes its file's handle from the pool, or opens the file, and puts the handle back; before a file
 /// is opened, the handle that was used longest ago is closed where there is no room. So a run of calls of one
-/// file opens it once.
+/// file opens it once. A handle that has written is synced before it is closed: where that fails, the next sync
+/// of its device does. Those that are left when the pool and its devices go are closed without.
 #[derive(Drop)]
 pub struct HandlePool<R: Files + Drop> {
     shared: Rc<Shared<R>>,
@@ -45,7 +46,8 @@ impl<R: Files + Drop> Model for HandlePool<R> {
 
 impl<R: DeviceFiles + Drop> HandlePool<R> {
     /// A pool of at most `limit` open handles, which is above 0, for which it takes memory here alone. It has
-    /// made no device yet.
+    /// made no device yet. (More is asked for only where a sync fails as a handle is closed: where it is refused
+    /// then, each further sync of a file that was written since its last one fails.)
     ///
     /// Errors: memory is refused.
     pub fn new(alloc: Global, rt: R, limit: usize) -> Result<Self, AllocError>
@@ -57,7 +59,8 @@ impl<R: DeviceFiles + Drop> HandlePool<R> {
         Ok(HandlePool { shared, made: 0 })
     }
 
-    /// A file that is read, as [`FileDisk::reading`](crate::FileDisk::reading) has it.
+    /// A file that is read, as [`FileDisk::reading`](crate::FileDisk::reading) has it. One that is absent now is
+    /// read as empty from here on: its path is not looked at again.
     ///
     /// Errors: also where no number is left for a device, or no count of the `Rc` that they share.
     pub fn reading(&mut self, path: String) -> Result<PooledDisk<R>, DeviceFault>
@@ -72,11 +75,11 @@ impl<R: DeviceFiles + Drop> HandlePool<R> {
         ensures fault { OnErr result (IsNotMade R.refuses R.is_shared_out (string_bytes path) self.old.made) }
     {
         make_room(&self.shared);
-        let Some(Opened { file, opening }) = self.shared.rt.open_to_read(path.as_str())? else {
+        let Some(opened) = self.shared.rt.open_to_read(path.as_str())? else {
             return self.device(path, Use::Absent, Opening::absent());
         };
-        let disk = self.device(path, Use::Reading, opening)?;
-        put_back(&disk.shared, disk.number, file);
+        let disk = self.device(path, Use::Reading, opened.opening)?;
+        put_back(&disk.shared, OpenHandle::new(disk.number, opened));
         Ok(disk)
     }
 
@@ -95,9 +98,9 @@ impl<R: DeviceFiles + Drop> HandlePool<R> {
         ensures fault { OnErr result (IsNotMade R.refuses R.is_shared_out (string_bytes path) self.old.made) }
     {
         make_room(&self.shared);
-        let Opened { file, opening } = self.shared.rt.open_to_write(path.as_str())?;
-        let disk = self.device(path, Use::Writing, opening)?;
-        put_back(&disk.shared, disk.number, file);
+        let opened = self.shared.rt.open_to_write(path.as_str())?;
+        let disk = self.device(path, Use::Writing, opened.opening)?;
+        put_back(&disk.shared, OpenHandle::new(disk.number, opened));
         Ok(disk)
     }
 
@@ -149,10 +152,13 @@ enum Use {
 
 /// A device that is a file of the system, whose handle is shared with the other devices of its pool.
 ///
-/// It is as [`FileDisk`](crate::FileDisk) is, but a call may have to open the file, which then has to be
-/// there, or the call fails. A sync makes no call of the system where there is nothing to sync: of a file that is
-/// only read, and after another sync, with no write and no new length between them. Of many files few are
-/// written. A file that is gone is no fault to a sync where it was never written.
+/// It is as [`FileDisk`](crate::FileDisk) is, but a call may have to open the file again. Then it has to be
+/// there, and to be the file that was opened first, by its identity, or the call fails, and neither reads nor
+/// writes. A sync also fails, once, where one failed as a handle of the file was closed.
+///
+/// It makes no call of the system where there is nothing to sync: of a file that is only read, and after another
+/// sync, with no write and no new length between them. Of many files few are written. A file that is gone is no
+/// fault to a sync where it was never written.
 #[derive(Drop)]
 pub struct PooledDisk<R: Files + Drop> {
     shared: Rc<Shared<R>>,
@@ -202,26 +208,48 @@ impl<R: Files + Drop> PooledDisk<R> {
         self
     }
 
-    /// The open file: the pool's handle, or a new one. None, where the file is gone.
-    fn found_file(&self) -> Result<Option<R::File>, DeviceFault> {
-        if let Some(file) = take(&self.shared, self.number) {
-            return Ok(Some(file));
+    /// The open handle of its file. None, where the file is gone.
+    ///
+    /// Errors: the file can't be opened, or another one is at its path now.
+    fn found_handle(&self) -> Result<Option<OpenHandle<R::File>>, DeviceFault>
+        ensures { IfOk result (λ found. IfSome found (IsHandleOf self.now)) }
+    {
+        let Some(handle) = self.any_handle()? else {
+            return Ok(None);
+        };
+        if is_same_file(self.opening.identity, handle.identity) {
+            Ok(Some(handle))
+        } else {
+            Err(DeviceFault)
+        }
+    }
+
+    /// The pool's handle, or a new one of the file that is at its path now, if there is one.
+    fn any_handle(&self) -> Result<Option<OpenHandle<R::File>>, DeviceFault>
+        ensures { IfOk result (λ found. IfSome found (λ handle. handle.device ≡ self.now.number)) }
+    {
+        if let Some(handle) = take(&self.shared, self.number) {
+            return Ok(Some(handle));
         }
         make_room(&self.shared);
         let to_write = self.usage == Use::Writing;
-        let found = open_present(&self.shared.rt, self.path.as_str(), to_write)?;
-        Ok(found.map(|opened| opened.file))
+        match open_present(&self.shared.rt, self.path.as_str(), to_write)? {
+            Some(opened) => Ok(Some(OpenHandle::new(self.number, opened))),
+            None => Ok(None),
+        }
     }
 
-    /// The open file, which has to be there.
-    fn file(&self) -> Result<R::File, DeviceFault> {
-        self.found_file()?.ok_or(DeviceFault)
+    /// The open handle of its file, which has to be there.
+    fn handle(&self) -> Result<OpenHandle<R::File>, DeviceFault>
+        ensures { IfOk result (IsHandleOf self.now) }
+    {
+        self.found_handle()?.ok_or(DeviceFault)
     }
 
     fn file_len(&self) -> Result<u64, DeviceFault> {
-        let file = self.file()?;
-        let answer = file_len(&file);
-        put_back(&self.shared, self.number, file);
+        let handle = self.handle()?;
+        let answer = file_len(&handle.file);
+        put_back(&self.shared, handle);
         answer
     }
 
@@ -231,48 +259,47 @@ impl<R: Files + Drop> PooledDisk<R> {
             IsReadOfFile R.File.stream_position R.File.stream_bytes R.File.remaining
             at (length out.new) (take count out.new)) }
     {
-        let mut file = self.file()?;
-        let answer = read_file(&mut file, at, out);
-        put_back(&self.shared, self.number, file);
+        let mut handle = self.handle()?;
+        let answer = read_file(&mut handle.file, at, out);
+        put_back(&self.shared, handle);
         answer
     }
 
     fn write_file(&self, at: u64, bytes: &[u8]) -> Result<(), DeviceFault>
         ensures { OnOk result (IsWrittenToFile R.File.stream_position R.File.contents at bytes.now) }
     {
-        let mut file = self.file()?;
-        let answer = write_file(&mut file, at, bytes);
-        put_back(&self.shared, self.number, file);
+        let mut handle = self.handle()?;
+        handle.has_written = true;
+        let answer = write_file(&mut handle.file, at, bytes);
+        put_back(&self.shared, handle);
         answer
     }
 
     fn set_file_len(&self, len: u64) -> Result<(), DeviceFault> {
-        let file = self.file()?;
-        let answer = file.set_len(len);
-        put_back(&self.shared, self.number, file);
-        if answer.is_ok() {
-            Ok(())
-        } else {
-            Err(DeviceFault)
-        }
+        let mut handle = self.handle()?;
+        handle.has_written = true;
+        let is_set = handle.file.set_len(len).is_ok();
+        put_back(&self.shared, handle);
+        is_set.then_some(()).ok_or(DeviceFault)
     }
 
     /// Has the file synced. One that is gone has nothing to sync where it was never written.
     fn sync_file(&self) -> Result<(), DeviceFault> {
-        let Some(file) = self.found_file()? else {
-            return if self.is_written {
-                Err(DeviceFault)
-            } else {
-                Ok(())
-            };
-        };
-        let answer = file.sync_all();
-        put_back(&self.shared, self.number, file);
-        if answer.is_ok() {
-            Ok(())
-        } else {
-            Err(DeviceFault)
+        if tell_loss(&self.shared, self.number) {
+            return Err(DeviceFault);
         }
+        match self.found_handle()? {
+            Some(handle) => self.sync_handle(handle),
+            None if self.is_written => Err(DeviceFault),
+            None => Ok(()),
+        }
+    }
+
+    fn sync_handle(&self, mut handle: OpenHandle<R::File>) -> Result<(), DeviceFault> {
+        let is_synced = handle.file.sync_all().is_ok();
+        handle.has_written = handle.has_written && !is_synced;
+        put_back(&self.shared, handle);
+        is_synced.then_some(()).ok_or(DeviceFault)
     }
 }
 
@@ -399,7 +426,9 @@ impl<R: Files + Drop> Disk for PooledDisk<R> {
 }
 
 /// Takes the handle of a device out of the pool, where it is open.
-fn take<R: Files + Drop>(shared: &Shared<R>, number: u64) -> Option<R::File> {
+fn take<R: Files + Drop>(shared: &Shared<R>, number: u64) -> Option<OpenHandle<R::File>>
+    ensures { IfSome result (λ handle. handle.device ≡ number) }
+{
     match shared.handles.try_borrow_mut() {
         Ok(mut handles) => handles.take(number),
         Err(_) => None,
@@ -414,8 +443,16 @@ fn make_room<R: Files + Drop>(shared: &Shared<R>) {
 }
 
 /// Puts a device's handle into the pool.
-fn put_back<R: Files + Drop>(shared: &Shared<R>, number: u64, file: R::File) {
+fn put_back<R: Files + Drop>(shared: &Shared<R>, handle: OpenHandle<R::File>) {
     if let Ok(mut handles) = shared.handles.try_borrow_mut() {
-        handles.put(number, file);
+        handles.put(handle);
+    }
+}
+
+/// Whether a sync failed as a handle of the device was closed, which it was not told of yet.
+fn tell_loss<R: Files + Drop>(shared: &Shared<R>, number: u64) -> bool {
+    match shared.handles.try_borrow_mut() {
+        Ok(mut handles) => handles.tell_loss(number),
+        Err(_) => true,
     }
 }

@@ -1,6 +1,6 @@
 -- The devices that a script names.
 use Rattle.std.specs.Prelude.{[], ◌≡◌, ℕ, ◌==◌, if◌then◌else◌, List, ◌∷◌, ◌++◌, Option, Some, None, replicate, slice_get, slice_set, length}
-use Rattle.bt_disk.specs.FaultDisk.{FaultView, new_fault_disk, setting_after}
+use Rattle.bt_disk.specs.FaultDisk.{FaultView, new_fault_disk}
 use Rattle.bt_disk.specs.MemoryDisk.{MemoryView, new_record}
 use Rattle.bt_meta.specs.Files.{File}
 use Rattle.bt_replay.specs.Line.{Spells, SpellsNone}
@@ -27,8 +27,7 @@ set_file _ = None
 -- the device, as it is set, of which no call was made yet: a second call to fail replaces the first, as does
 -- a second flip
 abbrev pub with_setting : Line → Device → Device
-with_setting (Fault file call) device =
-    record device { failing_once = setting_after device.calls call device.failing_once }
+with_setting (Fault file call) device = record device { failing_once = Some call }
 with_setting (Flip file call at) device = record device { flipping = Some (call, at) }
 with_setting _ device = device
 
