@@ -84,7 +84,8 @@ fn change_row(
     tell_changed(shop, name, path.as_str(), words, out)
 }
 
-/// Whether the system removes the file at a path, makes a folder or a link there, or takes all rights from it.
+/// Whether the system removes the file at a path, makes a folder or a link there, takes all rights from it, or
+/// gives it another path.
 fn tell_changed(
     shop: &Shop,
     name: &str,
@@ -97,6 +98,7 @@ fn tell_changed(
         "folder" => tell_asked(out, fs::create_dir(shop.host, path)),
         "link" => link_row(shop, path, words, out),
         "close" => tell_asked(out, without_rights(shop.host, path)),
+        "move" => move_row(shop, path, words, out),
         _ => Err(RowError::Unread),
     }
 }
@@ -105,6 +107,12 @@ fn tell_changed(
 fn link_row(shop: &Shop, link: &str, words: &mut Words, out: &mut String) -> Result<(), RowError> {
     let path = shop.path(words)?;
     tell_asked(out, unix::fs::symlink(shop.host, path.as_str(), link))
+}
+
+/// The path of the next word is the new one.
+fn move_row(shop: &Shop, path: &str, words: &mut Words, out: &mut String) -> Result<(), RowError> {
+    let new_path = shop.path(words)?;
+    tell_asked(out, fs::rename(shop.host, path, new_path.as_str()))
 }
 
 fn without_rights(host: &HostRuntime, path: &str) -> io::Result<()> {

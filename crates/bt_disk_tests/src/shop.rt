@@ -153,6 +153,7 @@ pub fn shop_row(
         "pool" => shop.pool_row(words, out),
         "calls" => shop.counts.tell(out),
         "most" => shop.counts.tell_most(out),
+        "syncs" => shop.counts.tell_syncs(out),
         "disk" => disk_row(shop, words, out),
         "many" => many_row(shop, words, out),
         _ => folder_row(shop, name, words, out),

@@ -28,6 +28,8 @@ pub enum Manner {
     /// The first file that it opens is the one at the path; each later one is a device, which took the file's
     /// place since the look at it.
     Swapped,
+    /// Its first sync fails.
+    SyncFault,
     /// It goes to no byte of a file, but to its end, changes and syncs no file, and tells nothing of one that is
     /// open, but once.
     Broken,
@@ -44,6 +46,7 @@ pub fn manner_of(name: &str) -> Result<Manner, RowError> {
         "hidden" => Ok(Manner::Hidden),
         "gone" => Ok(Manner::Gone),
         "swapped" => Ok(Manner::Swapped),
+        "sync-fault" => Ok(Manner::SyncFault),
         "broken" => Ok(Manner::Broken),
         _ => Err(RowError::Unread),
     }
@@ -61,6 +64,8 @@ pub struct Counts {
     /// Reads and writes of open files; and all other calls of them.
     moves: Cell<u32>,
     others: Cell<u32>,
+    /// Those of these that are syncs, since the system began.
+    syncs: Cell<u32>,
     /// Files that are open, and the most that were at one time.
     open: Cell<u32>,
     most_open: Cell<u32>,
@@ -75,6 +80,7 @@ impl Counts {
             looks: Cell::new(0),
             moves: Cell::new(0),
             others: Cell::new(0),
+            syncs: Cell::new(0),
             open: Cell::new(0),
             most_open: Cell::new(0),
         }
@@ -84,6 +90,7 @@ impl Counts {
     pub fn restart(&self, manner: Manner) {
         self.manner.set(manner);
         self.forget();
+        self.syncs.set(0);
         self.open.set(0);
         self.most_open.set(0);
     }
@@ -107,6 +114,12 @@ impl Counts {
         write!(out, ", moves {moves}, others {others}")?;
         self.forget();
         Ok(())
+    }
+
+    /// Tells the syncs of files and folders that were made since the system began.
+    pub fn tell_syncs(&self, out: &mut String) -> Result<(), RowError> {
+        let syncs = self.syncs.get();
+        Ok(write!(out, "{syncs} syncs")?)
     }
 
     /// Tells the most files that were open at one time.
@@ -152,6 +165,15 @@ impl Counts {
             return Err(io::Error::from(ErrorKind::Other));
         }
         Ok(())
+    }
+
+    /// Counts a sync, which fails where the system is broken, and the first one where it is of that manner.
+    fn sync_call(&self) -> io::Result<()> {
+        count(&self.syncs);
+        if self.manner() == Manner::SyncFault && self.syncs.get() == 1 {
+            return Err(io::Error::from(ErrorKind::Other));
+        }
+        self.other_call()
     }
 
     /// Counts a look at a file that is open. A broken system does it once too: a file is looked at when it is
@@ -322,7 +344,7 @@ impl OpenFile for SystemFile<'_> {
     }
 
     fn sync_all(&self) -> io::Result<()> {
-        self.counts.other_call()?;
+        self.counts.sync_call()?;
         self.file.sync_all()
     }
 

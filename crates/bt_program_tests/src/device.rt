@@ -19,6 +19,7 @@ pub enum Failing {
     Syncs,
     Folders,
     LastFolders,
+    DotFolders,
     Renames,
     Modes,
     Removals,
@@ -41,10 +42,10 @@ impl Failing {
 
     /// Which calls fail on what was opened at a path.
     fn of_path(self, path: &str) -> Failing {
-        if self == Failing::LastFolders && path.ends_with("last") {
-            Failing::Folders
-        } else {
-            self
+        match self {
+            Failing::LastFolders if path.ends_with("last") => Failing::Folders,
+            Failing::DotFolders if path == "." => Failing::Folders,
+            _ => self,
         }
     }
 }
@@ -53,7 +54,7 @@ impl Failing {
 /// it, and in which a path that ends in `pipe` is a device, which neither a read nor a write is to reach. Of looks and
 /// opens those of a path that ends in `last` fail, and of reads the third of each file. A file that has bytes takes no
 /// mode any more, and one that has none is not synced. Folders are synced apart from files: all fail, or those of a path
-/// that ends in `last`. An early listing is one of a folder in which no file `last` lies yet. What lies at `proc` and at
+/// that ends in `last`, or that of the path `.`. An early listing is one of a folder in which no file `last` lies yet. What lies at `proc` and at
 /// `sys` is a folder to a look that follows links, of the number 1, each on a device of its own, and what lies at
 /// `null` is a device. What lies at `gone` is not there to such a look while it has bytes, and has none from then on.
 #[derive(Clone, Copy)]

@@ -18,6 +18,7 @@ const CALLS: &[(&str, Failing)] = &[
     ("syncs", Failing::Syncs),
     ("folders", Failing::Folders),
     ("last-folders", Failing::LastFolders),
+    ("dot-folders", Failing::DotFolders),
     ("renames", Failing::Renames),
     ("modes", Failing::Modes),
     ("removals", Failing::Removals),
