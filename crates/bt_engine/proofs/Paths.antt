@@ -114,8 +114,11 @@ module _ (dig : Digest) (torrent : Metainfo) (right_is_checked : RightIsChecked 
       let is : own.0 ≡ tree = same_some own.1 g.2 in
       let long : file.length ≡ tree.file_length = sym own.3 ∙ ap (λ k. k.file_length) is in
       record {
+        file = file;
+        listed = ap (λ (t : Metainfo). slice_get t.files b.file) shaped.same ∙ listed;
         tree = tree;
         has_tree = has;
+        root = ap (λ (k : Facts). k.root) (sym is) ∙ own.2;
         path = right_is_checked tree b.block bytes (rooted g.0.tree tree g.2) (subst (λ n. b.block < block_count n) long below) right;
       }
 

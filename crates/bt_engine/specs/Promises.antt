@@ -30,11 +30,15 @@ marking_bytes (read_back by) = by.bytes
 marking_bytes (found by) = by.bytes
 marking_bytes (recovered is by) = by.bytes
 
--- the digest of these bytes lies at the block's leaf, on a checked path to the pieces root of its file
+-- The digest of these bytes lies at the block's leaf, on a checked path to the pieces root that the torrent has of its
+-- file (BEP 52, "pieces root").
 pub record IsOnCheckedPath (dig : List ℕ → List ℕ) (s : EngineState) (b : BlockId) (bytes : List ℕ) : Type 0
   where
+    pub file : File
+    pub listed : slice_get s.torrent.files b.file ≡ Some file
     pub tree : Facts
     pub has_tree : tree_of s b.file ≡ Some tree
+    pub root : tree.root ≡ file.root
     pub path : IsChecked dig tree 0 b.block (dig bytes)
 
 -- After these first answers of a run, the block is marked after each event that comes.
