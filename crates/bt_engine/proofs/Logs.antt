@@ -1,6 +1,6 @@
 -- The calls of a log, parted and put together.
 use Rattle.std.specs.Prelude.{is_some, option_map}
-use Rattle.std.proofs.Common.{[], ◌≡◌, true, List, ◌∷◌, ◌++◌, length, Option, Some, None, refl, sym, ap, ◌∙◌}
+use Rattle.std.proofs.Common.{[], ◌≡◌, ℕ, true, List, ◌∷◌, ◌++◌, length, Option, Some, None, refl, sym, ap, ◌∙◌}
 use Rattle.bt_tree.specs.Limits.{digest_length}
 use Rattle.bt_disk.specs.Conduct.{Conduct}
 use Rattle.bt_resume.specs.ResumeLog.{LogView}
@@ -65,3 +65,17 @@ goes_by {D} parts whole log is = by parts.log refl
       ap (λ (l : LogView D). length l.infohash) (same (sym is ∙ ap (option_map (λ (x : OpenLog D). x.log)) e)) ∙ whole open_log e,
     )
     by None e = absurd (none (sym (ap (option_map (λ (x : OpenLog D). x.log)) e) ∙ is))
+
+-- where they have one
+pub goes_by_some : {D H : Type 0} (parts : Parts D H) {open_log : OpenLog D} {infohash : List ℕ} → parts.log ≡ Some open_log
+    → infohash ≡ open_log.log.infohash → length infohash ≡ digest_length → GoesByLog (view_of parts)
+goes_by_some {D} parts {open_log} is same size = goes_by parts (λ other at. by other at)
+  where
+    by : (other : OpenLog D) → parts.log ≡ Some other → length other.log.infohash ≡ digest_length
+    by other at =
+        let one : other ≡ open_log = cc in
+        ap (λ (l : OpenLog D). length l.log.infohash) one ∙ ap (λ (bytes : List ℕ). length bytes) (sym same) ∙ size
+
+-- and where they have none
+pub goes_by_none : {D H : Type 0} (parts : Parts D H) → parts.log ≡ None → GoesByLog (view_of parts)
+goes_by_none parts none = goes_by parts (λ other at. absurd cc)
