@@ -1,12 +1,9 @@
 -- What is lost by one read after the other.
-use Rattle.std.proofs.Common.{◌≡◌, ℕ, ◌+◌, ◌-◌, ◌≤◌, List, [], ◌++◌, length, subst, sym, arith}
+use Rattle.std.proofs.Common.{ℕ, ◌-◌, ◌≤◌, List, ◌++◌, arith}
+use Rattle.std.specs.Prelude.{Option}
 use Rattle.std.proofs.lemmas.List.{length-append}
-use Rattle.std.proofs.KnownBytes.{Consumes-nil, Consumes-trans}
-use Rattle.core.specs.declared.option.Option.{Option}
+use Rattle.std.proofs.KnownBytes.{Consumes-trans}
 use Rattle.bt_sockets.specs.PartingSteps.{Loses, LosesAtMost}
-
-pub loses_nothing : (most : ℕ) (a : Option (List ℕ)) → LosesAtMost most a a
-loses_nothing most a = ([], omega arith, Consumes-nil a)
 
 pub loses_more : (most left count : ℕ) (a b c : Option (List ℕ)) → left ≤ most → count ≤ left
     → LosesAtMost (most - left) a b → Loses count b c → LosesAtMost (most - (left - count)) a c
@@ -15,6 +12,3 @@ loses_more most left count a b c within few lost more = (
       omega (arith, length-append lost.0 more.0, lost.1.0, more.1.0, within, few),
       Consumes-trans a b c lost.0 more.0 lost.1.1 more.1.1,
     )
-
-pub loses_less : (most least : ℕ) (a b : Option (List ℕ)) → least ≤ most → LosesAtMost least a b → LosesAtMost most a b
-loses_less most least a b within lost = (lost.0, omega (arith, lost.1.0, within), lost.1.1)

@@ -78,7 +78,8 @@ impl<'a, S: Read + OpenStream + Drop, C: Clock> TimedStream<'a, S, C> {
 impl<'a, S: Read + OpenStream + Drop, C: Clock> Drop for TimedStream<'a, S, C> {
     fn drop(mut self) {
         if self.way == Way::In && !self.remembered.timing.is_given_up() {
-            part(&mut self.inner, self.clock);
+            let clock = self.clock;
+            part(&mut self.inner, clock);
         }
         let TimedStream {
             inner: _inner,
@@ -145,14 +146,14 @@ impl<'a, S: Read + OpenStream + Drop, C: Clock> TimedStream<'a, S, C> {
     /// Notes that bytes have come.
     fn note_in(&self) {
         if let Ok(now) = Instant::now(self.clock) {
-            self.remembered.timing.pass_in(now);
+            self.remembered.timing.pass_in(read_turn(self.idle), now);
         }
     }
 
     /// Notes bytes that went out.
     fn note_out(&self, bytes: &[u8]) {
         if let Ok(now) = Instant::now(self.clock) {
-            self.remembered.timing.pass_out(bytes, now);
+            self.remembered.timing.pass_out(bytes, write_turn(self.idle), now);
         }
     }
 
@@ -179,12 +180,16 @@ fn read_turn(idle: Duration) -> Duration {
     idle.min(Duration::from_millis(READ_TURN_MILLIS))
 }
 
+/// How long a write waits at a time.
+fn write_turn(idle: Duration) -> Duration {
+    idle.min(Duration::from_millis(WRITE_TURN_MILLIS))
+}
+
 /// Has a socket's calls wait for a turn at a time. Errors: the system refuses this, also where no time at all is
 /// to be waited.
 pub fn set_turns<S: OpenStream>(stream: &S, idle: Duration) -> io::Result<()> {
-    let write_turn = idle.min(Duration::from_millis(WRITE_TURN_MILLIS));
     stream.set_read_timeout(Some(read_turn(idle)))?;
-    stream.set_write_timeout(Some(write_turn))
+    stream.set_write_timeout(Some(write_turn(idle)))
 }
 
 /// Takes in what has come, as far as there is room, and says how many bytes. Errors: those of the reader; what came

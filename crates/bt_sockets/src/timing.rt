@@ -145,21 +145,30 @@ impl Times {
         self.begun = resumed(self.begun, self.looked, now);
         self.used = resumed(self.used, self.looked, now);
         self.asked = resumed(self.asked, self.looked, now);
-        self.wait(now);
+        self.looked = now;
     }
 
-    /// The socket was waited for since the clock was looked at, however long that is, and all of it counts.
+    /// The socket was waited for in vain since the clock was looked at, and all of that counts, however long it is.
     fn wait(&mut self, now: Instant)
         ensures { self.new ≡ record self.old { looked = now } }
     {
         self.looked = now;
     }
 
-    /// The socket was waited for until bytes came.
-    fn pass_in(&mut self, now: Instant)
-        ensures { self.new ≡ record self.old { looked = now; last = now } }
+    /// The socket was waited for, for a turn at most, until bytes passed. What that call took longer counts as work does:
+    /// this program may have been stopped in it.
+    fn wait_turn(&mut self, turn: Duration, now: Instant)
+        ensures looked { self.new.looked ≡ now }
+        ensures others { KeepsOthers self.old self.new }
     {
-        self.wait(now);
+        self.looked = self.looked.checked_add(turn).unwrap_or(now);
+        self.look(now);
+    }
+
+    /// Bytes come now.
+    fn pass_in(&mut self, now: Instant)
+        ensures { self.new ≡ record self.old { last = now } }
+    {
         self.last = now;
     }
 
@@ -416,7 +425,7 @@ impl<'a> Timed<'a> {
         }
     }
 
-    /// Notes that the socket was waited for until now.
+    /// Notes that the socket was waited for in vain until now.
     pub(crate) fn wait(self, now: Instant) {
         if let Some(mut times) = self.0.times.get() {
             times.wait(now);
@@ -432,18 +441,20 @@ impl<'a> Timed<'a> {
         }
     }
 
-    /// Notes that the socket was waited for until bytes came now. What they are is told next (`Observer`).
-    pub(crate) fn pass_in(self, now: Instant) {
+    /// Notes that the socket was waited for, for a turn at most, until bytes came now. What they are is told next
+    /// (`Observer`).
+    pub(crate) fn pass_in(self, turn: Duration, now: Instant) {
         if let Some(mut times) = self.0.times.get() {
+            times.wait_turn(turn, now);
             times.pass_in(now);
             self.0.times.set(Some(times));
         }
     }
 
-    /// Notes that the socket was waited for until it took these bytes now.
-    pub(crate) fn pass_out(self, bytes: &[u8], now: Instant) {
+    /// Notes that the socket was waited for, for a turn at most, until it took these bytes now.
+    pub(crate) fn pass_out(self, bytes: &[u8], turn: Duration, now: Instant) {
         if let Some(mut times) = self.0.times.get() {
-            times.wait(now);
+            times.wait_turn(turn, now);
             times.pass_out(bytes, now);
             self.0.times.set(Some(times));
         }
