@@ -153,7 +153,9 @@ impl<'a, S: Read + OpenStream + Drop, C: Clock> TimedStream<'a, S, C> {
     /// Notes bytes that went out.
     fn note_out(&self, bytes: &[u8]) {
         if let Ok(now) = Instant::now(self.clock) {
-            self.remembered.timing.pass_out(bytes, write_turn(self.idle), now);
+            self.remembered
+                .timing
+                .pass_out(bytes, write_turn(self.idle), now);
         }
     }
 
