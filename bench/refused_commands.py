@@ -394,8 +394,7 @@ class Seed(Command):
     def run(self, folder, failing):
         shutil.rmtree(folder / "fetched", ignore_errors=True)
         ended, self.fetched = self.bench.served(self.words(folder), failing, folder)
-        # Who is complete closes the connection, which may show as a fault.
-        return ended._replace(out=ended.out.replace("served 1 fault", "served 1 ended")) if failing == 0 else ended
+        return ended
 
     def own_kind(self, ended):
         lines = ended.out.splitlines()
@@ -403,9 +402,6 @@ class Seed(Command):
             return "told as memory"
         if ended.status == 4 and ended.err == NO_MEMORY and lines == ["listening PORT", "served 1 memory"]:
             return "out of memory, behind lines"
-        # As with ample memory: who is complete closes the connection.
-        if ended.status == 0 and not ended.err and lines == ["listening PORT", "served 1 fault"] and self.fetched.status == 0:
-            return "told as fault, behind all"
         return None
 
     def look(self, folder, ended):

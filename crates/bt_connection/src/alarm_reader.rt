@@ -20,10 +20,11 @@ impl<'a, R> Model for AlarmReader<'a, R> {
 }
 
 impl<'a, R> AlarmReader<'a, R> {
-    /// A reader of `inner` that fails while the alarm rings.
+    /// A reader of `inner` that fails while the alarm rings, which is stopped first: what rang it came before.
     pub fn new(inner: R, alarm: &'a Alarm) -> Self
         ensures { result ≡ inner }
     {
+        alarm.stop();
         AlarmReader { inner, alarm }
     }
 }

@@ -6,6 +6,7 @@ mod alarm_reader;
 mod blocks;
 mod frame;
 mod law;
+mod lent;
 mod messages;
 mod observer;
 mod padded;
@@ -21,6 +22,7 @@ pub use law::{
     given_on_can_be_sent, gives_streams, pads_what_was_asked, plain_passes_through,
     remembers_short_blocks, short_blocks_are_last, zeros_lie_behind_the_end,
 };
+pub use lent::{Lent, Renew};
 pub use observer::{Arrival, Observer};
 pub use padded::Padded;
 pub use padding::Padding;

@@ -6,13 +6,14 @@ ghost use Rattle.std.specs.IoError.{error_kind};
 ghost use Rattle.bt_connection.specs.Padded.{new_padded, IsRead, KeepsWhatCame, IsWritten, IsFlushed, LosesNothing};
 ghost use Rattle.bt_connection.specs.ReadAhead.{reader_remaining};
 
+use crate::lent::Lent;
 use crate::observer::Observer;
 use crate::padding::Padding;
 use crate::read_ahead::ReadAhead;
 use crate::short_blocks::ShortBlocks;
 use crate::translation::{Direction, FrameRoom, Side};
 use bt_wire::HANDSHAKE_LEN;
-use std::cell::{RefCell, RefMut};
+use std::cell::RefMut;
 use std::io::{self, ErrorKind, Read, Write};
 use std::marker::Model;
 
@@ -41,7 +42,7 @@ impl<'a, T> Padded<'a, T> {
         side: Side,
         inner: T,
         blocks: &'a ShortBlocks,
-        padding: &'a RefCell<Padding>,
+        padding: Lent<'a, Padding>,
         mut room: RefMut<'a, FrameRoom>,
     ) -> Self
         ensures { result ≡ new_padded side inner blocks.now }

@@ -7,6 +7,7 @@ ghost use Rattle.bt_connection.specs.Translation.{Gives};
 ghost use Rattle.bt_connection.specs.declared.translation.Side.TheVariants.{Peer, Engine};
 
 use crate::frame::BLOCK_FIELD;
+use crate::lent::Renew;
 use crate::short_blocks::ShortBlocks;
 use crate::translation::FrameRoom;
 use bt_tree::BLOCK_LEN;
@@ -47,13 +48,6 @@ impl Padding {
     {
         let asked = Vec::with_capacity(alloc, MAX_REMEMBERED)?;
         Ok(Padding { asked })
-    }
-
-    /// Forgets everything, as for a connection that begins. It takes no memory.
-    pub fn forget(&mut self)
-        ensures { self.new ≡ new_memory }
-    {
-        self.asked.clear();
     }
 
     /// Puts what an engine gets of a frame of its peer in its place. What is remembered for a block is forgotten where
@@ -125,5 +119,16 @@ impl Padding {
         }
         // There is room.
         let _ = self.asked.push(ask);
+    }
+}
+
+impl Renew for Padding {
+    ghost use Rattle.std.specs.Prelude.{◌≡◌};
+    ghost use Rattle.bt_connection.specs.Padding.{new_memory};
+
+    ghost is_new = { λ p. p ≡ new_memory };
+
+    fn renew(&mut self) {
+        self.asked.clear();
     }
 }

@@ -8,9 +8,9 @@ ghost use Rattle.bt_wire.specs.declared.frames.TheConstants.{REQUEST_LEN};
 ghost use Rattle.bt_wire.specs.Frames.{IsRequest};
 ghost use Rattle.bt_connection.specs.Requests.{AreRequests, SendsRequests, IsHeldOrWritten, IsReadBehind};
 
+use crate::lent::{Lent, Renew};
 use bt_wire::frames::{REQUEST_LEN, read_request};
 use std::alloc::{AllocError, Global};
-use std::cell::RefCell;
 use std::io::{self, Read, Write};
 use std::marker::Model;
 
@@ -45,13 +45,6 @@ impl Requests {
         })
     }
 
-    /// Forgets the requests, as for a connection that begins.
-    pub fn forget(&mut self)
-        ensures { self.new ≡ [] }
-    {
-        self.bytes.clear();
-    }
-
     /// Takes bytes after those that are held already, where they are requests and nothing else, and there is
     /// room. Says whether it did.
     fn hold(&mut self, bytes: &[u8]) -> bool
@@ -74,6 +67,16 @@ impl Requests {
         let answer = to.write_all(self.bytes.as_slice());
         self.bytes.clear();
         answer
+    }
+}
+
+impl Renew for Requests {
+    ghost use Rattle.std.specs.Prelude.{◌≡◌, []};
+
+    ghost is_new = { λ r. r ≡ [] };
+
+    fn renew(&mut self) {
+        self.bytes.clear();
     }
 }
 
@@ -104,7 +107,7 @@ fn are_requests(bytes: &[u8]) -> bool
 
 /// Holds bytes back as `hold` does. Where the requests are in use, which no call of this crate brings about,
 /// it does not.
-fn hold_shared(requests: &RefCell<Requests>, bytes: &[u8]) -> bool
+fn hold_shared(requests: Lent<'_, Requests>, bytes: &[u8]) -> bool
     ensures { OnTrue result (AreRequests bytes.now) }
 {
     match requests.try_borrow_mut() {
@@ -114,7 +117,7 @@ fn hold_shared(requests: &RefCell<Requests>, bytes: &[u8]) -> bool
 }
 
 /// Sends what is held. Errors: those of the writer; the requests are in use.
-fn send_shared<W: Write>(requests: &RefCell<Requests>, to: &mut W) -> io::Result<()>
+fn send_shared<W: Write>(requests: Lent<'_, Requests>, to: &mut W) -> io::Result<()>
     ensures { OnOk result (SendsRequests (W.contents to.old) (W.contents to.new)) }
 {
     let mut guard = requests.try_borrow_mut()?;
@@ -127,7 +130,7 @@ fn send_shared<W: Write>(requests: &RefCell<Requests>, to: &mut W) -> io::Result
 #[derive(Drop)]
 pub struct HoldingWriter<'a, W> {
     inner: W,
-    requests: &'a RefCell<Requests>,
+    requests: Lent<'a, Requests>,
 }
 
 impl<'a, W> Model for HoldingWriter<'a, W> {
@@ -138,7 +141,7 @@ impl<'a, W> Model for HoldingWriter<'a, W> {
 
 impl<'a, W> HoldingWriter<'a, W> {
     /// A writer to `inner` that holds back the requests that are written to it, in `requests`.
-    pub fn new(inner: W, requests: &'a RefCell<Requests>) -> Self
+    pub fn new(inner: W, requests: Lent<'a, Requests>) -> Self
         ensures { result ≡ inner }
     {
         HoldingWriter { inner, requests }
@@ -177,7 +180,7 @@ impl<'a, W: Write> Write for HoldingWriter<'a, W> {
 #[derive(Drop)]
 pub struct SendingReader<'a, S> {
     inner: S,
-    requests: &'a RefCell<Requests>,
+    requests: Lent<'a, Requests>,
 }
 
 impl<'a, S> Model for SendingReader<'a, S> {
@@ -188,7 +191,7 @@ impl<'a, S> Model for SendingReader<'a, S> {
 
 impl<'a, S> SendingReader<'a, S> {
     /// A reader of `inner` that first sends the requests that are held in `requests`.
-    pub fn new(inner: S, requests: &'a RefCell<Requests>) -> Self
+    pub fn new(inner: S, requests: Lent<'a, Requests>) -> Self
         ensures { result ≡ inner }
     {
         SendingReader { inner, requests }

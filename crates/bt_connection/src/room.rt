@@ -3,6 +3,7 @@ ghost use Rattle.std.specs.Prelude.{◌≡◌, ◌+◌, ◌-◌, ◌<◌, ◌≤
 ghost use Rattle.std.specs.Io.KnownBytes.{Consumes, Keeps, IsAtEnd};
 ghost use Rattle.bt_connection.specs.Room.{IsTakenIn};
 
+use crate::lent::Renew;
 use std::alloc::{AllocError, Global};
 use std::io::{self, Read};
 use std::marker::Model;
@@ -39,8 +40,8 @@ impl<const LEN: usize> Room<LEN> {
         })
     }
 
-    /// Forgets the bytes, as for a connection that begins.
-    pub fn clear(&mut self)
+    /// Forgets the bytes.
+    pub(crate) fn clear(&mut self)
         ensures { self.new ≡ [] }
     {
         self.start = 0;
@@ -144,6 +145,16 @@ impl<const LEN: usize> Room<LEN> {
         ensures { self.new ≡ drop count self.old }
     {
         self.start += count;
+    }
+}
+
+impl<const LEN: usize> Renew for Room<LEN> {
+    ghost use Rattle.std.specs.Prelude.{◌≡◌, []};
+
+    ghost is_new = { λ r. r ≡ [] };
+
+    fn renew(&mut self) {
+        self.clear();
     }
 }
 

@@ -6,12 +6,13 @@ ghost use Rattle.bt_connection.specs.ReadAheadSteps.{IsLongGiven};
 ghost use Rattle.bt_connection.specs.TranslationSteps.{EndsWithFrame, IsBetween, IsCollected, IsWanted, SettlesBy};
 
 use crate::frame::{Front, front_of, missing_of};
+use crate::lent::Lent;
 use crate::padding::Padding;
 use crate::read_ahead::ReadAhead;
 use crate::room::Room;
 use crate::short_blocks::ShortBlocks;
 use bt_wire::frames::BLOCK_MESSAGE_LEN;
-use std::cell::{RefCell, RefMut};
+use std::cell::RefMut;
 use std::io::{self, Read, Write};
 use std::marker::Model;
 
@@ -35,7 +36,7 @@ pub enum Side {
 pub(crate) struct Direction<'a> {
     pub(crate) side: Side,
     pub(crate) blocks: &'a ShortBlocks,
-    pub(crate) padding: &'a RefCell<Padding>,
+    pub(crate) padding: Lent<'a, Padding>,
     pub(crate) room: RefMut<'a, FrameRoom>,
     /// How many of the bytes in the room are to be given on. Those after them came of a frame that is not whole.
     pub(crate) ready: usize,

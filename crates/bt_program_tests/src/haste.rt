@@ -5,7 +5,7 @@ use bt_commands::run;
 use bt_progress::Unwatched;
 use std::alloc::Allocator;
 use std::io::{self, Read, Write};
-use std::net::{Net, OpenListener, OpenStream, SocketAddr, TcpListener, TcpStream};
+use std::net::{Net, OpenListener, OpenStream, Shutdown, SocketAddr, TcpListener, TcpStream};
 use std::os::fd::{AsRawFd, RawFd};
 use std::process::{Child, Command, Processes, Stdio, SystemProcess};
 use std::time::{Clock, Duration};
@@ -111,6 +111,10 @@ fn hastened(limit: Option<Duration>) -> Option<Duration> {
 }
 
 impl OpenStream for HastyStream {
+    fn shutdown(&self, how: Shutdown) -> io::Result<()> {
+        self.0.shutdown(how)
+    }
+
     fn set_nodelay(&self, nodelay: bool) -> io::Result<()> {
         self.0.set_nodelay(nodelay)
     }

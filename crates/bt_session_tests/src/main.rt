@@ -6,6 +6,7 @@
 
 mod ahead;
 mod answers;
+mod asking;
 mod buffer;
 mod bytes;
 mod device;

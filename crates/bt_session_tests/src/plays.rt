@@ -46,6 +46,7 @@ fn answer_of(
     words: &mut Words,
 ) -> Result<String, RowError> {
     match words.word() {
+        "used" => used_row(alloc, passage, engine, words),
         "fetch" => {
             let scene = scene_of(alloc, words, 0, 0)?;
             told_play(alloc, passage, engine, Part::Source, &scene)
@@ -62,6 +63,24 @@ fn answer_of(
         }
         _ => Err(RowError::Unread),
     }
+}
+
+/// What comes of a session, and how its connection was used.
+fn used_row(
+    alloc: Global,
+    passage: Passage<'_>,
+    engine: &mut TestEngine,
+    words: &mut Words,
+) -> Result<String, RowError> {
+    let part = match words.word() {
+        "fetch" => Part::Source,
+        "serve" => Part::Guest,
+        _ => return Err(RowError::Unread),
+    };
+    let scene = scene_of(alloc, words, 0, 0)?;
+    let mut text = told_play(alloc, passage, engine, part, &scene)?;
+    scene.push_use(&mut text)?;
+    Ok(text)
 }
 
 /// What the words say that a peer does, to the end.
@@ -81,6 +100,7 @@ fn push_act(alloc: Global, acts: &mut Vec<Act>, words: &mut Words) -> Result<(),
         "wait" => Act::Waits(Duration::from_secs(u64::from(words.number()?))),
         "work" => Act::Works(Duration::from_secs(u64::from(words.number()?))),
         "stop" => Act::Stops(Duration::from_secs(u64::from(words.number()?))),
+        "lag" => Act::Lags(Duration::from_secs(u64::from(words.number()?))),
         "take" => Act::Takes(words.number()? as usize),
         "send" => Act::Sends(words.bytes(alloc)?),
         _ => return Err(RowError::Unread),

@@ -1,9 +1,11 @@
 //! A network that stands in for the host's, with a clock of its own: one peer, which does what a row says, when the row says it.
 ghost use Rattle.std.specs.Prelude.{◌≤◌, length};
 
+use std::alloc::AllocError;
 use std::cell::Cell;
+use std::fmt::Write as _;
 use std::io::{self, ErrorKind, Read, Write};
-use std::net::{Ipv4Addr, Net, OpenListener, OpenStream, SocketAddr};
+use std::net::{Ipv4Addr, Net, OpenListener, OpenStream, Shutdown, SocketAddr};
 use std::os::fd::{AsRawFd, RawFd};
 use std::time::{Clock, Duration};
 
@@ -19,6 +21,44 @@ pub enum Act {
     Stops(Duration),
     /// From now on it takes this many bytes, and no more.
     Takes(usize),
+    /// From now on each read that waits in vain ends so much later, as on a machine that is busy.
+    Lags(Duration),
+}
+
+/// How a connection is used.
+#[derive(Drop)]
+struct Use {
+    /// How long its peer had to answer, where that was dialled.
+    limit: Cell<Duration>,
+    /// Whether each write leaves at once.
+    is_at_once: Cell<bool>,
+    /// How many reads waited for their turn in vain.
+    vain: Cell<u64>,
+    /// Whether the peer was told that nothing more comes, and how many bytes came of it since.
+    is_shut: Cell<bool>,
+    heard: Cell<usize>,
+}
+
+impl Use {
+    fn new() -> Self {
+        Use {
+            limit: Cell::new(Duration::ZERO),
+            is_at_once: Cell::new(false),
+            vain: Cell::new(0),
+            is_shut: Cell::new(false),
+            heard: Cell::new(0),
+        }
+    }
+
+    fn wait_in_vain(&self) {
+        self.vain.set(self.vain.get().saturating_add(1));
+    }
+
+    fn hear(&self, count: usize) {
+        if self.is_shut.get() {
+            self.heard.set(self.heard.get().saturating_add(count));
+        }
+    }
 }
 
 /// What the peer does, one after the other, and how far it is. After the last it closes its connection.
@@ -35,7 +75,9 @@ pub struct Scene {
     /// How long a read of the socket waits, and a write.
     read_turn: Cell<Duration>,
     write_turn: Cell<Duration>,
+    lag: Cell<Duration>,
     now: Cell<Duration>,
+    used: Use,
     /// How many connections can't be taken before this one can, each with an error of this number.
     refused: Cell<u32>,
     code: i32,
@@ -51,7 +93,9 @@ impl Scene {
             takes: Cell::new(usize::MAX),
             read_turn: Cell::new(Duration::ZERO),
             write_turn: Cell::new(Duration::ZERO),
+            lag: Cell::new(Duration::ZERO),
             now: Cell::new(Duration::ZERO),
+            used: Use::new(),
             refused: Cell::new(refused),
             code,
         }
@@ -60,6 +104,20 @@ impl Scene {
     /// How many whole seconds have passed.
     pub fn seconds(&self) -> u64 {
         self.now.get().as_secs()
+    }
+
+    /// Adds how the connection was used.
+    pub fn push_use(&self, text: &mut String) -> Result<(), AllocError> {
+        let used = &self.used;
+        write!(text, ", {} s to answer", used.limit.get().as_secs())?;
+        write!(text, ", {} reads in vain", used.vain.get())?;
+        if used.is_at_once.get() {
+            text.push_str(", at once")?;
+        }
+        if used.is_shut.get() {
+            write!(text, ", {} bytes behind the end", used.heard.get())?;
+        }
+        Ok(())
     }
 
     fn pass(&self, time: Duration) {
@@ -81,6 +139,8 @@ impl Scene {
         let turn = self.read_turn.get();
         self.pass(left.min(turn));
         if left > turn {
+            self.pass(self.lag.get());
+            self.used.wait_in_vain();
             return false;
         }
         self.skip();
@@ -120,7 +180,11 @@ impl Read for SceneStream<'_> {
         let scene = self.0;
         for _ in 0..u64::MAX {
             match scene.acts.get(scene.next.get()) {
-                Some(Act::Sends(bytes)) => return Ok(scene.send(bytes, buffer)),
+                Some(Act::Sends(bytes)) => {
+                    let count = scene.send(bytes, buffer);
+                    scene.used.hear(count);
+                    return Ok(count);
+                }
                 Some(Act::Waits(time)) => {
                     if !scene.wait(*time) {
                         return Err(io::Error::from(ErrorKind::WouldBlock));
@@ -128,6 +192,10 @@ impl Read for SceneStream<'_> {
                 }
                 Some(Act::Takes(count)) => {
                     scene.takes.set(*count);
+                    scene.skip();
+                }
+                Some(Act::Lags(time)) => {
+                    scene.lag.set(*time);
                     scene.skip();
                 }
                 Some(Act::Works(_)) => scene.work(),
@@ -167,7 +235,15 @@ impl Write for SceneStream<'_> {
 }
 
 impl OpenStream for SceneStream<'_> {
-    fn set_nodelay(&self, _nodelay: bool) -> io::Result<()> {
+    fn shutdown(&self, how: Shutdown) -> io::Result<()> {
+        if how == Shutdown::Write {
+            self.0.used.is_shut.set(true);
+        }
+        Ok(())
+    }
+
+    fn set_nodelay(&self, nodelay: bool) -> io::Result<()> {
+        self.0.used.is_at_once.set(nodelay);
         Ok(())
     }
 
@@ -257,8 +333,9 @@ impl<'a> Net for SceneNet<'a> {
     fn connect_timeout(
         &self,
         _address: SocketAddr,
-        _limit: Duration,
+        limit: Duration,
     ) -> io::Result<SceneStream<'a>> {
+        self.0.used.limit.set(limit);
         Ok(SceneStream(self.0))
     }
 }

@@ -1,6 +1,7 @@
 //! Sessions, and the engine that they run on.
 
 use crate::answers::tell_why;
+use crate::asking::asking_row;
 use crate::device::with_fault;
 use crate::engine::{TestDisk, TestEngine, memory_disk, start, tell_reports, torrent_of};
 use crate::flushes::{flushing_peers_row, flushing_row, meeting_row};
@@ -127,6 +128,7 @@ fn engine_row(
         "adopt" => adopt_row(engine, rest, out),
         "fetch" => session_row(alloc, engine, true, rest, out),
         "serve" => session_row(alloc, engine, false, rest, out),
+        "asking" => asking_row(alloc, engine, rest, out),
         "peers" => peers_row(alloc, engine, rest, out),
         "flushing" => flushing_row(alloc, engine, rest, out),
         "meeting" => meeting_row(alloc, engine, rest, out),

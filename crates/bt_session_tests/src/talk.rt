@@ -3,7 +3,7 @@
 use crate::bytes::tell_given;
 use crate::ends::{Queue, Sink, Source};
 use crate::notes::Untold;
-use bt_connection::{AheadRoom, FrameRoom, Padded, Padding, ReadAhead, ShortBlocks, Side};
+use bt_connection::{AheadRoom, FrameRoom, Lent, Padded, Padding, ReadAhead, ShortBlocks, Side};
 use bt_devices::DigestCache;
 use bt_meta::Torrent;
 use bt_rows::{RowError, Words};
@@ -86,10 +86,11 @@ fn new_conversation<'a>(
     let ahead = line.ahead.try_borrow_mut()?;
     let incoming = line.incoming.try_borrow_mut()?;
     let outgoing = line.outgoing.try_borrow_mut()?;
+    let remembered = Lent::new(padding)?;
     let read = ReadAhead::new(source, &line.digests, &line.observer, ahead);
     Ok(Conversation {
-        reader: Padded::new(Side::Peer, read, blocks, padding, incoming),
-        writer: Padded::new(Side::Engine, sink, blocks, padding, outgoing),
+        reader: Padded::new(Side::Peer, read, blocks, remembered, incoming),
+        writer: Padded::new(Side::Engine, sink, blocks, remembered, outgoing),
         line,
         padding,
         whole,
@@ -151,10 +152,12 @@ impl Conversation<'_> {
         Ok(taken(alloc, &self.line.to_peer)?)
     }
 
-    /// Has what is remembered of the peer forgotten.
+    /// Has what is remembered made new, as for another peer.
     fn forgotten(&self, alloc: Global) -> Result<Vec<u8>, RowError> {
-        forget(self.padding)?;
-        Ok(Vec::new(alloc))
+        match Lent::new(self.padding) {
+            Ok(_) => Ok(Vec::new(alloc)),
+            Err(_) => Err(RowError::Failed),
+        }
     }
 }
 
@@ -191,13 +194,6 @@ fn put_each<W: Write>(writer: &mut W, bytes: &[u8]) -> io::Result<()> {
     for byte in bytes {
         writer.write_all(&[*byte])?;
     }
-    Ok(())
-}
-
-fn forget(padding: &RefCell<Padding>) -> io::Result<()> {
-    let mut guard = padding.try_borrow_mut()?;
-    let memory = &mut *guard;
-    memory.forget();
     Ok(())
 }
 

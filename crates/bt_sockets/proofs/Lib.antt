@@ -1,2 +1,3 @@
 pub mod Hosts
 pub mod OpenLists
+pub mod Partings

@@ -1,6 +1,7 @@
 pub mod Link
 pub mod Stream
 pub mod StreamSteps
+pub mod PartingSteps
 pub mod Listener
 pub mod ListenerSteps
 pub mod OpenSteps

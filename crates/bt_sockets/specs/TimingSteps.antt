@@ -67,6 +67,7 @@ pub record KeepsOthers (old new : Times) : Type 0 where
   pub pieces : new.pieces ≡ old.pieces
   pub had : new.had ≡ old.had
   pub overdue : new.is_overdue ≡ old.is_overdue
+  pub given_up : new.is_given_up ≡ old.is_given_up
   pub outgoing : new.outgoing ≡ old.outgoing
 
 -- ---- what comes
@@ -88,6 +89,7 @@ pub record HaveBegun (role : Role) (pieces : ℕ) (now : Instant) (times : Times
   pub pieces_are : times.pieces ≡ pieces
   pub had : times.had ≡ 0
   pub overdue : times.is_overdue ≡ false
+  pub given_up : times.is_given_up ≡ false
   pub outgoing : IsAtBegin times.outgoing
 
 -- blocks are fetched from the peer, one is asked for, and for the seconds of a block none came

@@ -28,9 +28,9 @@ pub struct TcpLink<'a, R: Net + Clock> {
 
 /// A connection to a peer: what is read from it, what is written to it, and the address that was dialled.
 #[derive(Drop)]
-struct Connection<'a, S, C> {
-    reader: StreamReader<'a, S, C>,
-    writer: StreamWriter<'a, S, C>,
+struct Connection<I, O> {
+    reader: I,
+    writer: O,
     address: SocketAddr,
 }
 
@@ -71,7 +71,9 @@ impl<'a, R: Net + Clock> TcpLink<'a, R> {
     }
 
     /// Connects to the peer. Errors: it is not reached.
-    fn connect(&self) -> io::Result<Connection<'a, R::Stream, R>>
+    fn connect(
+        &self,
+    ) -> io::Result<Connection<StreamReader<'a, R::Stream, R>, StreamWriter<'a, R::Stream, R>>>
         ensures address { IfOk result
             (λ connection. IsAddressOf self.now.host self.now.port connection.address) }
         ensures new { IfOk result
@@ -91,7 +93,9 @@ impl<'a, R: Net + Clock> TcpLink<'a, R> {
     }
 
     /// Dials the peer, and counts that: None where it is not reached.
-    fn reach(&mut self) -> Option<Connection<'a, R::Stream, R>>
+    fn reach(
+        &mut self,
+    ) -> Option<Connection<StreamReader<'a, R::Stream, R>, StreamWriter<'a, R::Stream, R>>>
         requires few { self.old.all < 2 ^ 64 - 1 }
         ensures counted { self.new.all ≡ self.old.all + 1 }
         ensures failed { self.new.failed ≡ self.old.failed + failure_count result }

@@ -1,30 +1,28 @@
 //! What stands between a connection and its engine.
 
-use crate::timed_stream::EARLY_LEN;
+use crate::remembered::EarlyRoom;
 use crate::timing::Timing;
 use bt_connection::{AheadRoom, FrameRoom, Padding, Requests, Room, ShortBlocks};
 use bt_devices::{Alarm, DigestCache};
 use std::alloc::{AllocError, Global};
 use std::cell::RefCell;
 
-/// What the connections that follow one another share, with each other and with the devices of their engine.
+/// What the connections that follow one another share, with each other and with the devices of their engine. What one
+/// of them puts into it the next does not find, but for digests: each makes it new (`Lent`).
 #[derive(Drop)]
 pub struct Shared {
     /// Where the digests are put that are made ahead, as blocks come or are read.
     pub digests: RefCell<DigestCache>,
-    /// What is remembered of a peer that pads last blocks.
-    pub padding: RefCell<Padding>,
-    /// What is sent right before the connection is read.
+    /// Where what is remembered of a connection lies.
+    pub(crate) padding: RefCell<Padding>,
     pub(crate) requests: RefCell<Requests>,
+    pub(crate) early: RefCell<EarlyRoom>,
+    pub(crate) timing: Timing,
     /// Where what is read ahead waits. A connection borrows it, and the two below, for as long as it is there.
     pub(crate) room: RefCell<AheadRoom>,
     /// Where what came of a message of a peer waits, and of one to it.
     pub(crate) incoming: RefCell<FrameRoom>,
     pub(crate) outgoing: RefCell<FrameRoom>,
-    /// What came of a peer that takes nothing.
-    pub(crate) early: RefCell<Room<EARLY_LEN>>,
-    /// How long the peer took for what it owes.
-    pub(crate) timing: Timing,
     /// Rung where a device refuses a write.
     pub alarm: Alarm,
 }

@@ -3,13 +3,11 @@ ghost use Rattle.std.specs.Prelude.{◌≡◌, ◌≢◌, List, ℕ, IfOk, Match
 ghost use Rattle.bt_sockets.specs.Stream.{AreNewWays};
 ghost use Rattle.bt_sockets.specs.StreamSteps.{IsAddressOf, IsTextOf, bracketed};
 
-use crate::passage::{Passage, Shared};
-use crate::timed_stream::{EARLY_LEN, TimedStream, set_turns};
+use crate::passage::Passage;
+use crate::remembered::Remembered;
+use crate::timed_stream::{TimedStream, Way, set_turns};
 use crate::timing::{Role, Timing};
-use bt_connection::{
-    AlarmReader, HoldingWriter, Padded, Padding, ReadAhead, Requests, Room, SendingReader, Side,
-};
-use std::cell::RefCell;
+use bt_connection::{AlarmReader, HoldingWriter, Padded, ReadAhead, SendingReader, Side};
 use std::io;
 use std::io::{ErrorKind, Read, Write};
 use std::net::{Ipv6Addr, Net, OpenStream, SocketAddr, TcpStream, ToSocketAddrs};
@@ -81,9 +79,9 @@ pub(crate) struct Terms {
 /// Makes a connection ready for a session: what is read from it, ahead of its engine, and what is written to
 /// it, which are one socket. Each write leaves at once, but for requests, which leave before the next read or
 /// write. A read or a write fails where the peer was idle for `terms.idle`, or has taken too long otherwise; a read
-/// also where a device has refused a write since. Both ways are new: nothing of another connection waits in them,
-/// and what was remembered of its peer, or held back for it, is forgotten. It takes no memory. Errors: the system
-/// refuses this; a connection for the same passage is there still.
+/// also where a device has refused a write since. Both ways are new: nothing of another connection waits in them, or is
+/// remembered. As the reader is let go, it takes leave of the peer. It takes no memory. Errors: the system refuses
+/// this; a connection for the same passage is there still.
 pub(crate) fn both_ways<'a, S: Read + Write + OpenStream + Drop, C: Clock>(
     clock: &'a C,
     stream: S,
@@ -100,59 +98,23 @@ pub(crate) fn both_ways<'a, S: Read + Write + OpenStream + Drop, C: Clock>(
     let room = shared.room.try_borrow_mut()?;
     let incoming = shared.incoming.try_borrow_mut()?;
     let outgoing = shared.outgoing.try_borrow_mut()?;
-    begin(shared, clock, terms.role, pieces)?;
+    let remembered = Remembered::new(shared, terms.role, pieces, Instant::now(clock)?)?;
     stream.set_nodelay(true)?;
     set_turns(&stream, terms.idle)?;
     let clone = stream.try_clone()?;
-    let reading = TimedStream::new(stream, clock, terms.idle, &shared.timing, &shared.early);
-    let sending = SendingReader::new(reading, &shared.requests);
+    let Remembered {
+        padding,
+        requests,
+        timing,
+        ..
+    } = remembered;
+    let reading = TimedStream::new(stream, clock, terms.idle, remembered, Way::In);
+    let sending = SendingReader::new(reading, requests);
     let heard = AlarmReader::new(sending, &shared.alarm);
-    let ahead = ReadAhead::new(heard, &shared.digests, &shared.timing, room);
-    let reader = Padded::new(Side::Peer, ahead, short_blocks, &shared.padding, incoming);
-    let writing = TimedStream::new(clone, clock, terms.idle, &shared.timing, &shared.early);
-    let holding = HoldingWriter::new(writing, &shared.requests);
-    let writer = Padded::new(
-        Side::Engine,
-        holding,
-        short_blocks,
-        &shared.padding,
-        outgoing,
-    );
+    let ahead = ReadAhead::new(heard, &shared.digests, timing.observer(), room);
+    let reader = Padded::new(Side::Peer, ahead, short_blocks, padding, incoming);
+    let writing = TimedStream::new(clone, clock, terms.idle, remembered, Way::Out);
+    let holding = HoldingWriter::new(writing, requests);
+    let writer = Padded::new(Side::Engine, holding, short_blocks, padding, outgoing);
     Ok((reader, writer))
-}
-
-/// Forgets the connection before, and begins the time of this one. Errors: the clock fails; what is to be
-/// forgotten is in use, which no call of this crate brings about.
-fn begin<C: Clock>(shared: &Shared, clock: &C, role: Role, pieces: u32) -> io::Result<()> {
-    forget(&shared.padding)?;
-    forget_requests(&shared.requests)?;
-    forget_early(&shared.early)?;
-    shared.alarm.stop();
-    shared.timing.begin(role, pieces, Instant::now(clock)?);
-    Ok(())
-}
-
-/// Forgets the peer. Errors: what is remembered of it is in use, which no call of this crate brings about.
-fn forget(padding: &RefCell<Padding>) -> io::Result<()> {
-    let mut guard = padding.try_borrow_mut()?;
-    let memory = &mut *guard;
-    memory.forget();
-    Ok(())
-}
-
-/// Forgets the requests of another connection. Errors: they are in use, which no call of this crate brings
-/// about.
-fn forget_requests(requests: &RefCell<Requests>) -> io::Result<()> {
-    let mut guard = requests.try_borrow_mut()?;
-    let requests = &mut *guard;
-    requests.forget();
-    Ok(())
-}
-
-/// Forgets what came early of another connection. Errors: it is in use, which no call of this crate brings about.
-fn forget_early(early: &RefCell<Room<EARLY_LEN>>) -> io::Result<()> {
-    let mut guard = early.try_borrow_mut()?;
-    let early = &mut *guard;
-    early.clear();
-    Ok(())
 }

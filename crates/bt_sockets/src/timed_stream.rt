@@ -1,14 +1,13 @@
 //! A socket at which nobody waits for ever.
-ghost use Rattle.std.specs.Prelude.{◌≡◌, ◌↔◌, ◌⊎◌, ◌≤◌, ◌++◌, min, IsTrue, IfOk, length, take};
+ghost use Rattle.std.specs.Prelude.{◌≡◌, ◌↔◌, ◌⊎◌, ◌≤◌, ◌++◌, min, IsTrue, IfOk, OnErr, length, take};
 ghost use Rattle.std.specs.Io.{ReadsAtMost, WritesAtMost};
-ghost use Rattle.std.specs.Io.KnownBytes.{ReadConsumes, WriteAppends};
+ghost use Rattle.std.specs.Io.KnownBytes.{Keeps, ReadConsumes, WriteAppends};
 ghost use Rattle.bt_connection.specs.Room.{IsTakenIn};
 ghost use Rattle.bt_sockets.specs.TimedStreamSteps.{IsWritten};
 
-use crate::timing::Timing;
-use bt_connection::Room;
-use bt_wire::frames::BLOCK_MESSAGE_LEN;
-use std::cell::RefCell;
+use crate::parting::part;
+use crate::remembered::{EARLY_LEN, EarlyRoom, Remembered};
+use bt_connection::Lent;
 use std::io::{self, ErrorKind, Read, Write};
 use std::marker::Model;
 use std::net::OpenStream;
@@ -23,41 +22,46 @@ const WRITE_TURN_MILLIS: u64 = 50;
 /// How many milliseconds are waited for what has come meanwhile.
 const LOOK_MILLIS: u64 = 1;
 
-/// How many bytes that came early there is room for: sixteen messages of a whole block, as many as an engine asks one
-/// peer for.
-pub const EARLY_LEN: usize = 16 * BLOCK_MESSAGE_LEN;
-
 /// How many bytes that came early are taken in at a time.
 const PART_LEN: usize = 16_384;
 
 /// A handle of a connection's socket. It waits for the peer in turns, as long as the socket's time-outs are, and
 /// looks in between whether the peer has taken too long. While the peer takes nothing, what comes of it is taken
 /// in, as far as there is room, since it may wait for that to be taken. It is at its end where the peer has nothing
-/// more to give (`Timing`).
-#[derive(Drop)]
-pub struct TimedStream<'a, S, C> {
+/// more to give (`Timed`). As it is let go, that of the reader takes leave of the peer (`part`), but of none that was
+/// given up.
+pub struct TimedStream<'a, S: Read + OpenStream + Drop, C: Clock> {
     inner: S,
     clock: &'a C,
     /// How long a peer may send nothing, or neither take nor send anything.
     idle: Duration,
-    timing: &'a Timing,
-    early: &'a RefCell<Room<EARLY_LEN>>,
+    remembered: Remembered<'a>,
+    way: Way,
 }
 
-impl<'a, S, C> Model for TimedStream<'a, S, C> {
+/// What a handle of a socket is there for.
+#[derive(Clone, Copy, Debug, PartialEq, Eq)]
+pub(crate) enum Way {
+    /// The connection is read.
+    In,
+    /// The connection is written to.
+    Out,
+}
+
+impl<'a, S: Read + OpenStream + Drop, C: Clock> Model for TimedStream<'a, S, C> {
     ghost Value = { S };
 
     ghost view = { λ s. s.inner };
 }
 
-impl<'a, S, C> TimedStream<'a, S, C> {
-    /// A handle of the socket of the connection whose times are told, beside which what comes early waits.
-    pub fn new(
+impl<'a, S: Read + OpenStream + Drop, C: Clock> TimedStream<'a, S, C> {
+    /// A handle of the socket of the connection of which this is remembered.
+    pub(crate) fn new(
         inner: S,
         clock: &'a C,
         idle: Duration,
-        timing: &'a Timing,
-        early: &'a RefCell<Room<EARLY_LEN>>,
+        remembered: Remembered<'a>,
+        way: Way,
     ) -> Self
         ensures { result ≡ inner }
     {
@@ -65,19 +69,35 @@ impl<'a, S, C> TimedStream<'a, S, C> {
             inner,
             clock,
             idle,
-            timing,
-            early,
+            remembered,
+            way,
         }
     }
 }
 
-impl<'a, S, C: Clock> TimedStream<'a, S, C> {
+impl<'a, S: Read + OpenStream + Drop, C: Clock> Drop for TimedStream<'a, S, C> {
+    fn drop(mut self) {
+        if self.way == Way::In && !self.remembered.timing.is_given_up() {
+            let clock = self.clock;
+            part(&mut self.inner, clock);
+        }
+        let TimedStream {
+            inner: _inner,
+            clock: _,
+            idle: _,
+            remembered: _,
+            way: _,
+        } = self;
+    }
+}
+
+impl<'a, S: Read + OpenStream + Drop, C: Clock> TimedStream<'a, S, C> {
     /// Begins to wait. Errors: TimedOut where the peer has taken too long already; the clock fails.
     fn begin(&self) -> io::Result<Instant> {
         let now = Instant::now(self.clock)?;
-        self.timing.look(now);
-        if self.timing.is_late(now) {
-            return Err(io::Error::from(ErrorKind::TimedOut));
+        self.remembered.timing.look(now);
+        if self.remembered.timing.is_late(now) {
+            return Err(self.give_up());
         }
         Ok(now)
     }
@@ -90,47 +110,69 @@ impl<'a, S, C: Clock> TimedStream<'a, S, C> {
             return Err(error);
         }
         let now = Instant::now(self.clock)?;
-        let begun = self.timing.resumed(begun, now);
-        self.timing.look(now);
-        if self.timing.is_late(now) || now.duration_since(begun) >= self.idle {
-            return Err(io::Error::from(ErrorKind::TimedOut));
+        let begun = self.counted(begun, error.kind(), now);
+        if self.remembered.timing.is_late(now) || now.duration_since(begun) >= self.idle {
+            return Err(self.give_up());
         }
         Ok(begun)
+    }
+
+    /// Counts the time of a call of the socket that failed so, and says since when is waited. One that was interrupted
+    /// may have been stopped, and counts as work does; in any other the socket was waited for.
+    fn counted(&self, begun: Instant, kind: ErrorKind, now: Instant) -> Instant {
+        let timing = self.remembered.timing;
+        if kind != ErrorKind::Interrupted {
+            timing.wait(now);
+            return begun;
+        }
+        let begun = timing.resumed(begun, now);
+        timing.look(now);
+        begun
+    }
+
+    /// Gives the peer up, with this error.
+    fn give_up(&self) -> io::Error {
+        self.remembered.timing.give_up();
+        io::Error::from(ErrorKind::TimedOut)
     }
 
     /// Notes that a call is over.
     fn leave(&self) {
         if let Ok(now) = Instant::now(self.clock) {
-            self.timing.look(now);
+            self.remembered.timing.look(now);
         }
     }
 
     /// Notes that bytes have come.
     fn note_in(&self) {
         if let Ok(now) = Instant::now(self.clock) {
-            self.timing.pass_in(now);
+            self.remembered.timing.pass_in(read_turn(self.idle), now);
         }
     }
 
     /// Notes bytes that went out.
     fn note_out(&self, bytes: &[u8]) {
         if let Ok(now) = Instant::now(self.clock) {
-            self.timing.pass_out(bytes, now);
+            self.remembered
+                .timing
+                .pass_out(bytes, write_turn(self.idle), now);
         }
     }
-}
 
-impl<'a, S: Read + OpenStream, C: Clock> TimedStream<'a, S, C> {
     /// Takes in what has come while the peer took nothing. Says since when is waited: since now, where something
     /// came, or else since then.
     fn take_in(&mut self, begun: Instant) -> Instant {
         let look = Duration::from_millis(LOOK_MILLIS);
         let _ = self.inner.set_read_timeout(Some(look));
-        let count = take_early(self.early, &mut self.inner);
+        let taken = take_early(self.remembered.early, &mut self.inner);
         let _ = self.inner.set_read_timeout(Some(read_turn(self.idle)));
-        match Instant::now(self.clock) {
-            Ok(now) if count > 0 => now,
-            _ => begun,
+        let Ok(now) = Instant::now(self.clock) else {
+            return begun;
+        };
+        match taken {
+            Ok(0) => begun,
+            Ok(_) => now,
+            Err(error) => self.counted(begun, error.kind(), now),
         }
     }
 }
@@ -140,36 +182,38 @@ fn read_turn(idle: Duration) -> Duration {
     idle.min(Duration::from_millis(READ_TURN_MILLIS))
 }
 
+/// How long a write waits at a time.
+fn write_turn(idle: Duration) -> Duration {
+    idle.min(Duration::from_millis(WRITE_TURN_MILLIS))
+}
+
 /// Has a socket's calls wait for a turn at a time. Errors: the system refuses this, also where no time at all is
 /// to be waited.
 pub fn set_turns<S: OpenStream>(stream: &S, idle: Duration) -> io::Result<()> {
-    let write_turn = idle.min(Duration::from_millis(WRITE_TURN_MILLIS));
     stream.set_read_timeout(Some(read_turn(idle)))?;
-    stream.set_write_timeout(Some(write_turn))
+    stream.set_write_timeout(Some(write_turn(idle)))
 }
 
-/// Takes in what has come, as far as there is room, and says how many bytes: none too where the reader fails. Where
-/// they are in use, which no call of this crate brings about, it is none.
-fn take_early<S: Read>(early: &RefCell<Room<EARLY_LEN>>, from: &mut S) -> usize {
-    match early.try_borrow_mut() {
-        Ok(mut guard) => take_into(&mut *guard, from),
-        Err(_) => 0,
-    }
+/// Takes in what has come, as far as there is room, and says how many bytes. Errors: those of the reader; what came
+/// early is in use, which no call of this crate brings about.
+fn take_early<S: Read>(early: Lent<'_, EarlyRoom>, from: &mut S) -> io::Result<usize> {
+    let mut guard = early.try_borrow_mut()?;
+    take_into(&mut *guard, from)
 }
 
-/// Reads once, as far as there is room, and says how many bytes came: none too where the reader fails.
-fn take_into<S: Read>(early: &mut Room<EARLY_LEN>, from: &mut S) -> usize
-    ensures { IsTakenIn (S.remaining from.old) (S.remaining from.new) early.old result early.new }
+/// Reads once, as far as there is room, and says how many bytes came. Errors: those of the reader.
+fn take_into<S: Read>(early: &mut EarlyRoom, from: &mut S) -> io::Result<usize>
+    ensures came { IfOk result (λ count.
+        IsTakenIn (S.remaining from.old) (S.remaining from.new) early.old count early.new) }
+    ensures kept { OnErr result (Keeps (S.remaining from.old) (S.remaining from.new)) }
+    ensures same { OnErr result (early.new ≡ early.old) }
 {
     let most = EARLY_LEN - early.as_slice().len();
-    match early.read_from(from, most.min(PART_LEN)) {
-        Ok(count) => count,
-        Err(_) => 0,
-    }
+    early.read_from(from, most.min(PART_LEN))
 }
 
 /// Gives of what came early, and says how many bytes.
-fn give_early(early: &RefCell<Room<EARLY_LEN>>, buffer: &mut [u8]) -> usize
+fn give_early(early: Lent<'_, EarlyRoom>, buffer: &mut [u8]) -> usize
     ensures { result ≤ length buffer.new }
 {
     match early.try_borrow_mut() {
@@ -179,7 +223,7 @@ fn give_early(early: &RefCell<Room<EARLY_LEN>>, buffer: &mut [u8]) -> usize
 }
 
 /// Gives the first of them, as many as the buffer has room for, and says how many.
-fn give_from(early: &mut Room<EARLY_LEN>, buffer: &mut [u8]) -> usize
+fn give_from(early: &mut EarlyRoom, buffer: &mut [u8]) -> usize
     ensures count { result ≡ min (length early.old) (length buffer.old) }
     ensures given { early.old ≡ take result buffer.new ++ early.new }
 {
@@ -189,7 +233,7 @@ fn give_from(early: &mut Room<EARLY_LEN>, buffer: &mut [u8]) -> usize
 
 /// Whether a call of a socket is to be made again after this error: it was interrupted, or the socket's
 /// time-out came.
-fn is_again(kind: ErrorKind) -> bool
+pub(crate) fn is_again(kind: ErrorKind) -> bool
     ensures { IsTrue result ↔ ((kind ≡ ErrorKind.Interrupted)
         ⊎ (kind ≡ ErrorKind.WouldBlock) ⊎ (kind ≡ ErrorKind.TimedOut)) }
 {
@@ -200,7 +244,7 @@ fn is_again(kind: ErrorKind) -> bool
 }
 
 // What comes early lies in a cell, so it is not known what is left to be read.
-impl<'a, S: Read, C: Clock> Read for TimedStream<'a, S, C> {
+impl<'a, S: Read + OpenStream + Drop, C: Clock> Read for TimedStream<'a, S, C> {
     /// No byte is given, too, where the peer has nothing more to give. Errors, which come before that: those of the
     /// socket; the peer sent nothing for too long, or has taken too long otherwise; the clock fails.
     fn read(&mut self, buffer: &mut [u8]) -> io::Result<usize> {
@@ -210,16 +254,16 @@ impl<'a, S: Read, C: Clock> Read for TimedStream<'a, S, C> {
     }
 }
 
-impl<'a, S: Read, C: Clock> TimedStream<'a, S, C> {
+impl<'a, S: Read + OpenStream + Drop, C: Clock> TimedStream<'a, S, C> {
     /// Reads, or gives what came early. Errors: as `read`.
     fn read_in_time(&mut self, buffer: &mut [u8]) -> io::Result<usize>
         ensures bound { ReadsAtMost result buffer.new }
     {
         let begun = self.begin()?;
-        if self.timing.is_spent() {
+        if self.remembered.timing.is_spent() {
             return Ok(0);
         }
-        let count = give_early(self.early, buffer);
+        let count = give_early(self.remembered.early, buffer);
         if count > 0 {
             self.note_in();
             return Ok(count);
@@ -247,7 +291,7 @@ impl<'a, S: Read, C: Clock> TimedStream<'a, S, C> {
 }
 
 // What the socket got before is not known, since it is read while it takes nothing.
-impl<'a, S: Read + Write + OpenStream, C: Clock> Write for TimedStream<'a, S, C> {
+impl<'a, S: Read + Write + OpenStream + Drop, C: Clock> Write for TimedStream<'a, S, C> {
     ghost use Rattle.std.specs.Prelude.{None};
 
     ghost contents = { λ _. None };
@@ -269,7 +313,7 @@ impl<'a, S: Read + Write + OpenStream, C: Clock> Write for TimedStream<'a, S, C>
     }
 }
 
-impl<'a, S: Read + Write + OpenStream, C: Clock> TimedStream<'a, S, C> {
+impl<'a, S: Read + Write + OpenStream + Drop, C: Clock> TimedStream<'a, S, C> {
     /// Writes, and takes in what comes meanwhile. Errors: as `write`.
     fn write_in_time(&mut self, bytes: &[u8]) -> io::Result<usize>
         ensures bound { IfOk result (λ count. count ≤ length bytes.now) }

@@ -1,5 +1,5 @@
-//! How long a peer may take for what it owes, so that those who wait behind it have their turn. While this program
-//! itself is at work, or is stopped, these times stand still.
+//! How long a peer may take for what it owes, so that those who wait behind it have their turn. The time counts for
+//! which its socket is waited for. While this program itself is at work, or is stopped, these times stand still.
 ghost use Rattle.std.specs.Prelude.{◌≡◌, ◌↔◌, ◌⊎◌, ◌-◌, ◌<◌, IsTrue, true, false, [], length, Contains};
 ghost use Rattle.bt_sockets.specs.OpenSteps.{IsOpened, IsWithout};
 ghost use Rattle.bt_sockets.specs.TimingSteps.{HasCome, HasGone, HasKind, HasMessage, HaveBegun, HavePassed, HavePassedOut};
@@ -27,7 +27,7 @@ pub const USE_SECONDS: u64 = 600;
 /// requests of blocks are open and it sends other messages.
 pub const BLOCK_SECONDS: u64 = 60;
 
-/// Where this many seconds or more pass between two looks at the clock, more than a turn of the socket waits, this
+/// Where this many seconds or more pass between two looks at the clock, and the socket is not waited for meanwhile, this
 /// program was at work, or was stopped, and they are not counted against the peer. Shorter work is: else one that sends
 /// what is of no use, faster than it is read, would hardly ever be late.
 pub const WORK_SECONDS: u64 = 2;
@@ -72,6 +72,8 @@ struct Times {
     had: u64,
     /// Whether another message came when a block was overdue.
     is_overdue: bool,
+    /// Whether the peer was given up, since it took too long.
+    is_given_up: bool,
     outgoing: Outgoing,
 }
 
@@ -96,6 +98,7 @@ impl Times {
             pieces: u64::from(pieces),
             had: 0,
             is_overdue: false,
+            is_given_up: false,
             outgoing: Outgoing::new(),
         }
     }
@@ -143,6 +146,37 @@ impl Times {
         self.used = resumed(self.used, self.looked, now);
         self.asked = resumed(self.asked, self.looked, now);
         self.looked = now;
+    }
+
+    /// The socket was waited for in vain since the clock was looked at, and all of that counts, however long it is.
+    fn wait(&mut self, now: Instant)
+        ensures { self.new ≡ record self.old { looked = now } }
+    {
+        self.looked = now;
+    }
+
+    /// The socket was waited for, for a turn at most, until bytes passed. What that call took longer counts as work does:
+    /// this program may have been stopped in it.
+    fn wait_turn(&mut self, turn: Duration, now: Instant)
+        ensures looked { self.new.looked ≡ now }
+        ensures others { KeepsOthers self.old self.new }
+    {
+        self.looked = self.looked.checked_add(turn).unwrap_or(now);
+        self.look(now);
+    }
+
+    /// Bytes come now.
+    fn pass_in(&mut self, now: Instant)
+        ensures { self.new ≡ record self.old { last = now } }
+    {
+        self.last = now;
+    }
+
+    /// The peer is given up.
+    fn give_up(&mut self)
+        ensures { self.new ≡ record self.old { is_given_up = true } }
+    {
+        self.is_given_up = true;
     }
 
     /// Notes what came, by the last bytes that did.
@@ -311,8 +345,7 @@ fn resumed(since: Instant, looked: Instant, now: Instant) -> Instant
     now.checked_sub(over).unwrap_or(since)
 }
 
-/// What has passed over the connection that is there, and when. Both its handles note it. What lies in a cell no
-/// clause knows.
+/// What has passed over the connection that is there, and when. What lies in a cell no clause knows.
 #[derive(Drop)]
 pub struct Timing {
     times: Cell<Option<Times>>,
@@ -327,58 +360,9 @@ impl Timing {
     }
 
     /// A connection begins, for a torrent of `pieces` pieces.
-    pub fn begin(&self, role: Role, pieces: u32, now: Instant) {
+    pub(crate) fn begin(&self, role: Role, pieces: u32, now: Instant) -> Timed<'_> {
         self.times.set(Some(Times::new(role, pieces, now)));
-    }
-
-    /// Whether the peer has taken too long.
-    pub(crate) fn is_late(&self, now: Instant) -> bool {
-        match self.times.get() {
-            Some(times) => times.is_late(now),
-            None => false,
-        }
-    }
-
-    /// Whether the peer has nothing more to give.
-    pub(crate) fn is_spent(&self) -> bool {
-        match self.times.get() {
-            Some(times) => times.is_spent(),
-            None => false,
-        }
-    }
-
-    /// Since when is waited now, where it was since then: it is of no account what is not counted against the peer.
-    pub(crate) fn resumed(&self, since: Instant, now: Instant) -> Instant {
-        match self.times.get() {
-            Some(times) => resumed(since, times.looked, now),
-            None => since,
-        }
-    }
-
-    /// Notes that the clock is looked at.
-    pub(crate) fn look(&self, now: Instant) {
-        if let Some(mut times) = self.times.get() {
-            times.look(now);
-            self.times.set(Some(times));
-        }
-    }
-
-    /// Notes that bytes come now. What they are is told next (`Observer`).
-    pub(crate) fn pass_in(&self, now: Instant) {
-        if let Some(mut times) = self.times.get() {
-            times.look(now);
-            times.last = now;
-            self.times.set(Some(times));
-        }
-    }
-
-    /// Notes bytes that went out.
-    pub(crate) fn pass_out(&self, bytes: &[u8], now: Instant) {
-        if let Some(mut times) = self.times.get() {
-            times.look(now);
-            times.pass_out(bytes, now);
-            self.times.set(Some(times));
-        }
+        Timed(self)
     }
 }
 
@@ -387,6 +371,92 @@ impl Observer for Timing {
         if let Some(mut times) = self.times.get() {
             times.came(arrival);
             self.times.set(Some(times));
+        }
+    }
+}
+
+/// The timing of a connection that has begun. Both its handles note in it what passes.
+#[derive(Clone, Copy)]
+pub(crate) struct Timed<'a>(&'a Timing);
+
+impl<'a> Timed<'a> {
+    /// Who is told what comes.
+    pub(crate) fn observer(self) -> &'a Timing {
+        self.0
+    }
+
+    /// Whether the peer has taken too long.
+    pub(crate) fn is_late(self, now: Instant) -> bool {
+        match self.0.times.get() {
+            Some(times) => times.is_late(now),
+            None => false,
+        }
+    }
+
+    /// Whether the peer has nothing more to give.
+    pub(crate) fn is_spent(self) -> bool {
+        match self.0.times.get() {
+            Some(times) => times.is_spent(),
+            None => false,
+        }
+    }
+
+    /// Whether the peer was given up.
+    pub(crate) fn is_given_up(self) -> bool {
+        match self.0.times.get() {
+            Some(times) => times.is_given_up,
+            None => false,
+        }
+    }
+
+    /// Since when is waited now, where it was since then: it is of no account what is not counted against the peer.
+    pub(crate) fn resumed(self, since: Instant, now: Instant) -> Instant {
+        match self.0.times.get() {
+            Some(times) => resumed(since, times.looked, now),
+            None => since,
+        }
+    }
+
+    /// Notes that the clock is looked at.
+    pub(crate) fn look(self, now: Instant) {
+        if let Some(mut times) = self.0.times.get() {
+            times.look(now);
+            self.0.times.set(Some(times));
+        }
+    }
+
+    /// Notes that the socket was waited for in vain until now.
+    pub(crate) fn wait(self, now: Instant) {
+        if let Some(mut times) = self.0.times.get() {
+            times.wait(now);
+            self.0.times.set(Some(times));
+        }
+    }
+
+    /// Notes that the peer is given up.
+    pub(crate) fn give_up(self) {
+        if let Some(mut times) = self.0.times.get() {
+            times.give_up();
+            self.0.times.set(Some(times));
+        }
+    }
+
+    /// Notes that the socket was waited for, for a turn at most, until bytes came now. What they are is told next
+    /// (`Observer`).
+    pub(crate) fn pass_in(self, turn: Duration, now: Instant) {
+        if let Some(mut times) = self.0.times.get() {
+            times.wait_turn(turn, now);
+            times.pass_in(now);
+            self.0.times.set(Some(times));
+        }
+    }
+
+    /// Notes that the socket was waited for, for a turn at most, until it took these bytes now.
+    pub(crate) fn pass_out(self, bytes: &[u8], turn: Duration, now: Instant) {
+        if let Some(mut times) = self.0.times.get() {
+            times.wait_turn(turn, now);
+            times.pass_out(bytes, now);
+            self.0.times.set(Some(times));
         }
     }
 }
