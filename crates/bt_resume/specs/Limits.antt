@@ -15,3 +15,7 @@ max_hint_length = 17265
 
 abbrev pub max_appended_length : ℕ
 max_appended_length = 17266
+
+-- how many bytes a run of marks has, in format 2
+abbrev pub run_length : ℕ
+run_length = 13

@@ -1,5 +1,5 @@
 //! The hints of a log, in memory.
-ghost use Rattle.std.specs.Prelude.{◌≡◌, ◌+◌, ◌≤◌, max, ◌++◌, IfOk, IfErr, OnOk, vec_len, vec_capacity};
+ghost use Rattle.std.specs.Prelude.{◌≡◌, ◌+◌, ◌*◌, ◌<◌, ◌≤◌, max, min, ◌++◌, IfOk, IfErr, OnOk, vec_len, vec_capacity};
 ghost use Rattle.bt_resume.specs.OneSpelling.{IsSpelling, IsSpelling-prop};
 
 use crate::hint::{Format, LentHint};
@@ -126,6 +126,8 @@ fn make_room(bytes: &mut Vec<u8>, more: usize, room: usize) -> Result<(), AllocE
     ensures enough { OnOk result (vec_len bytes.old + more ≤ vec_capacity bytes.new) }
     ensures room { IfOk result (λ _. vec_capacity bytes.new ≤ max (vec_capacity bytes.old)
         (max room (vec_len bytes.old + more))) }
+    ensures doubled { OnOk result (vec_capacity bytes.old < vec_len bytes.old + more
+        → min room (2 * vec_len bytes.old) ≤ vec_capacity bytes.new) }
 {
     let len = bytes.len();
     if bytes.capacity() - len >= more {

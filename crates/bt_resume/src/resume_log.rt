@@ -1,13 +1,16 @@
 //! The log of hints on a device, in this project's own format: opened, read again, appended to, flushed.
-ghost use Rattle.std.specs.Prelude.{◌≡◌, IfOk, IfErr, Err};
+ghost use Rattle.std.specs.Prelude.{◌≡◌, ◌≤◌, IfOk, IfErr, Err, length};
+ghost use Rattle.bt_resume.specs.Limits.{max_appended_length};
 ghost use Rattle.bt_resume.specs.Hint.{CanBeRead};
+ghost use Rattle.bt_resume.specs.LogText.{appended_bytes};
+ghost use Rattle.bt_resume.specs.declared.hint.Hint.{Hint};
 ghost use Rattle.bt_resume.specs.ResumeLog.{IsAttached, Opens, IsReloaded, IsAppended, IsFlushed};
 
 use crate::contents::{Contents, End, MAX_LOG_LEN, open_log, read_log};
 use crate::error::{AppendError, LogError, Refused};
 use crate::hint::{Format, Hint};
 use crate::hints::Hints;
-use crate::writer::{MAX_APPENDED_LEN, write_appended};
+use crate::writer::{MAX_PROOF_ROOM, MAX_RUN_ROOM, write_proof, write_renewal, write_run};
 use bt_disk::{DeviceFault, Disk};
 use bt_tree::Hash32;
 use std::alloc::Global;
@@ -156,14 +159,34 @@ impl<D: Disk + Drop> ResumeLog<D> {
         requires { CanBeRead hint.now }
         ensures { IsAppended D.conduct hint.now self.old result self.new }
     {
-        let mut bytes = [0; MAX_APPENDED_LEN];
-        let len = write_appended(self.end.format, hint, &mut bytes);
-        let at = self.end.at + len as u64;
+        match hint {
+            Hint::Proof(key, digests) => {
+                let mut bytes = [0; MAX_PROOF_ROOM];
+                let at = write_renewal(self.end.format, &mut bytes);
+                let len = write_proof(key, digests, at, &mut bytes);
+                self.append_bytes(&bytes[..len])
+            }
+            Hint::Marks { file, first, count } => {
+                let mut bytes = [0; MAX_RUN_ROOM];
+                let at = write_renewal(self.end.format, &mut bytes);
+                let len = write_run(*file, *first, *count, at, &mut bytes);
+                self.append_bytes(&bytes[..len])
+            }
+        }
+    }
+
+    /// Writes the bytes that are appended for a hint after the last one, as [`append`](Self::append) does.
+    fn append_bytes(&mut self, bytes: &[u8]) -> Result<(), AppendError>
+        requires { length bytes.now ≤ max_appended_length }
+        ensures { (hint : Hint) → bytes.now ≡ appended_bytes self.old.format hint
+            → IsAppended D.conduct hint self.old result self.new }
+    {
+        let at = self.end.at + bytes.len() as u64;
         if at > MAX_LOG_LEN {
             self.end = self.kept;
             return Err(AppendError::Full);
         }
-        let Ok(()) = self.disk.write_at(self.end.at, &bytes[..len]) else {
+        let Ok(()) = self.disk.write_at(self.end.at, bytes) else {
             self.end = self.kept;
             return Err(AppendError::Device);
         };

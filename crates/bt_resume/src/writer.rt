@@ -1,10 +1,11 @@
 //! How hints are written.
 ghost use Rattle.std.specs.Prelude.{◌≡◌, ◌≤◌, ◌+◌, ◌++◌, take};
-ghost use Rattle.bt_resume.specs.Limits.{max_hint_length, max_appended_length};
+ghost use Rattle.bt_resume.specs.Limits.{max_hint_length, run_length};
 ghost use Rattle.bt_resume.specs.Hint.{hint_spelling, CanBeRead};
 ghost use Rattle.bt_resume.specs.LogText.{appended_bytes};
+ghost use Rattle.bt_resume.specs.declared.hint.Hint.{Hint};
 
-use crate::hint::{Format, Hint};
+use crate::hint::Format;
 use bt_hashreq::{HashKey, put, write_key};
 use bt_sparse::Digests;
 
@@ -29,48 +30,35 @@ pub(crate) const MARK_LEN: usize = 9;
 /// How many bytes a run of marks has.
 pub(crate) const RUN_LEN: usize = 13;
 
-/// No more bytes are appended for a hint: the byte in front of one, and as many as a hint has at most.
-pub(crate) const MAX_APPENDED_LEN: usize = 1 + PROOF_FRONT_LEN + 32 * 538;
+/// No more bytes are appended for a proof: the byte in front of one, and as many as a proof has at most.
+pub(crate) const MAX_PROOF_ROOM: usize = 1 + PROOF_FRONT_LEN + 32 * 538;
 
-/// Writes what is appended for a hint to the front of a buffer, and says how many bytes it is: in a log that
-/// ends in format 1 the byte after which it goes on in format 2, and then the bytes that spell the hint.
-pub(crate) fn write_appended(
-    format: Format,
-    hint: &Hint,
-    buffer: &mut [u8; MAX_APPENDED_LEN],
-) -> usize
-    requires { CanBeRead hint.now }
-    ensures within { result ≤ max_appended_length }
-    ensures spelled { take result buffer.new ≡ appended_bytes format hint.now }
+/// No more bytes are appended for a run of marks.
+pub(crate) const MAX_RUN_ROOM: usize = 1 + RUN_LEN;
+
+/// Writes what is appended in front of a hint to the front of a buffer, and says how many bytes it is: in a log
+/// that ends in format 1 the byte after which it goes on in format 2, and else nothing.
+pub(crate) fn write_renewal<const N: usize>(format: Format, buffer: &mut [u8; N]) -> usize
+    requires { 1 ≤ N }
+    ensures within { result ≤ 1 }
+    ensures spelled { (hint : Hint) → take result buffer.new ++ hint_spelling Format.Two hint
+        ≡ appended_bytes format hint }
 {
     match format {
         Format::One => {
             put(buffer, 0, &[RENEWING]);
-            write_hint(hint, 1, buffer)
+            1
         }
-        Format::Two => write_hint(hint, 0, buffer),
+        Format::Two => 0,
     }
 }
 
-/// Writes the bytes that spell a hint in format 2 to a buffer from byte `at` on, and says where they end.
-fn write_hint(hint: &Hint, at: usize, buffer: &mut [u8; MAX_APPENDED_LEN]) -> usize
-    requires readable { CanBeRead hint.now }
-    requires front { at ≤ 1 }
-    ensures within { result ≤ at + max_hint_length }
-    ensures spelled { take result buffer.new ≡ take at buffer.old ++ hint_spelling Format.Two hint.now }
-{
-    match hint {
-        Hint::Proof(key, digests) => write_proof(key, digests, at, buffer),
-        Hint::Marks { file, first, count } => write_run(*file, *first, *count, at, buffer),
-    }
-}
-
-/// Writes the bytes that spell a proof in format 2, as [`write_hint`] does.
-fn write_proof(
+/// Writes the bytes that spell a proof in format 2 to a buffer from byte `at` on, and says where they end.
+pub(crate) fn write_proof(
     key: &HashKey,
     digests: &Digests,
     at: usize,
-    buffer: &mut [u8; MAX_APPENDED_LEN],
+    buffer: &mut [u8; MAX_PROOF_ROOM],
 ) -> usize
     requires readable { CanBeRead (Hint.Proof key.now digests.now) }
     requires front { at ≤ 1 }
@@ -85,16 +73,16 @@ fn write_proof(
     at + PROOF_FRONT_LEN + bytes.len()
 }
 
-/// Writes the bytes that spell a run of marks in format 2, as [`write_hint`] does.
-fn write_run(
+/// Writes the bytes that spell a run of marks in format 2, as [`write_proof`] does those of a proof.
+pub(crate) fn write_run(
     file: u32,
     first: u32,
     count: u32,
     at: usize,
-    buffer: &mut [u8; MAX_APPENDED_LEN],
+    buffer: &mut [u8; MAX_RUN_ROOM],
 ) -> usize
     requires { at ≤ 1 }
-    ensures within { result ≤ at + max_hint_length }
+    ensures within { result ≤ at + run_length }
     ensures spelled { take result buffer.new
         ≡ take at buffer.old ++ hint_spelling Format.Two (Hint.Marks file first count) }
 {
