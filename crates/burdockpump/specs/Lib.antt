@@ -41,6 +41,10 @@ pub use Rattle.bt_resume.specs.Hint
 pub use Rattle.bt_resume.specs.LogText
 pub use Rattle.bt_resume.specs.ResumeLog
 pub use Rattle.bt_engine.specs.Reopening
+-- what a log keeps over restarts and lives
+pub use Rattle.bt_machine.specs.Backing
+pub use Rattle.bt_machine.specs.Lives
+pub use Rattle.bt_machine.specs.Reopening as MachineReopening
 -- lists of events, and the messages that they send
 pub use Rattle.bt_engine.specs.Flushes
 pub use Rattle.bt_engine.specs.Leads

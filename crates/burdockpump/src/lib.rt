@@ -58,7 +58,10 @@ pub use bt_wire::{
 
 // Laws, for proofs: functions that do nothing, whose contracts say what is promised of all runs.
 pub use bt_engine::{flushed_blocks_stay, what_leads_on_stands, whole_runs_keep_promises};
-pub use bt_machine::events_send_what_fits;
+pub use bt_machine::{
+    engines_are_of_logs, events_send_what_fits, flushed_blocks_are_marked_again, logs_back_engines,
+    restarts_read_all,
+};
 pub use bt_meta::{torrents_are_made_from_files, torrents_are_read_back, torrents_tell_files};
 pub use bt_session::sessions_are_runs;
 pub use bt_wire::{cutting_makes_no_difference, writing_is_read};
