@@ -9,6 +9,6 @@ pub loses_more : (most left count : ℕ) (a b c : Option (List ℕ)) → left �
     → LosesAtMost (most - left) a b → Loses count b c → LosesAtMost (most - (left - count)) a c
 loses_more most left count a b c within few lost more = (
   lost.0 ++ more.0,
-  omega (arith, length-append lost.0 more.0, lost.1.0, more.1.0, within, few),
-  Consumes-trans a b c lost.0 more.0 lost.1.1 more.1.1,
+  omega (arith, length-append lost.0 more.0, lost.1, more.1, within, few),
+  Consumes-trans a b c lost.0 more.0 lost.2 more.2,
 )
