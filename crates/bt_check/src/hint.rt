@@ -9,7 +9,7 @@ use std::path::PathBuf;
 use std::rt::Files;
 use std::{fs, str};
 
-/// At a terminal tells that no file of a torrent is in a folder, and where the one in it that has the torrent's
+/// At a terminal, and where that was asked for, tells that no file of a torrent is in a folder, and where the one in it that has the torrent's
 /// name has a file of it, which that is. Where memory is short, nothing is told.
 pub(crate) fn hint_at_folder<R: Files + AllocGlobal, P: Watch>(
     rt: &R,
@@ -17,7 +17,7 @@ pub(crate) fn hint_at_folder<R: Files + AllocGlobal, P: Watch>(
     torrent: &Torrent,
     dir: &str,
 ) {
-    if !watch.is_terminal() {
+    if !watch.is_verbose() {
         return;
     }
     if let Ok(text) = hint_text(rt, torrent, dir) {

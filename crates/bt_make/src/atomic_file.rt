@@ -1,5 +1,5 @@
 //! Writing a torrent to its file, wholly or not at all, and the line that tells of it.
-ghost use Rattle.std.specs.Prelude.{◌≡◌, ℕ, ◌⊎◌, string_bytes, IfOk, IfErr, IfSome, OnOk};
+ghost use Rattle.std.specs.Prelude.{◌≡◌, ℕ, ◌⊎◌, ◌↔◌, string_bytes, IfOk, IfErr, IfSome, IsTrue, OnOk};
 ghost use Rattle.std.specs.Io.KnownBytes.{Appends, Keeps};
 ghost use Rattle.std.specs.List.{list_all};
 ghost use Rattle.bt_make.specs.AtomicFileSteps.{IsLinkTarget, IsSibling, is_digit, is_part_name, part_name};
@@ -14,6 +14,7 @@ use bt_progress::{FileCall, Watch};
 use std::alloc::{AllocError, Global};
 use std::fs::{self, File, Metadata, OpenFile, Permissions};
 use std::io::{self, ErrorKind, Write};
+use std::os::unix::fs::MetadataExt;
 use std::rt::Files;
 
 /// How many symbolic links are followed from a path to its file, as many as Linux follows.
@@ -81,7 +82,8 @@ pub fn publish<R: Files + AllocGlobal, P: Watch, O: Write>(
 }
 
 /// Writes a file: wholly, or it stays as it was. The bytes go into a new file beside it, which then takes its
-/// name, and the mode of the one that was there. At the end its folder is synced, so that the name is kept.
+/// name, and the mode of the one that was there; its owner and group too, where the user may give them. At the end its
+/// folder is synced, so that the name is kept.
 ///
 /// Where the path is a symbolic link, that is the file that it names, and the link stays. Where there is
 /// something that is no regular file, that is a device fault, and nothing is changed.
@@ -93,8 +95,8 @@ fn replace_file<R: Files + AllocGlobal, P: Watch>(
 ) -> Result<(), Fault>
     ensures { IfErr result (λ fault. (fault ≡ device) ⊎ (fault ≡ out_of_memory)) }
 {
-    let Target { path, permissions } = target_at(rt, watch, path)?;
-    replace_target(rt, watch, path.as_str(), permissions, bytes)
+    let Target { path, access } = target_at(rt, watch, path)?;
+    replace_target(rt, watch, path.as_str(), access, bytes)
 }
 
 /// The file that is replaced, where a path leads to it. A fault is told of.
@@ -127,12 +129,12 @@ fn part_beside<R: Files + AllocGlobal, P: Watch>(
     )
 }
 
-/// Writes the file at a path, which has these permissions where it is there.
+/// Writes the file at a path, to which this is the access where it is there.
 fn replace_target<R: Files + AllocGlobal, P: Watch>(
     rt: &R,
     watch: &P,
     path: &str,
-    permissions: Option<Permissions>,
+    access: Option<Access>,
     bytes: &[u8],
 ) -> Result<(), Fault>
     ensures { IfErr result (λ fault. (fault ≡ device) ⊎ (fault ≡ out_of_memory)) }
@@ -140,7 +142,8 @@ fn replace_target<R: Files + AllocGlobal, P: Watch>(
     // before anything is changed, since it takes memory
     let folder = sibling(rt.alloc(), path, ".")?;
     let (part, mut file) = part_beside(rt, watch, path)?;
-    let written = write_part(&mut file, permissions, bytes);
+    keep_owner(rt, part.as_str(), &access);
+    let written = write_part(&mut file, permissions_in(access), bytes);
     match put_in_place(rt, watch, part.as_str(), path, written) {
         Ok(()) => {
             let outcome = sync_folder(rt, folder.as_str());
@@ -181,11 +184,14 @@ fn sync_folder<R: Files>(rt: &R, folder: &str) -> Result<(), Fault>
 }
 
 /// Whether an error says that a folder may not be read, or that its file system does not sync folders.
-fn cannot_sync(kind: ErrorKind) -> bool {
-    match kind {
-        ErrorKind::PermissionDenied | ErrorKind::InvalidInput | ErrorKind::Unsupported => true,
-        _ => false,
-    }
+fn cannot_sync(kind: ErrorKind) -> bool
+    ensures { IsTrue result ↔ ((kind ≡ ErrorKind.PermissionDenied)
+        ⊎ (kind ≡ ErrorKind.InvalidInput) ⊎ (kind ≡ ErrorKind.Unsupported)) }
+{
+    matches!(
+        kind,
+        ErrorKind::PermissionDenied | ErrorKind::InvalidInput | ErrorKind::Unsupported
+    )
 }
 
 /// Syncs the folder at a path.
@@ -193,11 +199,37 @@ fn open_and_sync<R: Files>(rt: &R, folder: &str) -> io::Result<()> {
     fs::open(rt, folder)?.sync_all()
 }
 
-/// The path of a file that is replaced, at which is a regular file with these permissions, or nothing.
+/// Who may do what with a file: its owner and its group by their numbers, and its mode.
+#[derive(Drop)]
+struct Access {
+    owner: u32,
+    group: u32,
+    permissions: Permissions,
+}
+
+/// The mode of a file that is replaced, if there is one.
+fn permissions_in(access: Option<Access>) -> Option<Permissions> {
+    Some(access?.permissions)
+}
+
+/// Gives a new file the owner and the group of the one that it replaces, or at least the group, where that may be: else
+/// it is the user's own.
+fn keep_owner<R: Files>(rt: &R, part: &str, access: &Option<Access>) {
+    if let Some(access) = access {
+        if rt
+            .lchown(part, Some(access.owner), Some(access.group))
+            .is_err()
+        {
+            let _ = rt.lchown(part, None, Some(access.group));
+        }
+    }
+}
+
+/// The path of a file that is replaced, at which is a regular file with this access, or nothing.
 #[derive(Drop)]
 struct Target {
     path: String,
-    permissions: Option<Permissions>,
+    access: Option<Access>,
 }
 
 /// The file that is replaced: at the path itself, or where symbolic links lead from there.
@@ -208,7 +240,7 @@ fn target_of<R: Files + AllocGlobal>(rt: &R, path: &str) -> Result<Target, Fault
     // a look at each link, and one at the file to which the last leads
     for _ in 0..=MAX_LINKS {
         match found_at(rt, path.as_str())? {
-            Found::Replaceable(permissions) => return Ok(Target { path, permissions }),
+            Found::Replaceable(access) => return Ok(Target { path, access }),
             Found::Link(next) => path = next,
         }
     }
@@ -218,8 +250,8 @@ fn target_of<R: Files + AllocGlobal>(rt: &R, path: &str) -> Result<Target, Fault
 /// What is found where a file is replaced.
 #[derive(Drop)]
 enum Found {
-    /// A regular file with these permissions, or nothing.
-    Replaceable(Option<Permissions>),
+    /// A regular file with this access, or nothing.
+    Replaceable(Option<Access>),
     /// A symbolic link that leads to this path.
     Link(String),
 }
@@ -243,11 +275,20 @@ fn found_by<R: Files + AllocGlobal>(rt: &R, path: &str, metadata: &Metadata) -> 
     ensures { IfErr result (λ fault. (fault ≡ device) ⊎ (fault ≡ out_of_memory)) }
 {
     if metadata.is_file() {
-        Ok(Found::Replaceable(Some(metadata.permissions())))
+        Ok(Found::Replaceable(Some(access_of(metadata))))
     } else if metadata.is_symlink() {
         Ok(Found::Link(followed_link(rt, path)?))
     } else {
         Err(Fault::Device)
+    }
+}
+
+/// Who may do what with the file that a look met.
+fn access_of(metadata: &Metadata) -> Access {
+    Access {
+        owner: metadata.uid(),
+        group: metadata.gid(),
+        permissions: metadata.permissions(),
     }
 }
 

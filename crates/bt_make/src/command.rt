@@ -1,5 +1,8 @@
 //! The command `make`.
-ghost use Rattle.std.specs.Prelude.{◌≡◌, ◌≤◌, ◌⊎◌, [], None, length, map, string_bytes, IfOk, IfErr, IsErrAnd};
+ghost use Rattle.std.specs.Prelude.{◌≡◌, ◌≤◌, ◌<◌, ◌↔◌, ◌⊎◌, ◌+◌, [], None, length, map, string_bytes, IfOk, IfErr, OnOk, IsErrAnd, IsTrue};
+ghost use Rattle.std.specs.Result.{result_err};
+ghost use Rattle.bt_meta.specs.Files.{piece_count};
+ghost use Rattle.bt_make.specs.Limits.{count_refusal};
 ghost use Rattle.std.specs.List.{All};
 ghost use Rattle.bt_tree.specs.TreeShape.{IsPieceLength};
 ghost use Rattle.bt_meta.specs.declared.writer.MakeError.TheVariants.{PieceLength};
@@ -7,13 +10,14 @@ ghost use Rattle.bt_meta.specs.Limits.{max_file_count, max_piece_count};
 ghost use Rattle.bt_tree.specs.Limits.{max_file_length};
 ghost use Rattle.bt_check.specs.Digests.{IsDigestFault};
 ghost use Rattle.bt_check.specs.Fault.{device, make_fault, out_of_memory};
-ghost use Rattle.bt_make.specs.Folder.{file_paths};
+ghost use Rattle.bt_make.specs.Folder.{Ascend, HasElement, IsListingFault, file_paths};
 ghost use Rattle.bt_make.specs.Command.{HasContent, IsFilesFault, IsMakeFault, IsMakeTorrent, IsMeasuringFault, IsTorrentOf, first_count_refusal, total_piece_count};
 ghost use Rattle.bt_make.specs.CommandSteps.{AddsFile, AreOfSomeBytes, IsFileRefusal, elements_in, file_of_made};
 
 use crate::atomic_file::probe_file;
 use crate::device_call::of_device;
 use crate::folder::{EntryKind, FolderEntry, files_in, follow};
+use crate::hints::{hint_at_file, hint_at_left_out, hint_at_length, hint_at_limit, hint_at_name};
 use crate::limits::Counts;
 use crate::new_torrent::NewTorrent;
 use bt_check::{
@@ -49,11 +53,12 @@ pub fn make<R: Files + AllocGlobal + Clone + Drop, P: Watch>(
     let Some(size) = PieceSize::new(request.piece_length) else {
         return Err(Fault::Make(MakeError::PieceLength));
     };
-    let entries = files_in(rt, watch, request.dir)?;
+    hint_at_name(watch, request.name);
+    let entries = entries_in(rt, watch, request.dir)?;
     if is_among(rt, watch, request.out, request.dir, &entries)? {
         return Err(Fault::OutAmongFiles);
     }
-    torrent_of(
+    let outcome = torrent_of(
         rt,
         watch,
         request.dir,
@@ -61,7 +66,27 @@ pub fn make<R: Files + AllocGlobal + Clone + Drop, P: Watch>(
         request.name,
         size,
         entries,
-    )
+    );
+    hint_at_length(rt, watch, request.dir, request.piece_length, &outcome);
+    outcome
+}
+
+/// The entries of a folder, as [`files_in`] has them. What it leaves out is told, and so is a file in the folder's place.
+fn entries_in<R: Files + AllocGlobal + Clone + Drop, P: Watch>(
+    rt: &R,
+    watch: &P,
+    dir: &str,
+) -> Result<Vec<FolderEntry>, Fault>
+    ensures named { IfOk result (λ entries. All HasElement (file_paths [] entries.items)) }
+    ensures ascending { IfOk result (λ entries. Ascend (file_paths [] entries.items)) }
+    ensures fault { IfErr result IsListingFault }
+{
+    let outcome = files_in(rt, watch, dir);
+    match &outcome {
+        Ok(entries) => hint_at_left_out(rt, watch, dir, entries),
+        Err(_) => hint_at_file(rt, watch, dir),
+    }
+    outcome
 }
 
 /// Whether the file at a path, if there is one, is one of these of a folder: also by another name of it, or by
@@ -128,9 +153,16 @@ fn file_at<R: Files + AllocGlobal, P: Watch>(
     )
 }
 
-/// Whether two looks met the same file: one inode of one device.
+/// Whether two looks met the same file.
 fn is_same_file(one: &Metadata, other: &Metadata) -> bool {
-    one.dev() == other.dev() && one.ino() == other.ino()
+    is_one_inode(one.dev(), one.ino(), other.dev(), other.ino())
+}
+
+/// Whether two files are one inode of one device. A file system that tells no inodes says 0 of each, which is none.
+fn is_one_inode(device: u64, inode: u64, other_device: u64, other_inode: u64) -> bool
+    ensures { IsTrue result ↔ ((0 < inode) × (device ≡ other_device) × (inode ≡ other_inode)) }
+{
+    inode > 0 && device == other_device && inode == other_inode
 }
 
 /// Makes the torrent of the files among these entries of a folder, which is to be written to the file `out`: before
@@ -219,10 +251,32 @@ fn add_file<R: Files + AllocGlobal, P: Watch>(
 {
     let length = file_at(rt, watch, dir, path)?.len();
     watch.expect(length);
-    let elements = path.len();
-    let counts = counts.with(elements, length, size)?;
+    let counts = counted(rt.alloc(), watch, dir, path, size, counts, length)?;
     files.push(file_with(rt.alloc(), path, length)?)?;
     Ok(counts)
+}
+
+/// The counts with the file of a folder that has this path and so many bytes. Where that is refused, it is told of.
+fn counted<P: Watch>(
+    alloc: Global,
+    watch: &P,
+    dir: &str,
+    path: &[String],
+    size: PieceSize,
+    counts: Counts,
+    bytes: u64,
+) -> Result<Counts, MakeError>
+    ensures refused { result_err result
+        ≡ count_refusal counts.files counts.pieces size.bytes (length path.now) bytes }
+    ensures short { OnOk result (bytes ≤ max_file_length) }
+    ensures files { IfOk result (λ next. next.files ≡ counts.files + 1) }
+    ensures pieces { IfOk result (λ next. next.pieces ≡ counts.pieces + piece_count size.bytes bytes) }
+{
+    let outcome = counts.with(path.len(), bytes, size);
+    if outcome.is_err() {
+        hint_at_limit(alloc, watch, dir, path, counts.files, bytes);
+    }
+    outcome
 }
 
 /// A file of the folder that has this path.

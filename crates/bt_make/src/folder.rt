@@ -12,6 +12,7 @@ ghost use Rattle.bt_make.specs.declared.folder.EntryKind.TheVariants.{File, Fold
 
 use crate::atomic_file::is_part_name;
 use crate::device_call::of_device;
+use crate::hints::hint_at_bad_name;
 use bt_check::{Fault, found_path, system_fault, told};
 use bt_meta::MakeError;
 use bt_progress::{FileCall, Watch};
@@ -175,6 +176,7 @@ fn names_below<R: Files + AllocGlobal + Clone + Drop, P: Watch>(
 {
     let path = found_path(rt.alloc(), dir, folder)?;
     let outcome = names_in(rt, path.as_path());
+    hint_at_bad_name(rt.alloc(), watch, path.as_path().as_str(), &outcome);
     told(
         rt.alloc(),
         watch,

@@ -8,6 +8,8 @@ pub put_five : (old first second last a b c d e : List ℕ) → first ≡ old ++
     → last ≡ old ++ (a ++ b ++ c ++ d ++ e)
 put_five old first second last a b c d e one two three = rw (three, two, one) (simp append_assoc)
 
-pub fault_put : (name call : List ℕ)
-    → codes "btseed: " ++ (name ++ (codes ": " ++ (call ++ codes " failed\n"))) ≡ codes "btseed: " ++ name ++ codes ": " ++ call ++ codes " failed\n"
-fault_put name call = simp append_assoc
+pub four_put : (a b c d e : List ℕ) → a ++ (b ++ (c ++ (d ++ e))) ≡ a ++ b ++ c ++ d ++ e
+four_put a b c d e = simp append_assoc
+
+pub six_put : (a b c d e f g : List ℕ) → a ++ (b ++ (c ++ (d ++ (e ++ (f ++ g))))) ≡ a ++ b ++ c ++ d ++ (e ++ f ++ g)
+six_put a b c d e f g = simp append_assoc

@@ -1,5 +1,6 @@
 pub mod Escape
 pub mod FileCall
+pub mod Reason
 pub mod Hint
 pub mod Meter
 pub mod Line

@@ -19,6 +19,10 @@ pub struct Console<'a, C, W> {
     clock: &'a C,
     is_terminal: bool,
     is_verbose: Cell<bool>,
+    /// Whether nothing more is told.
+    is_silent: Cell<bool>,
+    /// Why the last call of the system failed: none where it did not.
+    reason: Cell<Option<&'static str>>,
     screen: RefCell<Screen<W>>,
 }
 
@@ -30,12 +34,32 @@ impl<'a, C: Clock, W: Write> Console<'a, C, W> {
             clock,
             is_terminal,
             is_verbose: Cell::new(false),
+            is_silent: Cell::new(false),
+            reason: Cell::new(None),
             screen: RefCell::new(Screen::new(writer)),
         }
     }
 
+    /// Notes why the last call of the system failed, or that it did not. A fault that is told next is told with it.
+    pub fn note(&self, reason: Option<&'static str>) {
+        self.reason.set(reason);
+    }
+
+    /// Tells nothing more from here on, since nobody reads the results.
+    pub fn silence(&self) {
+        self.is_silent.set(true);
+    }
+
+    /// Whether nothing more is told.
+    pub fn is_silent(&self) -> bool {
+        self.is_silent.get()
+    }
+
     /// Writes a text in the place of the line of progress.
     fn say(&self, text: &str) {
+        if self.is_silent.get() {
+            return;
+        }
         if let Ok(mut screen) = self.screen.try_borrow_mut() {
             screen.say(text);
         }
@@ -44,7 +68,7 @@ impl<'a, C: Clock, W: Write> Console<'a, C, W> {
 
 impl<'a, C: Clock, W: Write> Watch for Console<'a, C, W> {
     fn is_verbose(&self) -> bool {
-        self.is_verbose.get()
+        self.is_terminal || self.is_verbose.get()
     }
 
     fn set_verbose(&self, verbose: bool) {
@@ -52,7 +76,8 @@ impl<'a, C: Clock, W: Write> Watch for Console<'a, C, W> {
     }
 
     fn tell_fault(&self, call: FileCall, name: &str) {
-        if let Ok(line) = fault_line(self.alloc, call, name) {
+        let reason = self.reason.take();
+        if let Ok(line) = fault_line(self.alloc, call, name, reason) {
             self.say(line.as_str());
         }
     }
@@ -68,7 +93,7 @@ impl<'a, C: Clock, W: Write> Watch for Console<'a, C, W> {
     }
 
     fn hint(&self, text: &str) {
-        if self.is_terminal {
+        if self.is_verbose() {
             self.tell(text);
         }
     }

@@ -1,6 +1,6 @@
 //! Calls on files, as they are named to users.
 ghost use Rattle.std.specs.Prelude.{◌≡◌, IfOk, string_bytes};
-ghost use Rattle.bt_progress.specs.FileCall.{call_text, fault_text};
+ghost use Rattle.bt_progress.specs.FileCall.{call_text, fault_text, reason_of};
 
 use crate::escape::escaped;
 use std::alloc::{AllocError, Global};
@@ -24,29 +24,38 @@ pub enum FileCall {
     Rename,
 }
 
-/// The word for a call.
+/// What could not be done, where a call failed.
 fn call_text(call: FileCall) -> &'static str
     ensures { result.now ≡ call_text call }
 {
     match call {
-        FileCall::Look => "look",
+        FileCall::Look => "look at",
         FileCall::List => "list",
         FileCall::Open => "open",
         FileCall::Create => "create",
-        FileCall::Length => "length",
+        FileCall::Length => "measure",
         FileCall::Read => "read",
         FileCall::Write => "write",
         FileCall::Resize => "resize",
         FileCall::Sync => "sync",
-        FileCall::Rename => "rename",
+        FileCall::Rename => "replace",
     }
 }
 
-/// The line that tells of a call that failed, of what has this name, which is escaped.
-pub fn fault_line(alloc: Global, call: FileCall, name: &str) -> Result<String, AllocError>
-    ensures { IfOk result (λ line. string_bytes line ≡ fault_text call name.now) }
+/// The line that tells of a call that failed, of what has this name, which is escaped, and why, where that is known.
+pub fn fault_line(
+    alloc: Global,
+    call: FileCall,
+    name: &str,
+    reason: Option<&str>,
+) -> Result<String, AllocError>
+    ensures { IfOk result
+        (λ line. string_bytes line ≡ fault_text call name.now (reason_of reason.entry)) }
 {
     let name = escaped(alloc, name)?;
     let call = call_text(call);
-    format!(in alloc; "btseed: {name}: {call} failed\n")
+    match reason {
+        Some(reason) => format!(in alloc; "btseed: cannot {call} {name}: {reason}\n"),
+        None => format!(in alloc; "btseed: cannot {call} {name}\n"),
+    }
 }

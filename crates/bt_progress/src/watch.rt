@@ -5,7 +5,8 @@ use crate::file_call::FileCall;
 /// Where work that may take long, or meet a fault, tells of itself beside its results. No clause says what is
 /// told.
 pub trait Watch {
-    /// Whether each call that failed is told, by the name of its file. Else no names are kept for it.
+    /// Whether each call that failed is told, by the name of its file, and hints are given: at a terminal, and where
+    /// that was asked for. Else no names are kept for it.
     fn is_verbose(&self) -> bool;
 
     fn set_verbose(&self, verbose: bool);
@@ -19,7 +20,7 @@ pub trait Watch {
     /// Tells why there will be no result, in a line of its own, whether somebody may look on or not.
     fn tell(&self, text: &str);
 
-    /// Gives a hint in a line of its own, where somebody may look on.
+    /// Gives a hint in a line of its own, at a terminal and where that was asked for.
     fn hint(&self, text: &str);
 
     /// Tells that work begins whose bytes are those that go through such calls.

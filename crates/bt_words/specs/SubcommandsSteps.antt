@@ -4,7 +4,7 @@ use Rattle.clap.specs.Words.{App, Rule, Text, new_rule, with_subcommand}
 use Rattle.clap.specs.declared.builder.action.ArgAction.TheVariants.{Append}
 use Rattle.bt_words.specs.Subcommands.{command_app, flag_rule, option_rule, required_rule}
 use Rattle.bt_words.specs.declared.subcommands.Kind.{Kind}
-use Rattle.bt_words.specs.declared.subcommands.Kind.TheVariants.{Needed, NeededList, NeededOption, Default, Value, ValueOr, Flag}
+use Rattle.bt_words.specs.declared.subcommands.Kind.TheVariants.{Needed, NeededList, NeededOption, Default, Value, HiddenValue, ValueOr, Flag}
 use Rattle.bt_words.specs.declared.subcommands.Subcommand.{Subcommand}
 use Rattle.bt_words.specs.declared.subcommands.Word.{Word}
 
@@ -14,6 +14,7 @@ rule_of_kind id NeededList = record (required_rule id) { action = Some Append }
 rule_of_kind id NeededOption = record (required_rule id) { long = Some id }
 rule_of_kind id (Default otherwise) = record (new_rule id) { long = Some id; defaults = otherwise.now ∷ [] }
 rule_of_kind id (Value name) = option_rule id
+rule_of_kind id (HiddenValue name) = option_rule id
 rule_of_kind id (ValueOr name otherwise) = record (option_rule id) { defaults = otherwise.now ∷ [] }
 rule_of_kind id Flag = flag_rule id
 

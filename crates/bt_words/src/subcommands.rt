@@ -34,6 +34,8 @@ enum Kind<'a> {
     Default(&'a str),
     /// An option with a value of this name.
     Value(&'a str),
+    /// The same, of which help says nothing.
+    HiddenValue(&'a str),
     /// An option with a value of this name, and its value where it is not there.
     ValueOr(&'a str, &'a str),
     /// An option without a value.
@@ -55,7 +57,7 @@ const INFO: Word<'static> = Word {
 const VERBOSE: Word<'static> = Word {
     id: "verbose",
     kind: Kind::Flag,
-    help: "On a device fault, tell first which file it was, and which call on it failed",
+    help: "Before a device fault tell which file it was, and what could not be done; and give hints, as at a terminal",
 };
 
 const MAKE_DIR: Word<'static> = Word {
@@ -79,7 +81,7 @@ const NAME: Word<'static> = Word {
 const PIECE_LENGTH: Word<'static> = Word {
     id: "piece-length",
     kind: Kind::Default("262144"),
-    help: "How many bytes a piece has: a power of two from 16384 to 268435456",
+    help: "How many bytes a piece has: a power of two from 16384 to 268435456. Good is one of which the files have 1000 to 20000; they may have 2097152 at most",
 };
 
 const DIR: Word<'static> = Word {
@@ -96,7 +98,7 @@ const JOBS: Word<'static> = Word {
 
 const PART: Word<'static> = Word {
     id: "part",
-    kind: Kind::Value("I/N"),
+    kind: Kind::HiddenValue("I/N"),
     help: "For --jobs itself: checks part I of N, from 0 on, and prints a line for each run of its blocks",
 };
 
@@ -196,6 +198,17 @@ pub fn commands<'a>(alloc: Global) -> Result<Command<'a>, AllocError>
     ensures { IfOk result (λ command. app_of command ≡ program_app) }
 {
     with_commands(alloc, SUBCOMMANDS)
+}
+
+/// The command of this name, as its usage is told; or the program, where none has it.
+pub fn command_named(alloc: Global, name: &str) -> Result<Command<'static>, AllocError> {
+    for row in SUBCOMMANDS {
+        if row.name == name {
+            let command = command_of(alloc, row.name, row.about, row.words)?;
+            return command.bin_name(format!(in alloc; "btseed {name}")?.as_str());
+        }
+    }
+    commands(alloc)
 }
 
 /// The program with these commands.
@@ -300,6 +313,7 @@ fn arg_of<'a>(alloc: Global, word: Word<'a>) -> Arg<'a>
         Kind::NeededOption => arg.required(true).long(id),
         Kind::Default(otherwise) => arg.long(id).default_value(otherwise),
         Kind::Value(name) => arg.long(id).value_name(name),
+        Kind::HiddenValue(name) => arg.long(id).value_name(name).hide(true),
         Kind::ValueOr(name, otherwise) => { arg.long(id).value_name(name).default_value(otherwise) }
         Kind::Flag => arg.long(id).action(ArgAction::SetTrue),
     }

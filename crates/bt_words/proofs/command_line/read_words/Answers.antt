@@ -2,7 +2,7 @@ use Rattle.std.proofs.Common.{map, string_bytes}
 use Rattle.std.proofs.lemmas.Result.{IfOk-weaker}
 use Rattle.clap.specs.Words.{app_of}
 use Rattle.bt_words.proofs.CommandLineTask.{words_faulty, words_met}
-use Rattle.bt_words.proofs.command_line.matches_of.Goals as goal
+use Rattle.bt_words.proofs.command_line.read_words.Goals as goal
 
 pub returns-clause-matches : goal.returns-clause-matches
 returns-clause-matches c =
