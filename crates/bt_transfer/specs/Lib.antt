@@ -1,4 +1,5 @@
 pub mod PeerLines
+pub mod TakingIn
 pub mod OverTcp
 pub mod Fetch
 pub mod FetchSteps
