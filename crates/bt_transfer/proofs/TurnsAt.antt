@@ -1,6 +1,7 @@
 -- One more peer of a list, by its place, leads on.
-use Rattle.std.proofs.Common.{◌≡◌, inl, inr, ℕ, ◌+◌, ◌<◌, true, false, List, [], ◌∷◌, length, take, drop, set, get_or, replicate, Option, Some, Result, Ok, Err, sym, subst, ap, ◌∙◌, refl, arith}
-use Rattle.std.specs.Prelude.{All, IfErr, OnOk, slice_get}
+use Rattle.std.proofs.Common.{◌≡◌, inl, inr, ℕ, ◌+◌, ◌<◌, ◌++◌, true, false, List, [], ◌∷◌, length, take, drop, set, get_or, replicate, Option, Some, Result, Ok, Err, sym, subst, ap, ◌∙◌, refl, arith}
+use Rattle.std.specs.Prelude.{◌==◌, All, IfErr, OnOk, not, slice_get}
+use Rattle.std.proofs.lemmas.List.{drop-set-lt, drop_more, get_or-set_same, take-append-drop}
 use Rattle.std.proofs.lemmas.Option.{same_Some, slice_get-get_or}
 use Rattle.bt_disk.specs.Conduct.{Conduct}
 use Rattle.bt_check.specs.declared.fault.Fault.{Fault}
@@ -8,12 +9,13 @@ use Rattle.bt_files.specs.Waiting.{SeesToWaiting, StopsAtWaiting, TakesInAllWait
 use Rattle.bt_machine.specs.Report.{all_complete}
 use Rattle.bt_machine.specs.State.{EngineView}
 use Rattle.bt_machine.specs.declared.error.FlushError.{FlushError}
+use Rattle.bt_session.specs.Peer.{IsFlushedWhere}
 use Rattle.bt_session.specs.Peers.{InTurnWithFlushes, TrialWithFlushes}
 use Rattle.bt_session.specs.Peers.InTurnWithFlushes.{none_left, complete, tried, stopped}
 use Rattle.bt_session.specs.declared.peer_end.PeerEnd.{PeerEnd}
 use Rattle.bt_session.specs.declared.peer_end.PeerEnd.TheVariants.{Untried}
-use Rattle.bt_session.proofs.Turns.{All-later, LeadsOn, refused, untried_later, went_on}
-use Rattle.bt_transfer.specs.TakingIn.{IsTriedAt}
+use Rattle.bt_session.proofs.Turns.{All-later, LeadsOn, refused, take-set-append, untried_later, went_on}
+use Rattle.bt_transfer.specs.TakingIn.{IsTriedAt, SeesToAfter, TriesAndTakesIn, behind, broken_off}
 
 module _ {D L : Type 0} (Try : TrialWithFlushes D L) (first : EngineView D) (whole : List L) (engine : EngineView D) (links : List L)
     (ends : List PeerEnd) (i : ℕ) (rest : List L) (later : List PeerEnd) (new : EngineView D) where
@@ -117,3 +119,55 @@ pub saw : {D : Type 0} (conduct : Conduct D) (dig : List ℕ → List ℕ) (old 
     → SeesToWaiting conduct dig old new
 saw conduct dig old new (Ok done) all stops = inl all
 saw conduct dig old new (Err fault) all stops = inr (fault, stops)
+
+-- ---- the part of a list that is one element
+
+-- it is the one at that place
+pub one_read : {X : Type 0} (xs : List X) (i n : ℕ) (x : X) → i < length xs → n ≡ 1 → take n (drop i xs) ≡ x ∷ []
+    → slice_get xs i ≡ Some x
+one_read xs i n x within one is =
+    let first : take n (drop i xs) ≡ get_or xs i x ∷ [] = ap (λ (k : ℕ). take k (drop i xs)) one ∙ ap (λ (l : List _). take 1 l) (drop_more xs i x within) in
+    let same : get_or xs i x ≡ x = ap (λ (l : List _). get_or l 0 x) (sym first ∙ is) in
+    slice_get-get_or xs i x within ∙ ap Some same
+
+-- it is put back at its place
+pub one_put_back : {X : Type 0} (xs part : List X) (i n : ℕ) (x : X) → i < length xs → part ≡ x ∷ [] → n ≡ i + 1
+    → take i xs ++ part ++ drop n xs ≡ set xs i x
+one_put_back xs part i n x within one next =
+    ap (λ (p : List _). take i xs ++ p ++ drop n xs) one ∙ ap (λ (k : ℕ). take i xs ++ x ∷ drop k xs) next
+    ∙ take-set-append xs (drop (i + 1) xs) i x within
+    ∙ ap (λ (back : List _). take (i + 1) (set xs i x) ++ back) (sym (drop-set-lt (i + 1) xs i x (omega arith)))
+    ∙ take-append-drop (i + 1) (set xs i x)
+
+-- what came of the peer of such a part
+module _ {D L : Type 0} (conduct : Conduct D) (dig : List ℕ → List ℕ) (Try : TrialWithFlushes D L) (every : ℕ)
+    (old met : EngineView D) (links : List L) (ends : List PeerEnd) (i : ℕ) (lent back : List L) (told : List PeerEnd) where
+  pub came_of : (taken new : EngineView D) (answer : Result (Unit {0}) FlushError) (end : PeerEnd) (after : List L) (ends_after : List PeerEnd)
+      → (one : IsTheOne Try old lent told back (Ok tt) met) → slice_get links i ≡ Some one.link → after ≡ set links i one.after
+      → ends_after ≡ set ends i one.end → end ≡ one.end → SeesToAfter conduct dig end met taken
+      → IsFlushedWhere conduct dig (not (every == 0)) taken answer new
+      → IsTriedAt (TriesAndTakesIn Try conduct dig every) old links ends i answer after ends_after new
+  came_of taken new answer end after ends_after one here put told_so same seen flushed = record {
+    link = one.link;
+    here = here;
+    end = one.end;
+    after = one.after;
+    tried = behind met taken one.tried_so (subst (λ (e : PeerEnd). SeesToAfter conduct dig e met taken) same seen) flushed;
+    links_are = put;
+    ends_are = told_so;
+  }
+
+  -- or a flush was refused
+  pub broke_off_at : (error : FlushError) (answer : Result (Unit {0}) FlushError) (after : List L) (ends_after : List PeerEnd)
+      → (one : IsTheOne Try old lent told back (Err error) met) → slice_get links i ≡ Some one.link → after ≡ set links i one.after
+      → ends_after ≡ set ends i one.end → answer ≡ Err error
+      → IsTriedAt (TriesAndTakesIn Try conduct dig every) old links ends i answer after ends_after met
+  broke_off_at error answer after ends_after one here put told_so is = record {
+    link = one.link;
+    here = here;
+    end = one.end;
+    after = one.after;
+    tried = broken_off error one.tried_so is;
+    links_are = put;
+    ends_are = told_so;
+  }
