@@ -25,7 +25,7 @@ use Rattle.bt_files.proofs.Faults.{while_loading}
 pub while_looking : (tells : Tells) (is_info : Bool) (usage : FileUse) (torrent : Metainfo) (log : Option (Bor (List ℕ))) (dir path : List ℕ) (fault : Fault)
     → HasText is_info torrent → IsSourceFault tells usage dir torrent.files path fault → IsStoreFault is_info usage log fault
 while_looking tells is_info usage torrent log dir path fault read (inl among) =
-    inr (inl (among.0, among.1.0, inr (record { torrent = torrent; read = read })))
+    inr (inl (among.0, among.1, inr (record { torrent = torrent; read = read })))
 while_looking tells is_info usage torrent log dir path fault read (inr short) = while_loading is_info usage log fault (inr short)
 
 -- ---- other faults
@@ -64,7 +64,7 @@ module _ (tells : Tells) (is_info : Bool) (dir path : List ℕ) (fault : Fault) 
 
   pub twice_looked : (usage : FileUse) (torrent : Metainfo) → HasText is_info torrent → IsSourceFault tells usage dir torrent.files path fault
       → fault ≡ same_file → HasOneFileTwice tells dir path is_info
-  twice_looked usage torrent read (inl among) same = record { torrent = torrent; read = read; same = inr among.1.1 }
+  twice_looked usage torrent read (inl among) same = record { torrent = torrent; read = read; same = inr among.2 }
   twice_looked usage torrent read (inr short) same = absurd (call_not_same fault (inr short) same)
 
   pub twice_opened : (usage : FileUse) (torrent : Metainfo) (log : Option (Bor (List ℕ))) → HasText is_info torrent
