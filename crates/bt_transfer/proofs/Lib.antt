@@ -4,7 +4,6 @@ pub mod ConnectionLines
 pub mod Listening
 pub mod Flushes
 pub mod RefusedFlushes
-pub mod TurnsAt
 pub mod EndFaults
 pub mod FullLogs
 pub mod FailedServing

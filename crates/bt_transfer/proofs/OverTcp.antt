@@ -9,15 +9,16 @@ use Rattle.bt_machine.specs.declared.error.FlushError.{FlushError}
 use Rattle.bt_session.specs.declared.peer_end.PeerEnd.{PeerEnd}
 use Rattle.bt_session.specs.declared.peer_end.PeerEnd.TheVariants.{Untried, Unreachable, Refused, Session}
 use Rattle.bt_session.specs.Peer.{EndsAs, EndsAsWithFlushes}
-use Rattle.bt_session.specs.Peers.{InTurnWithFlushes, IsDialled, IsTriedWithFlushes, TrialWithFlushes}
+use Rattle.bt_session.specs.Peers.{InTurn, InTurnWithFlushes, IsDialled, IsTried, IsTriedWithFlushes, Trial, TrialWithFlushes}
+use Rattle.bt_session.specs.Peers.InTurn.{none_left, complete, tried}
 use Rattle.bt_session.specs.Peers.InTurnWithFlushes.{none_left as no_more, complete as is_complete, tried as went, stopped}
+use Rattle.bt_session.proofs.Unflushed.{unflushed_end, unflushed_turns}
 use Rattle.bt_connection.specs.ShortBlocks.{short_blocks_of}
 use Rattle.bt_meta.specs.Torrent.{Metainfo, total_pieces}
 use Rattle.bt_sockets.specs.Link.{Dials, undialled}
 use Rattle.bt_sockets.specs.Listener.{IsServed}
 use Rattle.bt_transfer.specs.Fetch.{HasFetched, TriesAndSyncs, Turns, TurnsOverTcp, among, behind, flush_turns, links_of}
-use Rattle.bt_transfer.specs.OverTcp.{MeetsOverTcp, TriesOverTcp}
-use Rattle.bt_transfer.specs.TakingIn.{IsTriedAndTakenIn, behind as seen_to, broken_off}
+use Rattle.bt_transfer.specs.OverTcp.{MeetsOverTcp, TriesOverTcp, TriesWithFlushesOverTcp}
 use Rattle.bt_sockets.specs.declared.listener.TheConstants.{SESSION_TURNS}
 use Rattle.bt_words.specs.declared.peer.Peer.{Peer}
 
@@ -78,31 +79,51 @@ module _ {D : Type 0} (conduct : Conduct D) (dig : List ℕ → List ℕ) where
   dialled_by_bytes gives remaining contents link None after d = record { once = d.once; failed = d.failed; given = tt }
   dialled_by_bytes gives remaining contents link (Some ways) after d = record { once = d.once; failed = d.failed; given = tt }
 
-  -- a peer that is tried, with flushes
+  -- a peer that is tried
+  pub tried_by_bytes : {R W : Type 0} (gives : Dials → R → W → Type 0) (remaining : R → Option (List ℕ)) (contents : W → Option (List ℕ)) (old : EngineView D)
+      (link : Dials) (end : PeerEnd) (after : Dials) (new : EngineView D)
+      → IsTried conduct dig (λ (l : Dials). l.all) (λ (l : Dials). l.failed) gives remaining contents SESSION_TURNS old link end after new
+      → TriesOverTcp conduct dig old link end after new
+  tried_by_bytes gives remaining contents old link end after new t = record {
+    reached = by_bytes remaining contents t.reached;
+    dialled = dialled_by_bytes gives remaining contents link t.reached after t.dialled;
+    ended = ends_by_bytes remaining contents _ SESSION_TURNS t.reached old end new t.ended;
+  }
+
+  -- and one in whose session the engine is flushed
   flushed_by_bytes : {R W : Type 0} (gives : Dials → R → W → Type 0) (remaining : R → Option (List ℕ)) (contents : W → Option (List ℕ)) (every : ℕ)
       (old : EngineView D) (link : Dials) (end : PeerEnd) (answer : Result (Unit {0}) FlushError) (after : Dials) (new : EngineView D)
       → IsTriedWithFlushes conduct dig (λ (l : Dials). l.all) (λ (l : Dials). l.failed) gives remaining contents every SESSION_TURNS
       old link end answer after new
-      → IsTriedWithFlushes conduct dig (λ (l : Dials). l.all) (λ (l : Dials). l.failed) (λ l given taken. ⊤) (λ (b : Option (List ℕ)). b)
-      (λ (b : Option (List ℕ)). b) every SESSION_TURNS old link end answer after new
+      → TriesWithFlushesOverTcp conduct dig every old link end answer after new
   flushed_by_bytes gives remaining contents every old link end answer after new t = record {
     reached = by_bytes remaining contents t.reached;
     dialled = dialled_by_bytes gives remaining contents link t.reached after t.dialled;
     ended = flushed_ends_by_bytes remaining contents _ every SESSION_TURNS t.reached old end answer new t.ended;
   }
 
-  -- and after whom it is taken in what came without hashes
-  taken_by_bytes : {R W : Type 0} (gives : Dials → R → W → Type 0) (remaining : R → Option (List ℕ)) (contents : W → Option (List ℕ)) (every : ℕ)
-      (old : EngineView D) (link : Dials) (end : PeerEnd) (answer : Result (Unit {0}) FlushError) (after : Dials) (new : EngineView D)
-      → IsTriedAndTakenIn conduct dig (λ (l : Dials). l.all) (λ (l : Dials). l.failed) gives remaining contents every SESSION_TURNS
-      old link end answer after new
-      → TriesOverTcp conduct dig every old link end answer after new
-  taken_by_bytes gives remaining contents every old link end answer after new (seen_to met took t seen flushed) =
-      seen_to met took (flushed_by_bytes gives remaining contents every old link end (Ok tt) after met t) seen flushed
-  taken_by_bytes gives remaining contents every old link end answer after new (broken_off error t is) =
-      broken_off error (flushed_by_bytes gives remaining contents every old link end (Err error) after new t) is
+  -- where the engine is never flushed, no flush is refused
+  unflushed_answer : {L R W : Type 0} (dials failures : L → ℕ) (gives : L → R → W → Type 0) (remaining : R → Option (List ℕ)) (contents : W → Option (List ℕ))
+      (turns : ℕ) {old new : EngineView D} {links rest : List L} {ends : List PeerEnd} {answer : Result (Unit {0}) FlushError}
+      → InTurnWithFlushes (IsTriedWithFlushes conduct dig dials failures gives remaining contents 0 turns) old links ends rest answer new
+      → answer ≡ Ok tt
+  unflushed_answer dials failures gives remaining contents turns (no_more engine) = refl
+  unflushed_answer dials failures gives remaining contents turns (is_complete engine links is_done) = refl
+  unflushed_answer dials failures gives remaining contents turns (went old mid new link after end links rest ends answer not_done t later) =
+      unflushed_answer dials failures gives remaining contents turns later
+  unflushed_answer dials failures gives remaining contents turns (stopped old new link after end links error not_done t) =
+      (unflushed_end conduct dig remaining contents true turns t.reached old new end (Err error) t.ended).0
 
 -- ---- peers in turn
+
+in_turn_by : {D L : Type 0} (Try To : Trial D L)
+    → ((old : EngineView D) (link : L) (end : PeerEnd) (after : L) (new : EngineView D) → Try old link end after new → To old link end after new)
+    → {old : EngineView D} {links : List L} {ends : List PeerEnd} {rest : List L} {new : EngineView D}
+    → InTurn Try old links ends rest new → InTurn To old links ends rest new
+in_turn_by Try To carry (none_left engine) = none_left engine
+in_turn_by Try To carry (complete engine links is_done) = complete engine links is_done
+in_turn_by Try To carry (tried old mid new link after end links rest ends not_done t turns) =
+    tried old mid new link after end links rest ends not_done (carry old link end after mid t) (in_turn_by Try To carry turns)
 
 flushed_in_turn_by : {D L : Type 0} (Try To : TrialWithFlushes D L)
     → ((old : EngineView D) (link : L) (end : PeerEnd) (answer : Result (Unit {0}) FlushError) (after : L) (new : EngineView D) → Try old link end answer after new
@@ -120,11 +141,17 @@ flushed_in_turn_by Try To carry (stopped old new link after end links error not_
 turns_over_tcp : {D R W : Type 0} (conduct : Conduct D) (dig : List ℕ → List ℕ)
     (gives : Dials → R → W → Type 0) (remaining : R → Option (List ℕ)) (contents : W → Option (List ℕ)) (log : Option (Bor (List ℕ)))
     (old : EngineView D) (links : List Dials) (ends : List PeerEnd) (rest : List Dials) (answer : Result (Unit {0}) FlushError) (new : EngineView D)
-    → InTurnWithFlushes (IsTriedAndTakenIn conduct dig (λ (l : Dials). l.all) (λ (l : Dials). l.failed) gives remaining contents (flush_turns log) SESSION_TURNS)
+    → InTurnWithFlushes (IsTriedWithFlushes conduct dig (λ (l : Dials). l.all) (λ (l : Dials). l.failed) gives remaining contents (flush_turns log) SESSION_TURNS)
     old links ends rest answer new
     → TurnsOverTcp conduct dig log old links ends rest answer new
-turns_over_tcp conduct dig gives remaining contents log old links ends rest answer new turns =
-    flushed_in_turn_by _ (TriesOverTcp conduct dig (flush_turns log)) (taken_by_bytes conduct dig gives remaining contents (flush_turns log)) turns
+turns_over_tcp conduct dig gives remaining contents None old links ends rest answer new turns = (
+  unflushed_answer conduct dig (λ (l : Dials). l.all) (λ (l : Dials). l.failed) gives remaining contents SESSION_TURNS turns,
+  in_turn_by _ (TriesOverTcp conduct dig) (tried_by_bytes conduct dig gives remaining contents)
+      (unflushed_turns conduct dig (λ (l : Dials). l.all) (λ (l : Dials). l.failed) gives remaining contents SESSION_TURNS turns),
+)
+turns_over_tcp conduct dig gives remaining contents (Some path) old links ends rest answer new turns =
+    flushed_in_turn_by _ (TriesWithFlushesOverTcp conduct dig (flush_turns (Some path)))
+    (flushed_by_bytes conduct dig gives remaining contents (flush_turns (Some path))) turns
 
 -- a fetch whose peers are tried so is one whose peers are tried otherwise
 syncs_by : {D L : Type 0} (InTurns To : Turns D L)
@@ -162,7 +189,7 @@ pub fetched_over_tcp : {D R W : Type 0} (conduct : Conduct D) (dig : List ℕ �
     (gives : Dials → R → W → Type 0) (remaining : R → Option (List ℕ)) (contents : W → Option (List ℕ)) (torrent : Metainfo) (peers : List Peer)
     (log : Option (Bor (List ℕ))) (every : ℕ) (old : EngineView D) (links : List Dials) (before now : Option (List ℕ)) (status : ℕ) (rest : List Dials) (new : EngineView D)
     → links ≡ links_of torrent peers → every ≡ flush_turns log
-    → HasFetched (InTurnWithFlushes (IsTriedAndTakenIn conduct dig (λ (l : Dials). l.all) (λ (l : Dials). l.failed) gives remaining contents every SESSION_TURNS))
+    → HasFetched (InTurnWithFlushes (IsTriedWithFlushes conduct dig (λ (l : Dials). l.all) (λ (l : Dials). l.failed) gives remaining contents every SESSION_TURNS))
     conduct dig peers old links before now status rest new
     → HasFetched (TurnsOverTcp conduct dig log) conduct dig peers old (links_of torrent peers) before now status rest new
 fetched_over_tcp conduct dig gives remaining contents torrent peers log every old links before now status rest new are often fetched =
@@ -170,7 +197,7 @@ fetched_over_tcp conduct dig gives remaining contents torrent peers log every ol
     (fetched_by _ (TurnsOverTcp conduct dig log) (turns_over_tcp conduct dig gives remaining contents log)
     conduct dig peers old links before now status rest new
     (subst (λ n. HasFetched (InTurnWithFlushes
-    (IsTriedAndTakenIn conduct dig (λ (l : Dials). l.all) (λ (l : Dials). l.failed) gives remaining contents n SESSION_TURNS))
+    (IsTriedWithFlushes conduct dig (λ (l : Dials). l.all) (λ (l : Dials). l.failed) gives remaining contents n SESSION_TURNS))
     conduct dig peers old links before now status rest new) often fetched))
 
 -- none of these links was dialled

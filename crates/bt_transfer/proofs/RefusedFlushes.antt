@@ -1,5 +1,5 @@
 -- Why a flush among peers in turn is refused, and what leads to it.
-use Rattle.std.proofs.Common.{◌≡◌, inl, inr, ℕ, Bool, true, false, List, Option, Some, None, Result, Ok, Err, refl, subst, sym}
+use Rattle.std.proofs.Common.{◌≡◌, ℕ, Bool, true, false, List, Option, Some, None, Result, Ok, Err, refl, subst, sym}
 use Rattle.std.specs.Prelude.{◌==◌, not}
 use Rattle.bt_disk.specs.Conduct.{Conduct}
 use Rattle.bt_check.specs.Fault.{log_full}
@@ -16,12 +16,10 @@ use Rattle.bt_session.specs.declared.end.SessionEnd.{SessionEnd}
 use Rattle.bt_session.specs.declared.peer_end.PeerEnd.{PeerEnd}
 use Rattle.bt_session.specs.declared.peer_end.PeerEnd.TheVariants.{Untried, Unreachable, Refused, Session as HadSession}
 use Rattle.bt_session.specs.Peer.{HasSessionWithFlushes, IsFlushedWhere, IsFlushedSession, behind, within, EndsAsWithFlushes}
-use Rattle.bt_session.specs.Peers.{InTurnWithFlushes, TrialWithFlushes}
+use Rattle.bt_session.specs.Peers.{InTurnWithFlushes, IsTriedWithFlushes}
 use Rattle.bt_session.specs.Peers.InTurnWithFlushes.{none_left, complete, tried, stopped}
 use Rattle.bt_session.proofs.Sessions.{flush_leads, session_leads}
 use Rattle.bt_session.proofs.Standing.{no_restart}
-use Rattle.bt_files.specs.Waiting.{SeesToWaiting, TakesInWaiting, none_yet, passed, taken}
-use Rattle.bt_transfer.specs.TakingIn.{IsTriedAndTakenIn, SeesToAfter, behind as seen_to, broken_off}
 use Rattle.bt_files.specs.Store.{IsFlushFault, flush_fault}
 use Rattle.bt_files.proofs.Unlogged.{flush_fails, flush_fault_before}
 use Rattle.bt_transfer.specs.FullLog.{FindsLogFull}
@@ -63,25 +61,6 @@ module _ {D : Type 0} (conduct : Conduct D) (dig : List ℕ → List ℕ) where
   end_leads remaining contents until every turns (Some ways) old new Unreachable answer e = absurd e
   end_leads remaining contents until every turns (Some ways) old new (Refused error) answer e = subst (LeadsTo conduct dig old) (sym e.2) (none old)
   end_leads remaining contents until every turns (Some ways) old new (HadSession end) answer e = flushed_leads every old new end answer e
-
-  -- what is taken in leads on too
-
-  taken_leads : {first now : EngineView D} {count : ℕ} → TakesInWaiting conduct dig first count now → LeadsTo conduct dig first now
-  taken_leads {first = first} none_yet = none first
-  taken_leads (passed count now before other) = taken_leads before
-  taken_leads {first = first} (taken count mid now answer before waits step good) =
-      both first mid now (taken_leads before) (one mid now (Adopt count) answer (λ e. absurd cc) step)
-
-  sees_leads : (old new : EngineView D) → SeesToWaiting conduct dig old new → LeadsTo conduct dig old new
-  sees_leads old new (inl all) = taken_leads all
-  sees_leads old new (inr (fault, stops)) =
-      both old stops.before new (taken_leads stops.taken) (one stops.before new (Adopt stops.file) stops.answer (λ e. absurd cc) stops.last)
-
-  after_leads : (end : PeerEnd) (old new : EngineView D) → SeesToAfter conduct dig end old new → LeadsTo conduct dig old new
-  after_leads Untried old new same = subst (LeadsTo conduct dig old) (sym same) (none old)
-  after_leads Unreachable old new same = subst (LeadsTo conduct dig old) (sym same) (none old)
-  after_leads (Refused error) old new same = subst (LeadsTo conduct dig old) (sym same) (none old)
-  after_leads (HadSession end) old new sees = sees_leads old new sees
 
   -- ---- the flush that was refused
 
@@ -146,44 +125,24 @@ module _ {D : Type 0} (conduct : Conduct D) (dig : List ℕ → List ℕ) where
 
   module _ {L R W : Type 0} (dials failures : L → ℕ) (gives : L → R → W → Type 0) (remaining : R → Option (List ℕ)) (contents : W → Option (List ℕ))
       (every turns : ℕ) where
-    abbrev Tried : TrialWithFlushes D L
-    Tried = IsTriedAndTakenIn conduct dig dials failures gives remaining contents every turns
-
-    one_leads : (old new : EngineView D) (link after : L) (end : PeerEnd) → Tried old link end (Ok tt) after new → LeadsTo conduct dig old new
-    one_leads old new link after end (seen_to met took t seen flushed) =
-        both old met new (end_leads remaining contents true every turns t.reached old met end (Ok tt) t.ended)
-        (both met took new (after_leads end met took seen) (where_leads (not (every == 0)) took new (Ok tt) flushed))
-    one_leads old new link after end (broken_off error t is) = let bad : Ok tt ≡ Err error = is in absurd cc
-
-    one_refused : (old new : EngineView D) (link after : L) (end : PeerEnd) (error : FlushError) → Tried old link end (Err error) after new
-        → RefusesLater old error
-    one_refused old new link after end error (seen_to met took t seen flushed) = record {
-      mid = took;
-      new = new;
-      led = both old met took (end_leads remaining contents true every turns t.reached old met end (Ok tt) t.ended) (after_leads end met took seen);
-      step = where_refused (not (every == 0)) took new error flushed;
-    }
-    one_refused old new link after end error (broken_off other t is) =
-        let same : other ≡ error = cc in
-        subst (RefusesLater old) same (end_refused remaining contents true every turns t.reached old new end other t.ended)
-
     turns_refused : {old new : EngineView D} {links rest : List L} {ends : List PeerEnd} {answer : Result (Unit {0}) FlushError} (error : FlushError)
-        → InTurnWithFlushes Tried old links ends rest answer new → answer ≡ Err error → RefusesLater old error
+        → InTurnWithFlushes (IsTriedWithFlushes conduct dig dials failures gives remaining contents every turns) old links ends rest answer new
+        → answer ≡ Err error → RefusesLater old error
     turns_refused error (none_left engine) is = absurd cc
     turns_refused error (complete engine links is_done) is = absurd cc
     turns_refused error (tried old mid new link after end links rest ends answer not_done t later) is =
         let refuses : RefusesLater mid error = turns_refused error later is in record {
           mid = refuses.mid;
           new = refuses.new;
-          led = both old mid refuses.mid (one_leads old mid link after end t) refuses.led;
+          led = both old mid refuses.mid (end_leads remaining contents true every turns t.reached old mid end (Ok tt) t.ended) refuses.led;
           step = refuses.step;
         }
     turns_refused error (stopped old new link after end links other not_done t) is =
-        let same : other ≡ error = cc in subst (RefusesLater old) same (one_refused old new link after end other t)
+        let same : other ≡ error = cc in subst (RefusesLater old) same (end_refused remaining contents true every turns t.reached old new end other t.ended)
 
     -- why it was
     pub turns_fault : (old new : EngineView D) (links rest : List L) (ends : List PeerEnd) (error : FlushError)
-        → InTurnWithFlushes Tried old links ends rest (Err error) new
+        → InTurnWithFlushes (IsTriedWithFlushes conduct dig dials failures gives remaining contents every turns) old links ends rest (Err error) new
         → IsFlushFault old.log (flush_fault error)
     turns_fault old new links rest ends error in_turn =
         let refuses : RefusesLater old error = turns_refused error in_turn refl in
@@ -191,7 +150,7 @@ module _ {D : Type 0} (conduct : Conduct D) (dig : List ℕ → List ℕ) where
 
     -- by a full log
     pub turns_full : (old new : EngineView D) (links rest : List L) (ends : List PeerEnd) (error : FlushError) (fault : Fault)
-        → InTurnWithFlushes Tried old links ends rest (Err error) new
+        → InTurnWithFlushes (IsTriedWithFlushes conduct dig dials failures gives remaining contents every turns) old links ends rest (Err error) new
         → fault ≡ flush_fault error → fault ≡ log_full → FindsLogFull conduct dig old
     turns_full old new links rest ends error fault in_turn told full =
         let refuses : RefusesLater old error = turns_refused error in_turn refl in

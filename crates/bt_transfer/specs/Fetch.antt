@@ -15,7 +15,7 @@ use Rattle.bt_machine.specs.State.{EngineView}
 use Rattle.bt_machine.specs.View.{StepsTo}
 use Rattle.bt_connection.specs.ShortBlocks.{short_blocks_of}
 use Rattle.bt_session.specs.Peer.{IsFlushedWhere}
-use Rattle.bt_session.specs.Peers.{InTurnWithFlushes}
+use Rattle.bt_session.specs.Peers.{InTurn, InTurnWithFlushes}
 use Rattle.bt_session.specs.declared.peer_end.PeerEnd.{PeerEnd}
 use Rattle.bt_wire.specs.declared.message.Ask.{Ask}
 use Rattle.bt_engine.specs.WholeRuns.{IsFileMarkedOnPath, HasWholeRun}
@@ -24,7 +24,7 @@ use Rattle.bt_files.specs.DataFiles.{DeviceView}
 use Rattle.bt_files.specs.declared.file_use.FileUse.TheVariants.{Fetch}
 use Rattle.bt_files.specs.Ending.{IsConcluded}
 use Rattle.bt_files.specs.Loading.{IsLoaded}
-use Rattle.bt_transfer.specs.OverTcp.{TriesOverTcp}
+use Rattle.bt_transfer.specs.OverTcp.{TriesOverTcp, TriesWithFlushesOverTcp}
 use Rattle.bt_transfer.specs.PeerLines.{peer_lines}
 use Rattle.bt_files.specs.Report.{ReportsMarked, ReportsPublished}
 use Rattle.bt_words.specs.declared.peer.Peer.{Peer}
@@ -70,11 +70,15 @@ abbrev pub flush_turns : Option (Bor (List ℕ)) → ℕ
 flush_turns None = 0
 flush_turns (Some path) = 2048
 
--- Peers are tried in turn, and after each it is taken in what came without hashes; where there is a log, there are
--- flushes in their sessions, after these and after that. Without one there is none, and so none is refused.
+-- Peers are tried in turn, and where there is a log, also flushed in their sessions and after these. Without
+-- one there is no flush among them.
 abbrev pub TurnsOverTcp : {D : Type 0} → Conduct D → (List ℕ → List ℕ)
     → (log : Option (Bor (List ℕ))) → Turns D Dials
-TurnsOverTcp conduct dig log = InTurnWithFlushes (TriesOverTcp conduct dig (flush_turns log))
+TurnsOverTcp conduct dig None old links ends rest answer new =
+    (answer ≡ Ok tt) × InTurn (TriesOverTcp conduct dig) old links ends rest new
+TurnsOverTcp conduct dig (Some path) old links ends rest answer new =
+    InTurnWithFlushes (TriesWithFlushesOverTcp conduct dig (flush_turns (Some path)))
+    old links ends rest answer new
 
 -- A link to each peer's host and port, in their order, none of which was dialled. What stands before their
 -- sockets goes by these short blocks, and by how many pieces there are.

@@ -1,5 +1,4 @@
 pub mod PeerLines
-pub mod TakingIn
 pub mod OverTcp
 pub mod Fetch
 pub mod FetchSteps

@@ -8,7 +8,6 @@ mod device_context;
 mod hearing;
 mod peer_lines;
 mod reception;
-mod turns;
 
 pub use bt_words::{Peer, Service, Serving};
 pub use command::fetch::fetch;

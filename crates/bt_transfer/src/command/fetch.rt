@@ -9,20 +9,18 @@ ghost use Rattle.bt_machine.specs.declared.error.FlushError.{FlushError};
 ghost use Rattle.bt_machine.specs.Report.{all_complete};
 ghost use Rattle.bt_meta.specs.Torrent.{Metainfo};
 ghost use Rattle.bt_session.specs.Peer.{IsFlushedWhere};
-ghost use Rattle.bt_session.specs.Peers.{InTurnWithFlushes};
+ghost use Rattle.bt_session.specs.Peers.{InTurnWithFlushes, IsTriedWithFlushes};
 ghost use Rattle.bt_resume.specs.ResumeLog.{LogView};
 ghost use Rattle.bt_engine.specs.Leads.{LeadsTo};
 ghost use Rattle.bt_transfer.specs.Fetch.{EndsFetch, HasFetched, HasFetchedOverTcp, IsFetch, TriesAndSyncs, flush_turns, links_by, links_of};
 ghost use Rattle.bt_transfer.specs.FetchSteps.{BreaksOff, FailsAtEnd, FailsToSync, HasTakenInAndConcluded};
 ghost use Rattle.bt_transfer.specs.FullLog.{FindsLogFull, HasFilledLog};
 ghost use Rattle.bt_transfer.specs.Hearing.{IsHeard};
-ghost use Rattle.bt_transfer.specs.TakingIn.{IsTriedAndTakenIn};
 ghost use Rattle.bt_files.specs.Store.{HasBegun, IsFlushFault, IsSameButPending, flush_fault};
 
 use crate::device_context::device_context;
 use crate::hearing::{Bell, hear};
 use crate::peer_lines::write_peers;
-use crate::turns::try_each;
 use bt_check::{Fault, Source};
 use bt_connection::ShortBlocks;
 use bt_devices::Seal;
@@ -30,7 +28,7 @@ use bt_disk::Disk;
 use bt_engine::{Engine, whole_runs_keep_promises};
 use bt_files::{FileUse, adopt_waiting, begin_fetching, conclude, finish, flush_fault, load_store};
 use bt_progress::Watch;
-use bt_session::{Link, PeerEnd};
+use bt_session::{Link, PeerEnd, run_peers_with_flushes};
 use bt_sockets::{IDLE_SECONDS, Passage, SESSION_TURNS, Shared, TcpLink};
 use bt_tree::NodeHash;
 use bt_words::Peer;
@@ -47,8 +45,8 @@ use std::time::{Clock, Duration};
 const FLUSH_TURNS: u64 = 2048;
 
 /// Opens the store of a torrent's files in a folder, as `load_store` does; takes peers in turn until all files are
-/// complete, and after each takes in what came without hashes; writes how it ended with each that was tried; has all
-/// put on the devices; and reports. The answer is the status of the program: 0 where all files are complete, else 1.
+/// complete; writes how it ended with each that was tried; takes in what came without hashes; has all put on the
+/// devices; and reports. The answer is the status of the program: 0 where all files are complete, else 1.
 ///
 /// Where the path of a log is given, it has all put on the devices, and what is known of it into the log, also before
 /// the first peer is dialled, and then while it fetches, after each 2,048 turns with a peer, and after each peer; also
@@ -209,12 +207,11 @@ fn links_to<'a, N: Net + Clock>(
     Ok(links)
 }
 
-/// Takes peers in turn, each by its link, until the engine is complete, and after each takes in what came without
-/// hashes; has all put on the devices; writes how it ended with each peer that was tried; takes in what is left of the
-/// files whose blocks came without their hashes; and then concludes. A peer's session has at most `turns` turns, with a
-/// flush after each `flush_every`-th and after the session, or with none where that is 0. Errors: also where a flush
-/// was refused, which is told of after the lines of the peers, whether these could be written or not; and where they
-/// can't be, what came is on the devices all the same.
+/// Takes peers in turn, each by its link, until the engine is complete; has all put on the devices; writes how it ended
+/// with each peer that was tried; takes in what came without hashes; and then concludes. A peer's session has at most
+/// `turns` turns, with a flush after each `flush_every`-th and after the session, or with none where that is 0. Errors:
+/// also where a flush was refused, which is told of after the lines of the peers, whether these could be written or
+/// not; and where they can't be, what came is on the devices all the same.
 fn fetch_over<D: Disk + Drop, H: NodeHash, L: Link, W: Write>(
     alloc: Global,
     engine: &mut Engine<D, H>,
@@ -228,12 +225,12 @@ fn fetch_over<D: Disk + Drop, H: NodeHash, L: Link, W: Write>(
     requires undialled { All (λ link. L.dials link ≡ 0) links.old }
     requires no_peer { engine.old.state.peers ≡ [] }
     ensures fetched { IfOk result (λ status. HasFetched
-        (InTurnWithFlushes (IsTriedAndTakenIn D.conduct H.digest L.dials L.failures L.gives L.R.remaining
+        (InTurnWithFlushes (IsTriedWithFlushes D.conduct H.digest L.dials L.failures L.gives L.R.remaining
         L.W.contents flush_every turns))
         D.conduct H.digest peers.now engine.old links.old (W.contents writer.old)
         (W.contents writer.new) status links.new engine.new) }
     ensures broken_off { IfErr result (λ fault. BreaksOff
-        (InTurnWithFlushes (IsTriedAndTakenIn D.conduct H.digest L.dials L.failures L.gives L.R.remaining
+        (InTurnWithFlushes (IsTriedWithFlushes D.conduct H.digest L.dials L.failures L.gives L.R.remaining
         L.W.contents flush_every turns))
         D.conduct H.digest engine.old links.old links.new fault engine.new) }
     ensures run { LeadsTo D.conduct H.digest engine.old engine.new }
@@ -249,7 +246,7 @@ fn fetch_over<D: Disk + Drop, H: NodeHash, L: Link, W: Write>(
     take_in_and_conclude(alloc, engine, writer)
 }
 
-/// Takes in the files whose blocks came without their hashes, as far as no fault came among the peers, and concludes.
+/// Takes in what came without hashes, and concludes.
 /// Where one is not taken in, what those before it got is put on the devices, and into the log, all the same; that
 /// fault is told, whatever comes of this.
 fn take_in_and_conclude<D: Disk + Drop, H: NodeHash, W: Write>(
@@ -291,10 +288,10 @@ fn try_and_sync<D: Disk + Drop, H: NodeHash, L: Link>(
     requires undialled { All (λ link. L.dials link ≡ 0) links.old }
     requires no_peer { engine.old.state.peers ≡ [] }
     ensures kept { OnOk result (TriesAndSyncs (InTurnWithFlushes
-        (IsTriedAndTakenIn D.conduct H.digest L.dials L.failures L.gives L.R.remaining L.W.contents
+        (IsTriedWithFlushes D.conduct H.digest L.dials L.failures L.gives L.R.remaining L.W.contents
         flush_every turns)) D.conduct H.digest engine.old links.old ends.new links.new (Ok tt) engine.new) }
     ensures failed { IfErr result (λ fault. FailsToSync
-        (InTurnWithFlushes (IsTriedAndTakenIn D.conduct H.digest L.dials L.failures L.gives L.R.remaining
+        (InTurnWithFlushes (IsTriedWithFlushes D.conduct H.digest L.dials L.failures L.gives L.R.remaining
         L.W.contents flush_every turns))
         D.conduct H.digest engine.old links.old ends.new links.new fault engine.new) }
     ensures gone { engine.new.state.peers ≡ [] }
@@ -303,7 +300,7 @@ fn try_and_sync<D: Disk + Drop, H: NodeHash, L: Link>(
     ensures full { IfErr result
         (λ fault. fault ≡ log_full → FindsLogFull D.conduct H.digest engine.old) }
 {
-    match try_each(alloc, engine, links, ends, turns, flush_every) {
+    match run_peers_with_flushes(alloc, engine, links, ends, turns, flush_every) {
         Ok(()) => finish(engine),
         Err(error) => Err(flush_fault(error)),
     }
