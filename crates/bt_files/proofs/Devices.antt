@@ -1,5 +1,6 @@
 -- Lemmas on the devices of a torrent's files, file by file.
 use Rattle.std.proofs.Common.{◌≡◌, ◌≢◌, ℕ, suc, ◌+◌, ◌<◌, true, false, Bool, List, [], ◌∷◌, ◌++◌, length, map, take, get_or, nat_lt, Option, Some, None, IfSome, IsSome, refl, sym, ap, subst, ◌∙◌, add-zero, append-nil, length-append, arith}
+use Rattle.std.specs.Borrow.{Bor}
 use Rattle.std.specs.List.{AllZip, enumerate_from}
 use Rattle.std.proofs.lemmas.Bool.{lt-ltb}
 use Rattle.std.proofs.lemmas.List.{length-map, map-append, take_more}
@@ -13,7 +14,9 @@ use Rattle.bt_machine.specs.Start.{device_count}
 use Rattle.bt_check.specs.Paths.{path_below}
 use Rattle.bt_files.specs.DataFiles.{AreFilled, AreNewDevices, DeviceView, IsNewDevice, device_paths, files_with_bytes}
 use Rattle.bt_files.specs.DataFilesSteps.{IsOpenedFor, IsPushed}
+use Rattle.bt_files.specs.FileUse.{is_read_only, use_with}
 use Rattle.bt_files.specs.declared.file_use.FileUse.{FileUse}
+use Rattle.bt_files.specs.declared.file_use.FileUse.TheVariants.{Fetch, Seed, SeedByLog, ReadOnly}
 
 pub enumerate_from-append : {X : Type 0} (n : ℕ) (xs ys : List X)
     → enumerate_from n (xs ++ ys) ≡ enumerate_from n xs ++ enumerate_from (n + length xs) ys
@@ -142,3 +145,11 @@ opened_more usage dir entries i entry disks after filled more is_filled made now
           (all_zip_push (λ (file : File) (is : Bool). file.length ≡ 0 → is ≡ false) (map file_of (take i entries)) filled (file_of entry) is_filled
           before.are_filled empty));
     }
+
+-- a log changes nothing of whether files are only read
+pub same_reading : (usage : FileUse) (log : Option (Bor (List ℕ))) → is_read_only (use_with usage log) ≡ is_read_only usage
+same_reading Fetch log = refl
+same_reading Seed None = refl
+same_reading Seed (Some path) = refl
+same_reading SeedByLog log = refl
+same_reading ReadOnly log = refl

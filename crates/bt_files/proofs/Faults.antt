@@ -1,7 +1,7 @@
 -- What is said of a fault that is passed on.
 use Rattle.std.proofs.Common.{◌≡◌, ◌≢◌, ◌⊎◌, inl, inr, ℕ, Bool, List, Option, Some, None, Result, Ok, Err, IfOk, IfErr, sym, subst, ap, ◌∙◌}
 use Rattle.std.specs.Borrow.{Bor}
-use Rattle.std.specs.Prelude.{IsErrAnd}
+use Rattle.std.specs.Prelude.{IsErrAnd, OnOk}
 use Rattle.bt_meta.specs.Torrent.{Metainfo}
 use Rattle.bt_resume.specs.ResumeLog.{LogView}
 use Rattle.bt_resume.specs.declared.error.LogError.{LogError}
@@ -25,6 +25,10 @@ some_path path none = cc
 pub ok_weaker : {T E : Type 0} (r : Result T E) (P Q : T → Type 0) → ((x : T) → P x → Q x) → IfOk r P → IfOk r Q
 ok_weaker (Ok x) P Q follows holds = follows x holds
 ok_weaker (Err e) P Q follows holds = tt
+
+pub on_ok_weaker : {T E : Type 0} (r : Result T E) (P Q : Type 0) → (P → Q) → OnOk r P → OnOk r Q
+on_ok_weaker (Ok x) P Q follows holds = follows holds
+on_ok_weaker (Err e) P Q follows holds = tt
 
 pub err_weaker : {T E : Type 0} (r : Result T E) (P Q : E → Type 0) → ((e : E) → P e → Q e) → IfErr r P → IfErr r Q
 err_weaker (Ok x) P Q follows holds = tt
@@ -62,7 +66,7 @@ while_files : (is_info : Bool) (usage : FileUse) (torrent : Metainfo) (log : Opt
     → IsOpeningFault usage torrent.files fault → IsStoreFault is_info usage log fault
 while_files is_info usage torrent log fault read (inl call) = while_loading is_info usage log fault call
 while_files is_info usage torrent log fault read (inr same) =
-    inr (inl (same.0, same.1.0, record { torrent = torrent; read = read; same = same.1.1 }))
+    inr (inl (same.0, same.1.0, inl (record { torrent = torrent; read = read; same = same.1.1 })))
 
 -- as its log is read
 while_reading : (is_info : Bool) (usage : FileUse) (log : Option (Bor (List ℕ))) (cause : LogError) (fault : Fault) → log ≢ None → fault ≡ log_fault cause

@@ -9,3 +9,4 @@ pub mod Faults
 pub mod Refusals
 pub mod OwnFiles
 pub mod PathNames
+pub mod OwnTorrents

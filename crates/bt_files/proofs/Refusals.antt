@@ -17,7 +17,7 @@ use Rattle.bt_check.specs.declared.fault.Fault.{Fault}
 use Rattle.bt_files.specs.FileUse.{is_read_only}
 use Rattle.bt_files.specs.OpenFolder.{IsAdded, IsCallFaultOr, IsFileFault, IsOpeningFault, IsPathFault, IsUnused, KnowsFiles, KnowsOpened}
 use Rattle.bt_files.specs.declared.file_use.FileUse.{FileUse}
-use Rattle.bt_files.specs.declared.file_use.FileUse.TheVariants.{Fetch, Seed, ReadOnly}
+use Rattle.bt_files.specs.declared.file_use.FileUse.TheVariants.{Fetch, Seed, SeedByLog, ReadOnly}
 use Rattle.bt_files.specs.declared.open_folder.OpenFolder.{OpenFolder}
 
 -- ---- files by what the system tells of them
@@ -101,6 +101,8 @@ knows_opened ReadOnly folder entries count all unused knows unread = knows_none 
 knows_opened Fetch folder entries count all unused knows unread =
     subst (KnowsFiles folder.files) (all ∙ sym (length-map entries file_of)) (knows_so_far folder count unused (knows refl))
 knows_opened Seed folder entries count all unused knows unread =
+    subst (KnowsFiles folder.files) (all ∙ sym (length-map entries file_of)) (knows_so_far folder count unused (knows refl))
+knows_opened SeedByLog folder entries count all unused knows unread =
     subst (KnowsFiles folder.files) (all ∙ sym (length-map entries file_of)) (knows_so_far folder count unused (knows refl))
 
 -- ---- refusals as they are told of all files

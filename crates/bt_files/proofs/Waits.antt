@@ -8,7 +8,7 @@ use Rattle.bt_machine.specs.Shape.{IsShaped}
 use Rattle.bt_machine.specs.View.{StepsTo}
 use Rattle.bt_machine.proofs.Shape.{step_shape}
 use Rattle.bt_files.specs.Adoption.{IsTakenIn}
-use Rattle.bt_files.specs.Waiting.{IsWholeWaiting, TakesInWaiting, none_yet, passed, taken}
+use Rattle.bt_files.specs.Waiting.{MayHaveWaitingPiece, TakesInWaiting, none_yet, passed, taken}
 
 module _ {D : Type 0} (conduct : Conduct D) (dig : List ℕ → List ℕ) where
   -- the first `count` files were seen to, and no peer is connected
@@ -21,7 +21,7 @@ module _ {D : Type 0} (conduct : Conduct D) (dig : List ℕ → List ℕ) where
       → IsSeeing first 0 first
   seeing_none first shaped none = record { seen = none_yet; shaped = shaped; no_peer = none }
 
-  pub seeing_passed : (first now : EngineView D) (count : ℕ) → IsSeeing first count now → ¬ IsWholeWaiting now.state count
+  pub seeing_passed : (first now : EngineView D) (count : ℕ) → IsSeeing first count now → ¬ MayHaveWaitingPiece now.state count
       → IsSeeing first (count + 1) now
   seeing_passed first now count seeing other = record {
     seen = passed count now seeing.seen other;
@@ -30,7 +30,7 @@ module _ {D : Type 0} (conduct : Conduct D) (dig : List ℕ → List ℕ) where
   }
 
   pub seeing_taken : (first mid new : EngineView D) (count : ℕ) (answer : Answer) → IsSeeing first count mid
-      → IsWholeWaiting mid.state count → StepsTo conduct dig mid (Adopt count) answer new → IsTakenIn answer
+      → MayHaveWaitingPiece mid.state count → StepsTo conduct dig mid (Adopt count) answer new → IsTakenIn answer
       → new.state.peers ≡ [] → IsSeeing first (count + 1) new
   seeing_taken first mid new count answer seeing waits step good none = record {
     seen = taken count mid new answer seeing.seen waits step good;

@@ -6,7 +6,9 @@ use Rattle.bt_devices.specs.SealedDisk.{SealedView}
 use Rattle.bt_meta.specs.Files.{File}
 use Rattle.bt_check.specs.Paths.{path_below}
 use Rattle.bt_devices.specs.Disk.{AheadView, new_ahead}
-use Rattle.bt_files.specs.FileUse.{IsAccessFor, is_as_synced, is_read_only}
+use Rattle.bt_log_file.specs.GaplessDisk.{GaplessView, new_gapless}
+use Rattle.bt_log_file.specs.TouchedDisk.{TouchedView}
+use Rattle.bt_files.specs.FileUse.{IsAccessFor, is_as_synced, is_read_only, is_touched_at_first}
 use Rattle.bt_files.specs.declared.file_use.FileUse.{FileUse}
 
 -- the files that have a byte, in their order
@@ -21,9 +23,9 @@ device_paths dir files = map (λ file. path_below dir file.path) (files_with_byt
 abbrev pub AreFilled : List File → List Bool → Type 0
 AreFilled files filled = AllZip (λ (file : File) is_filled. file.length ≡ 0 → is_filled ≡ false) files filled
 
--- a device of a pool, which is read ahead, and may be closed to writes
+-- a file of a pool, which is read ahead, and may be closed to writes
 abbrev pub DeviceView : Type 0
-DeviceView = SealedView (AheadView PooledView)
+DeviceView = SealedView (AheadView (GaplessView TouchedView))
 
 -- the file of a device that was opened for a use, with its number in the pool: it was not written, and no call
 -- of it failed yet
@@ -38,7 +40,9 @@ pub record IsNewFile (usage : FileUse) (nth : ℕ) (at : List ℕ) (file : Poole
 -- the device of such a file, no call of which failed or was refused: a read-only one is closed to writes from the
 -- beginning
 pub record IsNewDevice (usage : FileUse) (nth : ℕ) (at : List ℕ) (disk : DeviceView) : Type 0 where
-  pub file : IsNewFile usage nth at disk.inner.inner
+  pub file : IsNewFile usage nth at disk.inner.inner.inner.file
+  pub is_touched : disk.inner.inner.inner.is_touched ≡ is_touched_at_first usage
+  pub with_gaps : disk.inner.inner ≡ new_gapless disk.inner.inner.inner false
   pub ahead : disk.inner ≡ new_ahead disk.inner.inner
   pub is_sealed : disk.is_sealed ≡ is_read_only usage
   pub refused : disk.refused ≡ 0

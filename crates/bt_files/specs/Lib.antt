@@ -6,6 +6,7 @@ pub mod OpenFolder
 pub mod DataFiles
 pub mod DataFilesSteps
 pub mod OwnFiles
+pub mod OwnTorrent
 pub mod StoreLog
 pub mod Store
 pub mod Report

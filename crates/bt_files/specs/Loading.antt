@@ -30,12 +30,18 @@ pub record HasPathsOfOneFile (is_info : Bool) : Type 0 where
   pub read : HasText is_info torrent
   pub same : HasFileOfAnotherPath torrent.files
 
--- why none was: no torrent was read; two of its paths are one file, which is no fault where both are only read; or
--- the log is refused, where one is asked for
+-- a torrent of some text was read
+pub record IsRead (is_info : Bool) : Type 0 where
+  pub torrent : Metainfo
+  pub read : HasText is_info torrent
+
+-- why none was: no torrent was read; two of its paths are one file, or one of them is that of the torrent itself (of
+-- which nothing more is said here), which is no fault where they are only read; or the log is refused, where one is
+-- asked for
 abbrev pub IsStoreFault : Bool → FileUse → Option (Bor (List ℕ)) → Fault → Type 0
 IsStoreFault is_info usage log fault =
     IsLoadFault is_info fault
-    ⊎ ((fault ≡ same_file) × (is_read_only usage ≡ false) × HasPathsOfOneFile is_info)
+    ⊎ ((fault ≡ same_file) × (is_read_only usage ≡ false) × (HasPathsOfOneFile is_info ⊎ IsRead is_info))
     ⊎ ((log ≢ None) × IsLogRefusal fault)
 
 -- the log is full, where one is asked for: that shows as what is known is written to it, after the work

@@ -8,7 +8,7 @@ use Rattle.bt_files.specs.DataFiles.{DeviceView}
 
 -- what the system told of a device's file when it was opened
 abbrev pub identity_of : DeviceView → Option FileIdentity
-identity_of disk = disk.inner.inner.identity
+identity_of disk = disk.inner.inner.inner.file.identity
 
 -- the system told the same of the files of two devices
 abbrev pub AreOneFile : DeviceView → DeviceView → Type 0

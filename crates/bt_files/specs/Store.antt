@@ -4,7 +4,6 @@ use Rattle.std.specs.Borrow.{Bor}
 use Rattle.sha2.specs.Sha256.{sha256}
 use Rattle.bt_devices.specs.Disk.{ahead_conduct}
 use Rattle.bt_disk.specs.Conduct.{Conduct}
-use Rattle.bt_disk.specs.Pool.{pooled_conduct}
 use Rattle.bt_meta.specs.Torrent.{Metainfo}
 use Rattle.bt_resume.specs.ResumeLog.{LogView}
 use Rattle.bt_machine.specs.declared.error.FlushError.{FlushError}
@@ -19,10 +18,12 @@ use Rattle.bt_files.specs.Adoption.{TakesIn}
 use Rattle.bt_engine.specs.Leads.{LeadsTo}
 use Rattle.bt_devices.specs.SealedDisk.{sealed_conduct}
 use Rattle.bt_folder.specs.declared.known_files.KnownFiles.{KnownFiles}
+use Rattle.bt_log_file.specs.GaplessDisk.{gapless_conduct}
+use Rattle.bt_log_file.specs.TouchedDisk.{touched_conduct}
 use Rattle.bt_check.specs.Fault.{device, log_full}
 use Rattle.bt_check.specs.declared.fault.Fault.{Fault}
 use Rattle.bt_files.specs.DataFiles.{AreFilled, AreNewDevices, DeviceView}
-use Rattle.bt_files.specs.FileUse.{is_read_only}
+use Rattle.bt_files.specs.FileUse.{is_read_only, use_with}
 use Rattle.bt_files.specs.OpenFolder.{IsCallFault, IsOpeningFault, KnowsOpened}
 use Rattle.bt_files.specs.OwnFiles.{AreApart, AreKnown}
 use Rattle.bt_files.specs.StoreLog.{IsLogAt, IsLogFaultAt, IsLookFault}
@@ -79,7 +80,7 @@ pub record FailsWithFlush {D : Type 0} (conduct : Conduct D)
 -- ---- the devices of data files, as `Disk` has them
 
 abbrev pub device_conduct : Conduct DeviceView
-device_conduct = sealed_conduct (ahead_conduct pooled_conduct)
+device_conduct = sealed_conduct (ahead_conduct (gapless_conduct touched_conduct))
 
 -- ---- the store of a torrent's files in a folder
 
@@ -90,7 +91,7 @@ device_conduct = sealed_conduct (ahead_conduct pooled_conduct)
 pub record IsOpened (usage : FileUse) (dir : List ℕ) (log : Option (Bor (List ℕ))) (torrent : Metainfo)
     (engine : EngineView DeviceView) : Type 0 where
   pub devices : List DeviceView
-  pub of_files : AreNewDevices usage dir torrent.files devices
+  pub of_files : AreNewDevices (use_with usage log) dir torrent.files devices
   pub filled : List Bool
   pub each : length filled ≡ length torrent.files
   pub apart : is_read_only usage ≡ false → AreApart devices

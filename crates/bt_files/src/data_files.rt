@@ -5,9 +5,11 @@ ghost use Rattle.bt_devices.specs.Disk.{new_ahead};
 ghost use Rattle.bt_disk.specs.Pool.{new_pool};
 ghost use Rattle.bt_meta.specs.Files.{file_of};
 ghost use Rattle.bt_check.specs.Fault.{device};
+ghost use Rattle.bt_log_file.specs.GaplessDisk.{new_gapless};
+ghost use Rattle.bt_log_file.specs.TouchedDisk.{new_touched};
 ghost use Rattle.bt_files.specs.DataFiles.{AreFilled, AreNewDevices, IsNewDevice, IsNewFile};
 ghost use Rattle.bt_files.specs.DataFilesSteps.{IsOpenedFor, IsPushed};
-ghost use Rattle.bt_files.specs.FileUse.{is_read_only};
+ghost use Rattle.bt_files.specs.FileUse.{is_read_only, is_touched_at_first};
 ghost use Rattle.bt_files.specs.OpenFolder.{IsCallFault, IsOpeningFault, KnowsOpened};
 ghost use Rattle.bt_files.specs.OwnFiles.{AreApart, AreKnown, identity_of};
 ghost use Rattle.bt_files.specs.OwnPaths.{AreOwnPaths};
@@ -20,15 +22,20 @@ use bt_check::{Fault, OPEN_FILES, data_path, fault_name, told};
 use bt_devices::{ReadAheadDisk, SealedDisk, Watched};
 use bt_disk::{DeviceFault, FileDisk, HandlePool, Opening, PooledDisk};
 use bt_folder::{KnownFiles, Lookup};
+use bt_log_file::{GaplessDisk, TouchedDisk};
 use bt_meta::FileEntry;
 use bt_progress::{FileCall, Watch};
 use std::alloc::{AllocError, Global};
 use std::path::{Path, PathBuf};
 use std::rt::Files;
 
-/// The device of a data file: one of a pool, which is read ahead, may be closed to writes, rings where a write
-/// fails, and tells of its calls.
-pub type DataDisk<'a, R, P> = Watched<'a, SealedDisk<'a, ReadAheadDisk<'a, PooledDisk<R>>>, P>;
+/// The device of a data file: one of a pool, which is synced only where it was touched, is read ahead, may be closed to
+/// writes, rings where a write fails, and tells of its calls.
+pub type DataDisk<'a, R, P> = Watched<
+    'a,
+    SealedDisk<'a, ReadAheadDisk<'a, GaplessDisk<TouchedDisk<R>>>>,
+    P,
+>;
 
 /// The devices of those files of a torrent that have a byte, in their order; and of each file of it, whether bytes of
 /// it are there. What the system tells of all these files is known, but for a read-only use.
@@ -228,7 +235,7 @@ fn open_device<'a, R: Files + Drop, P: Watch>(
     }
 }
 
-/// The next file of a pool, opened for a use. What a seed finds in it is none of what it has to keep.
+/// The next file of a pool, opened for a use. What a seed without a log finds in it is none of what it has to keep.
 fn pooled<R: Files + Drop>(
     pool: &mut HandlePool<R>,
     usage: FileUse,
@@ -238,22 +245,25 @@ fn pooled<R: Files + Drop>(
     ensures one_more { OnOk result (pool.new.made ≡ pool.old.made + 1) }
 {
     match usage {
-        FileUse::Fetch => pool.writing(path),
+        FileUse::Fetch | FileUse::SeedByLog => pool.writing(path),
         FileUse::Seed => Ok(pool.writing(path)?.assume_synced()),
         FileUse::ReadOnly => pool.reading(path),
     }
 }
 
-/// A file as a device that is read ahead, and is closed to writes: with its seal, or at once.
+/// A file as a device that is read ahead, and is closed to writes: with its seal, or at once. By its use it is synced
+/// also where nothing was read or written.
 fn device_of<'a, R: Files + Drop>(
     context: DeviceContext<'a>,
     file: PooledDisk<R>,
-) -> SealedDisk<'a, ReadAheadDisk<'a, PooledDisk<R>>>
-    ensures inner { result.inner ≡ new_ahead file }
+) -> SealedDisk<'a, ReadAheadDisk<'a, GaplessDisk<TouchedDisk<R>>>>
+    ensures inner { let touched = is_touched_at_first context.entry.usage
+        in result.inner ≡ new_ahead (new_gapless (new_touched file touched) false) }
     ensures is_sealed { result.is_sealed ≡ is_read_only context.entry.usage }
     ensures refused { result.refused ≡ 0 }
 {
-    let ahead = ReadAheadDisk::new(file, context.digests);
+    let file = TouchedDisk::new(file, context.usage.is_touched_at_first());
+    let ahead = ReadAheadDisk::new(GaplessDisk::new(file, false), context.digests);
     if context.usage.is_read_only() {
         SealedDisk::closed(ahead, context.seal)
     } else {
@@ -282,7 +292,9 @@ fn open_empty<R: Files + AllocGlobal, P: Watch>(
     ensures { IfErr result (λ fault. fault ≡ device) }
 {
     let opened = match usage {
-        FileUse::Fetch | FileUse::Seed => FileDisk::writing(rt, file.as_str()),
+        FileUse::Fetch | FileUse::Seed | FileUse::SeedByLog => {
+            FileDisk::writing(rt, file.as_str())
+        }
         FileUse::ReadOnly => FileDisk::reading(rt, file.as_str()),
     };
     let opening = match opened {

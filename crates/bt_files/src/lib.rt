@@ -12,6 +12,7 @@ mod lacking;
 mod loading;
 mod open_folder;
 mod own_paths;
+mod own_torrent;
 mod report;
 mod store;
 mod store_log;

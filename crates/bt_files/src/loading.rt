@@ -1,12 +1,16 @@
 //! The store of a torrent that is read from its file.
 ghost use Rattle.std.specs.Prelude.{◌≡◌, false, IfErr, IfOk};
+ghost use Rattle.bt_check.specs.Fault.{same_file};
 ghost use Rattle.bt_check.specs.TorrentFile.{HasText, IsLoadFault};
+ghost use Rattle.bt_log_file.specs.Looking.{HasNoFileAt};
 ghost use Rattle.bt_files.specs.FileUse.{is_read_only};
 ghost use Rattle.bt_files.specs.Loading.{IsLoaded, IsStoreFault};
 ghost use Rattle.bt_files.specs.OwnPaths.{AreOwnPaths};
+ghost use Rattle.bt_files.specs.OwnTorrent.{HasOneFileTwice};
 ghost use Rattle.bt_files.specs.StoreLog.{IsLogApart};
 
 use crate::device_context::DeviceContext;
+use crate::own_torrent::look_at_source;
 use crate::store::{Store, open_store};
 use bt_check::{BUFFER_LEN, Fault, Source, load_watched};
 use bt_folder::Lookup;
@@ -15,10 +19,12 @@ use bt_progress::{FileCall, Watch};
 use std::rt::Files;
 
 /// Reads a torrent from its file, and opens the store of its files in a folder, with a log where the path of one is
-/// given. The calls on the files are told. The first fault ends it.
+/// given. The calls on the files are told. The first fault ends it; that the torrent itself is one of its files, as far
+/// as a look tells, comes before any file is made.
 ///
-/// Errors: `Torrent` where the torrent is refused; `SameFile` where two of its paths are one file that may be written;
-/// `LogAmongFiles`, `OtherTorrent` or `LogTooLong` where the log is refused; `Device`; `OutOfMemory`.
+/// Errors: `Torrent` where the torrent is refused; `SameFile` where two of its paths are one file that may be written,
+/// or one of them is the file that it is read from; `LogAmongFiles`, `OtherTorrent` or `LogTooLong` where the log is
+/// refused; `Device`; `OutOfMemory`.
 pub fn load_store<'a, R: Files + AllocGlobal + Clone + Drop + Lookup, P: Watch>(
     rt: &R,
     watch: &'a P,
@@ -32,9 +38,14 @@ pub fn load_store<'a, R: Files + AllocGlobal + Clone + Drop + Lookup, P: Watch>(
         IsLogApart (R.tells rt.now) dir.now engine.state.torrent.files log.entry) }
     ensures own { IfOk result (λ engine. is_read_only context.entry.usage ≡ false
         → AreOwnPaths (R.lists rt.now) dir.now engine.state.torrent.files) }
+    ensures apart { IfOk result (λ engine. is_read_only context.entry.usage ≡ false
+        → HasNoFileAt (R.tells rt.now) dir.now engine.state.torrent.files source.entry.path.now) }
     ensures fault { IfErr result (IsStoreFault source.entry.is_info context.entry.usage log.entry) }
+    ensures same { IfErr result (λ fault. fault ≡ same_file
+        → HasOneFileTwice (R.tells rt.now) dir.now source.entry.path.now source.entry.is_info) }
 {
     let torrent = load_torrent(rt, watch, source)?;
+    look_at_source(rt, watch, context.usage, dir, &torrent, source)?;
     watch.begin(FileCall::Read);
     open_store(rt, watch, context, torrent, dir, log)
 }

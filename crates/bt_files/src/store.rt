@@ -1,5 +1,5 @@
 //! The store of a torrent's files: an engine over them, from its opening to its flush.
-ghost use Rattle.std.specs.Prelude.{◌≡◌, false, Bool, List, Ok, Err, None, Some, length, IfOk, IfErr, IfSome, OnOk};
+ghost use Rattle.std.specs.Prelude.{◌≡◌, false, Bool, List, Ok, Err, None, Some, length, map, IfOk, IfErr, IfSome, OnOk};
 ghost use Rattle.sha2.specs.Sha256.{sha256};
 ghost use Rattle.bt_machine.specs.declared.error.FlushError.{FlushError};
 ghost use Rattle.bt_machine.specs.declared.event.Event.TheVariants.{Flush};
@@ -8,8 +8,11 @@ ghost use Rattle.bt_machine.specs.Start.{device_count};
 ghost use Rattle.bt_machine.specs.View.{StepsTo};
 ghost use Rattle.bt_engine.specs.Leads.{LeadsTo};
 ghost use Rattle.bt_check.specs.Fault.{out_of_memory};
-ghost use Rattle.bt_files.specs.FileUse.{is_read_only};
-ghost use Rattle.bt_files.specs.OpenFolder.{IsCallFault};
+ghost use Rattle.bt_meta.specs.Files.{file_of};
+ghost use Rattle.bt_files.specs.DataFiles.{AreFilled, AreNewDevices};
+ghost use Rattle.bt_files.specs.FileUse.{is_read_only, use_with};
+ghost use Rattle.bt_files.specs.OpenFolder.{IsCallFault, IsOpeningFault, KnowsOpened};
+ghost use Rattle.bt_files.specs.OwnFiles.{AreApart, AreKnown};
 ghost use Rattle.bt_files.specs.OwnPaths.{AreOwnPaths};
 ghost use Rattle.bt_files.specs.Store.{HasBegun, IsFlushFault, IsOpened, IsOpenFault, IsSameButPending, flush_fault};
 ghost use Rattle.bt_files.specs.StoreLog.{IsLogApart};
@@ -54,7 +57,7 @@ pub(crate) fn open_store<'a, R: Files + AllocGlobal + Clone + Drop + Lookup, P: 
     ensures fault { IfErr result (IsOpenFault context.entry.usage torrent log.entry) }
 {
     look_at_log(rt, dir, &torrent, log)?;
-    let mut files = open_devices(rt, watch, context, dir, torrent.files())?;
+    let mut files = open_files(rt, watch, context, dir, torrent.files(), log)?;
     let attached = open_log_at(rt, watch, context, &mut files.known, dir, &torrent, log)?;
     let hash = CachedLanes::new(context.digests);
     begin_store(
@@ -66,6 +69,40 @@ pub(crate) fn open_store<'a, R: Files + AllocGlobal + Clone + Drop + Lookup, P: 
         attached,
         hash,
     )
+}
+
+/// Opens the data files of some entries, as `open_devices` has it, for what their use becomes where the path of a log
+/// is given, or none.
+fn open_files<'a, R: Files + AllocGlobal + Clone + Drop + Lookup, P: Watch>(
+    rt: &R,
+    watch: &'a P,
+    context: DeviceContext<'a>,
+    dir: &str,
+    entries: &[FileEntry],
+    log: Option<&str>,
+) -> Result<OpenFiles<DataDisk<'a, R, P>>, Fault>
+    ensures devices { IfOk result (λ files. AreNewDevices
+        (use_with context.entry.usage log.entry) dir.now (map file_of entries.now) files.disks.items) }
+    ensures each { IfOk result (λ files. length files.filled.items ≡ length entries.now) }
+    ensures filled { IfOk result (λ files. AreFilled (map file_of entries.now) files.filled.items) }
+    ensures known { IfOk result
+        (λ files. KnowsOpened context.entry.usage (map file_of entries.now) files.known) }
+    ensures told { IfOk result (λ files. is_read_only context.entry.usage ≡ false
+        → AreKnown files.known files.disks.items) }
+    ensures apart { IfOk result (λ files. is_read_only context.entry.usage ≡ false
+        → AreApart files.disks.items) }
+    ensures own { OnOk result (is_read_only context.entry.usage ≡ false
+        → AreOwnPaths (R.lists rt.now) dir.now (map file_of entries.now)) }
+    ensures fault { IfErr result (IsOpeningFault context.entry.usage (map file_of entries.now)) }
+{
+    let used = DeviceContext {
+        usage: context.usage.with_log(log),
+        digests: context.digests,
+        alarm: context.alarm,
+        seal: context.seal,
+        log_seal: context.log_seal,
+    };
+    open_devices(rt, watch, used, dir, entries)
 }
 
 /// Starts an engine of a torrent over the devices of its opened files, with a log of it or without.

@@ -84,7 +84,7 @@ fn unmarked_text(usage: FileUse) -> &'static str {
             "no block of what is here is marked in the log, so all is fetched: \
              without --log what is here is taken in"
         }
-        FileUse::Seed | FileUse::ReadOnly => {
+        FileUse::Seed | FileUse::SeedByLog | FileUse::ReadOnly => {
             "no block of what is here is marked in the log, so none is served: \
              run fetch with this log, or seed without one"
         }

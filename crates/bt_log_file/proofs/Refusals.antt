@@ -1,5 +1,5 @@
 -- Why a file is none for a log, since it is one of others.
-use Rattle.std.proofs.Common.{◌≡◌, ◌↔◌, ◌⊎◌, inl, inr, ℕ, ◌<◌, Bool, true, false, List, length, map, not, get_or, Some, None, Result, Ok, Err, IfOk, refl, sym, ap, subst, arith, ◌+◌, ◌≤◌, ◌∙◌}
+use Rattle.std.proofs.Common.{◌≡◌, ◌↔◌, ◌⊎◌, inl, inr, ℕ, ◌<◌, Bool, true, false, List, length, map, not, get_or, Option, Some, None, Result, Ok, Err, IfOk, refl, sym, ap, subst, arith, ◌+◌, ◌≤◌, ◌∙◌}
 use Rattle.std.specs.Prelude.{IsTrue, MatchBool, OnOk, slice_get}
 use Rattle.std.specs.Bool.{OnFalse}
 use Rattle.std.specs.declared.alloc.AllocError.{AllocError}
@@ -16,6 +16,7 @@ use Rattle.bt_meta.specs.Files.{File, file_of}
 use Rattle.bt_meta.specs.declared.torrent.FileEntry.{FileEntry}
 use Rattle.bt_check.specs.Paths.{path_below}
 use Rattle.bt_log_file.specs.Folder.{folder_of}
+use Rattle.bt_log_file.specs.Looking.{HasFileAt, HasNoFileAt, IsFileAt, IsNoneAt}
 use Rattle.bt_log_file.specs.Names.{AreAlike, HasBoth, IsFileByName, IsFolderOf, IsNoFileByName}
 use Rattle.bt_log_file.specs.Opening.{IsAdded}
 
@@ -56,6 +57,17 @@ on_yes false P Q said is = absurd (false≢true said)
 pub on_no : (b : Bool) (P Q : Type 0) → b ≡ false → MatchBool b P Q → Q
 on_no true P Q said is = absurd (false≢true (sym said))
 on_no false P Q said is = is
+
+-- whether one of these files is the one at a path, by what was told of that
+pub by_what_is_told : (tells : Tells) (dir path : List ℕ) (r : Result Bool AllocError) (found : Option FileIdentity) → tells path found
+    → {files all : List File} → all ≡ files
+    → IfOk r (λ is_among. MatchBool is_among (IsFileAt tells dir all path found) (IsNoneAt tells dir all path found))
+    → IfOk r (λ is_file. MatchBool is_file (HasFileAt tells dir files path) (HasNoFileAt tells dir files path))
+by_what_is_told tells dir path (Ok true) found told same at =
+    (found, told, subst (λ (files : List File). IsFileAt tells dir files path found) same at)
+by_what_is_told tells dir path (Ok false) found told same none =
+    (found, told, subst (λ (files : List File). IsNoneAt tells dir files path found) same none)
+by_what_is_told tells dir path (Err e) found told same at = tt
 
 -- something holds of each of the first `count` files
 abbrev pub EachBefore : (File → Type 0) → List File → ℕ → Type 0

@@ -1,8 +1,10 @@
 pub mod Attaching
 pub mod Device
 pub mod Folder
+pub mod GaplessDisk
 pub mod Keeping
 pub mod Looking
 pub mod Names
 pub mod Opening
 pub mod OtherFiles
+pub mod TouchedDisk

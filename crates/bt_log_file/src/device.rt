@@ -1,11 +1,15 @@
 //! The device of a log's file.
-ghost use Rattle.std.specs.Prelude.{◌≡◌, IfErr, IfOk};
+ghost use Rattle.std.specs.Prelude.{◌≡◌, true, IfErr, IfOk};
 ghost use Rattle.bt_devices.specs.Disk.{new_ahead};
 ghost use Rattle.bt_devices.specs.SealedDisk.{new_sealed};
 ghost use Rattle.bt_log_file.specs.Device.{new_log_device};
+ghost use Rattle.bt_log_file.specs.GaplessDisk.{new_gapless};
+ghost use Rattle.bt_log_file.specs.TouchedDisk.{new_touched};
 ghost use Rattle.bt_log_file.specs.Opening.{IsCallFaultBy};
 
+use crate::gapless_disk::GaplessDisk;
 use crate::log_folder::{LogFolder, OpenedLog};
+use crate::touched_disk::TouchedDisk;
 use bt_check::{Fault, fault_name, told};
 use bt_devices::{Alarm, DigestCache, ReadAheadDisk, Seal, SealedDisk, Watched};
 use bt_disk::PooledDisk;
@@ -13,10 +17,14 @@ use bt_progress::{FileCall, Watch};
 use std::cell::RefCell;
 use std::rt::Files;
 
-/// The device of a log's file. An engine has devices of one type, so this is the type of data files too: a device
-/// that tells of its calls, rings where a write fails, may be closed to writes, and is read ahead. Only blocks are
-/// read ahead, and a log is mostly read by greater parts, so hardly anything of a log is.
-pub type LogDisk<'a, R, P> = Watched<'a, SealedDisk<'a, ReadAheadDisk<'a, PooledDisk<R>>>, P>;
+/// The device of a log's file. An engine has devices of one type, so this is the type of data files too: a device that
+/// tells of its calls, rings where a write fails, may be closed to writes, is read ahead, and leaves no gap. Only
+/// blocks are read ahead, and a log is mostly read by greater parts, so hardly anything of a log is.
+pub type LogDisk<'a, R, P> = Watched<
+    'a,
+    SealedDisk<'a, ReadAheadDisk<'a, GaplessDisk<TouchedDisk<R>>>>,
+    P,
+>;
 
 /// What a log's device shares with what is outside of it.
 #[derive(Clone, Copy)]
@@ -64,12 +72,13 @@ pub(crate) fn open_device<'a, 'p, R: LogFolder, P: Watch>(
     })
 }
 
-/// A file as a device that is written until the log's seal is closed.
+/// A file as a device that is written without gaps, until the log's seal is closed, and counts as touched.
 fn device_of<'a, R: Files + Drop>(
     context: LogContext<'a>,
     file: PooledDisk<R>,
-) -> SealedDisk<'a, ReadAheadDisk<'a, PooledDisk<R>>>
-    ensures { result ≡ new_sealed (new_ahead file) }
+) -> SealedDisk<'a, ReadAheadDisk<'a, GaplessDisk<TouchedDisk<R>>>>
+    ensures { result ≡ new_sealed (new_ahead (new_gapless (new_touched file true) true)) }
 {
+    let file = GaplessDisk::new(TouchedDisk::new(file, true), true);
     SealedDisk::new(ReadAheadDisk::new(file, context.digests), context.seal)
 }

@@ -5,13 +5,17 @@
 mod attaching;
 mod device;
 mod folder;
+mod gapless_disk;
 mod log_folder;
 mod looking;
 mod names;
 mod opening;
 mod other_files;
+mod touched_disk;
 
 pub use device::{LogContext, LogDisk};
+pub use gapless_disk::GaplessDisk;
 pub use log_folder::LogFolder;
-pub use looking::refuse_data_file;
+pub use looking::{is_data_file, refuse_data_file};
 pub use opening::open_log;
+pub use touched_disk::TouchedDisk;

@@ -30,11 +30,27 @@ pub fn refuse_data_file<R: Files + AllocGlobal + Clone + Drop + Lookup>(
     ensures fault { IfErr result
         (IsDataFileFault (R.tells rt.now) dir.now torrent.now.files path.now) }
 {
-    let found = rt.identity_at(path);
-    if is_among(rt, dir, torrent.files(), path, found)? {
+    if is_data_file(rt, dir, torrent, path)? {
         return Err(Fault::LogAmongFiles);
     }
     Ok(())
+}
+
+/// Whether a look shows that the file at a path is one of a torrent's, below the folder `dir`: by what the system tells
+/// of both; or, where nothing lies at the path, by whether both lead to one place. Nothing is opened or made. Errors:
+/// memory is refused.
+pub fn is_data_file<R: Files + AllocGlobal + Clone + Drop + Lookup>(
+    rt: &R,
+    dir: &str,
+    torrent: &Torrent,
+    path: &str,
+) -> Result<bool, AllocError>
+    ensures { IfOk result (λ is_file. MatchBool is_file
+        (HasFileAt (R.tells rt.now) dir.now torrent.now.files path.now)
+        (HasNoFileAt (R.tells rt.now) dir.now torrent.now.files path.now)) }
+{
+    let found = rt.identity_at(path);
+    is_among(rt, dir, torrent.files(), path, found)
 }
 
 /// Whether one of a torrent's files lies at a path of which the system told this.

@@ -14,9 +14,11 @@ pub enum Failing {
     Looks,
     Opens,
     Reads,
+    LastReads,
     Writes,
     Flushes,
     Syncs,
+    LastSyncs,
     Folders,
     LastFolders,
     DotFolders,
@@ -52,9 +54,11 @@ impl Failing {
 
 /// The host's file system, of which some calls fail, in which every folder lists these names, each with a zero after
 /// it, and in which a path that ends in `pipe` is a device, which neither a read nor a write is to reach. Of looks and
-/// opens those of a path that ends in `last` fail, and of reads the third of each file. A file that has bytes takes no
-/// mode any more, and one that has none is not synced. Folders are synced apart from files: all fail, or those of a path
-/// that ends in `last`, or that of the path `.`. An early listing is one of a folder in which no file `last` lies yet. What lies at `proc` and at
+/// opens those of a path that ends in `last` fail, and of reads the third of each file, or all of a path that ends in
+/// `last`. A file that has bytes takes no mode any more, and one that has none is not synced, but where the syncs of a
+/// path that ends in `last` are those that fail. Folders are synced apart from files: all fail, or those of a path that
+/// ends in `last`, or that of the path `.`. An early listing is one of a folder in which no file `last` lies yet. What
+/// lies at `proc` and at
 /// `sys` is a folder to a look that follows links, of the number 1, each on a device of its own, and what lies at
 /// `null` is a device. What lies at `gone` is not there to such a look while it has bytes, and has none from then on.
 #[derive(Clone, Copy)]
@@ -124,6 +128,7 @@ impl<'a> Files for Device<'a> {
             failing: self.failing.of_path(path),
             reads: 0,
             has_bytes: false,
+            is_last: path.ends_with("last"),
         })
     }
 
@@ -215,6 +220,7 @@ pub struct DeviceFile {
     failing: Failing,
     reads: u32,
     has_bytes: bool,
+    is_last: bool,
 }
 
 impl Read for DeviceFile {
@@ -222,6 +228,9 @@ impl Read for DeviceFile {
         self.reads = self.reads.saturating_add(1);
         if self.reads == 3 {
             self.failing.at(Failing::Reads)?;
+        }
+        if self.is_last {
+            self.failing.at(Failing::LastReads)?;
         }
         self.file.read(buf)
     }
@@ -269,6 +278,13 @@ impl OpenFile for DeviceFile {
             return self.file.sync_all();
         }
         self.failing.at(Failing::Syncs)?;
+        if self.failing == Failing::LastSyncs {
+            return if self.is_last {
+                Err(io::Error::from(ErrorKind::StorageFull))
+            } else {
+                self.file.sync_all()
+            };
+        }
         if !self.has_bytes {
             return Err(io::Error::from(ErrorKind::Other));
         }

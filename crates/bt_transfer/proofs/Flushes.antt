@@ -14,6 +14,14 @@ use Rattle.bt_transfer.specs.Fetch.{TriesAndSyncs, Turns, behind, among}
 use Rattle.bt_transfer.specs.FetchSteps.{BreaksOff, FailsToSync, refused}
 use Rattle.bt_transfer.proofs.EndFaults.{of_fault}
 
+-- whether it was made or refused, a flush was answered
+pub flush_answered : {D : Type 0} (conduct : Conduct D) (dig : List ℕ → List ℕ) (old new : EngineView D) (result : Result (Unit {0}) Fault)
+    → OnOk result (StepsTo conduct dig old Flush (Flushed (Ok tt)) new)
+    → IfErr result (λ fault. (error : FlushError) × (fault ≡ flush_fault error) × StepsTo conduct dig old Flush (Flushed (Err error)) new)
+    → (answer : Result (Unit {0}) FlushError) × StepsTo conduct dig old Flush (Flushed answer) new
+flush_answered conduct dig old new (Ok done) flushed failed = (Ok tt, flushed)
+flush_answered conduct dig old new (Err fault) flushed failed = (Err failed.0, failed.2)
+
 module _ {D L : Type 0} (InTurns : Turns D L) (conduct : Conduct D) (dig : List ℕ → List ℕ)
     (old : EngineView D) (links : List L) (ends : List PeerEnd) (rest : List L) where
   -- behind peers among whom no flush was refused, a flush that was made

@@ -13,7 +13,7 @@ ghost use Rattle.bt_session.specs.Peers.{InTurnWithFlushes, IsTriedWithFlushes};
 ghost use Rattle.bt_resume.specs.ResumeLog.{LogView};
 ghost use Rattle.bt_engine.specs.Leads.{LeadsTo};
 ghost use Rattle.bt_transfer.specs.Fetch.{EndsFetch, HasFetched, HasFetchedOverTcp, IsFetch, TriesAndSyncs, flush_turns, links_by, links_of};
-ghost use Rattle.bt_transfer.specs.FetchSteps.{BreaksOff, FailsToSync};
+ghost use Rattle.bt_transfer.specs.FetchSteps.{BreaksOff, FailsAtEnd, FailsToSync, HasTakenInAndConcluded};
 ghost use Rattle.bt_transfer.specs.FullLog.{FindsLogFull, HasFilledLog};
 ghost use Rattle.bt_transfer.specs.Hearing.{IsHeard};
 ghost use Rattle.bt_files.specs.Store.{HasBegun, IsFlushFault, IsSameButPending, flush_fault};
@@ -44,13 +44,13 @@ use std::time::{Clock, Duration};
 /// itself, and meanwhile the peer waits, who may give up.
 const FLUSH_TURNS: u64 = 2048;
 
-/// Opens the store of a torrent's files in a folder, as `load_store` does; takes peers in turn until all
-/// files are complete; writes how it ended with each that was tried; takes in the files whose blocks all came,
-/// some of them without their hashes; has all put on the devices; and reports. The answer is the status of the
-/// program: 0 where all files are complete, else 1.
+/// Opens the store of a torrent's files in a folder, as `load_store` does; takes peers in turn until all files are
+/// complete; writes how it ended with each that was tried; takes in what came without hashes; has all put on the
+/// devices; and reports. The answer is the status of the program: 0 where all files are complete, else 1.
 ///
 /// Where the path of a log is given, it has all put on the devices, and what is known of it into the log, also before
-/// the first peer is dialled, and then while it fetches, after each 2,048 turns with a peer, and after each peer.
+/// the first peer is dialled, and then while it fetches, after each 2,048 turns with a peer, and after each peer; also
+/// where it ends with a fault of a file that can't be read.
 ///
 /// It is told how much is read of what the files have, and then how much is written of what they lack.
 ///
@@ -127,9 +127,9 @@ fn fetch_store<D: Disk + Drop, H: NodeHash, N: Net + Clock, P: Watch, W: Write>(
     fetch_from(alloc, &mut engine, peers, &mut links, log, bell, writer)
 }
 
-/// Where the path of a log is given, has all put on the devices while no peer waits yet. A file that was opened to be
-/// written counts as not synced until its first flush. So this one opens and syncs each of the torrent, which takes
-/// minutes where there are thousands; later ones sync those that were written since. Errors: it was refused.
+/// Where the path of a log is given, has all put on the devices while no peer waits yet. A file of which the log marks
+/// a block counts as not synced until its first flush. So this one opens and syncs each of these, which takes minutes
+/// where there are thousands; later ones sync those that were written since. Errors: it was refused.
 fn flush_first<D: Disk + Drop, H: NodeHash>(
     engine: &mut Engine<D, H>,
     log: Option<&str>,
@@ -207,11 +207,11 @@ fn links_to<'a, N: Net + Clock>(
     Ok(links)
 }
 
-/// Takes peers in turn, each by its link, until the engine is complete; has all put on the devices; writes how
-/// it ended with each peer that was tried; takes in the files whose blocks came without their hashes; and then
-/// concludes. A peer's session has at most `turns` turns, with a flush after each `flush_every`-th and after the
-/// session, or with none where that is 0. Errors: also where a flush was refused, which is told of after the lines of
-/// the peers, whether these could be written or not; and where they can't be, what came is on the devices all the same.
+/// Takes peers in turn, each by its link, until the engine is complete; has all put on the devices; writes how it ended
+/// with each peer that was tried; takes in what came without hashes; and then concludes. A peer's session has at most
+/// `turns` turns, with a flush after each `flush_every`-th and after the session, or with none where that is 0. Errors:
+/// also where a flush was refused, which is told of after the lines of the peers, whether these could be written or
+/// not; and where they can't be, what came is on the devices all the same.
 fn fetch_over<D: Disk + Drop, H: NodeHash, L: Link, W: Write>(
     alloc: Global,
     engine: &mut Engine<D, H>,
@@ -243,8 +243,34 @@ fn fetch_over<D: Disk + Drop, H: NodeHash, L: Link, W: Write>(
     let written = write_peers(alloc, peers, &ends, writer);
     kept?;
     written?;
-    adopt_waiting(engine)?;
-    conclude(alloc, engine, writer)
+    take_in_and_conclude(alloc, engine, writer)
+}
+
+/// Takes in what came without hashes, and concludes.
+/// Where one is not taken in, what those before it got is put on the devices, and into the log, all the same; that
+/// fault is told, whatever comes of this.
+fn take_in_and_conclude<D: Disk + Drop, H: NodeHash, W: Write>(
+    alloc: Global,
+    engine: &mut Engine<D, H>,
+    writer: &mut W,
+) -> Result<u8, Fault>
+    requires no_peer { engine.old.state.peers ≡ [] }
+    ensures concluded { IfOk result (λ status. HasTakenInAndConcluded D.conduct H.digest engine.old
+        (W.contents writer.old) (W.contents writer.new) status engine.new) }
+    ensures broken_off { IfErr result
+        (λ fault. FailsAtEnd D.conduct H.digest engine.old fault engine.new) }
+    ensures run { LeadsTo D.conduct H.digest engine.old engine.new }
+    ensures fault { IfErr result (IsEndFault engine.old.log) }
+    ensures full { IfErr result
+        (λ fault. fault ≡ log_full → FindsLogFull D.conduct H.digest engine.old) }
+{
+    match adopt_waiting(engine) {
+        Ok(()) => conclude(alloc, engine, writer),
+        Err(fault) => {
+            let _ = finish(engine);
+            Err(fault)
+        }
+    }
 }
 
 /// Takes peers in turn, each by its link, with flushes among them, until the engine is complete, and then, before

@@ -3,6 +3,7 @@ use Rattle.std.proofs.lemmas.List.{length-map}
 use Rattle.bt_meta.specs.Files.{File, file_of}
 use Rattle.bt_machine.specs.Start.{device_count}
 use Rattle.bt_files.specs.DataFiles.{AreFilled, AreNewDevices}
+use Rattle.bt_files.specs.FileUse.{use_with}
 use Rattle.bt_files.specs.OpenFolder.{IsOpeningFault, KnowsOpened}
 use Rattle.bt_files.specs.OwnPaths.{AreOwnPaths}
 use Rattle.bt_files.specs.Store.{IsOpenFault}
@@ -14,7 +15,7 @@ use Rattle.bt_files.proofs.store.open_store.Goals as goal
 
 pub begin_store-requires-clause-devices : goal.begin_store-requires-clause-devices
 begin_store-requires-clause-devices g c =
-    device_count_is c.args.context.usage c.args.dir.now (map file_of c.files.result.now) _ c.in_ok-files.ensures.devices
+    device_count_is (use_with c.args.context.usage c.args.log) c.args.dir.now (map file_of c.files.result.now) _ c.in_ok-files.ensures.devices
     ∙ ap device_count c.files.ensures.said
 
 pub begin_store-requires-clause-each : goal.begin_store-requires-clause-each
@@ -51,7 +52,7 @@ returns-in_err-attached-clause-fault g c =
 pub returns-clause-opened : goal.returns-clause-opened
 returns-clause-opened g c = ok_weaker c.begin_store.result _ _ (λ engine begun. record {
   devices = c.in_ok-files.files.disks.items;
-  of_files = subst (λ (files : List File). AreNewDevices c.args.context.usage c.args.dir.now files c.in_ok-files.files.disks.items) c.files.ensures.said c.in_ok-files.ensures.devices;
+  of_files = subst (λ (files : List File). AreNewDevices (use_with c.args.context.usage c.args.log) c.args.dir.now files c.in_ok-files.files.disks.items) c.files.ensures.said c.in_ok-files.ensures.devices;
   filled = c.in_ok-files.files.filled.items;
   each = c.in_ok-files.ensures.each ∙ sym (length-map c.files.result.now file_of) ∙ ap length c.files.ensures.said;
   apart = c.in_ok-files.ensures.apart;

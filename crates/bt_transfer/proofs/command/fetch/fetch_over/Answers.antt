@@ -5,30 +5,14 @@ use Rattle.bt_session.specs.declared.peer_end.PeerEnd.{PeerEnd}
 use Rattle.bt_engine.specs.Leads.{none, both}
 use Rattle.bt_files.specs.Ending.{IsEndFault}
 use Rattle.bt_files.specs.OpenFolder.{IsCallFault}
-use Rattle.bt_files.proofs.Adoptions.{adoption_fault}
 use Rattle.bt_files.proofs.Faults.{call_ends, err_weaker, ok_weaker, passed_on}
 use Rattle.bt_files.proofs.Unlogged.{end_fault_before}
-use Rattle.bt_transfer.specs.FetchSteps.{none_tried, not_concluded, not_taken_in, unwritten}
+use Rattle.bt_transfer.specs.FetchSteps.{none_tried, not_ended, unwritten}
 use Rattle.bt_transfer.specs.PeerLines.{peer_lines}
 use Rattle.bt_transfer.proofs.EndFaults.{call_not_full, of_fault}
 use Rattle.bt_transfer.proofs.Flushes.{broke_off}
-use Rattle.bt_transfer.proofs.FullLogs.{flush_full}
+use Rattle.bt_transfer.proofs.FullLogs.{found_later}
 use Rattle.bt_transfer.proofs.command.fetch.fetch_over.Goals as goal
-
-pub returns-clause-fetched : goal.returns-clause-fetched
-returns-clause-fetched g c = ok_weaker c.conclude.result _ _ (λ status ended. record {
-  ends = c.try_and_sync-kept.new.ends;
-  kept = c.try_and_sync-kept.new.engine;
-  told = g.W.Write.contents c.write_peers-written.new.writer;
-  taken = c.adopt_waiting.new.engine;
-  tried = c.in_ok-kept.ensures.kept;
-  lines = subst (λ (ends : List PeerEnd). Appends (g.W.Write.contents c.args.writer.now) (g.W.Write.contents c.write_peers-written.new.writer) (peer_lines c.args.peers.now ends))
-      (c.deref.ensures.value ∙ with_items_is c.in_ok-ends.ends c.try_and_sync-kept.new.ends (c.try_and_sync-kept.auto.ends ∙ c.deref_mut.ensures.len))
-      c.in_ok-written.ensures.text;
-  taken_in = c.in_ok-adopt_waiting.ensures.taken_in;
-  end = ended;
-})
-    c.conclude.ensures.concluded
 
 pub returns-in_err-ends-clause-run : goal.returns-in_err-ends-clause-run
 returns-in_err-ends-clause-run g c = none c.args.engine.now
@@ -46,25 +30,6 @@ returns-in_err-kept-clause-broken_off g c = passed_on c.from_residual-in_err-kep
     (broke_off _ g.D.Disk.conduct g.H.NodeHash.digest c.args.engine.now c.args.links.now _
     c.try_and_sync-kept.new.links c.try_and_sync-kept.new.engine c.try_and_sync-kept.result _ c.in_err-kept.was c.try_and_sync-kept.ensures.failed)
 
-pub returns-in_err-adopt_waiting-clause-broken_off : goal.returns-in_err-adopt_waiting-clause-broken_off
-returns-in_err-adopt_waiting-clause-broken_off g c = passed_on c.from_residual-in_err-adopt_waiting.result _ _ c.from_residual-in_err-adopt_waiting.ensures.1
-    (not_taken_in c.try_and_sync-kept.new.ends c.try_and_sync-kept.new.engine c.in_ok-kept.ensures.kept c.in_err-adopt_waiting.ensures.fault)
-
-pub returns-in_err-adopt_waiting-clause-run : goal.returns-in_err-adopt_waiting-clause-run
-returns-in_err-adopt_waiting-clause-run g c =
-    both c.args.engine.now c.try_and_sync-kept.new.engine c.adopt_waiting.new.engine c.try_and_sync-kept.ensures.run c.adopt_waiting.ensures.run
-
-pub returns-clause-broken_off : goal.returns-clause-broken_off
-returns-clause-broken_off g c = err_weaker c.conclude.result _ _
-    (λ fault fails. not_concluded c.try_and_sync-kept.new.ends c.try_and_sync-kept.new.engine c.adopt_waiting.new.engine c.in_ok-kept.ensures.kept
-    c.in_ok-adopt_waiting.ensures.taken_in fails)
-    c.conclude.ensures.failed
-
-pub returns-clause-run : goal.returns-clause-run
-returns-clause-run g c =
-    both c.args.engine.now c.try_and_sync-kept.new.engine c.conclude.new.engine c.try_and_sync-kept.ensures.run
-    (both c.try_and_sync-kept.new.engine c.adopt_waiting.new.engine c.conclude.new.engine c.adopt_waiting.ensures.run c.conclude.ensures.run)
-
 pub returns-in_err-written-clause-fault : goal.returns-in_err-written-clause-fault
 returns-in_err-written-clause-fault g c =
     passed_on c.from_residual-in_err-written.result _ (IsEndFault c.args.engine.now.log) c.from_residual-in_err-written.ensures.1
@@ -74,19 +39,6 @@ pub returns-in_err-kept-clause-fault : goal.returns-in_err-kept-clause-fault
 returns-in_err-kept-clause-fault g c =
     passed_on c.from_residual-in_err-kept.result _ (IsEndFault c.args.engine.now.log) c.from_residual-in_err-kept.ensures.1
     (inl (of_fault c.try_and_sync-kept.result _ _ c.in_err-kept.was c.try_and_sync-kept.ensures.fault))
-
-pub returns-in_err-adopt_waiting-clause-fault : goal.returns-in_err-adopt_waiting-clause-fault
-returns-in_err-adopt_waiting-clause-fault g c =
-    let stops = c.in_err-adopt_waiting.ensures.fault in
-    passed_on c.from_residual-in_err-adopt_waiting.result _ (IsEndFault c.args.engine.now.log) c.from_residual-in_err-adopt_waiting.ensures.1
-    (call_ends c.args.engine.now.log _ (adoption_fault stops.answer _ stops.cause))
-
-pub returns-clause-fault : goal.returns-clause-fault
-returns-clause-fault g c =
-    err_weaker c.conclude.result _ _
-    (end_fault_before g.D.Disk.conduct g.H.NodeHash.digest
-    (both c.args.engine.now c.try_and_sync-kept.new.engine c.adopt_waiting.new.engine c.try_and_sync-kept.ensures.run c.adopt_waiting.ensures.run))
-    c.conclude.ensures.fault
 
 pub returns-in_err-ends-clause-full : goal.returns-in_err-ends-clause-full
 returns-in_err-ends-clause-full g c =
@@ -102,16 +54,40 @@ returns-in_err-written-clause-full g c =
     passed_on c.from_residual-in_err-written.result _ _ c.from_residual-in_err-written.ensures.1 (λ full. absurd (call_not_full _
     (of_fault c.write_peers-written.result _ IsCallFault c.in_err-written.was c.write_peers-written.ensures.fault) full))
 
-pub returns-in_err-adopt_waiting-clause-full : goal.returns-in_err-adopt_waiting-clause-full
-returns-in_err-adopt_waiting-clause-full g c =
-    let stops = c.in_err-adopt_waiting.ensures.fault in
-    passed_on c.from_residual-in_err-adopt_waiting.result _ _ c.from_residual-in_err-adopt_waiting.ensures.1
-    (λ full. absurd (call_not_full _ (adoption_fault stops.answer _ stops.cause) full))
+pub returns-clause-fetched : goal.returns-clause-fetched
+returns-clause-fetched g c = ok_weaker c.take_in_and_conclude.result _ _ (λ status ended. record {
+  ends = c.try_and_sync-kept.new.ends;
+  kept = c.try_and_sync-kept.new.engine;
+  told = g.W.Write.contents c.write_peers-written.new.writer;
+  taken = ended.taken;
+  tried = c.in_ok-kept.ensures.kept;
+  lines = subst (λ (ends : List PeerEnd). Appends (g.W.Write.contents c.args.writer.now) (g.W.Write.contents c.write_peers-written.new.writer) (peer_lines c.args.peers.now ends))
+      (c.deref.ensures.value ∙ with_items_is c.in_ok-ends.ends c.try_and_sync-kept.new.ends (c.try_and_sync-kept.auto.ends ∙ c.deref_mut.ensures.len))
+      c.in_ok-written.ensures.text;
+  taken_in = ended.taken_in;
+  end = ended.end;
+})
+    c.take_in_and_conclude.ensures.concluded
+
+pub returns-clause-broken_off : goal.returns-clause-broken_off
+returns-clause-broken_off g c = err_weaker c.take_in_and_conclude.result _ _
+    (λ fault fails. not_ended c.try_and_sync-kept.new.ends c.try_and_sync-kept.new.engine c.in_ok-kept.ensures.kept fails)
+    c.take_in_and_conclude.ensures.broken_off
+
+pub returns-clause-run : goal.returns-clause-run
+returns-clause-run g c =
+    both c.args.engine.now c.try_and_sync-kept.new.engine c.take_in_and_conclude.new.engine c.try_and_sync-kept.ensures.run
+    c.take_in_and_conclude.ensures.run
+
+pub returns-clause-fault : goal.returns-clause-fault
+returns-clause-fault g c =
+    err_weaker c.take_in_and_conclude.result _ _
+    (end_fault_before g.D.Disk.conduct g.H.NodeHash.digest c.try_and_sync-kept.ensures.run)
+    c.take_in_and_conclude.ensures.fault
 
 pub returns-clause-full : goal.returns-clause-full
 returns-clause-full g c =
-    err_weaker c.conclude.result _ _
-    (λ fault fails. flush_full g.D.Disk.conduct g.H.NodeHash.digest c.args.engine.now c.adopt_waiting.new.engine c.conclude.new.engine fault
-    (both c.args.engine.now c.try_and_sync-kept.new.engine c.adopt_waiting.new.engine c.try_and_sync-kept.ensures.run c.adopt_waiting.ensures.run)
-    fails)
-    c.conclude.ensures.failed
+    err_weaker c.take_in_and_conclude.result _ _
+    (λ fault found full. found_later g.D.Disk.conduct g.H.NodeHash.digest c.args.engine.now c.try_and_sync-kept.new.engine
+    c.try_and_sync-kept.ensures.run (found full))
+    c.take_in_and_conclude.ensures.full
