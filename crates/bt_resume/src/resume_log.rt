@@ -1,5 +1,5 @@
 //! The log of hints on a device, in this project's own format: opened, read again, appended to, flushed.
-ghost use Rattle.std.specs.Prelude.{◌≡◌, ◌≤◌, IfOk, IfErr, Err, length};
+ghost use Rattle.std.specs.Prelude.{◌≡◌, ◌+◌, ◌*◌, ◌≤◌, IfOk, IfErr, Err, length};
 ghost use Rattle.bt_resume.specs.Limits.{max_appended_length};
 ghost use Rattle.bt_resume.specs.Hint.{CanBeRead};
 ghost use Rattle.bt_resume.specs.LogText.{appended_bytes};
@@ -10,8 +10,13 @@ use crate::contents::{Contents, End, MAX_LOG_LEN, open_log, read_log};
 use crate::error::{AppendError, LogError, Refused};
 use crate::hint::{Format, Hint};
 use crate::hints::Hints;
-use crate::writer::{MAX_PROOF_ROOM, MAX_RUN_ROOM, write_proof, write_renewal, write_run};
+use crate::writer::{
+    MAX_RUN_ROOM, ROOM_OF_5, ROOM_OF_9, ROOM_OF_17, ROOM_OF_34, ROOM_OF_68, ROOM_OF_135,
+    ROOM_OF_269, ROOM_OF_538, write_proof, write_renewal, write_run,
+};
 use bt_disk::{DeviceFault, Disk};
+use bt_hashreq::HashKey;
+use bt_sparse::Digests;
 use bt_tree::Hash32;
 use std::alloc::Global;
 use std::marker::Model;
@@ -160,12 +165,7 @@ impl<D: Disk + Drop> ResumeLog<D> {
         ensures { IsAppended D.conduct hint.now self.old result self.new }
     {
         match hint {
-            Hint::Proof(key, digests) => {
-                let mut bytes = [0; MAX_PROOF_ROOM];
-                let at = write_renewal(self.end.format, &mut bytes);
-                let len = write_proof(key, digests, at, &mut bytes);
-                self.append_bytes(&bytes[..len])
-            }
+            Hint::Proof(key, digests) => self.append_proof(key, digests),
             Hint::Marks { file, first, count } => {
                 let mut bytes = [0; MAX_RUN_ROOM];
                 let at = write_renewal(self.end.format, &mut bytes);
@@ -173,6 +173,40 @@ impl<D: Disk + Drop> ResumeLog<D> {
                 self.append_bytes(&bytes[..len])
             }
         }
+    }
+
+    /// Appends a proof, by a buffer that has room for at most twice as many digests.
+    fn append_proof(&mut self, key: &HashKey, digests: &Digests) -> Result<(), AppendError>
+        requires { CanBeRead (Hint.Proof key.now digests.now) }
+        ensures { IsAppended D.conduct (Hint.Proof key.now digests.now) self.old result self.new }
+    {
+        match digests.as_slice().len() {
+            ..=5 => self.append_proof_in::<ROOM_OF_5>(key, digests),
+            6..=9 => self.append_proof_in::<ROOM_OF_9>(key, digests),
+            10..=17 => self.append_proof_in::<ROOM_OF_17>(key, digests),
+            18..=34 => self.append_proof_in::<ROOM_OF_34>(key, digests),
+            35..=68 => self.append_proof_in::<ROOM_OF_68>(key, digests),
+            69..=135 => self.append_proof_in::<ROOM_OF_135>(key, digests),
+            136..=269 => self.append_proof_in::<ROOM_OF_269>(key, digests),
+            _ => self.append_proof_in::<ROOM_OF_538>(key, digests),
+        }
+    }
+
+    /// Appends a proof, by a buffer of `N` bytes, which is cleared first.
+    fn append_proof_in<const N: usize>(
+        &mut self,
+        key: &HashKey,
+        digests: &Digests,
+    ) -> Result<(), AppendError>
+        requires readable { CanBeRead (Hint.Proof key.now digests.now) }
+        requires room { 50 + 32 * length digests.now ≤ N }
+        requires within { N ≤ max_appended_length }
+        ensures { IsAppended D.conduct (Hint.Proof key.now digests.now) self.old result self.new }
+    {
+        let mut bytes = [0; N];
+        let at = write_renewal(self.end.format, &mut bytes);
+        let len = write_proof(key, digests, at, &mut bytes);
+        self.append_bytes(&bytes[..len])
     }
 
     /// Writes the bytes that are appended for a hint after the last one, as [`append`](Self::append) does.

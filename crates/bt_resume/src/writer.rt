@@ -1,5 +1,5 @@
 //! How hints are written.
-ghost use Rattle.std.specs.Prelude.{◌≡◌, ◌≤◌, ◌+◌, ◌++◌, take};
+ghost use Rattle.std.specs.Prelude.{◌≡◌, ◌≤◌, ◌+◌, ◌*◌, ◌++◌, length, take};
 ghost use Rattle.bt_resume.specs.Limits.{max_hint_length, run_length};
 ghost use Rattle.bt_resume.specs.Hint.{hint_spelling, CanBeRead};
 ghost use Rattle.bt_resume.specs.LogText.{appended_bytes};
@@ -30,8 +30,23 @@ pub(crate) const MARK_LEN: usize = 9;
 /// How many bytes a run of marks has.
 pub(crate) const RUN_LEN: usize = 13;
 
-/// No more bytes are appended for a proof: the byte in front of one, and as many as a proof has at most.
-pub(crate) const MAX_PROOF_ROOM: usize = 1 + PROOF_FRONT_LEN + 32 * 538;
+/// How many bytes are appended at most for a proof of so many digests: the byte in front of it, and its own. Each
+/// number but the last is half of the next, rounded up; no proof has more digests than the last.
+pub(crate) const ROOM_OF_5: usize = 1 + PROOF_FRONT_LEN + 32 * 5;
+
+pub(crate) const ROOM_OF_9: usize = 1 + PROOF_FRONT_LEN + 32 * 9;
+
+pub(crate) const ROOM_OF_17: usize = 1 + PROOF_FRONT_LEN + 32 * 17;
+
+pub(crate) const ROOM_OF_34: usize = 1 + PROOF_FRONT_LEN + 32 * 34;
+
+pub(crate) const ROOM_OF_68: usize = 1 + PROOF_FRONT_LEN + 32 * 68;
+
+pub(crate) const ROOM_OF_135: usize = 1 + PROOF_FRONT_LEN + 32 * 135;
+
+pub(crate) const ROOM_OF_269: usize = 1 + PROOF_FRONT_LEN + 32 * 269;
+
+pub(crate) const ROOM_OF_538: usize = 1 + PROOF_FRONT_LEN + 32 * 538;
 
 /// No more bytes are appended for a run of marks.
 pub(crate) const MAX_RUN_ROOM: usize = 1 + RUN_LEN;
@@ -54,15 +69,17 @@ pub(crate) fn write_renewal<const N: usize>(format: Format, buffer: &mut [u8; N]
 }
 
 /// Writes the bytes that spell a proof in format 2 to a buffer from byte `at` on, and says where they end.
-pub(crate) fn write_proof(
+pub(crate) fn write_proof<const N: usize>(
     key: &HashKey,
     digests: &Digests,
     at: usize,
-    buffer: &mut [u8; MAX_PROOF_ROOM],
+    buffer: &mut [u8; N],
 ) -> usize
     requires readable { CanBeRead (Hint.Proof key.now digests.now) }
     requires front { at ≤ 1 }
+    requires room { 50 + 32 * length digests.now ≤ N }
     ensures within { result ≤ at + max_hint_length }
+    ensures inside { result ≤ N }
     ensures spelled { take result buffer.new
         ≡ take at buffer.old ++ hint_spelling Format.Two (Hint.Proof key.now digests.now) }
 {
