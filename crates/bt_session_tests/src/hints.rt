@@ -1,9 +1,9 @@
-//! Trees that take the proofs of a log.
+//! Trees that take the proofs of a log, and the runs that its marks record.
 ghost use Rattle.std.specs.Prelude.{◌≢◌, IfOk};
 ghost use Rattle.std.specs.List.{AllPairs};
 
 use bt_disk::MemoryDisk;
-use bt_engine_recall::take_proofs;
+use bt_engine_recall::{MarkRun, recorded_runs, take_proofs};
 use bt_resume::ResumeLog;
 use bt_rows::{RowError, Words, whole_answer};
 use bt_sparse::SparseTree;
@@ -17,6 +17,26 @@ pub fn hints_row(alloc: Global, row: &str, out: &mut String) -> Result<(), Alloc
     let answer = answer_of(alloc, &mut words);
     let answer = whole_answer(alloc, row, &words, answer)?;
     writeln!(out, "{answer}")
+}
+
+/// Adds the runs that the marks of a log of these bytes record: of each its file, its first block, and the block behind
+/// its last. What is no row says so.
+pub fn runs_row(alloc: Global, row: &str, out: &mut String) -> Result<(), AllocError> {
+    let mut words = Words::new(row);
+    let answer = runs_of(alloc, &mut words);
+    let answer = whole_answer(alloc, row, &words, answer)?;
+    writeln!(out, "{answer}")
+}
+
+fn runs_of(alloc: Global, words: &mut Words) -> Result<String, RowError> {
+    let log = log_from(alloc, words)?;
+    let runs = recorded_runs(alloc, log.hints())?;
+    let mut out = format!(in alloc; "{} runs", runs.len())?;
+    for run in &runs {
+        let MarkRun { file, first, end } = run;
+        write!(out, ", {file}: {first} to {end}")?;
+    }
+    Ok(out)
 }
 
 /// Two trees take the proofs of a log of these bytes.

@@ -1,7 +1,7 @@
 //! What the rows so far have made, and whose row one is.
 
 use crate::ahead::ahead_row;
-use crate::hints::hints_row;
+use crate::hints::{hints_row, runs_row};
 use crate::lists::Lists;
 use crate::sessions::Sessions;
 use crate::sockets::socket_row;
@@ -52,6 +52,7 @@ impl<'a> Stage<'a> {
         match name {
             "ahead" => ahead_row(alloc, rest, out),
             "hints" => hints_row(alloc, rest, out),
+            "runs" => runs_row(alloc, rest, out),
             "padding" => self.talks.answer(alloc, rest, out),
             "socket" => self.socket_row(alloc, rest, out),
             _ => self.sessions.answer(alloc, name, rest, out),
