@@ -4,9 +4,9 @@
     python3 bench/log_rows.py [LIST..]
 
 A list is a pair of files of `bench/log_rows`, LIST.stdin and LIST.stdout. The lists `full` and `long` are told with their processor time and
-their peak memory. The list `restart` is run once for each allocation that its first restart asks for, and `adopt`, the crate's own rows of
-adoptions, once for each that an adoption asks for: that one is refused, by a library that stands in front of the C library and is compiled
-with `cc`. Without words it is all of these. The program is proved and built first, where it is not yet. The status is 0 where all answers
+their peak memory. The list `restart` is run once for each allocation that its first restart asks for, and `adopt` and `again`, the crate's
+own rows of adoptions and of calls that are made again, once for each that an adoption asks for, or a start or a call that is made again:
+that one is refused, by a library that stands in front of the C library and is compiled with `cc`. Without words it is all of these. The program is proved and built first, where it is not yet. The status is 0 where all answers
 are as they have to be.
 """
 
@@ -49,11 +49,11 @@ def lines(name):
     return [(LISTS / f"{name}.{kind}").read_text(encoding="ascii").splitlines() for kind in ("stdin", "stdout")]
 
 
-def adoptions(name):
-    """The crate's rows of adoptions, or their answers."""
+def own_rows(name, case):
+    """The crate's rows of a case, or their answers."""
     rows = (CRATE / name).read_text(encoding="ascii").splitlines()
-    first = next(i for i, row in enumerate(rows) if row.startswith("# adoption_memory"))
-    return rows[first : rows.index("# adoption_memory ends") + 1]
+    first = next(i for i, row in enumerate(rows) if row.startswith(f"# {case}"))
+    return rows[first : rows.index(f"# {case} ends") + 1]
 
 
 def text_of(rows):
@@ -62,7 +62,7 @@ def text_of(rows):
 
 def stays(program, name, rows, wanted, places):
     """Whether rows are answered as they have to be, whichever allocation is refused at one of these places. The run ends where the row
-    asked for it, for its words or its answer, and not the engine."""
+    asked for it, for its words or its answer, and not the engine; or the row is not understood."""
     alike = ended = other = 0
     with tempfile.TemporaryDirectory() as folder:
         run = refuses(program, pathlib.Path(folder))
@@ -72,17 +72,27 @@ def stays(program, name, rows, wanted, places):
                 status, printed, _ = run(text_of(rows), failing)
                 # Of a log that could not be read again for want of memory the answer says so.
                 printed = ["refused OutOfMemory" if line == "refused out of memory" else line for line in printed.splitlines()]
-                alike += status == 0 and printed == wanted
-                ended += status != 0
-                other += status == 0 and printed != wanted
+                is_ended = status != 0 or any(line.startswith("not understood: ") for line in printed)
+                alike += not is_ended and printed == wanted
+                ended += is_ended
+                other += not is_ended and printed != wanted
     print(f"{name}: {alike} refusals with the answers that are wanted, {ended} that end the run, {other} others")
     return alike > 0 and other == 0
 
 
+def stays_in(program, name, case, words):
+    """Whether the crate's rows of a case are so, at each of its rows with such a first word."""
+    rows = own_rows("stdin", case)
+    places = [i for i, row in enumerate(rows) if row.split(" ")[0] in words]
+    return stays(program, name, rows, own_rows("stdout", case), places)
+
+
 def stays_in_adoptions(program):
-    rows = adoptions("stdin")
-    places = [i for i, row in enumerate(rows) if row.startswith("adopt ")]
-    return stays(program, "adopt", rows, adoptions("stdout"), places)
+    return stays_in(program, "adopt", "adoption_memory", ["adopt"])
+
+
+def stays_in_calls_made_again(program):
+    return stays_in(program, "again", "again", ["start", "again"])
 
 
 def stays_in_restarts(program):
@@ -90,7 +100,7 @@ def stays_in_restarts(program):
     return stays(program, "restart", rows, wanted, [rows.index("restart")])
 
 
-REFUSED = {"adopt": stays_in_adoptions, "restart": stays_in_restarts}
+REFUSED = {"adopt": stays_in_adoptions, "again": stays_in_calls_made_again, "restart": stays_in_restarts}
 
 
 def main(names):

@@ -1,20 +1,28 @@
 //! Events of an engine that no peer brings, each by its row, and how far its files are.
 
 use crate::stage::TestEngine;
-use bt_machine::{AdoptError, FileReport};
+use bt_machine::{AdoptError, FileReport, FlushError, RestartError};
 use bt_rows::{RowError, Words, tell};
 use bt_store::Adopted;
 use std::fmt::Write;
 
 pub fn flush_row(engine: &mut TestEngine, out: &mut String) -> Result<(), RowError> {
-    match engine.flush() {
+    tell_flushed(out, engine.flush())
+}
+
+pub fn tell_flushed(out: &mut String, answer: Result<(), FlushError>) -> Result<(), RowError> {
+    match answer {
         Ok(()) => tell(out, "done"),
         Err(cause) => Ok(write!(out, "refused {cause}")?),
     }
 }
 
 pub fn restart_row(engine: &mut TestEngine, out: &mut String) -> Result<(), RowError> {
-    match engine.restart() {
+    tell_restarted(out, engine.restart())
+}
+
+pub fn tell_restarted(out: &mut String, answer: Result<(), RestartError>) -> Result<(), RowError> {
+    match answer {
         Ok(()) => tell(out, "done"),
         Err(cause) => Ok(write!(out, "refused {cause}")?),
     }
@@ -56,7 +64,11 @@ pub fn report_row(
     words: &mut Words,
     out: &mut String,
 ) -> Result<(), RowError> {
-    let Some(report) = engine.report(words.number()?) else {
+    tell_report(engine, words.number()?, out)
+}
+
+pub fn tell_report(engine: &TestEngine, file: u32, out: &mut String) -> Result<(), RowError> {
+    let Some(report) = engine.report(file) else {
         return Err(RowError::Unread);
     };
     let FileReport {

@@ -2,6 +2,7 @@
 //! log's device has, as the rows of `stdin` say. `stdout` has what they are to answer. README.md tells the rows.
 #![tactic(auto)]
 
+mod again;
 mod bytes;
 mod device;
 mod events;

@@ -25,7 +25,8 @@ pub fn connect_row(
     }
 }
 
-fn greeting_of(alloc: Global, torrent: &Torrent) -> Result<Vec<u8>, RowError> {
+/// What such a peer says as it comes.
+pub fn greeting_of(alloc: Global, torrent: &Torrent) -> Result<Vec<u8>, RowError> {
     let bits = vec![in alloc; 255; torrent.pieces().div_ceil(8) as usize]?;
     let bitfield = message_bytes(alloc, &Message::Bitfield(Bytes::new(bits)))?;
     let unchoke = message_bytes(alloc, &Message::Unchoke)?;

@@ -1,5 +1,6 @@
 //! What the rows so far have made, and the first word of a row.
 
+use crate::again::again_row;
 use crate::bytes::tell_bytes;
 use crate::device::{Defect, TestDisk};
 use crate::events::{adopt_row, flush_row, peers_row, report_row, restart_row};
@@ -196,7 +197,8 @@ impl Stage {
         tell_calls(out, disk.ok_or(RowError::Unread)?)
     }
 
-    /// Opens the log of the torrent, or of another one, and starts over the devices.
+    /// Opens the log of the torrent, or of another one, and starts over the devices. Either is asked once more where
+    /// memory is refused.
     fn start_row(&mut self, words: &mut Words, out: &mut String) -> Result<(), RowError> {
         let infohash = match words.word() {
             "" => self.infohash,
@@ -206,7 +208,7 @@ impl Stage {
         let Some(disk) = self.log.take() else {
             return Err(RowError::Unread);
         };
-        match ResumeLog::attach(self.alloc, disk, infohash) {
+        match opened(self.alloc, disk, infohash) {
             Ok(log) => self.start(log, out),
             Err(refused) => self.put_back(refused, out),
         }
@@ -237,7 +239,7 @@ impl Stage {
             return Err(RowError::Unread);
         };
         let disks = mem::replace(&mut self.disks, Vec::new(self.alloc));
-        match started(self.alloc, torrent, disks, log) {
+        match started(self.alloc, &self.source, torrent, disks, log) {
             Ok(engine) => {
                 put(&mut self.engine, Some(engine));
                 tell(out, "started")
@@ -339,6 +341,7 @@ impl Stage {
             "flush" => flush_row(engine, out),
             "restart" => restart_row(engine, out),
             "report" => report_row(engine, words, out),
+            "again" => again_row(self.alloc, engine, words, out),
             _ => Err(RowError::Unread),
         }
     }
@@ -375,13 +378,55 @@ fn device_of(alloc: Global, kind: &str, words: &mut Words) -> Result<TestDisk, R
     Ok(TestDisk::in_memory(alloc, bytes, defect, number))
 }
 
+fn opened(
+    alloc: Global,
+    disk: TestDisk,
+    infohash: Hash32,
+) -> Result<ResumeLog<TestDisk>, Refused<TestDisk, LogError>> {
+    match ResumeLog::attach(alloc, disk, infohash) {
+        Ok(log) => Ok(log),
+        Err(refused) => opened_again(alloc, refused, infohash),
+    }
+}
+
+fn opened_again(
+    alloc: Global,
+    refused: Refused<TestDisk, LogError>,
+    infohash: Hash32,
+) -> Result<ResumeLog<TestDisk>, Refused<TestDisk, LogError>> {
+    if refused.cause != LogError::OutOfMemory {
+        return Err(refused);
+    }
+    let Refused { disk, cause: _ } = refused;
+    ResumeLog::attach(alloc, disk, infohash)
+}
+
 fn started(
     alloc: Global,
+    source: &Source,
     torrent: Torrent,
     disks: Vec<TestDisk>,
     log: ResumeLog<TestDisk>,
 ) -> Result<TestEngine, TestRefusal> {
-    Engine::start(alloc, torrent, Lanes, disks, Some(log))
+    match Engine::start(alloc, torrent, Lanes, disks, Some(log)) {
+        Ok(engine) => Ok(engine),
+        Err(refused) => started_again(alloc, source, refused),
+    }
+}
+
+fn started_again(
+    alloc: Global,
+    source: &Source,
+    refused: TestRefusal,
+) -> Result<TestEngine, TestRefusal> {
+    if refused.cause != StartError::OutOfMemory {
+        return Err(refused);
+    }
+    let Ok(torrent) = source.torrent(alloc) else {
+        return Err(refused);
+    };
+    let StartRefused { disks, log, .. } = refused;
+    Engine::start(alloc, torrent, Lanes, disks, log)
 }
 
 fn tell_calls(out: &mut String, disk: &TestDisk) -> Result<(), RowError> {
