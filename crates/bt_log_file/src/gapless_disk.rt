@@ -51,7 +51,8 @@ impl<D: Disk> GaplessDisk<D> {
         ensures as_honest { D.conduct.honest self.old.inner ↔ D.conduct.honest self.new.inner }
         ensures kept { D.conduct.honest self.old.inner
             → D.conduct.history self.new.inner ≡ D.conduct.history self.old.inner }
-        ensures counted { D.conduct.faults self.new.inner ≡ count_after (D.conduct.faults self.old.inner) result }
+        ensures counted { D.conduct.faults self.new.inner
+            ≡ count_after (D.conduct.faults self.old.inner) result }
     {
         if !self.is_gapless {
             return Ok(false);
