@@ -15,11 +15,12 @@ use Rattle.bt_machine.specs.Reopening.{AreLeft, IsLogLeft, NoneFailed}
 module _ {D : Type 0} (conduct : Conduct D)
     (dig : List ℕ → List ℕ) where
   -- An engine has begun over these devices and this log. Where they are what a stop has left of those of an
-  -- engine of the torrent, at any moment since a flush that answered Ok, in the life of the flush or in a later one
-  -- that began with what such a stop had left, and the log was opened, and no read failed: each block is marked that
-  -- was marked at the flush. A restart since the flush, and the start of each later life, counts as a reopening: no
-  -- read of it failed either. Of the restarts before the flush none ran out of memory since the last one that was
-  -- accepted, and where none was, no call was made of the log between its opening and the start.
+  -- engine of the torrent, at any moment since a flush that answered Ok, in the life of the flush or in a
+  -- later one that began with what such a stop had left, and the log was opened, and no read failed: each
+  -- block is marked that was marked at the flush. A restart since the flush, and the start of each later
+  -- life, counts as a reopening: no read of it failed either. Of the restarts before the flush none ran out
+  -- of memory since the last one that was accepted, and where none was, no call was made of the log between
+  -- its opening and the start.
   abbrev pub MarksAgain : Metainfo → (left : List (Option D)) → (opened : LogView D) → EngineView D → Type 0
   MarksAgain torrent left opened again = (flushed : EngineView D) (since now : List (Option D))
       (log_since log_now log_left : D) (b : BlockId)

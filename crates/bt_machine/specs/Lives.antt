@@ -67,10 +67,12 @@ abbrev pub ReadAll : {D : Type 0} {conduct : Conduct D} {dig : List ℕ → List
     {flushed : EngineView D} {since now : List (Option D)} {log_since log_now : D}
     → Lives conduct dig torrent flushed since now log_since log_now → Type 0
 ReadAll (own last synced stopped r) = HasBase r × RestartsReadAll r.later r.goes_on.calls
-ReadAll {conduct = conduct} (further since now left log_since log_now log_left last stopped before is settled life) =
+ReadAll {conduct = conduct}
+    (further since now left log_since log_now log_left last stopped before is settled life) =
     ReadAll before × AreLeft conduct since now left × AreSettled conduct left
     × NoneFailed conduct left life.first.disks × RestartsReadAll life.events life.run.calls
-ReadAll {conduct = conduct} (refused since now left log_since log_now log_left new result before is settled opens) =
+ReadAll {conduct = conduct}
+    (refused since now left log_since log_now log_left new result before is settled opens) =
     ReadAll before × AreLeft conduct since now left × AreSettled conduct left
 
 -- ---- laws
