@@ -18,6 +18,10 @@ pub record BookState : Type 0 where
 abbrev pub empty_book : List ℕ → BookState
 empty_book counts = record { wanted = map (λ count. replicate count false) counts; peers = [] }
 
+-- such files, of which all blocks are wanted, and no peer
+abbrev pub full_book : List ℕ → BookState
+full_book counts = record { wanted = map (λ count. replicate count true) counts; peers = [] }
+
 -- how many peers there may be, and how many blocks each may be asked for
 abbrev pub max_peers : ℕ
 max_peers = 64

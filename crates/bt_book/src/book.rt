@@ -1,10 +1,10 @@
 //! The request book: which blocks are wanted, which peers are asked for which of them, and which block a peer
 //! is asked for next.
-ghost use Rattle.std.specs.Prelude.{◌≡◌, ◌<◌, ◌≤◌, ◌+◌, ◌↔◌, ◌⊎◌, Bool, true, false, [], ◌∷◌, ◌++◌, ◌==◌, ◌≢◌, not, length, map, filter, All, Contains, count_by, if◌then◌else◌, Option, Some, IsTrue, IfSome, OnSome, IfNone, IfOk};
+ghost use Rattle.std.specs.Prelude.{◌≡◌, ◌<◌, ◌≤◌, ◌+◌, ◌^◌, ◌↔◌, ◌⊎◌, Bool, true, false, [], ◌∷◌, ◌++◌, ◌==◌, ◌≢◌, not, length, map, filter, All, Contains, count_by, sum, if◌then◌else◌, Option, Some, IsTrue, IfSome, OnSome, IfNone, IfOk};
 ghost use Rattle.std.specs.List.{AllPairs};
 ghost use Rattle.std.specs.Bool.{OnTrue, OnFalse};
 ghost use Rattle.bt_book.specs.Blocks.{IsInRange, is_block, with_block, says, GivesFirst};
-ghost use Rattle.bt_book.specs.Book.{IsJoined, CanAsk, IsShareable, peers_of, empty_book, asked_of, with_peer, without_peer, with_pair, with_pairs, without_pair, without_pairs_of, with_wanted, with_done, without_block, without_block_of, IsNextAsked, HasNoneToAsk, IsLeastShareable, AreAskedInTurn, HasWanted, HasNoneWanted, IsBook, IsPair, pair_count, pairs_in, KeepsOthers, max_peers, max_requests};
+ghost use Rattle.bt_book.specs.Book.{IsJoined, CanAsk, IsShareable, peers_of, empty_book, full_book, asked_of, with_peer, without_peer, with_pair, with_pairs, without_pair, without_pairs_of, with_wanted, with_done, without_block, without_block_of, IsNextAsked, HasNoneToAsk, IsLeastShareable, AreAskedInTurn, HasWanted, HasNoneWanted, IsBook, IsPair, pair_count, pairs_in, KeepsOthers, max_peers, max_requests};
 ghost use Rattle.bt_book.specs.Choking.{IsAscending};
 ghost use Rattle.bt_book.specs.BookSteps.{AreFreed, CanJoin, HasEachOnce, IsIndexOf, HasRoomAt};
 
@@ -29,7 +29,7 @@ const MAX_IN_ENDGAME: u64 = 16;
 ///
 /// At most 64 peers have joined, and each of them is asked for at most 16 blocks. A wanted block is asked of
 /// one peer, and while at most 16 blocks are wanted of up to three (*endgame*). Where more become wanted, the
-/// pairs stay. Only `new` takes memory.
+/// pairs stay. Only `new` and `wanting_all` take memory.
 #[derive(Drop)]
 pub struct Book {
     wanted: BlockSet,
@@ -68,6 +68,24 @@ impl Book {
             wanted_count: 0,
             unasked: BlockSet::new(alloc, blocks)?,
             peers: Vec::with_capacity(alloc, MAX_PEERS)?,
+            has_shared: false,
+        })
+    }
+
+    /// A book of files of as many blocks as each number says, in which all blocks are wanted and no peer has
+    /// joined. It is made without a step for each block.
+    ///
+    /// Errors: out of memory.
+    pub fn wanting_all(alloc: Global, blocks: &[u32]) -> Result<Self, AllocError>
+        requires { length blocks.now ≤ 2 ^ 32 }
+        ensures { IfOk result (λ b. b ≡ full_book blocks.now) }
+    {
+        let peers = Vec::with_capacity(alloc, MAX_PEERS)?;
+        Ok(Book {
+            wanted: BlockSet::full(alloc, blocks)?,
+            wanted_count: sum_of(blocks),
+            unasked: BlockSet::full(alloc, blocks)?,
+            peers,
             has_shared: false,
         })
     }
@@ -424,6 +442,18 @@ impl Book {
         // A proof knows what holds of a book only from a step that looks at its fields.
         let _ = &self.peers;
     }
+}
+
+/// The sum of the numbers.
+fn sum_of(numbers: &[u32]) -> u64
+    requires { length numbers.now ≤ 2 ^ 32 }
+    ensures { result ≡ sum numbers.now }
+{
+    let mut sum = 0;
+    for number in numbers {
+        sum += u64::from(*number);
+    }
+    sum
 }
 
 /// Puts those of the blocks into the set that no peer is asked for.

@@ -1,5 +1,4 @@
 pub mod NewTrees
-pub mod NewBooks
 pub mod Pushes
 pub mod RootTrees
 pub mod NextFiles

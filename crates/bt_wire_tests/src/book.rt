@@ -6,6 +6,9 @@ use bt_book::{BlockId, Book, PeerKey};
 use std::alloc::{AllocError, Global};
 use std::fmt::Write;
 
+/// How many files a torrent has at most.
+const MOST_FILES: usize = 65_536;
+
 /// A book. Only small functions without a contract look into it, so that no other proof speaks of what it has.
 #[derive(Drop)]
 pub struct Requests {
@@ -21,6 +24,7 @@ pub fn book_row(
 ) -> Result<(), AllocError> {
     match words.word() {
         "new" => new_row(alloc, requests, words, out),
+        "full" => full_row(alloc, requests, words, out),
         "want" => want_row(requests, words, out),
         "done" => done_row(requests, words, out),
         "wants" => push_yes_or_no(out, wants(requests, held_from(words))),
@@ -45,6 +49,22 @@ fn new_row(
     let mut blocks = Vec::new(alloc);
     push_blocks(&mut blocks, words)?;
     requests.book = Book::new(alloc, &blocks)?;
+    out.push_str("a book")
+}
+
+/// A book that wants all blocks.
+fn full_row(
+    alloc: Global,
+    requests: &mut Requests,
+    words: &mut Words,
+    out: &mut String,
+) -> Result<(), AllocError> {
+    let mut blocks = Vec::new(alloc);
+    push_blocks(&mut blocks, words)?;
+    if blocks.len() > MOST_FILES {
+        return out.push_str("too many files");
+    }
+    requests.book = Book::wanting_all(alloc, &blocks)?;
     out.push_str("a book")
 }
 
