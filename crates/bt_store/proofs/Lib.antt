@@ -1,5 +1,6 @@
 -- How many blocks have a state.
 pub mod Counts
+pub mod StateChunks
 -- Batches of blocks.
 pub mod BatchReads
 -- Lists that are filled place by place.

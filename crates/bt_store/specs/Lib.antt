@@ -1,4 +1,5 @@
 pub mod BlockStates
+pub mod StateChunks
 pub mod FileStore
 pub mod BlockReads
 pub mod Arrival

@@ -14,6 +14,7 @@ mod law;
 mod review;
 mod single_block;
 mod small_groups;
+mod state_chunk;
 
 pub use adoption::Adopted;
 pub use arrival::Put;

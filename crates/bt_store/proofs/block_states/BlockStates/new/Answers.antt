@@ -1,9 +1,11 @@
-use Rattle.std.proofs.Common.{rules, arith}
-use Rattle.std.proofs.lemmas.Grind.{common_steps}
+use Rattle.bt_store.proofs.StateChunks.{states_missing, counts_none}
 use Rattle.bt_store.proofs.block_states.BlockStates.new.Goals as goal
 
-pub invariant_of-result : goal.invariant_of-result
-invariant_of-result c = grind (arith, common_steps)
-
 pub returns : goal.returns
-returns c = search rules
+returns c = states_missing _ _ c.in_ok-missing_chunks.ensures.missing
+
+pub invariant_of-result : goal.invariant_of-result
+invariant_of-result c = (
+  counts_none _ _ (states_missing _ _ c.in_ok-missing_chunks.ensures.missing) c.requires,
+  c.in_ok-missing_chunks.ensures.places,
+)
