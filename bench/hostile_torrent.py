@@ -5,7 +5,8 @@
 
 The torrent has 512 files, or so many up to 512, in pieces of 2^28 bytes, and 174 KB of text. Of `show` and `check` the seconds and the most
 memory are told, and the status is 1 where `show` takes a second or more beside a torrent of one such file. A `fetch` of it from a port at
-which nobody listens is told too: it keeps a byte for each block, and two bits in its book, so the memory that it may take is bounded here.
+which nobody listens is told too: it writes two bits for each block in its book, and reserves a byte, so the memory that it may take is
+bounded here: 512 files find too little, and 64 do not.
 The program is the one that is named, or else the proved one, which is proved and built where it is not yet.
 """
 
