@@ -5,7 +5,7 @@ ghost use Rattle.bt_progress.specs.Due.{millis_between};
 use crate::file_call::FileCall;
 use crate::line::progress_line;
 use crate::meter::Meter;
-use std::alloc::Global;
+use std::alloc::{AllocError, Global};
 use std::io::Write;
 use std::time::Instant;
 
@@ -14,6 +14,11 @@ const PAUSE: u128 = 250;
 
 /// Goes to the line's front, and clears it.
 const CLEARED: &str = "\r\x1b[K";
+
+/// Has a terminal cut what is wider than it is, and no longer.
+const CUT: &str = "\x1b[?7l";
+
+const WRAPPED: &str = "\x1b[?7h";
 
 /// When work began, and when its line was last written.
 #[derive(Clone, Copy)]
@@ -85,8 +90,9 @@ impl<W: Write> Screen<W> {
     }
 
     fn show(&mut self, alloc: Global, millis: u64) {
-        if let Ok(line) = progress_line(alloc, self.meter, millis) {
-            let _ = write!(self.writer, "{CLEARED}{line}");
+        if let Ok(text) = shown_line(alloc, self.meter, millis) {
+            // by one write, since a program that is stopped between two would leave the terminal so
+            let _ = self.writer.write_all(text.as_bytes());
             self.is_shown = true;
         }
     }
@@ -104,6 +110,12 @@ impl<W: Write> Screen<W> {
         self.clear();
         let _ = self.writer.write_all(text.as_bytes());
     }
+}
+
+/// The line as it is written on a terminal, which cuts it where it is too wide.
+fn shown_line(alloc: Global, meter: Meter, millis: u64) -> Result<String, AllocError> {
+    let line = progress_line(alloc, meter, millis)?;
+    format!(in alloc; "{CLEARED}{CUT}{line}{WRAPPED}")
 }
 
 /// Whether the line is to be written anew, that was written last at `last`: at most four times a second.
