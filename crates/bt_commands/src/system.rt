@@ -4,6 +4,7 @@ ghost use Rattle.bt_commands.specs.System.{IsLaunch};
 
 use crate::program::start;
 use bt_devices::Watched;
+use bt_host::{Errors, Host, Noted, Output};
 use bt_progress::Console;
 use std::fs::{File, OpenOptions};
 use std::io::IsTerminal;
@@ -20,18 +21,36 @@ pub fn launch(rt: &HostRuntime) -> ExitCode
     ensures { IsLaunch (exit_status result) }
 {
     occupy_streams(rt);
-    let errors = rt.stderr();
-    let console = Console::new(rt.alloc(), rt, errors, errors.is_terminal());
-    // without memory for its name it is not named where it fails
-    let name = String::from_str(rt.alloc(), "standard output").ok();
-    let mut output = Watched::new(rt.stdout(), &console, name);
+    let stderr = rt.stderr();
+    let console = Console::new(rt.alloc(), rt, stderr, stderr.is_terminal());
+    let host = Host {
+        rt,
+        console: &console,
+    };
+    let input = Noted {
+        inner: rt.stdin(),
+        console: &console,
+    };
+    let stdout = rt.stdout();
+    let output = Output {
+        is_terminal: stdout.is_terminal(),
+        inner: stdout,
+        console: &console,
+    };
+    let mut errors = Errors {
+        inner: rt.stderr(),
+        console: &console,
+    };
+    // without memory for its name one is not named where it fails
+    let input_name = String::from_str(rt.alloc(), "standard input").ok();
+    let output_name = String::from_str(rt.alloc(), "standard output").ok();
     start(
-        rt,
-        rt,
+        &host,
+        &host,
         &console,
-        &mut rt.stdin(),
-        &mut output,
-        &mut rt.stderr(),
+        &mut Watched::new(input, &console, input_name),
+        &mut Watched::new(output, &console, output_name),
+        &mut errors,
     )
 }
 
