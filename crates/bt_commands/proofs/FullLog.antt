@@ -63,7 +63,7 @@ no_folder_fault name piece_length (inr (inr (inr files))) = no_files_fault files
 -- a task that it ends has one
 pub has_log : (task : Task) → IsTaskFault task log_full → task_log task ≢ None
 has_log (make request) cause = absurd (no_folder_fault request.name.now request.piece_length cause.cause)
-has_log (Show torrent) cause = absurd (load_not_full torrent.is_info log_full cause refl)
+has_log (Show task) cause = absurd (load_not_full task.torrent.is_info log_full cause refl)
 has_log (Check task) cause = absurd (load_not_full task.torrent.is_info log_full cause refl)
 has_log (Seed task) (inl loading) =
     absurd (store_not_full task.torrent.is_info (seed_use task.service.is_read_only) task.log log_full loading refl)

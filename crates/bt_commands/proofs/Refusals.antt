@@ -38,7 +38,7 @@ seeded task old new status (inr lacking) two = omega (arith, lacking.answer, two
 -- but for a script its status is another one
 done : (task : Task) (given left old new : Option (List ℕ)) (status : ℕ) → IsDone task given left old new status → task ≢ Replay → ¬ (status ≡ 2)
 done (Make request) given left old new status it other two = omega (arith, it.is.answer, two)
-done (Show torrent) given left old new status it other two = omega (arith, it.is.answer, two)
+done (Show task) given left old new status it other two = omega (arith, it.is.answer, two)
 done (Check task) given left old new status it other two = worked task.torrent task.dir.now task.work status it.text it.is two
 done (Seed task) given left old new status it other two = seeded task old new status it two
 done (Fetch task) given left old new status it other two = none_of_both _ status it.ended.fetched.fetched.end.told two

@@ -123,7 +123,7 @@ pub record Writes (wanted : ℕ → List ℕ → Type 0) (old new : Option (List
 -- `new` what the writer had. A replay tells its faults itself
 abbrev pub IsDone : Task → (given left old new : Option (List ℕ)) → ℕ → Type 0
 IsDone (Make request) given left old new status = Writes (IsMakeResult request) old new status
-IsDone (Show torrent) given left old new status = Writes (IsShowResult torrent) old new status
+IsDone (Show task) given left old new status = Writes (IsShowResult task.torrent) old new status
 IsDone (Check task) given left old new status = Writes (IsCheckResult task) old new status
 IsDone (Seed task) given left old new status = IsSeedResult task old new status
 IsDone (Fetch task) given left old new status = IsFetchResult task old new status
@@ -151,7 +151,7 @@ IsStoreEnd is_info usage dir log fault =
 -- files where two of its paths are one file, and those with a log where it is refused, or was found full
 abbrev pub IsTaskFault : Task → Fault → Type 0
 IsTaskFault (Make request) fault = IsMakeEnd request fault
-IsTaskFault (Show torrent) fault = IsLoadFault torrent.is_info fault
+IsTaskFault (Show task) fault = IsLoadFault task.torrent.is_info fault
 IsTaskFault (Check task) fault = IsLoadFault task.torrent.is_info fault
 IsTaskFault (Seed task) fault =
     IsStoreEnd task.torrent.is_info (seed_use task.service.is_read_only) task.dir.now task.log fault

@@ -9,14 +9,16 @@ ghost use Rattle.bt_commands.specs.Program.{FillsLog, IsCheckResult, IsDone, IsE
 ghost use Rattle.bt_commands.specs.ProgramSteps.{status_after};
 ghost use Rattle.bt_words.specs.declared.command_line.Task.TheVariants.{Make, Show, Check, Seed, Fetch, Replay};
 
-use bt_check::{BUFFER_LEN, Fault, Source, check_torrent, load, load_watched, show_torrent};
+use crate::hints::hint_at_size;
+use crate::refused_entry::hint_at_entry;
+use bt_check::{BUFFER_LEN, Fault, Source, check_torrent, load_watched, show_torrent};
 use bt_jobs::{Job, ProcessStarter, check_by_parts, check_part};
 use bt_make::{ReadyTorrent, make, of_device, publish};
 use bt_parts::Part;
 use bt_progress::{Watch, escaped_lines};
 use bt_replay::replay;
 use bt_transfer::{fetch, seed};
-use bt_words::{CheckTask, FetchTask, MakeTask, SeedTask, Task, Work, parse};
+use bt_words::{CheckTask, FetchTask, MakeTask, SeedTask, ShowTask, Task, Work, parse};
 use clap::Error;
 use clap::error::ErrorKind;
 use std::alloc::Global;
@@ -132,8 +134,30 @@ fn attempt<
     ensures faultless { status_after result ≤ 1 → Keeps (E.contents faults.old) (E.contents faults.new) }
 {
     match parse(rt.alloc(), words) {
-        Ok(task) => perform(rt, net, watch, task, reader, writer, faults),
+        Ok(task) => {
+            watch.set_verbose(asks_to_tell(words));
+            let source = torrent_of(&task);
+            let outcome = perform(rt, net, watch, task, reader, writer, faults);
+            hint_at_entry(rt, watch, source, &outcome);
+            outcome
+        }
         Err(error) => explain(rt.alloc(), &error, writer, faults),
+    }
+}
+
+/// Whether there is a word by which calls that fail are told of. No task of `replay` has it.
+fn asks_to_tell(words: &[String]) -> bool {
+    words.iter().any(|word| word.as_str() == "--verbose")
+}
+
+/// The torrent that a task is about: none of one that is made, or is in a script.
+fn torrent_of<'a>(task: &Task<'a>) -> Option<Source<'a>> {
+    match task {
+        Task::Make(_) | Task::Replay => None,
+        Task::Show(task) => Some(task.torrent),
+        Task::Check(task) => Some(task.torrent),
+        Task::Seed(task) => Some(task.torrent),
+        Task::Fetch(task) => Some(task.torrent),
     }
 }
 
@@ -162,7 +186,7 @@ fn perform<
 {
     match task {
         Task::Make(request) => perform_make(rt, watch, request, writer),
-        Task::Show { torrent } => perform_show(rt, torrent, writer),
+        Task::Show(task) => perform_show(rt, watch, task, writer),
         Task::Check(task) => perform_check(rt, net, watch, task, writer),
         Task::Seed(task) => perform_seed(rt, net, watch, task, writer),
         Task::Fetch(task) => perform_fetch(rt, net, watch, task, writer),
@@ -188,19 +212,22 @@ fn perform_make<R: Files + AllocGlobal + Clone + Drop, P: Watch, O: Write>(
     Ok(0)
 }
 
-fn perform_show<R: Files + AllocGlobal, O: Write>(
+fn perform_show<R: Files + AllocGlobal, P: Watch, O: Write>(
     rt: &R,
-    source: Source<'_>,
+    watch: &P,
+    task: ShowTask<'_>,
     writer: &mut O,
 ) -> Result<u8, Fault>
     ensures done { IfOk result
-        (Writes (IsShowResult source.entry) (O.contents writer.old) (O.contents writer.new)) }
+        (Writes (IsShowResult task.entry.torrent) (O.contents writer.old) (O.contents writer.new)) }
     ensures ended { IfErr result
-        (IsTaskEnd (Show source.entry) (O.contents writer.old) (O.contents writer.new)) }
+        (IsTaskEnd (Show task.entry) (O.contents writer.old) (O.contents writer.new)) }
 {
+    watch.set_verbose(task.verbose);
     let mut buffer = [0; BUFFER_LEN];
-    let torrent = load(rt, source, &mut buffer)?;
+    let torrent = load_watched(rt, watch, task.torrent, &mut buffer)?;
     show_torrent(rt.alloc(), &torrent, writer)?;
+    hint_at_size(rt.alloc(), watch, &torrent);
     Ok(0)
 }
 

@@ -16,7 +16,7 @@ pub use console::Console;
 pub use escape::{escaped, escaped_lines, is_told_as_it_is, write_escaped_lines};
 pub use file_call::{FileCall, fault_line};
 pub use hint::hint_line;
-pub use line::progress_line;
+pub use line::{progress_line, size_text};
 pub use meter::Meter;
 pub use reason::system_reason;
 pub use screen::is_due;

@@ -25,6 +25,15 @@ pub fn progress_line(alloc: Global, meter: Meter, millis: u64) -> Result<String,
     Ok(line)
 }
 
+/// A number of bytes, from 1,024 on in tenths of the greatest unit that it reaches.
+pub fn size_text(alloc: Global, bytes: u64) -> Result<String, AllocError>
+    ensures { IfOk result (λ text. string_bytes text ≡ size_text bytes) }
+{
+    let mut text = String::new(alloc);
+    push_size(&mut text, bytes as u128)?;
+    Ok(text)
+}
+
 /// Adds how much is done.
 fn push_share(line: &mut String, meter: Meter) -> Result<(), AllocError>
     ensures { OnOk result (string_bytes line.new ≡ string_bytes line.old ++ share_text meter.done meter.all) }

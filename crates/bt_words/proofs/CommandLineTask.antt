@@ -16,12 +16,11 @@ use Rattle.clap.specs.declared.error.Error.{Error}
 use Rattle.clap.specs.declared.error.kind.ErrorKind.{ErrorKind}
 use Rattle.clap.proofs.OnLiterals.{clap_on_literals}
 use Rattle.clap.proofs.WalkLemmas.{first_value-rows, raw_values-rows}
-use Rattle.bt_check.specs.declared.torrent_file.Source.{Source}
 use Rattle.bt_parts.specs.declared.cut.Part.{Part as PartOf}
 use Rattle.bt_words.specs.declared.peer.Service.{Service}
 use Rattle.bt_words.specs.declared.peer.Serving.{Serving}
 use Rattle.bt_words.specs.declared.peer.Serving.TheVariants.{Count, Forever}
-use Rattle.bt_words.specs.CommandLine.{AsksFor, HasJobs, HasNumber, IsCheckTaskIn, IsFetchTaskIn, IsGiven, IsLogBeside, IsMakeTaskIn, IsSeedTaskIn, IsServiceIn, IsServingIn, IsSourceIn, IsTaskIn, IsTaskOf, IsNoTaskOf, IsWorkIn}
+use Rattle.bt_words.specs.CommandLine.{AsksFor, HasJobs, HasNumber, IsCheckTaskIn, IsFetchTaskIn, IsGiven, IsLogBeside, IsMakeTaskIn, IsSeedTaskIn, IsServiceIn, IsServingIn, IsShowTaskIn, IsTaskIn, IsTaskOf, IsNoTaskOf, IsWorkIn}
 use Rattle.bt_words.specs.CommandLineSteps.{AreWordsOf, IsRefusalFor, TellsOf}
 use Rattle.bt_words.specs.Subcommands.{check_app, fetch_app, file_app, make_app, program_app, replay_app, seed_app, show_app, top_app, transfer_app}
 use Rattle.bt_words.specs.Values.{IsJobs, IsNumber, IsPartWord, IsPeerWord}
@@ -34,6 +33,7 @@ use Rattle.bt_words.specs.declared.command_line.Work.TheVariants.{Jobs, Part}
 use Rattle.bt_words.specs.declared.command_line.FetchTask.{FetchTask}
 use Rattle.bt_words.specs.declared.command_line.MakeTask.{MakeTask}
 use Rattle.bt_words.specs.declared.command_line.SeedTask.{SeedTask}
+use Rattle.bt_words.specs.declared.command_line.ShowTask.{ShowTask}
 use Rattle.bt_words.specs.declared.command_line.Task.{Task}
 use Rattle.bt_words.specs.declared.command_line.Task.TheVariants.{Make, Show, Check, Seed, Fetch, Replay}
 
@@ -196,15 +196,15 @@ differ a b unequal same = let equal : bytes_eq a b ≡ true = (bytes_decides a b
 
 pub no_make : (rows : List Row) → ((request : MakeTask) → ¬ IsMakeTaskIn rows request) → (task : Task) → ¬ AsksFor (codes "make") rows task
 no_make rows none (Make request) a = none request a.1
-no_make rows none (Show torrent) a = differ (codes "make") (codes "show") refl a.0
+no_make rows none (Show task) a = differ (codes "make") (codes "show") refl a.0
 no_make rows none (Check task) a = differ (codes "make") (codes "check") refl a.0
 no_make rows none (Seed task) a = differ (codes "make") (codes "seed") refl a.0
 no_make rows none (Fetch task) a = differ (codes "make") (codes "fetch") refl a.0
 no_make rows none Replay a = differ (codes "make") (codes "replay") refl a
 
-pub no_show : (rows : List Row) → ((source : Source) → ¬ IsSourceIn rows source) → (task : Task) → ¬ AsksFor (codes "show") rows task
+pub no_show : (rows : List Row) → ((task : ShowTask) → ¬ IsShowTaskIn rows task) → (task : Task) → ¬ AsksFor (codes "show") rows task
 no_show rows none (Make request) a = differ (codes "show") (codes "make") refl a.0
-no_show rows none (Show torrent) a = none torrent a.1
+no_show rows none (Show task) a = none task a.1
 no_show rows none (Check task) a = differ (codes "show") (codes "check") refl a.0
 no_show rows none (Seed task) a = differ (codes "show") (codes "seed") refl a.0
 no_show rows none (Fetch task) a = differ (codes "show") (codes "fetch") refl a.0
@@ -212,7 +212,7 @@ no_show rows none Replay a = differ (codes "show") (codes "replay") refl a
 
 pub no_check : (rows : List Row) → ((task : CheckTask) → ¬ IsCheckTaskIn rows task) → (task : Task) → ¬ AsksFor (codes "check") rows task
 no_check rows none (Make request) a = differ (codes "check") (codes "make") refl a.0
-no_check rows none (Show torrent) a = differ (codes "check") (codes "show") refl a.0
+no_check rows none (Show task) a = differ (codes "check") (codes "show") refl a.0
 no_check rows none (Check task) a = none task a.1
 no_check rows none (Seed task) a = differ (codes "check") (codes "seed") refl a.0
 no_check rows none (Fetch task) a = differ (codes "check") (codes "fetch") refl a.0
@@ -220,7 +220,7 @@ no_check rows none Replay a = differ (codes "check") (codes "replay") refl a
 
 pub no_seed : (rows : List Row) → ((task : SeedTask) → ¬ IsSeedTaskIn rows task) → (task : Task) → ¬ AsksFor (codes "seed") rows task
 no_seed rows none (Make request) a = differ (codes "seed") (codes "make") refl a.0
-no_seed rows none (Show torrent) a = differ (codes "seed") (codes "show") refl a.0
+no_seed rows none (Show task) a = differ (codes "seed") (codes "show") refl a.0
 no_seed rows none (Check task) a = differ (codes "seed") (codes "check") refl a.0
 no_seed rows none (Seed task) a = none task a.1
 no_seed rows none (Fetch task) a = differ (codes "seed") (codes "fetch") refl a.0
@@ -235,7 +235,7 @@ no_seed_log rows service is none = no_seed rows (λ task asked.
 
 pub no_fetch : (rows : List Row) → ((task : FetchTask) → ¬ IsFetchTaskIn rows task) → (task : Task) → ¬ AsksFor (codes "fetch") rows task
 no_fetch rows none (Make request) a = differ (codes "fetch") (codes "make") refl a.0
-no_fetch rows none (Show torrent) a = differ (codes "fetch") (codes "show") refl a.0
+no_fetch rows none (Show task) a = differ (codes "fetch") (codes "show") refl a.0
 no_fetch rows none (Check task) a = differ (codes "fetch") (codes "check") refl a.0
 no_fetch rows none (Seed task) a = differ (codes "fetch") (codes "seed") refl a.0
 no_fetch rows none (Fetch task) a = none task a.1
@@ -252,7 +252,7 @@ no_fetch_peers rows words given none = no_fetch rows (λ task is.
 pub no_command : (name : Text) (rows : List Row) → ¬ (name ≡ codes "make") → ¬ (name ≡ codes "show") → ¬ (name ≡ codes "check") → ¬ (name ≡ codes "seed")
     → ¬ (name ≡ codes "fetch") → ¬ (name ≡ codes "replay") → (task : Task) → ¬ AsksFor name rows task
 no_command name rows make show check seed fetch replay (Make request) a = make a.0
-no_command name rows make show check seed fetch replay (Show torrent) a = show a.0
+no_command name rows make show check seed fetch replay (Show task) a = show a.0
 no_command name rows make show check seed fetch replay (Check task) a = check a.0
 no_command name rows make show check seed fetch replay (Seed task) a = seed a.0
 no_command name rows make show check seed fetch replay (Fetch task) a = fetch a.0

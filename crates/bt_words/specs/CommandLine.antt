@@ -22,6 +22,7 @@ use Rattle.bt_words.specs.declared.command_line.Work.TheVariants.{Jobs, Part}
 use Rattle.bt_words.specs.declared.command_line.FetchTask.{FetchTask}
 use Rattle.bt_words.specs.declared.command_line.MakeTask.{MakeTask}
 use Rattle.bt_words.specs.declared.command_line.SeedTask.{SeedTask}
+use Rattle.bt_words.specs.declared.command_line.ShowTask.{ShowTask}
 use Rattle.bt_words.specs.declared.command_line.Task.{Task}
 use Rattle.bt_words.specs.declared.command_line.Task.TheVariants.{Make, Show, Check, Seed, Fetch, Replay}
 
@@ -76,6 +77,10 @@ pub record IsSourceIn (rows : List Row) (source : Source) : Type 0 where
   pub path : first_of (codes "TORRENT") rows ≡ Some source.path.now
   pub info : IsFlagIn (codes "info") source.is_info rows
 
+pub record IsShowTaskIn (rows : List Row) (task : ShowTask) : Type 0 where
+  pub torrent : IsSourceIn rows task.torrent
+  pub verbose : IsFlagIn (codes "verbose") task.verbose rows
+
 -- all of a check, by `n` processes; or a part, by one
 abbrev pub IsWorkIn : List Row → Work → Type 0
 IsWorkIn rows (Jobs n) = HasJobs rows n × (first_of (codes "part") rows ≡ None)
@@ -119,7 +124,7 @@ pub record IsFetchTaskIn (rows : List Row) (task : FetchTask) : Type 0 where
 -- a subcommand of this name with these rows asks for the task
 abbrev pub AsksFor : Text → List Row → Task → Type 0
 AsksFor name rows (Make request) = (name ≡ codes "make") × IsMakeTaskIn rows request
-AsksFor name rows (Show torrent) = (name ≡ codes "show") × IsSourceIn rows torrent
+AsksFor name rows (Show task) = (name ≡ codes "show") × IsShowTaskIn rows task
 AsksFor name rows (Check task) = (name ≡ codes "check") × IsCheckTaskIn rows task
 AsksFor name rows (Seed task) = (name ≡ codes "seed") × IsSeedTaskIn rows task
 AsksFor name rows (Fetch task) = (name ≡ codes "fetch") × IsFetchTaskIn rows task

@@ -77,7 +77,7 @@ make_app = command_app (codes "make")
     ∷ verbose_rule ∷ [])
 
 unfoldable pub show_app : App
-show_app = command_app (codes "show") (required_rule (codes "TORRENT") ∷ info_rule ∷ [])
+show_app = command_app (codes "show") (required_rule (codes "TORRENT") ∷ info_rule ∷ verbose_rule ∷ [])
 
 unfoldable pub check_app : App
 check_app = command_app (codes "check")
@@ -95,7 +95,7 @@ fetch_app = command_app (codes "fetch")
     ∷ verbose_rule ∷ [])
 
 unfoldable pub replay_app : App
-replay_app = new_app (codes "replay")
+replay_app = command_app (codes "replay") (verbose_rule ∷ [])
 
 -- ---- the program
 

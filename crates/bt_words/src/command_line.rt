@@ -26,7 +26,7 @@ pub enum Task<'a> {
     /// Write the torrent of a folder.
     Make(MakeTask<'a>),
     /// Print what a torrent says.
-    Show { torrent: Source<'a> },
+    Show(ShowTask<'a>),
     /// Check the data files in a folder against a torrent.
     Check(CheckTask<'a>),
     /// Serve the data files in a folder to peers.
@@ -44,6 +44,14 @@ pub struct MakeTask<'a> {
     pub out: &'a str,
     pub name: &'a str,
     pub piece_length: u32,
+    /// Whether a call that fails is told of.
+    pub verbose: bool,
+}
+
+/// The torrent that is printed.
+#[derive(Clone, Copy)]
+pub struct ShowTask<'a> {
+    pub torrent: Source<'a>,
     /// Whether a call that fails is told of.
     pub verbose: bool,
 }
@@ -383,7 +391,8 @@ fn show_task<'a>(matches: &ArgMatches<'a>) -> Result<Task<'a>, Refusal<'a>>
         ((task : Task) → ¬ AsksFor (codes "show") (rows_of (found_of matches.now)) task)) }
 {
     let torrent = source_of(matches)?;
-    Ok(Task::Show { torrent })
+    let verbose = has_flag(matches, "verbose");
+    Ok(Task::Show(ShowTask { torrent, verbose }))
 }
 
 fn check_task<'a>(matches: &ArgMatches<'a>) -> Result<Task<'a>, Refusal<'a>>

@@ -6,5 +6,5 @@ mod peer;
 mod subcommands;
 mod values;
 
-pub use command_line::{CheckTask, FetchTask, MakeTask, SeedTask, Task, Work, parse};
+pub use command_line::{CheckTask, FetchTask, MakeTask, SeedTask, ShowTask, Task, Work, parse};
 pub use peer::{Peer, Service, Serving};

@@ -167,7 +167,7 @@ const SUBCOMMANDS: &[Subcommand<'static>] = &[
     Subcommand {
         name: "show",
         about: "Prints a torrent's contents",
-        words: &[TORRENT, INFO],
+        words: &[TORRENT, INFO, VERBOSE],
     },
     Subcommand {
         name: "check",
@@ -189,7 +189,7 @@ const SUBCOMMANDS: &[Subcommand<'static>] = &[
     Subcommand {
         name: "replay",
         about: "Runs the script of events on standard input over files in memory, and prints what they answer",
-        words: &[],
+        words: &[VERBOSE],
     },
 ];
 
