@@ -16,6 +16,7 @@ ghost use Rattle.bt_files.specs.OwnPaths.{AreOwnPaths};
 
 use crate::device_context::DeviceContext;
 use crate::file_use::FileUse;
+use crate::hints::hint_at_longer;
 use crate::open_folder::OpenFolder;
 use crate::own_paths::look_at_paths;
 use bt_check::{Fault, OPEN_FILES, data_path, fault_name, told};
@@ -143,6 +144,8 @@ fn push_devices<'a, R: Files + AllocGlobal + Clone + Drop + Lookup, P: Watch>(
     for entry in entries {
         folder.go_to(rt, watch, context.usage, dir, &entry.path)?;
         let file = open_entry(rt, watch, context, pool, dir, entry)?;
+        let length = file.opening.len;
+        hint_at_longer(rt.alloc(), watch, context.usage, dir, entry, length);
         folder.add(
             rt.alloc(),
             watch,

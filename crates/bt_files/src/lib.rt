@@ -8,6 +8,7 @@ mod device_context;
 mod ending;
 mod file_use;
 mod folder_trail;
+mod hints;
 mod lacking;
 mod loading;
 mod open_folder;

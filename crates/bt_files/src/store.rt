@@ -21,6 +21,7 @@ use crate::adoption::adopt_files;
 use crate::data_files::{DataDisk, OpenFiles, open_devices};
 use crate::device_context::DeviceContext;
 use crate::file_use::FileUse;
+use crate::hints::hint_at_absence;
 use crate::store_log::{hint_at_unmarked, look_at_log, open_log_at};
 use bt_check::Fault;
 use bt_devices::CachedLanes;
@@ -57,6 +58,7 @@ pub(crate) fn open_store<'a, R: Files + AllocGlobal + Clone + Drop + Lookup, P: 
     ensures fault { IfErr result (IsOpenFault context.entry.usage torrent log.entry) }
 {
     look_at_log(rt, dir, &torrent, log)?;
+    hint_at_absence(rt, watch, context.usage, dir, &torrent);
     let mut files = open_files(rt, watch, context, dir, torrent.files(), log)?;
     let attached = open_log_at(rt, watch, context, &mut files.known, dir, &torrent, log)?;
     let hash = CachedLanes::new(context.digests);

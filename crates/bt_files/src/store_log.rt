@@ -64,15 +64,15 @@ fn log_context<'a>(context: DeviceContext<'a>) -> LogContext<'a> {
     }
 }
 
-/// At a terminal tells that a log marks nothing although files have bytes: with it they don't count. `filled` tells
-/// of each file whether it has.
+/// At a terminal, and where that was asked for, tells that a log marks nothing although files have bytes: with it they
+/// don't count. `filled` tells of each file whether it has.
 pub(crate) fn hint_at_unmarked<D: Disk + Drop, H: NodeHash, P: Watch>(
     watch: &P,
     engine: &Engine<D, H>,
     usage: FileUse,
     filled: &[bool],
 ) {
-    if watch.is_terminal() && filled.contains(&true) && marks_nothing(engine) {
+    if watch.is_verbose() && filled.contains(&true) && marks_nothing(engine) {
         watch.hint(unmarked_text(usage));
     }
 }

@@ -1,0 +1,88 @@
+//! Hints on what lies in the folder of a torrent's files.
+
+use crate::file_use::FileUse;
+use bt_check::data_path;
+use bt_folder::{Lookup, or_dot};
+use bt_meta::{FileEntry, Torrent};
+use bt_progress::Watch;
+use std::alloc::{AllocError, Global};
+use std::rt::Files;
+
+/// At a terminal, and where that was asked for, tells before any of a torrent's files is made that none of them is in
+/// their folder, or that there is no such folder; nothing for a read-only use, which makes none. Where memory is short,
+/// nothing is told.
+pub(crate) fn hint_at_absence<R: Files + AllocGlobal + Clone + Drop + Lookup, P: Watch>(
+    rt: &R,
+    watch: &P,
+    usage: FileUse,
+    dir: &str,
+    torrent: &Torrent,
+) {
+    if usage.is_read_only() || !watch.is_verbose() {
+        return;
+    }
+    if let Ok(Some(text)) = absence_text(rt, dir, torrent) {
+        watch.hint(text.as_str());
+    }
+}
+
+/// What is told of a folder that has none of a torrent's files: nothing where it has one, or something in its place.
+fn absence_text<R: Files + AllocGlobal + Clone + Drop + Lookup>(
+    rt: &R,
+    dir: &str,
+    torrent: &Torrent,
+) -> Result<Option<String>, AllocError> {
+    if has_file(rt, dir, torrent)? {
+        return Ok(None);
+    }
+    let folder = or_dot(dir);
+    let text = match rt.identity_at(folder) {
+        Some(_) => format!(in rt.alloc();
+            "none of the torrent's files is in {folder}: they are made there"
+        )?,
+        None => format!(in rt.alloc();
+            "{folder} is not there: it is made, with the torrent's files"
+        )?,
+    };
+    Ok(Some(text))
+}
+
+/// Whether one of a torrent's files, or something in its place, is in a folder.
+fn has_file<R: Files + AllocGlobal + Clone + Drop + Lookup>(
+    rt: &R,
+    dir: &str,
+    torrent: &Torrent,
+) -> Result<bool, AllocError> {
+    for file in torrent.files() {
+        let path = data_path(rt.alloc(), dir, &file.path)?;
+        if rt.identity_at(path.as_path().as_str()).is_some() {
+            return Ok(true);
+        }
+    }
+    Ok(false)
+}
+
+/// At a terminal, and where that was asked for, tells that a file which is only read has more bytes than the torrent
+/// says, as a check does. Where memory is short, nothing is told.
+pub(crate) fn hint_at_longer<P: Watch>(
+    alloc: Global,
+    watch: &P,
+    usage: FileUse,
+    dir: &str,
+    entry: &FileEntry,
+    length: u64,
+) {
+    if !usage.is_read_only() || !watch.is_verbose() || length <= entry.length {
+        return;
+    }
+    if let Ok(text) = longer_text(alloc, dir, entry) {
+        watch.hint(text.as_str());
+    }
+}
+
+/// What is told of a file that is longer than the torrent says.
+fn longer_text(alloc: Global, dir: &str, entry: &FileEntry) -> Result<String, AllocError> {
+    let path = data_path(alloc, dir, &entry.path)?;
+    let name = path.as_path().as_str();
+    format!(in alloc; "{name} is longer than the torrent says")
+}
