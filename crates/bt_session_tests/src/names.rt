@@ -1,7 +1,9 @@
 //! A network that stands in for the host's, in which a name has several addresses.
 
+use bt_progress::Unwatched;
 use bt_session::Link;
 use bt_sockets::{IDLE_SECONDS, Passage, TcpLink, listen, port_of};
+use std::alloc::Global;
 use std::io::{self, ErrorKind};
 use std::net::{Ipv4Addr, Net, OpenListener, SocketAddr};
 use std::time::{Clock, Duration};
@@ -63,17 +65,23 @@ impl Clock for Names<'_> {
 /// Whether a peer is reached by a name of three addresses, of which only this one answers, counted from 1.
 pub fn is_name_reached(host: &HostRuntime, passage: Passage<'_>, open: u8) -> bool {
     match listen(host, HOST, 0) {
-        Ok(listener) => is_reached(&Names { host, open }, passage, &listener),
+        Ok(listener) => is_reached(host.alloc(), &Names { host, open }, passage, &listener),
         Err(_) => false,
     }
 }
 
-fn is_reached<L: OpenListener>(names: &Names<'_>, passage: Passage<'_>, listener: &L) -> bool {
+fn is_reached<L: OpenListener>(
+    alloc: Global,
+    names: &Names<'_>,
+    passage: Passage<'_>,
+    listener: &L,
+) -> bool {
     let Ok(port) = port_of(listener) else {
         return false;
     };
     let idle = Duration::from_secs(IDLE_SECONDS);
-    TcpLink::new(names, "peer.example", port, idle, passage)
+    let host = "peer.example";
+    TcpLink::new(names, host, port, idle, passage, alloc, &Unwatched)
         .dial()
         .is_some()
 }

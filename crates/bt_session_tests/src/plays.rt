@@ -4,6 +4,7 @@ ghost use Rattle.std.specs.Prelude.{[], ◌≡◌};
 use crate::engine::TestEngine;
 use crate::scene::{Act, Scene, SceneNet, WorkingReader};
 use crate::sessions::tell_end;
+use bt_progress::Unwatched;
 use bt_rows::{RowError, Words, whole_answer};
 use bt_session::{Link, PeerEnd, end_text, meet_peer};
 use bt_sockets::{IDLE_SECONDS, Passage, SESSION_TURNS, TcpLink, listen, serve};
@@ -148,7 +149,8 @@ fn fetched(
     requires no_peer { engine.old.state.peers ≡ [] }
 {
     let idle = Duration::from_secs(IDLE_SECONDS);
-    let reached = match TcpLink::new(net, HOST, PORT, idle, passage).dial() {
+    let mut link = TcpLink::new(net, HOST, PORT, idle, passage, alloc, &Unwatched);
+    let reached = match link.dial() {
         Some((reader, writer)) => Some((WorkingReader::new(reader, net.0), writer)),
         None => None,
     };
@@ -165,7 +167,7 @@ fn served(
 {
     let idle = Duration::from_secs(IDLE_SECONDS);
     let listener = listen(net, HOST, PORT).ok()?;
-    serve(net, alloc, engine, &listener, idle, passage).ok()
+    serve(net, alloc, engine, &listener, idle, passage, &Unwatched).ok()
 }
 
 fn push_end(text: &mut String, end: Option<PeerEnd>) -> Result<(), AllocError> {

@@ -7,6 +7,7 @@ use crate::plays::play_row;
 use crate::sessions::tell_end;
 use bt_connection::ShortBlocks;
 use bt_meta::Torrent;
+use bt_progress::Unwatched;
 use bt_session::{Link, PeerEnd, end_text};
 use bt_sockets::{
     IDLE_SECONDS, Passage, Shared, StreamReader, StreamWriter, TcpLink, listen, port_of, serve,
@@ -119,10 +120,18 @@ fn tell_reached(out: &mut String, is_reached: bool) -> Result<(), AllocError> {
 }
 
 /// A link to a port of this machine.
-fn link<'a>(site: &Site<'a>, port: u16, idle: Duration) -> TcpLink<'a, HostRuntime>
+fn link<'a>(site: &Site<'a>, port: u16, idle: Duration) -> TcpLink<'a, HostRuntime, Unwatched>
     ensures { result.all ≡ 0 }
 {
-    TcpLink::new(site.net, HOST, port, idle, site.passage)
+    TcpLink::new(
+        site.net,
+        HOST,
+        port,
+        idle,
+        site.passage,
+        site.alloc,
+        &Unwatched,
+    )
 }
 
 fn dialled<'a>(site: &Site<'a>, port: u16, idle: Duration) -> Option<(Reader<'a>, Writer<'a>)> {
@@ -294,7 +303,12 @@ fn served(
     if engine.peers() != 0 {
         return None;
     }
-    serve(site.net, site.alloc, engine, listener, idle, site.passage).ok()
+    let Site {
+        net,
+        alloc,
+        passage,
+    } = *site;
+    serve(net, alloc, engine, listener, idle, passage, &Unwatched).ok()
 }
 
 fn tell_served(out: &mut String, end: Option<PeerEnd>) -> Result<(), AllocError> {

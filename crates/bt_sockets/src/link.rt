@@ -7,16 +7,21 @@ ghost use Rattle.bt_sockets.specs.StreamSteps.{IsAddressOf};
 
 use crate::passage::Passage;
 use crate::stream::{StreamReader, StreamWriter, Terms, both_ways, connected};
+use crate::telling::{tell_dial, tell_failure};
 use crate::timing::Role;
+use bt_progress::Watch;
 use bt_session::Link;
+use std::alloc::Global;
 use std::io;
 use std::marker::Model;
 use std::net::{Net, SocketAddr};
 use std::time::{Clock, Duration};
 
-/// A peer at a port of a host, which is a name or an address.
+/// A peer at a port of a host, which is a name or an address. That it is dialled is told, and why it is not reached.
 #[derive(Drop)]
-pub struct TcpLink<'a, R: Net + Clock> {
+pub struct TcpLink<'a, R: Net + Clock, P: Watch> {
+    alloc: Global,
+    watch: &'a P,
     net: &'a R,
     host: &'a str,
     port: u16,
@@ -34,7 +39,7 @@ struct Connection<I, O> {
     address: SocketAddr,
 }
 
-impl<'a, R: Net + Clock> Model for TcpLink<'a, R> {
+impl<'a, R: Net + Clock, P: Watch> Model for TcpLink<'a, R, P> {
     ghost use Rattle.std.specs.Prelude.{◌≤◌};
     ghost use Rattle.bt_sockets.specs.Link.{Dials};
 
@@ -52,14 +57,25 @@ impl<'a, R: Net + Clock> Model for TcpLink<'a, R> {
     ghost invariant = { λ a. a.failures ≤ a.dials };
 }
 
-impl<'a, R: Net + Clock> TcpLink<'a, R> {
+impl<'a, R: Net + Clock, P: Watch> TcpLink<'a, R, P> {
     /// A link that was not dialled yet. A peer that is idle for `idle` is given up; no time at all is refused at each
     /// dial. Links that are dialled in turn may share their passage. Neither a dial nor the connection that it gives takes
-    /// memory, but for what the system takes to look up a host's name; where it has none, the peer is not reached.
-    pub fn new(net: &'a R, host: &'a str, port: u16, idle: Duration, passage: Passage<'a>) -> Self
+    /// memory, but for what the system takes to look up a host's name, without which the peer is not reached, and for what
+    /// is told, where that is wanted.
+    pub fn new(
+        net: &'a R,
+        host: &'a str,
+        port: u16,
+        idle: Duration,
+        passage: Passage<'a>,
+        alloc: Global,
+        watch: &'a P,
+    ) -> Self
         ensures { result ≡ undialled host.now port passage.entry.short_blocks.now passage.entry.pieces }
     {
         TcpLink {
+            alloc,
+            watch,
             net,
             host,
             port,
@@ -105,12 +121,14 @@ impl<'a, R: Net + Clock> TcpLink<'a, R> {
         ensures new { IfSome result
             (λ connection. AreNew self.old.short_blocks connection.reader connection.writer) }
     {
+        tell_dial(self.alloc, self.watch, self.host, self.port);
         let reached = self.connect();
         self.dials += 1;
         match reached {
             Ok(connection) => Some(connection),
-            Err(_) => {
+            Err(error) => {
                 self.failures += 1;
+                tell_failure(self.alloc, self.watch, self.host, self.port, error.kind());
                 None
             }
         }
@@ -118,7 +136,7 @@ impl<'a, R: Net + Clock> TcpLink<'a, R> {
 }
 
 // Nothing is said of what a socket gives. Nothing has come of it yet where a dial gives it.
-impl<'a, R: Net + Clock> Link for TcpLink<'a, R> {
+impl<'a, R: Net + Clock, P: Watch> Link for TcpLink<'a, R, P> {
     type R = StreamReader<'a, R::Stream, R>;
 
     type W = StreamWriter<'a, R::Stream, R>;

@@ -9,16 +9,18 @@ ghost use Rattle.bt_sockets.specs.Stream.{AreNew};
 
 use crate::passage::Passage;
 use crate::stream::{StreamReader, StreamWriter, Terms, both_ways};
+use crate::telling::tell_visit;
 use crate::timing::Role;
 use bt_check::Fault;
 use bt_disk::Disk;
+use bt_progress::Watch;
 use bt_session::{Engine, PeerEnd, meet_peer};
 use bt_tree::NodeHash;
 use std::alloc::Global;
 use std::io::{self, ErrorKind, Read, Write};
-use std::net::{Net, OpenListener, TcpListener};
+use std::net::{Net, OpenListener, SocketAddr, TcpListener};
 use std::thread;
-use std::time::{Clock, Duration};
+use std::time::{Clock, Duration, Instant};
 
 /// How many turns a session takes at most.
 pub const SESSION_TURNS: u64 = 0x1_0000_0000;
@@ -75,12 +77,15 @@ fn is_no_listener(error: &io::Error) -> bool
 
 /// Waits for a connection. One that can't be taken is left, and the next one waited for, `ACCEPT_TRIES` times at most.
 /// Errors: the socket is none that listens; none could be taken.
-fn accepted<L: OpenListener, C: Clock>(clock: &C, listener: &L) -> io::Result<L::Stream> {
+fn accepted<L: OpenListener, C: Clock>(
+    clock: &C,
+    listener: &L,
+) -> io::Result<(L::Stream, SocketAddr)> {
     let longest = Duration::from_millis(LONGEST_PAUSE_MILLIS);
     let mut pause = Duration::from_millis(FIRST_PAUSE_MILLIS);
     for _ in 0..ACCEPT_TRIES {
         match listener.accept() {
-            Ok((stream, _)) => return Ok(stream),
+            Ok(connection) => return Ok(connection),
             Err(error) if is_no_listener(&error) => return Err(error),
             Err(_) => thread::sleep(clock, pause),
         }
@@ -90,15 +95,16 @@ fn accepted<L: OpenListener, C: Clock>(clock: &C, listener: &L) -> io::Result<L:
 }
 
 /// Waits for a connection and serves it, as long as its peer is not idle for `idle`, and does not take too long
-/// otherwise: Unreachable where it was gone already. Errors: none could be taken, though it was tried again and
-/// again.
-pub fn serve<'a, D: Disk + Drop, H: NodeHash, R: Net + Clock>(
+/// otherwise: Unreachable where it was gone already. Behind it is told who it was, how many bytes were sent to it, and
+/// how long it was there. Errors: none could be taken, though it was tried again and again.
+pub fn serve<'a, D: Disk + Drop, H: NodeHash, R: Net + Clock, P: Watch>(
     net: &'a R,
     alloc: Global,
     engine: &mut Engine<D, H>,
     listener: &R::Listener,
     idle: Duration,
     passage: Passage<'a>,
+    watch: &P,
 ) -> Result<PeerEnd, Fault>
     requires no_peer { engine.old.state.peers ≡ [] }
     ensures served { IfOk result (λ end. IsServed D.conduct H.digest
@@ -111,13 +117,17 @@ pub fn serve<'a, D: Disk + Drop, H: NodeHash, R: Net + Clock>(
     ensures kept { OnErr result (engine.new ≡ engine.old) }
 {
     match accepted(net, listener) {
-        Ok(stream) => {
+        Ok((stream, address)) => {
+            let begun = Instant::now(net).ok();
             let terms = Terms {
                 role: Role::Serve,
                 idle,
             };
             let reached = both_ways(net, stream, terms, passage).ok();
-            Ok(meet_peer(alloc, engine, reached, false, SESSION_TURNS))
+            let end = meet_peer(alloc, engine, reached, false, SESSION_TURNS);
+            let sent = passage.shared.sent.get();
+            tell_visit(alloc, watch, net, address, sent, begun);
+            Ok(end)
         }
         Err(_) => Err(Fault::Device),
     }

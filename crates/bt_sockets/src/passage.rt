@@ -5,7 +5,7 @@ use crate::timing::Timing;
 use bt_connection::{AheadRoom, FrameRoom, Padding, Requests, Room, ShortBlocks};
 use bt_devices::{Alarm, DigestCache};
 use std::alloc::{AllocError, Global};
-use std::cell::RefCell;
+use std::cell::{Cell, RefCell};
 
 /// What the connections that follow one another share, with each other and with the devices of their engine. What one
 /// of them puts into it the next does not find, but for digests: each makes it new (`Lent`).
@@ -18,6 +18,8 @@ pub struct Shared {
     pub(crate) requests: RefCell<Requests>,
     pub(crate) early: RefCell<EarlyRoom>,
     pub(crate) timing: Timing,
+    /// How many bytes the connection was sent.
+    pub(crate) sent: Cell<u64>,
     /// Where what is read ahead waits. A connection borrows it, and the two below, for as long as it is there.
     pub(crate) room: RefCell<AheadRoom>,
     /// Where what came of a message of a peer waits, and of one to it.
@@ -47,6 +49,7 @@ impl Shared {
             outgoing,
             early,
             timing: Timing::new(),
+            sent: Cell::new(0),
             alarm: Alarm::new(),
         })
     }

@@ -4,6 +4,7 @@ use crate::passage::Shared;
 use crate::timing::{Role, Timed};
 use bt_connection::{Lent, Padding, Requests, Room};
 use bt_wire::frames::BLOCK_MESSAGE_LEN;
+use std::cell::Cell;
 use std::io;
 use std::time::Instant;
 
@@ -26,6 +27,8 @@ pub(crate) struct Remembered<'a> {
     pub(crate) early: Lent<'a, EarlyRoom>,
     /// How long the peer took for what it owes.
     pub(crate) timing: Timed<'a>,
+    /// How many bytes the peer was sent.
+    pub(crate) sent: &'a Cell<u64>,
 }
 
 impl<'a> Remembered<'a> {
@@ -37,11 +40,13 @@ impl<'a> Remembered<'a> {
         pieces: u32,
         now: Instant,
     ) -> io::Result<Self> {
+        shared.sent.set(0);
         Ok(Remembered {
             padding: Lent::new(&shared.padding)?,
             requests: Lent::new(&shared.requests)?,
             early: Lent::new(&shared.early)?,
             timing: shared.timing.begin(role, pieces, now),
+            sent: &shared.sent,
         })
     }
 }

@@ -28,7 +28,8 @@ pub type StreamReader<'a, S, C> = Padded<
 /// What is written to a connection, as its peer gets it.
 pub type StreamWriter<'a, S, C> = Padded<'a, HoldingWriter<'a, TimedStream<'a, S, C>>>;
 
-/// Connects to the first address of a host that answers, and gives that address too. Errors: none does.
+/// Connects to the first address of a host that answers, and gives that address too. Errors: none does, and then the
+/// kind is that of the last; or none is known, which is `Uncategorized`.
 pub(crate) fn connected<R: Net>(
     net: &R,
     host: &str,
@@ -37,12 +38,22 @@ pub(crate) fn connected<R: Net>(
     ensures { IfOk result (λ connection. IsAddressOf host.now port connection.1) }
 {
     let limit = Duration::from_secs(CONNECT_SECONDS);
+    let mut kind = ErrorKind::Uncategorized;
     for address in (text_of(host), port).to_socket_addrs(net)? {
-        if let Ok(stream) = TcpStream::connect_timeout(net, &address, limit) {
-            return Ok((stream, address));
+        match TcpStream::connect_timeout(net, &address, limit) {
+            Ok(stream) => return Ok((stream, address)),
+            Err(error) => kind = refusal_kind(error.kind()),
         }
     }
-    Err(io::Error::from(ErrorKind::NotConnected))
+    Err(io::Error::from(kind))
+}
+
+/// The kind of an error of an address that does not answer, which is none of a look-up.
+fn refusal_kind(kind: ErrorKind) -> ErrorKind {
+    match kind {
+        ErrorKind::Uncategorized => ErrorKind::NotConnected,
+        _ => kind,
+    }
 }
 
 /// A host as it is looked up: without the brackets that stand around an IPv6 address.

@@ -152,6 +152,8 @@ impl<'a, S: Read + OpenStream + Drop, C: Clock> TimedStream<'a, S, C> {
 
     /// Notes bytes that went out.
     fn note_out(&self, bytes: &[u8]) {
+        let sent = self.remembered.sent;
+        sent.set(sent.get().saturating_add(bytes.len() as u64));
         if let Ok(now) = Instant::now(self.clock) {
             self.remembered
                 .timing

@@ -1,4 +1,4 @@
-pub mod PeerLines
+pub mod Turns
 pub mod OverTcp
 pub mod ConnectionLines
 pub mod Listening

@@ -16,8 +16,6 @@ use Rattle.bt_session.specs.declared.end.SessionEnd.{SessionEnd}
 use Rattle.bt_session.specs.declared.peer_end.PeerEnd.{PeerEnd}
 use Rattle.bt_session.specs.declared.peer_end.PeerEnd.TheVariants.{Untried, Unreachable, Refused, Session as HadSession}
 use Rattle.bt_session.specs.Peer.{HasSessionWithFlushes, IsFlushedWhere, IsFlushedSession, behind, within, EndsAsWithFlushes}
-use Rattle.bt_session.specs.Peers.{InTurnWithFlushes, IsTriedWithFlushes}
-use Rattle.bt_session.specs.Peers.InTurnWithFlushes.{none_left, complete, tried, stopped}
 use Rattle.bt_session.proofs.Sessions.{flush_leads, session_leads}
 use Rattle.bt_session.proofs.Standing.{no_restart}
 use Rattle.bt_files.specs.Store.{IsFlushFault, flush_fault}
@@ -121,37 +119,19 @@ module _ {D : Type 0} (conduct : Conduct D) (dig : List ℕ → List ℕ) where
   end_refused remaining contents until every turns (Some ways) old new (Refused cause) error e = let is : Err error ≡ Ok tt = e.0 in absurd cc
   end_refused remaining contents until every turns (Some ways) old new (HadSession end) error e = flushed_refused every old new end error e
 
-  -- ---- peers in turn
+  -- ---- what is told of it
 
-  module _ {L R W : Type 0} (dials failures : L → ℕ) (gives : L → R → W → Type 0) (remaining : R → Option (List ℕ)) (contents : W → Option (List ℕ))
-      (every turns : ℕ) where
-    turns_refused : {old new : EngineView D} {links rest : List L} {ends : List PeerEnd} {answer : Result (Unit {0}) FlushError} (error : FlushError)
-        → InTurnWithFlushes (IsTriedWithFlushes conduct dig dials failures gives remaining contents every turns) old links ends rest answer new
-        → answer ≡ Err error → RefusesLater old error
-    turns_refused error (none_left engine) is = absurd cc
-    turns_refused error (complete engine links is_done) is = absurd cc
-    turns_refused error (tried old mid new link after end links rest ends answer not_done t later) is =
-        let refuses : RefusesLater mid error = turns_refused error later is in record {
-          mid = refuses.mid;
-          new = refuses.new;
-          led = both old mid refuses.mid (end_leads remaining contents true every turns t.reached old mid end (Ok tt) t.ended) refuses.led;
-          step = refuses.step;
-        }
-    turns_refused error (stopped old new link after end links other not_done t) is =
-        let same : other ≡ error = cc in subst (RefusesLater old) same (end_refused remaining contents true every turns t.reached old new end other t.ended)
-
+  module _ {R W : Type 0} (remaining : R → Option (List ℕ)) (contents : W → Option (List ℕ)) (until : Bool) (every turns : ℕ) (reached : Option (R × W))
+      (old new : EngineView D) (end : PeerEnd) (error : FlushError)
+      (refused : EndsAsWithFlushes conduct dig remaining contents until every turns reached old end (Err error) new) where
     -- why it was
-    pub turns_fault : (old new : EngineView D) (links rest : List L) (ends : List PeerEnd) (error : FlushError)
-        → InTurnWithFlushes (IsTriedWithFlushes conduct dig dials failures gives remaining contents every turns) old links ends rest (Err error) new
-        → IsFlushFault old.log (flush_fault error)
-    turns_fault old new links rest ends error in_turn =
-        let refuses : RefusesLater old error = turns_refused error in_turn refl in
+    pub end_fault : IsFlushFault old.log (flush_fault error)
+    end_fault =
+        let refuses : RefusesLater old error = end_refused remaining contents until every turns reached old new end error refused in
         flush_fault_before conduct dig refuses.led (flush_fault error) (flush_fails conduct dig refuses.mid refuses.new error refuses.step)
 
     -- by a full log
-    pub turns_full : (old new : EngineView D) (links rest : List L) (ends : List PeerEnd) (error : FlushError) (fault : Fault)
-        → InTurnWithFlushes (IsTriedWithFlushes conduct dig dials failures gives remaining contents every turns) old links ends rest (Err error) new
-        → fault ≡ flush_fault error → fault ≡ log_full → FindsLogFull conduct dig old
-    turns_full old new links rest ends error fault in_turn told full =
-        let refuses : RefusesLater old error = turns_refused error in_turn refl in
+    pub end_full : (fault : Fault) → fault ≡ flush_fault error → fault ≡ log_full → FindsLogFull conduct dig old
+    end_full fault told full =
+        let refuses : RefusesLater old error = end_refused remaining contents until every turns reached old new end error refused in
         refused_full conduct dig old refuses.mid refuses.new error fault refuses.led refuses.step told full

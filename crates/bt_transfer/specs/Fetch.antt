@@ -1,21 +1,15 @@
 -- What a fetch comes to.
-use Rattle.std.specs.Prelude.{◌≡◌, ℕ, Bool, List, Ok, Err, Option, Result, Some, None, is_some, map, slice_get}
+use Rattle.std.specs.Prelude.{◌≡◌, ℕ, Bool, List, Ok, Option, Some, None, is_some, map, slice_get}
 use Rattle.std.specs.Borrow.{Bor}
 use Rattle.std.specs.Io.KnownBytes.{Appends}
 use Rattle.bt_disk.specs.Conduct.{Conduct}
 use Rattle.bt_resume.specs.ResumeLog.{LogView}
-use Rattle.bt_files.specs.Waiting.{TakesInAllWaiting}
 use Rattle.bt_meta.specs.Files.{File}
 use Rattle.bt_meta.specs.Torrent.{Metainfo, total_pieces}
-use Rattle.bt_machine.specs.declared.error.FlushError.{FlushError}
-use Rattle.bt_machine.specs.declared.event.Event.TheVariants.{Flush}
-use Rattle.bt_machine.specs.declared.event.Answer.TheVariants.{Flushed}
 use Rattle.bt_machine.specs.Opening.{BeginsOn}
 use Rattle.bt_machine.specs.State.{EngineView}
-use Rattle.bt_machine.specs.View.{StepsTo}
 use Rattle.bt_connection.specs.ShortBlocks.{short_blocks_of}
 use Rattle.bt_session.specs.Peer.{IsFlushedWhere}
-use Rattle.bt_session.specs.Peers.{InTurn, InTurnWithFlushes}
 use Rattle.bt_session.specs.declared.peer_end.PeerEnd.{PeerEnd}
 use Rattle.bt_wire.specs.declared.message.Ask.{Ask}
 use Rattle.bt_engine.specs.WholeRuns.{IsFileMarkedOnPath, HasWholeRun}
@@ -24,43 +18,29 @@ use Rattle.bt_files.specs.DataFiles.{DeviceView}
 use Rattle.bt_files.specs.declared.file_use.FileUse.TheVariants.{Fetch}
 use Rattle.bt_files.specs.Ending.{IsConcluded}
 use Rattle.bt_files.specs.Loading.{IsLoaded}
-use Rattle.bt_transfer.specs.OverTcp.{TriesOverTcp, TriesWithFlushesOverTcp}
+use Rattle.bt_transfer.specs.OverTcp.{TriesWithFlushesOverTcp}
 use Rattle.bt_transfer.specs.PeerLines.{peer_lines}
+use Rattle.bt_transfer.specs.Turns.{InTurnOrStopped, TriesAndTakesIn, Turns}
 use Rattle.bt_files.specs.Report.{ReportsMarked, ReportsPublished}
 use Rattle.bt_words.specs.declared.peer.Peer.{Peer}
 
--- ---- peers in turn, and a flush
+-- ---- peers in turn, and a report
 
--- what is said of peers that are tried in turn: of the engine, their links and their ends; and afterwards of
--- the links, of what the last flush among the peers answered, Ok where there was none, and of the engine
-abbrev pub Turns : (D L : Type 0) → Type 1
-Turns D L = EngineView D → List L → List PeerEnd → List L → Result (Unit {0}) FlushError → EngineView D
-    → Type 0
+-- The peers were tried in turn, no fault ended it, and a line tells of each that was tried.
+pub record TellsInTurn {D L : Type 0} (InTurns : Turns D L) (peers : List Peer) (old : EngineView D)
+    (links : List L) (before after : Option (List ℕ)) (rest : List L) (new : EngineView D) : Type 0 where
+  pub ends : List PeerEnd
+  pub tried : InTurns old links ends rest (Ok tt) new
+  pub lines : Appends before after (peer_lines peers ends)
 
--- The peers were tried in turn, no flush among them was refused, and the next thing was a flush, which was
--- answered so. Or a flush among them was refused: that is the answer, and nothing came after it.
-pub data TriesAndSyncs {D L : Type 0} (InTurns : Turns D L) (conduct : Conduct D) (dig : List ℕ → List ℕ)
-    (old : EngineView D) (links : List L) (ends : List PeerEnd)
-    (rest : List L) (answer : Result (Unit {0}) FlushError) (new : EngineView D) : Type 0 where
-  behind : (met : EngineView D) → InTurns old links ends rest (Ok tt) met
-      → StepsTo conduct dig met Flush (Flushed answer) new
-      → TriesAndSyncs InTurns conduct dig old links ends rest answer new
-  among : (error : FlushError) → InTurns old links ends rest (Err error) new → answer ≡ Err error
-      → TriesAndSyncs InTurns conduct dig old links ends rest answer new
-
--- The peers were tried in turn, all devices were synced, a line tells of each peer that was tried, the files
--- whose blocks came without their hashes were taken in, and then it is concluded.
+-- and then it is concluded
 pub record HasFetched {D L : Type 0} (InTurns : Turns D L) (conduct : Conduct D) (dig : List ℕ → List ℕ)
     (peers : List Peer) (old : EngineView D) (links : List L)
     (before after : Option (List ℕ)) (status : ℕ) (rest : List L) (new : EngineView D) : Type 0 where
-  pub ends : List PeerEnd
   pub kept : EngineView D
   pub told : Option (List ℕ)
-  pub taken : EngineView D
-  pub tried : TriesAndSyncs InTurns conduct dig old links ends rest (Ok tt) kept
-  pub lines : Appends before told (peer_lines peers ends)
-  pub taken_in : TakesInAllWaiting conduct dig kept taken
-  pub end : IsConcluded conduct dig taken told after status new
+  pub in_turn : TellsInTurn InTurns peers old links before told rest kept
+  pub end : IsConcluded conduct dig kept told after status new
 
 -- ---- over TCP
 
@@ -70,15 +50,12 @@ abbrev pub flush_turns : Option (Bor (List ℕ)) → ℕ
 flush_turns None = 0
 flush_turns (Some path) = 2048
 
--- Peers are tried in turn, and where there is a log, also flushed in their sessions and after these. Without
--- one there is no flush among them.
+-- Peers are tried in turn over TCP; in their sessions there are flushes where there is a log, and none without one.
+-- Behind each peer what came without its hashes is taken in, and all is synced.
 abbrev pub TurnsOverTcp : {D : Type 0} → Conduct D → (List ℕ → List ℕ)
     → (log : Option (Bor (List ℕ))) → Turns D Dials
-TurnsOverTcp conduct dig None old links ends rest answer new =
-    (answer ≡ Ok tt) × InTurn (TriesOverTcp conduct dig) old links ends rest new
-TurnsOverTcp conduct dig (Some path) old links ends rest answer new =
-    InTurnWithFlushes (TriesWithFlushesOverTcp conduct dig (flush_turns (Some path)))
-    old links ends rest answer new
+TurnsOverTcp conduct dig log =
+    InTurnOrStopped (TriesAndTakesIn (TriesWithFlushesOverTcp conduct dig (flush_turns log)) conduct dig)
 
 -- A link to each peer's host and port, in their order, none of which was dialled. What stands before their
 -- sockets goes by these short blocks, and by how many pieces there are.

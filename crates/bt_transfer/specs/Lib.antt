@@ -1,5 +1,6 @@
 pub mod PeerLines
 pub mod OverTcp
+pub mod Turns
 pub mod Fetch
 pub mod FetchSteps
 pub mod Connections

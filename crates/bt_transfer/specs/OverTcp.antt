@@ -2,20 +2,14 @@
 use Rattle.std.specs.Prelude.{⊤, ℕ, List}
 use Rattle.bt_disk.specs.Conduct.{Conduct}
 use Rattle.bt_machine.specs.State.{EngineView}
-use Rattle.bt_session.specs.Peers.{IsTried, IsTriedWithFlushes, Trial, TrialWithFlushes}
+use Rattle.bt_session.specs.Peers.{IsTriedWithFlushes, TrialWithFlushes}
 use Rattle.bt_session.specs.declared.peer_end.PeerEnd.{PeerEnd}
 use Rattle.bt_sockets.specs.Link.{Dials}
 use Rattle.bt_sockets.specs.Listener.{IsServed}
 use Rattle.bt_sockets.specs.declared.listener.TheConstants.{SESSION_TURNS}
 
--- a peer is tried, over a link of which the dials are counted
-abbrev pub TriesOverTcp : {D : Type 0} → Conduct D → (List ℕ → List ℕ)
-    → Trial D Dials
-TriesOverTcp conduct dig =
-    IsTried conduct dig (λ link. link.all) (λ link. link.failed) (λ link given taken. ⊤)
-    (λ bytes. bytes) (λ bytes. bytes) SESSION_TURNS
-
--- the same, and the engine is flushed after each `every`-th turn of the session, and after the session
+-- A peer is tried, over a link of which the dials are counted; the engine is flushed after each `every`-th turn of the
+-- session, and after the session, or never where that is 0.
 abbrev pub TriesWithFlushesOverTcp : {D : Type 0} → Conduct D
     → (List ℕ → List ℕ) → (every : ℕ) → TrialWithFlushes D Dials
 TriesWithFlushesOverTcp conduct dig every =

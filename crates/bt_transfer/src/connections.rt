@@ -12,6 +12,7 @@ use bt_check::{Fault, print};
 use bt_disk::Disk;
 use bt_engine::Engine;
 use bt_files::finish;
+use bt_progress::Watch;
 use bt_session::{PeerEnd, end_text};
 use bt_sockets::{IDLE_SECONDS, serve};
 use bt_tree::NodeHash;
@@ -22,9 +23,9 @@ use std::time::{Clock, Duration};
 
 /// Serves `count` connections, one after the other, whatever came of those before; after each it has all put on the
 /// devices, and into the log, and then writes how it ended with it.
-pub(crate) fn serve_each<D: Disk + Drop, H: NodeHash, N: Net + Clock, W: Write>(
+pub(crate) fn serve_each<D: Disk + Drop, H: NodeHash, N: Net + Clock, P: Watch, W: Write>(
     alloc: Global,
-    reception: &Reception<'_, N>,
+    reception: &Reception<'_, N, P>,
     engine: &mut Engine<D, H>,
     count: u64,
     writer: &mut W,
@@ -47,9 +48,9 @@ pub(crate) fn serve_each<D: Disk + Drop, H: NodeHash, N: Net + Clock, W: Write>(
 /// Serves a connection, which has this number; has all put on the devices, and into the log, also where none could be
 /// taken; and then writes how it ended. Errors: none could be taken; a device or the writer failed; out of memory; the
 /// log is full. Where a flush is refused, that is told, after the line.
-fn serve_and_sync<D: Disk + Drop, H: NodeHash, N: Net + Clock, W: Write>(
+fn serve_and_sync<D: Disk + Drop, H: NodeHash, N: Net + Clock, P: Watch, W: Write>(
     alloc: Global,
-    reception: &Reception<'_, N>,
+    reception: &Reception<'_, N, P>,
     engine: &mut Engine<D, H>,
     number: u64,
     writer: &mut W,
@@ -74,9 +75,9 @@ fn serve_and_sync<D: Disk + Drop, H: NodeHash, N: Net + Clock, W: Write>(
 }
 
 /// Serves a connection. Errors: none could be taken.
-fn serve_one<D: Disk + Drop, H: NodeHash, N: Net + Clock>(
+fn serve_one<D: Disk + Drop, H: NodeHash, N: Net + Clock, P: Watch>(
     alloc: Global,
-    reception: &Reception<'_, N>,
+    reception: &Reception<'_, N, P>,
     engine: &mut Engine<D, H>,
 ) -> Result<PeerEnd, Fault>
     requires no_peer { engine.old.state.peers ≡ [] }
@@ -94,6 +95,7 @@ fn serve_one<D: Disk + Drop, H: NodeHash, N: Net + Clock>(
         reception.listener,
         idle,
         reception.passage,
+        reception.watch,
     )
 }
 

@@ -1,8 +1,8 @@
 //! The lines that tell how it ended with each peer.
-ghost use Rattle.std.specs.Prelude.{◌≡◌, ◌⊎◌, ◌++◌, length, true, IfErr, OnOk, string_bytes};
+ghost use Rattle.std.specs.Prelude.{◌≡◌, ◌⊎◌, ◌++◌, Ok, Err, true, IfErr, OnOk, string_bytes};
 ghost use Rattle.std.specs.Io.KnownBytes.{Appends};
 ghost use Rattle.bt_check.specs.Fault.{device, out_of_memory};
-ghost use Rattle.bt_transfer.specs.PeerLines.{is_tried, peer_line, peer_lines, peer_text};
+ghost use Rattle.bt_transfer.specs.PeerLines.{is_tried, peer_line, peer_text};
 
 use bt_check::{Fault, display_name, print};
 use bt_session::{PeerEnd, end_text};
@@ -10,23 +10,23 @@ use bt_words::Peer;
 use std::alloc::{AllocError, Global};
 use std::io::Write;
 
-/// Writes a line for each peer that was tried, in order: where it is reached, and how it ended with it.
-pub(crate) fn write_peers<W: Write>(
+/// Writes the line of a peer, if it was tried: where it is reached, and how it ended with it. But none is written where
+/// one before it could not be: then that is told again.
+pub(crate) fn tell_peer<W: Write>(
     alloc: Global,
-    peers: &[Peer<'_>],
-    ends: &[PeerEnd],
+    before: Result<(), Fault>,
+    peer: &Peer<'_>,
+    end: PeerEnd,
     writer: &mut W,
 ) -> Result<(), Fault>
-    requires { length ends.now ≡ length peers.now }
+    ensures before { OnOk result (before ≡ Ok tt) }
     ensures text { OnOk result
-        (Appends (W.contents writer.old) (W.contents writer.new) (peer_lines peers.now ends.now)) }
-    ensures fault { IfErr result (λ fault. (fault ≡ device) ⊎ (fault ≡ out_of_memory)) }
+        (Appends (W.contents writer.old) (W.contents writer.new) (peer_text peer.now end)) }
+    ensures fault { IfErr result
+        (λ fault. (fault ≡ device) ⊎ (fault ≡ out_of_memory) ⊎ (before ≡ Err fault)) }
 {
-    for (index, peer) in peers.iter().enumerate() {
-        let end = ends[index];
-        write_peer(alloc, peer, end, writer)?;
-    }
-    Ok(())
+    before?;
+    write_peer(alloc, peer, end, writer)
 }
 
 /// Writes the line of a peer, if it was tried.

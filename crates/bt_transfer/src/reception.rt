@@ -1,13 +1,15 @@
 //! What connections are served with.
 
+use bt_progress::Watch;
 use bt_sockets::Passage;
 use std::net::Net;
 use std::time::Clock;
 
-/// Where connections are waited for, and what stands between them and the engine that serves them.
+/// Where connections are waited for and told of, and what stands between them and the engine that serves them.
 #[derive(Drop)]
-pub(crate) struct Reception<'a, N: Net + Clock> {
+pub(crate) struct Reception<'a, N: Net + Clock, P: Watch> {
     pub(crate) net: &'a N,
+    pub(crate) watch: &'a P,
     pub(crate) listener: &'a N::Listener,
     pub(crate) passage: Passage<'a>,
 }

@@ -9,18 +9,20 @@ ghost use Rattle.bt_machine.specs.declared.error.FlushError.{FlushError};
 ghost use Rattle.bt_machine.specs.Report.{all_complete};
 ghost use Rattle.bt_meta.specs.Torrent.{Metainfo};
 ghost use Rattle.bt_session.specs.Peer.{IsFlushedWhere};
-ghost use Rattle.bt_session.specs.Peers.{InTurnWithFlushes, IsTriedWithFlushes};
+ghost use Rattle.bt_session.specs.Peers.{IsTriedWithFlushes};
 ghost use Rattle.bt_resume.specs.ResumeLog.{LogView};
 ghost use Rattle.bt_engine.specs.Leads.{LeadsTo};
-ghost use Rattle.bt_transfer.specs.Fetch.{EndsFetch, HasFetched, HasFetchedOverTcp, IsFetch, TriesAndSyncs, flush_turns, links_by, links_of};
-ghost use Rattle.bt_transfer.specs.FetchSteps.{BreaksOff, FailsAtEnd, FailsToSync, HasTakenInAndConcluded};
+ghost use Rattle.bt_transfer.specs.Fetch.{EndsFetch, HasFetched, HasFetchedOverTcp, IsFetch, TellsInTurn, flush_turns, links_by, links_of};
+ghost use Rattle.bt_transfer.specs.FetchSteps.{BreaksOff, StopsAmong};
 ghost use Rattle.bt_transfer.specs.FullLog.{FindsLogFull, HasFilledLog};
 ghost use Rattle.bt_transfer.specs.Hearing.{IsHeard};
+ghost use Rattle.bt_transfer.specs.Turns.{InTurnOrStopped, TakesInAndSyncs, TakesInBehind, TriesAndTakesIn};
 ghost use Rattle.bt_files.specs.Store.{HasBegun, IsFlushFault, IsSameButPending, flush_fault};
+ghost use Rattle.bt_files.specs.Waiting.{StopsAtWaiting};
 
 use crate::device_context::device_context;
 use crate::hearing::{Bell, hear};
-use crate::peer_lines::write_peers;
+use crate::peer_lines::tell_peer;
 use bt_check::{Fault, Source};
 use bt_connection::ShortBlocks;
 use bt_devices::Seal;
@@ -28,7 +30,7 @@ use bt_disk::Disk;
 use bt_engine::{Engine, whole_runs_keep_promises};
 use bt_files::{FileUse, adopt_waiting, begin_fetching, conclude, finish, flush_fault, load_store};
 use bt_progress::Watch;
-use bt_session::{Link, PeerEnd, run_peers_with_flushes};
+use bt_session::{Link, PeerEnd, meet_peer_with_flushes};
 use bt_sockets::{IDLE_SECONDS, Passage, SESSION_TURNS, Shared, TcpLink};
 use bt_tree::NodeHash;
 use bt_words::Peer;
@@ -45,11 +47,11 @@ use std::time::{Clock, Duration};
 const FLUSH_TURNS: u64 = 2048;
 
 /// Opens the store of a torrent's files in a folder, as `load_store` does; takes peers in turn until all files are
-/// complete; writes how it ended with each that was tried; takes in what came without hashes; has all put on the
-/// devices; and reports. The answer is the status of the program: 0 where all files are complete, else 1.
+/// complete; and reports. Behind each peer it takes in what came without hashes, has all put on the devices, and then
+/// writes how it ended with it. The answer is the status of the program: 0 where all files are complete, else 1.
 ///
 /// Where the path of a log is given, it has all put on the devices, and what is known of it into the log, also before
-/// the first peer is dialled, and then while it fetches, after each 2,048 turns with a peer, and after each peer; also
+/// the first peer is dialled, and then while it fetches, after each 2,048 turns with a peer, and right after each; also
 /// where it ends with a fault of a file that can't be read.
 ///
 /// It is told how much is read of what the files have, and then how much is written of what they lack.
@@ -122,9 +124,18 @@ fn fetch_store<D: Disk + Drop, H: NodeHash, N: Net + Clock, P: Watch, W: Write>(
         pieces: torrent.pieces(),
         shared,
     };
-    let mut links = links_to(alloc, net, peers, passage)?;
+    let mut links = links_to(alloc, net, watch, peers, passage)?;
     let bell = &shared.alarm;
-    fetch_from(alloc, &mut engine, peers, &mut links, log, bell, writer)
+    fetch_from(
+        alloc,
+        watch,
+        &mut engine,
+        peers,
+        &mut links,
+        log,
+        bell,
+        writer,
+    )
 }
 
 /// Where the path of a log is given, has all put on the devices while no peer waits yet. A file of which the log marks
@@ -163,11 +174,12 @@ fn flush_turns(log: Option<&str>) -> u64
 /// Takes peers in turn, each by its link over TCP, until an engine of a torrent is complete, and tells of it as
 /// `fetch_over` does; where the path of its log is given, with flushes among them; then it hears a bell. Errors: also
 /// where that rang, since a device refused a write, and files are not complete.
-fn fetch_from<D: Disk + Drop, H: NodeHash, N: Net + Clock, B: Bell, W: Write>(
+fn fetch_from<D: Disk + Drop, H: NodeHash, N: Net + Clock, P: Watch, B: Bell, W: Write>(
     alloc: Global,
+    watch: &P,
     engine: &mut Engine<D, H>,
     peers: &[Peer<'_>],
-    links: &mut [TcpLink<'_, N>],
+    links: &mut [TcpLink<'_, N, P>],
     log: Option<&str>,
     bell: &B,
     writer: &mut W,
@@ -183,18 +195,28 @@ fn fetch_from<D: Disk + Drop, H: NodeHash, N: Net + Clock, B: Bell, W: Write>(
         (λ fault. fault ≡ log_full → FindsLogFull D.conduct H.digest engine.old) }
 {
     let every = flush_turns(log);
-    let status = fetch_over(alloc, engine, peers, links, SESSION_TURNS, every, writer)?;
+    let status = fetch_over(
+        alloc,
+        watch,
+        engine,
+        peers,
+        links,
+        SESSION_TURNS,
+        every,
+        writer,
+    )?;
     hear(bell, engine.is_complete())?;
     Ok(status)
 }
 
 /// A link to each peer, in their order, which share their passage.
-fn links_to<'a, N: Net + Clock>(
+fn links_to<'a, N: Net + Clock, P: Watch>(
     alloc: Global,
     net: &'a N,
+    watch: &'a P,
     peers: &'a [Peer<'a>],
     passage: Passage<'a>,
-) -> Result<Vec<TcpLink<'a, N>>, AllocError>
+) -> Result<Vec<TcpLink<'a, N, P>>, AllocError>
     ensures { IfOk result (λ links. links.items
         ≡ links_by passage.entry.short_blocks.now passage.entry.pieces peers.now) }
 {
@@ -202,18 +224,16 @@ fn links_to<'a, N: Net + Clock>(
     let mut links = Vec::new(alloc);
     for peer in peers {
         let Peer { host, port } = *peer;
-        links.push(TcpLink::new(net, host, port, idle, passage))?;
+        links.push(TcpLink::new(net, host, port, idle, passage, alloc, watch))?;
     }
     Ok(links)
 }
 
-/// Takes peers in turn, each by its link, until the engine is complete; has all put on the devices; writes how it ended
-/// with each peer that was tried; takes in what came without hashes; and then concludes. A peer's session has at most
-/// `turns` turns, with a flush after each `flush_every`-th and after the session, or with none where that is 0. Errors:
-/// also where a flush was refused, which is told of after the lines of the peers, whether these could be written or
-/// not; and where they can't be, what came is on the devices all the same.
-fn fetch_over<D: Disk + Drop, H: NodeHash, L: Link, W: Write>(
+/// Takes peers in turn, as `take_turns` does, and then concludes. Errors: also where a line of a peer could not be
+/// written, and what came is on the devices all the same.
+fn fetch_over<D: Disk + Drop, H: NodeHash, P: Watch, L: Link, W: Write>(
     alloc: Global,
+    watch: &P,
     engine: &mut Engine<D, H>,
     peers: &[Peer<'_>],
     links: &mut [L],
@@ -225,47 +245,122 @@ fn fetch_over<D: Disk + Drop, H: NodeHash, L: Link, W: Write>(
     requires undialled { All (λ link. L.dials link ≡ 0) links.old }
     requires no_peer { engine.old.state.peers ≡ [] }
     ensures fetched { IfOk result (λ status. HasFetched
-        (InTurnWithFlushes (IsTriedWithFlushes D.conduct H.digest L.dials L.failures L.gives L.R.remaining
-        L.W.contents flush_every turns))
+        (InTurnOrStopped (TriesAndTakesIn (IsTriedWithFlushes D.conduct H.digest L.dials L.failures L.gives
+        L.R.remaining L.W.contents flush_every turns) D.conduct H.digest))
         D.conduct H.digest peers.now engine.old links.old (W.contents writer.old)
         (W.contents writer.new) status links.new engine.new) }
     ensures broken_off { IfErr result (λ fault. BreaksOff
-        (InTurnWithFlushes (IsTriedWithFlushes D.conduct H.digest L.dials L.failures L.gives L.R.remaining
-        L.W.contents flush_every turns))
+        (InTurnOrStopped (TriesAndTakesIn (IsTriedWithFlushes D.conduct H.digest L.dials L.failures L.gives
+        L.R.remaining L.W.contents flush_every turns) D.conduct H.digest))
         D.conduct H.digest engine.old links.old links.new fault engine.new) }
     ensures run { LeadsTo D.conduct H.digest engine.old engine.new }
     ensures fault { IfErr result (IsEndFault engine.old.log) }
     ensures full { IfErr result
         (λ fault. fault ≡ log_full → FindsLogFull D.conduct H.digest engine.old) }
 {
-    let mut ends = vec![in alloc; PeerEnd::Untried; peers.len()]?;
-    let kept = try_and_sync(alloc, engine, links, &mut ends, turns, flush_every);
-    let written = write_peers(alloc, peers, &ends, writer);
-    kept?;
-    written?;
-    take_in_and_conclude(alloc, engine, writer)
+    take_turns(
+        alloc,
+        watch,
+        engine,
+        peers,
+        links,
+        turns,
+        flush_every,
+        writer,
+    )?;
+    watch.clear();
+    conclude(alloc, engine, writer)
 }
 
-/// Takes in what came without hashes, and concludes.
-/// Where one is not taken in, what those before it got is put on the devices, and into the log, all the same; that
-/// fault is told, whatever comes of this.
-fn take_in_and_conclude<D: Disk + Drop, H: NodeHash, W: Write>(
+/// Takes peers in turn, each by its link, until the engine is complete, as `try_peer` does; and writes behind each how
+/// it ended with it. Errors: a fault of a peer's turn, behind whose line nothing more is done; or, once all have had
+/// their turns, why the line of one was not written, and then none after it is.
+fn take_turns<D: Disk + Drop, H: NodeHash, P: Watch, L: Link, W: Write>(
     alloc: Global,
+    watch: &P,
     engine: &mut Engine<D, H>,
+    peers: &[Peer<'_>],
+    links: &mut [L],
+    turns: u64,
+    flush_every: u64,
     writer: &mut W,
-) -> Result<u8, Fault>
+) -> Result<(), Fault>
+    requires same_length { length links.old ≡ length peers.now }
+    requires undialled { All (λ link. L.dials link ≡ 0) links.old }
     requires no_peer { engine.old.state.peers ≡ [] }
-    ensures concluded { IfOk result (λ status. HasTakenInAndConcluded D.conduct H.digest engine.old
-        (W.contents writer.old) (W.contents writer.new) status engine.new) }
-    ensures broken_off { IfErr result
-        (λ fault. FailsAtEnd D.conduct H.digest engine.old fault engine.new) }
+    ensures told { OnOk result (TellsInTurn
+        (InTurnOrStopped (TriesAndTakesIn (IsTriedWithFlushes D.conduct H.digest L.dials L.failures L.gives
+        L.R.remaining L.W.contents flush_every turns) D.conduct H.digest))
+        peers.now engine.old links.old (W.contents writer.old) (W.contents writer.new) links.new engine.new) }
+    ensures stopped { IfErr result (λ fault. StopsAmong
+        (InTurnOrStopped (TriesAndTakesIn (IsTriedWithFlushes D.conduct H.digest L.dials L.failures L.gives
+        L.R.remaining L.W.contents flush_every turns) D.conduct H.digest))
+        engine.old links.old links.new fault engine.new) }
     ensures run { LeadsTo D.conduct H.digest engine.old engine.new }
     ensures fault { IfErr result (IsEndFault engine.old.log) }
     ensures full { IfErr result
         (λ fault. fault ≡ log_full → FindsLogFull D.conduct H.digest engine.old) }
 {
-    match adopt_waiting(engine) {
-        Ok(()) => conclude(alloc, engine, writer),
+    let mut written = Ok(());
+    for (i, link) in links.iter_mut().enumerate() {
+        if engine.is_complete() {
+            break;
+        }
+        let (end, kept) = try_peer(alloc, engine, link, turns, flush_every);
+        watch.clear();
+        written = tell_peer(alloc, written, &peers[i], end, writer);
+        kept?;
+    }
+    written
+}
+
+/// Dials a peer, and has a session with it until the engine is complete, where it is reached, of at most `turns` turns,
+/// with a flush after each `flush_every`-th and after the session, or with none where that is 0. Then it takes in what
+/// came without hashes, and has all put on the devices. Says how it ended with the peer, and the first fault: a flush
+/// was refused, or a file could not be taken in.
+fn try_peer<D: Disk + Drop, H: NodeHash, L: Link>(
+    alloc: Global,
+    engine: &mut Engine<D, H>,
+    link: &mut L,
+    turns: u64,
+    flush_every: u64,
+) -> (PeerEnd, Result<(), Fault>)
+    requires undialled { L.dials link.old ≡ 0 }
+    requires no_peer { engine.old.state.peers ≡ [] }
+    ensures tried { TriesAndTakesIn (IsTriedWithFlushes D.conduct H.digest L.dials L.failures L.gives
+        L.R.remaining L.W.contents flush_every turns)
+        D.conduct H.digest engine.old link.old result.0 result.1 link.new engine.new }
+    ensures gone { engine.new.state.peers ≡ [] }
+    ensures run { LeadsTo D.conduct H.digest engine.old engine.new }
+    ensures fault { IfErr result.1 (IsEndFault engine.old.log) }
+    ensures full { IfErr result.1
+        (λ fault. fault ≡ log_full → FindsLogFull D.conduct H.digest engine.old) }
+{
+    let reached = link.dial();
+    let (end, met) = meet_peer_with_flushes(alloc, engine, reached, true, turns, flush_every);
+    match met {
+        Ok(()) => (end, take_in_and_sync(engine, end)),
+        Err(error) => (end, Err(flush_fault(error))),
+    }
+}
+
+/// Takes in what came without hashes of a peer with which it ended so, and has all put on the devices. Where a file is
+/// not taken in, what those before it got is put there, and into the log, all the same; that fault is told, whatever
+/// comes of this.
+fn take_in_and_sync<D: Disk + Drop, H: NodeHash>(
+    engine: &mut Engine<D, H>,
+    end: PeerEnd,
+) -> Result<(), Fault>
+    requires no_peer { engine.old.state.peers ≡ [] }
+    ensures behind { TakesInAndSyncs D.conduct H.digest end engine.old result engine.new }
+    ensures gone { engine.new.state.peers ≡ [] }
+    ensures run { LeadsTo D.conduct H.digest engine.old engine.new }
+    ensures fault { IfErr result (IsEndFault engine.old.log) }
+    ensures full { IfErr result
+        (λ fault. fault ≡ log_full → FindsLogFull D.conduct H.digest engine.old) }
+{
+    match take_in_behind(engine, end) {
+        Ok(()) => finish(engine),
         Err(fault) => {
             let _ = finish(engine);
             Err(fault)
@@ -273,35 +368,23 @@ fn take_in_and_conclude<D: Disk + Drop, H: NodeHash, W: Write>(
     }
 }
 
-/// Takes peers in turn, each by its link, with flushes among them, until the engine is complete, and then, before
-/// anything else that may fail, has all that they brought put on the devices. Errors: this flush was refused, or one
-/// among the peers, which was then the last thing done.
-fn try_and_sync<D: Disk + Drop, H: NodeHash, L: Link>(
-    alloc: Global,
+/// Takes in what came without hashes, where there was a session: without one nothing came. Errors: a read failed, or
+/// out of memory.
+fn take_in_behind<D: Disk + Drop, H: NodeHash>(
     engine: &mut Engine<D, H>,
-    links: &mut [L],
-    ends: &mut [PeerEnd],
-    turns: u64,
-    flush_every: u64,
+    end: PeerEnd,
 ) -> Result<(), Fault>
-    requires same_length { length links.old ≡ length ends.old }
-    requires undialled { All (λ link. L.dials link ≡ 0) links.old }
     requires no_peer { engine.old.state.peers ≡ [] }
-    ensures kept { OnOk result (TriesAndSyncs (InTurnWithFlushes
-        (IsTriedWithFlushes D.conduct H.digest L.dials L.failures L.gives L.R.remaining L.W.contents
-        flush_every turns)) D.conduct H.digest engine.old links.old ends.new links.new (Ok tt) engine.new) }
-    ensures failed { IfErr result (λ fault. FailsToSync
-        (InTurnWithFlushes (IsTriedWithFlushes D.conduct H.digest L.dials L.failures L.gives L.R.remaining
-        L.W.contents flush_every turns))
-        D.conduct H.digest engine.old links.old ends.new links.new fault engine.new) }
+    ensures taken_in { OnOk result (TakesInBehind D.conduct H.digest end engine.old engine.new) }
+    ensures fault { IfErr result
+        (λ fault. StopsAtWaiting D.conduct H.digest engine.old fault engine.new) }
     ensures gone { engine.new.state.peers ≡ [] }
     ensures run { LeadsTo D.conduct H.digest engine.old engine.new }
-    ensures fault { IfErr result (IsFlushFault engine.old.log) }
-    ensures full { IfErr result
-        (λ fault. fault ≡ log_full → FindsLogFull D.conduct H.digest engine.old) }
 {
-    match run_peers_with_flushes(alloc, engine, links, ends, turns, flush_every) {
-        Ok(()) => finish(engine),
-        Err(error) => Err(flush_fault(error)),
+    match end {
+        PeerEnd::Session(_) => adopt_waiting(engine),
+        PeerEnd::Untried => Ok(()),
+        PeerEnd::Unreachable => Ok(()),
+        PeerEnd::Refused(_) => Ok(()),
     }
 }

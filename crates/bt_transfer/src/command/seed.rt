@@ -28,7 +28,7 @@ use bt_disk::Disk;
 use bt_engine::{Engine, whole_runs_keep_promises};
 use bt_files::{FileUse, finish, load_store, write_report};
 use bt_progress::{FileCall, Watch};
-use bt_sockets::{Passage, Shared, listen, port_of};
+use bt_sockets::{Passage, Shared, listen, port_of, tell_address};
 use bt_tree::NodeHash;
 use bt_words::{Service, Serving};
 use std::alloc::{AllocError, Global};
@@ -168,23 +168,25 @@ fn seed_store<D: Disk + Drop, H: NodeHash, N: Net + Clock, P: Watch, W: Write>(
         pieces: torrent.pieces(),
         shared,
     };
-    listen_and_serve(alloc, net, &mut engine, passage, service, writer)?;
+    listen_and_serve(alloc, net, watch, &mut engine, passage, service, writer)?;
     Ok(0)
 }
 
-/// At a terminal tells that blocks are missing, since a folder may be another than was meant.
+/// At a terminal, and where that was asked for, tells that blocks are missing, since a folder may be another than was
+/// meant.
 fn hint_at_lack<P: Watch, D: Disk + Drop, H: NodeHash>(watch: &P, engine: &Engine<D, H>) {
-    if watch.is_terminal() && !engine.is_complete() {
+    if watch.is_verbose() && !engine.is_complete() {
         watch.hint(
             "not all of the torrent's files are complete here, and what is missing can't be served",
         );
     }
 }
 
-/// Listens, writes at which port, and serves connections to an engine of a torrent.
-fn listen_and_serve<D: Disk + Drop, H: NodeHash, N: Net + Clock, W: Write>(
+/// Listens, tells where, writes at which port, and serves connections to an engine of a torrent.
+fn listen_and_serve<D: Disk + Drop, H: NodeHash, N: Net + Clock, P: Watch, W: Write>(
     alloc: Global,
     net: &N,
+    watch: &P,
     engine: &mut Engine<D, H>,
     passage: Passage<'_>,
     service: Service<'_>,
@@ -201,9 +203,11 @@ fn listen_and_serve<D: Disk + Drop, H: NodeHash, N: Net + Clock, W: Write>(
     ensures fault { IfErr result (IsEndFault engine.old.log) }
 {
     let listener = listen(net, service.address, service.port)?;
+    tell_address(alloc, watch, &listener);
     announce(alloc, &listener, service.port, writer)?;
     let reception = Reception {
         net,
+        watch,
         listener: &listener,
         passage,
     };
@@ -270,9 +274,9 @@ fn connection_count(serving: Serving) -> u64
 
 /// Serves as many connections as is said, and has all put on the devices, and into the log; then it hears a bell.
 /// Errors: also where that rang, since a device refused a write, and files are not complete.
-fn serve_all<D: Disk + Drop, H: NodeHash, N: Net + Clock, B: Bell, W: Write>(
+fn serve_all<D: Disk + Drop, H: NodeHash, N: Net + Clock, P: Watch, B: Bell, W: Write>(
     alloc: Global,
-    reception: &Reception<'_, N>,
+    reception: &Reception<'_, N, P>,
     engine: &mut Engine<D, H>,
     serving: Serving,
     bell: &B,
