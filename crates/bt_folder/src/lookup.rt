@@ -1,6 +1,7 @@
 //! What is asked of a file system in which nothing is changed.
-ghost use Rattle.std.specs.Prelude.{ℕ, List, Option, Result, ⊤};
+ghost use Rattle.std.specs.Prelude.{◌≡◌, ℕ, List, Option, Result, ⊤};
 ghost use Rattle.bt_disk.specs.declared.opening.FileIdentity.{FileIdentity};
+ghost use Rattle.bt_folder.specs.Lookup.{told_identity};
 ghost use Rattle.bt_folder.specs.declared.folder_names.FolderNames.{FolderNames};
 ghost use Rattle.bt_folder.specs.declared.folder_names.ListingError.{ListingError};
 
@@ -34,18 +35,25 @@ impl<R: Files + AllocGlobal + Clone + Drop> Lookup for R {
 
     ghost lists = { λ _ _ _. ⊤ };
 
-    /// None where the system tells the inode 0, which no file has.
     fn identity_at(&self, path: &str) -> Option<FileIdentity> {
         match self.metadata(path) {
-            Ok(metadata) if metadata.ino() > 0 => Some(FileIdentity {
-                device: metadata.dev(),
-                inode: metadata.ino(),
-            }),
-            _ => None,
+            Ok(metadata) => told_identity(metadata.dev(), metadata.ino()),
+            Err(_) => None,
         }
     }
 
     fn names_in(&self, folder: &str) -> Result<FolderNames, ListingError> {
         FolderNames::read(self, folder)
     }
+}
+
+/// By what a file is told apart of which the system tells these numbers. None where it tells the inode 0, which no file
+/// has.
+fn told_identity(device: u64, inode: u64) -> Option<FileIdentity>
+    ensures { result ≡ told_identity device inode }
+{
+    if inode == 0 {
+        return None;
+    }
+    Some(FileIdentity { device, inode })
 }
