@@ -1,8 +1,11 @@
 -- What the parts tell, read by several reads.
-use Rattle.std.proofs.Common.{◌≡◌, ℕ, List, [], ◌++◌, Option, None, Some, Result, Ok, Err, IfOk, OnOk, sym, ap, ◌∙◌, subst, take, append-nil, append_assoc}
+use Rattle.std.proofs.Common.{◌≡◌, ℕ, ◌+◌, ◌≤◌, List, [], ◌++◌, Option, None, Some, Result, Ok, Err, IfOk, OnOk, length, sym, ap, ◌∙◌, subst, take, append-nil, append_assoc, arith}
 use Rattle.std.specs.Io.KnownBytes.{Consumes, Keeps}
 use Rattle.std.proofs.KnownBytes.{Consumes-nil, Consumes-trans}
-use Rattle.bt_jobs.specs.JobsSteps.{HearsAll, IsGiven, TakesIn}
+use Rattle.std.proofs.lemmas.List.{length-append, length-take-le}
+use Rattle.bt_jobs.specs.JobsSteps.{AreWatched, HearsAll, IsGiven, TakesIn}
+use Rattle.bt_jobs.specs.Parts.{IsSeen, PartState}
+use Rattle.bt_jobs.specs.PartsSteps.{TurnAll}
 use Rattle.bt_jobs.specs.Told.{IsToldBy}
 use Rattle.bt_jobs.specs.declared.told.Told.{Told}
 
@@ -48,6 +51,41 @@ module _ (a b c : Option (List ℕ)) (before mid : Told) (count : ℕ) (buffer :
         ended = given.ended none;
         told = h.told;
       }
+
+-- ---- and parts are looked at each time
+
+module _ {P : Type 0} (stands : P → PartState → Type 0) (most : ℕ) where
+  pub watched_none : (known : Option (List ℕ)) (parts : List P) → AreWatched stands most known known parts parts
+  watched_none known parts = record {
+    bytes = [];
+    taken = Consumes-nil known;
+    looks = 0;
+    often = omega arith;
+    seen = λ text begun are. are;
+  }
+
+  module _ (a b c : Option (List ℕ)) (before mid : List P) (count : ℕ) (buffer : List ℕ) (h : AreWatched stands most a b before mid) (given : IsGiven b c count buffer) where
+    pub watched_more : (after : List P) → length buffer ≤ most
+        → ((text : List ℕ) (looks : ℕ) → TurnAll stands (IsSeen text looks) (IsSeen text (looks + 1)) mid after) → AreWatched stands most a c before after
+    watched_more after fits look = record {
+      bytes = h.bytes ++ take count buffer;
+      taken = Consumes-trans a b c h.bytes (take count buffer) h.taken given.taken;
+      looks = h.looks + 1;
+      often = omega (arith, h.often, fits, given.within, length-append h.bytes (take count buffer), length-take-le count buffer given.within);
+      seen = λ text begun are. look text h.looks begun (h.seen text begun are);
+    }
+
+    pub watched_all : count ≡ 0 → AreWatched stands most a c before mid
+    watched_all none =
+        let nothing : take count buffer ≡ [] = ap (λ n. take n buffer) none in
+        record {
+          bytes = h.bytes;
+          taken = subst (Consumes a c) (ap (λ l. h.bytes ++ l) nothing ∙ append-nil h.bytes)
+              (Consumes-trans a b c h.bytes (take count buffer) h.taken given.taken);
+          looks = h.looks;
+          often = h.often;
+          seen = h.seen;
+        }
 
 -- what holds whatever the result is
 pub on_ok_any : {T E : Type 0} (r : Result T E) (P : Type 0) → P → OnOk r P

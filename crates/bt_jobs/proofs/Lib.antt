@@ -11,3 +11,4 @@ pub mod Openings
 pub mod PartReports
 pub mod Roots
 pub mod Wholes
+pub mod Turning

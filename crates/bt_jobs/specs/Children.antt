@@ -1,9 +1,6 @@
 -- The parts of a check as processes.
-use Rattle.std.specs.Prelude.{◌≡◌, ◌≢◌, ℕ, ◌⊎◌, ◌++◌, [], ◌∷◌, List, Bool, if◌then◌else◌, ℤ, pos, Option, Some, IfSome, codes}
+use Rattle.std.specs.Prelude.{◌≡◌, ◌≢◌, ℕ, ◌⊎◌, ◌++◌, [], ◌∷◌, List, Bool, if◌then◌else◌, ℤ, pos, Option, Some, codes}
 use Rattle.std.specs.Fmt.{decimal}
-use Rattle.std.specs.Process.{child_status, exit_code}
-use Rattle.std.specs.declared.process.child.Child.{Child}
-use Rattle.std.specs.declared.process.status.ExitStatus.{ExitStatus}
 use Rattle.bt_check.specs.Fault.{device, out_of_memory}
 use Rattle.bt_check.specs.declared.fault.Fault.{Fault}
 
@@ -20,16 +17,6 @@ abbrev pub part_words : (is_info : Bool) (dir : List ℕ) (index count : ℕ) �
 part_words is_info dir index count =
     codes "check" ∷ codes "--part" ∷ (decimal index ++ codes "/" ++ decimal count)
     ∷ (info_words is_info ++ (codes "--" ∷ codes "/dev/stdin" ∷ dir ∷ []))
-
--- a part has ended, with status 0
-pub record HasEndedWell {P I O E : Type 0} (child : Child P I O E) : Type 0 where
-  pub status : ExitStatus
-  pub ended : child_status child ≡ Some status
-  pub well : exit_code status ≡ Some (pos 0)
-
--- a part of which an end is known has ended with status 0
-abbrev pub HasNotFailed : {P I O E : Type 0} → Child P I O E → Type 0
-HasNotFailed child = IfSome (child_status child) (λ status. exit_code status ≡ Some (pos 0))
 
 -- The fault that a part's end comes to, of which the code is none where a signal ended it: memory was short
 -- where the code says so, and else a device failed.

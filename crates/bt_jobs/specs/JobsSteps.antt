@@ -1,7 +1,9 @@
 -- What the parts of a check are heard to tell: for private steps.
-use Rattle.std.specs.Prelude.{◌≡◌, ℕ, ◌≤◌, List, ◌++◌, Option, length, take}
+use Rattle.std.specs.Prelude.{◌≡◌, ℕ, ◌*◌, ◌≤◌, List, ◌++◌, Option, length, take}
 use Rattle.std.specs.Io.KnownBytes.{Consumes, IsAtEnd}
 use Rattle.bt_parts.specs.declared.run.Run.{Run}
+use Rattle.bt_jobs.specs.Parts.{IsSeen, PartState}
+use Rattle.bt_jobs.specs.PartsSteps.{TurnAll}
 use Rattle.bt_jobs.specs.Told.{IsToldBy, TellsEach}
 use Rattle.bt_jobs.specs.declared.told.Told.{Told}
 
@@ -21,6 +23,15 @@ pub record HearsAll (old new : Option (List ℕ)) (before after : Told) : Type 0
   pub taken : Consumes old new bytes
   pub ended : IsAtEnd new
   pub told : TakesIn bytes before after
+
+-- Parts were looked at each time that some of a reader's bytes came, at most `most` at a time, and had not failed.
+pub record AreWatched {P : Type 0} (stands : P → PartState → Type 0) (most : ℕ) (old new : Option (List ℕ))
+    (before after : List P) : Type 0 where
+  pub bytes : List ℕ
+  pub taken : Consumes old new bytes
+  pub looks : ℕ
+  pub often : length bytes ≤ most * looks
+  pub seen : (text : List ℕ) → TurnAll stands (IsSeen text 0) (IsSeen text looks) before after
 
 -- all bytes that a reader had are lines that tell these runs, each once
 pub record AreHeard (old new : Option (List ℕ)) (runs : List Run) : Type 0 where

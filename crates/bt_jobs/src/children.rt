@@ -1,16 +1,21 @@
-//! The parts of a check as processes: by which commands they are started, and how they are waited for.
-ghost use Rattle.std.specs.Prelude.{◌≡◌, ◌⊎◌, ◌↔◌, ◌++◌, [], ◌∷◌, Some, pos, map, codes, string_bytes, IfOk, IfErr, IfSome, IsTrue, OnOk};
+//! The parts of a check: by which commands they are started, and how they are passed the torrent, looked at, ended and
+//! waited for.
+ghost use Rattle.std.specs.Prelude.{◌≡◌, ◌⊎◌, ◌↔◌, ◌+◌, ◌++◌, [], ◌∷◌, ℕ, List, Some, pos, map, codes, string_bytes, IfOk, IfErr, IfSome, IsTrue, OnErr, OnOk};
 ghost use Rattle.std.specs.List.{All, range_with_len};
 ghost use Rattle.std.specs.Fmt.{decimal};
 ghost use Rattle.std.specs.Process.{command_args, command_program, exit_code};
 ghost use Rattle.bt_check.specs.Fault.{device, out_of_memory};
-ghost use Rattle.bt_jobs.specs.Children.{HasEndedWell, HasNotFailed, IsPartFault, info_words, part_words, program_text};
+ghost use Rattle.bt_jobs.specs.Children.{IsPartFault, info_words, part_words, program_text};
+ghost use Rattle.bt_jobs.specs.Parts.{HasNotFailed, IsDone, IsOver, IsSeen};
+ghost use Rattle.bt_jobs.specs.PartsSteps.{IsAny, TurnAll, Turns};
 
 use crate::jobs::Job;
-use crate::starter::end;
+use crate::start_fault::{StartFault, early_end};
+use crate::starter::StartedPart;
 use bt_check::Fault;
 use std::alloc::{AllocError, Global};
-use std::process::{Child, Command, ExitStatus, OpenProcess};
+use std::io;
+use std::process::{Command, ExitStatus};
 
 /// The program that this process runs.
 const PROGRAM: &str = "/proc/self/exe";
@@ -80,16 +85,39 @@ fn push_info(command: &mut Command, is_info: bool) -> Result<(), AllocError>
     push_word(command, "--info")
 }
 
+/// Passes a part a text. Errors: it did not take all of it; then it is over.
+pub(crate) fn pass_to<C: StartedPart>(part: &mut C, text: &[u8]) -> Result<(), StartFault>
+    ensures passed { OnOk result (Turns C.stands HasNotFailed (IsSeen text.now 0) part.old part.new) }
+    ensures over { OnErr result (Turns C.stands IsAny IsOver part.old part.new) }
+{
+    match part.pass(text) {
+        Ok(()) => Ok(()),
+        Err(_) => Err(early_end(end_part(part))),
+    }
+}
+
+/// Ends a part, and waits for it: how it ended, which may have been before.
+fn end_part<C: StartedPart>(part: &mut C) -> io::Result<ExitStatus>
+    ensures { Turns C.stands IsAny IsOver part.old part.new }
+{
+    part.end();
+    part.join()
+}
+
 /// Ends all parts, and waits for them.
-pub(crate) fn end_all<C: OpenProcess>(children: &mut [Child<C>]) {
+pub(crate) fn end_all<C: StartedPart>(children: &mut [C])
+    ensures { TurnAll C.stands IsAny IsOver children.old children.new }
+{
     for child in children.iter_mut() {
-        let _ = end(child);
+        let _ = end_part(child);
     }
 }
 
 /// Looks whether a part has ended that did not do what it was to. Waits for none.
-pub(crate) fn look_at_all<C: OpenProcess>(children: &mut [Child<C>]) -> Result<(), Fault>
-    ensures well { OnOk result (All HasNotFailed children.new) }
+pub(crate) fn look_at_all<C: StartedPart>(children: &mut [C]) -> Result<(), Fault>
+    ensures seen { OnOk result ((text : List ℕ) → (looks : ℕ)
+        → TurnAll C.stands (IsSeen text looks) (IsSeen text (looks + 1)) children.old children.new) }
+    ensures kept { TurnAll C.stands IsAny IsAny children.old children.new }
     ensures fault { IfErr result (λ fault. (fault ≡ device) ⊎ (fault ≡ out_of_memory)) }
 {
     for child in children.iter_mut() {
@@ -99,11 +127,13 @@ pub(crate) fn look_at_all<C: OpenProcess>(children: &mut [Child<C>]) -> Result<(
 }
 
 /// Looks whether a part has ended that did not do what it was to. Does not wait for it.
-fn look_at<C: OpenProcess>(child: &mut Child<C>) -> Result<(), Fault>
-    ensures well { OnOk result (HasNotFailed child.new) }
+fn look_at<C: StartedPart>(child: &mut C) -> Result<(), Fault>
+    ensures seen { OnOk result ((text : List ℕ) → (looks : ℕ)
+        → Turns C.stands (IsSeen text looks) (IsSeen text (looks + 1)) child.old child.new) }
+    ensures kept { Turns C.stands IsAny IsAny child.old child.new }
     ensures fault { IfErr result (λ fault. (fault ≡ device) ⊎ (fault ≡ out_of_memory)) }
 {
-    match child.try_wait() {
+    match child.look() {
         Ok(status) => outcome_so_far(status),
         Err(_) => Err(Fault::Device),
     }
@@ -121,8 +151,10 @@ fn outcome_so_far(status: Option<ExitStatus>) -> Result<(), Fault>
 }
 
 /// Waits for all parts, each of which has to do what it was to.
-pub(crate) fn wait_for_all<C: OpenProcess>(children: &mut [Child<C>]) -> Result<(), Fault>
-    ensures ended { OnOk result (All HasEndedWell children.new) }
+pub(crate) fn wait_for_all<C: StartedPart>(children: &mut [C]) -> Result<(), Fault>
+    ensures ended { OnOk result ((text : List ℕ) → (looks : ℕ)
+        → TurnAll C.stands (IsSeen text looks) (IsDone text) children.old children.new) }
+    ensures kept { TurnAll C.stands IsAny IsAny children.old children.new }
     ensures fault { IfErr result (λ fault. (fault ≡ device) ⊎ (fault ≡ out_of_memory)) }
 {
     for child in children.iter_mut() {
@@ -132,11 +164,13 @@ pub(crate) fn wait_for_all<C: OpenProcess>(children: &mut [Child<C>]) -> Result<
 }
 
 /// Waits for a part, which has to do what it was to.
-fn wait_for<C: OpenProcess>(child: &mut Child<C>) -> Result<(), Fault>
-    ensures ended { OnOk result (HasEndedWell child.new) }
+fn wait_for<C: StartedPart>(child: &mut C) -> Result<(), Fault>
+    ensures ended { OnOk result ((text : List ℕ) → (looks : ℕ)
+        → Turns C.stands (IsSeen text looks) (IsDone text) child.old child.new) }
+    ensures kept { Turns C.stands IsAny IsAny child.old child.new }
     ensures fault { IfErr result (λ fault. (fault ≡ device) ⊎ (fault ≡ out_of_memory)) }
 {
-    match child.wait() {
+    match child.join() {
         Ok(status) => part_outcome(status),
         Err(_) => Err(Fault::Device),
     }

@@ -1,6 +1,5 @@
 //! The command `check` with several jobs: the parts are started, and what they tell is joined.
-ghost use Rattle.std.specs.Prelude.{◌≡◌, ◌⊎◌, ◌+◌, ◌<◌, ℕ, List, length, map, Ok, IfOk, IfErr, IsErrAnd, OnOk};
-ghost use Rattle.std.specs.List.{All};
+ghost use Rattle.std.specs.Prelude.{◌≡◌, ◌⊎◌, ◌<◌, ◌≤◌, [], ℕ, List, length, map, vec_capacity, vec_len, Ok, IfOk, IfErr, IsErrAnd, OnOk};
 ghost use Rattle.std.specs.List.Sorted.{IsSorted};
 ghost use Rattle.std.specs.Io.KnownBytes.{Appends, Keeps};
 ghost use Rattle.bt_meta.specs.Torrent.{Metainfo};
@@ -8,16 +7,18 @@ ghost use Rattle.bt_check.specs.Fault.{device, out_of_memory, status_of};
 ghost use Rattle.bt_check.specs.Report.{report_text};
 ghost use Rattle.bt_check.specs.TorrentFile.{HasText, IsLoadFault};
 ghost use Rattle.bt_check.specs.declared.report.FileFinding.{FileFinding};
-ghost use Rattle.bt_jobs.specs.Children.{HasEndedWell};
-ghost use Rattle.bt_jobs.specs.JobsSteps.{AreHeard, HearsAll, IsGiven};
-ghost use Rattle.bt_jobs.specs.Starts.{AreStarted, IsCheckByParts, part_starts, start_fault, start_of};
+ghost use Rattle.bt_jobs.specs.ByParts.{IsCheckByParts};
+ghost use Rattle.bt_jobs.specs.JobsSteps.{AreHeard, AreWatched, HearsAll, IsGiven};
+ghost use Rattle.bt_jobs.specs.Parts.{AreStarted, IsDone, IsOver, IsSeen, NoneIsLeft};
+ghost use Rattle.bt_jobs.specs.PartsSteps.{IsAny, IsOneAtMost, IsOneMore, TurnAll};
+ghost use Rattle.bt_jobs.specs.Starts.{Start, part_starts, start_fault, start_of};
 ghost use Rattle.bt_jobs.specs.Told.{IsToldBy, TellsEach};
 
-use crate::children::{end_all, look_at_all, part_commands, wait_for_all};
+use crate::children::{end_all, look_at_all, part_commands, pass_to, wait_for_all};
 use crate::report::{heard_of, write_report};
 use crate::source::{Loaded, load_text};
 use crate::start_fault::{StartFault, unstarted};
-use crate::starter::Starter;
+use crate::starter::{StartedPart, Starter};
 use crate::told::Told;
 use bt_check::{
     Fault, OPEN_FILES, Source, Summary, check_torrent, data_path, fault_name, is_device_fault,
@@ -30,7 +31,7 @@ use bt_progress::{FileCall, Watch};
 use bt_tree::BLOCK_LEN;
 use std::alloc::Global;
 use std::io::{self, ErrorKind, PipeReader, PipeWriter, Read, Write};
-use std::process::{Child, Command, OpenProcess};
+use std::process::Command;
 use std::rt::Files;
 
 /// What is told where a part can't be started.
@@ -60,8 +61,8 @@ pub struct Job<'a> {
 /// All files are looked at first, and one that can't be opened ends it before anything is started. A part that can't
 /// be started, that ends without having done what it was to, tells what is no part of a check, or finds no file where
 /// one was opened before, is a device that failed, but for want of memory, which is told as such; nothing is written
-/// then. Errors: the torrent is refused, which is found before anything is written; a call on a file, the pipe or the
-/// writer failed, or a part did; out of memory.
+/// then. Whatever comes of it, no part is left. Errors: the torrent is refused, which is found before anything is
+/// written; a call on a file, the pipe or the writer failed, or a part did; out of memory.
 pub fn check_by_parts<R: Files + AllocGlobal + Clone + Drop, L: Starter, P: Watch, W: Write>(
     rt: &R,
     starter: &mut L,
@@ -71,8 +72,9 @@ pub fn check_by_parts<R: Files + AllocGlobal + Clone + Drop, L: Starter, P: Watc
 ) -> Result<Summary, Fault>
     ensures report { IfOk result (λ summary. (torrent : Metainfo) × (found : List FileFinding)
         × HasText job.entry.source.is_info torrent
-        × IsCheckByParts L.starts job.entry torrent found summary starter.old starter.new
+        × IsCheckByParts L.starts L.Part.stands job.entry torrent found summary starter.old starter.new
         × Appends (W.contents writer.old) (W.contents writer.new) (report_text found)) }
+    ensures over { NoneIsLeft L.starts L.Part.stands starter.old starter.new }
     ensures fault { IfErr result (IsLoadFault job.entry.source.is_info) }
     ensures refused { IfErr result (λ fault. status_of fault ≡ 2
         → Keeps (W.contents writer.old) (W.contents writer.new)) }
@@ -165,31 +167,23 @@ fn runs_of_parts<L: Starter, P: Watch, I: Read>(
 ) -> Result<Vec<Run>, Fault>
     ensures told { IfOk result
         (λ runs. AreHeard (I.remaining output.old) (I.remaining output.new) runs.items) }
-    ensures started { IfOk result (λ _. AreStarted L.starts loaded.now.text.items starter.old
-        (part_starts job.entry.source.is_info job.entry.dir.now job.entry.count) starter.new) }
+    ensures done { IfOk result (λ _. (parts : List L.Part)
+        × AreStarted L.starts L.Part.stands (IsDone loaded.now.text.items) starter.old
+        (part_starts job.entry.source.is_info job.entry.dir.now job.entry.count) starter.new parts) }
+    ensures over { NoneIsLeft L.starts L.Part.stands starter.old starter.new }
     ensures fault { IfErr result (λ fault. (fault ≡ device) ⊎ (fault ≡ out_of_memory)) }
 {
     let commands = part_commands(alloc, job)?;
-    let mut children = Vec::with_capacity(alloc, job.count as usize)?;
+    // The room for all, so that none is lost that was started.
+    let mut parts = Vec::with_capacity(alloc, job.count as usize)?;
     let mut told = Told::new(alloc);
-    let outcome = hear_parts(
-        starter,
-        watch,
-        loaded,
-        commands,
-        output,
-        input,
-        &mut children,
-        &mut told,
-    );
-    if outcome.is_err() {
-        end_all(&mut children);
-    }
-    outcome?;
+    hear_parts(
+        starter, watch, loaded, commands, output, input, &mut parts, &mut told,
+    )?;
     of_parts(watch, in_order(told))
 }
 
-/// Starts all parts, which tell by a pipe, and hears them to their ends.
+/// Starts all parts, which tell by a pipe, and hears them to their ends. When it ends, no part is left.
 fn hear_parts<L: Starter, P: Watch, I: Read>(
     starter: &mut L,
     watch: &P,
@@ -197,49 +191,106 @@ fn hear_parts<L: Starter, P: Watch, I: Read>(
     commands: Vec<Command>,
     output: &mut I,
     input: PipeWriter,
-    children: &mut Vec<Child<L::Part>>,
+    parts: &mut Vec<L::Part>,
     told: &mut Told,
 ) -> Result<(), Fault>
+    requires none { parts.old.items ≡ [] }
+    requires room { length commands.items ≤ vec_capacity parts.old }
     ensures told { OnOk result
         (HearsAll (I.remaining output.old) (I.remaining output.new) told.old told.new) }
-    ensures ended { OnOk result (All HasEndedWell children.new.items) }
-    ensures all { OnOk result
-        (length children.new.items ≡ length children.old.items + length commands.items) }
-    ensures started { OnOk result (AreStarted L.starts loaded.now.text.items starter.old
-        (map start_of commands.items) starter.new) }
+    ensures done { OnOk result (AreStarted L.starts L.Part.stands (IsDone loaded.now.text.items)
+        starter.old (map start_of commands.items) starter.new parts.new.items) }
+    ensures over { (begun : List Start)
+        × AreStarted L.starts L.Part.stands IsOver starter.old begun starter.new parts.new.items }
     ensures fault { IfErr result (λ fault. (fault ≡ device) ⊎ (fault ≡ out_of_memory)) }
 {
-    let started = start_all(starter, watch, commands, &loaded.text, &input, children);
+    match start_and_hear(starter, watch, loaded, commands, output, input, parts, told) {
+        Ok(()) => Ok(()),
+        Err(fault) => {
+            end_all(parts);
+            Err(fault)
+        }
+    }
+}
+
+/// The same, but where it fails, parts may be left.
+fn start_and_hear<L: Starter, P: Watch, I: Read>(
+    starter: &mut L,
+    watch: &P,
+    loaded: &Loaded,
+    commands: Vec<Command>,
+    output: &mut I,
+    input: PipeWriter,
+    parts: &mut Vec<L::Part>,
+    told: &mut Told,
+) -> Result<(), Fault>
+    requires none { parts.old.items ≡ [] }
+    requires room { length commands.items ≤ vec_capacity parts.old }
+    ensures told { OnOk result
+        (HearsAll (I.remaining output.old) (I.remaining output.new) told.old told.new) }
+    ensures done { OnOk result (AreStarted L.starts L.Part.stands (IsDone loaded.now.text.items)
+        starter.old (map start_of commands.items) starter.new parts.new.items) }
+    ensures all { (begun : List Start)
+        × AreStarted L.starts L.Part.stands IsAny starter.old begun starter.new parts.new.items }
+    ensures fault { IfErr result (λ fault. (fault ≡ device) ⊎ (fault ≡ out_of_memory)) }
+{
+    let started = start_all(starter, watch, commands, &loaded.text, &input, parts);
     // Once the parts have ended, nobody is left who may write.
     drop(input);
     started?;
     let files = loaded.torrent.files();
-    of_parts(watch, hear_to_ends(watch, files, output, children, told))
+    of_parts(watch, hear_to_ends(watch, files, output, parts, told))
 }
 
-/// Starts the parts of some commands, which tell by the pipe. The commands' own ends of it are closed then.
+/// Starts the parts of some commands, which tell by the pipe, and passes each a text.
 fn start_all<L: Starter, P: Watch>(
     starter: &mut L,
     watch: &P,
     commands: Vec<Command>,
     text: &[u8],
     pipe: &PipeWriter,
-    children: &mut Vec<Child<L::Part>>,
+    parts: &mut Vec<L::Part>,
 ) -> Result<(), Fault>
-    ensures all { OnOk result
-        (length children.new.items ≡ length children.old.items + length commands.items) }
-    ensures started { OnOk result
-        (AreStarted L.starts text.now starter.old (map start_of commands.items) starter.new) }
+    requires none { parts.old.items ≡ [] }
+    requires room { length commands.items ≤ vec_capacity parts.old }
+    ensures started { OnOk result (AreStarted L.starts L.Part.stands (IsSeen text.now 0)
+        starter.old (map start_of commands.items) starter.new parts.new.items) }
+    ensures all { (begun : List Start)
+        × AreStarted L.starts L.Part.stands IsAny starter.old begun starter.new parts.new.items }
     ensures fault { IfErr result (λ fault. (fault ≡ device) ⊎ (fault ≡ out_of_memory)) }
 {
     for given in commands {
-        let mut command = given;
-        let outcome = starter.start(&mut command, text, pipe);
-        drop(command);
-        let child = of_start(watch, outcome)?;
-        children.push(child)?;
+        start_one(starter, watch, given, text, pipe, parts)?;
     }
     Ok(())
+}
+
+/// Starts the part of a command, which tells by the pipe, and passes it a text. The command's own end of the pipe is
+/// closed then. A part that was started is one of those that are given back, whatever comes of it.
+fn start_one<L: Starter, P: Watch>(
+    starter: &mut L,
+    watch: &P,
+    command: Command,
+    text: &[u8],
+    pipe: &PipeWriter,
+    parts: &mut Vec<L::Part>,
+) -> Result<(), Fault>
+    requires room { vec_len parts.old < vec_capacity parts.old }
+    ensures started { OnOk result (IsOneMore L.starts L.Part.stands (IsSeen text.now 0)
+        (start_of command) starter.old starter.new parts.old.items parts.new.items) }
+    ensures all { IsOneAtMost L.starts L.Part.stands (start_of command)
+        starter.old starter.new parts.old.items parts.new.items }
+    ensures room { vec_capacity parts.old ≤ vec_capacity parts.new }
+    ensures fault { IfErr result (λ fault. (fault ≡ device) ⊎ (fault ≡ out_of_memory)) }
+{
+    let mut command = command;
+    let outcome = starter.start(&mut command, pipe);
+    drop(command);
+    let mut part = of_start(watch, outcome)?;
+    let passed = pass_to(&mut part, text);
+    // There is the room that was made.
+    let _ = parts.push(part);
+    of_start(watch, passed)
 }
 
 /// What came of a start. Where it is a fault of a device, it is told what failed.
@@ -290,16 +341,18 @@ fn in_order(told: Told) -> Result<Vec<Run>, Fault>
 }
 
 /// Hears parts, and waits for them, each of which has to do what it was to.
-fn hear_to_ends<P: Watch, I: Read, C: OpenProcess>(
+fn hear_to_ends<P: Watch, I: Read, C: StartedPart>(
     watch: &P,
     files: &[FileEntry],
     output: &mut I,
-    children: &mut [Child<C>],
+    children: &mut [C],
     told: &mut Told,
 ) -> Result<(), Fault>
     ensures told { OnOk result
         (HearsAll (I.remaining output.old) (I.remaining output.new) told.old told.new) }
-    ensures ended { OnOk result (All HasEndedWell children.new) }
+    ensures done { OnOk result ((text : List ℕ)
+        → TurnAll C.stands (IsSeen text 0) (IsDone text) children.old children.new) }
+    ensures kept { TurnAll C.stands IsAny IsAny children.old children.new }
     ensures fault { IfErr result (λ fault. (fault ≡ device) ⊎ (fault ≡ out_of_memory)) }
 {
     hear(watch, files, output, children, told)?;
@@ -307,15 +360,18 @@ fn hear_to_ends<P: Watch, I: Read, C: OpenProcess>(
 }
 
 /// Hears parts until all have ended, or one without having done what it was to.
-fn hear<P: Watch, I: Read, C: OpenProcess>(
+fn hear<P: Watch, I: Read, C: StartedPart>(
     watch: &P,
     files: &[FileEntry],
     output: &mut I,
-    children: &mut [Child<C>],
+    children: &mut [C],
     told: &mut Told,
 ) -> Result<(), Fault>
     ensures told { OnOk result
         (HearsAll (I.remaining output.old) (I.remaining output.new) told.old told.new) }
+    ensures watched { OnOk result (AreWatched C.stands PIPE_LEN
+        (I.remaining output.old) (I.remaining output.new) children.old children.new) }
+    ensures kept { TurnAll C.stands IsAny IsAny children.old children.new }
     ensures fault { IfErr result (λ fault. (fault ≡ device) ⊎ (fault ≡ out_of_memory)) }
 {
     let mut buffer = [0; PIPE_LEN];

@@ -19,4 +19,4 @@ pub use jobs::{Job, check_by_parts};
 pub use law::parts_are_whole;
 pub use part::check_part;
 pub use start_fault::StartFault;
-pub use starter::{ProcessStarter, Starter};
+pub use starter::{ProcessStarter, StartedPart, Starter};

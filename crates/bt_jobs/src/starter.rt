@@ -1,31 +1,48 @@
-//! How a part of a check is started, and passed the torrent.
-ghost use Rattle.std.specs.Prelude.{◌≡◌, ℕ, List, ⊤, IfErr, OnOk};
+//! How a part of a check is started, passed the torrent, looked at, ended and waited for.
+ghost use Rattle.std.specs.Prelude.{◌≡◌, ℕ, List, ⊤, OnErr, IfOk, OnOk};
 ghost use Rattle.std.specs.Io.KnownBytes.{Appends};
-ghost use Rattle.bt_check.specs.Fault.{device};
+ghost use Rattle.bt_jobs.specs.Parts.{Becomes, PartState, looked, newly, passed, told_to_end, waited_for};
 ghost use Rattle.bt_jobs.specs.Starts.{Start, start_of};
 
-use crate::start_fault::{StartFault, early_end, unstarted};
-use bt_check::Fault;
-use std::io::{self, PipeWriter, Write};
+use crate::start_fault::{StartFault, unstarted};
+use std::io::{self, ErrorKind, PipeWriter, Write};
 use std::process::{Child, Command, ExitStatus, OpenProcess, Processes, Stdio};
+
+/// A part of a check that was started.
+pub trait StartedPart {
+    /// That it stands so, by what was done with it.
+    ghost stands: { Self → PartState → Type 0 };
+
+    /// Writes a text to its input, and closes that. Errors: it does not take all.
+    fn pass(&mut self, text: &[u8]) -> io::Result<()>
+        ensures { Becomes stands self.old (passed text.now result) self.new };
+
+    /// How it has ended, if it has. Does not wait for it.
+    fn look(&mut self) -> io::Result<Option<ExitStatus>>
+        ensures { Becomes stands self.old (looked result) self.new };
+
+    /// Tells it to end at once.
+    fn end(&mut self)
+        ensures { Becomes stands self.old told_to_end self.new };
+
+    /// Waits until it has ended: how.
+    fn join(&mut self) -> io::Result<ExitStatus>
+        ensures { Becomes stands self.old (waited_for result) self.new };
+}
 
 /// A way to start parts of a check.
 pub trait Starter {
-    /// A part that was started.
-    type Part: OpenProcess + Drop;
+    /// What it starts.
+    type Part: StartedPart + Drop;
 
-    /// That a part was started so, and passed this text.
-    ghost starts: { Self → Start → List ℕ → Self → Type 0 };
+    /// That it started a part so.
+    ghost starts: { Self → Start → Self → Type 0 };
 
-    /// Starts a part, which tells by the pipe, and passes it a text. One that does not take it all is ended, and waited
-    /// for.
-    fn start(
-        &mut self,
-        command: &mut Command,
-        text: &[u8],
-        pipe: &PipeWriter,
-    ) -> Result<Child<Self::Part>, StartFault>
-        ensures { OnOk result (starts self.old (start_of command.old) text.now self.new) };
+    /// Starts a part, which tells by the pipe. Errors: it was not started.
+    fn start(&mut self, command: &mut Command, pipe: &PipeWriter) -> Result<Self::Part, StartFault>
+        ensures started { OnOk result (starts self.old (start_of command.old) self.new) }
+        ensures stands { IfOk result (λ part. Self.Part.stands part (newly (start_of command.old))) }
+        ensures unstarted { OnErr result (self.new ≡ self.old) };
 }
 
 /// A starter of processes of the system.
@@ -43,51 +60,52 @@ impl<'a, S> ProcessStarter<'a, S> {
 
 // The kit says nothing of which process a system starts.
 impl<'a, S: Processes> Starter for ProcessStarter<'a, S> {
-    type Part = S::Started;
+    type Part = Child<S::Started>;
 
-    ghost starts = { λ _ _ _ _. ⊤ };
+    ghost starts = { λ _ _ _. ⊤ };
 
     fn start(
         &mut self,
         command: &mut Command,
-        text: &[u8],
         pipe: &PipeWriter,
     ) -> Result<Child<S::Started>, StartFault> {
         let output = pipe.try_clone().map_err(|error| unstarted(error.kind()))?;
         command.stdin(Stdio::piped());
         command.stdout(output);
         command.stderr(Stdio::null());
-        let mut child = command
+        command
             .spawn(self.system)
-            .map_err(|error| unstarted(error.kind()))?;
-        match pass(&mut child, text) {
-            Ok(()) => Ok(child),
-            Err(_) => Err(early_end(end(&mut child))),
-        }
+            .map_err(|error| unstarted(error.kind()))
     }
 }
 
-/// Writes a torrent's text to the input of a part, and closes it.
-fn pass<C: OpenProcess>(child: &mut Child<C>, text: &[u8]) -> Result<(), Fault>
-    ensures { IfErr result (λ fault. fault ≡ device) }
-{
-    let Some(mut input) = child.stdin.take() else {
-        return Err(Fault::Device);
-    };
-    write_whole(&mut input, text)
+// Nor of what a process does, or is told.
+impl<C: OpenProcess> StartedPart for Child<C> {
+    ghost stands = { λ _ _. ⊤ };
+
+    fn pass(&mut self, text: &[u8]) -> io::Result<()> {
+        let Some(mut input) = self.stdin.take() else {
+            return Err(io::Error::from(ErrorKind::BrokenPipe));
+        };
+        write_whole(&mut input, text)
+    }
+
+    fn look(&mut self) -> io::Result<Option<ExitStatus>> {
+        self.try_wait()
+    }
+
+    fn end(&mut self) {
+        let _ = self.kill();
+    }
+
+    fn join(&mut self) -> io::Result<ExitStatus> {
+        self.wait()
+    }
 }
 
 /// Writes a text whole.
-fn write_whole<W: Write>(writer: &mut W, text: &[u8]) -> Result<(), Fault>
-    ensures written { OnOk result
-        (Appends (W.contents writer.old) (W.contents writer.new) text.now) }
-    ensures fault { IfErr result (λ fault. fault ≡ device) }
+fn write_whole<W: Write>(writer: &mut W, text: &[u8]) -> io::Result<()>
+    ensures { OnOk result (Appends (W.contents writer.old) (W.contents writer.new) text.now) }
 {
-    writer.write_all(text).map_err(|_| Fault::Device)
-}
-
-/// Ends a part, and waits for it: how it ended, which may have been before.
-pub(crate) fn end<C: OpenProcess>(child: &mut Child<C>) -> io::Result<ExitStatus> {
-    let _ = child.kill();
-    child.wait()
+    writer.write_all(text)
 }

@@ -1,19 +1,32 @@
-use Rattle.std.proofs.Common.{take, take_all, sym, subst, arith}
-use Rattle.std.specs.List.{All}
-use Rattle.std.proofs.lemmas.List.{take_more_set}
-use Rattle.std.proofs.lemmas.List.Elements.{All-push}
-use Rattle.bt_jobs.specs.Children.{HasNotFailed}
+use Rattle.std.proofs.Common.{◌+◌, arith}
+use Rattle.bt_jobs.specs.Parts.{IsSeen}
+use Rattle.bt_jobs.specs.PartsSteps.{IsAny}
+use Rattle.bt_jobs.proofs.Turning.{turned_all, turned_any, turned_more, turned_none, unturned}
 use Rattle.bt_jobs.proofs.children.look_at_all.Goals as goal
+
+pub loop-child-init : goal.loop-child-init
+loop-child-init g c =
+    let stands = g.C.StartedPart.stands in
+    (λ text looks. turned_none stands (IsSeen text looks) (IsSeen text (looks + 1)) _, unturned stands IsAny _)
 
 pub loop-child-preserved : goal.loop-child-preserved
 loop-child-preserved g c =
-    let now = c.loop-child.children in
-    let i = c.loop-child.child-index in
-    let ended = c.look_at.new.child in
-    subst (All HasNotFailed) (sym (take_more_set now i ended (omega (arith, c.loop-child-test.true, c.loop-child.auto.children))))
-    (All-push HasNotFailed (take i now) ended c.loop-child.invariant c.in_ok-look_at.ensures.well)
+    let stands = g.C.StartedPart.stands in
+    let l = c.loop-child in
+    let item = c.child-item.result in
+    let new = c.look_at.new.child in (
+      λ text looks. turned_more stands (IsSeen text looks) (IsSeen text (looks + 1)) l.child-index _ l.children item new (omega (arith, c.loop-child-test.true, l.auto.children))
+          (l.invariant.0 text looks) (c.in_ok-look_at.ensures.seen text looks),
+      turned_any stands l.child-index _ l.children item new l.invariant.1 c.look_at.ensures.kept,
+    )
 
-pub returns-clause-well : goal.returns-clause-well
-returns-clause-well g c =
-    let now = c.loop-child.children in
-    subst (All HasNotFailed) (take_all c.loop-child.child-index now (omega (arith, c.loop-child-test.false, c.loop-child.auto.children))) c.loop-child.invariant
+pub returns-in_err-look_at-clause-kept : goal.returns-in_err-look_at-clause-kept
+returns-in_err-look_at-clause-kept g c =
+    let l = c.loop-child in
+    turned_any g.C.StartedPart.stands l.child-index _ l.children c.child-item.result c.look_at.new.child l.invariant.1 c.look_at.ensures.kept
+
+pub returns-clause-seen : goal.returns-clause-seen
+returns-clause-seen g c =
+    let l = c.loop-child in
+    λ text looks. turned_all g.C.StartedPart.stands (IsSeen text looks) (IsSeen text (looks + 1)) l.child-index _ l.children
+    (omega (arith, c.loop-child-test.false, l.auto.children)) (l.invariant.0 text looks)

@@ -5,6 +5,7 @@ use Rattle.bt_meta.specs.Files.{file_of}
 use Rattle.bt_jobs.specs.Report.{AreJoined, finding_of}
 use Rattle.bt_jobs.proofs.Hearing.{ok_is}
 use Rattle.bt_jobs.proofs.Reports.{joined_each, joined_report}
+use Rattle.bt_jobs.proofs.Starting.{none_left}
 use Rattle.bt_jobs.proofs.jobs.check_by_parts.Goals as goal
 
 pub returns-then-not-contains-clause-report : goal.returns-then-not-contains-clause-report
@@ -45,7 +46,19 @@ returns-clause-report g c =
         joined_report loaded.torrent files told.text runs.items heard.items r.0 summary c.files-files.ensures.said told.told
             (subst (λ rs. AreJoined 0 files rs (map finding_of heard.items)) c.deref-4.ensures.value joined) r.1
             (r.2 ∙ ap (map finding_of) c.deref-5.ensures.value) r.3 r.4,
-        record { text = loaded.text.items; spelled = c.in_ok-loaded.ensures.spelled; started = c.in_ok-runs.ensures.started },
+        record { text = loaded.text.items; spelled = c.in_ok-loaded.ensures.spelled; parts = c.in_ok-runs.ensures.done.0; done = c.in_ok-runs.ensures.done.1 },
       ),
       r.5,
     )) c.write_report.ensures.report
+
+pub returns-in_err-loaded-clause-over : goal.returns-in_err-loaded-clause-over
+returns-in_err-loaded-clause-over g c = none_left g.L.Starter.starts g.L.Part.StartedPart.stands _
+
+pub returns-in_err-opened-clause-over : goal.returns-in_err-opened-clause-over
+returns-in_err-opened-clause-over g c = none_left g.L.Starter.starts g.L.Part.StartedPart.stands _
+
+pub returns-then-not-contains-clause-over : goal.returns-then-not-contains-clause-over
+returns-then-not-contains-clause-over g c = none_left g.L.Starter.starts g.L.Part.StartedPart.stands _
+
+pub returns-in_err-output-clause-over : goal.returns-in_err-output-clause-over
+returns-in_err-output-clause-over g c = none_left g.L.Starter.starts g.L.Part.StartedPart.stands _
