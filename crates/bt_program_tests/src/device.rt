@@ -28,6 +28,7 @@ pub enum Failing {
     Links,
     Listings,
     EarlyListings,
+    Numbers,
     Input,
     Output,
 }
@@ -50,6 +51,20 @@ impl Failing {
             _ => self,
         }
     }
+
+    /// What a look tells that met this: a folder or a regular file has no numbers, where these fail.
+    fn told(self, metadata: Metadata) -> Metadata {
+        if self != Failing::Numbers {
+            return metadata;
+        }
+        if metadata.is_dir() {
+            return Metadata::of_dir();
+        }
+        if metadata.is_file() {
+            return Metadata::of_file(metadata.len());
+        }
+        metadata
+    }
 }
 
 /// The host's file system, of which some calls fail, in which every folder lists these names, each with a zero after
@@ -58,9 +73,9 @@ impl Failing {
 /// `last`. A file that has bytes takes no mode any more, and one that has none is not synced, but where the syncs of a
 /// path that ends in `last` are those that fail. Folders are synced apart from files: all fail, or those of a path that
 /// ends in `last`, or that of the path `.`. An early listing is one of a folder in which no file `last` lies yet. What
-/// lies at `proc` and at
-/// `sys` is a folder to a look that follows links, of the number 1, each on a device of its own, and what lies at
-/// `null` is a device. What lies at `gone` is not there to such a look while it has bytes, and has none from then on.
+/// lies at `proc` and at `sys` is a folder to a look that follows links, of the number 1, each on a device of its own,
+/// and what lies at `null` is a device. What lies at `gone` is not there to such a look while it has bytes, and has none
+/// from then on. Where numbers fail, that of each file and folder is 0, but to a look that does not follow links.
 #[derive(Clone, Copy)]
 pub struct Device<'a> {
     pub host: &'a HostRuntime,
@@ -152,7 +167,7 @@ impl<'a> Files for Device<'a> {
         if path.ends_with("/gone") {
             empty(self.host, path)?;
         }
-        self.host.metadata(followed_path(path))
+        Ok(self.failing.told(self.host.metadata(followed_path(path))?))
     }
 
     fn symlink_metadata(&self, path: &str) -> io::Result<Metadata> {
@@ -257,7 +272,7 @@ impl Seek for DeviceFile {
 
 impl OpenFile for DeviceFile {
     fn metadata(&self) -> io::Result<Metadata> {
-        self.file.metadata()
+        Ok(self.failing.told(self.file.metadata()?))
     }
 
     fn set_len(&self, size: u64) -> io::Result<()> {

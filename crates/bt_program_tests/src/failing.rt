@@ -27,6 +27,7 @@ const CALLS: &[(&str, Failing)] = &[
     ("links", Failing::Links),
     ("listings", Failing::Listings),
     ("early-listings", Failing::EarlyListings),
+    ("numbers", Failing::Numbers),
     ("input", Failing::Input),
     ("output", Failing::Output),
 ];

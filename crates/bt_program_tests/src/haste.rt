@@ -1,10 +1,10 @@
 //! Runs of the program over the system's network, in which who waits for a peer has two seconds where it asks for two minutes, and a
-//! minute passes in a second.
+//! minute passes in a second; and runs in which the two parts of a check are commands of the shell.
 
 use bt_commands::run;
 use bt_progress::Unwatched;
 use std::alloc::Allocator;
-use std::io::{self, Read, Write};
+use std::io::{self, ErrorKind, Read, Write};
 use std::net::{Net, OpenListener, OpenStream, Shutdown, SocketAddr, TcpListener, TcpStream};
 use std::os::fd::{AsRawFd, RawFd};
 use std::process::{Child, Command, Processes, Stdio, SystemProcess};
@@ -15,7 +15,20 @@ const HASTE: u32 = 60;
 
 /// Runs the program in haste, and gives its status.
 pub fn status_of(rt: &HostRuntime, words: &[String]) -> u8 {
-    let net = Hasty { host: rt };
+    status_with(rt, &[], words)
+}
+
+/// The same with two parts, which are commands of the shell: the first two words. An empty one can't be started. Errors:
+/// there are no two words.
+pub fn status_by_parts(rt: &HostRuntime, words: &[String]) -> io::Result<u8> {
+    let [_, _, rest @ ..] = words else {
+        return Err(io::Error::from(ErrorKind::InvalidInput));
+    };
+    Ok(status_with(rt, &words[..2], rest))
+}
+
+fn status_with(rt: &HostRuntime, parts: &[String], words: &[String]) -> u8 {
+    let net = Hasty { host: rt, parts };
     let mut writer = rt.stdout();
     let mut faults = rt.stderr();
     run(
@@ -29,10 +42,26 @@ pub fn status_of(rt: &HostRuntime, words: &[String]) -> u8 {
     )
 }
 
-/// The host's network, in haste.
+/// The host's network, in haste, and commands of the shell in place of two parts, where there are some.
 #[derive(Clone, Copy)]
 struct Hasty<'a> {
     host: &'a HostRuntime,
+    parts: &'a [String],
+}
+
+impl<'a> Hasty<'a> {
+    /// What is started in place of a part, if there is something. The words of the first have 0/2 among them.
+    fn part<B: Allocator>(&self, command: &Command<B>) -> Option<&'a str> {
+        let [first, second] = self.parts else {
+            return None;
+        };
+        for word in command.get_args() {
+            if word == "0/2" {
+                return Some(first.as_str());
+            }
+        }
+        Some(second.as_str())
+    }
 }
 
 impl Net for Hasty<'_> {
@@ -81,7 +110,15 @@ impl Processes for Hasty<'_> {
         stdout: &Stdio,
         stderr: &Stdio,
     ) -> io::Result<Child<SystemProcess>> {
-        self.host.spawn(command, stdin, stdout, stderr)
+        let Some(part) = self.part(command) else {
+            return self.host.spawn(command, stdin, stdout, stderr);
+        };
+        if part.is_empty() {
+            return Err(io::Error::from(ErrorKind::NotFound));
+        }
+        let mut shell = Command::new(self.host.alloc(), "/bin/sh")?;
+        shell.arg("-c")?.arg(part)?;
+        self.host.spawn(&shell, stdin, stdout, stderr)
     }
 }
 

@@ -45,6 +45,7 @@ fn on_stand_ins(rt: &HostRuntime, role: &str, words: &[String]) -> ExitCode {
     match role {
         "failing" => exited(rt, failing::status_of(rt, words)),
         "hasty" => ExitCode::from(haste::status_of(rt, words)),
+        "parts" => exited(rt, haste::status_by_parts(rt, words)),
         "text" => exited(rt, reading::text(rt, words)),
         "digest" => exited(rt, reading::digest(rt, words)),
         "entry" => exited(rt, reading::entry(rt, false, words)),
