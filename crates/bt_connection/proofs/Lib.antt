@@ -20,3 +20,5 @@ pub mod ReadsAhead
 pub mod LongReads
 -- requests that are held
 pub mod WholeRequests
+-- what waits before a writer
+pub mod Waits

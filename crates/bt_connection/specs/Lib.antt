@@ -19,3 +19,5 @@ pub mod FrameSteps
 pub mod Padded
 -- room
 pub mod Room
+-- what waits before a writer
+pub mod Queue
