@@ -1,0 +1,8 @@
+use Rattle.bt_swarm.specs.Moves.{GoesOn, HaveOwnKeys}
+use Rattle.bt_swarm.proofs.turn.take_turns.Given as goal
+
+abbrev pub invariant-loop-at : goal.invariant-loop-at
+invariant-loop-at g l = record {
+  goes : GoesOn g.D.Disk.conduct g.H.NodeHash.digest g.G.R.Read.remaining g.G.W.QueuedWriter.contents l.fn.engine l.fn.members l.engine l.members;
+  own_keys : HaveOwnKeys l.members;
+}

@@ -1,0 +1,5 @@
+pub mod Runs
+pub mod Steps
+pub mod Causes
+pub mod Moves
+pub mod Swarm

@@ -1,0 +1,19 @@
+//! Many connections through one engine: what each gives is fed, and what the engine sends is put into each
+//! one's way out, over any readers and any ways out.
+#![tactic(auto)]
+
+mod calls;
+mod frames;
+mod gate;
+mod member;
+mod room;
+mod swarm;
+mod turn;
+
+pub use bt_engine::Engine;
+pub use bt_session::SessionEnd;
+pub use gate::{Due, Gate, QueuedWriter};
+pub use member::Member;
+pub use room::Room;
+pub use swarm::admit;
+pub use turn::serve;
