@@ -7,6 +7,7 @@ mod frames;
 mod gate;
 mod member;
 mod room;
+mod run;
 mod swarm;
 mod turn;
 
@@ -14,6 +15,4 @@ pub use bt_engine::Engine;
 pub use bt_session::SessionEnd;
 pub use gate::{Due, Gate, QueuedWriter};
 pub use member::Member;
-pub use room::Room;
-pub use swarm::admit;
-pub use turn::serve;
+pub use run::run_swarm;

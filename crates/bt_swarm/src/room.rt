@@ -6,14 +6,14 @@ pub(crate) const READ_LENGTH: usize = 16_384;
 
 /// What is read of one connection at a time, and what is sent to one by an event.
 #[derive(Drop)]
-pub struct Room {
+pub(crate) struct Room {
     pub(crate) alloc: Global,
     pub(crate) incoming: [u8; READ_LENGTH],
     pub(crate) outgoing: Vec<u8>,
 }
 
 impl Room {
-    pub fn new(alloc: Global) -> Self {
+    pub(crate) fn new(alloc: Global) -> Self {
         Room {
             alloc,
             incoming: [0; READ_LENGTH],

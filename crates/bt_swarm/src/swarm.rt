@@ -1,11 +1,15 @@
-//! Connections that come.
-ghost use Rattle.std.specs.Prelude.{◌≡◌};
-ghost use Rattle.bt_swarm.specs.Moves.{AreKeyed};
+//! Connections that come and go.
+ghost use Rattle.std.specs.Prelude.{[], ◌≡◌, ◌+◌, ◌<◌, ◌≤◌, ◌⊎◌, length, slice_index_or, Some};
+ghost use Rattle.bt_machine.specs.Report.{all_complete};
+ghost use Rattle.bt_session.specs.declared.end.SessionEnd.TheVariants.{Complete};
+ghost use Rattle.bt_swarm.specs.Causes.{IsFault};
+ghost use Rattle.bt_swarm.specs.Moves.{AreKeyed, GoesOn};
+ghost use Rattle.bt_swarm.specs.Steps.{IsComplete};
 ghost use Rattle.bt_swarm.specs.Swarm.{KeepsSwarm};
 
-use crate::calls::connect;
+use crate::calls::{connect, lost};
 use crate::gate::Gate;
-use crate::member::{Member, deliver};
+use crate::member::{Member, deliver, put_end};
 use crate::room::Room;
 use bt_disk::Disk;
 use bt_engine::Engine;
@@ -16,7 +20,7 @@ use bt_tree::NodeHash;
 const MOST: usize = 64;
 
 /// Connections that wait join, while there is a place.
-pub fn admit<D: Disk + Drop, H: NodeHash, G: Gate>(
+pub(crate) fn admit<D: Disk + Drop, H: NodeHash, G: Gate>(
     engine: &mut Engine<D, H>,
     gate: &mut G,
     members: &mut Vec<Member<G::R, G::W>>,
@@ -100,4 +104,133 @@ fn join<D: Disk + Drop, H: NodeHash, G: Gate>(
     });
     deliver(members.as_mut_slice(), &greeting.send, room);
     true
+}
+
+/// Those that have ended go: whether one did.
+pub(crate) fn let_go<D: Disk + Drop, H: NodeHash, G: Gate>(
+    engine: &mut Engine<D, H>,
+    gate: &mut G,
+    members: &mut Vec<Member<G::R, G::W>>,
+) -> bool
+    requires keyed { AreKeyed engine.old.state members.old.items }
+    ensures keyed { AreKeyed engine.new.state members.new.items }
+    ensures swarm { KeepsSwarm D.conduct H.digest G.gives G.R.remaining G.W.contents
+        engine.old members.old.items engine.new members.new.items }
+    ensures waits { G.waits gate.new ≡ G.waits gate.old }
+{
+    let mut gone = false;
+    // from the last to the first, so that none is passed over
+    for at in (0..members.len()).rev() {
+        gone |= leave_if_ended(engine, gate, members, at);
+    }
+    gone
+}
+
+/// One goes, where it has ended: whether it did.
+fn leave_if_ended<D: Disk + Drop, H: NodeHash, G: Gate>(
+    engine: &mut Engine<D, H>,
+    gate: &mut G,
+    members: &mut Vec<Member<G::R, G::W>>,
+    at: usize,
+) -> bool
+    requires within { at < length members.old.items }
+    requires keyed { AreKeyed engine.old.state members.old.items }
+    ensures keyed { AreKeyed engine.new.state members.new.items }
+    ensures swarm { KeepsSwarm D.conduct H.digest G.gives G.R.remaining G.W.contents
+        engine.old members.old.items engine.new members.new.items }
+    ensures fewer { length members.old.items ≤ length members.new.items + 1 }
+    ensures waits { G.waits gate.new ≡ G.waits gate.old }
+{
+    match members[at].end {
+        Some(end) => {
+            leave(engine, gate, members, at, end);
+            true
+        }
+        None => false,
+    }
+}
+
+/// One that has ended goes: it is closed, and the engine and the gate are told.
+fn leave<D: Disk + Drop, H: NodeHash, G: Gate>(
+    engine: &mut Engine<D, H>,
+    gate: &mut G,
+    members: &mut Vec<Member<G::R, G::W>>,
+    at: usize,
+    end: SessionEnd,
+)
+    requires within { at < length members.old.items }
+    requires ended { (d : Member G.R G.W) → (slice_index_or members.old.items at d).end ≡ Some end }
+    requires keyed { AreKeyed engine.old.state members.old.items }
+    ensures keyed { AreKeyed engine.new.state members.new.items }
+    ensures swarm { KeepsSwarm D.conduct H.digest G.gives G.R.remaining G.W.contents
+        engine.old members.old.items engine.new members.new.items }
+    ensures shorter { length members.new.items + 1 ≡ length members.old.items }
+    ensures complete { all_complete engine.new.state ≡ all_complete engine.old.state }
+    ensures waits { G.waits gate.new ≡ G.waits gate.old }
+    ensures shut { G.is_shut gate.old → G.is_shut gate.new }
+{
+    let member = members.remove(at);
+    let _ = lost(engine, member.key);
+    gate.tell(member.place, end);
+}
+
+/// All go, each with this end where it has none.
+pub(crate) fn disband<D: Disk + Drop, H: NodeHash, G: Gate>(
+    engine: &mut Engine<D, H>,
+    gate: &mut G,
+    members: &mut Vec<Member<G::R, G::W>>,
+    end: SessionEnd,
+)
+    requires cause { IsFault end ⊎ ((end ≡ Complete) × IsComplete engine.old) }
+    requires keyed { AreKeyed engine.old.state members.old.items }
+    ensures keyed { AreKeyed engine.new.state members.new.items }
+    ensures swarm { KeepsSwarm D.conduct H.digest G.gives G.R.remaining G.W.contents
+        engine.old members.old.items engine.new members.new.items }
+    ensures nobody { members.new.items ≡ [] }
+    ensures complete { all_complete engine.new.state ≡ all_complete engine.old.state }
+    ensures waits { G.waits gate.new ≡ G.waits gate.old }
+    ensures shut { G.is_shut gate.old → G.is_shut gate.new }
+{
+    for gone in 0..members.len() {
+        dismiss_last(engine, gate, members, end);
+    }
+}
+
+/// The last one goes, with this end where it has none.
+fn dismiss_last<D: Disk + Drop, H: NodeHash, G: Gate>(
+    engine: &mut Engine<D, H>,
+    gate: &mut G,
+    members: &mut Vec<Member<G::R, G::W>>,
+    end: SessionEnd,
+)
+    requires some { 0 < length members.old.items }
+    requires cause { IsFault end ⊎ ((end ≡ Complete) × IsComplete engine.old) }
+    requires keyed { AreKeyed engine.old.state members.old.items }
+    ensures keyed { AreKeyed engine.new.state members.new.items }
+    ensures swarm { KeepsSwarm D.conduct H.digest G.gives G.R.remaining G.W.contents
+        engine.old members.old.items engine.new members.new.items }
+    ensures shorter { length members.new.items + 1 ≡ length members.old.items }
+    ensures complete { all_complete engine.new.state ≡ all_complete engine.old.state }
+    ensures waits { G.waits gate.new ≡ G.waits gate.old }
+    ensures shut { G.is_shut gate.old → G.is_shut gate.new }
+{
+    let at = members.len() - 1;
+    let end = put_end_at::<D, H, G>(engine, members.as_mut_slice(), at, end);
+    leave(engine, gate, members, at, end);
+}
+
+/// Ends one, unless it has ended: gives its end.
+fn put_end_at<D: Disk + Drop, H: NodeHash, G: Gate>(
+    engine: &Engine<D, H>,
+    members: &mut [Member<G::R, G::W>],
+    at: usize,
+    end: SessionEnd,
+) -> SessionEnd
+    requires within { at < length members.old }
+    requires cause { IsFault end ⊎ ((end ≡ Complete) × IsComplete engine.now) }
+    ensures goes { GoesOn D.conduct H.digest G.R.remaining G.W.contents
+        engine.now members.old engine.now members.new }
+    ensures ended { (d : Member G.R G.W) → (slice_index_or members.new at d).end ≡ Some result }
+{
+    put_end(&mut members[at], end)
 }

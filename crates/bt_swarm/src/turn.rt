@@ -22,7 +22,7 @@ const SERVED: usize = 4;
 
 /// A turn for each connection that is ready. Then the peers to serve are chosen anew, where that is due or so
 /// few are there that all may be served; and what waits is passed on. Says how many turns there were.
-pub fn serve<D: Disk + Drop, H: NodeHash, G: Gate>(
+pub(crate) fn serve<D: Disk + Drop, H: NodeHash, G: Gate>(
     engine: &mut Engine<D, H>,
     gate: &G,
     members: &mut [Member<G::R, G::W>],

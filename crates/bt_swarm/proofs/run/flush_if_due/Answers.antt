@@ -1,0 +1,5 @@
+use Rattle.std.proofs.Common.{inr}
+use Rattle.bt_swarm.proofs.run.flush_if_due.Goals as goal
+
+pub returns : goal.returns
+returns g c = record { step = inr (c.flush.result, c.flush.ensures.step) }

@@ -1,0 +1,12 @@
+use Rattle.std.proofs.Common.{◌≡◌}
+use Rattle.bt_swarm.specs.Moves.{AreKeyed}
+use Rattle.bt_swarm.specs.Swarm.{KeepsSwarm}
+use Rattle.bt_swarm.proofs.run.take_rounds.Given as goal
+
+abbrev pub invariant-loop-waited : goal.invariant-loop-waited
+invariant-loop-waited g l = record {
+  keyed : AreKeyed l.engine.state l.members.items;
+  swarm : KeepsSwarm g.D.Disk.conduct g.H.NodeHash.digest g.G.Gate.gives g.G.R.Read.remaining g.G.W.QueuedWriter.contents
+      l.fn.engine l.fn.members.items l.engine l.members.items;
+  waits : g.G.Gate.waits l.gate ≡ l.waited;
+}

@@ -1,0 +1,224 @@
+//! The loop of a swarm.
+ghost use Rattle.std.specs.Prelude.{[], ◌≡◌, ◌≢◌, ◌+◌, ◌-◌, ◌<◌, ◌^◌, ◌⊎◌, true, OnOk};
+ghost use Rattle.bt_machine.specs.Report.{all_complete};
+ghost use Rattle.bt_engine.specs.Leads.{LeadsTo};
+ghost use Rattle.bt_engine.specs.Standing.{Stands, KeepsBlocks};
+ghost use Rattle.bt_session.specs.declared.end.SessionEnd.TheVariants.{Complete};
+ghost use Rattle.bt_swarm.specs.Causes.{IsFault};
+ghost use Rattle.bt_swarm.specs.Moves.{AreKeyed};
+ghost use Rattle.bt_swarm.specs.Steps.{IsComplete, MayBeFlushed};
+ghost use Rattle.bt_swarm.specs.Swarm.{HasSwarmed, KeepsSwarm, IsOver};
+
+use crate::calls::flush;
+use crate::gate::Gate;
+use crate::member::{Member, takes_more};
+use crate::room::Room;
+use crate::swarm::{admit, disband, let_go};
+use crate::turn::serve;
+use bt_disk::Disk;
+use bt_engine::{Engine, what_leads_on_stands};
+use bt_machine::FlushError;
+use bt_session::SessionEnd;
+use bt_tree::NodeHash;
+use std::alloc::Global;
+
+/// Serves all connections of a gate at once, until nobody is there and nobody is to come, or with
+/// `until_complete` until all files are complete; then all go. With `flush_every` above 0 the engine is
+/// flushed after so many turns of all together, and once more at the end.
+///
+/// Errors: a flush was refused, and all went.
+pub fn run_swarm<D: Disk + Drop, H: NodeHash, G: Gate>(
+    alloc: Global,
+    engine: &mut Engine<D, H>,
+    gate: &mut G,
+    until_complete: bool,
+    flush_every: u64,
+) -> Result<(), FlushError>
+    requires no_peer { engine.old.state.peers ≡ [] }
+    requires unwaited { G.waits gate.old ≡ 0 }
+    ensures swarm { HasSwarmed D.conduct H.digest G.gives G.R.remaining G.W.contents
+        engine.old engine.new [] }
+    ensures over { OnOk result
+        (IsOver until_complete engine.new (G.is_shut gate.new) (G.waits gate.new)) }
+    ensures gone { engine.new.state.peers ≡ [] }
+    ensures run { LeadsTo D.conduct H.digest engine.old engine.new }
+    ensures stands { Stands D.conduct engine.old engine.new }
+    ensures flushed { flush_every ≢ 0 → OnOk result (KeepsBlocks D.conduct engine.new) }
+{
+    what_leads_on_stands::<D, H>(engine.hash());
+    engine.keeps_laws();
+    serve_all(alloc, engine, gate, until_complete, flush_every)?;
+    flush_last(engine, flush_every)
+}
+
+/// The same without the last flush.
+fn serve_all<D: Disk + Drop, H: NodeHash, G: Gate>(
+    alloc: Global,
+    engine: &mut Engine<D, H>,
+    gate: &mut G,
+    until_complete: bool,
+    flush_every: u64,
+) -> Result<(), FlushError>
+    requires no_peer { engine.old.state.peers ≡ [] }
+    requires unwaited { G.waits gate.old ≡ 0 }
+    ensures swarm { HasSwarmed D.conduct H.digest G.gives G.R.remaining G.W.contents
+        engine.old engine.new [] }
+    ensures over { OnOk result
+        (IsOver until_complete engine.new (G.is_shut gate.new) (G.waits gate.new)) }
+    ensures gone { engine.new.state.peers ≡ [] }
+{
+    let mut members = Vec::new(alloc);
+    let mut room = Room::new(alloc);
+    let mut pace = Pace {
+        flush_every,
+        turns: 0,
+        one_went: false,
+    };
+    let answer = take_rounds(
+        engine,
+        gate,
+        &mut members,
+        until_complete,
+        &mut pace,
+        &mut room,
+    );
+    let end = end_of_all(engine, until_complete);
+    disband(engine, gate, &mut members, end);
+    answer
+}
+
+/// How all end that are there when a swarm is over.
+fn end_of_all<D: Disk + Drop, H: NodeHash>(
+    engine: &Engine<D, H>,
+    until_complete: bool,
+) -> SessionEnd
+    ensures { IsFault result ⊎ ((result ≡ Complete) × IsComplete engine.now) }
+{
+    if until_complete && engine.is_complete() {
+        SessionEnd::Complete
+    } else {
+        SessionEnd::ReadFault
+    }
+}
+
+/// Flushes the engine, unless that is never due. Errors: the flush was refused.
+fn flush_last<D: Disk + Drop, H: NodeHash>(
+    engine: &mut Engine<D, H>,
+    flush_every: u64,
+) -> Result<(), FlushError>
+    ensures step { MayBeFlushed D.conduct H.digest engine.old engine.new }
+    ensures complete { all_complete engine.new.state ≡ all_complete engine.old.state }
+    ensures flushed { flush_every ≢ 0 → OnOk result (KeepsBlocks D.conduct engine.new) }
+{
+    if flush_every == 0 {
+        return Ok(());
+    }
+    flush(engine)
+}
+
+/// What is kept between rounds.
+#[derive(Clone, Copy)]
+struct Pace {
+    /// After how many turns a flush is due; 0 for never.
+    flush_every: u64,
+    /// How many turns there were since the last.
+    turns: u64,
+    /// Whether one went since the peers to serve were chosen.
+    one_went: bool,
+}
+
+/// Rounds, until the swarm is over. Errors: a flush was refused.
+fn take_rounds<D: Disk + Drop, H: NodeHash, G: Gate>(
+    engine: &mut Engine<D, H>,
+    gate: &mut G,
+    members: &mut Vec<Member<G::R, G::W>>,
+    until_complete: bool,
+    pace: &mut Pace,
+    room: &mut Room,
+) -> Result<(), FlushError>
+    requires unwaited { G.waits gate.old ≡ 0 }
+    requires keyed { AreKeyed engine.old.state members.old.items }
+    ensures keyed { AreKeyed engine.new.state members.new.items }
+    ensures swarm { KeepsSwarm D.conduct H.digest G.gives G.R.remaining G.W.contents
+        engine.old members.old.items engine.new members.new.items }
+    ensures over { OnOk result
+        (IsOver until_complete engine.new (G.is_shut gate.new) (G.waits gate.new)) }
+{
+    for waited in 0..u64::MAX {
+        if is_over(engine, gate, members.as_slice(), until_complete) {
+            return Ok(());
+        }
+        round(engine, gate, members, pace, room)?;
+    }
+    Ok(())
+}
+
+/// Whether a swarm is over.
+fn is_over<D: Disk + Drop, H: NodeHash, G: Gate>(
+    engine: &Engine<D, H>,
+    gate: &G,
+    members: &[Member<G::R, G::W>],
+    until_complete: bool,
+) -> bool
+    ensures { result ≡ true
+        → IsOver until_complete engine.now (G.is_shut gate.now) (G.waits gate.now) }
+{
+    if until_complete && engine.is_complete() {
+        return true;
+    }
+    if !members.is_empty() {
+        return false;
+    }
+    gate.is_over()
+}
+
+/// One round: those that wait join, each that is ready has a turn, those that have ended go, and the engine
+/// is flushed where that is due. Errors: a flush was refused.
+fn round<D: Disk + Drop, H: NodeHash, G: Gate>(
+    engine: &mut Engine<D, H>,
+    gate: &mut G,
+    members: &mut Vec<Member<G::R, G::W>>,
+    pace: &mut Pace,
+    room: &mut Room,
+) -> Result<(), FlushError>
+    requires few { G.waits gate.old < 2 ^ 64 - 1 }
+    requires keyed { AreKeyed engine.old.state members.old.items }
+    ensures keyed { AreKeyed engine.new.state members.new.items }
+    ensures swarm { KeepsSwarm D.conduct H.digest G.gives G.R.remaining G.W.contents
+        engine.old members.old.items engine.new members.new.items }
+    ensures waits { G.waits gate.new ≡ G.waits gate.old + 1 }
+{
+    let due = gate.wait(pace.one_went || has_work::<G>(members.as_slice()));
+    admit(engine, gate, members, room);
+    let choice = due.choice || pace.one_went;
+    let turns = serve(engine, gate, members.as_mut_slice(), choice, room);
+    pace.one_went = let_go(engine, gate, members);
+    flush_if_due(engine, pace, turns)
+}
+
+/// Whether wire events of one may be taken before anything comes.
+fn has_work<G: Gate>(members: &[Member<G::R, G::W>]) -> bool {
+    for member in members {
+        if member.may_have_events && takes_more(member) {
+            return true;
+        }
+    }
+    false
+}
+
+/// Counts turns, and flushes the engine where so many were taken that it is due. Errors: the flush was
+/// refused.
+fn flush_if_due<D: Disk + Drop, H: NodeHash>(
+    engine: &mut Engine<D, H>,
+    pace: &mut Pace,
+    turns: u64,
+) -> Result<(), FlushError>
+    ensures step { MayBeFlushed D.conduct H.digest engine.old engine.new }
+{
+    pace.turns = pace.turns.saturating_add(turns);
+    if pace.flush_every == 0 || pace.turns < pace.flush_every {
+        return Ok(());
+    }
+    pace.turns = 0;
+    flush(engine)
+}
