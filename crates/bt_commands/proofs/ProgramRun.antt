@@ -10,8 +10,10 @@ use Rattle.bt_words.specs.CommandLine.{IsTaskOf}
 use Rattle.bt_meta.specs.Torrent.{Metainfo}
 use Rattle.bt_check.specs.Report.{IsReportOn, check_outcome, is_complete_report, is_faulty_report, report_text}
 use Rattle.bt_check.specs.TorrentFile.{HasText}
+use Rattle.bt_jobs.specs.ByParts.{IsCheckByParts}
+use Rattle.bt_jobs.specs.Parts.{PartState}
 use Rattle.bt_jobs.specs.Report.{IsJoinedReport}
-use Rattle.bt_jobs.specs.Starts.{IsCheckByParts, Start}
+use Rattle.bt_jobs.specs.Starts.{Start}
 use Rattle.bt_jobs.specs.declared.jobs.Job.{Job}
 use Rattle.bt_make.specs.AtomicFile.{infohash_line}
 use Rattle.bt_make.specs.Command.{IsMakeFault, IsMakeTorrent}
@@ -65,19 +67,19 @@ check_done source dir torrent summary old new outcome is loaded r =
     }))
 
 -- the report of a check by parts, whose summary is that of its findings
-by_parts : {S : Type 0} (starts : S → Start → List ℕ → S → Type 0) (job : Job) (torrent : Metainfo) (found : List FileFinding) (summary : Summary) (old new : S)
-    → IsCheckByParts starts job torrent found summary old new → (IsReportOn job.dir.now torrent found summary ⊎ IsJoinedReport torrent found summary)
+by_parts : {S P : Type 0} (starts : S → Start → S → Type 0) (stands : P → PartState → Type 0) (job : Job) (torrent : Metainfo) (found : List FileFinding) (summary : Summary) (old new : S)
+    → IsCheckByParts starts stands job torrent found summary old new → (IsReportOn job.dir.now torrent found summary ⊎ IsJoinedReport torrent found summary)
     × (summary.faulty ≡ is_faulty_report found) × (summary.complete ≡ is_complete_report found)
-by_parts starts job torrent found summary old new (inl alone) = (inl alone.0, alone.0.report.faulty, alone.0.report.complete)
-by_parts starts job torrent found summary old new (inr joined) = (inr joined.0, joined.0.faulty, joined.0.complete)
+by_parts starts stands job torrent found summary old new (inl alone) = (inl alone.0, alone.0.report.faulty, alone.0.report.complete)
+by_parts starts stands job torrent found summary old new (inr joined) = (inr joined.0, joined.0.faulty, joined.0.complete)
 
-pub jobs_done : {S : Type 0} (starts : S → Start → List ℕ → S → Type 0) (job : Job) (summary : Summary) (before after : S)
+pub jobs_done : {S P : Type 0} (starts : S → Start → S → Type 0) (stands : P → PartState → Type 0) (job : Job) (summary : Summary) (before after : S)
     (old new : Option (List ℕ)) (outcome : Result ℕ Fault) → outcome ≡ check_outcome summary
     → (torrent : Metainfo) × (found : List FileFinding) × HasText job.source.is_info torrent
-    × IsCheckByParts starts job torrent found summary before after × Appends old new (report_text found)
+    × IsCheckByParts starts stands job torrent found summary before after × Appends old new (report_text found)
     → IfOk outcome (Writes (IsJoinedResult job.source job.dir.now) old new)
-jobs_done starts job summary before after old new outcome is r =
-    let sums = by_parts starts job r.0 r.1 summary before after r.3 in
+jobs_done starts stands job summary before after old new outcome is r =
+    let sums = by_parts starts stands job r.0 r.1 summary before after r.3 in
     subst (λ o. IfOk o (Writes (IsJoinedResult job.source job.dir.now) old new)) (sym is)
     (outcome_written summary.faulty summary.complete (Writes (IsJoinedResult job.source job.dir.now) old new) (λ sound. record {
       text = report_text r.1;
