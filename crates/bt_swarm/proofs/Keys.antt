@@ -97,12 +97,12 @@ module _ {R W : Type 0} (remaining : R → Option (List ℕ)) (contents : W → 
         here_on b f may x y q.key p (subst (λ (key : PeerKey). IsHere key x) was.2 (k.held was.0 was.1));
   }
 
-  module _ {D : Type 0} (conduct : Conduct D) (dig : List ℕ → List ℕ) where
-    pub keyed_goes : (a b : EngineView D) (x y : List (Member R W)) → GoesOn conduct dig remaining contents a x b y → AreKeyed a.state x → AreKeyed b.state y
+  module _ {D : Type 0} (conduct : Conduct D) (dig : List ℕ → List ℕ) (read_fault write_fault : Type 0) where
+    pub keyed_goes : (a b : EngineView D) (x y : List (Member R W)) → GoesOn conduct dig read_fault write_fault remaining contents a x b y → AreKeyed a.state x → AreKeyed b.state y
     keyed_goes a b x y g k =
         let kept = run_keeps conduct dig a b g.history g.runs g.none_joined in
         keyed_kept (λ key. fed_in key g.history) (λ key. frames_in key g.history)
-        (λ key. HasCause conduct dig a g.history key) a.state b.state x y g.moves kept.0 kept.1 k
+        (λ key. HasCause conduct dig read_fault write_fault a g.history key) a.state b.state x y g.moves kept.0 kept.1 k
 
 module _ {R W : Type 0} where
   keyed_pushed : (s t : EngineState) (x : List (Member R W)) (m : Member R W) → AreKeyed s x → m.key.0 ≡ s.next_key → t.next_key ≡ s.next_key + 1

@@ -5,4 +5,5 @@ pub mod Moving
 pub mod Dismissing
 pub mod Keys
 pub mod Swarming
+pub mod Going
 pub mod Ending

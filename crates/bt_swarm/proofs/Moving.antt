@@ -25,10 +25,10 @@ use Rattle.bt_session.specs.Frames.{spelling, spellings, frames_to}
 use Rattle.bt_swarm.specs.declared.member.Member.{Member}
 use Rattle.bt_swarm.specs.Runs.{Happening, Runs, none, one_more, fed_by, fed_in, frames_in, joined_by, joined_in}
 use Rattle.bt_swarm.specs.Steps.{Steps, MayBeFlushed}
-use Rattle.bt_swarm.specs.Causes.{HasCause, IsFault}
+use Rattle.bt_swarm.specs.Causes.{HasCause, IsClosedIn, IsFault}
 use Rattle.bt_swarm.specs.Moves.{ArePut, IsWritten, IsWrittenOn, HaveOwnKeys, Moves, EachMovesBy, GoesOn}
-use Rattle.bt_swarm.proofs.Putting.{written_trans, nothing_on, first_none}
-use Rattle.bt_swarm.proofs.Causing.{runs_trans, fault_cause, cause_on, cause_after}
+use Rattle.bt_swarm.proofs.Putting.{written_trans, nothing_on, first_none, was_open}
+use Rattle.bt_swarm.proofs.Causing.{runs_trans, fault_cause, cause_on, cause_after, ClosesNobody, not_closed, not_closed_yet, closed_in, closed_key}
 
 module _ {R W : Type 0} (remaining : R → Option (List ℕ)) (contents : W → Option (List ℕ)) where
   -- ---- one connection
@@ -36,16 +36,18 @@ module _ {R W : Type 0} (remaining : R → Option (List ℕ)) (contents : W → 
   pub moves_none : (may : SessionEnd → Type 0) (m : Member R W) → Moves remaining contents [] [] may m m
   moves_none may m = record {
     same_key = refl;
+    same_place = refl;
     read = Consumes-nil (remaining m.reader);
     written = nothing_on (contents m.writer) (contents m.writer) m.end (Keeps-refl (contents m.writer));
     ends = λ end is. inl is;
   }
 
   -- nothing is put, and it is as it was
-  pub moves_kept : (may : SessionEnd → Type 0) (m n : Member R W) → n.key ≡ m.key → n.reader ≡ m.reader → n.end ≡ m.end
+  pub moves_kept : (may : SessionEnd → Type 0) (m n : Member R W) → n.key ≡ m.key → n.place ≡ m.place → n.reader ≡ m.reader → n.end ≡ m.end
       → Keeps (contents m.writer) (contents n.writer) → Moves remaining contents [] [] may m n
-  moves_kept may m n key reader end kept = record {
+  moves_kept may m n key place reader end kept = record {
     same_key = key;
+    same_place = place;
     read = subst (λ (r : R). Consumes (remaining m.reader) (remaining r) []) (sym reader) (Consumes-nil (remaining m.reader));
     written = subst (λ (e : Option SessionEnd). IsWrittenOn (contents m.writer) (contents n.writer) [] m.end e) (sym end)
         (nothing_on (contents m.writer) (contents n.writer) m.end kept);
@@ -53,10 +55,11 @@ module _ {R W : Type 0} (remaining : R → Option (List ℕ)) (contents : W → 
   }
 
   -- bytes are read
-  pub moves_read : (may : SessionEnd → Type 0) (bytes : List ℕ) (m n : Member R W) → n.key ≡ m.key → n.writer ≡ m.writer → n.end ≡ m.end
+  pub moves_read : (may : SessionEnd → Type 0) (bytes : List ℕ) (m n : Member R W) → n.key ≡ m.key → n.place ≡ m.place → n.writer ≡ m.writer → n.end ≡ m.end
       → Consumes (remaining m.reader) (remaining n.reader) bytes → Moves remaining contents bytes [] may m n
-  moves_read may bytes m n key writer end read = record {
+  moves_read may bytes m n key place writer end read = record {
     same_key = key;
+    same_place = place;
     read = read;
     written = subst (λ (e : Option SessionEnd). IsWrittenOn (contents m.writer) (contents n.writer) [] m.end e) (sym end)
         (nothing_on (contents m.writer) (contents n.writer) m.end
@@ -65,10 +68,11 @@ module _ {R W : Type 0} (remaining : R → Option (List ℕ)) (contents : W → 
   }
 
   -- frames are put into the way out of one that has not ended
-  pub moves_put : (may : SessionEnd → Type 0) (frames : List Frame) (m n : Member R W) → n.key ≡ m.key → n.reader ≡ m.reader → m.end ≡ None → n.end ≡ m.end
+  pub moves_put : (may : SessionEnd → Type 0) (frames : List Frame) (m n : Member R W) → n.key ≡ m.key → n.place ≡ m.place → n.reader ≡ m.reader → m.end ≡ None → n.end ≡ m.end
       → ArePut (contents m.writer) (contents n.writer) frames → Moves remaining contents [] frames may m n
-  moves_put may frames m n key reader fresh end put = record {
+  moves_put may frames m n key place reader fresh end put = record {
     same_key = key;
+    same_place = place;
     read = subst (λ (r : R). Consumes (remaining m.reader) (remaining r) []) (sym reader) (Consumes-nil (remaining m.reader));
     written = subst (λ (e : Option SessionEnd). IsWrittenOn (contents m.writer) (contents n.writer) frames e n.end) (sym fresh)
         (subst (λ (e : Option SessionEnd). IsWritten (contents m.writer) (contents n.writer) frames e) (sym (end ∙ fresh)) put);
@@ -76,10 +80,11 @@ module _ {R W : Type 0} (remaining : R → Option (List ℕ)) (contents : W → 
   }
 
   -- it ends, and none of them is put
-  pub moves_fault : (may : SessionEnd → Type 0) (frames : List Frame) (end : SessionEnd) (m n : Member R W) → n.key ≡ m.key → n.reader ≡ m.reader → m.end ≡ None
+  pub moves_fault : (may : SessionEnd → Type 0) (frames : List Frame) (end : SessionEnd) (m n : Member R W) → n.key ≡ m.key → n.place ≡ m.place → n.reader ≡ m.reader → m.end ≡ None
       → n.end ≡ Some end → may end → Keeps (contents m.writer) (contents n.writer) → Moves remaining contents [] frames may m n
-  moves_fault may frames end m n key reader fresh ended can kept = record {
+  moves_fault may frames end m n key place reader fresh ended can kept = record {
     same_key = key;
+    same_place = place;
     read = subst (λ (r : R). Consumes (remaining m.reader) (remaining r) []) (sym reader) (Consumes-nil (remaining m.reader));
     written = subst (λ (e : Option SessionEnd). IsWrittenOn (contents m.writer) (contents n.writer) frames e n.end) (sym fresh)
         (subst (λ (e : Option SessionEnd). IsWritten (contents m.writer) (contents n.writer) frames e) (sym ended)
@@ -91,6 +96,7 @@ module _ {R W : Type 0} (remaining : R → Option (List ℕ)) (contents : W → 
   pub moves_ended : (may : SessionEnd → Type 0) (frames : List Frame) (end : SessionEnd) (m : Member R W) → m.end ≡ Some end → Moves remaining contents [] frames may m m
   moves_ended may frames end m ended = record {
     same_key = refl;
+    same_place = refl;
     read = Consumes-nil (remaining m.reader);
     written = subst (λ (e : Option SessionEnd). IsWrittenOn (contents m.writer) (contents m.writer) frames e m.end) (sym ended) (Keeps-refl (contents m.writer), ended);
     ends = λ e is. inl is;
@@ -101,6 +107,7 @@ module _ {R W : Type 0} (remaining : R → Option (List ℕ)) (contents : W → 
       → Moves remaining contents (bytes ++ more) (frames ++ further) (λ end. may end ⊎ can end) a c
   moves_trans bytes more frames further may can a b c p q = record {
     same_key = q.same_key ∙ p.same_key;
+    same_place = q.same_place ∙ p.same_place;
     read = Consumes-trans (remaining a.reader) (remaining b.reader) (remaining c.reader) bytes more p.read q.read;
     written = written_trans (contents a.writer) (contents b.writer) (contents c.writer) frames further a.end b.end c.end p.written q.written;
     ends = λ end is. elim (q.ends end is) [
@@ -114,6 +121,7 @@ module _ {R W : Type 0} (remaining : R → Option (List ℕ)) (contents : W → 
       → ((end : SessionEnd) → may end → can end) → Moves remaining contents bytes frames may a b → Moves remaining contents same equal can a b
   moves_as bytes same frames equal may can a b one two among p = record {
     same_key = p.same_key;
+    same_place = p.same_place;
     read = subst (Consumes (remaining a.reader) (remaining b.reader)) one p.read;
     written = subst (λ (l : List Frame). IsOn l) two p.written;
     ends = λ end is. elim (p.ends end is) [ inl was ↦ inl was | inr then ↦ inr (among end then) ];
@@ -122,19 +130,19 @@ module _ {R W : Type 0} (remaining : R → Option (List ℕ)) (contents : W → 
       IsOn : List Frame → Type 0
       IsOn l = IsWrittenOn (contents a.writer) (contents b.writer) l a.end b.end
 
-  -- it ends by a fault then
-  pub moves_amiss : (bytes : List ℕ) (end : SessionEnd) (a b c : Member R W) → IsFault end → Moves remaining contents bytes [] IsFault a b
-      → Moves remaining contents [] [] (λ is. is ≡ end) b c → Moves remaining contents bytes [] IsFault a c
-  moves_amiss bytes end a b c fault p q =
-      moves_as (bytes ++ []) bytes [] [] (λ is. IsFault is ⊎ (is ≡ end)) IsFault a c (append-nil bytes) refl
-      (λ is h. elim h [ inl first ↦ first | inr same ↦ subst IsFault (sym same) fault ])
-      (moves_trans bytes [] [] [] IsFault (λ is. is ≡ end) a b c p q)
+  -- it may come to one more end then
+  pub moves_amiss : (may : SessionEnd → Type 0) (bytes : List ℕ) (end : SessionEnd) (a b c : Member R W) → may end → Moves remaining contents bytes [] may a b
+      → Moves remaining contents [] [] (λ is. is ≡ end) b c → Moves remaining contents bytes [] may a c
+  moves_amiss may bytes end a b c can p q =
+      moves_as (bytes ++ []) bytes [] [] (λ is. may is ⊎ (is ≡ end)) may a c (append-nil bytes) refl
+      (λ is h. elim h [ inl first ↦ first | inr same ↦ subst may (sym same) can ])
+      (moves_trans bytes [] [] [] may (λ is. is ≡ end) a b c p q)
 
-  -- two faults
-  pub moves_both : (a b c : Member R W) → Moves remaining contents [] [] IsFault a b → Moves remaining contents [] [] IsFault b c → Moves remaining contents [] [] IsFault a c
-  moves_both a b c p q =
-      moves_as [] [] [] [] (λ is. IsFault is ⊎ IsFault is) IsFault a c refl refl (λ is h. elim h [ inl one ↦ one | inr two ↦ two ])
-      (moves_trans [] [] [] [] IsFault IsFault a b c p q)
+  -- one after the other
+  pub moves_both : (may : SessionEnd → Type 0) (a b c : Member R W) → Moves remaining contents [] [] may a b → Moves remaining contents [] [] may b c → Moves remaining contents [] [] may a c
+  moves_both may a b c p q =
+      moves_as [] [] [] [] (λ is. may is ⊎ may is) may a c refl refl (λ is h. elim h [ inl one ↦ one | inr two ↦ two ])
+      (moves_trans [] [] [] [] may may a b c p q)
 
   -- ---- each
 
@@ -221,71 +229,89 @@ module _ {R W : Type 0} (remaining : R → Option (List ℕ)) (contents : W → 
 
   -- ---- while events happen
 
-  module _ {D : Type 0} (conduct : Conduct D) (dig : List ℕ → List ℕ) where
-    pub goes_trans : (a b c : EngineView D) (x y z : List (Member R W)) → GoesOn conduct dig remaining contents a x b y → GoesOn conduct dig remaining contents b y c z
-        → GoesOn conduct dig remaining contents a x c z
+  module _ {D : Type 0} (conduct : Conduct D) (dig : List ℕ → List ℕ) (read_fault write_fault : Type 0) where
+    pub goes_trans : (a b c : EngineView D) (x y z : List (Member R W)) → GoesOn conduct dig read_fault write_fault remaining contents a x b y → GoesOn conduct dig read_fault write_fault remaining contents b y c z
+        → GoesOn conduct dig read_fault write_fault remaining contents a x c z
     goes_trans a b c x y z p q = record {
       history = p.history ++ q.history;
       runs = runs_trans (Steps conduct dig) a b c p.history q.history p.runs q.runs;
       none_joined = flat_map-append (λ (h : Happening). joined_by h.1) p.history q.history ∙ ap (λ l. l ++ joined_in q.history) p.none_joined ∙ q.none_joined;
       moves = each_as (λ k. fed_in k p.history ++ fed_in k q.history) (λ k. fed_in k (p.history ++ q.history))
           (λ k. frames_in k p.history ++ frames_in k q.history) (λ k. frames_in k (p.history ++ q.history))
-          (λ k end. HasCause conduct dig a p.history k end ⊎ HasCause conduct dig b q.history k end) (λ k. HasCause conduct dig a (p.history ++ q.history) k) x z
+          (λ k end. HasCause conduct dig read_fault write_fault a p.history k end ⊎ HasCause conduct dig read_fault write_fault b q.history k end) (λ k. HasCause conduct dig read_fault write_fault a (p.history ++ q.history) k) x z
           (λ k. sym (flat_map-append (λ (h : Happening). fed_by k h.0) p.history q.history))
           (λ k. sym (flat_map-append (λ (h : Happening). frames_to k (sent_by h.1)) p.history q.history))
           (λ k end cause. elim cause [
-            | inl first ↦ cause_on conduct dig a p.history q.history k end first
-            | inr then ↦ cause_after conduct dig a b p.history q.history k end p.runs then
+            | inl first ↦ cause_on conduct dig read_fault write_fault a p.history q.history k end first
+            | inr then ↦ cause_after conduct dig read_fault write_fault a b p.history q.history k end p.runs then
           ])
           (each_trans (λ k. fed_in k p.history) (λ k. fed_in k q.history) (λ k. frames_in k p.history) (λ k. frames_in k q.history)
-          (λ k. HasCause conduct dig a p.history k) (λ k. HasCause conduct dig b q.history k) x y z p.moves q.moves);
+          (λ k. HasCause conduct dig read_fault write_fault a p.history k) (λ k. HasCause conduct dig read_fault write_fault b q.history k) x y z p.moves q.moves);
+      closes = λ i d lt fresh why closed.
+          let ly : i < length y = subst (λ (n : ℕ). i < n) (sym p.moves.same_length) lt in
+          let first = p.moves.each i d lt in
+          let then = q.moves.each i d ly in
+          elim (closed_in p.history q.history (get_or x i d).key why closed) [
+            | inl was ↦ p.closes i d lt (was_open _ _ _ (get_or y i d).end (get_or z i d).end then.written fresh) why was
+            | inr is ↦ q.closes i d ly fresh why (subst (λ (k : PeerKey). IsClosedIn q.history k why) (sym first.same_key) is)
+          ];
     }
 
     -- no event
     pub goes_still : (a : EngineView D) (may : PeerKey → SessionEnd → Type 0) (x y : List (Member R W))
-        → ((k : PeerKey) (end : SessionEnd) → may k end → HasCause conduct dig a [] k end)
-        → EachMovesBy remaining contents (λ k. []) (λ k. []) may x y → GoesOn conduct dig remaining contents a x a y
+        → ((k : PeerKey) (end : SessionEnd) → may k end → HasCause conduct dig read_fault write_fault a [] k end)
+        → EachMovesBy remaining contents (λ k. []) (λ k. []) may x y → GoesOn conduct dig read_fault write_fault remaining contents a x a y
     goes_still a may x y among p = record {
       history = [];
       runs = none;
       none_joined = refl;
-      moves = each_as (λ k. []) (λ k. []) (λ k. []) (λ k. []) may (λ k. HasCause conduct dig a [] k) x y (λ k. refl) (λ k. refl) among p;
+      moves = each_as (λ k. []) (λ k. []) (λ k. []) (λ k. []) may (λ k. HasCause conduct dig read_fault write_fault a [] k) x y (λ k. refl) (λ k. refl) among p;
+      closes = λ i d lt fresh why. not_closed_yet (get_or x i d).key why;
     }
 
     -- nothing at all
-    pub goes_nowhere : (a : EngineView D) (x : List (Member R W)) → GoesOn conduct dig remaining contents a x a x
-    goes_nowhere a x = goes_still a (λ k. HasCause conduct dig a [] k) x x (λ k end cause. cause) (each_none (λ k. HasCause conduct dig a [] k) x)
+    pub goes_nowhere : (a : EngineView D) (x : List (Member R W)) → GoesOn conduct dig read_fault write_fault remaining contents a x a x
+    goes_nowhere a x = goes_still a (λ k. HasCause conduct dig read_fault write_fault a [] k) x x (λ k end cause. cause) (each_none (λ k. HasCause conduct dig read_fault write_fault a [] k) x)
 
     -- no event, and connections that fail
-    pub goes_faulty : (a : EngineView D) (x y : List (Member R W)) → EachMovesBy remaining contents (λ k. []) (λ k. []) (λ k. IsFault) x y
-        → GoesOn conduct dig remaining contents a x a y
-    goes_faulty a x y p = goes_still a (λ k. IsFault) x y (λ k. fault_cause conduct dig a [] k) p
+    pub goes_faulty : (a : EngineView D) (x y : List (Member R W)) → EachMovesBy remaining contents (λ k. []) (λ k. []) (λ k. IsFault read_fault write_fault) x y
+        → GoesOn conduct dig read_fault write_fault remaining contents a x a y
+    goes_faulty a x y p = goes_still a (λ k. IsFault read_fault write_fault) x y (λ k. fault_cause conduct dig read_fault write_fault a [] k) p
 
     -- one event
     pub goes_one : (a b : EngineView D) (event : Event) (answer : Answer) (x y : List (Member R W)) → Steps conduct dig a event answer b → joined_by answer ≡ []
-        → EachMovesBy remaining contents (λ k. fed_by k event) (λ k. frames_to k (sent_by answer)) (λ k. HasCause conduct dig a ((event, answer) ∷ []) k) x y
-        → GoesOn conduct dig remaining contents a x b y
-    goes_one a b event answer x y s no_key p = record {
+        → ((i : ℕ) (d : Member R W) → i < length x → (get_or y i d).end ≡ None → (why : Why) → ¬ IsClosedIn ((event, answer) ∷ []) (get_or x i d).key why)
+        → EachMovesBy remaining contents (λ k. fed_by k event) (λ k. frames_to k (sent_by answer)) (λ k. HasCause conduct dig read_fault write_fault a ((event, answer) ∷ []) k) x y
+        → GoesOn conduct dig read_fault write_fault remaining contents a x b y
+    goes_one a b event answer x y s no_key closes p = record {
       history = (event, answer) ∷ [];
       runs = one_more [] event answer a b none s;
       none_joined = append-nil (joined_by answer) ∙ no_key;
       moves = each_as (λ k. fed_by k event) (λ k. fed_in k ((event, answer) ∷ [])) (λ k. frames_to k (sent_by answer)) (λ k. frames_in k ((event, answer) ∷ []))
-          (λ k. HasCause conduct dig a ((event, answer) ∷ []) k) (λ k. HasCause conduct dig a ((event, answer) ∷ []) k) x y
+          (λ k. HasCause conduct dig read_fault write_fault a ((event, answer) ∷ []) k) (λ k. HasCause conduct dig read_fault write_fault a ((event, answer) ∷ []) k) x y
           (λ k. sym (append-nil (fed_by k event))) (λ k. sym (append-nil (frames_to k (sent_by answer)))) (λ k end cause. cause) p;
+      closes = closes;
     }
+
+    flush_no_next : (k : PeerKey) → Flush ≡ Next k → ⊥
+    flush_no_next k same = cc
+
+    feed_no_next : (key k : PeerKey) (bytes : List ℕ) → Feed key bytes ≡ Next k → ⊥
+    feed_no_next key k bytes same = cc
 
     -- Bytes that one gave are fed as its own.
     pub goes_fed : (a b : EngineView D) (answer : Answer) (x : List (Member R W)) (i : ℕ) (m n : Member R W) (key : PeerKey) (bytes : List ℕ)
         → Steps conduct dig a (Feed key bytes) answer b → key ≡ m.key
         → joined_by answer ≡ [] → ((k : PeerKey) → frames_to k (sent_by answer) ≡ []) → i < length x → m ≡ get_or x i m → HaveOwnKeys x
-        → Moves remaining contents bytes [] IsFault m n → GoesOn conduct dig remaining contents a x b (set x i n)
+        → Moves remaining contents bytes [] (IsFault read_fault write_fault) m n → GoesOn conduct dig read_fault write_fault remaining contents a x b (set x i n)
     goes_fed a b answer x i m n key bytes s same no_key quiet within is own moves =
         goes_one a b (Feed m.key bytes) answer x (set x i n) (subst (λ (k : PeerKey). Steps conduct dig a (Feed k bytes) answer b) same s) no_key
+        (λ j d lt fresh. not_closed (Feed m.key bytes) answer (λ k out why is. absurd (feed_no_next m.key k bytes is)) (get_or x j d).key)
         (each_as (λ k. fed_by k (Feed m.key bytes)) (λ k. fed_by k (Feed m.key bytes)) (λ k. []) (λ k. frames_to k (sent_by answer))
-        (λ k. IsFault) (λ k. HasCause conduct dig a ((Feed m.key bytes, answer) ∷ []) k) x (set x i n)
-        (λ k. refl) (λ k. sym (quiet k)) (λ k. fault_cause conduct dig a ((Feed m.key bytes, answer) ∷ []) k)
-        (each_set (λ k. fed_by k (Feed m.key bytes)) (λ k. []) (λ k. IsFault) x i m n within is
-        (subst (λ (l : List ℕ). Moves remaining contents l [] IsFault m n) (sym (ap (λ (t : Bool). cond t bytes []) (eq-eqb m.key.0 m.key.0 refl))) moves)
+        (λ k. IsFault read_fault write_fault) (λ k. HasCause conduct dig read_fault write_fault a ((Feed m.key bytes, answer) ∷ []) k) x (set x i n)
+        (λ k. refl) (λ k. sym (quiet k)) (λ k. fault_cause conduct dig read_fault write_fault a ((Feed m.key bytes, answer) ∷ []) k)
+        (each_set (λ k. fed_by k (Feed m.key bytes)) (λ k. []) (λ k. IsFault read_fault write_fault) x i m n within is
+        (subst (λ (l : List ℕ). Moves remaining contents l [] (IsFault read_fault write_fault) m n) (sym (ap (λ (t : Bool). cond t bytes []) (eq-eqb m.key.0 m.key.0 refl))) moves)
         (λ j d lt apart. (
           ap (λ (t : Bool). cond t bytes [])
               (ne_eqb m.key.0 (get_or x j d).key.0 (λ same. apart (own j i m lt within (ap (λ (o : Member R W). o.key.0) (get_or_default x j m d lt) ∙ sym same ∙ ap (λ (o : Member R W). o.key.0) is)))),
@@ -294,73 +320,83 @@ module _ {R W : Type 0} (remaining : R → Option (List ℕ)) (contents : W → 
 
     -- one alone changes, and no event happens
     pub goes_alone : (a : EngineView D) (may : SessionEnd → Type 0) (x : List (Member R W)) (i : ℕ) (d q : Member R W) → i < length x
-        → ((end : SessionEnd) → may end → HasCause conduct dig a [] (get_or x i d).key end)
-        → Moves remaining contents [] [] may (get_or x i d) q → GoesOn conduct dig remaining contents a x a (set x i q)
+        → ((end : SessionEnd) → may end → HasCause conduct dig read_fault write_fault a [] (get_or x i d).key end)
+        → Moves remaining contents [] [] may (get_or x i d) q → GoesOn conduct dig read_fault write_fault remaining contents a x a (set x i q)
     goes_alone a may x i d q within among moves =
         let p = get_or x i d in
-        let can : PeerKey → SessionEnd → Type 0 = λ k. HasCause conduct dig a [] k in
+        let can : PeerKey → SessionEnd → Type 0 = λ k. HasCause conduct dig read_fault write_fault a [] k in
         goes_still a can x (set x i q) (λ k end cause. cause)
         (each_set (λ k. []) (λ k. []) can x i p q within (get_or_default x i d p within)
         (moves_as [] [] [] [] may (can p.key) p q refl refl among moves) (λ j o lt apart. (refl, refl)))
 
     -- the same of a fault
-    pub goes_amiss : (a : EngineView D) (x : List (Member R W)) (i : ℕ) (d q : Member R W) (end : SessionEnd) → i < length x → IsFault end
-        → Moves remaining contents [] [] (λ is. is ≡ end) (get_or x i d) q → GoesOn conduct dig remaining contents a x a (set x i q)
+    pub goes_amiss : (a : EngineView D) (x : List (Member R W)) (i : ℕ) (d q : Member R W) (end : SessionEnd) → i < length x → IsFault read_fault write_fault end
+        → Moves remaining contents [] [] (λ is. is ≡ end) (get_or x i d) q → GoesOn conduct dig read_fault write_fault remaining contents a x a (set x i q)
     goes_amiss a x i d q end within fault moves =
-        goes_alone a (λ is. is ≡ end) x i d q within (λ is same. fault_cause conduct dig a [] (get_or x i d).key is (subst IsFault (sym same) fault)) moves
+        goes_alone a (λ is. is ≡ end) x i d q within (λ is same. fault_cause conduct dig read_fault write_fault a [] (get_or x i d).key is (subst (IsFault read_fault write_fault) (sym same) fault)) moves
 
     -- the same of one that was put in its place
     pub goes_again : (a : EngineView D) (x : List (Member R W)) (i : ℕ) (n d q : Member R W) → i < length x
-        → Moves remaining contents [] [] (λ is. ⊥) (get_or (set x i n) i d) q → GoesOn conduct dig remaining contents a (set x i n) a (set (set x i n) i q)
+        → Moves remaining contents [] [] (λ is. ⊥) (get_or (set x i n) i d) q → GoesOn conduct dig read_fault write_fault remaining contents a (set x i n) a (set (set x i n) i q)
     goes_again a x i n d q within moves =
         goes_alone a (λ is. ⊥) (set x i n) i d q (subst (λ (l : ℕ). i < l) (sym (length-set x i n)) within) (λ end no. absurd no) moves
 
-    pub goes_amiss_again : (a : EngineView D) (x : List (Member R W)) (i : ℕ) (n d q : Member R W) (end : SessionEnd) → i < length x → IsFault end
-        → Moves remaining contents [] [] (λ is. is ≡ end) (get_or (set x i n) i d) q → GoesOn conduct dig remaining contents a (set x i n) a (set (set x i n) i q)
+    pub goes_amiss_again : (a : EngineView D) (x : List (Member R W)) (i : ℕ) (n d q : Member R W) (end : SessionEnd) → i < length x → IsFault read_fault write_fault end
+        → Moves remaining contents [] [] (λ is. is ≡ end) (get_or (set x i n) i d) q → GoesOn conduct dig read_fault write_fault remaining contents a (set x i n) a (set (set x i n) i q)
     goes_amiss_again a x i n d q end within fault moves =
         goes_amiss a (set x i n) i d q end (subst (λ (l : ℕ). i < l) (sym (length-set x i n)) within) fault moves
 
     -- an event that feeds nobody, and what it sends is put into each one's way out
     pub goes_sent : (a b : EngineView D) (event : Event) (answer : Answer) (send : List Sent) (x y : List (Member R W)) → Steps conduct dig a event answer b
-        → joined_by answer ≡ [] → ((k : PeerKey) → fed_by k event ≡ []) → send ≡ sent_by answer
-        → EachMovesBy remaining contents (λ k. []) (λ k. frames_to k send) (λ k. IsFault) x y → GoesOn conduct dig remaining contents a x b y
-    goes_sent a b event answer send x y s no_key unfed same p =
-        goes_one a b event answer x y s no_key
-        (each_as (λ k. []) (λ k. fed_by k event) (λ k. frames_to k send) (λ k. frames_to k (sent_by answer)) (λ k. IsFault) (λ k. HasCause conduct dig a ((event, answer) ∷ []) k) x y
-        (λ k. sym (unfed k)) (λ k. ap (frames_to k) same) (λ k. fault_cause conduct dig a ((event, answer) ∷ []) k) p)
+        → joined_by answer ≡ [] → ((k : PeerKey) → fed_by k event ≡ []) → ClosesNobody event answer → send ≡ sent_by answer
+        → EachMovesBy remaining contents (λ k. []) (λ k. frames_to k send) (λ k. IsFault read_fault write_fault) x y → GoesOn conduct dig read_fault write_fault remaining contents a x b y
+    goes_sent a b event answer send x y s no_key unfed nobody same p =
+        goes_one a b event answer x y s no_key (λ i d lt fresh. not_closed event answer nobody (get_or x i d).key)
+        (each_as (λ k. []) (λ k. fed_by k event) (λ k. frames_to k send) (λ k. frames_to k (sent_by answer)) (λ k. IsFault read_fault write_fault) (λ k. HasCause conduct dig read_fault write_fault a ((event, answer) ∷ []) k) x y
+        (λ k. sym (unfed k)) (λ k. ap (frames_to k) same) (λ k. fault_cause conduct dig read_fault write_fault a ((event, answer) ∷ []) k) p)
 
-    pub goes_own_keys : (a b : EngineView D) (x y : List (Member R W)) → GoesOn conduct dig remaining contents a x b y → HaveOwnKeys x → HaveOwnKeys y
-    goes_own_keys a b x y g = own_keys_kept (λ k. fed_in k g.history) (λ k. frames_in k g.history) (λ k. HasCause conduct dig a g.history k) x y g.moves
+    pub goes_own_keys : (a b : EngineView D) (x y : List (Member R W)) → GoesOn conduct dig read_fault write_fault remaining contents a x b y → HaveOwnKeys x → HaveOwnKeys y
+    goes_own_keys a b x y g = own_keys_kept (λ k. fed_in k g.history) (λ k. frames_in k g.history) (λ k. HasCause conduct dig read_fault write_fault a g.history k) x y g.moves
 
     -- an event that feeds nobody and sends nothing
     pub goes_quietly : (a b : EngineView D) (event : Event) (answer : Answer) (x : List (Member R W)) → Steps conduct dig a event answer b → joined_by answer ≡ []
-        → ((k : PeerKey) → fed_by k event ≡ []) → ((k : PeerKey) → frames_to k (sent_by answer) ≡ []) → GoesOn conduct dig remaining contents a x b x
-    goes_quietly a b event answer x s no_key unfed quiet =
-        let can : PeerKey → SessionEnd → Type 0 = λ k. HasCause conduct dig a ((event, answer) ∷ []) k in
-        goes_one a b event answer x x s no_key
+        → ((k : PeerKey) → fed_by k event ≡ []) → ((k : PeerKey) → frames_to k (sent_by answer) ≡ []) → ClosesNobody event answer → GoesOn conduct dig read_fault write_fault remaining contents a x b x
+    goes_quietly a b event answer x s no_key unfed quiet nobody =
+        let can : PeerKey → SessionEnd → Type 0 = λ k. HasCause conduct dig read_fault write_fault a ((event, answer) ∷ []) k in
+        goes_one a b event answer x x s no_key (λ i d lt fresh. not_closed event answer nobody (get_or x i d).key)
         (each_as (λ k. []) (λ k. fed_by k event) (λ k. []) (λ k. frames_to k (sent_by answer)) can can x x (λ k. sym (unfed k)) (λ k. sym (quiet k)) (λ k end cause. cause) (each_none can x))
 
     -- The event closes its peer, which ends for this.
     pub goes_closed : (a b : EngineView D) (key : PeerKey) (out : Output) (send : List Sent) (why : Why) (x y : List (Member R W)) (i : ℕ) (d q : Member R W)
         → Steps conduct dig a (Next key) (Stepped (Ok (Some out))) b → send ≡ out.send → out.close ≡ Some why
-        → EachMovesBy remaining contents (λ k. []) (λ k. frames_to k send) (λ k. IsFault) x y → i < length y → (get_or y i d).key ≡ key
-        → Moves remaining contents [] [] (λ is. is ≡ Closed why) (get_or y i d) q → GoesOn conduct dig remaining contents a x b (set y i q)
-    goes_closed a b key out send why x y i d q s same closes p within own moves =
+        → EachMovesBy remaining contents (λ k. []) (λ k. frames_to k send) (λ k. IsFault read_fault write_fault) x y → i < length y → (get_or y i d).key ≡ key → HaveOwnKeys x → (end : SessionEnd) → q.end ≡ Some end
+        → Moves remaining contents [] [] (λ is. is ≡ Closed why) (get_or y i d) q → GoesOn conduct dig read_fault write_fault remaining contents a x b (set y i q)
+    goes_closed a b key out send why x y i d q s same closes p within own apart end ended moves =
         let h : List Happening = (Next key, Stepped (Ok (Some out))) ∷ [] in
-        let can : PeerKey → SessionEnd → Type 0 = λ k. HasCause conduct dig a h k in
+        let can : PeerKey → SessionEnd → Type 0 = λ k. HasCause conduct dig read_fault write_fault a h k in
         let m = get_or y i d in
-        let closed : HasCause conduct dig a h m.key (Closed why) =
+        let closed : HasCause conduct dig read_fault write_fault a h m.key (Closed why) =
         record { out = out; closes = closes; happened = subst (λ (k : PeerKey). Contains h (Next k, Stepped (Ok (Some out)))) (sym own) (Contains-push [] _) } in
         goes_one a b (Next key) (Stepped (Ok (Some out))) x (set y i q) s refl
-        (each_as (λ k. [] ++ []) (λ k. []) (λ k. frames_to k send ++ []) (λ k. frames_to k out.send) (λ k end. IsFault end ⊎ can k end) can x (set y i q)
+        (λ j o lt fresh other c. elim (cases_eq j i) [
+          | inl here ↦
+              let unended : q.end ≡ None = sym (ap (λ (n : Member R W). n.end) (get_or-set_same y i q o within)) ∙ subst (λ (l : ℕ). (get_or (set y i q) l o).end ≡ None) here fresh in
+              let no : None ≡ Some end = sym unended ∙ ended in cc
+          | inr not_here ↦
+              let lx : i < length x = subst (λ (n : ℕ). i < n) p.same_length within in
+              let own_x : (get_or x i o).key ≡ key = sym (p.each i o lx).same_key ∙ ap (λ (n : Member R W). n.key) (get_or_default y i o d within) ∙ own in
+              let is : key ≡ (get_or x j o).key = closed_key key (get_or x j o).key _ other c in
+              not_here (apart j i o lt lx (ap (λ (k : PeerKey). k.0) (sym is ∙ sym own_x)))
+        ])
+        (each_as (λ k. [] ++ []) (λ k. []) (λ k. frames_to k send ++ []) (λ k. frames_to k out.send) (λ k end. IsFault read_fault write_fault end ⊎ can k end) can x (set y i q)
         (λ k. refl) (λ k. append-nil (frames_to k send) ∙ ap (frames_to k) same)
-        (λ k end cause. elim cause [ inl fault ↦ fault_cause conduct dig a h k end fault | inr other ↦ other ])
-        (each_trans (λ k. []) (λ k. []) (λ k. frames_to k send) (λ k. []) (λ k. IsFault) can x y (set y i q) p
+        (λ k end cause. elim cause [ inl fault ↦ fault_cause conduct dig read_fault write_fault a h k end fault | inr other ↦ other ])
+        (each_trans (λ k. []) (λ k. []) (λ k. frames_to k send) (λ k. []) (λ k. IsFault read_fault write_fault) can x y (set y i q) p
         (each_set (λ k. []) (λ k. []) can y i m q within (get_or_default y i d m within)
         (moves_as [] [] [] [] (λ is. is ≡ Closed why) (can m.key) m q refl refl (λ end is. subst (can m.key) (sym is) closed) moves)
         (λ j o lt apart. (refl, refl)))))
 
     -- nothing happens, or a flush
-    pub goes_flushed : (a b : EngineView D) (x : List (Member R W)) → MayBeFlushed conduct dig a b → GoesOn conduct dig remaining contents a x b x
-    goes_flushed a b x (inl same) = subst (λ (e : EngineView D). GoesOn conduct dig remaining contents a x e x) (sym same) (goes_nowhere a x)
-    goes_flushed a b x (inr flush) = goes_quietly a b Flush (Flushed flush.0) x flush.1 refl (λ k. refl) (λ k. refl)
+    pub goes_flushed : (a b : EngineView D) (x : List (Member R W)) → MayBeFlushed conduct dig a b → GoesOn conduct dig read_fault write_fault remaining contents a x b x
+    goes_flushed a b x (inl same) = subst (λ (e : EngineView D). GoesOn conduct dig read_fault write_fault remaining contents a x e x) (sym same) (goes_nowhere a x)
+    goes_flushed a b x (inr flush) = goes_quietly a b Flush (Flushed flush.0) x flush.1 refl (λ k. refl) (λ k. refl) (λ k out why is. absurd (flush_no_next k is))

@@ -84,3 +84,8 @@ written_trans x y z f g (Some e) b c p q =
 pub nothing_on : (x y : Option (List ℕ)) (e : Option SessionEnd) → Keeps x y → IsWrittenOn x y [] e e
 nothing_on x y None kept = put_none x y kept
 nothing_on x y (Some e) kept = (kept, refl)
+
+-- one that has not ended had not
+pub was_open : (x y : Option (List ℕ)) (f : List Frame) (a b : Option SessionEnd) → IsWrittenOn x y f a b → b ≡ None → a ≡ None
+was_open x y f None b w fresh = refl
+was_open x y f (Some e) b w fresh = absurd (let no : None ≡ Some e = sym fresh ∙ w.1 in cc)

@@ -4,13 +4,14 @@ use Rattle.std.specs.Io.KnownBytes.{Appends, Consumes, Keeps}
 use Rattle.bt_disk.specs.Conduct.{Conduct}
 use Rattle.bt_book.specs.declared.names.PeerKey.{PeerKey}
 use Rattle.bt_machine.specs.declared.answer.Frame.{Frame}
+use Rattle.bt_machine.specs.declared.answer.Why.{Why}
 use Rattle.bt_machine.specs.State.{PeerState, EngineState, EngineView}
 use Rattle.bt_session.specs.declared.end.SessionEnd.{SessionEnd}
 use Rattle.bt_session.specs.Frames.{spelling}
 use Rattle.bt_swarm.specs.declared.member.Member.{Member}
 use Rattle.bt_swarm.specs.Runs.{Happening, Runs, fed_in, frames_in, joined_in}
 use Rattle.bt_swarm.specs.Steps.{Steps}
-use Rattle.bt_swarm.specs.Causes.{HasCause}
+use Rattle.bt_swarm.specs.Causes.{HasCause, IsClosedIn}
 
 -- ---- what is put into a way out
 
@@ -74,6 +75,7 @@ module _ {R W : Type 0} (remaining : R → Option (List ℕ)) (contents : W → 
   pub record Moves (bytes : List ℕ) (frames : List Frame) (may_end : SessionEnd → Type 0)
       (old new : Member R W) : Type 0 where
     pub same_key : new.key ≡ old.key
+    pub same_place : new.place ≡ old.place
     pub read : Consumes (remaining old.reader) (remaining new.reader) bytes
     pub written : IsWrittenOn (contents old.writer) (contents new.writer) frames old.end new.end
     pub ends : (end : SessionEnd) → new.end ≡ Some end → (old.end ≡ Some end) ⊎ may_end end
@@ -88,12 +90,15 @@ module _ {R W : Type 0} (remaining : R → Option (List ℕ)) (contents : W → 
 
 -- Events led from one machine to the other, and no peer came by them. What each connection gave is just what
 -- was fed as its own, what it was sent is what the answers send to it, and where one ended, this has its
--- cause.
+-- cause. One that was closed by an event has ended.
 pub record GoesOn {D R W : Type 0} (conduct : Conduct D) (dig : List ℕ → List ℕ)
-    (remaining : R → Option (List ℕ)) (contents : W → Option (List ℕ)) (old : EngineView D)
-    (before : List (Member R W)) (new : EngineView D) (after : List (Member R W)) : Type 0 where
+    (read_fault write_fault : Type 0) (remaining : R → Option (List ℕ)) (contents : W → Option (List ℕ))
+    (old : EngineView D) (before : List (Member R W)) (new : EngineView D) (after : List (Member R W))
+    : Type 0 where
   pub history : List Happening
   pub runs : Runs (Steps conduct dig) old history new
   pub none_joined : joined_in history ≡ []
   pub moves : EachMovesBy remaining contents (λ key. fed_in key history) (λ key. frames_in key history)
-      (λ key. HasCause conduct dig old history key) before after
+      (λ key. HasCause conduct dig read_fault write_fault old history key) before after
+  pub closes : (i : ℕ) (d : Member R W) → i < length before → (slice_index_or after i d).end ≡ None
+      → (why : Why) → ¬ IsClosedIn history (slice_index_or before i d).key why

@@ -3,6 +3,7 @@ ghost use Rattle.std.specs.Prelude.{[], ◌≡◌, ◌≤◌, ◌++◌, IfErr, I
 ghost use Rattle.std.specs.Io.KnownBytes.{Appends, Keeps};
 ghost use Rattle.bt_machine.specs.Frames.{CanBeWritten};
 ghost use Rattle.bt_session.specs.Frames.{spelling, spellings, frames_to, AllFit};
+ghost use Rattle.bt_session.specs.Failures.{OneFailed};
 ghost use Rattle.bt_swarm.specs.Causes.{IsFault};
 
 use crate::gate::QueuedWriter;
@@ -26,7 +27,7 @@ pub(crate) fn put_frames<W: QueuedWriter>(
     ensures put { OnOk result (Appends (W.contents writer.old) (W.contents writer.new)
         (spellings (frames_to key send.now))) }
     ensures kept { OnErr result (Keeps (W.contents writer.old) (W.contents writer.new)) }
-    ensures fault { IfErr result IsFault }
+    ensures fault { IfErr result (IsFault ⊥ (OneFailed W.has_failed)) }
 {
     if spell_frames(alloc, key, send, buffer).is_err() {
         return Err(SessionEnd::Memory);
@@ -41,7 +42,7 @@ pub(crate) fn put_frames<W: QueuedWriter>(
 pub(crate) fn put<W: QueuedWriter>(writer: &mut W, bytes: &[u8]) -> Result<(), SessionEnd>
     ensures put { OnOk result (Appends (W.contents writer.old) (W.contents writer.new) bytes.now) }
     ensures kept { OnErr result (Keeps (W.contents writer.old) (W.contents writer.new)) }
-    ensures fault { IfErr result IsFault }
+    ensures fault { IfErr result (IsFault ⊥ (OneFailed W.has_failed)) }
 {
     match writer.put(bytes) {
         Ok(()) => Ok(()),

@@ -1,23 +1,29 @@
 //! Where connections come from, and their ways out.
-ghost use Rattle.std.specs.Prelude.{◌≡◌, ℕ, ◌+◌, ◌-◌, ◌<◌, ◌^◌, true, List, Option, IfSome, OnOk, OnErr};
+ghost use Rattle.std.specs.Prelude.{[], ◌≡◌, ℕ, ◌+◌, ◌-◌, ◌<◌, ◌^◌, true, List, ◌∷◌, ◌++◌, Option, IfSome, OnOk, OnErr};
 ghost use Rattle.std.specs.Io.KnownBytes.{Appends, Keeps};
+ghost use Rattle.bt_swarm.specs.Passing.{Passing, came_by, went};
 
-use bt_session::SessionEnd;
-use std::io::{self, Read};
+use bt_session::{SessionEnd, WatchedReader};
+use std::io;
 
 /// A way out of a connection, which takes all that is put into it and passes it on as the peer takes it.
 pub trait QueuedWriter {
     /// What was put into it, where that is known.
     ghost contents: { Self → Option (List ℕ) };
 
+    /// Its last call failed.
+    ghost has_failed: { Self → Type 0 };
+
     /// Puts bytes behind the others, all or none. Errors: `OutOfMemory`; any other, where no more may wait.
     fn put(&mut self, bytes: &[u8]) -> io::Result<()>
         ensures behind { OnOk result (Appends (contents self.old) (contents self.new) bytes.now) }
-        ensures kept { OnErr result (Keeps (contents self.old) (contents self.new)) };
+        ensures kept { OnErr result (Keeps (contents self.old) (contents self.new)) }
+        ensures failed { OnErr result (has_failed self.new) };
 
     /// Passes on what the peer takes now: whether nothing waits then. Errors: the connection failed.
     fn drain(&mut self) -> io::Result<bool>
-        ensures kept { Keeps (contents self.old) (contents self.new) };
+        ensures kept { Keeps (contents self.old) (contents self.new) }
+        ensures failed { OnErr result (has_failed self.new) };
 
     /// How many bytes wait.
     fn waiting(&self) -> usize;
@@ -33,8 +39,11 @@ pub struct Due {
 
 /// Where connections come from, and which may be looked at. All time is behind it. A connection is known to
 /// it by its place, a number below 64 that no other one has then.
+///
+/// An implementor says by `leads` what it has become by what it gave and was told: as that it wrote a line
+/// for each that went. What it is asked is answered at once, but for `wait`.
 pub trait Gate {
-    type R: Read + Drop;
+    type R: WatchedReader + Drop;
 
     type W: QueuedWriter + Drop;
 
@@ -47,20 +56,30 @@ pub trait Gate {
     /// Nobody is to come any more.
     ghost is_shut: { Self → Type 0 };
 
+    /// A device has refused a write.
+    ghost is_troubled: { Self → Type 0 };
+
+    /// What it may have become when these have come and gone: from what it was, to what it is.
+    ghost leads: { Self → List Passing → Self → Type 0 };
+
     /// Waits until a connection may be read or written to, one is to be accepted, something is due or a
-    /// second is over; not at all with `at_once`.
+    /// second is over; not at all with `at_once`. Owes no more than to come back: what it says is a hint, and
+    /// by it nobody comes or goes.
     fn wait(&mut self, at_once: bool) -> Due
         requires few { waits self.old < 2 ^ 64 - 1 }
-        ensures counted { waits self.new ≡ waits self.old + 1 };
+        ensures counted { waits self.new ≡ waits self.old + 1 }
+        ensures led { leads self.old [] self.new };
 
-    /// Whether nobody is to come any more.
+    /// Whether nobody is to come any more. Once it has said so, it stays so: `accept` gives nobody from then
+    /// on, and no call of `tell` changes it. Where it never says so, a swarm goes on.
     fn is_over(&self) -> bool
         ensures { result ≡ true → is_shut self.now };
 
-    /// Takes a connection that waits, without waiting, and gives it this place.
+    /// Takes a connection that waits, without waiting, and gives it this place, which none has.
     fn accept(&mut self, place: usize) -> Option<(Self::R, Self::W)>
         ensures given { IfSome result (λ ways. gives ways.0 ways.1) }
-        ensures counted { waits self.new ≡ waits self.old };
+        ensures counted { waits self.new ≡ waits self.old }
+        ensures led { leads self.old (came_by place result) self.new };
 
     /// Whether a connection may be read now: bytes have come, or a second is over since its last read.
     fn is_ready(&self, place: usize) -> bool;
@@ -69,10 +88,21 @@ pub trait Gate {
     fn is_silent(&self, place: usize) -> bool;
 
     /// Whether a device has refused a write since this was asked last.
-    fn has_trouble(&self) -> bool;
+    fn has_trouble(&self) -> bool
+        ensures { result ≡ true → is_troubled self.now };
 
-    /// A connection went, and this is how it ended.
+    /// The connection at this place went, and this is how it ended: its line is written. Its reader and its
+    /// way out are dropped by then, and the place is free. It is told once of each that it gave, of one too
+    /// that the engine refused. It cannot fail: an error of a write is kept for later.
     fn tell(&mut self, place: usize, end: SessionEnd)
         ensures counted { waits self.new ≡ waits self.old }
-        ensures shut { is_shut self.old → is_shut self.new };
+        ensures shut { is_shut self.old → is_shut self.new }
+        ensures led { leads self.old (went place end ∷ []) self.new };
+
+    /// It may stay as it is.
+    ghost leads_nowhere: { (gate : Self) → leads gate [] gate };
+
+    /// What it becomes by some and then by others, it becomes by all of them.
+    ghost leads_on: { (a b c : Self) (first more : List Passing) → leads a first b → leads b more c
+        → leads a (first ++ more) c };
 }

@@ -1,7 +1,7 @@
 //! A connection among others, and how what the machine sends comes to it.
 ghost use Rattle.std.specs.Prelude.{[], ◌≡◌, ◌≤◌, length, take, Some};
 ghost use Rattle.bt_session.specs.Frames.{frames_to, AllFit};
-ghost use Rattle.bt_swarm.specs.Causes.{IsFault};
+ghost use Rattle.bt_swarm.specs.Causes.{IsFaultOf};
 ghost use Rattle.bt_swarm.specs.Moves.{EachMovesBy, Moves};
 
 use crate::frames::{put, put_frames};
@@ -9,8 +9,8 @@ use crate::gate::{Gate, QueuedWriter};
 use crate::room::Room;
 use bt_book::PeerKey;
 use bt_machine::Frame;
-use bt_session::SessionEnd;
-use std::io::{ErrorKind, Read};
+use bt_session::{SessionEnd, WatchedReader};
+use std::io::ErrorKind;
 
 /// Of a connection whose way out has so many bytes nothing is read, and no wire event is taken: 256 KiB.
 const HELD_BACK: usize = 262_144;
@@ -31,28 +31,25 @@ pub struct Member<R, W> {
 }
 
 /// Whether it may be read, and its wire events taken: it has not ended, and takes what it is sent.
-pub(crate) fn takes_more<R: Read, W: QueuedWriter>(member: &Member<R, W>) -> bool {
+pub(crate) fn takes_more<G: Gate>(member: &Member<G::R, G::W>) -> bool {
     member.end.is_none() && member.writer.waiting() < HELD_BACK
 }
 
 /// Reads once of a connection, without waiting: how many bytes came, none too where it ends by that.
-pub(crate) fn read_of<R: Read, W: QueuedWriter>(
-    member: &mut Member<R, W>,
-    buffer: &mut [u8],
-) -> usize
-    ensures moves { Moves R.remaining W.contents (take result buffer.new) [] IsFault
-        member.old member.new }
+pub(crate) fn read_of<G: Gate>(member: &mut Member<G::R, G::W>, buffer: &mut [u8]) -> usize
+    ensures moves { Moves G.R.remaining G.W.contents (take result buffer.new) []
+        (IsFaultOf G.R.has_failed G.W.has_failed G.is_troubled) member.old member.new }
     ensures within { result ≤ length buffer.new }
 {
-    match member.reader.read(buffer) {
+    match member.reader.read_once(buffer) {
         Ok(0) => {
-            put_end(member, SessionEnd::Ended);
+            put_end::<G>(member, SessionEnd::Ended);
             0
         }
         Ok(count) => count,
         Err(error) if matches!(error.kind(), ErrorKind::WouldBlock | ErrorKind::Interrupted) => 0,
         Err(_) => {
-            put_end(member, SessionEnd::ReadFault);
+            put_end::<G>(member, SessionEnd::ReadFault);
             0
         }
     }
@@ -60,29 +57,25 @@ pub(crate) fn read_of<R: Read, W: QueuedWriter>(
 
 /// Puts what an event sends into the way out of each one that it is for. One that has no memory for it, or
 /// whose way out takes no more, ends; the others get theirs all the same.
-pub(crate) fn deliver<R: Read, W: QueuedWriter>(
-    members: &mut [Member<R, W>],
+pub(crate) fn deliver<G: Gate>(
+    members: &mut [Member<G::R, G::W>],
     send: &[(PeerKey, Frame)],
     room: &mut Room,
 )
     requires fit { AllFit send.now }
-    ensures { EachMovesBy R.remaining W.contents (λ key. []) (λ key. frames_to key send.now)
-        (λ key. IsFault) members.old members.new }
+    ensures { EachMovesBy G.R.remaining G.W.contents (λ key. []) (λ key. frames_to key send.now)
+        (λ key. IsFaultOf G.R.has_failed G.W.has_failed G.is_troubled) members.old members.new }
 {
     for member in members.iter_mut() {
-        deliver_to(member, send, room);
+        deliver_to::<G>(member, send, room);
     }
 }
 
 /// Puts what an event sends to one into its way out.
-fn deliver_to<R: Read, W: QueuedWriter>(
-    member: &mut Member<R, W>,
-    send: &[(PeerKey, Frame)],
-    room: &mut Room,
-)
+fn deliver_to<G: Gate>(member: &mut Member<G::R, G::W>, send: &[(PeerKey, Frame)], room: &mut Room)
     requires fit { AllFit send.now }
-    ensures { Moves R.remaining W.contents [] (frames_to member.old.key send.now) IsFault
-        member.old member.new }
+    ensures { Moves G.R.remaining G.W.contents [] (frames_to member.old.key send.now)
+        (IsFaultOf G.R.has_failed G.W.has_failed G.is_troubled) member.old member.new }
 {
     let None = member.end else {
         return;
@@ -102,8 +95,8 @@ fn deliver_to<R: Read, W: QueuedWriter>(
 /// Passes on what each peer takes now of what waits for it, and puts a message that says nothing into the way
 /// out of each that was silent for long. One whose connection fails ends.
 pub(crate) fn pass_on<G: Gate>(gate: &G, members: &mut [Member<G::R, G::W>])
-    ensures { EachMovesBy G.R.remaining G.W.contents (λ key. []) (λ key. []) (λ key. IsFault)
-        members.old members.new }
+    ensures { EachMovesBy G.R.remaining G.W.contents (λ key. []) (λ key. [])
+        (λ key. IsFaultOf G.R.has_failed G.W.has_failed G.is_troubled) members.old members.new }
 {
     for member in members.iter_mut() {
         tend(gate, member);
@@ -112,15 +105,17 @@ pub(crate) fn pass_on<G: Gate>(gate: &G, members: &mut [Member<G::R, G::W>])
 
 /// The same of one.
 fn tend<G: Gate>(gate: &G, member: &mut Member<G::R, G::W>)
-    ensures { Moves G.R.remaining G.W.contents [] [] IsFault member.old member.new }
+    ensures { Moves G.R.remaining G.W.contents [] []
+        (IsFaultOf G.R.has_failed G.W.has_failed G.is_troubled) member.old member.new }
 {
     keep(gate, member);
-    pass_on_to(member);
+    pass_on_to::<G>(member);
 }
 
 /// Puts a message that says nothing into the way out of one that was silent for long.
 fn keep<G: Gate>(gate: &G, member: &mut Member<G::R, G::W>)
-    ensures { Moves G.R.remaining G.W.contents [] [] IsFault member.old member.new }
+    ensures { Moves G.R.remaining G.W.contents [] []
+        (IsFaultOf G.R.has_failed G.W.has_failed G.is_troubled) member.old member.new }
 {
     let None = member.end else {
         return;
@@ -134,20 +129,18 @@ fn keep<G: Gate>(gate: &G, member: &mut Member<G::R, G::W>)
 }
 
 /// Passes on what the peer takes now of what waits for it.
-fn pass_on_to<R: Read, W: QueuedWriter>(member: &mut Member<R, W>)
-    ensures { Moves R.remaining W.contents [] [] IsFault member.old member.new }
+fn pass_on_to<G: Gate>(member: &mut Member<G::R, G::W>)
+    ensures { Moves G.R.remaining G.W.contents [] []
+        (IsFaultOf G.R.has_failed G.W.has_failed G.is_troubled) member.old member.new }
 {
     if member.writer.drain().is_err() {
-        put_end(member, SessionEnd::WriteFault);
+        put_end::<G>(member, SessionEnd::WriteFault);
     }
 }
 
 /// Ends a connection, unless it has ended: gives its end.
-pub(crate) fn put_end<R: Read, W: QueuedWriter>(
-    member: &mut Member<R, W>,
-    end: SessionEnd,
-) -> SessionEnd
-    ensures moves { Moves R.remaining W.contents [] [] (λ is. is ≡ end) member.old member.new }
+pub(crate) fn put_end<G: Gate>(member: &mut Member<G::R, G::W>, end: SessionEnd) -> SessionEnd
+    ensures moves { Moves G.R.remaining G.W.contents [] [] (λ is. is ≡ end) member.old member.new }
     ensures ended { member.new.end ≡ Some result }
 {
     match member.end {
@@ -160,8 +153,8 @@ pub(crate) fn put_end<R: Read, W: QueuedWriter>(
 }
 
 /// Notes whether a whole wire event may lie in what was fed as its own.
-pub(crate) fn note_events<R: Read, W: QueuedWriter>(member: &mut Member<R, W>, may_have: bool)
-    ensures { Moves R.remaining W.contents [] [] (λ is. ⊥) member.old member.new }
+pub(crate) fn note_events<G: Gate>(member: &mut Member<G::R, G::W>, may_have: bool)
+    ensures { Moves G.R.remaining G.W.contents [] [] (λ is. ⊥) member.old member.new }
 {
     member.may_have_events = may_have;
 }

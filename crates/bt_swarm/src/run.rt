@@ -1,13 +1,14 @@
 //! The loop of a swarm.
-ghost use Rattle.std.specs.Prelude.{[], ◌≡◌, ◌≢◌, ◌+◌, ◌-◌, ◌<◌, ◌^◌, ◌⊎◌, true, OnOk};
+ghost use Rattle.std.specs.Prelude.{[], ◌≡◌, ◌≢◌, ◌+◌, ◌-◌, ◌<◌, ◌^◌, ◌⊎◌, true, IfErr, OnOk};
 ghost use Rattle.bt_machine.specs.Report.{all_complete};
 ghost use Rattle.bt_engine.specs.Leads.{LeadsTo};
 ghost use Rattle.bt_engine.specs.Standing.{Stands, KeepsBlocks};
-ghost use Rattle.bt_session.specs.declared.end.SessionEnd.TheVariants.{Complete};
-ghost use Rattle.bt_swarm.specs.Causes.{IsFault};
+ghost use Rattle.bt_session.specs.declared.end.SessionEnd.TheVariants.{Complete, ReadFault};
+ghost use Rattle.bt_session.specs.Failures.{OneFailed};
+ghost use Rattle.bt_swarm.specs.Causes.{ReadFailed, IsRefused};
 ghost use Rattle.bt_swarm.specs.Moves.{AreKeyed};
 ghost use Rattle.bt_swarm.specs.Steps.{IsComplete, MayBeFlushed};
-ghost use Rattle.bt_swarm.specs.Swarm.{HasSwarmed, KeepsSwarm, IsOver};
+ghost use Rattle.bt_swarm.specs.Swarm.{HasServed, SwarmsOn, IsAtEnd, IsOver, ReadFailedOrCut};
 
 use crate::calls::flush;
 use crate::gate::Gate;
@@ -36,10 +37,13 @@ pub fn run_swarm<D: Disk + Drop, H: NodeHash, G: Gate>(
 ) -> Result<(), FlushError>
     requires no_peer { engine.old.state.peers ≡ [] }
     requires unwaited { G.waits gate.old ≡ 0 }
-    ensures swarm { HasSwarmed D.conduct H.digest G.gives G.R.remaining G.W.contents
-        engine.old engine.new [] }
-    ensures over { OnOk result
-        (IsOver until_complete engine.new (G.is_shut gate.new) (G.waits gate.new)) }
+    ensures swarm { HasServed D.conduct H.digest
+        (ReadFailedOrCut G.R.has_failed G.is_troubled result (G.waits gate.new))
+        (OneFailed G.W.has_failed) G.gives G.R.remaining G.W.contents G.leads
+        engine.old gate.old engine.new gate.new }
+    ensures over { OnOk result (IsOver (MayBeFlushed D.conduct H.digest) until_complete
+        engine.new (G.is_shut gate.new) (G.waits gate.new)) }
+    ensures refused { IfErr result (λ error. IsRefused D.conduct H.digest engine.old error engine.new) }
     ensures gone { engine.new.state.peers ≡ [] }
     ensures run { LeadsTo D.conduct H.digest engine.old engine.new }
     ensures stands { Stands D.conduct engine.old engine.new }
@@ -61,10 +65,13 @@ fn serve_all<D: Disk + Drop, H: NodeHash, G: Gate>(
 ) -> Result<(), FlushError>
     requires no_peer { engine.old.state.peers ≡ [] }
     requires unwaited { G.waits gate.old ≡ 0 }
-    ensures swarm { HasSwarmed D.conduct H.digest G.gives G.R.remaining G.W.contents
-        engine.old engine.new [] }
-    ensures over { OnOk result
-        (IsOver until_complete engine.new (G.is_shut gate.new) (G.waits gate.new)) }
+    ensures swarm { HasServed D.conduct H.digest
+        (ReadFailedOrCut G.R.has_failed G.is_troubled result (G.waits gate.new))
+        (OneFailed G.W.has_failed) G.gives G.R.remaining G.W.contents G.leads
+        engine.old gate.old engine.new gate.new }
+    ensures over { OnOk result (IsOver (λ asked now. now ≡ asked) until_complete
+        engine.new (G.is_shut gate.new) (G.waits gate.new)) }
+    ensures refused { IfErr result (λ error. IsRefused D.conduct H.digest engine.old error engine.new) }
     ensures gone { engine.new.state.peers ≡ [] }
 {
     let mut members = Vec::new(alloc);
@@ -83,7 +90,7 @@ fn serve_all<D: Disk + Drop, H: NodeHash, G: Gate>(
         &mut room,
     );
     let end = end_of_all(engine, until_complete);
-    disband(engine, gate, &mut members, end);
+    disband(engine, gate, &mut members, end, &answer);
     answer
 }
 
@@ -92,7 +99,8 @@ fn end_of_all<D: Disk + Drop, H: NodeHash>(
     engine: &Engine<D, H>,
     until_complete: bool,
 ) -> SessionEnd
-    ensures { IsFault result ⊎ ((result ≡ Complete) × IsComplete engine.now) }
+    ensures { ((result ≡ Complete) × IsComplete engine.now)
+        ⊎ ((result ≡ ReadFault) × (until_complete ≡ true → ¬ IsComplete engine.now)) }
 {
     if until_complete && engine.is_complete() {
         SessionEnd::Complete
@@ -107,6 +115,7 @@ fn flush_last<D: Disk + Drop, H: NodeHash>(
     flush_every: u64,
 ) -> Result<(), FlushError>
     ensures step { MayBeFlushed D.conduct H.digest engine.old engine.new }
+    ensures refused { IfErr result (λ error. IsRefused D.conduct H.digest engine.old error engine.new) }
     ensures complete { all_complete engine.new.state ≡ all_complete engine.old.state }
     ensures flushed { flush_every ≢ 0 → OnOk result (KeepsBlocks D.conduct engine.new) }
 {
@@ -139,10 +148,12 @@ fn take_rounds<D: Disk + Drop, H: NodeHash, G: Gate>(
     requires unwaited { G.waits gate.old ≡ 0 }
     requires keyed { AreKeyed engine.old.state members.old.items }
     ensures keyed { AreKeyed engine.new.state members.new.items }
-    ensures swarm { KeepsSwarm D.conduct H.digest G.gives G.R.remaining G.W.contents
-        engine.old members.old.items engine.new members.new.items }
-    ensures over { OnOk result
-        (IsOver until_complete engine.new (G.is_shut gate.new) (G.waits gate.new)) }
+    ensures swarm { SwarmsOn D.conduct H.digest (ReadFailed G.R.has_failed G.is_troubled)
+        (OneFailed G.W.has_failed) G.gives G.R.remaining G.W.contents G.leads
+        engine.old members.old.items gate.old engine.new members.new.items gate.new }
+    ensures over { OnOk result (IsAtEnd until_complete
+        engine.new members.new.items (G.is_shut gate.new) (G.waits gate.new)) }
+    ensures refused { IfErr result (λ error. IsRefused D.conduct H.digest engine.old error engine.new) }
 {
     for waited in 0..u64::MAX {
         if is_over(engine, gate, members.as_slice(), until_complete) {
@@ -161,7 +172,7 @@ fn is_over<D: Disk + Drop, H: NodeHash, G: Gate>(
     until_complete: bool,
 ) -> bool
     ensures { result ≡ true
-        → IsOver until_complete engine.now (G.is_shut gate.now) (G.waits gate.now) }
+        → IsAtEnd until_complete engine.now members.now (G.is_shut gate.now) (G.waits gate.now) }
 {
     if until_complete && engine.is_complete() {
         return true;
@@ -172,8 +183,8 @@ fn is_over<D: Disk + Drop, H: NodeHash, G: Gate>(
     gate.is_over()
 }
 
-/// One round: those that wait join, each that is ready has a turn, those that have ended go, and the engine
-/// is flushed where that is due. Errors: a flush was refused.
+/// One round: those that wait join, each that is ready has a turn, the engine is flushed where that is due, and
+/// those that have ended go. Errors: a flush was refused.
 fn round<D: Disk + Drop, H: NodeHash, G: Gate>(
     engine: &mut Engine<D, H>,
     gate: &mut G,
@@ -184,39 +195,57 @@ fn round<D: Disk + Drop, H: NodeHash, G: Gate>(
     requires few { G.waits gate.old < 2 ^ 64 - 1 }
     requires keyed { AreKeyed engine.old.state members.old.items }
     ensures keyed { AreKeyed engine.new.state members.new.items }
-    ensures swarm { KeepsSwarm D.conduct H.digest G.gives G.R.remaining G.W.contents
-        engine.old members.old.items engine.new members.new.items }
+    ensures swarm { SwarmsOn D.conduct H.digest (ReadFailed G.R.has_failed G.is_troubled)
+        (OneFailed G.W.has_failed) G.gives G.R.remaining G.W.contents G.leads
+        engine.old members.old.items gate.old engine.new members.new.items gate.new }
     ensures waits { G.waits gate.new ≡ G.waits gate.old + 1 }
+    ensures refused { IfErr result (λ error. IsRefused D.conduct H.digest engine.old error engine.new) }
 {
     let due = gate.wait(pace.one_went || has_work::<G>(members.as_slice()));
     admit(engine, gate, members, room);
     let choice = due.choice || pace.one_went;
     let turns = serve(engine, gate, members.as_mut_slice(), choice, room);
+    // before those go who have ended: so what the last one gave is on the devices when the gate tells of it
+    let nobody_stays = have_all_ended::<G>(members.as_slice());
+    let flushed = flush_if_due(engine, pace, turns, nobody_stays);
     pace.one_went = let_go(engine, gate, members);
-    flush_if_due(engine, pace, turns)
+    flushed
+}
+
+/// Whether all that are there have ended, so that nobody stays.
+fn have_all_ended<G: Gate>(members: &[Member<G::R, G::W>]) -> bool {
+    for member in members {
+        if member.end.is_none() {
+            return false;
+        }
+    }
+    true
 }
 
 /// Whether wire events of one may be taken before anything comes.
 fn has_work<G: Gate>(members: &[Member<G::R, G::W>]) -> bool {
     for member in members {
-        if member.may_have_events && takes_more(member) {
+        if member.may_have_events && takes_more::<G>(member) {
             return true;
         }
     }
     false
 }
 
-/// Counts turns, and flushes the engine where so many were taken that it is due. Errors: the flush was
-/// refused.
+/// Counts turns, and flushes the engine where so many were taken that it is due, or where nobody stays and some
+/// were taken since the last flush. Errors: the flush was refused.
 fn flush_if_due<D: Disk + Drop, H: NodeHash>(
     engine: &mut Engine<D, H>,
     pace: &mut Pace,
     turns: u64,
+    nobody_stays: bool,
 ) -> Result<(), FlushError>
     ensures step { MayBeFlushed D.conduct H.digest engine.old engine.new }
+    ensures refused { IfErr result (λ error. IsRefused D.conduct H.digest engine.old error engine.new) }
 {
     pace.turns = pace.turns.saturating_add(turns);
-    if pace.flush_every == 0 || pace.turns < pace.flush_every {
+    let is_due = pace.turns >= pace.flush_every || (nobody_stays && pace.turns > 0);
+    if pace.flush_every == 0 || !is_due {
         return Ok(());
     }
     pace.turns = 0;

@@ -1,11 +1,10 @@
 //! Connections that come and go.
-ghost use Rattle.std.specs.Prelude.{[], ◌≡◌, ◌+◌, ◌<◌, ◌≤◌, ◌⊎◌, length, slice_index_or, Some};
+ghost use Rattle.std.specs.Prelude.{[], ◌≡◌, ◌≢◌, ◌+◌, ◌<◌, ◌≤◌, length, slice_index_or, Some};
 ghost use Rattle.bt_machine.specs.Report.{all_complete};
-ghost use Rattle.bt_session.specs.declared.end.SessionEnd.TheVariants.{Complete};
-ghost use Rattle.bt_swarm.specs.Causes.{IsFault};
-ghost use Rattle.bt_swarm.specs.Moves.{AreKeyed, GoesOn};
-ghost use Rattle.bt_swarm.specs.Steps.{IsComplete};
-ghost use Rattle.bt_swarm.specs.Swarm.{KeepsSwarm};
+ghost use Rattle.bt_session.specs.Failures.{OneFailed};
+ghost use Rattle.bt_swarm.specs.Causes.{ReadFailed, MayEndAll};
+ghost use Rattle.bt_swarm.specs.Moves.{AreKeyed, EachMovesBy};
+ghost use Rattle.bt_swarm.specs.Swarm.{SwarmsOn, HasLeft, ReadFailedOrCut};
 
 use crate::calls::{connect, lost};
 use crate::gate::Gate;
@@ -13,6 +12,7 @@ use crate::member::{Member, deliver, put_end};
 use crate::room::Room;
 use bt_disk::Disk;
 use bt_engine::Engine;
+use bt_machine::FlushError;
 use bt_session::SessionEnd;
 use bt_tree::NodeHash;
 
@@ -28,8 +28,9 @@ pub(crate) fn admit<D: Disk + Drop, H: NodeHash, G: Gate>(
 )
     requires keyed { AreKeyed engine.old.state members.old.items }
     ensures keyed { AreKeyed engine.new.state members.new.items }
-    ensures swarm { KeepsSwarm D.conduct H.digest G.gives G.R.remaining G.W.contents
-        engine.old members.old.items engine.new members.new.items }
+    ensures swarm { SwarmsOn D.conduct H.digest (ReadFailed G.R.has_failed G.is_troubled)
+        (OneFailed G.W.has_failed) G.gives G.R.remaining G.W.contents G.leads
+        engine.old members.old.items gate.old engine.new members.new.items gate.new }
     ensures waits { G.waits gate.new ≡ G.waits gate.old }
 {
     for place in 0..MOST {
@@ -49,8 +50,9 @@ fn admit_at<D: Disk + Drop, H: NodeHash, G: Gate>(
 ) -> bool
     requires keyed { AreKeyed engine.old.state members.old.items }
     ensures keyed { AreKeyed engine.new.state members.new.items }
-    ensures swarm { KeepsSwarm D.conduct H.digest G.gives G.R.remaining G.W.contents
-        engine.old members.old.items engine.new members.new.items }
+    ensures swarm { SwarmsOn D.conduct H.digest (ReadFailed G.R.has_failed G.is_troubled)
+        (OneFailed G.W.has_failed) G.gives G.R.remaining G.W.contents G.leads
+        engine.old members.old.items gate.old engine.new members.new.items gate.new }
     ensures waits { G.waits gate.new ≡ G.waits gate.old }
 {
     if is_taken::<G>(members.as_slice(), place) {
@@ -80,8 +82,9 @@ fn join<D: Disk + Drop, H: NodeHash, G: Gate>(
 ) -> bool
     requires keyed { AreKeyed engine.old.state members.old.items }
     ensures keyed { AreKeyed engine.new.state members.new.items }
-    ensures swarm { KeepsSwarm D.conduct H.digest G.gives G.R.remaining G.W.contents
-        engine.old members.old.items engine.new members.new.items }
+    ensures swarm { SwarmsOn D.conduct H.digest (ReadFailed G.R.has_failed G.is_troubled)
+        (OneFailed G.W.has_failed) G.gives G.R.remaining G.W.contents G.leads
+        engine.old members.old.items gate.old engine.new members.new.items gate.new }
     ensures waits { G.waits gate.new ≡ G.waits gate.old }
 {
     if members.reserve(1).is_err() {
@@ -102,7 +105,7 @@ fn join<D: Disk + Drop, H: NodeHash, G: Gate>(
         may_have_events: false,
         end: None,
     });
-    deliver(members.as_mut_slice(), &greeting.send, room);
+    deliver::<G>(members.as_mut_slice(), &greeting.send, room);
     true
 }
 
@@ -114,8 +117,9 @@ pub(crate) fn let_go<D: Disk + Drop, H: NodeHash, G: Gate>(
 ) -> bool
     requires keyed { AreKeyed engine.old.state members.old.items }
     ensures keyed { AreKeyed engine.new.state members.new.items }
-    ensures swarm { KeepsSwarm D.conduct H.digest G.gives G.R.remaining G.W.contents
-        engine.old members.old.items engine.new members.new.items }
+    ensures swarm { SwarmsOn D.conduct H.digest (ReadFailed G.R.has_failed G.is_troubled)
+        (OneFailed G.W.has_failed) G.gives G.R.remaining G.W.contents G.leads
+        engine.old members.old.items gate.old engine.new members.new.items gate.new }
     ensures waits { G.waits gate.new ≡ G.waits gate.old }
 {
     let mut gone = false;
@@ -136,8 +140,9 @@ fn leave_if_ended<D: Disk + Drop, H: NodeHash, G: Gate>(
     requires within { at < length members.old.items }
     requires keyed { AreKeyed engine.old.state members.old.items }
     ensures keyed { AreKeyed engine.new.state members.new.items }
-    ensures swarm { KeepsSwarm D.conduct H.digest G.gives G.R.remaining G.W.contents
-        engine.old members.old.items engine.new members.new.items }
+    ensures swarm { SwarmsOn D.conduct H.digest (ReadFailed G.R.has_failed G.is_troubled)
+        (OneFailed G.W.has_failed) G.gives G.R.remaining G.W.contents G.leads
+        engine.old members.old.items gate.old engine.new members.new.items gate.new }
     ensures fewer { length members.old.items ≤ length members.new.items + 1 }
     ensures waits { G.waits gate.new ≡ G.waits gate.old }
 {
@@ -159,11 +164,10 @@ fn leave<D: Disk + Drop, H: NodeHash, G: Gate>(
     end: SessionEnd,
 )
     requires within { at < length members.old.items }
-    requires ended { (d : Member G.R G.W) → (slice_index_or members.old.items at d).end ≡ Some end }
     requires keyed { AreKeyed engine.old.state members.old.items }
     ensures keyed { AreKeyed engine.new.state members.new.items }
-    ensures swarm { KeepsSwarm D.conduct H.digest G.gives G.R.remaining G.W.contents
-        engine.old members.old.items engine.new members.new.items }
+    ensures left { HasLeft D.conduct H.digest G.leads at end
+        engine.old members.old.items gate.old engine.new members.new.items gate.new }
     ensures shorter { length members.new.items + 1 ≡ length members.old.items }
     ensures complete { all_complete engine.new.state ≡ all_complete engine.old.state }
     ensures waits { G.waits gate.new ≡ G.waits gate.old }
@@ -174,63 +178,66 @@ fn leave<D: Disk + Drop, H: NodeHash, G: Gate>(
     gate.tell(member.place, end);
 }
 
-/// All go, each with this end where it has none.
+/// All go, each with this end where it has none: after rounds that answered so.
 pub(crate) fn disband<D: Disk + Drop, H: NodeHash, G: Gate>(
     engine: &mut Engine<D, H>,
     gate: &mut G,
     members: &mut Vec<Member<G::R, G::W>>,
     end: SessionEnd,
+    answer: &Result<(), FlushError>,
 )
-    requires cause { IsFault end ⊎ ((end ≡ Complete) × IsComplete engine.old) }
+    requires cause { members.old.items ≢ [] → MayEndAll (ReadFailedOrCut G.R.has_failed G.is_troubled
+        answer.now (G.waits gate.old)) (OneFailed G.W.has_failed) engine.old end }
     requires keyed { AreKeyed engine.old.state members.old.items }
     ensures keyed { AreKeyed engine.new.state members.new.items }
-    ensures swarm { KeepsSwarm D.conduct H.digest G.gives G.R.remaining G.W.contents
-        engine.old members.old.items engine.new members.new.items }
+    ensures swarm { SwarmsOn D.conduct H.digest
+        (ReadFailedOrCut G.R.has_failed G.is_troubled answer.now (G.waits gate.old))
+        (OneFailed G.W.has_failed) G.gives G.R.remaining G.W.contents G.leads
+        engine.old members.old.items gate.old engine.new members.new.items gate.new }
     ensures nobody { members.new.items ≡ [] }
+    ensures still { members.old.items ≡ [] → engine.new ≡ engine.old }
     ensures complete { all_complete engine.new.state ≡ all_complete engine.old.state }
     ensures waits { G.waits gate.new ≡ G.waits gate.old }
     ensures shut { G.is_shut gate.old → G.is_shut gate.new }
 {
     for gone in 0..members.len() {
-        dismiss_last(engine, gate, members, end);
+        dismiss_last(engine, gate, members, end, answer);
     }
 }
 
-/// The last one goes, with this end where it has none.
+/// The last one goes, with this end where it has none: after rounds that answered so.
 fn dismiss_last<D: Disk + Drop, H: NodeHash, G: Gate>(
     engine: &mut Engine<D, H>,
     gate: &mut G,
     members: &mut Vec<Member<G::R, G::W>>,
     end: SessionEnd,
+    answer: &Result<(), FlushError>,
 )
     requires some { 0 < length members.old.items }
-    requires cause { IsFault end ⊎ ((end ≡ Complete) × IsComplete engine.old) }
+    requires cause { MayEndAll (ReadFailedOrCut G.R.has_failed G.is_troubled answer.now
+        (G.waits gate.old)) (OneFailed G.W.has_failed) engine.old end }
     requires keyed { AreKeyed engine.old.state members.old.items }
     ensures keyed { AreKeyed engine.new.state members.new.items }
-    ensures swarm { KeepsSwarm D.conduct H.digest G.gives G.R.remaining G.W.contents
-        engine.old members.old.items engine.new members.new.items }
+    ensures swarm { SwarmsOn D.conduct H.digest
+        (ReadFailedOrCut G.R.has_failed G.is_troubled answer.now (G.waits gate.old))
+        (OneFailed G.W.has_failed) G.gives G.R.remaining G.W.contents G.leads
+        engine.old members.old.items gate.old engine.new members.new.items gate.new }
     ensures shorter { length members.new.items + 1 ≡ length members.old.items }
     ensures complete { all_complete engine.new.state ≡ all_complete engine.old.state }
     ensures waits { G.waits gate.new ≡ G.waits gate.old }
     ensures shut { G.is_shut gate.old → G.is_shut gate.new }
 {
     let at = members.len() - 1;
-    let end = put_end_at::<D, H, G>(engine, members.as_mut_slice(), at, end);
+    let end = put_end_at::<G>(members.as_mut_slice(), at, end);
     leave(engine, gate, members, at, end);
 }
 
 /// Ends one, unless it has ended: gives its end.
-fn put_end_at<D: Disk + Drop, H: NodeHash, G: Gate>(
-    engine: &Engine<D, H>,
-    members: &mut [Member<G::R, G::W>],
-    at: usize,
-    end: SessionEnd,
-) -> SessionEnd
-    requires within { at < length members.old }
-    requires cause { IsFault end ⊎ ((end ≡ Complete) × IsComplete engine.now) }
-    ensures goes { GoesOn D.conduct H.digest G.R.remaining G.W.contents
-        engine.now members.old engine.now members.new }
+fn put_end_at<G: Gate>(members: &mut [Member<G::R, G::W>], at: usize, end: SessionEnd) -> SessionEnd
+    requires { at < length members.old }
+    ensures moves { EachMovesBy G.R.remaining G.W.contents (λ key. []) (λ key. []) (λ key is. is ≡ end)
+        members.old members.new }
     ensures ended { (d : Member G.R G.W) → (slice_index_or members.new at d).end ≡ Some result }
 {
-    put_end(&mut members[at], end)
+    put_end::<G>(&mut members[at], end)
 }

@@ -1,5 +1,7 @@
 //! The turns of connections: what one gives is fed, and what the engine sends then is put into the ways out.
 ghost use Rattle.std.specs.Prelude.{◌<◌, length};
+ghost use Rattle.bt_session.specs.Failures.{OneFailed};
+ghost use Rattle.bt_swarm.specs.Causes.{ReadFailed};
 ghost use Rattle.bt_swarm.specs.Moves.{GoesOn, HaveOwnKeys};
 
 use crate::calls::{feed, next, rechoke};
@@ -30,7 +32,8 @@ pub(crate) fn serve<D: Disk + Drop, H: NodeHash, G: Gate>(
     room: &mut Room,
 ) -> u64
     requires own_keys { HaveOwnKeys members.old }
-    ensures goes { GoesOn D.conduct H.digest G.R.remaining G.W.contents
+    ensures goes { GoesOn D.conduct H.digest (ReadFailed G.R.has_failed G.is_troubled)
+        (OneFailed G.W.has_failed) G.R.remaining G.W.contents
         engine.old members.old engine.new members.new }
 {
     let turns = take_turns(engine, gate, members, room);
@@ -48,7 +51,8 @@ fn take_turns<D: Disk + Drop, H: NodeHash, G: Gate>(
     room: &mut Room,
 ) -> u64
     requires own_keys { HaveOwnKeys members.old }
-    ensures goes { GoesOn D.conduct H.digest G.R.remaining G.W.contents
+    ensures goes { GoesOn D.conduct H.digest (ReadFailed G.R.has_failed G.is_troubled)
+        (OneFailed G.W.has_failed) G.R.remaining G.W.contents
         engine.old members.old engine.new members.new }
 {
     let mut turns = 0u64;
@@ -68,7 +72,8 @@ fn take_turn_if_ready<D: Disk + Drop, H: NodeHash, G: Gate>(
 ) -> u64
     requires within { at < length members.old }
     requires own_keys { HaveOwnKeys members.old }
-    ensures goes { GoesOn D.conduct H.digest G.R.remaining G.W.contents
+    ensures goes { GoesOn D.conduct H.digest (ReadFailed G.R.has_failed G.is_troubled)
+        (OneFailed G.W.has_failed) G.R.remaining G.W.contents
         engine.old members.old engine.new members.new }
 {
     if !members[at].may_have_events && !gate.is_ready(members[at].place) {
@@ -89,7 +94,8 @@ fn take_turn<D: Disk + Drop, H: NodeHash, G: Gate>(
 )
     requires within { at < length members.old }
     requires own_keys { HaveOwnKeys members.old }
-    ensures goes { GoesOn D.conduct H.digest G.R.remaining G.W.contents
+    ensures goes { GoesOn D.conduct H.digest (ReadFailed G.R.has_failed G.is_troubled)
+        (OneFailed G.W.has_failed) G.R.remaining G.W.contents
         engine.old members.old engine.new members.new }
 {
     let mut left = take_events(engine, gate, members, at, EVENTS, room);
@@ -113,7 +119,8 @@ fn read_and_take<D: Disk + Drop, H: NodeHash, G: Gate>(
 ) -> usize
     requires within { at < length members.old }
     requires own_keys { HaveOwnKeys members.old }
-    ensures goes { GoesOn D.conduct H.digest G.R.remaining G.W.contents
+    ensures goes { GoesOn D.conduct H.digest (ReadFailed G.R.has_failed G.is_troubled)
+        (OneFailed G.W.has_failed) G.R.remaining G.W.contents
         engine.old members.old engine.new members.new }
 {
     if !receive::<D, H, G>(engine, members, at, room) {
@@ -131,23 +138,24 @@ fn receive<D: Disk + Drop, H: NodeHash, G: Gate>(
 ) -> bool
     requires within { at < length members.old }
     requires own_keys { HaveOwnKeys members.old }
-    ensures goes { GoesOn D.conduct H.digest G.R.remaining G.W.contents
+    ensures goes { GoesOn D.conduct H.digest (ReadFailed G.R.has_failed G.is_troubled)
+        (OneFailed G.W.has_failed) G.R.remaining G.W.contents
         engine.old members.old engine.new members.new }
 {
-    if !takes_more(&members[at]) {
+    if !takes_more::<G>(&members[at]) {
         return false;
     }
-    let count = read_of(&mut members[at], &mut room.incoming);
+    let count = read_of::<G>(&mut members[at], &mut room.incoming);
     if count == 0 {
         return false;
     }
     match feed(engine, members[at].key, &room.incoming[..count]) {
         Ok(()) => {
-            note_events(&mut members[at], true);
+            note_events::<G>(&mut members[at], true);
             true
         }
         Err(_) => {
-            put_end(&mut members[at], SessionEnd::Memory);
+            put_end::<G>(&mut members[at], SessionEnd::Memory);
             false
         }
     }
@@ -164,11 +172,13 @@ fn take_events<D: Disk + Drop, H: NodeHash, G: Gate>(
     room: &mut Room,
 ) -> usize
     requires within { at < length members.old }
-    ensures goes { GoesOn D.conduct H.digest G.R.remaining G.W.contents
+    requires own_keys { HaveOwnKeys members.old }
+    ensures goes { GoesOn D.conduct H.digest (ReadFailed G.R.has_failed G.is_troubled)
+        (OneFailed G.W.has_failed) G.R.remaining G.W.contents
         engine.old members.old engine.new members.new }
 {
     for taken in 0..most {
-        if !members[at].may_have_events || !takes_more(&members[at]) {
+        if !members[at].may_have_events || !takes_more::<G>(&members[at]) {
             return most - taken;
         }
         take_event_safely(engine, gate, members, at, room);
@@ -185,12 +195,14 @@ fn take_event_safely<D: Disk + Drop, H: NodeHash, G: Gate>(
     room: &mut Room,
 )
     requires within { at < length members.old }
-    ensures goes { GoesOn D.conduct H.digest G.R.remaining G.W.contents
+    requires own_keys { HaveOwnKeys members.old }
+    ensures goes { GoesOn D.conduct H.digest (ReadFailed G.R.has_failed G.is_troubled)
+        (OneFailed G.W.has_failed) G.R.remaining G.W.contents
         engine.old members.old engine.new members.new }
 {
     take_event::<D, H, G>(engine, members, at, room);
     if gate.has_trouble() {
-        put_end(&mut members[at], SessionEnd::ReadFault);
+        put_end::<G>(&mut members[at], SessionEnd::ReadFault);
     }
 }
 
@@ -202,19 +214,24 @@ fn take_event<D: Disk + Drop, H: NodeHash, G: Gate>(
     room: &mut Room,
 )
     requires within { at < length members.old }
-    ensures goes { GoesOn D.conduct H.digest G.R.remaining G.W.contents
+    requires own_keys { HaveOwnKeys members.old }
+    ensures goes { GoesOn D.conduct H.digest (ReadFailed G.R.has_failed G.is_troubled)
+        (OneFailed G.W.has_failed) G.R.remaining G.W.contents
         engine.old members.old engine.new members.new }
 {
     match next(engine, members[at].key) {
         Ok(Some(output)) => {
-            deliver(members, &output.send, room);
-            if let Some(why) = output.close {
-                put_end(&mut members[at], SessionEnd::Closed(why));
+            deliver::<G>(members, &output.send, room);
+            match output.close {
+                Some(why) => {
+                    put_end::<G>(&mut members[at], SessionEnd::Closed(why));
+                }
+                None => {}
             }
         }
-        Ok(None) => note_events(&mut members[at], false),
+        Ok(None) => note_events::<G>(&mut members[at], false),
         Err(_) => {
-            put_end(&mut members[at], SessionEnd::Memory);
+            put_end::<G>(&mut members[at], SessionEnd::Memory);
         }
     }
 }
@@ -226,14 +243,15 @@ fn choose_if<D: Disk + Drop, H: NodeHash, G: Gate>(
     members: &mut [Member<G::R, G::W>],
     room: &mut Room,
 )
-    ensures goes { GoesOn D.conduct H.digest G.R.remaining G.W.contents
+    ensures goes { GoesOn D.conduct H.digest (ReadFailed G.R.has_failed G.is_troubled)
+        (OneFailed G.W.has_failed) G.R.remaining G.W.contents
         engine.old members.old engine.new members.new }
 {
     if !due {
         return;
     }
     match rechoke(engine) {
-        Ok(output) => deliver(members, &output.send, room),
+        Ok(output) => deliver::<G>(members, &output.send, room),
         Err(_) => {}
     }
 }

@@ -1,7 +1,7 @@
 use Rattle.std.proofs.Common.{◌<◌, get_or, length, arith}
 use Rattle.std.proofs.lemmas.List.{get_or_default}
 use Rattle.bt_session.specs.Frames.{frames_to}
-use Rattle.bt_swarm.specs.Causes.{IsFault}
+use Rattle.bt_swarm.specs.Causes.{IsFaultOf}
 use Rattle.bt_swarm.proofs.Moving.{gone_over_more, others_more}
 use Rattle.bt_swarm.proofs.member.deliver.Goals as goal
 
@@ -11,7 +11,7 @@ loop-member-preserved g c =
     let within : c.loop-member.member-index < length c.loop-member.members = omega arith in
     let m = get_or c.loop-member.members c.loop-member.member-index c.member-item.result in
     record {
-      gone_over = gone_over_more g.R.Read.remaining g.W.QueuedWriter.contents (λ k. frames_to k c.args.send.now) IsFault c.args.members.now c.loop-member.members c.loop-member.member-index
+      gone_over = gone_over_more g.G.R.Read.remaining g.G.W.QueuedWriter.contents (λ k. frames_to k c.args.send.now) (IsFaultOf g.G.R.WatchedReader.has_failed g.G.W.QueuedWriter.has_failed g.G.Gate.is_troubled) c.args.members.now c.loop-member.members c.loop-member.member-index
           m c.deliver_to.new.member within (get_or_default c.loop-member.members c.loop-member.member-index c.member-item.result m within) so_far.others c.deliver_to.ensures so_far.gone_over;
-      others = others_more g.R.Read.remaining g.W.QueuedWriter.contents c.args.members.now c.loop-member.members c.loop-member.member-index c.deliver_to.new.member so_far.others;
+      others = others_more g.G.R.Read.remaining g.G.W.QueuedWriter.contents c.args.members.now c.loop-member.members c.loop-member.member-index c.deliver_to.new.member so_far.others;
     }

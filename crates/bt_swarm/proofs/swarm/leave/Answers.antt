@@ -2,7 +2,6 @@ use Rattle.std.proofs.Common.{refl, sym, ap, ◌∙◌, ◌+◌, ◌≡◌, Some
 use Rattle.std.proofs.lemmas.List.Edits.{length-remove}
 use Rattle.bt_swarm.specs.declared.member.Member.{Member}
 use Rattle.bt_swarm.proofs.Keys.{keyed_removed, step_keeps}
-use Rattle.bt_swarm.proofs.Swarming.{swarm_leaves}
 use Rattle.bt_swarm.proofs.swarm.leave.Goals as goal
 
 pub returns-clause-keyed : goal.returns-clause-keyed
@@ -13,11 +12,15 @@ returns-clause-keyed g c =
     c.remove-member.ensures.by_index.0 c.remove-member.ensures.by_index.1 c.remove-member.ensures.by_index.2 c.remove-member.ensures.value kept.0 kept.1
     c.lost.ensures.away c.requires.keyed
 
-pub returns-clause-swarm : goal.returns-clause-swarm
-returns-clause-swarm g c first h =
-    swarm_leaves g.D.Disk.conduct g.H.NodeHash.digest g.G.Gate.gives g.G.R.Read.remaining g.G.W.QueuedWriter.contents first _ _ _ _ c.args.at c.remove-member.result c.args.end _ _ h
-    c.lost.ensures.step refl (λ k. refl) (λ k. refl) c.requires.within c.remove-member.ensures.value
-    (ap (λ (o : Member g.row.G-R.Denot g.row.G-W.Denot). o.end) c.remove-member.ensures.value ∙ c.requires.ended c.remove-member.result) c.remove-member.ensures.by_index.2
+pub returns-clause-left : goal.returns-clause-left
+returns-clause-left g c = record {
+  member = c.remove-member.result;
+  was = c.remove-member.ensures.value;
+  others = c.remove-member.ensures.by_index.2;
+  answer = c.lost.result;
+  step = c.lost.ensures.step;
+  led = c.tell.ensures.led;
+}
 
 pub returns-clause-shorter : goal.returns-clause-shorter
 returns-clause-shorter g c = ap (λ l. length l + 1) c.remove-member.ensures.items ∙ length-remove c.args.members.now.items c.args.at c.requires.within

@@ -1,13 +1,15 @@
 use Rattle.std.proofs.Common.{◌≡◌, ◌≤◌, length}
+use Rattle.bt_session.specs.Failures.{OneFailed}
+use Rattle.bt_swarm.specs.Causes.{ReadFailed}
 use Rattle.bt_swarm.specs.Moves.{AreKeyed}
-use Rattle.bt_swarm.specs.Swarm.{KeepsSwarm}
+use Rattle.bt_swarm.specs.Swarm.{SwarmsOn}
 use Rattle.bt_swarm.proofs.swarm.let_go.Given as goal
 
 abbrev pub invariant-loop-at : goal.invariant-loop-at
 invariant-loop-at g l = record {
   keyed : AreKeyed l.engine.state l.members.items;
-  swarm : KeepsSwarm g.D.Disk.conduct g.H.NodeHash.digest g.G.Gate.gives g.G.R.Read.remaining g.G.W.QueuedWriter.contents
-      l.fn.engine l.fn.members.items l.engine l.members.items;
+  swarm : SwarmsOn g.D.Disk.conduct g.H.NodeHash.digest (ReadFailed g.G.R.WatchedReader.has_failed g.G.Gate.is_troubled) (OneFailed g.G.W.QueuedWriter.has_failed) g.G.Gate.gives g.G.R.Read.remaining g.G.W.QueuedWriter.contents g.G.Gate.leads
+      l.fn.engine l.fn.members.items l.fn.gate l.engine l.members.items l.gate;
   waits : g.G.Gate.waits l.gate ≡ g.G.Gate.waits l.fn.gate;
   long : l.at ≤ length l.members.items;
 }

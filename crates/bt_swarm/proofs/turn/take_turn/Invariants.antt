@@ -1,8 +1,10 @@
+use Rattle.bt_session.specs.Failures.{OneFailed}
+use Rattle.bt_swarm.specs.Causes.{ReadFailed}
 use Rattle.bt_swarm.specs.Moves.{GoesOn, HaveOwnKeys}
 use Rattle.bt_swarm.proofs.turn.take_turn.Given as goal
 
 abbrev pub invariant-loop-read : goal.invariant-loop-read
 invariant-loop-read g l = record {
-  goes : GoesOn g.D.Disk.conduct g.H.NodeHash.digest g.G.R.Read.remaining g.G.W.QueuedWriter.contents l.fn.engine l.fn.members l.engine l.members;
+  goes : GoesOn g.D.Disk.conduct g.H.NodeHash.digest (ReadFailed g.G.R.WatchedReader.has_failed g.G.Gate.is_troubled) (OneFailed g.G.W.QueuedWriter.has_failed) g.G.R.Read.remaining g.G.W.QueuedWriter.contents l.fn.engine l.fn.members l.engine l.members;
   own_keys : HaveOwnKeys l.members;
 }
