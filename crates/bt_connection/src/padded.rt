@@ -1,14 +1,16 @@
 //! The reader and the writer of a connection, as its engine has them.
-ghost use Rattle.std.specs.Prelude.{◌≡◌, ◌≢◌, ◌≤◌, None, length, IfOk, IfErr, IfSome, IfNone, OnErr};
+ghost use Rattle.std.specs.Prelude.{[], ◌≡◌, ◌≢◌, ◌≤◌, true, None, length, IfOk, IfErr, IfSome, IfNone, OnErr};
 ghost use Rattle.std.specs.Io.{ReadsAtMost, WritesAtMost};
 ghost use Rattle.std.specs.Io.KnownBytes.{Keeps, ReadConsumes, WriteAppends};
 ghost use Rattle.std.specs.IoError.{error_kind};
 ghost use Rattle.bt_connection.specs.Padded.{new_padded, IsRead, KeepsWhatCame, IsWritten, IsFlushed, LosesNothing};
+ghost use Rattle.bt_connection.specs.Queue.{most_waiting, IsDrained};
 ghost use Rattle.bt_connection.specs.ReadAhead.{reader_remaining};
 
 use crate::lent::Lent;
 use crate::observer::Observer;
 use crate::padding::Padding;
+use crate::queue::Queue;
 use crate::read_ahead::ReadAhead;
 use crate::short_blocks::ShortBlocks;
 use crate::translation::{Direction, FrameRoom, Side};
@@ -141,8 +143,8 @@ impl<'a, W: Write> Padded<'a, W> {
 // What the inner writer holds depends on what is remembered, so it is not known of this one.
 impl<'a, W: Write> Write for Padded<'a, W> {
     /// Takes some of the bytes, to the end of a message at most, and writes what is given on. Errors: the inner writer
-    /// failed. A part of the bytes may have been taken then, so the error is none after which a caller tries
-    /// again.
+    /// failed, which is `OutOfMemory` where that failed so. A part of the bytes may have been taken then, so the error
+    /// is none after which a caller tries again.
     fn write(&mut self, bytes: &[u8]) -> io::Result<usize>
         ensures bound { WritesAtMost result bytes.now }
         ensures bytes { WriteAppends None None result bytes.now }
@@ -151,6 +153,9 @@ impl<'a, W: Write> Write for Padded<'a, W> {
     {
         match self.give_on(bytes) {
             Ok(count) => Ok(count),
+            Err(error) if error.kind() == ErrorKind::OutOfMemory => {
+                Err(io::Error::from(ErrorKind::OutOfMemory))
+            }
             Err(_) => Err(io::Error::from(ErrorKind::BrokenPipe)),
         }
     }
@@ -160,5 +165,28 @@ impl<'a, W: Write> Write for Padded<'a, W> {
         ensures flushed { IsFlushed W.contents self.old self.new }
     {
         self.inner.flush()
+    }
+}
+
+impl<'a, W> Padded<'a, Queue<W>> {
+    /// How many bytes wait before the writer of the queue, 4 MiB at most.
+    pub fn waiting(&self) -> usize
+        ensures count { result ≡ length self.now.inner.bytes }
+        ensures few { result ≤ most_waiting }
+    {
+        self.inner.waiting()
+    }
+}
+
+impl<'a, W: Write> Padded<'a, Queue<W>> {
+    /// Passes on the first of the bytes that wait, as many as the writer of the queue takes by one write: whether none
+    /// waits then. Errors: as those of the queue.
+    pub fn drain(&mut self) -> io::Result<bool>
+        ensures drained { IsDrained W.contents self.old.inner self.new.inner }
+        ensures whole { IfOk result (λ whole. whole ≡ true → self.new.inner.bytes ≡ []) }
+        ensures kept { OnErr result (self.new.inner.bytes ≡ self.old.inner.bytes) }
+        ensures others { self.new ≡ record self.old { inner = self.new.inner } }
+    {
+        self.inner.drain()
     }
 }

@@ -54,6 +54,18 @@ pub record IsSpent (times : Times) : Type 0 where
   pub no_block : open_asks times.requests ≡ []
   pub no_hashes : times.pending_hashes ≡ 0
 
+-- a peer that is served wants blocks, and we choke it
+pub record WaitsForTurn (times : Times) : Type 0 where
+  pub served : times.role ≡ Serve
+  pub wants : times.wants_blocks ≡ true
+  pub we_choke : times.we_choke ≡ true
+
+-- a peer that is served wants blocks, and we do not choke it
+pub record HasTurn (times : Times) : Type 0 where
+  pub served : times.role ≡ Serve
+  pub wants : times.wants_blocks ≡ true
+  pub unchoked : times.we_choke ≡ false
+
 -- What passed stays as it was noted, and so does what is open.
 pub record KeepsOthers (old new : Times) : Type 0 where
   pub role : new.role ≡ old.role
@@ -68,6 +80,8 @@ pub record KeepsOthers (old new : Times) : Type 0 where
   pub had : new.had ≡ old.had
   pub overdue : new.is_overdue ≡ old.is_overdue
   pub given_up : new.is_given_up ≡ old.is_given_up
+  pub wants : new.wants_blocks ≡ old.wants_blocks
+  pub we_choke : new.we_choke ≡ old.we_choke
   pub outgoing : new.outgoing ≡ old.outgoing
 
 -- ---- what comes
@@ -90,6 +104,8 @@ pub record HaveBegun (role : Role) (pieces : ℕ) (now : Instant) (times : Times
   pub had : times.had ≡ 0
   pub overdue : times.is_overdue ≡ false
   pub given_up : times.is_given_up ≡ false
+  pub wants : times.wants_blocks ≡ false
+  pub we_choke : times.we_choke ≡ true
   pub outgoing : IsAtBegin times.outgoing
 
 -- blocks are fetched from the peer, one is asked for, and for the seconds of a block none came
@@ -123,13 +139,15 @@ pub record IsChoked (old new : Times) : Type 0 where
 
 -- kinds of messages that are noted; hashes, and that they are refused, where some were asked for
 abbrev pub IsNoted : Times → ℕ → Type 0
-IsNoted times kind = (kind ≡ CHOKE) ⊎ ((kind ≡ UNCHOKE) ⊎ ((kind ≡ HAVE)
-    ⊎ ((0 < times.pending_hashes) × ((kind ≡ HASHES) ⊎ (kind ≡ HASH_REJECT)))))
+IsNoted times kind = (kind ≡ CHOKE) ⊎ ((kind ≡ UNCHOKE) ⊎ ((kind ≡ INTERESTED) ⊎ ((kind ≡ NOT_INTERESTED)
+    ⊎ ((kind ≡ HAVE) ⊎ ((0 < times.pending_hashes) × ((kind ≡ HASHES) ⊎ (kind ≡ HASH_REJECT)))))))
 
 -- What a message of this kind says is noted, but for whether a block is overdue.
 pub record HasKind (old : Times) (kind : ℕ) (now : Instant) (new : Times) : Type 0 where
   pub choke : kind ≡ CHOKE → IsChoked old new
   pub unchoke : kind ≡ UNCHOKE → new ≡ record old { is_choked = false }
+  pub wants : kind ≡ INTERESTED → new ≡ record old { wants_blocks = true }
+  pub wants_none : kind ≡ NOT_INTERESTED → new ≡ record old { wants_blocks = false }
   pub have : kind ≡ HAVE → new ≡ with_pieces old 1
   pub hashes : kind ≡ HASHES → 0 < old.pending_hashes
       → new ≡ record old { pending_hashes = old.pending_hashes - 1; used = now }
@@ -174,12 +192,15 @@ IsServed times kind = (times.role ≡ Serve) × ((kind ≡ PIECE) ⊎ (kind ≡ 
 -- kinds of messages that are noted as they go out
 abbrev pub IsNotedOut : Times → ℕ → Type 0
 IsNotedOut times kind =
-    (kind ≡ INTERESTED) ⊎ ((kind ≡ NOT_INTERESTED) ⊎ ((kind ≡ HASH_REQUEST) ⊎ IsServed times kind))
+    (kind ≡ INTERESTED) ⊎ ((kind ≡ NOT_INTERESTED) ⊎ ((kind ≡ CHOKE) ⊎ ((kind ≡ UNCHOKE)
+    ⊎ ((kind ≡ HASH_REQUEST) ⊎ IsServed times kind))))
 
 -- a message of this kind went out, which is no request of a block and no cancel
 pub record HasSent (old : Times) (kind : ℕ) (now : Instant) (new : Times) : Type 0 where
   pub interested : kind ≡ INTERESTED → new ≡ record old { is_interested = true }
   pub not_interested : kind ≡ NOT_INTERESTED → new ≡ record old { is_interested = false }
+  pub choke : kind ≡ CHOKE → new ≡ record old { we_choke = true }
+  pub unchoke : kind ≡ UNCHOKE → new ≡ record old { we_choke = false }
   pub hashes : kind ≡ HASH_REQUEST
       → new ≡ record old { pending_hashes = min (old.pending_hashes + 1) (2 ^ 64 - 1) }
   pub served : IsServed old kind → new ≡ record old { used = now }

@@ -31,10 +31,10 @@ pub const ACCEPT_TRIES: u32 = 100;
 
 /// How many milliseconds the first pause has, before another try to take a connection; each is twice as long as the one
 /// before, up to `LONGEST_PAUSE_MILLIS`.
-const FIRST_PAUSE_MILLIS: u64 = 10;
+pub const FIRST_PAUSE_MILLIS: u64 = 10;
 
 /// How many milliseconds a pause between two tries to take a connection has at most.
-const LONGEST_PAUSE_MILLIS: u64 = 1000;
+pub const LONGEST_PAUSE_MILLIS: u64 = 1000;
 
 /// What accept(2) fails with where the socket is none that listens: EBADF, EINVAL and ENOTSOCK of Linux. EOPNOTSUPP may
 /// be of the new connection too.
@@ -66,7 +66,7 @@ pub fn port_of<L: OpenListener>(listener: &L) -> Result<u16, Fault>
 
 /// Whether an error says that a socket is none at which connections can be taken. After any other the next one
 /// may be: its peer was gone already, or the system is out of descriptors or of memory for now.
-fn is_no_listener(error: &io::Error) -> bool
+pub fn is_no_listener(error: &io::Error) -> bool
     ensures { IsTrue result ↔ IsNoListener (raw_os_error error.now) }
 {
     matches!(
@@ -125,7 +125,7 @@ pub fn serve<'a, D: Disk + Drop, H: NodeHash, R: Net + Clock, P: Watch>(
             };
             let reached = both_ways(net, stream, terms, passage).ok();
             let end = meet_peer(alloc, engine, reached, false, SESSION_TURNS);
-            let sent = passage.shared.sent.get();
+            let sent = passage.shared.seat.sent.get();
             tell_visit(alloc, watch, net, address, sent, begun);
             Ok(end)
         }

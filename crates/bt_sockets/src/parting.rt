@@ -10,10 +10,10 @@ use std::net::{OpenStream, Shutdown};
 use std::time::{Clock, Duration, Instant};
 
 /// For how many milliseconds at most a peer is heard out.
-const PARTING_MILLIS: u64 = 1000;
+pub const PARTING_MILLIS: u64 = 1000;
 
 /// How many bytes of it are taken meanwhile at most.
-const PARTING_LEN: usize = 65_536;
+pub const PARTING_LEN: usize = 65_536;
 
 /// How many bytes are taken at a time.
 const PART_LEN: usize = 4096;
@@ -76,7 +76,7 @@ fn time_left(begun: Instant, now: Instant) -> Duration {
 }
 
 /// Reads once, at most `most` bytes, and says how many came. Errors: those of the socket.
-fn take_part<S: Read>(stream: &mut S, most: usize) -> io::Result<usize>
+pub fn take_part<S: Read>(stream: &mut S, most: usize) -> io::Result<usize>
     ensures few { IfOk result (λ count. count ≤ most) }
     ensures taken { ConsumesCount (S.remaining stream.old) (S.remaining stream.new) result }
 {

@@ -40,13 +40,14 @@ impl<'a> Remembered<'a> {
         pieces: u32,
         now: Instant,
     ) -> io::Result<Self> {
-        shared.sent.set(0);
+        let seat = &shared.seat;
+        seat.sent.set(0);
         Ok(Remembered {
-            padding: Lent::new(&shared.padding)?,
+            padding: Lent::new(&seat.padding)?,
             requests: Lent::new(&shared.requests)?,
             early: Lent::new(&shared.early)?,
-            timing: shared.timing.begin(role, pieces, now),
-            sent: &shared.sent,
+            timing: seat.timing.begin(role, pieces, now),
+            sent: &seat.sent,
         })
     }
 }

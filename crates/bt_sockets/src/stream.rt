@@ -1,5 +1,5 @@
 //! A connection.
-ghost use Rattle.std.specs.Prelude.{◌≡◌, ◌≢◌, List, ℕ, IfOk, MatchOption};
+ghost use Rattle.std.specs.Prelude.{◌≡◌, ◌≢◌, List, ℕ, All, IfOk, MatchOption};
 ghost use Rattle.bt_sockets.specs.Stream.{AreNewWays};
 ghost use Rattle.bt_sockets.specs.StreamSteps.{IsAddressOf, IsTextOf, bracketed};
 
@@ -8,6 +8,7 @@ use crate::remembered::Remembered;
 use crate::timed_stream::{TimedStream, Way, set_turns};
 use crate::timing::{Role, Timing};
 use bt_connection::{AlarmReader, HoldingWriter, Padded, ReadAhead, SendingReader, Side};
+use std::alloc::Global;
 use std::io;
 use std::io::{ErrorKind, Read, Write};
 use std::net::{Ipv6Addr, Net, OpenStream, SocketAddr, TcpStream, ToSocketAddrs};
@@ -48,8 +49,26 @@ pub(crate) fn connected<R: Net>(
     Err(io::Error::from(kind))
 }
 
+/// The addresses of a host, in the order in which they are dialled. Errors: none is known, which is `Uncategorized`; out
+/// of memory.
+pub fn addresses_of<R: Net>(
+    alloc: Global,
+    net: &R,
+    host: &str,
+    port: u16,
+) -> io::Result<Vec<SocketAddr>>
+    ensures { IfOk result (λ found. All (IsAddressOf host.now port) found.items) }
+{
+    let mut found = Vec::new(alloc);
+    let known = (text_of(host), port).to_socket_addrs(net)?;
+    for address in known {
+        found.push(address)?;
+    }
+    Ok(found)
+}
+
 /// The kind of an error of an address that does not answer, which is none of a look-up.
-fn refusal_kind(kind: ErrorKind) -> ErrorKind {
+pub fn refusal_kind(kind: ErrorKind) -> ErrorKind {
     match kind {
         ErrorKind::Uncategorized => ErrorKind::NotConnected,
         _ => kind,
@@ -106,9 +125,9 @@ pub(crate) fn both_ways<'a, S: Read + Write + OpenStream + Drop, C: Clock>(
         pieces,
         shared,
     } = passage;
-    let room = shared.room.try_borrow_mut()?;
-    let incoming = shared.incoming.try_borrow_mut()?;
-    let outgoing = shared.outgoing.try_borrow_mut()?;
+    let room = shared.seat.room.try_borrow_mut()?;
+    let incoming = shared.seat.incoming.try_borrow_mut()?;
+    let outgoing = shared.seat.outgoing.try_borrow_mut()?;
     let remembered = Remembered::new(shared, terms.role, pieces, Instant::now(clock)?)?;
     stream.set_nodelay(true)?;
     set_turns(&stream, terms.idle)?;

@@ -8,7 +8,7 @@ use std::net::{OpenListener, SocketAddr};
 use std::time::{Clock, Instant};
 
 /// Tells that a peer is dialled.
-pub(crate) fn tell_dial<P: Watch>(alloc: Global, watch: &P, host: &str, port: u16) {
+pub fn tell_dial<P: Watch>(alloc: Global, watch: &P, host: &str, port: u16) {
     if !watch.is_verbose() {
         return;
     }
@@ -18,13 +18,7 @@ pub(crate) fn tell_dial<P: Watch>(alloc: Global, watch: &P, host: &str, port: u1
 }
 
 /// Tells that a peer is not reached, and why.
-pub(crate) fn tell_failure<P: Watch>(
-    alloc: Global,
-    watch: &P,
-    host: &str,
-    port: u16,
-    kind: ErrorKind,
-) {
+pub fn tell_failure<P: Watch>(alloc: Global, watch: &P, host: &str, port: u16, kind: ErrorKind) {
     if !watch.is_verbose() {
         return;
     }
@@ -58,8 +52,18 @@ pub fn tell_address<P: Watch, L: OpenListener>(alloc: Global, watch: &P, listene
     }
 }
 
+/// Tells that a connection has come.
+pub fn tell_arrival<P: Watch>(alloc: Global, watch: &P, address: SocketAddr) {
+    if !watch.is_verbose() {
+        return;
+    }
+    if let Ok(text) = format!(in alloc; "{address}: connected") {
+        watch.hint(text.as_str());
+    }
+}
+
 /// Tells of a connection that is over who it was, how many bytes were sent to it, and how long it was there.
-pub(crate) fn tell_visit<P: Watch, C: Clock>(
+pub fn tell_visit<P: Watch, C: Clock>(
     alloc: Global,
     watch: &P,
     clock: &C,

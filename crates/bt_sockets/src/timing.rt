@@ -1,9 +1,12 @@
 //! How long a peer may take for what it owes, so that those who wait behind it have their turn. The time counts for
 //! which its socket is waited for. While this program itself is at work, or is stopped, these times stand still.
-ghost use Rattle.std.specs.Prelude.{◌≡◌, ◌↔◌, ◌⊎◌, ◌-◌, ◌<◌, IsTrue, true, false, [], length, Contains};
+ghost use Rattle.std.specs.Prelude.{◌≡◌, ◌↔◌, ◌⊎◌, ◌+◌, ◌-◌, ◌<◌, IsTrue, true, false, [], length, Contains};
 ghost use Rattle.bt_sockets.specs.OpenSteps.{IsOpened, IsWithout};
 ghost use Rattle.bt_sockets.specs.TimingSteps.{HasCome, HasGone, HasKind, HasMessage, HaveBegun, HavePassed, HavePassedOut};
 ghost use Rattle.bt_sockets.specs.TimingSteps.{IsLookedAt, IsResumed, IsSpent, IsStranger, KeepsOthers, MayHaveGone, open_asks, with_pieces};
+ghost use Rattle.bt_sockets.specs.TimingSteps.{HasTurn, WaitsForTurn};
+ghost use Rattle.std.specs.Duration.{as_nanos};
+ghost use Rattle.std.specs.Time.{instant_nanos, FitsClock};
 
 use crate::open_requests::OpenRequests;
 use crate::outgoing::Sent;
@@ -74,6 +77,10 @@ struct Times {
     is_overdue: bool,
     /// Whether the peer was given up, since it took too long.
     is_given_up: bool,
+    /// Whether the peer says that it wants blocks of us,
+    wants_blocks: bool,
+    /// and whether we choke it, and so answer no request.
+    we_choke: bool,
     outgoing: Outgoing,
 }
 
@@ -99,6 +106,8 @@ impl Times {
             had: 0,
             is_overdue: false,
             is_given_up: false,
+            wants_blocks: false,
+            we_choke: true,
             outgoing: Outgoing::new(),
         }
     }
@@ -125,6 +134,40 @@ impl Times {
             && self.had >= self.pieces
             && self.requests.is_empty()
             && self.pending_hashes == 0
+    }
+
+    /// Whether nothing came of the peer for so long that it is given up.
+    fn is_idle(&self, seconds: u64, now: Instant) -> bool
+        ensures { IsTrue result ↔ HavePassed seconds self.now.last now }
+    {
+        has_passed(self.last, seconds, now)
+    }
+
+    /// Whether the peer, which is served, wants blocks and gets none, since others have their turn.
+    fn waits_for_turn(&self) -> bool
+        ensures { IsTrue result ↔ WaitsForTurn self.now }
+    {
+        self.role == Role::Serve && self.wants_blocks && self.we_choke
+    }
+
+    /// Whether the peer, which is served, wants blocks and may have them.
+    fn has_turn(&self) -> bool
+        ensures { IsTrue result ↔ HasTurn self.now }
+    {
+        self.role == Role::Serve && self.wants_blocks && !self.we_choke
+    }
+
+    /// So much time passed, which is not counted for being of use where the peer waits for its turn.
+    fn pass(&mut self, time: Duration)
+        ensures waits { WaitsForTurn self.old
+            → FitsClock (instant_nanos self.old.used + as_nanos time)
+            → instant_nanos self.new.used ≡ instant_nanos self.old.used + as_nanos time }
+        ensures others { self.new ≡ record self.old { used = self.new.used } }
+        ensures counts { ¬ WaitsForTurn self.old → self.new ≡ self.old }
+    {
+        if self.waits_for_turn() {
+            self.used = self.used.checked_add(time).unwrap_or(self.used);
+        }
     }
 
     /// Whether the peer came by itself, and has not sent its handshake.
@@ -254,6 +297,8 @@ impl Times {
         match kind {
             CHOKE => self.choke(),
             UNCHOKE => self.is_choked = false,
+            INTERESTED => self.wants_blocks = true,
+            NOT_INTERESTED => self.wants_blocks = false,
             HAVE => self.note_pieces(1),
             HASHES if self.pending_hashes > 0 => {
                 self.pending_hashes -= 1;
@@ -298,6 +343,8 @@ impl Times {
             }
             Sent::Message(INTERESTED) => self.is_interested = true,
             Sent::Message(NOT_INTERESTED) => self.is_interested = false,
+            Sent::Message(CHOKE) => self.we_choke = true,
+            Sent::Message(UNCHOKE) => self.we_choke = false,
             Sent::Message(HASH_REQUEST) => {
                 self.pending_hashes = self.pending_hashes.saturating_add(1);
             }
@@ -359,8 +406,41 @@ impl Timing {
         }
     }
 
+    /// So much time passed at a gate by whose clock the connection goes. It is not counted for being of use while the
+    /// peer waits for its turn: it wants blocks, and others are served.
+    pub fn pass(&self, time: Duration) {
+        if let Some(mut times) = self.times.get() {
+            times.pass(time);
+            self.times.set(Some(times));
+        }
+    }
+
+    /// Whether the peer wants blocks, and gets none, since others are served.
+    pub fn waits_for_turn(&self) -> bool {
+        match self.times.get() {
+            Some(times) => times.waits_for_turn(),
+            None => false,
+        }
+    }
+
+    /// Whether the peer wants blocks, and may have them.
+    pub fn has_turn(&self) -> bool {
+        match self.times.get() {
+            Some(times) => times.has_turn(),
+            None => false,
+        }
+    }
+
+    /// Whether the peer was given up.
+    pub fn is_given_up(&self) -> bool {
+        match self.times.get() {
+            Some(times) => times.is_given_up,
+            None => false,
+        }
+    }
+
     /// A connection begins, for a torrent of `pieces` pieces.
-    pub(crate) fn begin(&self, role: Role, pieces: u32, now: Instant) -> Timed<'_> {
+    pub fn begin(&self, role: Role, pieces: u32, now: Instant) -> Timed<'_> {
         self.times.set(Some(Times::new(role, pieces, now)));
         Timed(self)
     }
@@ -377,16 +457,16 @@ impl Observer for Timing {
 
 /// The timing of a connection that has begun. Both its handles note in it what passes.
 #[derive(Clone, Copy)]
-pub(crate) struct Timed<'a>(&'a Timing);
+pub struct Timed<'a>(&'a Timing);
 
 impl<'a> Timed<'a> {
     /// Who is told what comes.
-    pub(crate) fn observer(self) -> &'a Timing {
+    pub fn observer(self) -> &'a Timing {
         self.0
     }
 
     /// Whether the peer has taken too long.
-    pub(crate) fn is_late(self, now: Instant) -> bool {
+    pub fn is_late(self, now: Instant) -> bool {
         match self.0.times.get() {
             Some(times) => times.is_late(now),
             None => false,
@@ -394,19 +474,41 @@ impl<'a> Timed<'a> {
     }
 
     /// Whether the peer has nothing more to give.
-    pub(crate) fn is_spent(self) -> bool {
+    pub fn is_spent(self) -> bool {
         match self.0.times.get() {
             Some(times) => times.is_spent(),
             None => false,
         }
     }
 
-    /// Whether the peer was given up.
-    pub(crate) fn is_given_up(self) -> bool {
+    /// Whether nothing came of the peer for this many seconds, nor was taken by it where it had made us wait.
+    pub fn is_idle(self, seconds: u64, now: Instant) -> bool {
         match self.0.times.get() {
-            Some(times) => times.is_given_up,
+            Some(times) => times.is_idle(seconds, now),
             None => false,
         }
+    }
+
+    /// Notes that bytes come now, by a clock that does not count work. What they are is told next (`Observer`). Or that the
+    /// peer takes some now, after it took none.
+    pub fn note_in(self, now: Instant) {
+        if let Some(mut times) = self.0.times.get() {
+            times.pass_in(now);
+            self.0.times.set(Some(times));
+        }
+    }
+
+    /// Notes bytes that go out now, by such a clock.
+    pub fn note_out(self, bytes: &[u8], now: Instant) {
+        if let Some(mut times) = self.0.times.get() {
+            times.pass_out(bytes, now);
+            self.0.times.set(Some(times));
+        }
+    }
+
+    /// Whether the peer was given up.
+    pub(crate) fn is_given_up(self) -> bool {
+        self.0.is_given_up()
     }
 
     /// Since when is waited now, where it was since then: it is of no account what is not counted against the peer.
@@ -434,7 +536,7 @@ impl<'a> Timed<'a> {
     }
 
     /// Notes that the peer is given up.
-    pub(crate) fn give_up(self) {
+    pub fn give_up(self) {
         if let Some(mut times) = self.0.times.get() {
             times.give_up();
             self.0.times.set(Some(times));
