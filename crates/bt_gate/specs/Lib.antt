@@ -1,0 +1,4 @@
+pub mod Ways
+pub mod Doors
+pub mod Clock
+pub mod Leading
