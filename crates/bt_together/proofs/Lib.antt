@@ -1,0 +1,4 @@
+pub mod PeerLines
+pub mod Numbers
+pub mod Numbering
+pub mod Swarms
