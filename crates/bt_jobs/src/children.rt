@@ -1,8 +1,7 @@
 //! The parts of a check: by which commands they are started, and how they are passed the torrent, looked at, ended and
 //! waited for.
-ghost use Rattle.std.specs.Prelude.{◌≡◌, ◌⊎◌, ◌↔◌, ◌+◌, ◌++◌, [], ◌∷◌, ℕ, List, Some, pos, map, codes, string_bytes, IfOk, IfErr, IfSome, IsTrue, OnErr, OnOk};
+ghost use Rattle.std.specs.Prelude.{◌≡◌, ◌⊎◌, ◌↔◌, ◌+◌, ◌++◌, [], ◌∷◌, ℕ, List, Some, pos, map, IfOk, IfErr, IsTrue, OnErr, OnOk};
 ghost use Rattle.std.specs.List.{All, range_with_len};
-ghost use Rattle.std.specs.Fmt.{decimal};
 ghost use Rattle.std.specs.Process.{command_args, command_program, exit_code};
 ghost use Rattle.bt_check.specs.Fault.{device, out_of_memory};
 ghost use Rattle.bt_jobs.specs.Children.{IsPartFault, info_words, part_words, program_text};
@@ -45,7 +44,8 @@ fn part_command(alloc: Global, job: Job<'_>, index: u32) -> Result<Command, Allo
     ensures words { IfOk result (λ command. command_args command
         ≡ part_words job.entry.source.is_info job.entry.dir.now index job.entry.count) }
 {
-    let part = part_word(alloc, index, job.count)?;
+    let count = job.count;
+    let part = format!(in alloc; "{index}/{count}")?;
     let mut command = Command::new(alloc, PROGRAM)?;
     push_word(&mut command, "check")?;
     push_word(&mut command, "--part")?;
@@ -55,13 +55,6 @@ fn part_command(alloc: Global, job: Job<'_>, index: u32) -> Result<Command, Allo
     push_word(&mut command, STANDARD_INPUT)?;
     push_word(&mut command, job.dir)?;
     Ok(command)
-}
-
-/// The word that names a part.
-fn part_word(alloc: Global, index: u32, count: u32) -> Result<String, AllocError>
-    ensures { IfOk result (λ word. string_bytes word ≡ decimal index ++ codes "/" ++ decimal count) }
-{
-    format!(in alloc; "{index}/{count}")
 }
 
 /// Adds a word to those of a command.
@@ -134,19 +127,9 @@ fn look_at<C: StartedPart>(child: &mut C) -> Result<(), Fault>
     ensures fault { IfErr result (λ fault. (fault ≡ device) ⊎ (fault ≡ out_of_memory)) }
 {
     match child.look() {
-        Ok(status) => outcome_so_far(status),
+        Ok(Some(status)) => part_outcome(status),
+        Ok(None) => Ok(()),
         Err(_) => Err(Fault::Device),
-    }
-}
-
-/// What a part has come to so far, which may not have ended.
-fn outcome_so_far(status: Option<ExitStatus>) -> Result<(), Fault>
-    ensures well { OnOk result (IfSome status (λ status. exit_code status ≡ Some (pos 0))) }
-    ensures fault { IfErr result (λ fault. (fault ≡ device) ⊎ (fault ≡ out_of_memory)) }
-{
-    match status {
-        Some(status) => part_outcome(status),
-        None => Ok(()),
     }
 }
 

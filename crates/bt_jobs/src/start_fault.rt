@@ -10,7 +10,7 @@ use std::io::{self, ErrorKind};
 use std::process::ExitStatus;
 
 /// Why a part does not run that has the torrent.
-#[derive(Clone, Copy, Debug, PartialEq, Eq)]
+#[derive(Clone, Copy, Debug)]
 pub enum StartFault {
     /// It could not be started.
     NotStarted,
@@ -50,17 +50,7 @@ pub(crate) fn early_end(ended: io::Result<ExitStatus>) -> StartFault
     ensures unknown { IfErr ended (λ _. result ≡ StartFault.Failed) }
 {
     match ended {
-        Ok(status) => early_fault(status),
-        Err(_) => StartFault::Failed,
+        Ok(status) if was_short_of_memory(status) => StartFault::OutOfMemory,
+        Ok(_) | Err(_) => StartFault::Failed,
     }
-}
-
-/// Why a part did not take the whole torrent, by its status.
-fn early_fault(status: ExitStatus) -> StartFault
-    ensures { IsEarlyEnd (exit_code status) result }
-{
-    if was_short_of_memory(status) {
-        return StartFault::OutOfMemory;
-    }
-    StartFault::Failed
 }

@@ -236,18 +236,8 @@ fn measured(length: Option<u64>, file_length: u64) -> Met
     ensures { IsMeasured file_length length result }
 {
     match length {
-        Some(length) => length_met(length, file_length),
+        Some(length) if length > file_length => Met::Longer,
+        Some(_) => Met::Nothing,
         None => Met::Unmeasured,
-    }
-}
-
-/// What is met where a device tells this length.
-fn length_met(length: u64, file_length: u64) -> Met
-    ensures { IsMeasured file_length (Some length) result }
-{
-    if length > file_length {
-        Met::Longer
-    } else {
-        Met::Nothing
     }
 }
