@@ -48,6 +48,12 @@ impl Device {
         }
     }
 
+    /// A device of this making.
+    pub fn disk(&self, alloc: Global) -> Result<TestDisk, AllocError> {
+        let disk = memory_disk(alloc, self.bytes.clone()?);
+        Ok(flipped(faulty(disk, self.fault), self.flip))
+    }
+
     pub fn into_disk(self, alloc: Global) -> TestDisk {
         let Device { bytes, fault, flip } = self;
         flipped(faulty(memory_disk(alloc, bytes), fault), flip)

@@ -1,6 +1,6 @@
 //! An engine on devices in memory, over eight lanes.
 
-use bt_disk::{FaultDisk, MemoryDisk};
+use bt_disk::{Disk, FaultDisk, MemoryDisk};
 use bt_engine::{Engine, StartError};
 use bt_lanes::Lanes;
 use bt_machine::FileReport;
@@ -58,7 +58,10 @@ pub fn start(
 }
 
 /// Adds how far each file is, and whether all are complete.
-pub fn tell_reports(out: &mut String, engine: &TestEngine) -> Result<(), AllocError> {
+pub fn tell_reports<D: Disk + Drop>(
+    out: &mut String,
+    engine: &Engine<D, Lanes>,
+) -> Result<(), AllocError> {
     for file in 0..u32::MAX {
         match engine.report(file) {
             Some(report) => tell_report(out, file, &report)?,

@@ -136,7 +136,7 @@ impl Lists {
 }
 
 /// A setting of the device of this number.
-fn set_of(
+pub fn set_of(
     alloc: Global,
     devices: &mut [Device],
     name: &str,
@@ -220,7 +220,7 @@ fn disks_of(alloc: Global, devices: Vec<Device>) -> Result<Vec<TestDisk>, AllocE
 }
 
 /// A device of zeros for each file that has a byte.
-fn new_devices(alloc: Global, torrent: &Torrent) -> Result<Vec<Device>, AllocError> {
+pub fn new_devices(alloc: Global, torrent: &Torrent) -> Result<Vec<Device>, AllocError> {
     let mut devices = Vec::new(alloc);
     for file in torrent.files() {
         push_device(alloc, &mut devices, file)?;

@@ -1,4 +1,4 @@
-//! Runs lists of events and sessions with peers on engines whose files lie in memory, the peers' bytes too; tries peers in turn, opens
+//! Runs lists of events and sessions with peers on engines whose files lie in memory, the peers' bytes too; tries peers in turn and many at once, opens
 //! sockets of this machine with itself, passes conversations through a reader and a writer of `bt_connection`, reads ahead by
 //! that and `bt_devices`, and lets trees take the proofs of logs, as the rows of `stdin` say. `stdout` has what they are to answer. README.md
 //! tells the rows.
@@ -14,9 +14,11 @@ mod ends;
 mod engine;
 mod event;
 mod flushes;
+mod gate;
 mod hints;
 mod links;
 mod lists;
+mod member;
 mod names;
 mod notes;
 mod partner;
@@ -24,9 +26,12 @@ mod plays;
 mod row;
 mod run;
 mod scene;
+mod script;
 mod sessions;
 mod sockets;
 mod stage;
+mod swarms;
+mod tale;
 mod talk;
 mod talks;
 
@@ -35,7 +40,7 @@ use std::alloc::{AllocError, Global};
 use std::io;
 
 fn main(rt: HostRuntime) -> io::Result<()> {
-    let mut stage = Stage::new(&rt);
+    let mut stage = Stage::new(rt.alloc(), &rt);
     let printed = print_answers(&rt, &mut stage);
     drop(stage);
     printed

@@ -5,6 +5,7 @@ use crate::hints::{hints_row, runs_row};
 use crate::lists::Lists;
 use crate::sessions::Sessions;
 use crate::sockets::socket_row;
+use crate::swarms::Swarms;
 use crate::talks::Talks;
 use bt_rows::is_comment;
 use std::alloc::{AllocError, Global};
@@ -17,15 +18,17 @@ pub struct Stage<'a> {
     lists: Lists,
     sessions: Sessions,
     talks: Talks,
+    swarms: Swarms,
 }
 
 impl<'a> Stage<'a> {
-    pub fn new(net: &'a HostRuntime) -> Self {
+    pub fn new(alloc: Global, net: &'a HostRuntime) -> Self {
         Stage {
             net,
             lists: Lists::Empty,
             sessions: Sessions::new(),
             talks: Talks::new(),
+            swarms: Swarms::new(alloc),
         }
     }
 
@@ -55,6 +58,7 @@ impl<'a> Stage<'a> {
             "runs" => runs_row(alloc, rest, out),
             "padding" => self.talks.answer(alloc, rest, out),
             "socket" => self.socket_row(alloc, rest, out),
+            "swarm" => self.swarms.answer(alloc, rest, out),
             _ => self.sessions.answer(alloc, name, rest, out),
         }
     }
