@@ -31,9 +31,8 @@ import time
 TOP = pathlib.Path(__file__).resolve().parent.parent
 LIMITS = pathlib.Path(__file__).resolve().parent / "gate.txt"
 PARTS = ("proof", "tests", "edits")
-# The processor minutes that the whole gate may take from nothing, so that two cores have it in two hours and a half. 25 more are meant for
-# the loop of many peers, once that is there.
-MOST = 270
+# The processor minutes that the whole gate may take from nothing, so that two cores have it in two hours and a half.
+MOST = 295
 PAUSE = 0.2
 TICKS = os.sysconf("SC_CLK_TCK")
 
