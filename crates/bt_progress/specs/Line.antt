@@ -1,5 +1,5 @@
 -- The line that tells how far some work is.
-use Rattle.std.specs.Prelude.{ℕ, ◌-◌, ◌*◌, ◌/◌, ◌%◌, ◌^◌, ◌==◌, ◌||◌, ◌++◌, if◌then◌else◌, List, [], codes, nat_lt}
+use Rattle.std.specs.Prelude.{ℕ, Option, None, Some, ◌-◌, ◌*◌, ◌/◌, ◌%◌, ◌^◌, ◌==◌, ◌||◌, ◌++◌, if◌then◌else◌, List, [], codes, nat_lt}
 use Rattle.std.specs.Fmt.{decimal}
 use Rattle.bt_progress.specs.Meter.{percent, rate}
 
@@ -50,6 +50,15 @@ all_text all hundredths = codes " of " ++ size_text all ++ codes " (" ++ decimal
 abbrev pub share_text : ℕ → ℕ → List ℕ
 share_text done all = size_text done ++ (if all == 0 then [] else all_text all (percent done all))
 
+-- how many peers are there
+abbrev pub count_text : ℕ → List ℕ
+count_text count = if count == 1 then codes ", 1 peer" else codes ", " ++ decimal count ++ codes " peers"
+
+-- the same, where many come at once
+abbrev pub peers_text : Option ℕ → List ℕ
+peers_text None = []
+peers_text (Some count) = count_text count
+
 -- the bytes a second
 unfoldable pub rate_text : ℕ → List ℕ
 rate_text speed = codes ", " ++ size_text speed ++ codes "/s"
@@ -63,5 +72,6 @@ abbrev pub speed_text : ℕ → ℕ → ℕ → List ℕ
 speed_text done all speed =
     rate_text speed ++ (if all == 0 || speed == 0 then [] else left_text ((all - done) / speed))
 
-abbrev pub line_text : ℕ → ℕ → ℕ → List ℕ
-line_text done all millis = share_text done all ++ speed_text done all (rate done millis)
+abbrev pub line_text : ℕ → ℕ → Option ℕ → ℕ → List ℕ
+line_text done all peers millis =
+    share_text done all ++ peers_text peers ++ speed_text done all (rate done millis)

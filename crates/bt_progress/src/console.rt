@@ -123,6 +123,12 @@ impl<'a, C: Clock, W: Write> Watch for Console<'a, C, W> {
         }
     }
 
+    fn set_peers(&self, peers: Option<usize>) {
+        if let Ok(mut screen) = self.screen.try_borrow_mut() {
+            screen.set_peers(peers);
+        }
+    }
+
     fn clear(&self) {
         if let Ok(mut screen) = self.screen.try_borrow_mut() {
             screen.clear();

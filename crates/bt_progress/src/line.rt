@@ -1,6 +1,6 @@
 //! The line that tells how far some work is, in units that people read.
 ghost use Rattle.std.specs.Prelude.{◌≡◌, ◌++◌, ◌<◌, ◌≤◌, IfOk, OnOk, string_bytes};
-ghost use Rattle.bt_progress.specs.Line.{all_text, left_text, line_text, rate_text, share_text, size_text, speed_text, tebibyte, tenths_text, time_text};
+ghost use Rattle.bt_progress.specs.Line.{all_text, left_text, line_text, peers_text, rate_text, share_text, size_text, speed_text, tebibyte, tenths_text, time_text};
 
 use crate::meter::Meter;
 use std::alloc::{AllocError, Global};
@@ -15,12 +15,19 @@ const GIBIBYTE: u128 = 1 << 30;
 const TEBIBYTE: u128 = 1 << 40;
 
 /// The line on work that has taken `millis` milliseconds: the bytes done, of all and in hundredths where it is
-/// known how many these are, the bytes a second, and the time that the rest takes at this rate.
-pub fn progress_line(alloc: Global, meter: Meter, millis: u64) -> Result<String, AllocError>
-    ensures { IfOk result (λ line. string_bytes line ≡ line_text meter.done meter.all millis) }
+/// known how many these are, how many peers are there where many come at once, the bytes a second, and the time that
+/// the rest takes at this rate.
+pub fn progress_line(
+    alloc: Global,
+    meter: Meter,
+    peers: Option<usize>,
+    millis: u64,
+) -> Result<String, AllocError>
+    ensures { IfOk result (λ line. string_bytes line ≡ line_text meter.done meter.all peers millis) }
 {
     let mut line = String::new(alloc);
     push_share(&mut line, meter)?;
+    push_peers(&mut line, peers)?;
     push_speed(&mut line, meter, meter.rate(millis))?;
     Ok(line)
 }
@@ -52,6 +59,17 @@ fn push_all(line: &mut String, all: u64, percent: u128) -> Result<(), AllocError
     write!(line, " of ")?;
     push_size(line, all as u128)?;
     write!(line, " ({percent}%)")
+}
+
+/// Adds how many peers are there, where many come at once.
+fn push_peers(line: &mut String, peers: Option<usize>) -> Result<(), AllocError>
+    ensures { OnOk result (string_bytes line.new ≡ string_bytes line.old ++ peers_text peers) }
+{
+    match peers {
+        None => Ok(()),
+        Some(1) => write!(line, ", 1 peer"),
+        Some(count) => write!(line, ", {count} peers"),
+    }
 }
 
 /// Adds the bytes a second, which are these, and where it is known what is to be done, how long the rest takes.

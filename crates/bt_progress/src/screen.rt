@@ -34,6 +34,8 @@ pub(crate) struct Screen<W> {
     /// The calls whose bytes count: none before work begins.
     call: Option<FileCall>,
     meter: Meter,
+    /// How many peers are there: none where they come one after the other.
+    peers: Option<usize>,
     times: Option<Times>,
     is_shown: bool,
 }
@@ -45,6 +47,7 @@ impl<W: Write> Screen<W> {
             writer,
             call: None,
             meter: Meter::new(),
+            peers: None,
             times: None,
             is_shown: false,
         }
@@ -54,6 +57,10 @@ impl<W: Write> Screen<W> {
         self.call = Some(call);
         self.meter = Meter::new();
         self.times = None;
+    }
+
+    pub(crate) fn set_peers(&mut self, peers: Option<usize>) {
+        self.peers = peers;
     }
 
     pub(crate) fn expect(&mut self, bytes: u64) {
@@ -90,7 +97,7 @@ impl<W: Write> Screen<W> {
     }
 
     fn show(&mut self, alloc: Global, millis: u64) {
-        if let Ok(text) = shown_line(alloc, self.meter, millis) {
+        if let Ok(text) = shown_line(alloc, self.meter, self.peers, millis) {
             // by one write, since a program that is stopped between two would leave the terminal so
             let _ = self.writer.write_all(text.as_bytes());
             self.is_shown = true;
@@ -113,8 +120,13 @@ impl<W: Write> Screen<W> {
 }
 
 /// The line as it is written on a terminal, which cuts it where it is too wide.
-fn shown_line(alloc: Global, meter: Meter, millis: u64) -> Result<String, AllocError> {
-    let line = progress_line(alloc, meter, millis)?;
+fn shown_line(
+    alloc: Global,
+    meter: Meter,
+    peers: Option<usize>,
+    millis: u64,
+) -> Result<String, AllocError> {
+    let line = progress_line(alloc, meter, peers, millis)?;
     format!(in alloc; "{CLEARED}{CUT}{line}{WRAPPED}")
 }
 

@@ -32,6 +32,9 @@ pub trait Watch {
     /// Tells that `bytes` bytes went through such a call.
     fn advance(&self, call: FileCall, bytes: u64);
 
+    /// Tells how many peers are there: none where they come one after the other.
+    fn set_peers(&self, peers: Option<usize>);
+
     /// Takes the line of progress away, before a line of results is written.
     fn clear(&self);
 }
@@ -62,6 +65,8 @@ impl Watch for Unwatched {
     fn expect(&self, _bytes: u64) {}
 
     fn advance(&self, _call: FileCall, _bytes: u64) {}
+
+    fn set_peers(&self, _peers: Option<usize>) {}
 
     fn clear(&self) {}
 }
