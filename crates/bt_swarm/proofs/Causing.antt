@@ -1,5 +1,5 @@
 -- A cause of an end stays one as more happens, before and afterwards.
-use Rattle.std.proofs.Common.{[], ◌≡◌, ◌<◌, ◌⊎◌, inl, inr, Some, Ok, arith, length, ℕ, List, ◌∷◌, ◌++◌, refl, sym, ap, ◌∙◌, subst, append-nil, append_assoc}
+use Rattle.std.proofs.Common.{[], ◌≡◌, ◌⊎◌, inl, inr, Some, Ok, arith, ℕ, List, ◌∷◌, ◌++◌, refl, sym, ap, ◌∙◌, subst, append-nil, append_assoc}
 use Rattle.std.specs.Prelude.{Contains}
 use Rattle.std.proofs.lemmas.List.Elements.{Contains-append_left, Contains-append_right, Contains-append_cases, Contains-push_cases}
 use Rattle.bt_disk.specs.Conduct.{Conduct}

@@ -1,5 +1,5 @@
 -- All are told to end, since rounds were cut short or all files are complete.
-use Rattle.std.proofs.Common.{[], ◌≡◌, ℕ, List, Option, sym, subst, ◌⊎◌, inl, inr}
+use Rattle.std.proofs.Common.{[], ◌≡◌, ℕ, List, Option, sym, subst, inl, inr}
 use Rattle.bt_disk.specs.Conduct.{Conduct}
 use Rattle.bt_book.specs.declared.names.PeerKey.{PeerKey}
 use Rattle.bt_machine.specs.State.{EngineView}

@@ -1,6 +1,6 @@
 -- What holds where a swarm is over.
-use Rattle.std.proofs.Common.{[], ◌≡◌, ◌≢◌, ℕ, ◌-◌, ◌^◌, Bool, true, List, ◌∷◌, ◌++◌, Result, Ok, Err, refl, sym, ◌∙◌, subst, ◌⊎◌, inl, inr}
-use Rattle.std.specs.Prelude.{OnOk, IfErr, IsErrAnd, Contains}
+use Rattle.std.proofs.Common.{[], ◌≡◌, ◌≢◌, ℕ, ◌-◌, ◌^◌, Bool, true, List, ◌∷◌, ◌++◌, Result, Ok, Err, sym, ◌∙◌, subst, ◌⊎◌, inl, inr}
+use Rattle.std.specs.Prelude.{OnOk, IfErr, IsErrAnd}
 use Rattle.std.proofs.lemmas.List.Elements.{Contains-append_left, Contains-append_right, Contains-push}
 use Rattle.bt_disk.specs.Conduct.{Conduct}
 use Rattle.bt_machine.specs.declared.error.FlushError.{FlushError}

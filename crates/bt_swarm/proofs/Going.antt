@@ -1,10 +1,8 @@
 -- A swarm goes on, and its gate with it: by one call after the other.
-use Rattle.std.proofs.Common.{[], ◌≡◌, ℕ, ◌<◌, List, ◌∷◌, ◌++◌, Option, Some, None, Ok, refl, sym, ap, ◌∙◌, subst, length, get_or, take, drop, append-nil, append_assoc, ◌+◌}
+use Rattle.std.proofs.Common.{[], ◌≡◌, ℕ, ◌<◌, List, ◌∷◌, ◌++◌, Option, Some, None, Ok, refl, sym, ap, ◌∙◌, subst, length, get_or, append-nil, append_assoc}
 use Rattle.bt_disk.specs.Conduct.{Conduct}
 use Rattle.bt_book.specs.declared.names.PeerKey.{PeerKey}
 use Rattle.bt_machine.specs.declared.event.Event.TheVariants.{Connect, Lost, Next}
-use Rattle.bt_machine.specs.declared.event.Answer.{Answer}
-use Rattle.bt_machine.specs.declared.event.Event.{Event}
 use Rattle.bt_machine.specs.declared.event.Answer.TheVariants.{Connected}
 use Rattle.bt_machine.specs.Output.{Output, Sent}
 use Rattle.bt_machine.specs.State.{EngineView}
@@ -12,14 +10,14 @@ use Rattle.bt_session.specs.declared.end.SessionEnd.{SessionEnd}
 use Rattle.bt_session.specs.declared.end.SessionEnd.TheVariants.{Memory}
 use Rattle.bt_session.specs.Frames.{frames_to}
 use Rattle.bt_swarm.specs.declared.member.Member.{Member}
-use Rattle.bt_swarm.specs.Runs.{Runs, none, one_more}
+use Rattle.bt_swarm.specs.Runs.{none, one_more}
 use Rattle.bt_swarm.specs.Steps.{Steps}
 use Rattle.bt_swarm.specs.Causes.{IsFault}
 use Rattle.bt_swarm.specs.Moves.{EachMovesBy, GoesOn}
 use Rattle.bt_swarm.specs.Passing.{Passing, came, went}
 use Rattle.bt_swarm.specs.Swarm.{HasSwarmed, SwarmsOn, HasLeft, HasServed}
 use Rattle.bt_swarm.proofs.Causing.{runs_trans}
-use Rattle.bt_swarm.proofs.Moving.{goes_nowhere, goes_trans}
+use Rattle.bt_swarm.proofs.Moving.{goes_nowhere}
 use Rattle.bt_swarm.proofs.Swarming.{swarm_begins, swarm_goes, swarm_refuses, swarm_delivers, swarm_leaves, swarm_more}
 
 lost_no_next : (key k : PeerKey) → Lost key ≡ Next k → ⊥

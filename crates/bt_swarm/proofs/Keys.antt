@@ -1,5 +1,5 @@
 -- Keys stay apart, and each peer of the machine is one of those that are there.
-use Rattle.std.proofs.Common.{[], ◌≡◌, ◌≢◌, ℕ, ◌<◌, ◌≤◌, ◌+◌, List, ◌∷◌, ◌++◌, Option, None, Ok, Err, append-nil, refl, sym, ap, ◌∙◌, subst, length, length-append, get_or, take, drop, arith, ◌⊎◌, inl, inr}
+use Rattle.std.proofs.Common.{[], ◌≡◌, ◌≢◌, ℕ, ◌<◌, ◌≤◌, ◌+◌, List, ◌∷◌, ◌++◌, Option, Ok, Err, append-nil, refl, sym, ap, ◌∙◌, subst, length, length-append, get_or, take, drop, arith, ◌⊎◌, inl, inr}
 use Rattle.std.proofs.lemmas.List.{get_or_append_left, get_or_push, take-append-drop, drop_more}
 use Rattle.std.proofs.lemmas.List.Elements.{Contains-get_or, Contains-append_left, Contains-append_right, Contains-append_cases, Contains-push_cases, Contains-push}
 use Rattle.std.proofs.lemmas.Bool.{cases_lt}
@@ -20,7 +20,7 @@ use Rattle.bt_swarm.specs.declared.member.Member.{Member}
 use Rattle.bt_swarm.specs.Runs.{Happening, Runs, none, one_more, fed_in, frames_in, joined_by, joined_in}
 use Rattle.bt_swarm.specs.Causes.{HasCause}
 use Rattle.bt_swarm.specs.Steps.{AreFrom, GivesKey, Steps}
-use Rattle.bt_swarm.specs.Moves.{EachMovesBy, GoesOn, HaveOwnKeys, AreKeyed, IsHere}
+use Rattle.bt_swarm.specs.Moves.{EachMovesBy, GoesOn, AreKeyed, IsHere}
 use Rattle.bt_swarm.proofs.Moving.{own_keys_kept}
 
 -- the one element of a list is that which it has

@@ -1,5 +1,5 @@
 -- What connections get and give over several events is what they get and give over one after the other.
-use Rattle.std.proofs.Common.{[], ◌≡◌, ◌≢◌, ℕ, ◌<◌, ◌≤◌, ◌+◌, Bool, true, false, List, ◌∷◌, ◌++◌, Option, Some, None, Ok, refl, sym, ap, ◌∙◌, subst, cond, length, take, append-nil, get_or, set, arith, get_or-set_same, get_or-set_other, ◌⊎◌, inl, inr, eq-eqb}
+use Rattle.std.proofs.Common.{[], ◌≡◌, ◌≢◌, ℕ, ◌<◌, ◌≤◌, ◌+◌, Bool, List, ◌∷◌, ◌++◌, Option, Some, None, Ok, refl, sym, ap, ◌∙◌, subst, cond, length, take, append-nil, get_or, set, arith, get_or-set_same, get_or-set_other, ◌⊎◌, inl, inr, eq-eqb}
 use Rattle.std.proofs.lemmas.Bool.{cases_eq, ne_eqb}
 use Rattle.std.proofs.lemmas.List.{get_or_default}
 use Rattle.std.proofs.lemmas.Grind.{flat_map-append}
@@ -7,7 +7,7 @@ use Rattle.std.proofs.lemmas.List.Elements.{Contains-push}
 use Rattle.std.specs.Prelude.{Contains}
 use Rattle.std.proofs.Math.ListN.{length-set}
 use Rattle.std.proofs.KnownBytes.{Consumes-nil, Consumes-trans, Keeps-refl}
-use Rattle.std.specs.Io.KnownBytes.{Appends, Consumes, Keeps}
+use Rattle.std.specs.Io.KnownBytes.{Consumes, Keeps}
 use Rattle.bt_disk.specs.Conduct.{Conduct}
 use Rattle.bt_book.specs.declared.names.PeerKey.{PeerKey}
 use Rattle.bt_machine.specs.declared.answer.Frame.{Frame}
@@ -21,9 +21,9 @@ use Rattle.bt_machine.specs.Output.{Output, Sent}
 use Rattle.bt_machine.specs.State.{EngineView}
 use Rattle.bt_session.specs.declared.end.SessionEnd.{SessionEnd}
 use Rattle.bt_session.specs.declared.end.SessionEnd.TheVariants.{Closed}
-use Rattle.bt_session.specs.Frames.{spelling, spellings, frames_to}
+use Rattle.bt_session.specs.Frames.{frames_to}
 use Rattle.bt_swarm.specs.declared.member.Member.{Member}
-use Rattle.bt_swarm.specs.Runs.{Happening, Runs, none, one_more, fed_by, fed_in, frames_in, joined_by, joined_in}
+use Rattle.bt_swarm.specs.Runs.{Happening, none, one_more, fed_by, fed_in, frames_in, joined_by, joined_in}
 use Rattle.bt_swarm.specs.Steps.{Steps, MayBeFlushed}
 use Rattle.bt_swarm.specs.Causes.{HasCause, IsClosedIn, IsFault}
 use Rattle.bt_swarm.specs.Moves.{ArePut, IsWritten, IsWrittenOn, HaveOwnKeys, Moves, EachMovesBy, GoesOn}

@@ -1,7 +1,7 @@
 -- The keys that an engine gives out, and whose they are: no event of a swarm takes one back, and nobody comes but by a
 -- connect.
-use Rattle.bt_machine.proofs.Base.{[], ◌≡◌, ◌≢◌, ℕ, zero, suc, ◌+◌, ◌<◌, ◌≤◌, ◌⊎◌, inl, inr, true, List, ◌∷◌, ◌++◌, length, map, take, drop, Some, Option, Result, Ok, Err, refl, sym, ap, ◌∙◌, subst, arith, slice_get, slice_set, Contains, AllPairs, PeerKey}
-use Rattle.bt_machine.proofs.Machine.{Digest, PeerState, EngineState, DeviceCalls, Effect, with_peer, RequestsHashes, requests, rests, FollowsUp, IsPeer, without_peer, TakesEvent, StepNext, no_peer, waits, keeps_peer, closes, faulty, no_memory, new_peer, StepConnect, joins, full, spent, no_room, StepFeed, feeds, not_fed, no_room as no_room_to_feed, StepLost, goes, not_fed as not_lost, rechoked, rechoked_peer, FollowsEach, StepRechoke, rechokes, not_rechoked, StepFlush, syncs, writes, fails, unwritten, unflushed}
+use Rattle.bt_machine.proofs.Base.{[], ◌≡◌, ◌≢◌, ℕ, zero, suc, ◌+◌, ◌<◌, ◌≤◌, inl, inr, List, ◌∷◌, ◌++◌, map, take, drop, Some, Option, Result, refl, sym, ap, ◌∙◌, subst, arith, slice_get, slice_set, Contains, PeerKey}
+use Rattle.bt_machine.proofs.Machine.{Digest, PeerState, EngineState, DeviceCalls, Effect, with_peer, RequestsHashes, requests, rests, FollowsUp, without_peer, TakesEvent, StepNext, no_peer, waits, keeps_peer, closes, faulty, no_memory, new_peer, StepConnect, joins, full, spent, no_room, StepFeed, feeds, not_fed, no_room as no_room_to_feed, StepLost, goes, not_fed as not_lost, rechoked, rechoked_peer, FollowsEach, StepRechoke, rechokes, not_rechoked, StepFlush, syncs, writes, fails, unwritten, unflushed}
 use Rattle.bt_machine.proofs.Lists.{set_same, same_some, contains_map, contains_cases, get_map}
 use Rattle.bt_machine.proofs.Pairs.{Pairs, to_pairs, contains_some, contains_set, contains_without, some_at}
 use Rattle.bt_machine.proofs.PeerChanges.{KeyBefore, PeerChange, with_left, event_change}
@@ -14,7 +14,6 @@ use Rattle.bt_machine.specs.declared.event.Answer.TheVariants.{Connected}
 use Rattle.bt_machine.specs.LogCalls.{EventCalls}
 use Rattle.bt_machine.specs.Orderly.{IsOrderly}
 use Rattle.bt_machine.specs.Output.{Output}
-use Rattle.bt_machine.specs.Peers.{greeting}
 use Rattle.bt_machine.specs.Report.{all_complete}
 use Rattle.bt_swarm.specs.Steps.{AreFrom, GivesKey}
 

@@ -1,6 +1,6 @@
 -- A swarm goes on: by events of those that are there, by one that comes, and by one that goes.
-use Rattle.std.proofs.Common.{[], ◌≡◌, ◌≢◌, ℕ, ◌<◌, ◌+◌, List, ◌∷◌, ◌++◌, Option, Some, None, Ok, refl, sym, ap, ◌∙◌, subst, length, length-append, append-nil, append_assoc, get_or, set, take, drop, arith, ◌⊎◌, inl, inr}
-use Rattle.std.specs.Prelude.{All, Contains}
+use Rattle.std.proofs.Common.{[], ◌≡◌, ◌≢◌, ℕ, ◌<◌, ◌+◌, List, ◌∷◌, ◌++◌, Option, Some, None, Ok, refl, sym, ap, ◌∙◌, subst, length, length-append, append-nil, append_assoc, get_or, take, drop, arith, inl, inr}
+use Rattle.std.specs.Prelude.{Contains}
 use Rattle.std.proofs.lemmas.List.{get_or_append_left, get_or_push}
 use Rattle.std.proofs.lemmas.Bool.{cases_lt}
 use Rattle.std.proofs.lemmas.List.Elements.{All-append, All-take, All-drop, Contains-append_left, Contains-append_cases, Contains-push}
@@ -26,7 +26,7 @@ use Rattle.bt_swarm.specs.Runs.{Happening, Runs, none, one_more, fed_by, fed_in,
 use Rattle.bt_engine.specs.Leads.{LeadsTo, none as no_event, one, both}
 use Rattle.bt_swarm.specs.Steps.{Steps, IsOwn}
 use Rattle.bt_swarm.specs.Causes.{HasCause, IsClosedIn, IsFault}
-use Rattle.bt_swarm.specs.Moves.{IsWritten, IsWrittenOn, IsHere, Moves, EachMovesBy, GoesOn}
+use Rattle.bt_swarm.specs.Moves.{IsWritten, IsWrittenOn, Moves, EachMovesBy, GoesOn}
 use Rattle.bt_swarm.specs.Passing.{Passing, came, went, came_count, went_count}
 use Rattle.bt_swarm.specs.Swarm.{HasStayed, HasGone, HasGoneTold, HasSwarmed}
 use Rattle.bt_swarm.proofs.Putting.{written_trans, was_open}

@@ -14,5 +14,5 @@ mod turn;
 pub use bt_engine::Engine;
 pub use bt_session::SessionEnd;
 pub use gate::{Due, Gate, QueuedWriter};
-pub use member::Member;
+pub use member::{HELD_BACK, Member};
 pub use run::run_swarm;

@@ -13,7 +13,7 @@ use bt_session::{SessionEnd, WatchedReader};
 use std::io::ErrorKind;
 
 /// Of a connection whose way out has so many bytes nothing is read, and no wire event is taken: 256 KiB.
-const HELD_BACK: usize = 262_144;
+pub const HELD_BACK: usize = 262_144;
 
 /// A connection.
 #[derive(Drop)]

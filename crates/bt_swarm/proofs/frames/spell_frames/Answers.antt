@@ -1,5 +1,5 @@
-use Rattle.std.proofs.Common.{[], ◌+◌, ◌∷◌, ◌++◌, take, drop, take_all, ap, sym, ◌∙◌, arith}
-use Rattle.std.proofs.lemmas.List.{take_more, take-append-drop}
+use Rattle.std.proofs.Common.{[], ◌∷◌, ◌++◌, take, take_all, ap, sym, ◌∙◌, arith}
+use Rattle.std.proofs.lemmas.List.{take_more}
 use Rattle.bt_session.specs.Frames.{spellings, frames_to}
 use Rattle.bt_session.proofs.FrameLists.{spelled_more, spelled_other}
 use Rattle.bt_swarm.proofs.frames.spell_frames.Goals as goal

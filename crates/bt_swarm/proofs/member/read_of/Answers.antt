@@ -1,7 +1,7 @@
 use Rattle.std.proofs.Common.{[], take, refl}
 use Rattle.std.proofs.KnownBytes.{Consumes-nil, Consumes-kept}
 use Rattle.bt_swarm.specs.Causes.{IsFaultOf}
-use Rattle.bt_swarm.proofs.Moving.{moves_read, moves_amiss}
+use Rattle.bt_swarm.proofs.Moving.{moves_read}
 use Rattle.bt_swarm.proofs.member.read_of.Goals as goal
 
 pub returns-in-Ok-clause-moves : goal.returns-in-Ok-clause-moves

@@ -1,4 +1,4 @@
-use Rattle.std.proofs.Common.{inl, inr, refl}
+use Rattle.std.proofs.Common.{inr}
 use Rattle.bt_swarm.proofs.Ending.{flush_refused}
 use Rattle.bt_swarm.proofs.run.flush_if_due.Goals as goal
 

@@ -1,4 +1,4 @@
-use Rattle.std.proofs.Common.{[], refl, inl, inr, ◌⊎◌}
+use Rattle.std.proofs.Common.{[], inl, inr}
 use Rattle.bt_session.specs.Failures.{OneFailed}
 use Rattle.bt_swarm.specs.Swarm.{ReadFailedOrCut}
 use Rattle.bt_swarm.proofs.Ending.{on_err, on_any, if_map, if_passed, over_flushed, refused_after}

@@ -1,4 +1,4 @@
-use Rattle.std.proofs.Common.{[], ◌≡◌, ℕ, List, inl, sym, subst, ◌∙◌}
+use Rattle.std.proofs.Common.{ℕ, List, inl, sym, subst}
 use Rattle.bt_session.specs.Failures.{OneFailed}
 use Rattle.bt_swarm.specs.Causes.{ReadFailed}
 use Rattle.bt_swarm.specs.declared.member.Member.{Member}

@@ -1,4 +1,4 @@
-use Rattle.std.proofs.Common.{[], ◌≡◌, ◌≢◌, ◌+◌, ◌<◌, ◌∷◌, ◌⊎◌, inl, inr, ℕ, List, length, refl, ap, sym, subst, ◌∙◌, arith}
+use Rattle.std.proofs.Common.{[], ◌≡◌, ◌≢◌, ◌<◌, ◌∷◌, inl, inr, ℕ, List, length, refl, ap, sym, subst, ◌∙◌, arith}
 use Rattle.bt_session.specs.Failures.{OneFailed}
 use Rattle.bt_swarm.specs.Causes.{MayEndAll}
 use Rattle.bt_swarm.specs.Swarm.{SwarmsOn, ReadFailedOrCut}

@@ -2,7 +2,7 @@ use Rattle.std.proofs.Common.{[], ◌≡◌, ◌-◌, ◌<◌, List, ap, sym, su
 use Rattle.std.proofs.lemmas.List.{with_items_is}
 use Rattle.bt_session.specs.Failures.{OneFailed}
 use Rattle.bt_swarm.specs.declared.member.Member.{Member}
-use Rattle.bt_swarm.specs.Moves.{AreKeyed, EachMovesBy}
+use Rattle.bt_swarm.specs.Moves.{EachMovesBy}
 use Rattle.bt_swarm.specs.Swarm.{SwarmsOn, ReadFailedOrCut}
 use Rattle.bt_swarm.proofs.Dismissing.{goes_dismissed}
 use Rattle.bt_swarm.proofs.Keys.{keyed_goes}

@@ -1,6 +1,5 @@
-use Rattle.std.proofs.Common.{refl, sym, ap, ◌∙◌, ◌+◌, ◌≡◌, Some, length}
+use Rattle.std.proofs.Common.{refl, ap, ◌∙◌, ◌+◌, length}
 use Rattle.std.proofs.lemmas.List.Edits.{length-remove}
-use Rattle.bt_swarm.specs.declared.member.Member.{Member}
 use Rattle.bt_swarm.proofs.Keys.{keyed_removed, step_keeps}
 use Rattle.bt_swarm.proofs.swarm.leave.Goals as goal
 

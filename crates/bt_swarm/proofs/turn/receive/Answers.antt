@@ -1,4 +1,4 @@
-use Rattle.std.proofs.Common.{get_or, refl, arith, take}
+use Rattle.std.proofs.Common.{get_or, refl}
 use Rattle.std.proofs.lemmas.List.{get_or_default}
 use Rattle.bt_session.specs.Failures.{OneFailed}
 use Rattle.bt_swarm.specs.Causes.{IsFaultOf, ReadFailed}
