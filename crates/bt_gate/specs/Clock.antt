@@ -3,9 +3,10 @@ use Rattle.std.specs.Prelude.{◌≡◌, ◌⊎◌, ◌+◌, ◌-◌, ◌<◌, t
 use Rattle.std.specs.Time.{instant_nanos, FitsClock}
 use Rattle.std.specs.declared.time.Instant.{Instant}
 use Rattle.bt_sockets.specs.TimingSteps.{HavePassed}
+use Rattle.bt_swarm.specs.declared.member.TheConstants.{HELD_BACK}
 use Rattle.bt_gate.specs.declared.clock.GateClock.{GateClock}
 use Rattle.bt_gate.specs.declared.marks.Marks.{Marks}
-use Rattle.bt_gate.specs.declared.marks.TheConstants.{HELD_BACK, LOOK_SECONDS}
+use Rattle.bt_gate.specs.declared.marks.TheConstants.{LOOK_SECONDS}
 
 -- what the clock shows goes on by all that has passed since the system's clock was looked at
 pub record CountsAll (old : GateClock) (now : Instant) (new : GateClock) : Type 0 where

@@ -1,7 +1,12 @@
--- What a gate has become by connections that came and went.
+-- A gate, and what it has become by connections that came and went.
 use Rattle.std.proofs.Common.{refl, sym, ◌∙◌, ap}
 use Rattle.std.specs.Prelude.{◌≡◌, ℕ, ◌+◌, List, [], ◌∷◌, ◌++◌}
 use Rattle.bt_swarm.specs.Passing.{Passing, came, went}
+
+-- a gate: how often it was waited, and by which door connections come
+pub record GateState (D : Type 0) : Type 0 where
+  pub waits : ℕ
+  pub door : D
 
 -- so many, and one more for each that came
 abbrev pub came_onto : ℕ → List Passing → ℕ
@@ -19,7 +24,8 @@ pub record LeadsTo (old_size old_given : ℕ) (passed : List Passing) (new_size 
 pub stays : (size given : ℕ) → LeadsTo size given [] size given
 stays size given = record { size = refl; given = refl }
 
-came_append : (n : ℕ) (first more : List Passing) → came_onto n (first ++ more) ≡ came_onto (came_onto n first) more
+came_append : (n : ℕ) (first more : List Passing)
+    → came_onto n (first ++ more) ≡ came_onto (came_onto n first) more
 came_append n [] more = refl
 came_append n (came place ∷ first) more = came_append (n + 1) first more
 came_append n (went place end ∷ first) more = came_append n first more

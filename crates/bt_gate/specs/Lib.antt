@@ -1,4 +1,4 @@
 pub mod Ways
-pub mod Doors
 pub mod Clock
 pub mod Leading
+pub use Rattle.bt_doors.specs.Doors

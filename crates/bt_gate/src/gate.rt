@@ -1,19 +1,16 @@
 //! The gate of a swarm over sockets.
 ghost use Rattle.std.specs.Prelude.{◌≡◌, ◌+◌, ◌-◌, ◌<◌, ◌^◌, ⊤, false, List, length, IfOk};
 ghost use Rattle.bt_wire.specs.declared.message.Ask.{Ask};
-ghost use Rattle.bt_gate.specs.Doors.{undialled};
+ghost use Rattle.bt_doors.specs.Doors.{undialled};
 ghost use Rattle.bt_gate.specs.Leading.{stays, goes_on, LeadsTo};
 ghost use Rattle.bt_gate.specs.Ways.{AreNew};
 
 use crate::clock::GateClock;
-use crate::dial::DOOR;
-use crate::dialling::Dialling;
-use crate::door::{Door, Visitor};
 use crate::guest::Guest;
-use crate::listening::Listening;
 use crate::parting::Partings;
 use crate::seats::{Place, SeatReader, Seats};
 use crate::way_out::SeatWriter;
+use bt_doors::{DOOR, Dialling, Door, Listening, Visitor};
 use bt_progress::Watch;
 use bt_session::{PeerEnd, SessionEnd};
 use bt_sockets::{Passage, tell_arrival, tell_visit};
@@ -67,7 +64,7 @@ pub struct TcpGate<'a, D: Door, C: Clock, P: Watch> {
 }
 
 impl<'a, D: Door, C: Clock, P: Watch> Model for TcpGate<'a, D, C, P> {
-    ghost use Rattle.bt_gate.specs.Doors.{GateState};
+    ghost use Rattle.bt_gate.specs.Leading.{GateState};
 
     ghost Value = { GateState D };
 
@@ -173,6 +170,7 @@ impl<'a, D: Door, C: Clock, P: Watch> TcpGate<'a, D, C, P> {
     pub fn take_leave(&mut self)
         ensures { self.new ≡ self.old }
     {
+        self.watch.set_peers(None);
         self.pass_work();
         for _ in 0..PARTING_TURNS {
             if self.partings.is_empty() {
@@ -288,6 +286,14 @@ impl<'a, D: Door, C: Clock, P: Watch> TcpGate<'a, D, C, P> {
         if let Some(slot) = self.guests.get_mut(at) {
             *slot = Some(guest);
         }
+        self.tell_count();
+    }
+
+    /// Tells how many are here.
+    fn tell_count(&self) {
+        let free = free_places(self.guests.as_slice());
+        let here = self.guests.len().saturating_sub(free);
+        self.watch.set_peers(Some(here));
     }
 
     /// Who was at a place, where nobody is now.
@@ -322,6 +328,7 @@ impl<'a, D: Door, C: Clock, P: Watch> TcpGate<'a, D, C, P> {
         let Some(place) = self.seats.place(at) else {
             return;
         };
+        self.tell_count();
         place.leave();
         let sent = place.sent();
         let Guest {

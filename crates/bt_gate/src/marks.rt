@@ -4,6 +4,7 @@ ghost use Rattle.std.specs.Prelude.{◌≡◌, ◌≢◌, ◌↔◌, ◌⊎◌, 
 ghost use Rattle.bt_sockets.specs.TimingSteps.{HavePassed};
 ghost use Rattle.bt_gate.specs.Clock.{HasWork, IsDue};
 
+use bt_swarm::HELD_BACK;
 use std::time::{Duration, Instant};
 
 /// How many seconds after its last read a connection is read again, though nothing is known to have come: so it is noticed
@@ -13,9 +14,6 @@ pub(crate) const LOOK_SECONDS: u64 = 1;
 /// How many seconds after the last write a peer is to be told that the connection is there still. It may give up one from
 /// which nothing comes for two minutes.
 pub(crate) const SILENT_SECONDS: u64 = 100;
-
-/// While so many bytes wait for a peer, its connection is not read (`run_swarm`).
-pub(crate) const HELD_BACK: usize = 262_144;
 
 /// What is known of the socket of a connection. Readiness is told when it changes, so a socket is taken to be ready until
 /// a call of it would have to wait.
