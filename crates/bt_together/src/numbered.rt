@@ -116,7 +116,8 @@ impl<'g, G: Gate, W: Write> Gate for NumberedGate<'g, G, W> {
         self.written = tell_gone(self.alloc, self.written, number, end, self.writer);
     }
 
-    ghost leads_nowhere = { λ gate. (refl, refl, tells_none gate.seating gate.written (W.contents gate.writer.now)) };
+    ghost leads_nowhere = { λ gate.
+        (refl, refl, tells_none gate.seating gate.written (W.contents gate.writer.now)) };
 
     ghost leads_on = { λ a b c first more one two. (
       two.0 ∙ one.0,
