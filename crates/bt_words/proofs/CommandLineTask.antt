@@ -19,7 +19,7 @@ use Rattle.clap.proofs.WalkLemmas.{first_value-rows, raw_values-rows}
 use Rattle.bt_parts.specs.declared.cut.Part.{Part as PartOf}
 use Rattle.bt_words.specs.declared.peer.Service.{Service}
 use Rattle.bt_words.specs.declared.peer.Serving.{Serving}
-use Rattle.bt_words.specs.declared.peer.Serving.TheVariants.{Count, Forever}
+use Rattle.bt_words.specs.declared.peer.Serving.TheVariants.{Count, Together, Forever}
 use Rattle.bt_words.specs.CommandLine.{AsksFor, HasJobs, HasNumber, IsCheckTaskIn, IsFetchTaskIn, IsGiven, IsLogBeside, IsMakeTaskIn, IsSeedTaskIn, IsServiceIn, IsServingIn, IsShowTaskIn, IsTaskIn, IsTaskOf, IsNoTaskOf, IsWorkIn}
 use Rattle.bt_words.specs.CommandLineSteps.{AreWordsOf, IsRefusalFor, TellsOf}
 use Rattle.bt_words.specs.Subcommands.{check_app, fetch_app, file_app, make_app, program_app, replay_app, seed_app, show_app, top_app, transfer_app}
@@ -90,18 +90,21 @@ not_given rows id none = (λ bad. absurd (let no : false ≡ true = bad in cc), 
 pub no_serving_both : (rows : List Row) (text : List ℕ) → first_of (codes "serve") rows ≡ Some text → IsGiven (codes "forever") rows → (serving : Serving)
     → ¬ IsServingIn rows serving
 no_serving_both rows text given forever (Count n) is = is.1 forever
+no_serving_both rows text given forever (Together n) is = is.1 forever
 no_serving_both rows text given forever Forever is = let bad : None ≡ Some text = sym is.0 ∙ given in cc
 
 -- neither
 pub no_serving_none : (rows : List Row) → first_of (codes "serve") rows ≡ None → ¬ IsGiven (codes "forever") rows → (serving : Serving)
     → ¬ IsServingIn rows serving
 no_serving_none rows none forever (Count n) is = let bad : None ≡ Some is.0.text = sym none ∙ is.0.given in cc
+no_serving_none rows none forever (Together n) is = let bad : None ≡ Some is.0.text = sym none ∙ is.0.given in cc
 no_serving_none rows none forever Forever is = forever is.1
 
 -- a count that is no number
 pub no_serving_number : (rows : List Row) (text : List ℕ) → first_of (codes "serve") rows ≡ Some text → ((n : ℕ) → ¬ IsNumber 32 text n) → (serving : Serving)
     → ¬ IsServingIn rows serving
 no_serving_number rows text given none (Count n) is = number_none 32 rows (codes "serve") text given none n is.0
+no_serving_number rows text given none (Together n) is = number_none 32 rows (codes "serve") text given none n is.0
 no_serving_number rows text given none Forever is = let bad : None ≡ Some text = sym is.0 ∙ given in cc
 
 -- ---- how much of a check is done

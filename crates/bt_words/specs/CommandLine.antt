@@ -13,7 +13,7 @@ use Rattle.bt_check.specs.declared.torrent_file.Source.{Source}
 use Rattle.bt_parts.specs.declared.cut.Part.{Part as PartOf}
 use Rattle.bt_words.specs.declared.peer.Service.{Service}
 use Rattle.bt_words.specs.declared.peer.Serving.{Serving}
-use Rattle.bt_words.specs.declared.peer.Serving.TheVariants.{Count, Forever}
+use Rattle.bt_words.specs.declared.peer.Serving.TheVariants.{Count, Together, Forever}
 use Rattle.bt_words.specs.Subcommands.{program_app}
 use Rattle.bt_words.specs.Values.{IsAddress, IsJobs, IsNumber, IsPartWord, IsPeerWord}
 use Rattle.bt_words.specs.declared.command_line.CheckTask.{CheckTask}
@@ -92,9 +92,13 @@ pub record IsCheckTaskIn (rows : List Row) (task : CheckTask) : Type 0 where
   pub work : IsWorkIn rows task.work
   pub verbose : IsFlagIn (codes "verbose") task.verbose rows
 
--- `n` connections, or all that come: one of the two is said, and not both
+-- `n` connections, one after the other or some at once; or all that come, then always some at once. A number or the
+-- flag is said, and not both
 abbrev pub IsServingIn : List Row → Serving → Type 0
 IsServingIn rows (Count n) = HasNumber 32 rows (codes "serve") n × ¬ IsGiven (codes "forever") rows
+    × ¬ IsGiven (codes "together") rows
+IsServingIn rows (Together n) = HasNumber 32 rows (codes "serve") n × ¬ IsGiven (codes "forever") rows
+    × IsGiven (codes "together") rows
 IsServingIn rows Forever = (first_of (codes "serve") rows ≡ None) × IsGiven (codes "forever") rows
 
 pub record IsServiceIn (rows : List Row) (service : Service) : Type 0 where
@@ -118,6 +122,7 @@ pub record IsFetchTaskIn (rows : List Row) (task : FetchTask) : Type 0 where
   pub words : List Text
   pub given : all_of (codes "PEER") rows ≡ Some words
   pub peers : AllZip IsPeerWord words task.peers.items
+  pub together : Decides task.is_together (IsGiven (codes "together") rows)
   pub log : IsLogIn rows task.log
   pub verbose : IsFlagIn (codes "verbose") task.verbose rows
 

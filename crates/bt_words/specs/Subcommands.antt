@@ -45,6 +45,9 @@ serve_rule = option_rule (codes "serve")
 abbrev pub forever_rule : Rule
 forever_rule = flag_rule (codes "forever")
 
+abbrev pub together_rule : Rule
+together_rule = flag_rule (codes "together")
+
 abbrev pub listen_rule : Rule
 listen_rule = record (option_rule (codes "listen")) { defaults = codes "127.0.0.1" ∷ [] }
 
@@ -86,13 +89,13 @@ check_app = command_app (codes "check")
 
 unfoldable pub seed_app : App
 seed_app = command_app (codes "seed")
-    (required_rule (codes "TORRENT") ∷ required_rule (codes "DIR") ∷ serve_rule ∷ forever_rule ∷ listen_rule
-    ∷ port_rule ∷ read_only_rule ∷ log_rule ∷ info_rule ∷ verbose_rule ∷ [])
+    (required_rule (codes "TORRENT") ∷ required_rule (codes "DIR") ∷ serve_rule ∷ forever_rule ∷ together_rule
+    ∷ listen_rule ∷ port_rule ∷ read_only_rule ∷ log_rule ∷ info_rule ∷ verbose_rule ∷ [])
 
 unfoldable pub fetch_app : App
 fetch_app = command_app (codes "fetch")
-    (required_rule (codes "TORRENT") ∷ required_rule (codes "DIR") ∷ peers_rule ∷ log_rule ∷ info_rule
-    ∷ verbose_rule ∷ [])
+    (required_rule (codes "TORRENT") ∷ required_rule (codes "DIR") ∷ peers_rule ∷ together_rule ∷ log_rule
+    ∷ info_rule ∷ verbose_rule ∷ [])
 
 unfoldable pub replay_app : App
 replay_app = command_app (codes "replay") (verbose_rule ∷ [])

@@ -5,7 +5,7 @@ ghost use Rattle.std.specs.Borrow.{Bor};
 ghost use Rattle.std.specs.List.{AllZip};
 ghost use Rattle.clap.specs.declared.error.kind.ErrorKind.TheVariants.{MissingRequiredArgument, ValueValidation};
 ghost use Rattle.clap.specs.Words.{all_of, app_of, first_of, found_of, kind_of, rows_of, subcommand_rows_of};
-ghost use Rattle.bt_words.specs.CommandLine.{AsksFor, IsTaskOf, IsNoTaskOf, IsTaskIn, IsMakeTaskIn, IsServiceIn, IsServingIn, IsLogBeside, IsLogIn, IsSourceIn, IsFlagIn, IsGiven, IsWorkIn, HasJobs};
+ghost use Rattle.bt_words.specs.CommandLine.{AsksFor, IsTaskOf, IsNoTaskOf, IsTaskIn, IsMakeTaskIn, IsServiceIn, IsServingIn, IsLogBeside, IsLogIn, IsSourceIn, IsFlagIn, IsGiven, IsWorkIn, HasJobs, HasNumber};
 ghost use Rattle.bt_words.specs.CommandLineSteps.{AreWordsOf, IsRefusalFor, TellsOf};
 ghost use Rattle.bt_words.specs.Subcommands.{program_app};
 ghost use Rattle.bt_words.specs.Values.{IsPeerWord};
@@ -87,13 +87,15 @@ pub struct SeedTask<'a> {
     pub verbose: bool,
 }
 
-/// The torrent whose files are fetched, the folder that they are put in, and the peers, to be tried in turn: one
-/// at least.
+/// The torrent whose files are fetched, the folder that they are put in, and the peers, to be tried in turn or at once:
+/// one at least.
 #[derive(Drop)]
 pub struct FetchTask<'a> {
     pub torrent: Source<'a>,
     pub dir: &'a str,
     pub peers: Vec<Peer<'a>>,
+    /// Whether peers are fetched from at once, up to 64 of them, and not one after the other.
+    pub is_together: bool,
     /// The file of the log, where there is to be one.
     pub log: Option<&'a str>,
     /// Whether a call that fails is told of.
@@ -482,6 +484,7 @@ fn fetch_task<'a>(alloc: Global, matches: &ArgMatches<'a>) -> Result<Task<'a>, R
     let torrent = source_of(matches)?;
     let dir = word_of(matches, "DIR")?;
     let verbose = has_flag(matches, "verbose");
+    let is_together = is_given(matches, "together");
     let log = log_in(matches);
     let words = words_of(matches, "PEER")?;
     let peers = peers_of(alloc, words)?;
@@ -489,6 +492,7 @@ fn fetch_task<'a>(alloc: Global, matches: &ArgMatches<'a>) -> Result<Task<'a>, R
         torrent,
         dir,
         peers,
+        is_together,
         log,
         verbose,
     }))
@@ -557,7 +561,7 @@ fn serving_of<'a>(matches: &ArgMatches<'a>) -> Result<Serving, Refusal<'a>>
                 return Err(Refusal::Value(Mistake::missing(SERVING_WANTED)));
             }
             match number_in(digits) {
-                Some(count) => Ok(Serving::Count(count)),
+                Some(count) => Ok(serving_by(matches, count)),
                 None => Err(Refusal::Value(Mistake::of_option("--serve ", digits, COUNT_WANTED))),
             }
         }
@@ -567,6 +571,19 @@ fn serving_of<'a>(matches: &ArgMatches<'a>) -> Result<Serving, Refusal<'a>>
             }
             Err(Refusal::Value(Mistake::missing(SERVING_WANTED)))
         }
+    }
+}
+
+/// How `count` connections are served: one after the other, or some at once.
+fn serving_by(matches: &ArgMatches<'_>, count: u32) -> Serving
+    requires count { HasNumber 32 (rows_of (found_of matches.now)) (codes "serve") count }
+    requires ends { ¬ IsGiven (codes "forever") (rows_of (found_of matches.now)) }
+    ensures { IsServingIn (rows_of (found_of matches.now)) result }
+{
+    if is_given(matches, "together") {
+        Serving::Together(count)
+    } else {
+        Serving::Count(count)
     }
 }
 

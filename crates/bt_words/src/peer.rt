@@ -8,12 +8,14 @@ pub struct Peer<'a> {
     pub port: u16,
 }
 
-/// How many connections are served, one after the other.
+/// How many connections are served, and how many of them at once.
 #[derive(Clone, Copy, Debug, PartialEq, Eq)]
 pub enum Serving {
-    /// This many.
+    /// This many, one after the other.
     Count(u32),
-    /// All that come, until the program is ended.
+    /// This many, up to 64 of them at once.
+    Together(u32),
+    /// All that come, up to 64 of them at once, until the program is ended.
     Forever,
 }
 

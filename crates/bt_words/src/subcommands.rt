@@ -105,13 +105,19 @@ const PART: Word<'static> = Word {
 const SERVE: Word<'static> = Word {
     id: "serve",
     kind: Kind::Value("N"),
-    help: "How many connections are served: this or --forever is needed",
+    help: "How many connections are served, one after the other: this or --forever is needed",
 };
 
 const FOREVER: Word<'static> = Word {
     id: "forever",
     kind: Kind::Flag,
-    help: "In place of --serve: all connections that come are served, until the program is ended",
+    help: "In place of --serve: all connections that come are served, up to 64 at once, until the program is ended",
+};
+
+const SERVE_TOGETHER: Word<'static> = Word {
+    id: "together",
+    kind: Kind::Flag,
+    help: "With --serve: up to 64 connections are served at once, as they are with --forever",
 };
 
 const LISTEN: Word<'static> = Word {
@@ -150,6 +156,12 @@ const PEERS: Word<'static> = Word {
     help: "A peer as HOST:PORT, a name or an address before the last colon",
 };
 
+const FETCH_TOGETHER: Word<'static> = Word {
+    id: "together",
+    kind: Kind::Flag,
+    help: "Up to 64 peers are fetched from at once, and not one after the other; of more, the next is dialled as one goes",
+};
+
 /// A command: its name, what it is for, and its words.
 #[derive(Clone, Copy)]
 struct Subcommand<'a> {
@@ -176,15 +188,33 @@ const SUBCOMMANDS: &[Subcommand<'static>] = &[
     },
     Subcommand {
         name: "seed",
-        about: "Serves the files of a folder to peers that connect, one after the other, and takes what is missing from them, unless with --read-only",
+        about: "Serves the files of a folder to peers that connect, and takes what is missing from them, unless with --read-only",
         words: &[
-            TORRENT, DIR, SERVE, FOREVER, LISTEN, PORT, READ_ONLY, LOG, INFO, VERBOSE,
+            TORRENT,
+            DIR,
+            SERVE,
+            FOREVER,
+            SERVE_TOGETHER,
+            LISTEN,
+            PORT,
+            READ_ONLY,
+            LOG,
+            INFO,
+            VERBOSE,
         ],
     },
     Subcommand {
         name: "fetch",
-        about: "Fetches the files of a torrent from peers, which are tried in turn, and prints the report",
-        words: &[TORRENT, FETCH_DIR, PEERS, LOG, INFO, VERBOSE],
+        about: "Fetches the files of a torrent from peers, which are tried in turn, or with --together at once, and prints the report",
+        words: &[
+            TORRENT,
+            FETCH_DIR,
+            PEERS,
+            FETCH_TOGETHER,
+            LOG,
+            INFO,
+            VERBOSE,
+        ],
     },
     Subcommand {
         name: "replay",

@@ -47,6 +47,7 @@ returns-clause-task c = (
     words = map (λ word. word.now) c.in_ok-words.words.now;
     given = c.in_ok-words.ensures.words;
     peers = c.in_ok-peers.ensures.peers;
+    together = c.is_given-is_together.ensures;
     log = c.log_in-log.ensures;
     verbose = c.has_flag-verbose.ensures;
   },

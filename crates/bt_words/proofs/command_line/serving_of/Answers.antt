@@ -17,16 +17,18 @@ returns-then-is_forever-2-clause-serving c = (
   c.is_given-is_forever.ensures.0 c.if-is_forever-2.true,
 )
 
-pub returns-in-Some-number_in-clause-serving : goal.returns-in-Some-number_in-clause-serving
-returns-in-Some-number_in-clause-serving c =
-    let found = found_of c.args.matches.now in (
-      record {
-        text = c.in-Some.digits.now;
-        given = word_some found (codes "serve") c.get_str.result c.in-Some.digits c.get_str.ensures c.in-Some.is;
-        number = c.in-Some-number_in.ensures.some;
-      },
-      not_so c.is_given-is_forever.result (IsGiven (codes "forever") (rows_of found)) c.is_given-is_forever.ensures c.if-is_forever.false,
-    )
+pub serving_by-requires-clause-count : goal.serving_by-requires-clause-count
+serving_by-requires-clause-count c =
+    let found = found_of c.args.matches.now in
+    record {
+      text = c.in-Some.digits.now;
+      given = word_some found (codes "serve") c.get_str.result c.in-Some.digits c.get_str.ensures c.in-Some.is;
+      number = c.in-Some-number_in.ensures.some;
+    }
+
+pub serving_by-requires-clause-ends : goal.serving_by-requires-clause-ends
+serving_by-requires-clause-ends c =
+    not_so c.is_given-is_forever.result (IsGiven (codes "forever") (rows_of (found_of c.args.matches.now))) c.is_given-is_forever.ensures c.if-is_forever.false
 
 pub returns-in-None-number_in-clause-refused : goal.returns-in-None-number_in-clause-refused
 returns-in-None-number_in-clause-refused c =
