@@ -23,7 +23,7 @@ use bt_check::{Fault, OPEN_FILES, data_path, fault_name, told};
 use bt_devices::{ReadAheadDisk, SealedDisk, Watched};
 use bt_disk::{DeviceFault, FileDisk, HandlePool, Opening, PooledDisk};
 use bt_folder::{KnownFiles, Lookup};
-use bt_log_file::{GaplessDisk, TouchedDisk};
+use bt_log_file::{GaplessDisk, Place, TouchedDisk};
 use bt_meta::FileEntry;
 use bt_progress::{FileCall, Watch};
 use std::alloc::{AllocError, Global};
@@ -34,7 +34,7 @@ use std::rt::Files;
 /// writes, rings where a write fails, and tells of its calls.
 pub type DataDisk<'a, R, P> = Watched<
     'a,
-    SealedDisk<'a, ReadAheadDisk<'a, GaplessDisk<TouchedDisk<R>>>>,
+    SealedDisk<'a, ReadAheadDisk<'a, GaplessDisk<TouchedDisk<'a, R, P>>>>,
     P,
 >;
 
@@ -177,7 +177,7 @@ fn push_some<T: Drop>(items: &mut Vec<T>, item: Option<T>) -> Result<(), AllocEr
 
 /// The file of an entry, which has no device where it is empty. It is made where it is missing, but for a read-only
 /// use.
-fn open_entry<'a, R: Files + AllocGlobal + Drop, P: Watch>(
+fn open_entry<'a, R: Files + AllocGlobal + Clone + Drop + Lookup, P: Watch>(
     rt: &R,
     watch: &'a P,
     context: DeviceContext<'a>,
@@ -203,12 +203,12 @@ fn open_entry<'a, R: Files + AllocGlobal + Drop, P: Watch>(
             is_filled: false,
         });
     }
-    open_device(rt.alloc(), watch, context, pool, path)
+    open_device(rt, watch, context, pool, path)
 }
 
 /// The next device of a pool, of a file that is opened for a use, which is read ahead, and tells of its calls.
-fn open_device<'a, R: Files + Drop, P: Watch>(
-    alloc: Global,
+fn open_device<'a, R: Files + AllocGlobal + Clone + Drop + Lookup, P: Watch>(
+    rt: &R,
     watch: &'a P,
     context: DeviceContext<'a>,
     pool: &mut HandlePool<R>,
@@ -223,11 +223,13 @@ fn open_device<'a, R: Files + Drop, P: Watch>(
         IfSome file.disk (λ disk. identity_of disk ≡ file.opening.identity)) }
     ensures fault { IfErr result IsCallFault }
 {
-    let name = fault_name(alloc, watch, path.as_path().as_str())?;
+    let name = fault_name(rt.alloc(), watch, path.as_path().as_str())?;
+    let place = Place::new(rt, watch, path.as_path().as_str());
     match pooled(pool, context.usage, path.into_string()) {
         Ok(file) => {
             let opening = file.opening();
-            let disk = Watched::with_alarm(device_of(context, file), watch, name, context.alarm);
+            let disk = device_of(context, file, place);
+            let disk = Watched::with_alarm(disk, watch, name, context.alarm);
             Ok(OpenFile {
                 disk: Some(disk),
                 opening,
@@ -256,16 +258,17 @@ fn pooled<R: Files + Drop>(
 
 /// A file as a device that is read ahead, and is closed to writes: with its seal, or at once. By its use it is synced
 /// also where nothing was read or written.
-fn device_of<'a, R: Files + Drop>(
+fn device_of<'a, R: Files + AllocGlobal + Clone + Drop + Lookup, P: Watch>(
     context: DeviceContext<'a>,
     file: PooledDisk<R>,
-) -> SealedDisk<'a, ReadAheadDisk<'a, GaplessDisk<TouchedDisk<R>>>>
+    place: Option<Place<'a, R, P>>,
+) -> SealedDisk<'a, ReadAheadDisk<'a, GaplessDisk<TouchedDisk<'a, R, P>>>>
     ensures inner { let touched = is_touched_at_first context.entry.usage
         in result.inner ≡ new_ahead (new_gapless (new_touched file touched) false) }
     ensures is_sealed { result.is_sealed ≡ is_read_only context.entry.usage }
     ensures refused { result.refused ≡ 0 }
 {
-    let file = TouchedDisk::new(file, context.usage.is_touched_at_first());
+    let file = TouchedDisk::new(file, context.usage.is_touched_at_first(), place);
     let ahead = ReadAheadDisk::new(GaplessDisk::new(file, false), context.digests);
     if context.usage.is_read_only() {
         SealedDisk::closed(ahead, context.seal)

@@ -1,7 +1,8 @@
-//! Hints on what lies in the folder of a torrent's files.
+//! Hints on what lies in the folder of a torrent's files, and on the file of a log. Where memory is short, nothing is
+//! told; no clause says what is.
 
 use crate::file_use::FileUse;
-use bt_check::data_path;
+use bt_check::{Fault, data_path};
 use bt_folder::{Lookup, or_dot};
 use bt_meta::{FileEntry, Torrent};
 use bt_progress::Watch;
@@ -85,4 +86,63 @@ fn longer_text(alloc: Global, dir: &str, entry: &FileEntry) -> Result<String, Al
     let path = data_path(alloc, dir, &entry.path)?;
     let name = path.as_path().as_str();
     format!(in alloc; "{name} is longer than the torrent says")
+}
+
+/// At a terminal, and where that was asked for, tells of a log that is refused which file it is in; and where that is one
+/// of the torrent's, which of them, if a look shows it.
+pub(crate) fn hint_at_log<T, R: Files + AllocGlobal + Clone + Drop + Lookup, P: Watch>(
+    rt: &R,
+    watch: &P,
+    dir: &str,
+    torrent: &Torrent,
+    path: &str,
+    outcome: &Result<T, Fault>,
+) {
+    if let Err(fault) = outcome
+        && watch.is_verbose()
+    {
+        if let Ok(Some(text)) = log_text(rt, dir, torrent, path, *fault) {
+            watch.hint(text.as_str());
+        }
+    }
+}
+
+/// What is told of a log that is refused: nothing of one that is not, but could not be opened.
+fn log_text<R: Files + AllocGlobal + Clone + Drop + Lookup>(
+    rt: &R,
+    dir: &str,
+    torrent: &Torrent,
+    path: &str,
+    fault: Fault,
+) -> Result<Option<String>, AllocError> {
+    let alloc = rt.alloc();
+    let text = match fault {
+        Fault::LogAmongFiles => match file_at(rt, dir, torrent, path)? {
+            Some(file) => format!(in alloc; "{path} is the torrent's file {file}")?,
+            None => format!(in alloc; "{path} is one of the torrent's files")?,
+        },
+        Fault::OtherTorrent => {
+            format!(in alloc; "{path} is the log of another torrent, or no log")?
+        }
+        Fault::LogTooLong => format!(in alloc; "{path} is longer than any log")?,
+        _ => return Ok(None),
+    };
+    Ok(Some(text))
+}
+
+/// The path of a torrent's file that a look shows to be the one at a path.
+fn file_at<R: Files + AllocGlobal + Clone + Drop + Lookup>(
+    rt: &R,
+    dir: &str,
+    torrent: &Torrent,
+    path: &str,
+) -> Result<Option<String>, AllocError> {
+    let found = rt.identity_at(path);
+    for file in torrent.files() {
+        let data = data_path(rt.alloc(), dir, &file.path)?;
+        if found.is_some() && rt.identity_at(data.as_path().as_str()) == found {
+            return Ok(Some(data.into_string()));
+        }
+    }
+    Ok(None)
 }

@@ -57,7 +57,7 @@ pub(crate) fn open_store<'a, R: Files + AllocGlobal + Clone + Drop + Lookup, P: 
         → AreOwnPaths (R.lists rt.now) dir.now torrent.files) }
     ensures fault { IfErr result (IsOpenFault context.entry.usage torrent log.entry) }
 {
-    look_at_log(rt, dir, &torrent, log)?;
+    look_at_log(rt, watch, dir, &torrent, log)?;
     hint_at_absence(rt, watch, context.usage, dir, &torrent);
     let mut files = open_files(rt, watch, context, dir, torrent.files(), log)?;
     let attached = open_log_at(rt, watch, context, &mut files.known, dir, &torrent, log)?;

@@ -1,14 +1,18 @@
 //! The log of a store, where it is to have one.
 ghost use Rattle.std.specs.Prelude.{IfErr, IfOk, OnOk};
+ghost use Rattle.bt_log_file.specs.Keeping.{HasFolderThat, IsKeptFile};
+ghost use Rattle.bt_log_file.specs.Names.{HasFileByName, HasNoFileByName};
+ghost use Rattle.bt_log_file.specs.Opening.{HasFailed, IsCallFaultOf, IsFurtherLog, IsLogFaultBy};
 ghost use Rattle.bt_files.specs.StoreLog.{IsLogApart, IsLogAt, IsLogFaultAt, IsLookFaultBy};
 
 use crate::device_context::DeviceContext;
 use crate::file_use::FileUse;
+use crate::hints::hint_at_log;
 use bt_check::Fault;
 use bt_disk::Disk;
 use bt_engine::Engine;
 use bt_folder::{KnownFiles, Lookup};
-use bt_log_file::{LogContext, LogDisk, open_log, refuse_data_file};
+use bt_log_file::{LogContext, LogDisk, LogFolder, open_log, refuse_data_file};
 use bt_meta::Torrent;
 use bt_progress::Watch;
 use bt_resume::ResumeLog;
@@ -16,8 +20,9 @@ use bt_tree::NodeHash;
 use std::rt::Files;
 
 /// Refuses the file of a log where a look shows that it is one of the torrent's, before any of them is opened or made.
-pub(crate) fn look_at_log<R: Files + AllocGlobal + Clone + Drop + Lookup>(
+pub(crate) fn look_at_log<R: Files + AllocGlobal + Clone + Drop + Lookup, P: Watch>(
     rt: &R,
+    watch: &P,
     dir: &str,
     torrent: &Torrent,
     log: Option<&str>,
@@ -27,7 +32,11 @@ pub(crate) fn look_at_log<R: Files + AllocGlobal + Clone + Drop + Lookup>(
         (IsLookFaultBy (R.tells rt.now) dir.now torrent.now.files log.entry) }
 {
     match log {
-        Some(path) => refuse_data_file(rt, dir, torrent, path),
+        Some(path) => {
+            let outcome = refuse_data_file(rt, dir, torrent, path);
+            hint_at_log(rt, watch, dir, torrent, path, &outcome);
+            outcome
+        }
         None => Ok(()),
     }
 }
@@ -48,11 +57,36 @@ pub(crate) fn open_log_at<'a, R: Files + AllocGlobal + Clone + Drop, P: Watch>(
 {
     match log {
         Some(path) => {
-            let opened = open_log(rt, watch, log_context(context), known, dir, torrent, path)?;
+            let opened = open_or_hint(rt, watch, log_context(context), known, dir, torrent, path)?;
             Ok(Some(opened))
         }
         None => Ok(None),
     }
+}
+
+/// Opens the log of a torrent at a path, as `open_log` does. One that is refused is told of.
+fn open_or_hint<'a, R: Files + AllocGlobal + Clone + Drop + Lookup + LogFolder, P: Watch>(
+    rt: &R,
+    watch: &'a P,
+    context: LogContext<'a>,
+    known: &mut KnownFiles,
+    dir: &str,
+    torrent: &Torrent,
+    path: &str,
+) -> Result<ResumeLog<LogDisk<'a, R, P>>, Fault>
+    ensures log { IfOk result (IsFurtherLog known.old torrent.now path.now known.new) }
+    ensures own_name { OnOk result (HasNoFileByName
+        (R.tells rt.now) (R.lists rt.now) dir.now torrent.now.files path.now) }
+    ensures kept { OnOk result (IsKeptFile (R.opens rt.now) (R.leads rt.now) (R.keeps rt.now) path.now) }
+    ensures fault { let failed = HasFailed (R.refuses rt.now) (R.lists rt.now) path.now
+        in let lost = HasFolderThat (R.leads rt.now) (R.loses rt.now) path.now
+        in let named = HasFileByName (R.tells rt.now) (R.lists rt.now) dir.now torrent.now.files path.now
+        in let own = HasNoFileByName (R.tells rt.now) (R.lists rt.now) dir.now torrent.now.files path.now
+        in IfErr result (IsLogFaultBy (IsCallFaultOf failed lost) named own known.old torrent.now path.now) }
+{
+    let outcome = open_log(rt, watch, context, known, dir, torrent, path);
+    hint_at_log(rt, watch, dir, torrent, path, &outcome);
+    outcome
 }
 
 /// What a log's device shares with what is outside of it.

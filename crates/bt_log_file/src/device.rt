@@ -9,10 +9,12 @@ ghost use Rattle.bt_log_file.specs.Opening.{IsCallFaultBy};
 
 use crate::gapless_disk::GaplessDisk;
 use crate::log_folder::{LogFolder, OpenedLog};
+use crate::place::Place;
 use crate::touched_disk::TouchedDisk;
 use bt_check::{Fault, fault_name, told};
 use bt_devices::{Alarm, DigestCache, ReadAheadDisk, Seal, SealedDisk, Watched};
 use bt_disk::PooledDisk;
+use bt_folder::Lookup;
 use bt_progress::{FileCall, Watch};
 use std::cell::RefCell;
 use std::rt::Files;
@@ -22,7 +24,7 @@ use std::rt::Files;
 /// blocks are read ahead, and a log is mostly read by greater parts, so hardly anything of a log is.
 pub type LogDisk<'a, R, P> = Watched<
     'a,
-    SealedDisk<'a, ReadAheadDisk<'a, GaplessDisk<TouchedDisk<R>>>>,
+    SealedDisk<'a, ReadAheadDisk<'a, GaplessDisk<TouchedDisk<'a, R, P>>>>,
     P,
 >;
 
@@ -64,7 +66,8 @@ pub(crate) fn open_device<'a, 'p, R: LogFolder, P: Watch>(
         disk,
         opening,
     } = opened;
-    let disk = Watched::with_alarm(device_of(context, disk), watch, name, context.alarm);
+    let disk = device_of(context, disk, Place::new(rt, watch, path));
+    let disk = Watched::with_alarm(disk, watch, name, context.alarm);
     Ok(OpenedLog {
         path,
         disk,
@@ -73,12 +76,13 @@ pub(crate) fn open_device<'a, 'p, R: LogFolder, P: Watch>(
 }
 
 /// A file as a device that is written without gaps, until the log's seal is closed, and counts as touched.
-fn device_of<'a, R: Files + Drop>(
+fn device_of<'a, R: Files + AllocGlobal + Clone + Drop + Lookup, P: Watch>(
     context: LogContext<'a>,
     file: PooledDisk<R>,
-) -> SealedDisk<'a, ReadAheadDisk<'a, GaplessDisk<TouchedDisk<R>>>>
+    place: Option<Place<'a, R, P>>,
+) -> SealedDisk<'a, ReadAheadDisk<'a, GaplessDisk<TouchedDisk<'a, R, P>>>>
     ensures { result ≡ new_sealed (new_ahead (new_gapless (new_touched file true) true)) }
 {
-    let file = GaplessDisk::new(TouchedDisk::new(file, true), true);
+    let file = GaplessDisk::new(TouchedDisk::new(file, true, place), true);
     SealedDisk::new(ReadAheadDisk::new(file, context.digests), context.seal)
 }

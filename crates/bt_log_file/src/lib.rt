@@ -11,6 +11,7 @@ mod looking;
 mod names;
 mod opening;
 mod other_files;
+mod place;
 mod touched_disk;
 
 pub use device::{LogContext, LogDisk};
@@ -18,4 +19,5 @@ pub use gapless_disk::GaplessDisk;
 pub use log_folder::LogFolder;
 pub use looking::{is_data_file, refuse_data_file};
 pub use opening::open_log;
+pub use place::Place;
 pub use touched_disk::TouchedDisk;

@@ -2,7 +2,10 @@
 ghost use Rattle.std.specs.Prelude.{◌≡◌};
 ghost use Rattle.bt_log_file.specs.TouchedDisk.{new_touched};
 
+use crate::place::Place;
 use bt_disk::{DeviceFault, Disk, PooledDisk};
+use bt_folder::Lookup;
+use bt_progress::Watch;
 use std::marker::Model;
 use std::rt::Files;
 
@@ -11,14 +14,19 @@ use std::rt::Files;
 ///
 /// So, where a log tells which blocks of a file are there, and each of these is read as the engine starts, a file is
 /// synced of which blocks count, and no other is opened.
+///
+/// Where a place is given, it is looked at with each sync, whether its name leads to the file still: what is told of the
+/// file is told of the one that was opened.
 #[derive(Drop)]
-pub struct TouchedDisk<R: Files + Drop> {
+pub struct TouchedDisk<'a, R: Files + Drop, P> {
     file: PooledDisk<R>,
     /// All that was found in the file is to be kept, or something that was written.
     is_touched: bool,
+    /// None, where nothing is told of it, or it was told already.
+    place: Option<Place<'a, R, P>>,
 }
 
-impl<R: Files + Drop> Model for TouchedDisk<R> {
+impl<'a, R: Files + Drop, P> Model for TouchedDisk<'a, R, P> {
     ghost use Rattle.bt_log_file.specs.TouchedDisk.{TouchedView};
 
     ghost Value = { TouchedView };
@@ -26,16 +34,33 @@ impl<R: Files + Drop> Model for TouchedDisk<R> {
     ghost view = { λ d. record { file = d.file; is_touched = d.is_touched } };
 }
 
-impl<R: Files + Drop> TouchedDisk<R> {
-    /// A file that is touched already, or is not yet.
-    pub fn new(file: PooledDisk<R>, is_touched: bool) -> Self
+impl<'a, R: Files + Drop, P> TouchedDisk<'a, R, P> {
+    /// A file that is touched already, or is not yet, and the place where it lies, if that is to be looked at.
+    pub fn new(file: PooledDisk<R>, is_touched: bool, place: Option<Place<'a, R, P>>) -> Self
         ensures { result ≡ new_touched file is_touched }
     {
-        TouchedDisk { file, is_touched }
+        TouchedDisk {
+            file,
+            is_touched,
+            place,
+        }
     }
 }
 
-impl<R: Files + Drop> Disk for TouchedDisk<R> {
+impl<'a, R: Files + AllocGlobal + Clone + Drop + Lookup, P: Watch> TouchedDisk<'a, R, P> {
+    /// Looks whether the file's name leads to it still.
+    fn look_at_place(&mut self)
+        ensures { self.new ≡ self.old }
+    {
+        if let Some(identity) = self.file.opening().identity
+            && let Some(place) = self.place.take()
+        {
+            self.place = place.looked_at(identity);
+        }
+    }
+}
+
+impl<'a, R: Files + AllocGlobal + Clone + Drop + Lookup, P: Watch> Disk for TouchedDisk<'a, R, P> {
     ghost use Rattle.std.specs.Prelude.{[], ◌≡◌, ◌↔◌, ◌≤◌, Ok, OnOk, IfOk, true, false, length};
     ghost use Rattle.bt_disk.specs.Limits.{count_after};
     ghost use Rattle.bt_disk.specs.History.{new_history};
@@ -97,6 +122,7 @@ impl<R: Files + Drop> Disk for TouchedDisk<R> {
         ensures as_honest { ⊥ ↔ ⊥ }
         ensures answered { ⊥ → IsAnswered (new_history []) (sync_call result) (new_history []) }
     {
+        self.look_at_place();
         if !self.is_touched {
             return Ok(());
         }

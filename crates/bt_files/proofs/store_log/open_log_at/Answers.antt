@@ -6,7 +6,7 @@ use Rattle.bt_files.proofs.store_log.open_log_at.Goals as goal
 
 pub returns-in_ok-opened-in-Some-clause-log : goal.returns-in_ok-opened-in-Some-clause-log
 returns-in_ok-opened-in-Some-clause-log g c =
-    subst (λ log. IsLogAt c.args.known.now c.args.torrent.now log c.open_log.new.known (Some c.in_ok-opened-in-Some.opened)) (sym c.in-Some.is)
+    subst (λ log. IsLogAt c.args.known.now c.args.torrent.now log c.open_or_hint.new.known (Some c.in_ok-opened-in-Some.opened)) (sym c.in-Some.is)
     c.in_ok-opened-in-Some.ensures.log
 
 pub returns-in_err-opened-in-Some-clause-fault : goal.returns-in_err-opened-in-Some-clause-fault
