@@ -1,7 +1,9 @@
 //! The command `make`.
-ghost use Rattle.std.specs.Prelude.{◌≡◌, ◌≤◌, ◌<◌, ◌↔◌, ◌⊎◌, ◌+◌, [], None, length, map, string_bytes, IfOk, IfErr, OnOk, IsErrAnd, IsTrue};
+ghost use Rattle.std.specs.Prelude.{◌≡◌, ◌≤◌, ◌<◌, ◌↔◌, ◌⊎◌, ◌+◌, [], None, false, length, map, string_bytes, IfOk, IfErr, OnOk, IsErrAnd, IsTrue};
 ghost use Rattle.std.specs.Result.{result_err};
 ghost use Rattle.bt_meta.specs.Files.{piece_count};
+ghost use Rattle.bt_meta.specs.GivenFiles.{given_of};
+ghost use Rattle.bt_meta.specs.Writer.{IsInfohashOf, IsMade, IsNotMade, have_overlap};
 ghost use Rattle.bt_make.specs.Limits.{count_refusal};
 ghost use Rattle.std.specs.List.{All};
 ghost use Rattle.bt_tree.specs.TreeShape.{IsPieceLength};
@@ -17,7 +19,10 @@ ghost use Rattle.bt_make.specs.CommandSteps.{AddsFile, AreOfSomeBytes, IsFileRef
 use crate::atomic_file::probe_file;
 use crate::device_call::of_device;
 use crate::folder::{EntryKind, FolderEntry, files_in, follow};
-use crate::hints::{hint_at_file, hint_at_left_out, hint_at_length, hint_at_limit, hint_at_name};
+use crate::hints::{
+    hint_at_change, hint_at_conflict, hint_at_file, hint_at_left_out, hint_at_length,
+    hint_at_limit, hint_at_name,
+};
 use crate::limits::Counts;
 use crate::new_torrent::NewTorrent;
 use bt_check::{
@@ -25,7 +30,7 @@ use bt_check::{
     told,
 };
 use bt_devices::Watched;
-use bt_meta::{Made, MakeError, make_torrent, torrents_are_made_from_files};
+use bt_meta::{Made, MadeTorrent, MakeError, make_torrent, torrents_are_made_from_files};
 use bt_progress::{FileCall, Watch};
 use bt_words::MakeTask;
 use std::alloc::{AllocError, Global};
@@ -188,12 +193,32 @@ fn torrent_of<R: Files + AllocGlobal, P: Watch>(
         probe_file(rt, watch, out)?;
     }
     let files = read_files(rt, watch, dir, files, size)?;
-    let made = make_torrent(alloc, name.as_bytes(), size.bytes, &files)?;
+    let made = torrent_with(alloc, watch, dir, name.as_bytes(), size.bytes, &files)?;
     let infohash = made.infohash;
     Ok(NewTorrent {
         text: made.text,
         infohash,
     })
+}
+
+/// The torrent of these files of a folder. Where two of them have one root and other lengths, it is told which they are.
+fn torrent_with<P: Watch>(
+    alloc: Global,
+    watch: &P,
+    dir: &str,
+    name: &[u8],
+    piece_length: u32,
+    files: &[Made],
+) -> Result<MadeTorrent, MakeError>
+    ensures made { IfOk result (λ made.
+        IsMade name.now piece_length (map given_of files.now) made.text.items) }
+    ensures infohash { IfOk result (λ made. IsInfohashOf made.text.items made.infohash) }
+    ensures apart { OnOk result (have_overlap (map given_of files.now) ≡ false) }
+    ensures refused { IfErr result (IsNotMade name.now piece_length (map given_of files.now)) }
+{
+    let outcome = make_torrent(alloc, name, piece_length, files);
+    hint_at_conflict(alloc, watch, dir, files, &outcome);
+    outcome
 }
 
 /// A file of the folder: its path below it, and how many bytes it has.
@@ -354,6 +379,9 @@ fn digests_at<R: Files + AllocGlobal, P: Watch>(
     // No call failed, where the file has another length than it had.
     let failed = is_device_fault(&outcome);
     reader.tell(FileCall::Read, failed);
+    if failed {
+        hint_at_change(rt, watch, path.as_str(), bytes);
+    }
     outcome
 }
 

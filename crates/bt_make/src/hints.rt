@@ -5,9 +5,11 @@ use crate::advice::fitting_length;
 use crate::folder::{EntryKind, FolderEntry, files_in};
 use crate::left_out::LeftOut;
 use bt_check::{Fault, display_name, found_path};
-use bt_meta::{MAX_FILE_LENGTH, MAX_FILES, MAX_PATH_LENGTH, MAX_PIECES, MakeError};
+use bt_meta::{MAX_FILE_LENGTH, MAX_FILES, MAX_PATH_LENGTH, MAX_PIECES, Made, MakeError};
 use bt_progress::Watch;
+use bt_tree::Hash32;
 use std::alloc::{AllocError, Global};
+use std::collections::BTreeMap;
 use std::fs;
 use std::rt::Files;
 
@@ -103,8 +105,7 @@ fn limit_text(
     files: usize,
     length: u64,
 ) -> Result<String, AllocError> {
-    let file = found_path(alloc, dir, path)?;
-    let name = display_name(alloc, file.as_path().as_str().as_bytes())?;
+    let name = shown_path(alloc, dir, path)?;
     if length > MAX_FILE_LENGTH {
         format!(in alloc; "{name} has more than {MAX_FILE_LENGTH} bytes")
     } else if path.len() > MAX_PATH_LENGTH {
@@ -116,6 +117,77 @@ fn limit_text(
             "a torrent has {MAX_PIECES} pieces at most: {name} has more than are left"
         )
     }
+}
+
+/// Where no torrent was made because two files of a folder have one root and other lengths, tells which these are.
+pub fn hint_at_conflict<T, P: Watch>(
+    alloc: Global,
+    watch: &P,
+    dir: &str,
+    files: &[Made],
+    outcome: &Result<T, MakeError>,
+) {
+    if let Err(MakeError::RootConflict) = outcome
+        && watch.is_verbose()
+    {
+        if let Ok(Some((file, other))) = conflict_among(alloc, files)
+            && let Ok(text) = conflict_text(alloc, dir, &file.path, &other.path)
+        {
+            watch.hint(text.as_str());
+        }
+    }
+}
+
+/// The first file that has the root of one before it and another length, behind that one.
+fn conflict_among(alloc: Global, files: &[Made]) -> Result<Option<(&Made, &Made)>, AllocError> {
+    let mut known: BTreeMap<&Hash32, &Made> = BTreeMap::new(alloc);
+    for file in files {
+        match known.get(&&file.root) {
+            Some(other) if other.length != file.length => return Ok(Some((other, file))),
+            Some(_) => {}
+            None => {
+                known.insert(&file.root, file)?;
+            }
+        }
+    }
+    Ok(None)
+}
+
+fn conflict_text(
+    alloc: Global,
+    dir: &str,
+    path: &[String],
+    other: &[String],
+) -> Result<String, AllocError> {
+    let file = shown_path(alloc, dir, path)?;
+    let other = shown_path(alloc, dir, other)?;
+    format!(in alloc; "{other} has the pieces root of {file}, and another length")
+}
+
+/// The path of a file of a folder, as it is printed.
+fn shown_path(alloc: Global, dir: &str, path: &[String]) -> Result<String, AllocError> {
+    let file = found_path(alloc, dir, path)?;
+    display_name(alloc, file.as_path().as_str().as_bytes())
+}
+
+/// Tells that a file of a folder has another length than it had before it was read. Where a call on it failed, that is
+/// told in its place.
+pub fn hint_at_change<R: Files + AllocGlobal, P: Watch>(rt: &R, watch: &P, path: &str, bytes: u64) {
+    if !watch.is_verbose() {
+        return;
+    }
+    if let Ok(metadata) = fs::metadata(rt, path)
+        && metadata.len() != bytes
+    {
+        if let Ok(text) = change_text(rt.alloc(), path, bytes, metadata.len()) {
+            watch.hint(text.as_str());
+        }
+    }
+}
+
+fn change_text(alloc: Global, path: &str, was: u64, is: u64) -> Result<String, AllocError> {
+    let name = display_name(alloc, path.as_bytes())?;
+    format!(in alloc; "{name} had {was} bytes, and has {is} by now")
 }
 
 /// Where no torrent was made because there would be too much of something, or there is no file, tells that, or the
