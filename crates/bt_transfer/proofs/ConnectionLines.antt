@@ -6,8 +6,9 @@ use Rattle.std.proofs.KnownBytes.{Appends-nil, Appends-trans}
 use Rattle.std.proofs.lemmas.Grind.{flat_map-append}
 use Rattle.bt_machine.specs.State.{EngineView}
 use Rattle.bt_session.specs.declared.peer_end.PeerEnd.{PeerEnd}
-use Rattle.bt_transfer.specs.Connections.{HasServed, none_yet, one_more, served_line, served_lines}
+use Rattle.bt_transfer.specs.Connections.{HasServed, none_yet, one_more, served_lines}
 use Rattle.bt_transfer.specs.OverTcp.{Meeting}
+use Rattle.bt_together.specs.ServedLines.{served_line}
 use Rattle.bt_files.proofs.Devices.{enumerate_from-append}
 
 -- the line of one more stands behind those before

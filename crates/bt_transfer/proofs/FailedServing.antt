@@ -1,6 +1,6 @@
 -- Lemmas on a connection, on the flush that comes behind it, and on what fails with that.
-use Rattle.std.proofs.Common.{◌≡◌, ◌⊎◌, inl, inr, ℕ, List, Result, Ok, Err, refl, subst}
-use Rattle.std.specs.Prelude.{Bool, IfErr, IfOk, OnOk, true, false}
+use Rattle.std.proofs.Common.{◌≡◌, ◌⊎◌, inl, inr, ℕ, List, Result, Ok, Err, subst}
+use Rattle.std.specs.Prelude.{IfErr, IfOk, OnOk}
 use Rattle.bt_disk.specs.Conduct.{Conduct}
 use Rattle.bt_check.specs.Fault.{device, log_full, out_of_memory}
 use Rattle.bt_check.specs.declared.fault.Fault.{Fault}
@@ -18,7 +18,7 @@ use Rattle.bt_transfer.specs.FullLog.{FindsLogFull}
 use Rattle.bt_transfer.specs.OverTcp.{MeetsOverTcp}
 use Rattle.bt_transfer.specs.Seed.{FailsToSeed}
 use Rattle.bt_transfer.proofs.EndFaults.{call_not_full}
-use Rattle.bt_transfer.proofs.FullLogs.{flush_full}
+use Rattle.bt_transfer.proofs.FullLogs.{flush_full, full_at_once}
 
 -- what holds anyway holds of success
 pub on_ok : {T E : Type 0} (r : Result T E) (P : Type 0) → P → OnOk r P
@@ -55,7 +55,8 @@ module _ {D : Type 0} (conduct : Conduct D) (dig : List ℕ → List ℕ) where
   -- by a full log
   pub full_seed : (old new : EngineView D) (fault : Fault) → FailsToSeed conduct dig old fault new → fault ≡ log_full → FindsLogFull conduct dig old
   full_seed old new fault (inl unserved) full = absurd (call_not_full fault unserved.1 full)
-  full_seed old new fault (inr fails) full = flush_full conduct dig old fails.mid new fault fails.led fails.ended full
+  full_seed old new fault (inr (inl fails)) full = flush_full conduct dig old fails.mid new fault fails.led fails.ended full
+  full_seed old new fault (inr (inr fails)) full = full_at_once conduct dig old fault fails full
 
 -- why the line of a connection is not written: none was taken, which a device tells, or a call failed
 pub not_told : (met told : Result PeerEnd Fault) → IfErr met (λ fault. fault ≡ device)

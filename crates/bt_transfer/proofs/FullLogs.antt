@@ -1,5 +1,5 @@
 -- Where a full log is told, a flush found it full.
-use Rattle.std.proofs.Common.{◌≡◌, inl, ℕ, Bool, List, Option, Result, Ok, Err}
+use Rattle.std.proofs.Common.{◌≡◌, inl, inr, ℕ, Bool, List, Option, Result, Ok, Err}
 use Rattle.std.specs.Borrow.{Bor}
 use Rattle.sha2.specs.Sha256.{sha256}
 use Rattle.bt_disk.specs.Conduct.{Conduct}
@@ -16,6 +16,7 @@ use Rattle.bt_machine.specs.declared.error.FlushError.TheVariants.{Device, LogFu
 use Rattle.bt_machine.specs.declared.event.Event.TheVariants.{Flush}
 use Rattle.bt_machine.specs.declared.event.Answer.TheVariants.{Flushed}
 use Rattle.bt_engine.specs.Leads.{LeadsTo, both}
+use Rattle.bt_together.specs.Together.{FailsAtOnce}
 use Rattle.bt_transfer.specs.FullLog.{FindsLogFull, HasFilledLog}
 use Rattle.bt_transfer.proofs.EndFaults.{call_not_full}
 
@@ -37,6 +38,12 @@ module _ {D : Type 0} (conduct : Conduct D) (dig : List ℕ → List ℕ) where
       → StepsTo conduct dig mid Flush (Flushed (Err error)) new → fault ≡ flush_fault error → fault ≡ log_full → FindsLogFull conduct dig old
   refused_full old mid new error fault led step told full =
       record { mid = mid; led = led; last = new; full = answered_full mid new (Err error) fault step told full }
+
+  -- by one of many connections at once
+  pub full_at_once : (old : EngineView D) (fault : Fault) → FailsAtOnce conduct dig old fault → fault ≡ log_full → FindsLogFull conduct dig old
+  full_at_once old fault (inl call) full = absurd (call_not_full fault call full)
+  full_at_once old fault (inr refused) full =
+      refused_full old refused.mid refused.last refused.error fault refused.led refused.refused refused.told full
 
   -- behind events that came before
   pub found_later : (old mid : EngineView D) → LeadsTo conduct dig old mid → FindsLogFull conduct dig mid → FindsLogFull conduct dig old

@@ -6,6 +6,7 @@ pub mod Flushes
 pub mod RefusedFlushes
 pub mod EndFaults
 pub mod FullLogs
+pub mod AtOnce
 pub mod FailedServing
 pub mod WholeRuns
 pub mod Uses

@@ -1,5 +1,5 @@
 -- What is said of a peer with streams is said of it by the bytes of these streams.
-use Rattle.std.proofs.Common.{◌≡◌, ℕ, Bool, true, List, Option, Some, None, Result, Ok, Err, refl, sym, subst}
+use Rattle.std.proofs.Common.{◌≡◌, ℕ, Bool, List, Option, Some, None, Result, Ok, Err, refl, sym, subst}
 use Rattle.std.specs.Borrow.{Bor}
 use Rattle.std.specs.Prelude.{⊤, All, IfSome}
 use Rattle.std.proofs.lemmas.List.Elements.{All-map}

@@ -1,5 +1,5 @@
 -- Why a flush among peers in turn is refused, and what leads to it.
-use Rattle.std.proofs.Common.{◌≡◌, ℕ, Bool, true, false, List, Option, Some, None, Result, Ok, Err, refl, subst, sym}
+use Rattle.std.proofs.Common.{◌≡◌, ℕ, Bool, true, false, List, Option, Some, None, Result, Ok, Err, subst, sym}
 use Rattle.std.specs.Prelude.{◌==◌, not}
 use Rattle.bt_disk.specs.Conduct.{Conduct}
 use Rattle.bt_check.specs.Fault.{log_full}

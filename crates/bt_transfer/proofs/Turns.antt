@@ -1,9 +1,9 @@
 -- Peers in turn: what was done so far leads from any rest of the list to the whole.
-use Rattle.std.proofs.Common.{[], ◌≡◌, ◌⊎◌, inl, inr, ℕ, ◌+◌, ◌≤◌, ◌<◌, true, false, Option, List, ◌∷◌, ◌++◌, length, take, drop, set, get_or, replicate, refl, sym, ◌∙◌, ap, subst, arith, suc, zero, add-zero}
-use Rattle.std.specs.Prelude.{All, IfErr, OnOk, Result, Ok, Err}
+use Rattle.std.proofs.Common.{[], ◌≡◌, ◌⊎◌, inl, inr, ℕ, ◌+◌, ◌≤◌, ◌<◌, true, false, Option, List, ◌∷◌, ◌++◌, length, take, drop, set, get_or, replicate, refl, sym, ◌∙◌, ap, subst, arith, suc, zero}
+use Rattle.std.specs.Prelude.{IfErr, OnOk, Result, Ok, Err}
 use Rattle.std.specs.Io.KnownBytes.{Appends}
 use Rattle.std.proofs.KnownBytes.{Appends-trans}
-use Rattle.std.proofs.lemmas.List.{append-nil, append_assoc, take-append-drop, drop_all, drop_more, drop-set-lt, length-append, length-take, take_more, take_more_set, take_all}
+use Rattle.std.proofs.lemmas.List.{append-nil, append_assoc, take-append-drop, drop_all, drop_more, drop-set-lt, length-append, length-take, take_more, take_all}
 use Rattle.bt_check.specs.Fault.{device, out_of_memory}
 use Rattle.bt_check.specs.declared.fault.Fault.{Fault}
 use Rattle.bt_files.specs.OpenFolder.{IsCallFault}
@@ -14,7 +14,7 @@ use Rattle.bt_session.specs.declared.peer_end.PeerEnd.TheVariants.{Untried}
 use Rattle.bt_session.proofs.Turns.{take-set-append}
 use Rattle.bt_transfer.specs.Fetch.{TellsInTurn}
 use Rattle.bt_transfer.specs.FetchSteps.{StopsAmong, ended, unwritten}
-use Rattle.bt_transfer.specs.PeerLines.{peer_lines, peer_text}
+use Rattle.bt_together.specs.PeerLines.{peer_lines, peer_text}
 use Rattle.bt_transfer.specs.Turns.{InTurnOrStopped, Turn}
 use Rattle.bt_transfer.specs.Turns.InTurnOrStopped.{none_left, complete, tried, stopped}
 use Rattle.bt_words.specs.declared.peer.Peer.{Peer}

@@ -19,7 +19,7 @@ use Rattle.bt_machine.proofs.Lists.{and_true, contains_cases, contains_none, ran
 use Rattle.bt_engine.specs.Leads.{LeadsTo, both}
 use Rattle.bt_engine.specs.WholeRuns.{HasWholeRun, WhatLeadsOnIsWhole}
 use Rattle.bt_session.specs.Peer.{IsFlushedWhere}
-use Rattle.bt_transfer.specs.Fetch.{EndsFetch, HasFetchedOverTcp}
+use Rattle.bt_transfer.specs.Fetch.{EndsFetch, Fetches}
 use Rattle.bt_files.specs.Report.{IsCalledComplete}
 use Rattle.bt_transfer.specs.Seed.{EndsSeed, HasListened}
 use Rattle.bt_files.specs.Store.{HasBegun}
@@ -82,10 +82,16 @@ module _ {D : Type 0} (conduct : Conduct D) (dig : List ℕ → List ℕ)
   whole_run = promises torrent given begun.placed attached begun.first last begun.begins (subst (λ (t : Metainfo). IsLawful t.piece_length t.files) begun.same lawful)
       begun.devices (both begun.first old last begun.run leads)
 
-  pub ends_fetch : (peers : List Peer) (log : Option (Bor (List ℕ))) (ready : EngineView D)
-      → IsFlushedWhere conduct dig (is_some log) old (Ok tt) ready → HasFetchedOverTcp conduct dig peers log ready before after status last
-      → EndsFetch begun.begins old peers log before after status
-  ends_fetch peers log ready flushed fetched =
+  -- the status tells whether all files are complete
+  fetched_told : (are_together : Bool) (peers : List Peer) (log : Option (Bor (List ℕ))) (ready : EngineView D)
+      → Fetches conduct dig are_together peers log ready before after status last → status ≡ (if all_complete last.state then 0 else 1)
+  fetched_told false peers log ready fetched = fetched.fetched.end.told
+  fetched_told true peers log ready fetched = fetched.end.told
+
+  pub ends_fetch : (are_together : Bool) (peers : List Peer) (log : Option (Bor (List ℕ))) (ready : EngineView D)
+      → IsFlushedWhere conduct dig (is_some log) old (Ok tt) ready → Fetches conduct dig are_together peers log ready before after status last
+      → EndsFetch begun.begins old are_together peers log before after status
+  ends_fetch are_together peers log ready flushed fetched =
       let found = whole_run in
       let whole = found.promised in record {
         ready = ready;
@@ -97,7 +103,7 @@ module _ {D : Type 0} (conduct : Conduct D) (dig : List ℕ → List ℕ)
         published = λ number file disk called there.
             whole.published number file disk called.listed (called_complete torrent last.state number file called) there;
         complete = λ zero number file listed. whole.complete number file listed
-            (each_complete last.state number (zero_is_complete (all_complete last.state) status fetched.fetched.end.told zero));
+            (each_complete last.state number (zero_is_complete (all_complete last.state) status (fetched_told are_together peers log ready fetched) zero));
       }
 
   pub ends_seed : (service : Service) → HasListened conduct dig service old before after last → status ≡ 0

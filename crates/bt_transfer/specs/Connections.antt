@@ -1,9 +1,7 @@
 -- Connections that are served one after the other.
-use Rattle.std.specs.Prelude.{[], ◌≡◌, ℕ, ◌∷◌, ◌++◌, List, Ok, Option, codes, length}
-use Rattle.std.specs.Fmt.{decimal}
+use Rattle.std.specs.Prelude.{[], ◌≡◌, ℕ, ◌∷◌, ◌++◌, List, Ok, Option, length}
 use Rattle.std.specs.Io.KnownBytes.{Appends}
 use Rattle.std.specs.List.{enumerate_from, flat_map}
-use Rattle.bt_check.specs.Display.{line_text}
 use Rattle.bt_check.specs.declared.fault.Fault.{Fault}
 use Rattle.bt_disk.specs.Conduct.{Conduct}
 use Rattle.bt_files.specs.Store.{FailsWithFlush}
@@ -12,8 +10,8 @@ use Rattle.bt_machine.specs.declared.event.Answer.TheVariants.{Flushed}
 use Rattle.bt_machine.specs.State.{EngineView}
 use Rattle.bt_machine.specs.View.{StepsTo}
 use Rattle.bt_engine.specs.Leads.{LeadsTo}
-use Rattle.bt_session.specs.PeerEnd.{end_text}
 use Rattle.bt_session.specs.declared.peer_end.PeerEnd.{PeerEnd}
+use Rattle.bt_together.specs.ServedLines.{served_line}
 use Rattle.bt_transfer.specs.OverTcp.{Meeting, MeetsOverTcp}
 
 -- One after the other is served.
@@ -31,10 +29,6 @@ pub record FailsToServe {D : Type 0} (conduct : Conduct D)
   pub ended : FailsWithFlush conduct dig mid fault new
 
 -- ---- lines
-
--- the number of a connection, and how it ended
-abbrev pub served_line : ℕ → PeerEnd → List ℕ
-served_line number end = line_text (codes "served " ++ decimal number ++ codes " " ++ end_text end)
 
 -- a line for each; the first has the number 1
 abbrev pub served_lines : List PeerEnd → List ℕ

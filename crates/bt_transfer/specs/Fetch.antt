@@ -1,5 +1,5 @@
 -- What a fetch comes to.
-use Rattle.std.specs.Prelude.{◌≡◌, ℕ, Bool, List, Ok, Option, Some, None, is_some, map, slice_get}
+use Rattle.std.specs.Prelude.{◌≡◌, ℕ, Bool, true, false, List, Ok, Option, Some, None, is_some, map, slice_get}
 use Rattle.std.specs.Borrow.{Bor}
 use Rattle.std.specs.Io.KnownBytes.{Appends}
 use Rattle.bt_disk.specs.Conduct.{Conduct}
@@ -18,8 +18,9 @@ use Rattle.bt_files.specs.DataFiles.{DeviceView}
 use Rattle.bt_files.specs.declared.file_use.FileUse.TheVariants.{Fetch}
 use Rattle.bt_files.specs.Ending.{IsConcluded}
 use Rattle.bt_files.specs.Loading.{IsLoaded}
+use Rattle.bt_transfer.specs.FetchTogether.{HasFetchedTogether}
 use Rattle.bt_transfer.specs.OverTcp.{TriesWithFlushesOverTcp}
-use Rattle.bt_transfer.specs.PeerLines.{peer_lines}
+use Rattle.bt_together.specs.PeerLines.{peer_lines}
 use Rattle.bt_transfer.specs.Turns.{InTurnOrStopped, TriesAndTakesIn, Turns}
 use Rattle.bt_files.specs.Report.{ReportsMarked, ReportsPublished}
 use Rattle.bt_words.specs.declared.peer.Peer.{Peer}
@@ -74,6 +75,15 @@ pub record HasFetchedOverTcp {D : Type 0} (conduct : Conduct D)
   pub fetched : HasFetched (TurnsOverTcp conduct dig log) conduct dig peers
       old (links_of old.state.torrent peers) before after status rest new
 
+-- The peers were fetched from: one after the other, or from all at once.
+abbrev pub Fetches : {D : Type 0} → Conduct D → (List ℕ → List ℕ) → (are_together : Bool) → List Peer
+    → (log : Option (Bor (List ℕ))) → EngineView D → (before after : Option (List ℕ)) → (status : ℕ)
+    → EngineView D → Type 0
+Fetches conduct dig false peers log old before after status new =
+    HasFetchedOverTcp conduct dig peers log old before after status new
+Fetches conduct dig true peers log old before after status new =
+    HasFetchedTogether conduct dig peers old before after status new
+
 -- ---- the whole
 
 -- An engine that began so, with a torrent, and with a log or without, and has come to `old`, was flushed first
@@ -85,12 +95,12 @@ pub record HasFetchedOverTcp {D : Type 0} (conduct : Conduct D)
 pub record EndsFetch {D : Type 0} {conduct : Conduct D}
     {dig : List ℕ → List ℕ} {torrent : Metainfo} {placed : List (Option D)} {attached : Option (LogView D)}
     {first : EngineView D} (begins : BeginsOn conduct dig torrent placed attached first)
-    (old : EngineView D) (peers : List Peer) (log : Option (Bor (List ℕ))) (before after : Option (List ℕ))
-    (status : ℕ) : Type 0 where
+    (old : EngineView D) (are_together : Bool) (peers : List Peer) (log : Option (Bor (List ℕ)))
+    (before after : Option (List ℕ)) (status : ℕ) : Type 0 where
   pub ready : EngineView D
   pub flushed : IsFlushedWhere conduct dig (is_some log) old (Ok tt) ready
   pub last : EngineView D
-  pub fetched : HasFetchedOverTcp conduct dig peers log ready before after status last
+  pub fetched : Fetches conduct dig are_together peers log ready before after status last
   pub whole : HasWholeRun begins last
   pub reported : ReportsMarked begins whole.runs
   pub published : ReportsPublished conduct dig torrent last
@@ -99,8 +109,8 @@ pub record EndsFetch {D : Type 0} {conduct : Conduct D}
 
 -- The store of a torrent of some text was opened in a folder, with a log where the path of one is given, and
 -- the rest was fetched from the peers.
-pub record IsFetch (is_info : Bool) (dir : List ℕ) (peers : List Peer) (log : Option (Bor (List ℕ)))
-    (before after : Option (List ℕ)) (status : ℕ) : Type 0 where
+pub record IsFetch (is_info : Bool) (dir : List ℕ) (are_together : Bool) (peers : List Peer)
+    (log : Option (Bor (List ℕ))) (before after : Option (List ℕ)) (status : ℕ) : Type 0 where
   pub store : EngineView DeviceView
   pub loaded : IsLoaded is_info Fetch dir log store
-  pub ended : EndsFetch loaded.opened.begun.begins store peers log before after status
+  pub ended : EndsFetch loaded.opened.begun.begins store are_together peers log before after status

@@ -1,7 +1,7 @@
-pub mod PeerLines
 pub mod OverTcp
 pub mod Turns
 pub mod Fetch
+pub mod FetchTogether
 pub mod FetchSteps
 pub mod Connections
 pub mod FullLog

@@ -22,22 +22,28 @@ use Rattle.bt_files.specs.declared.file_use.FileUse.TheVariants.{ReadOnly, Seed}
 use Rattle.bt_machine.specs.Report.{all_complete}
 use Rattle.bt_transfer.specs.Connections.{FailsToServe, HasServed, MeetsAndSyncs}
 use Rattle.bt_files.specs.Loading.{IsLoaded}
+use Rattle.bt_together.specs.Together.{FailsAtOnce, HasServedTogether}
 use Rattle.bt_words.specs.declared.peer.Service.{Service}
 use Rattle.bt_words.specs.declared.peer.Serving.{Serving}
-use Rattle.bt_words.specs.declared.peer.Serving.TheVariants.{Count, Forever}
+use Rattle.bt_words.specs.declared.peer.Serving.TheVariants.{Count, Together, Forever}
 
--- how many connections are served: where no count is given, all that can be numbered
-abbrev pub connection_count : Serving → ℕ
-connection_count (Count count) = count
-connection_count Forever = 2 ^ 64 - 1
+-- As many connections were served as is said: one after the other, and after each all devices were synced; or at once.
+-- Where no count is given, they were all that can be numbered.
+abbrev pub Serves : {D : Type 0} → Conduct D → (List ℕ → List ℕ) → Serving → EngineView D
+    → (before after : Option (List ℕ)) → EngineView D → Type 0
+Serves conduct dig (Count count) old before after new =
+    HasServed (MeetsAndSyncs conduct dig) count old before after new
+Serves conduct dig (Together count) old before after new =
+    HasServedTogether conduct dig count old before after new
+Serves conduct dig Forever old before after new =
+    HasServedTogether conduct dig (2 ^ 64 - 1) old before after new
 
--- As many were served as is said, after each all devices were synced, and so they were at the end: also where
--- it was none.
+-- As many were served as is said, and all devices were synced at the end: also where it was none.
 pub record HasServedAll {D : Type 0} (conduct : Conduct D)
     (dig : List ℕ → List ℕ) (serving : Serving) (old : EngineView D) (before after : Option (List ℕ))
     (new : EngineView D) : Type 0 where
   pub mid : EngineView D
-  pub served : HasServed (MeetsAndSyncs conduct dig) (connection_count serving) old before after mid
+  pub served : Serves conduct dig serving old before after mid
   pub synced : StepsTo conduct dig mid Flush (Flushed (Ok tt)) new
 
 -- the port at which connections are waited for
@@ -58,11 +64,17 @@ pub record HasListened {D : Type 0} (conduct : Conduct D)
   pub served : HasServedAll conduct dig service.serving old told after new
   pub asked : IsPortFor service.port port
 
+-- serving fails, one after the other or at once
+abbrev pub FailsServing : {D : Type 0} → Conduct D → (List ℕ → List ℕ)
+    → EngineView D → Fault → EngineView D → Type 0
+FailsServing conduct dig old fault new =
+    FailsToServe conduct dig old fault new ⊎ FailsAtOnce conduct dig old fault
+
 -- a seed fails: before it serves, by a call, and the engine is as it was; or as it serves
 abbrev pub FailsToSeed : {D : Type 0} → Conduct D → (List ℕ → List ℕ)
     → EngineView D → Fault → EngineView D → Type 0
 FailsToSeed conduct dig old fault new =
-    ((new ≡ old) × IsCallFault fault) ⊎ FailsToServe conduct dig old fault new
+    ((new ≡ old) × IsCallFault fault) ⊎ FailsServing conduct dig old fault new
 
 -- An engine that began so, with a torrent, and with a log or without, and has come to `old`, served
 -- connections, and the status is 0. The whole, from its start on, is a run as promised: what it sent was cut

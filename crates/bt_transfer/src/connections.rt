@@ -1,22 +1,24 @@
 //! Connections that are served one after the other, each with its line.
-ghost use Rattle.std.specs.Prelude.{[], ◌≡◌, ◌⊎◌, ◌++◌, Ok, Err, IfErr, IfOk, OnOk, string_bytes};
+ghost use Rattle.std.specs.Prelude.{[], ◌≡◌, ◌⊎◌, Ok, Err, IfErr, IfOk, OnOk};
 ghost use Rattle.std.specs.Io.KnownBytes.{Appends};
 ghost use Rattle.bt_check.specs.Fault.{device, out_of_memory};
 ghost use Rattle.bt_files.specs.Ending.{IsEndFault};
 ghost use Rattle.bt_engine.specs.Leads.{LeadsTo};
-ghost use Rattle.bt_transfer.specs.Connections.{FailsToServe, HasServed, MeetsAndSyncs, served_line};
+ghost use Rattle.bt_transfer.specs.Connections.{FailsToServe, HasServed, MeetsAndSyncs};
 ghost use Rattle.bt_transfer.specs.OverTcp.{MeetsOverTcp};
+ghost use Rattle.bt_together.specs.ServedLines.{served_line};
 
 use crate::reception::Reception;
-use bt_check::{Fault, print};
+use bt_check::Fault;
 use bt_disk::Disk;
 use bt_engine::Engine;
 use bt_files::finish;
 use bt_progress::Watch;
-use bt_session::{PeerEnd, end_text};
+use bt_session::PeerEnd;
 use bt_sockets::{IDLE_SECONDS, serve};
+use bt_together::tell_served;
 use bt_tree::NodeHash;
-use std::alloc::{AllocError, Global};
+use std::alloc::Global;
 use std::io::Write;
 use std::net::Net;
 use std::time::{Clock, Duration};
@@ -69,7 +71,7 @@ fn serve_and_sync<D: Disk + Drop, H: NodeHash, N: Net + Clock, P: Watch, W: Writ
     let met = serve_one(alloc, reception, engine);
     // before the line is written, which may fail, and is waited for where nobody reads it
     let kept = finish(engine);
-    let told = tell_served(alloc, number, met, writer);
+    let told = tell_met(alloc, number, met, writer);
     kept?;
     told
 }
@@ -101,7 +103,7 @@ fn serve_one<D: Disk + Drop, H: NodeHash, N: Net + Clock, P: Watch>(
 
 /// Writes how it ended with the connection of a number, if there was one. Errors: why there was none; the writer
 /// failed; out of memory.
-fn tell_served<W: Write>(
+fn tell_met<W: Write>(
     alloc: Global,
     number: u64,
     met: Result<PeerEnd, Fault>,
@@ -114,17 +116,6 @@ fn tell_served<W: Write>(
         (λ fault. (fault ≡ device) ⊎ (fault ≡ out_of_memory) ⊎ (met ≡ Err fault)) }
 {
     let end = met?;
-    let mut line = String::new(alloc);
-    push_line(&mut line, number, end)?;
-    print(writer, line.as_str())?;
+    tell_served(alloc, number, end, writer)?;
     Ok(end)
-}
-
-/// Adds the line of a connection.
-fn push_line(line: &mut String, number: u64, end: PeerEnd) -> Result<(), AllocError>
-    ensures { OnOk result (string_bytes line.new ≡ string_bytes line.old ++ served_line number end) }
-{
-    use std::fmt::Write;
-    let end = end_text(end);
-    writeln!(line, "served {number} {end}")
 }

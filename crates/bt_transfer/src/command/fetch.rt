@@ -1,4 +1,4 @@
-//! The command `fetch`: peers are tried in turn, and what came of it is told.
+//! The command `fetch`: peers are tried in turn or all at once, and what came of it is told.
 ghost use Rattle.std.specs.Prelude.{[], ◌≡◌, ◌≢◌, ◌⊎◌, All, Bool, Err, List, Option, Ok, is_some, length, IfErr, IfOk, OnOk};
 ghost use Rattle.std.specs.Io.KnownBytes.{Keeps};
 ghost use Rattle.bt_check.specs.Fault.{log_full, status_of};
@@ -7,12 +7,13 @@ ghost use Rattle.bt_files.specs.Loading.{IsLogFull, IsStoreFault};
 ghost use Rattle.bt_files.specs.declared.file_use.FileUse.TheVariants.{Fetch};
 ghost use Rattle.bt_machine.specs.declared.error.FlushError.{FlushError};
 ghost use Rattle.bt_machine.specs.Report.{all_complete};
-ghost use Rattle.bt_meta.specs.Torrent.{Metainfo};
+ghost use Rattle.bt_connection.specs.ShortBlocks.{short_blocks_of};
+ghost use Rattle.bt_meta.specs.Torrent.{Metainfo, total_pieces};
 ghost use Rattle.bt_session.specs.Peer.{IsFlushedWhere};
 ghost use Rattle.bt_session.specs.Peers.{IsTriedWithFlushes};
 ghost use Rattle.bt_resume.specs.ResumeLog.{LogView};
 ghost use Rattle.bt_engine.specs.Leads.{LeadsTo};
-ghost use Rattle.bt_transfer.specs.Fetch.{EndsFetch, HasFetched, HasFetchedOverTcp, IsFetch, TellsInTurn, flush_turns, links_by, links_of};
+ghost use Rattle.bt_transfer.specs.Fetch.{EndsFetch, Fetches, HasFetched, HasFetchedOverTcp, IsFetch, TellsInTurn, flush_turns, links_by, links_of};
 ghost use Rattle.bt_transfer.specs.FetchSteps.{BreaksOff, StopsAmong};
 ghost use Rattle.bt_transfer.specs.FullLog.{FindsLogFull, HasFilledLog};
 ghost use Rattle.bt_transfer.specs.Hearing.{IsHeard};
@@ -20,9 +21,10 @@ ghost use Rattle.bt_transfer.specs.Turns.{InTurnOrStopped, TakesInAndSyncs, Take
 ghost use Rattle.bt_files.specs.Store.{HasBegun, IsFlushFault, IsSameButPending, flush_fault};
 ghost use Rattle.bt_files.specs.Waiting.{StopsAtWaiting};
 
+use crate::command::fetch_together::fetch_together;
 use crate::device_context::device_context;
 use crate::hearing::{Bell, hear};
-use crate::peer_lines::tell_peer;
+use crate::named_peers::NamedPeers;
 use bt_check::{Fault, Source};
 use bt_connection::ShortBlocks;
 use bt_devices::Seal;
@@ -32,6 +34,7 @@ use bt_files::{FileUse, adopt_waiting, begin_fetching, conclude, finish, flush_f
 use bt_progress::Watch;
 use bt_session::{Link, PeerEnd, meet_peer_with_flushes};
 use bt_sockets::{IDLE_SECONDS, Passage, SESSION_TURNS, Shared, TcpLink};
+use bt_together::tell_peer;
 use bt_tree::NodeHash;
 use bt_words::Peer;
 use std::alloc::{AllocError, Global};
@@ -44,15 +47,23 @@ use std::time::{Clock, Duration};
 /// the log, so that little has to come again where the fetch is killed. A turn takes in what one read from the peer
 /// gives, 16 KiB at most: so at most 32 MiB come between two flushes. Each turn may end a small file, which is synced for
 /// itself, and meanwhile the peer waits, who may give up.
-const FLUSH_TURNS: u64 = 2048;
+pub(crate) const FLUSH_TURNS: u64 = 2048;
 
-/// Opens the store of a torrent's files in a folder, as `load_store` does; takes peers in turn until all files are
-/// complete; and reports. Behind each peer it takes in what came without hashes, has all put on the devices, and then
-/// writes how it ended with it. The answer is the status of the program: 0 where all files are complete, else 1.
+/// After how many turns of all together it does so where many are there: in a turn of one of many nine reads are taken
+/// in, 144 KiB at most. It is looked for once in a round, of up to 64 turns, so 227 may have passed: 32 MiB at most.
+pub(crate) const TOGETHER_TURNS: u64 = 164;
+
+/// Opens the store of a torrent's files in a folder, as `load_store` does; fetches from peers until all files are
+/// complete; and reports. The answer is the status of the program: 0 where all files are complete, else 1.
+///
+/// Peers are taken in turn: behind each it takes in what came without hashes, has all put on the devices, and then writes
+/// how it ended with it. Or it fetches from up to 64 at once, the next as one goes: behind all it takes in what came
+/// without hashes, and, where some did and blocks are missing still, dials all once more; then it has all put on the
+/// devices, and writes how it ended with each that was tried, in their order.
 ///
 /// Where the path of a log is given, it has all put on the devices, and what is known of it into the log, also before
-/// the first peer is dialled, and then while it fetches, after each 2,048 turns with a peer, and right after each; also
-/// where it ends with a fault of a file that can't be read.
+/// the first peer is dialled, and then while it fetches, after each 2,048 turns with a peer, or 164 of all together, and
+/// right after each, or after all; also where it ends with a fault of a file that can't be read.
 ///
 /// It is told how much is read of what the files have, and then how much is written of what they lack.
 ///
@@ -67,11 +78,12 @@ pub fn fetch<R: Files + AllocGlobal + Clone + Drop, N: Net + Clock, P: Watch, W:
     watch: &P,
     source: Source<'_>,
     dir: &str,
-    peers: &[Peer<'_>],
+    named: NamedPeers<'_>,
     log: Option<&str>,
     writer: &mut W,
 ) -> Result<u8, Fault>
-    ensures done { IfOk result (λ status. IsFetch source.entry.is_info dir.now peers.now log.entry
+    ensures done { IfOk result (λ status. IsFetch source.entry.is_info dir.now
+        named.entry.are_together named.entry.peers.now log.entry
         (W.contents writer.old) (W.contents writer.new) status) }
     ensures fault { IfErr result (λ fault.
         IsStoreFault source.entry.is_info Fetch log.entry fault ⊎ IsLogFull log.entry fault) }
@@ -85,19 +97,19 @@ pub fn fetch<R: Files + AllocGlobal + Clone + Drop, N: Net + Clock, P: Watch, W:
     let seal = Seal::new();
     let context = device_context(FileUse::Fetch, &shared, &seal, &seal);
     let engine = load_store(rt, watch, context, source, dir, log)?;
-    fetch_store(rt.alloc(), net, watch, engine, &shared, peers, log, writer)
+    fetch_store(rt.alloc(), net, watch, engine, &shared, named, log, writer)
 }
 
-/// Takes peers in turn, over TCP, for an engine that began with a torrent, which it takes, and tells of it as
-/// `fetch_over` does; where the path of its log is given, with a flush before them and flushes among them. What stands
-/// before the sockets goes by that torrent.
+/// Fetches from peers, over TCP, for an engine that began with a torrent, which it takes, and tells of it; where the path
+/// of its log is given, with a flush before them and flushes among them. What stands before the sockets goes by that
+/// torrent.
 fn fetch_store<D: Disk + Drop, H: NodeHash, N: Net + Clock, P: Watch, W: Write>(
     alloc: Global,
     net: &N,
     watch: &P,
     engine: Engine<D, H>,
     shared: &Shared,
-    peers: &[Peer<'_>],
+    named: NamedPeers<'_>,
     log: Option<&str>,
     writer: &mut W,
 ) -> Result<u8, Fault>
@@ -105,7 +117,8 @@ fn fetch_store<D: Disk + Drop, H: NodeHash, N: Net + Clock, P: Watch, W: Write>(
     ensures fetched { (torrent : Metainfo) (given : List D) (attached : Option (LogView D))
         (filled : List Bool)
         (begun : HasBegun D.conduct H.digest torrent given attached filled engine)
-        → IfOk result (λ status. EndsFetch begun.begins engine peers.now log.entry
+        → IfOk result (λ status. EndsFetch begun.begins engine
+        named.entry.are_together named.entry.peers.now log.entry
         (W.contents writer.old) (W.contents writer.new) status) }
     ensures fault { IfErr result (IsEndFault engine.log) }
     ensures full { IfErr result
@@ -124,18 +137,42 @@ fn fetch_store<D: Disk + Drop, H: NodeHash, N: Net + Clock, P: Watch, W: Write>(
         pieces: torrent.pieces(),
         shared,
     };
+    fetch_from_all(alloc, net, watch, &mut engine, named, log, passage, writer)
+}
+
+/// Fetches from peers over TCP, in turn or from all at once, for an engine of a torrent, and tells of it; then it hears
+/// the alarm. Errors: also where that rang, since a device refused a write, and files are not complete.
+fn fetch_from_all<D: Disk + Drop, H: NodeHash, N: Net + Clock, P: Watch, W: Write>(
+    alloc: Global,
+    net: &N,
+    watch: &P,
+    engine: &mut Engine<D, H>,
+    named: NamedPeers<'_>,
+    log: Option<&str>,
+    passage: Passage<'_>,
+    writer: &mut W,
+) -> Result<u8, Fault>
+    requires no_peer { engine.old.state.peers ≡ [] }
+    requires own_short_blocks { passage.short_blocks.now ≡ short_blocks_of engine.old.state.torrent }
+    requires own_pieces { passage.pieces ≡ total_pieces engine.old.state.torrent }
+    ensures fetched { IfOk result (λ status. Fetches D.conduct H.digest
+        named.entry.are_together named.entry.peers.now log.entry
+        engine.old (W.contents writer.old) (W.contents writer.new) status engine.new) }
+    ensures run { LeadsTo D.conduct H.digest engine.old engine.new }
+    ensures fault { IfErr result (IsEndFault engine.old.log) }
+    ensures full { IfErr result
+        (λ fault. fault ≡ log_full → FindsLogFull D.conduct H.digest engine.old) }
+{
+    let peers = named.peers;
+    let bell = &passage.shared.alarm;
+    if named.are_together {
+        let every = together_turns(log);
+        return fetch_together(
+            alloc, net, watch, engine, peers, every, passage, bell, writer,
+        );
+    }
     let mut links = links_to(alloc, net, watch, peers, passage)?;
-    let bell = &shared.alarm;
-    fetch_from(
-        alloc,
-        watch,
-        &mut engine,
-        peers,
-        &mut links,
-        log,
-        bell,
-        writer,
-    )
+    fetch_from(alloc, watch, engine, peers, &mut links, log, bell, writer)
 }
 
 /// Where the path of a log is given, has all put on the devices while no peer waits yet. A file of which the log marks
@@ -167,6 +204,14 @@ fn flush_turns(log: Option<&str>) -> u64
 {
     match log {
         Some(_) => FLUSH_TURNS,
+        None => 0,
+    }
+}
+
+/// After how many turns of all together a fetch from many at once flushes: never, for which 0 stands, without a log.
+fn together_turns(log: Option<&str>) -> u64 {
+    match log {
+        Some(_) => TOGETHER_TURNS,
         None => 0,
     }
 }

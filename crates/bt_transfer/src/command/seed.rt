@@ -11,12 +11,13 @@ ghost use Rattle.bt_meta.specs.Torrent.{Metainfo, total_pieces};
 ghost use Rattle.bt_connection.specs.ShortBlocks.{short_blocks_of};
 ghost use Rattle.bt_resume.specs.ResumeLog.{LogView};
 ghost use Rattle.bt_engine.specs.Leads.{LeadsTo};
-ghost use Rattle.bt_transfer.specs.Connections.{FailsToServe};
 ghost use Rattle.bt_transfer.specs.FullLog.{HasFilledLog};
 ghost use Rattle.bt_transfer.specs.Hearing.{IsHeard};
-ghost use Rattle.bt_transfer.specs.Seed.{EndsSeed, FailsToSeed, HasListened, HasServedAll, IsPortFor, IsSeed, connection_count, listening_line, seed_use};
+ghost use Rattle.bt_transfer.specs.Seed.{EndsSeed, FailsServing, FailsToSeed, HasListened, HasServedAll, IsPortFor, IsSeed, Serves, listening_line, seed_use};
 ghost use Rattle.bt_files.specs.Store.{HasBegun};
 
+use crate::at_once::serve_at_once;
+use crate::command::fetch::TOGETHER_TURNS;
 use crate::connections::serve_each;
 use crate::device_context::device_context;
 use crate::hearing::{Bell, hear};
@@ -38,9 +39,13 @@ use std::rt::Files;
 use std::time::Clock;
 
 /// Opens the store of a torrent's files in a folder, as `load_store` does; listens, and writes at which port;
-/// and serves connections, one after the other, whatever came of those before, each with a line that tells how
-/// it ended. After each, and before its line, all is put on the devices, and what is known of it into the log, where
-/// the path of one is given; so it is at the end, also where none is served. The answer is the program's status, 0.
+/// and serves connections, whatever came of others, each with a line that tells how it ended. The answer is the program's
+/// status, 0.
+///
+/// Where they are served one after the other, all is put on the devices after each, and before its line, and what is known
+/// of it into the log, where the path of one is given. Where up to 64 are served at once, the line of each comes as it
+/// goes, and all is put there as soon as nobody is there any more; with a log also after each 164 turns of all together.
+/// So it is at the end, also where none is served.
 ///
 /// Where all files are complete at first, none is written from then on, but the log is: a session ends in which a block
 /// comes for one of them. Where they are only to be read and are not complete, nothing is served: the report is
@@ -83,10 +88,29 @@ pub fn seed<R: Files + AllocGlobal + Clone + Drop, N: Net + Clock, P: Watch, W: 
     let engine = load_store(rt, watch, context, source, dir, log)?;
     let is_complete = engine.is_complete();
     if is_lacking(service.is_read_only, is_complete) {
-        return report_lack(rt.alloc(), watch, &engine, writer);
+        return report_lack(rt.alloc(), watch, engine, writer);
     }
     close_if_complete(&seal, is_complete);
-    seed_store(rt.alloc(), net, watch, engine, &shared, service, writer)
+    let flush_every = seed_turns(log);
+    seed_store(
+        rt.alloc(),
+        net,
+        watch,
+        engine,
+        &shared,
+        service,
+        flush_every,
+        writer,
+    )
+}
+
+/// After how many turns of all together a seed that serves many at once flushes, though somebody is there: without a log
+/// it never does, for which the greatest number stands.
+fn seed_turns(log: Option<&str>) -> u64 {
+    match log {
+        Some(_) => TOGETHER_TURNS,
+        None => u64::MAX,
+    }
 }
 
 /// What a seed opens its files for.
@@ -115,18 +139,18 @@ fn close_if_complete(seal: &Seal, is_complete: bool) {
     }
 }
 
-/// Reports how far the files are, and tells that nothing is served. The answer is 1.
+/// Reports how far the files of an engine are, which it takes, and tells that nothing is served. The answer is 1.
 fn report_lack<D: Disk + Drop, H: NodeHash, P: Watch, W: Write>(
     alloc: Global,
     watch: &P,
-    engine: &Engine<D, H>,
+    engine: Engine<D, H>,
     writer: &mut W,
 ) -> Result<u8, Fault>
     ensures told { IfOk result (λ status. (status ≡ 1)
-        × Appends (W.contents writer.old) (W.contents writer.new) (engine_report engine.now.state)) }
+        × Appends (W.contents writer.old) (W.contents writer.new) (engine_report engine.state)) }
     ensures fault { IfErr result (λ fault. (fault ≡ device) ⊎ (fault ≡ out_of_memory)) }
 {
-    write_report(alloc, engine, writer)?;
+    write_report(alloc, &engine, writer)?;
     watch.clear();
     watch.tell(
         "not all files are complete here, and with --read-only none is written: nothing is served",
@@ -143,6 +167,7 @@ fn seed_store<D: Disk + Drop, H: NodeHash, N: Net + Clock, P: Watch, W: Write>(
     engine: Engine<D, H>,
     shared: &Shared,
     service: Service<'_>,
+    flush_every: u64,
     writer: &mut W,
 ) -> Result<u8, Fault>
     requires no_peer { engine.state.peers ≡ [] }
@@ -168,7 +193,16 @@ fn seed_store<D: Disk + Drop, H: NodeHash, N: Net + Clock, P: Watch, W: Write>(
         pieces: torrent.pieces(),
         shared,
     };
-    listen_and_serve(alloc, net, watch, &mut engine, passage, service, writer)?;
+    listen_and_serve(
+        alloc,
+        net,
+        watch,
+        &mut engine,
+        passage,
+        service,
+        flush_every,
+        writer,
+    )?;
     Ok(0)
 }
 
@@ -190,6 +224,7 @@ fn listen_and_serve<D: Disk + Drop, H: NodeHash, N: Net + Clock, P: Watch, W: Wr
     engine: &mut Engine<D, H>,
     passage: Passage<'_>,
     service: Service<'_>,
+    flush_every: u64,
     writer: &mut W,
 ) -> Result<(), Fault>
     requires no_peer { engine.old.state.peers ≡ [] }
@@ -212,7 +247,15 @@ fn listen_and_serve<D: Disk + Drop, H: NodeHash, N: Net + Clock, P: Watch, W: Wr
         passage,
     };
     let bell = &passage.shared.alarm;
-    serve_all(alloc, &reception, engine, service.serving, bell, writer)
+    serve_all(
+        alloc,
+        &reception,
+        engine,
+        service.serving,
+        flush_every,
+        bell,
+        writer,
+    )
 }
 
 /// Writes at which port connections are waited for, of a listener that was asked for one.
@@ -262,13 +305,33 @@ fn push_line(line: &mut String, port: u16) -> Result<(), AllocError>
     writeln!(line, "listening {port}")
 }
 
-/// How many connections are served: where no count is given, all that can be numbered.
-fn connection_count(serving: Serving) -> u64
-    ensures { result ≡ connection_count serving }
+/// Serves as many connections as is said, one after the other or at once: where no count is given, all that can be
+/// numbered.
+fn serve_as_said<D: Disk + Drop, H: NodeHash, N: Net + Clock, P: Watch, W: Write>(
+    alloc: Global,
+    reception: &Reception<'_, N, P>,
+    engine: &mut Engine<D, H>,
+    serving: Serving,
+    flush_every: u64,
+    writer: &mut W,
+) -> Result<(), Fault>
+    requires no_peer { engine.old.state.peers ≡ [] }
+    ensures served { OnOk result (Serves D.conduct H.digest serving
+        engine.old (W.contents writer.old) (W.contents writer.new) engine.new) }
+    ensures kept { IfErr result
+        (λ fault. FailsServing D.conduct H.digest engine.old fault engine.new) }
+    ensures run { LeadsTo D.conduct H.digest engine.old engine.new }
+    ensures fault { IfErr result (IsEndFault engine.old.log) }
 {
     match serving {
-        Serving::Count(count) => u64::from(count),
-        Serving::Forever => u64::MAX,
+        Serving::Count(count) => serve_each(alloc, reception, engine, u64::from(count), writer),
+        Serving::Together(count) => {
+            let count = u64::from(count);
+            serve_at_once(alloc, reception, engine, count, flush_every, writer)
+        }
+        Serving::Forever => {
+            serve_at_once(alloc, reception, engine, u64::MAX, flush_every, writer)
+        }
     }
 }
 
@@ -279,6 +342,7 @@ fn serve_all<D: Disk + Drop, H: NodeHash, N: Net + Clock, P: Watch, B: Bell, W: 
     reception: &Reception<'_, N, P>,
     engine: &mut Engine<D, H>,
     serving: Serving,
+    flush_every: u64,
     bell: &B,
     writer: &mut W,
 ) -> Result<(), Fault>
@@ -287,12 +351,11 @@ fn serve_all<D: Disk + Drop, H: NodeHash, N: Net + Clock, P: Watch, B: Bell, W: 
     ensures served { OnOk result (HasServedAll D.conduct H.digest serving
         engine.old (W.contents writer.old) (W.contents writer.new) engine.new) }
     ensures kept { IfErr result
-        (λ fault. FailsToServe D.conduct H.digest engine.old fault engine.new) }
+        (λ fault. FailsServing D.conduct H.digest engine.old fault engine.new) }
     ensures run { LeadsTo D.conduct H.digest engine.old engine.new }
     ensures fault { IfErr result (IsEndFault engine.old.log) }
 {
-    let count = connection_count(serving);
-    serve_each(alloc, reception, engine, count, writer)?;
+    serve_as_said(alloc, reception, engine, serving, flush_every, writer)?;
     // also where there was no connection
     finish(engine)?;
     hear(bell, engine.is_complete())

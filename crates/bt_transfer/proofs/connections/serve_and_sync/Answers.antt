@@ -24,8 +24,8 @@ returns-in_err-kept-clause-fault g c =
 
 pub returns-clause-fault : goal.returns-clause-fault
 returns-clause-fault g c =
-    err_weaker c.tell_served-told.result _ _ (call_ends c.args.engine.now.log)
-    (not_told c.serve_one-met.result c.tell_served-told.result c.serve_one-met.ensures.fault c.tell_served-told.ensures.fault)
+    err_weaker c.tell_met-told.result _ _ (call_ends c.args.engine.now.log)
+    (not_told c.serve_one-met.result c.tell_met-told.result c.serve_one-met.ensures.fault c.tell_met-told.ensures.fault)
 
 pub returns-in_err-kept-clause-kept : goal.returns-in_err-kept-clause-kept
 returns-in_err-kept-clause-kept g c =
@@ -35,15 +35,15 @@ returns-in_err-kept-clause-kept g c =
 
 pub returns-clause-kept : goal.returns-clause-kept
 returns-clause-kept g c =
-    err_weaker c.tell_served-told.result _ _
+    err_weaker c.tell_met-told.result _ _
     (λ fault call. fails_by_call g.D.Disk.conduct g.H.NodeHash.digest c.args.engine.now c.serve_one-met.new.engine c.finish-kept.new.engine fault
     c.serve_one-met.ensures.run c.in_ok-kept.ensures.flushed call)
-    (not_told c.serve_one-met.result c.tell_served-told.result c.serve_one-met.ensures.fault c.tell_served-told.ensures.fault)
+    (not_told c.serve_one-met.result c.tell_met-told.result c.serve_one-met.ensures.fault c.tell_met-told.ensures.fault)
 
 pub returns-clause-served : goal.returns-clause-served
 returns-clause-served g c =
     met_and_synced g.D.Disk.conduct g.H.NodeHash.digest c.args.engine.now c.serve_one-met.new.engine c.finish-kept.new.engine c.serve_one-met.result
-    c.tell_served-told.result c.serve_one-met.ensures.served c.in_ok-kept.ensures.flushed c.tell_served-told.ensures.same
+    c.tell_met-told.result c.serve_one-met.ensures.served c.in_ok-kept.ensures.flushed c.tell_met-told.ensures.same
 
 pub returns-clause-gone : goal.returns-clause-gone
-returns-clause-gone g c = on_ok c.tell_served-told.result _ (ap (λ (s : EngineState). s.peers) c.finish-kept.ensures.same ∙ c.serve_one-met.ensures.gone)
+returns-clause-gone g c = on_ok c.tell_met-told.result _ (ap (λ (s : EngineState). s.peers) c.finish-kept.ensures.same ∙ c.serve_one-met.ensures.gone)

@@ -1,4 +1,4 @@
-use Rattle.std.proofs.Common.{ap, inl, ◌∙◌}
+use Rattle.std.proofs.Common.{inl}
 use Rattle.bt_files.proofs.Faults.{passed_on}
 use Rattle.bt_transfer.proofs.EndFaults.{call_not_full, of_fault}
 use Rattle.bt_transfer.proofs.OverTcp.{fetched_over_tcp, links_undialled}

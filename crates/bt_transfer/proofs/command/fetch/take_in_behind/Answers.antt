@@ -1,4 +1,4 @@
-use Rattle.std.proofs.Common.{refl, sym, subst}
+use Rattle.std.proofs.Common.{sym, subst}
 use Rattle.std.specs.Prelude.{OnOk}
 use Rattle.bt_engine.specs.Leads.{none}
 use Rattle.bt_transfer.specs.Turns.{TakesInBehind}
