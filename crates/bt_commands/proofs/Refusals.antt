@@ -1,5 +1,6 @@
 -- With status 2 nothing was written, but by a script, or where a log was full.
 use Rattle.std.proofs.Common.{◌≡◌, ◌≢◌, ℕ, Bool, true, false, List, Option, inl, inr, refl, sym, subst, ◌∙◌, arith}
+use Rattle.std.specs.Borrow.{Bor}
 use Rattle.std.specs.Prelude.{◌⊎◌, if◌then◌else◌}
 use Rattle.std.specs.Io.KnownBytes.{Keeps}
 use Rattle.std.proofs.lemmas.Bool.Decides.{eqb_tells}
@@ -9,12 +10,14 @@ use Rattle.clap.specs.declared.error.kind.ErrorKind.TheVariants.{DisplayHelp, Di
 use Rattle.bt_check.specs.Fault.{log_full, status_of}
 use Rattle.bt_check.specs.declared.fault.Fault.{Fault}
 use Rattle.bt_check.specs.declared.torrent_file.Source.{Source}
+use Rattle.bt_transfer.specs.Fetch.{IsFetch}
 use Rattle.bt_words.specs.CommandLine.{IsTaskOf}
 use Rattle.bt_words.specs.declared.command_line.SeedTask.{SeedTask}
 use Rattle.bt_words.specs.declared.command_line.Work.{Work}
 use Rattle.bt_words.specs.declared.command_line.Work.TheVariants.{Jobs, Part}
 use Rattle.bt_words.specs.declared.command_line.Task.{Task}
 use Rattle.bt_words.specs.declared.command_line.Task.TheVariants.{Make, Show, Check, Seed, Fetch, Replay}
+use Rattle.bt_words.specs.declared.peer.Peer.{Peer}
 use Rattle.bt_commands.specs.Program.{FillsLog, IsDone, IsExplanation, IsRun, IsSeedResult, IsTaskEnd, IsTaskFault, IsWorkResult, no_task, task_end, task_result}
 use Rattle.bt_commands.proofs.FullLog.{has_log, is_full}
 
@@ -35,13 +38,19 @@ seeded : (task : SeedTask) (old new : Option (List ℕ)) (status : ℕ) → IsSe
 seeded task old new status (inl served) two = omega (arith, served.ended.done, two)
 seeded task old new status (inr lacking) two = omega (arith, lacking.answer, two)
 
+fetched : (is_info : Bool) (dir : List ℕ) (are_together : Bool) (peers : List Peer) (log : Option (Bor (List ℕ))) (old new : Option (List ℕ))
+    (status : ℕ) → IsFetch is_info dir are_together peers log old new status → ¬ (status ≡ 2)
+fetched is_info dir false peers log old new status it two = none_of_both _ status it.ended.fetched.fetched.end.told two
+fetched is_info dir true peers log old new status it two = none_of_both _ status it.ended.fetched.end.told two
+
 -- but for a script its status is another one
 done : (task : Task) (given left old new : Option (List ℕ)) (status : ℕ) → IsDone task given left old new status → task ≢ Replay → ¬ (status ≡ 2)
 done (Make request) given left old new status it other two = omega (arith, it.is.answer, two)
 done (Show task) given left old new status it other two = omega (arith, it.is.answer, two)
 done (Check task) given left old new status it other two = worked task.torrent task.dir.now task.work status it.text it.is two
 done (Seed task) given left old new status it other two = seeded task old new status it two
-done (Fetch task) given left old new status it other two = none_of_both _ status it.ended.fetched.fetched.end.told two
+done (Fetch task) given left old new status it other two =
+    fetched task.torrent.is_info task.dir.now task.is_together task.peers.items task.log old new status it two
 done Replay given left old new status it other two = other refl
 
 -- ---- one that a fault ended

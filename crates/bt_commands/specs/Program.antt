@@ -111,7 +111,7 @@ IsSeedResult task old new status =
 -- or without one
 abbrev pub IsFetchResult : FetchTask → (old new : Option (List ℕ)) → ℕ → Type 0
 IsFetchResult task old new status =
-    IsFetch task.torrent.is_info task.dir.now task.peers.items task.log old new status
+    IsFetch task.torrent.is_info task.dir.now task.is_together task.peers.items task.log old new status
 
 -- a text was written, and it and the status are as wanted
 pub record Writes (wanted : ℕ → List ℕ → Type 0) (old new : Option (List ℕ)) (status : ℕ) : Type 0 where

@@ -1,5 +1,6 @@
-//! What `show` tells beside its results. Where memory is short, nothing is told; no clause says what is.
+//! What is told beside results and refusals. Where memory is short, nothing is told; no clause says what is.
 
+use bt_check::Fault;
 use bt_meta::Torrent;
 use bt_progress::{Watch, size_text};
 use std::alloc::{AllocError, Global};
@@ -10,6 +11,27 @@ pub fn hint_at_size<P: Watch>(alloc: Global, watch: &P, torrent: &Torrent) {
         return;
     }
     if let Ok(text) = all_text(alloc, length_of_all(torrent)) {
+        watch.hint(text.as_str());
+    }
+}
+
+/// At a terminal, and where that was asked for, tells which log is full, where that is what ended the work.
+pub fn hint_at_full_log<T, P: Watch>(
+    alloc: Global,
+    watch: &P,
+    log: Option<&str>,
+    outcome: &Result<T, Fault>,
+) {
+    if let (Some(path), Err(Fault::LogFull)) = (log, outcome) {
+        if watch.is_verbose() {
+            hint_at_length(alloc, watch, path);
+        }
+    }
+}
+
+/// Tells that a log has no room for what is known now.
+fn hint_at_length<P: Watch>(alloc: Global, watch: &P, path: &str) {
+    if let Ok(text) = format!(in alloc; "{path} is as long as a log may be") {
         watch.hint(text.as_str());
     }
 }

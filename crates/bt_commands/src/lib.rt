@@ -4,6 +4,7 @@
 mod hints;
 mod program;
 mod refused_entry;
+mod refused_tree;
 mod system;
 
 pub use program::{run, start};

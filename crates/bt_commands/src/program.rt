@@ -9,7 +9,7 @@ ghost use Rattle.bt_commands.specs.Program.{FillsLog, IsCheckResult, IsDone, IsE
 ghost use Rattle.bt_commands.specs.ProgramSteps.{status_after};
 ghost use Rattle.bt_words.specs.declared.command_line.Task.TheVariants.{Make, Show, Check, Seed, Fetch, Replay};
 
-use crate::hints::hint_at_size;
+use crate::hints::{hint_at_full_log, hint_at_size};
 use crate::refused_entry::hint_at_entry;
 use bt_check::{BUFFER_LEN, Fault, Source, check_torrent, load_watched, show_torrent};
 use bt_jobs::{Job, ProcessStarter, check_by_parts, check_part};
@@ -17,7 +17,7 @@ use bt_make::{ReadyTorrent, make, of_device, publish};
 use bt_parts::Part;
 use bt_progress::{Watch, escaped_lines};
 use bt_replay::replay;
-use bt_transfer::{fetch, seed};
+use bt_transfer::{NamedPeers, fetch, seed};
 use bt_words::{CheckTask, FetchTask, MakeTask, SeedTask, ShowTask, Task, Work, parse};
 use clap::Error;
 use clap::error::ErrorKind;
@@ -137,8 +137,10 @@ fn attempt<
         Ok(task) => {
             watch.set_verbose(asks_to_tell(words));
             let source = torrent_of(&task);
+            let log = log_of(&task);
             let outcome = perform(rt, net, watch, task, reader, writer, faults);
             hint_at_entry(rt, watch, source, &outcome);
+            hint_at_full_log(rt.alloc(), watch, log, &outcome);
             outcome
         }
         Err(error) => explain(rt.alloc(), &error, writer, faults),
@@ -158,6 +160,15 @@ fn torrent_of<'a>(task: &Task<'a>) -> Option<Source<'a>> {
         Task::Check(task) => Some(task.torrent),
         Task::Seed(task) => Some(task.torrent),
         Task::Fetch(task) => Some(task.torrent),
+    }
+}
+
+/// The file of a task's log, where it has one.
+fn log_of<'a>(task: &Task<'a>) -> Option<&'a str> {
+    match task {
+        Task::Seed(task) => task.log,
+        Task::Fetch(task) => task.log,
+        Task::Make(_) | Task::Show(_) | Task::Check(_) | Task::Replay => None,
     }
 }
 
@@ -351,13 +362,17 @@ fn perform_fetch<R: Files + AllocGlobal + Clone + Drop, N: Net + Clock, P: Watch
         (IsTaskEnd (Fetch task.entry) (O.contents writer.old) (O.contents writer.new)) }
 {
     watch.set_verbose(task.verbose);
+    let named = NamedPeers {
+        peers: &task.peers,
+        are_together: task.is_together,
+    };
     fetch(
         rt,
         net,
         watch,
         task.torrent,
         task.dir,
-        &task.peers,
+        named,
         task.log,
         writer,
     )
