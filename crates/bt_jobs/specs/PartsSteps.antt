@@ -9,8 +9,10 @@ abbrev pub IsAny : PartState → Type 0
 IsAny _ = ⊤
 
 -- a part of which the one held is a part of which the other holds
-abbrev pub Turns : {P : Type 0} → (P → PartState → Type 0) → (before after : PartState → Type 0) → (old new : P) → Type 0
-Turns stands before after old new = (start : Start) → IsPart stands before old start → IsPart stands after new start
+abbrev pub Turns : {P : Type 0} → (P → PartState → Type 0) → (before after : PartState → Type 0)
+    → (old new : P) → Type 0
+Turns stands before after old new =
+    (start : Start) → IsPart stands before old start → IsPart stands after new start
 
 -- each of some parts
 abbrev pub TurnAll : {P : Type 0} → (P → PartState → Type 0) → (before after : PartState → Type 0)
