@@ -2,9 +2,9 @@
 //! minute passes in a second; and runs in which the two parts of a check are commands of the shell.
 
 use bt_commands::run;
-use bt_progress::Unwatched;
+use bt_progress::{Console, Unwatched, Watch};
 use std::alloc::Allocator;
-use std::io::{self, ErrorKind, Read, Write};
+use std::io::{self, ErrorKind, IsTerminal, Read, Write};
 use std::net::{Net, OpenListener, OpenStream, Shutdown, SocketAddr, TcpListener, TcpStream};
 use std::os::fd::{AsRawFd, RawFd};
 use std::process::{Child, Command, Processes, Stdio, SystemProcess};
@@ -15,26 +15,28 @@ const HASTE: u32 = 60;
 
 /// Runs the program in haste, and gives its status.
 pub fn status_of(rt: &HostRuntime, words: &[String]) -> u8 {
-    status_with(rt, &[], words)
+    status_with(rt, &Unwatched, &[], words)
 }
 
-/// The same with two parts, which are commands of the shell: the first two words. An empty one can't be started. Errors:
-/// there are no two words.
+/// Runs it with two parts, which are commands of the shell: the first two words. An empty one can't be started. It tells
+/// of them as the program does. Errors: there are no two words.
 pub fn status_by_parts(rt: &HostRuntime, words: &[String]) -> io::Result<u8> {
     let [_, _, rest @ ..] = words else {
         return Err(io::Error::from(ErrorKind::InvalidInput));
     };
-    Ok(status_with(rt, &words[..2], rest))
+    let stderr = rt.stderr();
+    let console = Console::new(rt.alloc(), rt, stderr, stderr.is_terminal());
+    Ok(status_with(rt, &console, &words[..2], rest))
 }
 
-fn status_with(rt: &HostRuntime, parts: &[String], words: &[String]) -> u8 {
+fn status_with<P: Watch>(rt: &HostRuntime, watch: &P, parts: &[String], words: &[String]) -> u8 {
     let net = Hasty { host: rt, parts };
     let mut writer = rt.stdout();
     let mut faults = rt.stderr();
     run(
         rt,
         &net,
-        &Unwatched,
+        watch,
         words,
         &mut rt.stdin(),
         &mut writer,
