@@ -6,7 +6,8 @@ merge, and before `rt ci`, to which an edit that can't be made is a failure.
     python3 bench/edits.py
     python3 bench/edits.py join        writes the files of each folder `planted/CRATE` into `planted/CRATE.edits`, and removes them
 
-`planted/CRATE.edits` has, for each edit, a line `name: NAME`, and below it the lines that a file of `must-fail` has.
+`planted/CRATE.edits` has, for each edit, a line `name: NAME`, and below it the lines that a file of `must-fail` has; and where no clause
+speaks of what the edit changes, a line `rows: CRATE: CASE` with the rows that fail on it.
 
 Printed are those that can't be made, each with how often its text stands there. The status is 0 where all can, else 1.
 """
@@ -31,11 +32,12 @@ class Edit(NamedTuple):
     crate: str
     name: str
     changes: tuple
+    rows: str = ""
 
 
 def edit_of(crate, name, lines):
     """The edit that the lines of a file of `must-fail` are; other lines are not read."""
-    file, old, changes = "", "", []
+    file, old, rows, changes = "", "", "", []
     for line in lines:
         word, _, rest = line.partition(":")
         rest = rest.removeprefix(" ")
@@ -45,7 +47,9 @@ def edit_of(crate, name, lines):
             old = rest
         elif word == "new":
             changes.append(Change(file, old, rest))
-    return Edit(crate, name, tuple(changes))
+        elif word == "rows":
+            rows = rest.strip()
+    return Edit(crate, name, tuple(changes), rows)
 
 
 def edits_in(folder, crate):
@@ -86,7 +90,7 @@ def join():
     for crate, edits in planted().items():
         texts = []
         for edit in edits:
-            lines, last = [f"name: {edit.name}"], ""
+            lines, last = [f"name: {edit.name}"] + [f"rows: {edit.rows}"] * bool(edit.rows), ""
             for file, old, new in edit.changes:
                 lines += [f"file: {file}"] * (file != last) + [f"old: {old}", f"new: {new}"]
                 last = file

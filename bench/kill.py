@@ -1,19 +1,22 @@
 #!/usr/bin/env python3
 """Ends fetches with a log at twenty moments by signal 9, runs them again, and looks at what is lost and what is counted.
 
-    python3 bench/kill.py [PROGRAM [MIB]]
+    python3 bench/kill.py [--together] [PROGRAM [MIB]]
 
 A file of 64 MiB, or of so many, is made in a temporary folder, with its torrent, and a `seed` serves it. Between it and each `fetch`
 stands a relay of this script, which passes bytes at a pace at which a whole fetch takes some seconds, and ends each connection after an
 eighth of the file: so a fetch flushes behind several peers, all of them this relay, and of a greater file also within its sessions.
+With `--together` there are four files, four seeds serve them, each behind a relay of its own that ends no connection, and each `fetch`
+takes from all four at once.
+
 The time of a whole fetch is taken first. At each of twenty moments that part it evenly a new fetch is killed; then, in one row, it is run
 again to its end, and in another it is killed at three moments more, chosen by chance, before it is: those at which it was still there.
 
 After each run, killed or not, the files and the log are read by this script, and a fetch with no peer that can be reached reports:
 
-- each block that the log marks is the file's, and so is each one that a report counts: as many as the log marks, and no others;
+- each block that the log marks is its file's, and so is each one that a report counts: as many as the log marks, and no others;
 - a mark that was in the log behind an earlier run is in it still;
-- at the end all is complete, and the file is the one that was served.
+- at the end all is complete, also by `check`, and the files are those that were served.
 
 Told are how far each fetch was at each end, the log's length in the end, and how many proofs and runs of marks it has. The program is the
 one that is named, or else the proved one, which is proved and built where it is not yet. The status is 0 where all is as it has to be.
@@ -37,6 +40,7 @@ from measure import proved
 MOMENTS = 20
 FURTHER = 3
 SESSIONS = 8
+SEEDS = 4
 SECONDS = 4.0
 BLOCK = 16_384
 PIECE_LENGTH = 262_144
@@ -45,7 +49,8 @@ PART = 8_192
 
 
 def parsed(log, infohash):
-    """How many proofs and runs a log of a torrent has, the blocks of its file that these mark, and how many bytes lie behind its last hint."""
+    """How many proofs and runs a log of a torrent has, the blocks that these mark, each by its file, and how many bytes lie behind its last
+    hint."""
     if log[:8] not in (b"btseed-1", b"btseed-2") or log[8:HEADER] != infohash:
         sys.exit("the log does not begin as one of the torrent does")
     at, proofs, runs, marks = HEADER, 0, 0, set()
@@ -54,8 +59,8 @@ def parsed(log, infohash):
         if kind == b"P" and (size := proof_size(log[at + 1 : at + 49])) and at + size <= len(log):
             at, proofs = at + size, proofs + 1
         elif kind == b"R" and at + 13 <= len(log):
-            first, count = (int.from_bytes(log[at + place : at + place + 4], "big") for place in (5, 9))
-            marks.update(range(first, first + count))
+            file, first, count = (int.from_bytes(log[at + place : at + place + 4], "big") for place in (1, 5, 9))
+            marks.update((file, block) for block in range(first, first + count))
             at, runs = at + 13, runs + 1
         else:
             return proofs, runs, marks, len(log) - at
@@ -112,38 +117,56 @@ def passed(source, target):
 
 
 class Bench:
-    """A file that is served, and what is known of it."""
+    """Files that are served, and what is known of them."""
 
-    def __init__(self, program, room, mib):
-        self.program, self.room = program, room
-        self.torrent, files = room / "t", room / "files"
-        files.mkdir()
-        self.bytes = os.urandom(mib << 20)
-        (files / "f").write_bytes(self.bytes)
-        told = self.run(["make", files, self.torrent, "--name", "f", "--piece-length", PIECE_LENGTH]).stdout
+    def __init__(self, program, room, mib, together):
+        self.program, self.room, self.together = program, room, together
+        self.torrent, self.files = room / "t", room / "files"
+        self.bytes = {name: os.urandom(length) for name, length in lengths(mib, together).items()}
+        self.files.mkdir()
+        for name, content in self.bytes.items():
+            (self.files / name).write_bytes(content)
+        told = self.run(["make", self.files, self.torrent, "--name", "f", "--piece-length", PIECE_LENGTH]).stdout
         self.infohash = bytes.fromhex(told.split()[1])
-        words = [program, "seed", self.torrent, files, "--forever", "--read-only"]
-        self.seed = subprocess.Popen([str(word) for word in words], stdout=subprocess.PIPE, text=True)
-        port = int(self.seed.stdout.readline().split()[1])
-        # nobody reads what it tells of each connection
-        threading.Thread(target=self.seed.stdout.read, daemon=True).start()
-        relay = Relay(port, len(self.bytes) / SECONDS, len(self.bytes) // SESSIONS)
-        self.peers = [f"127.0.0.1:{relay.own_port}"] * (2 * SESSIONS)
+        self.seeds, size = [], sum(map(len, self.bytes.values()))
+        if together:
+            self.peers = [self.served(size / SECONDS / SEEDS, size) for _ in range(SEEDS)]
+        else:
+            self.peers = [self.served(size / SECONDS, size // SESSIONS)] * (2 * SESSIONS)
         with socket.create_server(("127.0.0.1", 0)) as server:
             self.nobody = [f"127.0.0.1:{server.getsockname()[1]}"]
+
+    def served(self, pace, limit):
+        """The address of a relay, of such a pace and limit, to one more seed."""
+        words = [self.program, "seed", self.torrent, self.files, "--forever", "--read-only"]
+        seed = subprocess.Popen([str(word) for word in words], stdout=subprocess.PIPE, text=True)
+        self.seeds.append(seed)
+        port = int(seed.stdout.readline().split()[1])
+        # nobody reads what it tells of each connection
+        threading.Thread(target=seed.stdout.read, daemon=True).start()
+        return f"127.0.0.1:{Relay(port, pace, limit).own_port}"
+
+    def end(self):
+        for seed in self.seeds:
+            seed.kill()
+            seed.wait()
 
     def run(self, words):
         return subprocess.run([str(word) for word in [self.program, *words]], capture_output=True, text=True, check=False)
 
     def fetch(self, folder, peers):
-        return ["fetch", self.torrent, folder / "files", *peers, "--log", folder / "log"]
+        words = ["fetch", self.torrent, folder / "files", *peers, "--log", folder / "log"]
+        return [*words, "--together"] if self.together else words
 
     def right(self, folder):
-        """The blocks of the fetched file that are those of the one that is served."""
-        path = folder / "files" / "f"
-        found = path.read_bytes() if path.exists() else b""
-        places = range(0, len(self.bytes), BLOCK)
-        return {at // BLOCK for at in places if found[at : at + BLOCK] == self.bytes[at : at + BLOCK]}
+        """The blocks of the fetched files that are those of the ones that are served, each by its file."""
+        found = set()
+        for file, (name, content) in enumerate(self.bytes.items()):
+            path = folder / "files" / name
+            here = path.read_bytes() if path.exists() else b""
+            places = range(0, len(content), BLOCK)
+            found.update((file, at // BLOCK) for at in places if here[at : at + BLOCK] == content[at : at + BLOCK])
+        return found
 
     def killed(self, folder, seconds):
         """Whether a fetch was still there when it was killed, so long after its start."""
@@ -158,15 +181,26 @@ class Bench:
             return True
 
     def blocks(self):
-        return len(self.bytes) // BLOCK
+        """How many blocks each file has."""
+        return {name: -(-len(content) // BLOCK) for name, content in self.bytes.items()}
+
+
+def lengths(mib, together):
+    """The files, in the torrent's order, and their lengths: together these have so many MiB."""
+    if not together:
+        return {"f": mib << 20}
+    return {"a": mib << 19, "b": 12_345, "c": (mib << 18) - 12_345, "d": mib << 18}
 
 
 def counted(report, blocks):
-    """How many blocks a report counts."""
-    if re.search(r"^complete f$", report, flags=re.MULTILINE):
-        return blocks
-    found = re.search(r"^(\d+) of (\d+) f$", report, flags=re.MULTILINE)
-    return int(found[1]) if found and int(found[2]) == blocks else None
+    """How many blocks a report counts of files that have so many each; None where one is not told of."""
+    found = 0
+    for name, count in blocks.items():
+        some = re.search(rf"^(\d+) of {count} {name}$", report, flags=re.MULTILINE)
+        if not some and not re.search(rf"^complete {name}$", report, flags=re.MULTILINE):
+            return None
+        found += int(some[1]) if some else count
+    return found
 
 
 class Fetched:
@@ -181,13 +215,13 @@ class Fetched:
             self.faults.append(f"behind {len(self.ends)} ends: {what}")
 
     def look(self):
-        """Looks at the log and the file, and has them reported. A run that was killed before it made its log has none."""
+        """Looks at the log and the files, and has them reported. A run that was killed before it made its log has none."""
         if not (self.folder / "log").exists() or not (self.folder / "log").stat().st_size:
             return self.see("a log is gone", not self.marks)
         log = (self.folder / "log").read_bytes()
         _, _, marks, _ = parsed(log, self.bench.infohash)
         right = self.bench.right(self.folder)
-        self.see("the log marks a block that is not the file's", marks <= right)
+        self.see("the log marks a block that is not its file's", marks <= right)
         self.see("a mark of an earlier run is gone", self.marks <= marks)
         told = self.bench.run(self.bench.fetch(self.folder, self.bench.nobody))
         self.see("the report counts other blocks than the log marks", counted(told.stdout, self.bench.blocks()) == len(marks))
@@ -205,13 +239,16 @@ class Fetched:
         """Runs the fetch to its end."""
         told = self.bench.run(self.bench.fetch(self.folder, self.bench.peers))
         self.see(f"status {told.returncode}: {told.stdout}{told.stderr}", told.returncode == 0 and told.stdout.endswith("\ncomplete\n"))
-        self.see("the file is another one", (self.folder / "files" / "f").read_bytes() == self.bench.bytes)
+        told = self.bench.run(["check", self.bench.torrent, self.folder / "files"])
+        self.see(f"check: status {told.returncode}: {told.stdout}{told.stderr}", told.returncode == 0)
+        here = {name: (self.folder / "files" / name).read_bytes() for name in self.bench.bytes}
+        self.see("a file is another one", here == self.bench.bytes)
         self.look()
 
     def tell(self, moment):
         log = (self.folder / "log").read_bytes()
         proofs, runs, _, rest = parsed(log, self.bench.infohash)
-        ends = " ".join(f"{100 * end // self.bench.blocks():3d}%" for end in self.ends)
+        ends = " ".join(f"{100 * end // sum(self.bench.blocks().values()):3d}%" for end in self.ends)
         print(f"{moment:4.2f} s: {ends:24} the log has {len(log):7d} bytes, {proofs:3d} proofs, {runs:3d} runs, {rest} behind them", flush=True)
 
 
@@ -257,11 +294,13 @@ def row(bench, seconds, further, chance):
 
 
 def main(words):
+    together = words[:1] == ["--together"]
+    words = words[together:]
     program = pathlib.Path(words[0]).resolve() if words else proved()
     mib = int(words[1]) if len(words) > 1 else 64
     chance = random.Random(1)
     with tempfile.TemporaryDirectory() as room:
-        bench = Bench(program, pathlib.Path(room), mib)
+        bench = Bench(program, pathlib.Path(room), mib, together)
         try:
             seconds, faults = whole(bench)
             kills = 0
@@ -269,8 +308,7 @@ def main(words):
                 more, wrong = row(bench, seconds, further, chance)
                 kills, faults = kills + more, faults + wrong
         finally:
-            bench.seed.kill()
-            bench.seed.wait()
+            bench.end()
     print(f"{kills} kills: {'all as it has to be' if not faults else f'{len(faults)} FAULTS'}")
     print(*faults, sep="\n", end="\n" if faults else "")
     return 1 if faults else 0

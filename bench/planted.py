@@ -11,8 +11,9 @@ it is all crates.
 
 An edit is refused at its own goal, where something that the function promises can't be proved of it; at an answer's name only, where the
 proof that was written by hand names what the edit took away, which says little of the contract: then a clause or a row has to refuse it;
-or by a limit of the prover, which gave no verdict. Else it is proved: strengthen the contract, or remove an edit that means the same.
-Printed are all but those of the first kind, and a table. The status is 0 where none is proved, not judged or no edit, else 1.
+or by a limit of the prover, which gave no verdict. Else it is proved: strengthen the contract, write a row that fails on it, or remove an
+edit that means the same. One that is proved, or refused by a name, and has a line `rows`, was seen to be refused by these.
+Printed are all but those that are refused at their own goal or by rows, and a table. The status is 0 where none is proved, not judged or no edit, else 1.
 """
 
 import argparse
@@ -29,7 +30,7 @@ import tempfile
 from edits import made, planted
 from measure import TOP
 
-OWN, NAME, LIMIT, PROVED, UNKNOWN, NONE = KINDS = ("own goal", "answer's name", "limit", "proved", "not judged", "no edit")
+OWN, ROW, NAME, LIMIT, PROVED, UNKNOWN, NONE = KINDS = ("own goal", "rows", "answer's name", "limit", "proved", "not judged", "no edit")
 # How many processes a check has.
 JOBS = "1"
 FUNCTION = re.compile(r"^( *)(?:pub(?:\([a-z]+\))? )?(?:const )?(?:unsafe )?fn (\w+)", re.MULTILINE)
@@ -103,7 +104,9 @@ def verdict_on(function, crate, said):
         return UNKNOWN, "no line tells of it"
     # of functions that call each other the answers stand together, each with its function's name in front
     own = re.compile(rf"`Rattle\.{crate}\.proofs\.{module.replace('::', '.')}\.(?:\S+\.)?(?:\+?{name}\.|\+\w+\.\w+\.{name}-)")
-    line = next((line for line in lines if "did not prove" in line or own.search(line)), None)
+    # of one whose answers are for goals that it has no more, the check tells no more than that it is not proved
+    refused = (line for line in lines if "did not prove" in line or own.search(line) or line.endswith(": not proved"))
+    line = next(refused, None)
     if line is None:
         kind = LIMIT if any(AT_LIMIT.search(line) for line in lines) else PROVED
         return kind, lines[0]
@@ -161,8 +164,9 @@ def try_crate(name, edits, copies):
             told |= judge(crate, batch) if whole.returncode == 0 else {edit: (UNKNOWN, "the crate is not proved") for edit, _ in batch}
     finally:
         copies.put(copy)
+    told = {edit: (ROW, edit.rows) if edit.rows and kind in (NAME, PROVED) else (kind, line) for edit, (kind, line) in told.items()}
     for edit, (kind, line) in sorted(told.items()):
-        if kind != OWN:
+        if kind not in (OWN, ROW):
             print(f"{name}/{edit.name}: {kind}: {line[:200]}", flush=True)
     counts = collections.Counter(kind for kind, _ in told.values())
     print(f"{name}: {len(told)} edits in {len(batches)} checks: {', '.join(f'{counts[kind]} {kind}' for kind in KINDS if counts[kind])}", flush=True)
