@@ -49,9 +49,9 @@ use std::time::{Clock, Duration};
 /// itself, and meanwhile the peer waits, who may give up.
 pub(crate) const FLUSH_TURNS: u64 = 2048;
 
-/// After how many turns of all together it does so where many are there: in a turn of one of many nine reads are taken
+/// After how many turns of all together a fetch does so where many are there: in a turn of one of many nine reads are taken
 /// in, 144 KiB at most. It is looked for once in a round, of up to 64 turns, so 227 may have passed: 32 MiB at most.
-pub(crate) const TOGETHER_TURNS: u64 = 164;
+const TOGETHER_TURNS: u64 = 164;
 
 /// Opens the store of a torrent's files in a folder, as `load_store` does; fetches from peers until all files are
 /// complete; and reports. The answer is the status of the program: 0 where all files are complete, else 1.

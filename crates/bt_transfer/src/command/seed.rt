@@ -17,7 +17,7 @@ ghost use Rattle.bt_transfer.specs.Seed.{EndsSeed, FailsServing, FailsToSeed, Ha
 ghost use Rattle.bt_files.specs.Store.{HasBegun};
 
 use crate::at_once::serve_at_once;
-use crate::command::fetch::TOGETHER_TURNS;
+use crate::command::fetch::FLUSH_TURNS;
 use crate::connections::serve_each;
 use crate::device_context::device_context;
 use crate::hearing::{Bell, hear};
@@ -44,7 +44,7 @@ use std::time::Clock;
 ///
 /// Where they are served one after the other, all is put on the devices after each, and before its line, and what is known
 /// of it into the log, where the path of one is given. Where up to 64 are served at once, the line of each comes as it
-/// goes, and all is put there as soon as nobody is there any more; with a log also after each 164 turns of all together.
+/// goes, and all is put there as soon as nobody is there any more; with a log also after each 2,048 turns of all together.
 /// So it is at the end, also where none is served.
 ///
 /// Where all files are complete at first, none is written from then on, but the log is: a session ends in which a block
@@ -108,7 +108,7 @@ pub fn seed<R: Files + AllocGlobal + Clone + Drop, N: Net + Clock, P: Watch, W: 
 /// it never does, for which the greatest number stands.
 fn seed_turns(log: Option<&str>) -> u64 {
     match log {
-        Some(_) => TOGETHER_TURNS,
+        Some(_) => FLUSH_TURNS,
         None => u64::MAX,
     }
 }
