@@ -13,7 +13,8 @@ An edit is refused at its own goal, where something that the function promises c
 proof that was written by hand names what the edit took away, which says little of the contract: then a clause or a row has to refuse it;
 or by a limit of the prover, which gave no verdict. Else it is proved: strengthen the contract, write a row that fails on it, or remove an
 edit that means the same. One that is proved, or refused by a name, and has a line `rows`, was seen to be refused by these.
-Printed are all but those that are refused at their own goal or by rows, and a table. The status is 0 where none is proved, not judged or no edit, else 1.
+Printed are all but those that are refused at their own goal or by rows, and a table. The status is 0 where none is proved, not judged or
+no edit, else 1.
 """
 
 import argparse

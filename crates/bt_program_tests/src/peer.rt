@@ -16,13 +16,16 @@ const PATIENCE: u64 = 20_000;
 /// How many milliseconds pass between two looks for a connection.
 const PAUSE: u64 = 20;
 
+/// How many milliseconds a peer pauses.
+const BREATH: u64 = 1000;
+
 /// The most bytes that are printed one by one.
 const MOST_SHOWN: usize = 256;
 
 /// Connects to the port that the first word names, or waits for a connection where it is `listen`, and does what each
 /// word after it says: bytes are sent, `get:N` takes N bytes and prints them, `end` takes and prints those that come
-/// until the other side ends, and `rest` takes nothing for 20 seconds. Errors: there is no connection, a word that is
-/// none of these, or the other side takes or gives less.
+/// until the other side ends, `pause` does nothing for a second, and `rest` for 20. Errors: there is no connection, a word
+/// that is none of these, or the other side takes or gives less.
 pub fn meet(rt: &HostRuntime, words: &[String]) -> io::Result<()> {
     let Some((place, steps)) = words.split_first() else {
         return Err(io::Error::from(ErrorKind::InvalidInput));
@@ -56,6 +59,10 @@ fn awaited(rt: &HostRuntime) -> io::Result<TcpStream> {
 fn take_step(rt: &HostRuntime, stream: &mut TcpStream, step: &str) -> io::Result<()> {
     match step {
         "end" => take_all(rt, stream),
+        "pause" => {
+            sleep(rt, Duration::from_millis(BREATH));
+            Ok(())
+        }
         "rest" => {
             sleep(rt, Duration::from_millis(PATIENCE));
             Ok(())
