@@ -9,7 +9,7 @@ use Rattle.bt_engine_after.specs.AfterEvent.{max_frames}
 use Rattle.bt_engine_state.specs.declared.parts.Parts.{Parts}
 use Rattle.bt_engine_messages.specs.Hashes.{IsNoteRoom}
 use Rattle.bt_engine.specs.PendingSteps.{HasHintRoom}
-use Rattle.bt_engine.specs.declared.room.Room.{Room}
+use Rattle.bt_engine.specs.declared.room.EventLists.{EventLists}
 
 -- a message has at most this many notes: hashes as many as blocks may have waited for them
 abbrev pub IsMessageBound : {D H : Type 0} → Parts D H → Sent → ℕ → Type 0
@@ -25,13 +25,13 @@ IsNoteBound parts _ bound = bound ≡ 0
 
 -- nothing is sent or noted yet, and there is room for an event of `bound` notes, with `peers` peers, and for
 -- no more
-pub record HasRoom (bound peers : ℕ) (room : Room) : Type 0 where
+pub record HasRoom (bound peers : ℕ) (room : EventLists) : Type 0 where
   pub nothing_sent : room.send.items ≡ []
   pub nothing_noted : room.notes.items ≡ []
   pub send_room : vec_capacity room.send ≡ bound * peers + max_askers + max_frames
   pub note_room : vec_capacity room.notes ≡ bound + bound
 
 -- the same for such an event, and with a log for its hints: a proof and a mark for each note
-abbrev pub HasRoomFor : {D H : Type 0} → Parts D H → WireEvent → Room → Type 0
+abbrev pub HasRoomFor : {D H : Type 0} → Parts D H → WireEvent → EventLists → Type 0
 HasRoomFor parts event room = (bound : ℕ) × IsNoteBound parts event bound
     × HasRoom bound (length parts.peers.items) room × HasHintRoom (bound + 1) parts.log

@@ -281,7 +281,8 @@ impl<D: Disk + Drop, H: NodeHash> Engine<D, H> {
 
     /// The device of a file; None where the file is empty, and where there is no such file.
     pub fn disk(&self, file: u32) -> Option<&D>
-        ensures { option_copied result ≡ option_and_then (λ disk. disk) (slice_get self.now.disks file) }
+        ensures { option_copied result ≡ option_and_then (λ disk. disk)
+            (slice_get self.now.disks file) }
     {
         bt_engine_state::disk(&self.parts, file)
     }

@@ -18,7 +18,7 @@ ghost use Rattle.bt_engine.specs.EventSteps.{sent_by, notes_in, note_count, repl
 
 use crate::news::{announce_pieces, note_complete_files};
 use crate::pending::record_hints;
-use crate::room::{Room, reserve};
+use crate::room::{EventLists, reserve};
 use arrayvec::ArrayVec;
 use bt_book::{MAX_ASKERS, PeerKey};
 use bt_disk::Disk;
@@ -88,7 +88,7 @@ fn take_in_room<D: Disk + Drop, H: NodeHash>(
     parts: &mut Parts<D, H>,
     index: usize,
     event: &WireEvent,
-    room: Room,
+    room: EventLists,
 ) -> Result<Output, AllocError>
     requires peer { AreInShapeAt parts.old index }
     requires orderly { IsOrderly (state_of parts.old) }
@@ -143,12 +143,13 @@ fn keep<D: Disk + Drop, H: NodeHash>(
     index: usize,
     reply: Reply,
     proof: Option<Hint>,
-    room: Room,
+    room: EventLists,
 ) -> Output
     requires peer { AreInShapeAt parts.old index }
     requires told { (old : EngineState) × TellMarks old (state_of parts.old) (notes_in reply) }
     requires room { (bound : ℕ) × (reply_count reply ≤ bound)
-        × HasRoom bound (length parts.old.peers.items) room × HasHintRoom (bound + 1) parts.old.log }
+        × HasRoom bound (length parts.old.peers.items) room × HasHintRoom
+        (bound + 1) parts.old.log }
     requires readable { IfSome proof CanBeRead }
     ensures follows { FollowsReply H.digest (state_of parts.old) index reply proof result
         (state_of parts.new) }
@@ -157,7 +158,7 @@ fn keep<D: Disk + Drop, H: NodeHash>(
 {
     // What every torrent keeps to.
     parts.torrent.keeps_laws();
-    let Room {
+    let EventLists {
         mut send,
         mut notes,
     } = room;
@@ -178,7 +179,8 @@ fn keep<D: Disk + Drop, H: NodeHash>(
 fn put_reply(key: PeerKey, reply: Reply, send: &mut Vec<(PeerKey, Frame)>, notes: &mut Vec<Note>)
     requires send_room { vec_len send.old + max_askers ≤ vec_capacity send.old }
     requires note_room { vec_len notes.old + reply_count reply ≤ vec_capacity notes.old }
-    ensures sent { (p : PeerState) → p.key ≡ key → send.new.items ≡ send.old.items ++ sent_by p reply }
+    ensures sent { (p : PeerState) → p.key ≡ key → send.new.items ≡ send.old.items
+        ++ sent_by p reply }
     ensures noted { notes.new.items ≡ notes.old.items ++ notes_in reply }
     ensures few_sent { vec_len send.new ≤ vec_len send.old + max_askers }
     ensures few_noted { vec_len notes.new ≡ vec_len notes.old + reply_count reply }

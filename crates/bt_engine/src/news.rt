@@ -33,7 +33,8 @@ pub(crate) fn announce_pieces<D: Disk + Drop, H: NodeHash>(
         ≤ vec_capacity send.old }
     ensures sent { (old : EngineState) → TellMarks old (state_of parts.now) notes.now
         → send.new.items ≡ send.old.items ++ haves old (state_of parts.now) }
-    ensures few { vec_len send.new ≤ vec_len send.old + length notes.now * length parts.now.peers.items }
+    ensures few { vec_len send.new ≤ vec_len send.old
+        + length notes.now * length parts.now.peers.items }
     ensures capacity { vec_capacity send.old ≤ vec_capacity send.new }
 {
     // What every torrent keeps to is said by these two calls, and which pieces are whole by the third.
@@ -82,8 +83,10 @@ pub(crate) fn note_complete_files<D: Disk + Drop, H: NodeHash>(
 )
     requires sound { AreInShape parts.now }
     requires room { vec_len notes.old + vec_len notes.old ≤ vec_capacity notes.old }
-    ensures noted { (old : EngineState) → TellMarks old (state_of parts.now) notes.old.items → notes.new.items
-        ≡ notes.old.items ++ map (λ file. Note.Complete file) (new_complete_files old (state_of parts.now)) }
+    ensures noted { (old : EngineState) → TellMarks old (state_of parts.now) notes.old.items
+        → notes.new.items
+        ≡ notes.old.items ++ map (λ file. Note.Complete file)
+        (new_complete_files old (state_of parts.now)) }
 {
     let mut last = None;
     for index in 0..notes.len() {
@@ -103,7 +106,8 @@ fn note_if_complete<D: Disk + Drop, H: NodeHash>(
 )
     requires sound { AreInShape parts.now }
     requires room { vec_len notes.old < vec_capacity notes.old }
-    ensures noted { notes.new.items ≡ notes.old.items ++ notes_if_complete (state_of parts.now) file }
+    ensures noted { notes.new.items ≡ notes.old.items ++ notes_if_complete
+        (state_of parts.now) file }
     ensures few { vec_len notes.new ≤ vec_len notes.old + 1 }
     ensures capacity { vec_capacity notes.old ≤ vec_capacity notes.new }
 {

@@ -42,7 +42,8 @@ pub(crate) fn record_hints<D: Disk + Drop, H: NodeHash>(
     requires room { HasHintRoom (length (hints_told proof notes.now)) parts.old.log }
     requires readable { IfSome proof CanBeRead }
     requires inside { AreInside notes.now }
-    ensures state { state_of parts.new ≡ with_hints (state_of parts.old) (hints_told proof notes.now) }
+    ensures state { state_of parts.new ≡ with_hints (state_of parts.old)
+        (hints_told proof notes.now) }
     ensures log { log_of parts.new ≡ log_of parts.old }
     ensures others { parts.new ≡ record parts.old { log = parts.new.log } }
 {

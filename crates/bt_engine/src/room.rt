@@ -19,7 +19,7 @@ use std::alloc::{AllocError, Global};
 
 /// Lists of what an event sends and notes.
 #[derive(Debug, Drop)]
-pub(crate) struct Room {
+pub(crate) struct EventLists {
     pub send: Vec<(PeerKey, Frame)>,
     pub notes: Vec<Note>,
 }
@@ -32,7 +32,7 @@ pub(crate) fn reserve<D: Disk + Drop, H: NodeHash>(
     alloc: Global,
     parts: &mut Parts<D, H>,
     event: &WireEvent,
-) -> Result<Room, AllocError>
+) -> Result<EventLists, AllocError>
     requires sound { AreInShape parts.old }
     requires orderly { IsOrderly (state_of parts.old) }
     ensures room { IfOk result (HasRoomFor parts.new event.now) }
@@ -47,7 +47,7 @@ pub(crate) fn reserve<D: Disk + Drop, H: NodeHash>(
     let send = Vec::with_capacity(alloc, bound * peers + MAX_ASKERS + MAX_FRAMES)?;
     let notes = Vec::with_capacity(alloc, 2 * bound)?;
     reserve_hints(parts, bound + 1)?;
-    Ok(Room { send, notes })
+    Ok(EventLists { send, notes })
 }
 
 /// How many notes the event has at most, without those of complete files.

@@ -13,7 +13,7 @@ use Rattle.bt_machine.specs.State.{proof_of}
 use Rattle.bt_machine.specs.Hints.{add_hints}
 use Rattle.bt_machine.specs.ProofKeys.{HasAnswer, ProofKeysAreAnswered}
 use Rattle.bt_machine.specs.Adopting.{IsProof, proof_keys}
-use Rattle.bt_engine_adopt.specs.declared.marks.Run.{Run}
+use Rattle.bt_engine_adopt.specs.declared.marks.FileRun.{FileRun}
 use Rattle.bt_engine_adopt.specs.GroupSteps.{file_view, TakesGroup}
 use Rattle.bt_engine_adopt.specs.MarksSteps.{unmarked_blocks, newly_marked, marks_in, run_blocks}
 use Rattle.bt_engine_adopt.specs.RunProofsSteps.{run_keys}
@@ -184,7 +184,7 @@ module _ {D : Type 0} {conduct : Conduct D} {dig : List ℕ → List ℕ} (file 
         }
 
     module _ {a f n : ℕ} (at : IsUnknownGroup k from a f n) where
-      pub takes_found : (runs : List Run) (waits : List Hint) → 0 < adopted.marked
+      pub takes_found : (runs : List FileRun) (waits : List Hint) → 0 < adopted.marked
           → (proofs : List Hint) × AllZip (IsProof dig grown) (run_keys grown a (range_with_len f n)) proofs × (waits ≡ add_hints pending proofs)
           → flat_map run_blocks runs ≡ unmarked_blocks old.states f n → left ≡ add_hints waits (marks_in file (flat_map run_blocks runs))
           → TakesGroup conduct dig file true from (file_view k old pending) adopted (file_view grown new left)

@@ -6,7 +6,7 @@ use Rattle.bt_resume.specs.declared.hint.Hint.TheVariants.{Proof, Marks}
 use Rattle.bt_machine.proofs.Lists.{and_true}
 use Rattle.bt_machine.specs.Hints.{mark_of, continues, joined_run, add_hint, add_hints}
 use Rattle.bt_machine.specs.Blocks.{block_id}
-use Rattle.bt_engine_adopt.specs.declared.marks.Run.{Run}
+use Rattle.bt_engine_adopt.specs.declared.marks.FileRun.{FileRun}
 use Rattle.bt_engine_adopt.specs.MarksSteps.{marks_in, run_blocks}
 use Rattle.bt_engine_adopt.proofs.Ranges.{range_more, flat_map_take}
 
@@ -88,7 +88,7 @@ run_is hints file first zero some = absurd (omega arith)
 run_is hints file first (suc n) some = run_is_marks hints file first n
 
 -- the marks of one run more
-pub runs_more : (old hints : List Hint) (file : ℕ) (runs : List Run) (i : ℕ) {run : Run} (d : Run) → i < length runs → run ≡ get_or runs i d → 0 < run.count
+pub runs_more : (old hints : List Hint) (file : ℕ) (runs : List FileRun) (i : ℕ) {run : FileRun} (d : FileRun) → i < length runs → run ≡ get_or runs i d → 0 < run.count
     → hints ≡ add_hints old (marks_in file (flat_map run_blocks (take i runs)))
     → add_hint hints (Marks file run.first run.count) ≡ add_hints old (marks_in file (flat_map run_blocks (take (i + 1) runs)))
 runs_more old hints file runs i {run} d lt is some so_far =

@@ -6,7 +6,6 @@ pub mod RunMarks
 pub mod GroupMarks
 pub mod Borders
 pub mod Takings
-pub mod Recounts
 pub mod Logs
 pub mod Slots
 pub mod LeftOut

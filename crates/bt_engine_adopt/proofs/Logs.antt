@@ -9,8 +9,7 @@ use Rattle.bt_engine_state.specs.declared.parts.Parts.{Parts}
 use Rattle.bt_engine_state.proofs.BlockChanges.{followed_alike}
 use Rattle.bt_engine_state.proofs.Leaves.{leaves_alike}
 use Rattle.bt_engine_adopt.specs.GroupSteps.{log_in}
-use Rattle.bt_engine_adopt.specs.RecountSteps.{Follows}
-use Rattle.bt_engine_adopt.specs.PartsSteps.{AreFit, AreInLine, KeepsRest, block_count_of_tree}
+use Rattle.bt_engine_adopt.specs.PartsSteps.{AreFit, Follows, AreInLine, KeepsRest, block_count_of_tree}
 use Rattle.bt_engine_adopt.specs.WaitingSteps.{OnlyPendingChanges}
 
 module _ {D : Type 0} where

@@ -19,7 +19,7 @@ use Rattle.bt_engine_adopt.proofs.NewMarks.{newly_none, newly_settled}
 
 -- ---- a file's state in an engine
 
-pub state_in : (o : Option FileState) (i : ℕ) → slice_get (option_map_or (λ f. f.states) o []) i ≡ option_and_then (λ f. slice_get f.states i) o
+state_in : (o : Option FileState) (i : ℕ) → slice_get (option_map_or (λ f. f.states) o []) i ≡ option_and_then (λ f. slice_get f.states i) o
 state_in None zero = refl
 state_in None (suc i) = refl
 state_in (Some f) i = refl

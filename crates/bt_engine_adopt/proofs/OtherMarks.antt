@@ -25,7 +25,7 @@ use Rattle.bt_engine_state.proofs.Chains.{NoneOfTree}
 use Rattle.bt_engine_adopt.specs.PartsSteps.{KeepsRest, block_count_of_tree}
 use Rattle.bt_engine_adopt.specs.SettlingSteps.{SettlesFiles, SettlesOthers, IsDue}
 use Rattle.bt_tree.specs.Limits.{max_block_count}
-use Rattle.bt_engine_adopt.specs.declared.marks.Run.{Run}
+use Rattle.bt_engine_adopt.specs.declared.marks.FileRun.{FileRun}
 use Rattle.bt_engine_adopt.specs.MarksSteps.{marks_in, run_blocks, AreRuns, most_hints}
 use Rattle.bt_engine_adopt.specs.WaitingSteps.{OnlyPendingChanges, is_marked_among, waiting_blocks_in, waiting_in, waiting_in_others, listed_in, listed_blocks, AreListed, most_hints_of_all}
 use Rattle.bt_engine_adopt.specs.declared.waiting.FileRuns.{FileRuns}
@@ -146,11 +146,11 @@ listed_put files one = flat_map_more listed_in files (one ∷ []) ∙ ap (λ xs.
 -- ---- room for their marks
 
 -- the marks of one file's blocks take no more hints than a file may have blocks
-pub few_in : (listed : List FileRuns) → AreListed listed → (i : ℕ) {one : FileRuns} → i < length listed → one ≡ get_or listed i one → {runs : List Run} → runs ≡ one.runs.items
+pub few_in : (listed : List FileRuns) → AreListed listed → (i : ℕ) {one : FileRuns} → i < length listed → one ≡ get_or listed i one → {runs : List FileRun} → runs ≡ one.runs.items
     → most_hints runs ≤ max_block_count
 few_in listed are i {one} lt is {runs} same =
     let own : AreRuns one.runs.items = subst (λ (x : FileRuns). AreRuns x.runs.items) (sym is) (are i one lt) in
-    let alike : most_hints runs ≡ most_hints one.runs.items = ap (λ (xs : List Run). most_hints xs) same in
+    let alike : most_hints runs ≡ most_hints one.runs.items = ap (λ (xs : List FileRun). most_hints xs) same in
     omega (arith, alike, few_hints one.runs.items own)
 
 -- those that leave no hint are none

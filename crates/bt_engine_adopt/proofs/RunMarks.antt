@@ -16,7 +16,7 @@ use Rattle.bt_machine.proofs.Lists.{here}
 use Rattle.bt_machine.specs.Hints.{mark_of, add_hint, add_hints}
 use Rattle.bt_machine.specs.Blocks.{block_id}
 use Rattle.bt_machine.specs.Adopting.{run_starts}
-use Rattle.bt_engine_adopt.specs.declared.marks.Run.{Run}
+use Rattle.bt_engine_adopt.specs.declared.marks.FileRun.{FileRun}
 use Rattle.bt_engine_adopt.specs.MarksSteps.{unmarked_blocks, marks_in, run_blocks, AreRuns, EndBefore, most_hints}
 use Rattle.bt_engine_adopt.specs.RunProofsSteps.{run_keys}
 use Rattle.bt_engine_adopt.proofs.Ranges.{range_more, flat_map_more, flat_map_take}
@@ -44,7 +44,7 @@ module _ (states : List BlockState) (first i : ℕ) where
 
 -- ---- blocks of a kind, in runs
 
-module _ (p : ℕ → Bool) (first i : ℕ) (runs : List Run) (current : Run) (so_far : flat_map run_blocks runs ++ run_blocks current ≡ filter p (range_with_len first i))
+module _ (p : ℕ → Bool) (first i : ℕ) (runs : List FileRun) (current : FileRun) (so_far : flat_map run_blocks runs ++ run_blocks current ≡ filter p (range_with_len first i))
     (ends : current.first + current.count ≡ first + i) where
   pub run_goes_on : p (first + i) ≡ true → flat_map run_blocks runs ++ range_with_len current.first (current.count + 1) ≡ filter p (range_with_len first (i + 1))
   run_goes_on on =
@@ -52,50 +52,50 @@ module _ (p : ℕ → Bool) (first i : ℕ) (runs : List Run) (current : Run) (s
       ∙ sym (append_assoc (flat_map run_blocks runs) (run_blocks current) ((current.first + current.count) ∷ []))
       ∙ ap (λ xs. xs ++ (current.first + current.count) ∷ []) so_far ∙ ap (λ b. filter p (range_with_len first i) ++ b ∷ []) ends ∙ sym (kept_so p first i on)
 
-  pub run_ends : (more : List Run) → flat_map run_blocks more ≡ flat_map run_blocks runs ++ run_blocks current → p (first + i) ≡ false
+  pub run_ends : (more : List FileRun) → flat_map run_blocks more ≡ flat_map run_blocks runs ++ run_blocks current → p (first + i) ≡ false
       → flat_map run_blocks more ++ [] ≡ filter p (range_with_len first (i + 1))
   run_ends more closed off = append-nil (flat_map run_blocks more) ∙ closed ∙ so_far ∙ sym (dropped_so p first i off)
 
 no_more : (n : ℕ) → n ≤ 0 → n ≡ 0
 no_more n le = omega arith
 
-pub no_blocks : (run : Run) → run.count ≤ 0 → run_blocks run ≡ []
+pub no_blocks : (run : FileRun) → run.count ≤ 0 → run_blocks run ≡ []
 no_blocks run none = ap (range_with_len run.first) (no_more run.count none)
 
-pub run_put : (runs : List Run) (run : Run) → flat_map run_blocks (runs ++ run ∷ []) ≡ flat_map run_blocks runs ++ run_blocks run
+pub run_put : (runs : List FileRun) (run : FileRun) → flat_map run_blocks (runs ++ run ∷ []) ≡ flat_map run_blocks runs ++ run_blocks run
 run_put runs run = flat_map_more run_blocks runs (run ∷ []) ∙ ap (λ xs. flat_map run_blocks runs ++ xs) (append-nil (run_blocks run))
 
-pub run_empty : (runs : List Run) (run : Run) → run.count ≤ 0 → flat_map run_blocks runs ≡ flat_map run_blocks runs ++ run_blocks run
+pub run_empty : (runs : List FileRun) (run : FileRun) → run.count ≤ 0 → flat_map run_blocks runs ≡ flat_map run_blocks runs ++ run_blocks run
 run_empty runs run none = sym (append-nil (flat_map run_blocks runs)) ∙ ap (λ xs. flat_map run_blocks runs ++ xs) (sym (no_blocks run none))
 
 pub no_runs : AreRuns []
-no_runs = record { each = All-nil (λ (r : Run). IsRun r.first r.count); apart = λ i j d lt within. absurd (omega arith) }
+no_runs = record { each = All-nil (λ (r : FileRun). IsRun r.first r.count); apart = λ i j d lt within. absurd (omega arith) }
 
-pub are_more : (runs : List Run) (run : Run) → AreRuns runs → EndBefore run.first runs → 0 < run.count → run.first + run.count ≤ max_block_count → AreRuns (runs ++ run ∷ [])
+pub are_more : (runs : List FileRun) (run : FileRun) → AreRuns runs → EndBefore run.first runs → 0 < run.count → run.first + run.count ≤ max_block_count → AreRuns (runs ++ run ∷ [])
 are_more runs run are before some within = record {
-  each = All-push (λ (r : Run). IsRun r.first r.count) runs run are.each (record { some = some; within = within });
-  apart = all_pairs_push (λ (r later : Run). r.first + r.count < later.first) runs run are.apart (λ k d lt. before k d lt);
+  each = All-push (λ (r : FileRun). IsRun r.first r.count) runs run are.each (record { some = some; within = within });
+  apart = all_pairs_push (λ (r later : FileRun). r.first + r.count < later.first) runs run are.apart (λ k d lt. before k d lt);
 }
 
-pub ends_later : (runs : List Run) (low high : ℕ) → low ≤ high → EndBefore low runs → EndBefore high runs
+pub ends_later : (runs : List FileRun) (low high : ℕ) → low ≤ high → EndBefore low runs → EndBefore high runs
 ends_later runs low high le before =
-    All-weaker (λ (r : Run). r.first + r.count < low) (λ (r : Run). r.first + r.count < high) (λ r lt. omega (arith, lt, le)) runs before
+    All-weaker (λ (r : FileRun). r.first + r.count < low) (λ (r : FileRun). r.first + r.count < high) (λ r lt. omega (arith, lt, le)) runs before
 
-pub ends_more : (runs : List Run) (run : Run) → EndBefore run.first runs → EndBefore (run.first + run.count + 1) (runs ++ run ∷ [])
+pub ends_more : (runs : List FileRun) (run : FileRun) → EndBefore run.first runs → EndBefore (run.first + run.count + 1) (runs ++ run ∷ [])
 ends_more runs run before =
-    All-push (λ (r : Run). r.first + r.count < run.first + run.count + 1) runs run (ends_later runs run.first (run.first + run.count + 1) (omega arith) before) (omega arith)
+    All-push (λ (r : FileRun). r.first + r.count < run.first + run.count + 1) runs run (ends_later runs run.first (run.first + run.count + 1) (omega arith) before) (omega arith)
 
 -- ---- how many hints the marks of runs take at most
 
 -- runs that lie apart have no more blocks than a file may have, from where the first of them begins
-hints_within : (runs : List Run) (low : ℕ) → low ≤ max_block_count → All (λ r. low ≤ r.first) runs → AreRuns runs → low + most_hints runs ≤ max_block_count
+hints_within : (runs : List FileRun) (low : ℕ) → low ≤ max_block_count → All (λ r. low ≤ r.first) runs → AreRuns runs → low + most_hints runs ≤ max_block_count
 hints_within [] low inside from are = omega (arith, inside)
 hints_within (run ∷ runs) low inside from are =
-    let starts : low ≤ run.first = All-head (λ (r : Run). low ≤ r.first) run runs from in
-    let own : IsRun run.first run.count = All-head (λ (r : Run). IsRun r.first r.count) run runs are.each in
+    let starts : low ≤ run.first = All-head (λ (r : FileRun). low ≤ r.first) run runs from in
+    let own : IsRun run.first run.count = All-head (λ (r : FileRun). IsRun r.first r.count) run runs are.each in
     let rest = hints_within runs (run.first + run.count) own.within later
-    (record { each = All-tail (λ (r : Run). IsRun r.first r.count) run runs are.each; apart = λ i j d lt within. are.apart (suc i) (suc j) d (omega (arith, lt)) (omega (arith, within)) }) in
-    omega (arith, starts, rest, own.some, half run.count, sum_by-cons (λ (r : Run). div_ceil r.count 2) run runs)
+    (record { each = All-tail (λ (r : FileRun). IsRun r.first r.count) run runs are.each; apart = λ i j d lt within. are.apart (suc i) (suc j) d (omega (arith, lt)) (omega (arith, within)) }) in
+    omega (arith, starts, rest, own.some, half run.count, sum_by-cons (λ (r : FileRun). div_ceil r.count 2) run runs)
   where
     half : (n : ℕ) → div_ceil n 2 ≤ n
     half n = omega arith
@@ -103,15 +103,15 @@ hints_within (run ∷ runs) low inside from are =
     later : All (λ r. run.first + run.count ≤ r.first) runs
     later = λ k d lt. (let apart = are.apart zero (suc k) d (omega arith) (omega (arith, lt)) in omega (arith, apart))
 
-pub few_hints : (runs : List Run) → AreRuns runs → most_hints runs ≤ max_block_count
+pub few_hints : (runs : List FileRun) → AreRuns runs → most_hints runs ≤ max_block_count
 few_hints runs are = omega (arith, hints_within runs 0 (omega arith) (λ k d lt. omega arith) are)
 
 -- runs that leave no hint have no block
-pub no_hints : (runs : List Run) → AreRuns runs → most_hints runs ≤ 0 → runs ≡ []
+pub no_hints : (runs : List FileRun) → AreRuns runs → most_hints runs ≤ 0 → runs ≡ []
 no_hints [] are none = refl
 no_hints (run ∷ runs) are none =
-    let own : IsRun run.first run.count = All-head (λ (r : Run). IsRun r.first r.count) run runs are.each in
-    absurd (omega (arith, none, own.some, half run.count own.some, sum_by-cons (λ (r : Run). div_ceil r.count 2) run runs))
+    let own : IsRun run.first run.count = All-head (λ (r : FileRun). IsRun r.first r.count) run runs are.each in
+    absurd (omega (arith, none, own.some, half run.count own.some, sum_by-cons (λ (r : FileRun). div_ceil r.count 2) run runs))
   where
     half : (n : ℕ) → 0 < n → 0 < div_ceil n 2
     half n some = omega arith
@@ -145,7 +145,7 @@ pub marks_then : (file : ℕ) (old : List Hint) (xs ys : List ℕ) → add_hints
 marks_then file old xs ys = sym (add_more old (marks_in file xs) (marks_in file ys)) ∙ ap (add_hints old) (sym (map-append (λ j. mark_of (block_id file j)) xs ys))
 
 -- a run of marked blocks goes on, or ends at a block that is not marked
-module _ (states : List BlockState) (file first i : ℕ) (run : Run) (old hints : List Hint)
+module _ (states : List BlockState) (file first i : ℕ) (run : FileRun) (old hints : List Hint)
     (so_far : add_hints hints (marks_in file (run_blocks run)) ≡ add_hints old (marks_in file (filter (is_marked_at states) (range_with_len first i)))) where
   pub marked_goes_on : run.first + run.count ≡ first + i → is_marked_at states (first + i) ≡ true
       → add_hints hints (marks_in file (range_with_len run.first (run.count + 1))) ≡ add_hints old (marks_in file (filter (is_marked_at states) (range_with_len first (i + 1))))
@@ -176,7 +176,7 @@ pub room_last : (count marked old left new : ℕ) → 2 * old + marked ≤ 2 * l
 room_last count marked old left new so_far more = omega (arith, so_far, more, up_by_half count)
 
 -- the marked blocks of one run more
-pub marked_more : (states : List BlockState) (file : ℕ) (runs : List Run) (i : ℕ) {run : Run} (d : Run) → i < length runs → run ≡ get_or runs i d → (old : List Hint) {hints new : List Hint}
+pub marked_more : (states : List BlockState) (file : ℕ) (runs : List FileRun) (i : ℕ) {run : FileRun} (d : FileRun) → i < length runs → run ≡ get_or runs i d → (old : List Hint) {hints new : List Hint}
     → hints ≡ add_hints old (marks_in file (filter (is_marked_at states) (flat_map run_blocks (take i runs))))
     → new ≡ add_hints hints (marks_in file (filter (is_marked_at states) (run_blocks run)))
     → new ≡ add_hints old (marks_in file (filter (is_marked_at states) (flat_map run_blocks (take (i + 1) runs))))

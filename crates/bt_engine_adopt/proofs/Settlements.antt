@@ -1,5 +1,5 @@
 -- Files of a tree that are settled, one after the other.
-use Rattle.bt_machine.proofs.Base.{[], ◌≡◌, ◌≢◌, ℕ, ◌<◌, ◌≤◌, inl, inr, Bool, true, false, cond, ◌&&◌, if◌then◌else◌, List, ◌++◌, length, map, flat_map, Option, Some, None, refl, sym, ap, ◌∙◌, arith, ◌==◌, eqb-true, eq-eqb, lt-ltb, le-ltb, cases_lt, slice_get, option_map, option_map_or, range_with_len, Facts, BlockRead, block_of, call_of, judged, waiting_blocks, is_waiting, BlockState, blocks_of, block_count}
+use Rattle.bt_machine.proofs.Base.{[], ◌≡◌, ◌≢◌, ℕ, ◌<◌, ◌≤◌, inl, inr, Bool, true, false, cond, ◌&&◌, if◌then◌else◌, List, ◌++◌, length, map, flat_map, Option, Some, None, refl, sym, ap, ◌∙◌, subst, arith, ◌==◌, eqb-true, eq-eqb, lt-ltb, le-ltb, cases_lt, slice_get, option_map, option_map_or, range_with_len, Facts, BlockRead, block_of, call_of, judged, waiting_blocks, is_waiting, BlockState, blocks_of, block_count}
 use Rattle.std.specs.Prelude.{nat_lt, IsTrue, ◌↔◌}
 use Rattle.std.specs.List.{count_by}
 use Rattle.std.specs.Vec.{with_item}
@@ -289,6 +289,11 @@ module _ (dig : List ℕ → List ℕ) (tree count : ℕ) where
         others = two.others ∙ ap (λ (x : EngineState). record x { files = new.files }) one.others;
       },
     )
+
+-- the slot is due that is read there once more
+pub due_again : {D H : Type 0} (parts : Parts D H) (file : ℕ) {tree : ℕ} {slot other : Slot D H} → slice_get parts.slots.items file ≡ Some slot
+    → slice_get parts.slots.items file ≡ Some other → IsDue tree slot → IsDue tree other
+due_again {D} {H} parts file {tree = tree} here there due = subst (λ (s : Slot D H). IsDue tree s) (some_is (sym here ∙ there)) due
 
 pub due_is : {D H : Type 0} (slot : Slot D H) (tree : ℕ) {store : StoreView D} → slot.store ≡ Some store → slot.tree ≡ tree → (n : ℕ) → n ≡ count_by is_waiting store.states
     → IsTrue (nat_lt 0 n) ↔ IsDue tree slot

@@ -14,22 +14,22 @@ use Rattle.bt_machine.specs.Devices.{calls_at, reads_at}
 use Rattle.bt_machine.specs.Blocks.{states_of}
 use Rattle.bt_machine.specs.Adopting.{AdoptsGroups}
 use Rattle.bt_engine_state.specs.Parts.{state_of, file_of, log_of, pending_of, hints_of}
-use Rattle.bt_engine_state.specs.Ties.{FitsFile, StillKnows}
+use Rattle.bt_engine_state.specs.Recount.{HasFile, with_all}
+use Rattle.bt_engine_state.specs.Ties.{FitsFile, StillKnows, LeavesStay, root_and_length}
 use Rattle.bt_engine_state.specs.declared.slot.Slot.{Slot}
 use Rattle.bt_engine_state.specs.declared.open_log.OpenLog.{OpenLog}
 use Rattle.bt_engine_state.specs.declared.parts.Parts.{Parts}
 use Rattle.bt_engine_state.proofs.Leaves.{still, leaves_by, one_grown, same_names}
 use Rattle.bt_engine_state.proofs.Lists.{get_mapped, get_read}
+use Rattle.bt_engine_state.proofs.Recounts.{files_with}
 use Rattle.bt_engine_state.proofs.SlotChanges.{file_here, files_changed, have_changed, fits_changed, fits_trees, set_again}
 use Rattle.bt_engine_adopt.specs.GroupSteps.{log_in, file_view}
 use Rattle.bt_engine_adopt.specs.GroupsSteps.{all_reads, file_with, AreTaken, TakesGroups, StopsTaking}
-use Rattle.bt_engine_adopt.specs.RecountSteps.{with_marked_file}
-use Rattle.bt_engine_adopt.specs.PartsSteps.{AreFit, ChangesFile, block_count_of_tree}
+use Rattle.bt_engine_adopt.specs.PartsSteps.{AreFit, block_count_of_tree}
 use Rattle.bt_engine_adopt.specs.AdoptionSteps.{AdoptsIn, StopsIn}
 use Rattle.bt_engine_adopt.specs.Unknown.{HasUnknownLeaf}
 use Rattle.bt_engine_adopt.proofs.Logs.{logged_same, hints_same}
 use Rattle.bt_engine_adopt.proofs.Takings.{taken_state}
-use Rattle.bt_engine_adopt.proofs.Recounts.{files_with}
 use Rattle.bt_disk.specs.Conduct.{Conduct}
 
 -- ---- what is known of a slot with a store
@@ -41,6 +41,10 @@ here_at parts {file} {slot} inside is = get_read parts.slots.items file slot (om
 pub there_at : {D H : Type 0} (parts : Parts D H) {tree : ℕ} {k : Facts} → tree < parts.trees.len → k ≡ get_or parts.trees.items tree k
     → slice_get parts.trees.items tree ≡ Some k
 there_at parts {tree} {k} inside is = get_read parts.trees.items tree k (omega (arith, inside, parts.trees.ok.0)) is
+
+pub has_file : {D H : Type 0} (parts : Parts D H) {file : ℕ} {slot : Slot D H} → slice_get parts.slots.items file ≡ Some slot
+    → HasFile parts.torrent file (file_of slot) (state_of parts)
+has_file parts {file} here = record { same_torrent = refl; here = get_mapped file_of parts.slots.items file here }
 
 -- the file's slot, its store and its tree
 pub record StandsAt {D H : Type 0} (parts : Parts D H) (file : ℕ) (slot : Slot D H) (store : StoreView D) (k : Facts) : Type 0 where
@@ -120,6 +124,18 @@ module _ {D : Type 0} {conduct : Conduct D} {dig : List ℕ → List ℕ} {k : F
     still = s.takes.still;
   }
 
+-- Of parts in which nothing changed but slots, trees and what waits for the log: there are as many slots as
+-- before, and the trees are of the same roots, lengths and blocks. Each leaf that was known is. Of the files only
+-- this one has changed, and has as many blocks as before.
+pub record ChangesFile {D H : Type 0} (file : ℕ) (old new : Parts D H) : Type 0 where
+  pub log : log_of new ≡ log_of old
+  pub count : length new.slots.items ≡ length old.slots.items
+  pub trees : map root_and_length new.trees.items ≡ map root_and_length old.trees.items
+  pub alike : (with_all Marked (state_of new) file).files ≡ (with_all Marked (state_of old) file).files
+  pub blocks : (tree : ℕ) → block_count_of_tree (state_of new) tree ≡ block_count_of_tree (state_of old) tree
+  pub leaves : LeavesStay (state_of old) (state_of new)
+  pub fits : AreFit new
+
 module _ {D H : Type 0} {old : Parts D H} {file : ℕ} {slot : Slot D H} {store : StoreView D} {k : Facts} (at : StandsAt old file slot store k)
     {grown : Facts} {after : StoreView D} (kept : IsKept k store grown after) where
   trees : List Facts
@@ -132,7 +148,7 @@ module _ {D H : Type 0} {old : Parts D H} {file : ℕ} {slot : Slot D H} {store 
   files_are = files_changed old.slots.items file at.here at.has after
 
   -- the file is the only one that differs
-  alike : (new : Parts D H) → new.slots.items ≡ changed_slots → (with_marked_file (state_of new) file).files ≡ (with_marked_file (state_of old) file).files
+  alike : (new : Parts D H) → new.slots.items ≡ changed_slots → (with_all Marked (state_of new) file).files ≡ (with_all Marked (state_of old) file).files
   alike new is =
       let was = file_here old.slots.items file at.here at.has after in
       let files : (state_of new).files ≡ slice_set (state_of old).files file (file_with slot.tree after.states) = ap (λ (xs : List (Slot D H)). map file_of xs) is ∙ files_are in
@@ -174,7 +190,6 @@ module _ {D H : Type 0} {old : Parts D H} {file : ℕ} {slot : Slot D H} {store 
     -- by a call of the store alone
     pub store_changed : ChangesFile file old (record old { slots = with_item old.slots file (record slot { store = Some after }) })
     store_changed = record {
-      others = refl;
       log = refl;
       count = length-set old.slots.items file (record slot { store = Some after });
       trees = refl;
@@ -189,7 +204,6 @@ module _ {D H : Type 0} {old : Parts D H} {file : ℕ} {slot : Slot D H} {store 
     pub both_changed : (log : Option (OpenLog D)) → log_in log ≡ log_of old → ChangesFile file old (parts_with old file slot after grown log)
     unfolding trees
     both_changed log same_log = record {
-      others = refl;
       log = same_log;
       count = length-set old.slots.items file (record slot { store = Some after });
       trees = same_names old.trees.items slot.tree grown at.there kept.still;

@@ -4,7 +4,6 @@ pub mod MarksSteps
 pub mod RunProofsSteps
 pub mod GroupSteps
 pub mod GroupsSteps
-pub mod RecountSteps
 pub mod PartsSteps
 pub mod SettlingSteps
 pub mod WaitingSteps

@@ -8,7 +8,7 @@ use Rattle.bt_store.specs.Review.{is_marked_at, is_waiting_at}
 use Rattle.bt_store.specs.declared.block_states.BlockState.{BlockState}
 use Rattle.bt_machine.specs.Hints.{mark_of}
 use Rattle.bt_machine.specs.Blocks.{block_id}
-use Rattle.bt_engine_adopt.specs.declared.marks.Run.{Run}
+use Rattle.bt_engine_adopt.specs.declared.marks.FileRun.{FileRun}
 use Rattle.bt_engine_adopt.specs.declared.marks.Kind.{Kind}
 use Rattle.bt_engine_adopt.specs.declared.marks.Kind.TheVariants.{Unmarked, Waits}
 
@@ -34,20 +34,20 @@ newly_marked old new =
 abbrev pub marks_in : (file : ℕ) → List ℕ → List Hint
 marks_in file blocks = map (λ i. mark_of (block_id file i)) blocks
 
-abbrev pub run_blocks : Run → List ℕ
+abbrev pub run_blocks : FileRun → List ℕ
 run_blocks run = range_with_len run.first run.count
 
 -- Each run has a block and lies where a file's blocks may. It ends before the next one begins, with a block
 -- between them, so the runs are as few as may be.
-pub record AreRuns (runs : List Run) : Type 0 where
+pub record AreRuns (runs : List FileRun) : Type 0 where
   pub each : All (λ run. IsRun run.first run.count) runs
   pub apart : AllPairs (λ run later. run.first + run.count < later.first) runs
 
 -- all end before this block
-abbrev pub EndBefore : ℕ → List Run → Type 0
+abbrev pub EndBefore : ℕ → List FileRun → Type 0
 EndBefore block runs = All (λ run. run.first + run.count < block) runs
 
 -- How many runs those of their blocks make at most that are marked, whichever they are: between two of them
 -- there is a block that is not.
-abbrev pub most_hints : List Run → ℕ
+abbrev pub most_hints : List FileRun → ℕ
 most_hints runs = sum_by (λ run. div_ceil run.count 2) runs

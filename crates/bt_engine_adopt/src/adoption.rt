@@ -6,17 +6,16 @@ ghost use Rattle.bt_machine.specs.Blocks.{states_of};
 ghost use Rattle.bt_machine.specs.Adopting.{StepAdopt};
 ghost use Rattle.bt_engine_state.specs.Parts.{state_of, disks_of};
 ghost use Rattle.bt_engine_state.specs.Handling.{AreInShape, KeepsWritten};
-ghost use Rattle.bt_engine_adopt.specs.PartsSteps.{AreFit, AreInLine, KeepsRest, ChangesFile};
+ghost use Rattle.bt_engine_adopt.specs.PartsSteps.{AreInLine, KeepsRest};
 ghost use Rattle.bt_engine_adopt.specs.AdoptionSteps.{AdoptsIn, StopsIn};
 ghost use Rattle.bt_engine_adopt.specs.Unknown.{HasUnknownLeaf};
 
 use crate::groups::adopt_groups;
-use crate::recount::{block_count, count_in, leave_out};
 use crate::settling::settle_recorded;
 use bt_disk::{Disk, calls_compose};
-use bt_engine_state::Parts;
+use bt_engine_state::{Parts, count_in, leave_out};
 use bt_machine::AdoptError;
-use bt_store::Adopted;
+use bt_store::{Adopted, BlockState};
 use bt_tree::NodeHash;
 use std::alloc::{AllocError, Global};
 
@@ -40,7 +39,8 @@ pub fn adopt<D: Disk + Drop, H: NodeHash>(
         × StepAdopt H.digest (state_of parts.old) file calls result (state_of parts.new) }
     ensures rest { KeepsWritten parts.old parts.new }
     ensures peers { parts.new.peers ≡ parts.old.peers }
-    ensures refused { IfErr result (λ error. error ≢ AdoptError.OutOfMemory → parts.new ≡ parts.old) }
+    ensures refused { IfErr result (λ error. error ≢ AdoptError.OutOfMemory → parts.new
+        ≡ parts.old) }
     ensures unknown { IfErr result (λ error. error ≡ AdoptError.OutOfMemory
         → is_some parts.old.log ≡ false → HasUnknownLeaf H.digest (state_of parts.new) file) }
 {
@@ -66,6 +66,17 @@ pub fn adopt<D: Disk + Drop, H: NodeHash>(
         return Err(AdoptError::OutOfMemory);
     };
     Ok(total)
+}
+
+/// How many blocks a file has; none where there is no such file.
+fn block_count<D: Disk + Drop, H: NodeHash>(parts: &Parts<D, H>, file: u32) -> u32
+    ensures { result ≡ length (states_of (state_of parts.now) file) }
+{
+    let slots = parts.slots.as_slice();
+    match slots.get(file as usize) {
+        Some(slot) => slot.blocks(),
+        None => 0,
+    }
 }
 
 /// Whether a peer is connected.
@@ -94,35 +105,27 @@ fn adopt_file<D: Disk + Drop, H: NodeHash>(
     ensures rest { KeepsRest parts.old parts.new }
     ensures in_line { AreInLine parts.new }
 {
-    leave_out(parts, file);
-    let adopted = adopt_slot(alloc, parts, file);
-    count_in(parts, file);
-    adopted
-}
-
-/// Takes in all groups of a file that has a block. The book and the counts stay as they were. Errors: out of
-/// memory.
-fn adopt_slot<D: Disk + Drop, H: NodeHash>(
-    alloc: Global,
-    parts: &mut Parts<D, H>,
-    file: u32,
-) -> Result<Adopted, AllocError>
-    requires fits { AreFit parts.old }
-    requires inside { file < vec_len parts.old.slots }
-    requires some { 0 < length (states_of (state_of parts.old) file) }
-    ensures ok { IfOk result (λ total. AdoptsIn D.conduct H.digest file
-        parts.old total parts.new) }
-    ensures stop { IfErr result (λ _. StopsIn D.conduct H.digest file
-        parts.old parts.new) }
-    ensures unknown { IfErr result (λ _. is_some parts.old.log ≡ false
-        → HasUnknownLeaf H.digest (state_of parts.new) file) }
-    ensures changes { ChangesFile file parts.old parts.new }
-{
     calls_compose::<D>();
     let slot = &mut parts.slots[file as usize];
+    leave_out(
+        &parts.torrent,
+        slot,
+        file,
+        &mut parts.book,
+        &mut parts.counts,
+    );
     let Some(store) = &mut slot.store else {
         unreachable!();
     };
     let tree = &mut parts.trees[slot.tree as usize];
-    adopt_groups(alloc, store, tree, file, &mut parts.log)
+    let adopted = adopt_groups(alloc, store, tree, file, &mut parts.log);
+    count_in(
+        &parts.torrent,
+        slot,
+        file,
+        BlockState::Marked,
+        &mut parts.book,
+        &mut parts.counts,
+    );
+    adopted
 }

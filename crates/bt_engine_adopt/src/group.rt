@@ -9,7 +9,7 @@ ghost use Rattle.bt_machine.specs.ProofKeys.{ProofKeysAreAnswered};
 ghost use Rattle.bt_engine_state.specs.Parts.{pending_of};
 ghost use Rattle.bt_engine_adopt.specs.GroupSteps.{log_in, file_view, TakesGroup, StopsGroup};
 
-use crate::marks::{KNOWN_LEN, Kind, Run, push_marked, push_runs, runs_of, unmarked_blocks};
+use crate::marks::{FileRun, KNOWN_LEN, Kind, push_marked, push_runs, runs_of, unmarked_blocks};
 use crate::run_proofs::{proof_rooms, push_proofs};
 use bt_disk::Disk;
 use bt_engine_pending::Pending;
@@ -42,7 +42,8 @@ pub(crate) fn adopt_group<D: Disk + Drop, H: NodeHash>(
         tree.old from store.old store.new) }
     ensures tree { IfErr result (λ _. tree.new ≡ tree.old) }
     ensures pending { IfErr result (λ _. pending_of log.new ≡ pending_of log.old) }
-    ensures unknown { IfErr result (λ _. is_some log.old ≡ false → value_at H.digest tree.old 0 from ≡ None) }
+    ensures unknown { IfErr result (λ _. is_some log.old ≡ false
+        → value_at H.digest tree.old 0 from ≡ None) }
     ensures log { log_in log.new ≡ log_in log.old }
 {
     proof_keys_are_answered::<H>();
@@ -154,21 +155,21 @@ fn adopt_claimed<D: Disk + Drop, H: NodeHash>(
 }
 
 /// The blocks from one on that a group may have whose leaves are known.
-fn blocks_ahead<H: NodeHash>(tree: &SparseTree<H>, from: u32) -> Run
+fn blocks_ahead<H: NodeHash>(tree: &SparseTree<H>, from: u32) -> FileRun
     requires { from < blocks_of tree.now }
     ensures first { result.first ≡ from }
     ensures count { result.count ≡ min 8 (blocks_of tree.now - from) }
     ensures limit { result.first + result.count ≤ max_block_count }
 {
     let rest = tree.geometry().blocks() - from;
-    Run {
+    FileRun {
         first: from,
         count: rest.min(KNOWN_LEN as u32),
     }
 }
 
 /// The blocks below the nearest node above a leaf that is held, which lies in this layer.
-fn group_below<H: NodeHash>(tree: &SparseTree<H>, from: u32, anchor: u32) -> Run
+fn group_below<H: NodeHash>(tree: &SparseTree<H>, from: u32, anchor: u32) -> FileRun
     requires inside { from < blocks_of tree.now }
     requires nearest { IsAnchor tree.now from anchor }
     requires above { 0 < anchor }
@@ -178,7 +179,7 @@ fn group_below<H: NodeHash>(tree: &SparseTree<H>, from: u32, anchor: u32) -> Run
 {
     let first = (from >> anchor) << anchor;
     let rest = tree.geometry().blocks() - first;
-    Run {
+    FileRun {
         first,
         count: rest.min(1 << anchor),
     }

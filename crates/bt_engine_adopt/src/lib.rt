@@ -6,7 +6,6 @@ mod adoption;
 mod group;
 mod groups;
 mod marks;
-mod recount;
 mod run_proofs;
 mod settling;
 mod waiting;

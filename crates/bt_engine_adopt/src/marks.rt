@@ -20,7 +20,7 @@ pub(crate) const KNOWN_LEN: usize = 8;
 
 /// Blocks of a file that follow each other.
 #[derive(Clone, Copy)]
-pub(crate) struct Run {
+pub(crate) struct FileRun {
     pub(crate) first: u32,
     pub(crate) count: u32,
 }
@@ -37,7 +37,7 @@ pub(crate) enum Kind {
 /// The blocks of a group that are not marked, where their leaves are known.
 pub(crate) fn unmarked_blocks<D: Disk + Drop, H: NodeHash>(
     store: &FileStore<D, H>,
-    run: Run,
+    run: FileRun,
 ) -> ArrayVec<u32, KNOWN_LEN>
     requires few { run.count ≤ 8 }
     requires within { run.first + run.count ≤ max_block_count }
@@ -57,16 +57,16 @@ pub(crate) fn unmarked_blocks<D: Disk + Drop, H: NodeHash>(
 pub(crate) fn runs_of<D: Disk + Drop, H: NodeHash>(
     alloc: Global,
     store: &FileStore<D, H>,
-    run: Run,
+    run: FileRun,
     kind: Kind,
-) -> Result<Vec<Run>, AllocError>
+) -> Result<Vec<FileRun>, AllocError>
     requires { run.first + run.count ≤ max_block_count }
     ensures blocks { IfOk result (λ runs. flat_map run_blocks runs.items
         ≡ blocks_of_kind kind store.now.states run.first run.count) }
     ensures runs { IfOk result (λ runs. AreRuns runs.items) }
 {
     let mut runs = Vec::new(alloc);
-    let mut current = Run {
+    let mut current = FileRun {
         first: run.first,
         count: 0,
     };
@@ -76,7 +76,7 @@ pub(crate) fn runs_of<D: Disk + Drop, H: NodeHash>(
             current.count += 1;
         } else {
             close(&mut runs, current)?;
-            current = Run {
+            current = FileRun {
                 first: block + 1,
                 count: 0,
             };
@@ -87,12 +87,13 @@ pub(crate) fn runs_of<D: Disk + Drop, H: NodeHash>(
 }
 
 /// Puts a run after others, if it has a block. Errors: out of memory.
-fn close(runs: &mut Vec<Run>, run: Run) -> Result<(), AllocError>
+fn close(runs: &mut Vec<FileRun>, run: FileRun) -> Result<(), AllocError>
     requires within { run.first + run.count ≤ max_block_count }
     requires runs { AreRuns runs.old.items }
     requires before { EndBefore run.first runs.old.items }
     ensures blocks { OnOk result
-        (flat_map run_blocks runs.new.items ≡ flat_map run_blocks runs.old.items ++ run_blocks run) }
+        (flat_map run_blocks runs.new.items ≡ flat_map run_blocks runs.old.items
+        ++ run_blocks run) }
     ensures runs { OnOk result (AreRuns runs.new.items) }
     ensures before { OnOk result (EndBefore (run.first + run.count + 1) runs.new.items) }
 {
@@ -152,7 +153,7 @@ pub(crate) fn push_marked<D: Disk + Drop, H: NodeHash>(
 }
 
 /// Leaves the marks of all blocks of runs.
-pub(crate) fn push_runs(file: u32, runs: &[Run], pending: &mut Pending)
+pub(crate) fn push_runs(file: u32, runs: &[FileRun], pending: &mut Pending)
     requires room { length runs.now ≤ pending.old.room }
     requires runs { AreRuns runs.now }
     ensures hints { pending.new.hints ≡ add_hints pending.old.hints
@@ -172,7 +173,7 @@ pub(crate) fn push_runs(file: u32, runs: &[Run], pending: &mut Pending)
 pub(crate) fn push_marked_in<D: Disk + Drop, H: NodeHash>(
     store: &FileStore<D, H>,
     file: u32,
-    runs: &[Run],
+    runs: &[FileRun],
     pending: &mut Pending,
 )
     requires runs { AreRuns runs.now }
@@ -191,7 +192,7 @@ pub(crate) fn push_marked_in<D: Disk + Drop, H: NodeHash>(
 fn push_marked_of<D: Disk + Drop, H: NodeHash>(
     store: &FileStore<D, H>,
     file: u32,
-    run: Run,
+    run: FileRun,
     pending: &mut Pending,
 )
     requires within { run.first + run.count ≤ max_block_count }
@@ -200,7 +201,7 @@ fn push_marked_of<D: Disk + Drop, H: NodeHash>(
         (marks_in file (filter (is_marked_at store.now.states) (run_blocks run))) }
     ensures room { pending.old.room ≤ pending.new.room + div_ceil run.count 2 }
 {
-    let mut marked = Run {
+    let mut marked = FileRun {
         first: run.first,
         count: 0,
     };
@@ -210,7 +211,7 @@ fn push_marked_of<D: Disk + Drop, H: NodeHash>(
             marked.count += 1;
         } else {
             push_run(file, marked, pending);
-            marked = Run {
+            marked = FileRun {
                 first: block + 1,
                 count: 0,
             };
@@ -220,10 +221,11 @@ fn push_marked_of<D: Disk + Drop, H: NodeHash>(
 }
 
 /// Leaves the marks of a run, if it has a block.
-fn push_run(file: u32, run: Run, pending: &mut Pending)
+fn push_run(file: u32, run: FileRun, pending: &mut Pending)
     requires within { run.first + run.count ≤ max_block_count }
     requires room { min run.count 1 ≤ pending.old.room }
-    ensures hints { pending.new.hints ≡ add_hints pending.old.hints (marks_in file (run_blocks run)) }
+    ensures hints { pending.new.hints ≡ add_hints pending.old.hints
+        (marks_in file (run_blocks run)) }
     ensures room { pending.old.room ≤ pending.new.room + min run.count 1 }
 {
     if run.count > 0 {
@@ -236,7 +238,7 @@ fn push_run(file: u32, run: Run, pending: &mut Pending)
 }
 
 /// How many hints the marks of runs take at most, whichever of their blocks are marked.
-pub(crate) fn most_hints(runs: &[Run]) -> usize
+pub(crate) fn most_hints(runs: &[FileRun]) -> usize
     requires { most_hints runs.now ≤ max_block_count }
     ensures { result ≡ most_hints runs.now }
 {

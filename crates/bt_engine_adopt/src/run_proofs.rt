@@ -10,7 +10,7 @@ ghost use Rattle.bt_machine.specs.ProofKeys.{HasAnswer};
 ghost use Rattle.bt_machine.specs.Adopting.{run_starts, IsProof};
 ghost use Rattle.bt_engine_adopt.specs.RunProofsSteps.{run_keys, HoldsAnswer};
 
-use crate::marks::Run;
+use crate::marks::FileRun;
 use bt_engine_pending::Pending;
 use bt_hashreq::{HashKey, MAX_RUN_HEIGHT};
 use bt_resume::Hint;
@@ -43,7 +43,7 @@ fn run_key<H: NodeHash>(tree: &SparseTree<H>, block: u32, anchor: u32) -> HashKe
 /// Memory for the digests of each proof of a group. Errors: out of memory.
 pub(crate) fn proof_rooms(
     alloc: Global,
-    group: Run,
+    group: FileRun,
     anchor: u32,
 ) -> Result<Vec<Vec<Hash32>>, AllocError>
     requires above { 0 < anchor }
@@ -77,7 +77,7 @@ fn proof_room(alloc: Global, anchor: u32) -> Result<Vec<Hash32>, AllocError>
 /// Leaves the proofs of a group, as the tree answers their keys. Takes no memory.
 pub(crate) fn push_proofs<H: NodeHash>(
     tree: &SparseTree<H>,
-    group: Run,
+    group: FileRun,
     anchor: u32,
     mut rooms: Vec<Vec<Hash32>>,
     pending: &mut Pending,

@@ -1,16 +1,16 @@
 //! The other files of a tree, of which blocks waited for their leaf.
-ghost use Rattle.std.specs.Prelude.{[], ◌≡◌, ◌<◌, ◌==◌, ◌↔◌, is_some, true, IsTrue, OnOk, OnErr, vec_len, slice_get, Some};
+ghost use Rattle.std.specs.Prelude.{[], ◌≡◌, ◌<◌, ◌==◌, ◌↔◌, is_some, true, IsTrue, OnOk, OnErr, vec_len};
 ghost use Rattle.bt_machine.specs.Adopting.{is_other};
 ghost use Rattle.bt_engine_state.specs.Parts.{pending_of};
 ghost use Rattle.bt_engine_state.specs.Roots.{LeadThrough};
-ghost use Rattle.bt_engine_adopt.specs.PartsSteps.{AreFit, AreInLine, KeepsRest, ChangesFile};
+ghost use Rattle.bt_engine_adopt.specs.PartsSteps.{AreInLine, KeepsRest};
 ghost use Rattle.bt_engine_adopt.specs.SettlingSteps.{SettlesFiles, SettlesOthers, IsDue};
 ghost use Rattle.bt_engine_adopt.specs.WaitingSteps.{OnlyPendingChanges};
 
-use crate::recount::{count_in, leave_out};
 use crate::waiting::{leave_marks, list_waiting};
 use bt_disk::Disk;
-use bt_engine_state::{Parts, Slot};
+use bt_engine_state::{Parts, Slot, count_in, leave_out};
+use bt_store::BlockState;
 use bt_tree::NodeHash;
 use std::alloc::{AllocError, Global};
 
@@ -84,9 +84,27 @@ fn settle_file<D: Disk + Drop, H: NodeHash>(parts: &mut Parts<D, H>, tree: usize
     if !is_due(&parts.slots[file as usize], tree) {
         return;
     }
-    leave_out(parts, file);
-    settle_slot(parts, tree, file);
-    count_in(parts, file);
+    let slot = &mut parts.slots[file as usize];
+    leave_out(
+        &parts.torrent,
+        slot,
+        file,
+        &mut parts.book,
+        &mut parts.counts,
+    );
+    let Some(store) = &mut slot.store else {
+        unreachable!();
+    };
+    let blocks = store.geometry().blocks();
+    store.settle(&parts.trees[tree], 0, blocks).unwrap();
+    count_in(
+        &parts.torrent,
+        slot,
+        file,
+        BlockState::Marked,
+        &mut parts.book,
+        &mut parts.counts,
+    );
 }
 
 /// Whether a file is of the tree and has a block that waits.
@@ -97,23 +115,4 @@ pub(crate) fn is_due<D: Disk + Drop, H: NodeHash>(slot: &Slot<D, H>, tree: usize
         Some(store) => slot.tree as usize == tree && store.waiting() > 0,
         None => false,
     }
-}
-
-/// Settles all blocks of a file of the tree. The book and the counts stay as they were.
-fn settle_slot<D: Disk + Drop, H: NodeHash>(parts: &mut Parts<D, H>, tree: usize, file: u32)
-    requires fits { AreFit parts.old }
-    requires inside { file < vec_len parts.old.slots }
-    requires here { tree < vec_len parts.old.trees }
-    requires due { (slot : Slot D H) → slice_get parts.old.slots.items file ≡ Some slot → IsDue tree slot }
-    ensures settles { SettlesFiles D.conduct H.digest (λ other. other == file) tree
-        parts.old parts.new }
-    ensures log { parts.new.log ≡ parts.old.log }
-    ensures changes { ChangesFile file parts.old parts.new }
-{
-    let slot = &mut parts.slots[file as usize];
-    let Some(store) = &mut slot.store else {
-        unreachable!();
-    };
-    let blocks = store.geometry().blocks();
-    store.settle(&parts.trees[tree], 0, blocks).unwrap();
 }

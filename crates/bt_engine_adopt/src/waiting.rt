@@ -10,7 +10,7 @@ ghost use Rattle.bt_engine_adopt.specs.GroupSteps.{log_in};
 ghost use Rattle.bt_engine_adopt.specs.MarksSteps.{marks_in, run_blocks, AreRuns, most_hints};
 ghost use Rattle.bt_engine_adopt.specs.WaitingSteps.{room_in, OnlyPendingChanges, is_marked_among, waiting_blocks_in, waiting_in_others, listed_in, listed_blocks, AreListed, most_hints_of_all};
 
-use crate::marks::{Kind, Run, most_hints, push_marked_in, runs_of};
+use crate::marks::{FileRun, Kind, most_hints, push_marked_in, runs_of};
 use crate::settling::is_due;
 use bt_disk::Disk;
 use bt_engine_pending::Pending;
@@ -22,7 +22,7 @@ use std::alloc::{AllocError, Global};
 #[derive(Drop)]
 pub(crate) struct FileRuns {
     pub(crate) file: u32,
-    pub(crate) runs: Vec<Run>,
+    pub(crate) runs: Vec<FileRun>,
 }
 
 /// The blocks that wait in the other files of a tree, by file and block, with room for all hints that their
@@ -111,7 +111,8 @@ fn add_waiting<D: Disk + Drop, H: NodeHash>(
 ) -> Result<(), AllocError>
     requires { AreListed listed.old.items }
     ensures blocks { OnOk result (listed_blocks listed.new.items
-        ≡ listed_blocks listed.old.items ++ map (block_id file) (waiting_blocks_in tree (file_of slot.now))) }
+        ≡ listed_blocks listed.old.items ++ map (block_id file)
+        (waiting_blocks_in tree (file_of slot.now))) }
     ensures runs { OnOk result (AreListed listed.new.items) }
     ensures few { OnOk result (length listed.new.items ≤ length listed.old.items + 1) }
 {
@@ -122,7 +123,7 @@ fn add_waiting<D: Disk + Drop, H: NodeHash>(
         unreachable!();
     };
     let blocks = store.geometry().blocks();
-    let whole = Run {
+    let whole = FileRun {
         first: 0,
         count: blocks,
     };
@@ -136,7 +137,8 @@ pub(crate) fn leave_marks<D: Disk + Drop, H: NodeHash>(parts: &mut Parts<D, H>, 
     requires runs { AreListed listed.now }
     requires room { most_hints_of_all listed.now ≤ room_in parts.old.log }
     ensures keeps { OnlyPendingChanges parts.old parts.new }
-    ensures pending { pending_of parts.new.log ≡ add_hints (pending_of parts.old.log) (map (λ b. mark_of b)
+    ensures pending { pending_of parts.new.log ≡ add_hints (pending_of parts.old.log)
+        (map (λ b. mark_of b)
         (filter (is_marked_among (state_of parts.old).files) (listed_blocks listed.now))) }
 {
     if let Some(opened) = &mut parts.log {
@@ -181,13 +183,14 @@ fn push_settled_in<D: Disk + Drop, H: NodeHash>(
 fn push_settled_of<D: Disk + Drop, H: NodeHash>(
     slot: &Slot<D, H>,
     file: u32,
-    runs: &[Run],
+    runs: &[FileRun],
     pending: &mut Pending,
 )
     requires runs { AreRuns runs.now }
     requires room { most_hints runs.now ≤ pending.old.room }
     ensures hints { pending.new.hints ≡ add_hints pending.old.hints
-        (marks_in file (filter (is_marked_at (file_of slot.now).states) (flat_map run_blocks runs.now))) }
+        (marks_in file (filter (is_marked_at (file_of slot.now).states)
+        (flat_map run_blocks runs.now))) }
     ensures room { pending.old.room ≤ pending.new.room + most_hints runs.now }
 {
     if let Some(store) = &slot.store {

@@ -48,7 +48,8 @@ fn change_of_interest(was_interested: bool, interested: bool) -> Option<Message>
 /// Whether a piece of the set holds a missing block.
 fn is_interesting<D: Disk + Drop, H: NodeHash>(parts: &Parts<D, H>, has: &PieceSet) -> bool
     requires { AreInShape parts.now }
-    ensures { (p : PeerState) → p.has ≡ has.now → IsTrue result ↔ IsInteresting (state_of parts.now) p }
+    ensures { (p : PeerState) → p.has ≡ has.now → IsTrue result ↔ IsInteresting
+        (state_of parts.now) p }
 {
     let torrent = &parts.torrent;
     parts.book.wants(

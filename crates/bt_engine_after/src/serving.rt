@@ -69,7 +69,8 @@ fn begin_turn<D: Disk + Drop, H: NodeHash>(
     send: &mut Vec<(PeerKey, Frame)>,
 )
     requires tied { IsTied parts.old }
-    requires choice { IsChoice (map standing_of (state_of parts.old).peers) parts.old.turn served.now }
+    requires choice { IsChoice (map standing_of (state_of parts.old).peers) parts.old.turn
+        served.now }
     requires room { vec_len send.old + length parts.old.peers.items ≤ vec_capacity send.old }
     ensures state { state_of parts.new ≡ rechoked (state_of parts.old) }
     ensures sent { send.new.items ≡ send.old.items ++ chokes_sent (state_of parts.old) }
@@ -135,7 +136,8 @@ fn follow_up_all<D: Disk + Drop, H: NodeHash>(
     send: &mut Vec<(PeerKey, Frame)>,
 )
     requires sound { AreInShape parts.old }
-    requires room { vec_len send.old + max_frames * length parts.old.peers.items ≤ vec_capacity send.old }
+    requires room { vec_len send.old + max_frames * length parts.old.peers.items
+        ≤ vec_capacity send.old }
     ensures follows { SendsAllFollowUps H.digest (state_of parts.old) send.old.items send.new.items
         (state_of parts.new) }
     ensures rest { KeepsDevices parts.old parts.new }

@@ -10,11 +10,11 @@ use Rattle.bt_machine.specs.Output.{sending}
 use Rattle.bt_machine.specs.HashMessages.{IsAnswered, HandlesHashRequest, answered, rejected}
 use Rattle.bt_engine_state.specs.Roots.{Numbers, number_of, AreNumbered}
 use Rattle.bt_engine_messages.specs.HashRequestSteps.{IsAnsweredBy, IsAnswerBy, answer_of}
-use Rattle.bt_engine_messages.proofs.Learnings.{root_only}
+use Rattle.bt_engine_state.proofs.Chains.{number_is}
 
 module _ (dig : List ℕ → List ℕ) (key : HashKey) (s : EngineState) (numbers : Numbers) (are : AreNumbered (map (λ k. k.root) s.trees) numbers) where
   own_number : {digests : List (List ℕ)} (a : IsAnswered dig s key digests) → number_of numbers key.root ≡ Some a.tree
-  own_number a = root_only s.trees numbers are key.root a.here.here a.here.same_root
+  own_number a = number_is s.trees numbers key.root are _ a.here.here a.here.same_root
 
   -- there is no tree of the root
   pub none_answers : number_of numbers key.root ≡ None → (digests : List (List ℕ)) → IsAnswered dig s key digests → ⊥

@@ -147,19 +147,21 @@ module _ {D H : Type 0} (conduct : Conduct D) (dig : List ℕ → List ℕ) (key
         one_grown old.trees.items l.tree l.here.here (still_joined l.accepts.joins) tree j
         (ap (λ (ts : List Facts). slice_get ts tree) (sym (trees ∙ l.grows)) ∙ at))
 
-    pub tied_learnt : peers_of next.book ≡ peers_of old.book → AreFollowed (state_of learnt_parts) next.book.wanted next.counts → IsTied new_parts
-    tied_learnt joined followed =
+    pub tied_learnt : IsShaped old.torrent (state_of old) → peers_of next.book ≡ peers_of old.book
+        → ((s : EngineState) → s.torrent ≡ old.torrent → IsBehind old.book.wanted old.counts notes.items s → AreFollowed s next.book.wanted next.counts)
+        → IsTied new_parts
+    tied_learnt shaped joined followed =
         tied_followed old new_parts tied refl keys_kept tied.room joined
         (ap (λ (ss : List (Slot D H)). length ss) slots ∙ l.settles.size)
         (subst (λ (ts : List Facts). EachFits old.torrent.files ts next.slots.items) (sym trees)
         (subst (λ (ss : List (Slot D H)). EachFits old.torrent.files grown ss) (sym slots) fits_settled))
         (rw (trees ∙ l.grows) (rw (same_names old.trees.items l.tree l.new l.here.here (still_joined l.accepts.joins)) tied.roots))
-        (followed_alike (state_of new_parts) followed refl refl) refl leaves_learnt
+        (followed_alike (state_of new_parts) (followed (state_of learnt_parts) refl (notes_behind shaped)) refl refl) refl leaves_learnt
 
     state_learnt : ((known : PeerKey) → asked_of next.book known ≡ asked_of old.book known)
         → state_of new_parts ≡ with_peer (record (state_of old) { trees = grown; files = map file_of settled }) i (peer_of old.book q)
     state_learnt asked =
-        state_kept learnt_parts new_parts refl (λ j x at. asked x.key)
+        state_kept learnt_parts next.book next.counts (λ j x at. asked x.key)
         ∙ ap {A = EngineState} {B = EngineState} (λ s. record s { trees = next.trees.items; files = map file_of next.slots.items }) (state_set old i q tied here same)
         ∙ ap (λ (ts : List Facts). with_peer (record (state_of old) { trees = ts; files = map file_of next.slots.items }) i (peer_of old.book q)) trees
         ∙ ap (λ (ss : List (Slot D H)). with_peer (record (state_of old) { trees = grown; files = map file_of ss }) i (peer_of old.book q)) slots

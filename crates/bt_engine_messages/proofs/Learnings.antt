@@ -1,11 +1,10 @@
 -- Hashes that come, and the files whose blocks waited for them.
-use Rattle.bt_machine.proofs.Base.{◌≡◌, ℕ, ◌<◌, ◌≤◌, arith, List, get_or, map, Some, None, refl, sym, ap, ◌∙◌, All, slice_get, Facts, Result, Ok, Err, subst}
-use Rattle.std.proofs.Common.{Fits, w64, ◌*◌, mul-le-mul_right}
+use Rattle.bt_machine.proofs.Base.{◌≡◌, ℕ, List, get_or, map, Some, None, refl, sym, ap, ◌∙◌, All, slice_get, Facts, Result, Ok, Err, subst}
 use Rattle.std.specs.Prelude.{IfOk, IfErr}
 use Rattle.std.proofs.lemmas.Option.{slice_get-get_or}
-use Rattle.bt_machine.proofs.Lists.{some_is, get_map}
+use Rattle.bt_machine.proofs.Lists.{some_is}
 use Rattle.bt_engine_state.specs.Roots.{Numbers, number_of, AreNumbered}
-use Rattle.bt_engine_state.proofs.Lists.{get_mapped}
+use Rattle.bt_engine_state.proofs.Chains.{numbered_tree, number_is}
 use Rattle.bt_engine_messages.specs.RunSteps.{FitsLength}
 use Rattle.bt_engine_messages.specs.LearningSteps.{HasRoot, LacksRoot, FitLengths}
 use Rattle.bt_engine_state.specs.declared.slot.Slot.{Slot}
@@ -17,24 +16,14 @@ fits_all trees slots tree old new fit here same file slot lt = λ of_tree store 
     let there = slice_get-get_or slots file slot lt in
     same ∙ fit file (get_or slots file slot) old there (ap (slice_get trees) of_tree ∙ here) refl store has
 
--- where an element below another lies
-pub fits_below : (i n size : ℕ) → i < n → Fits w64 (n * size) → Fits w64 (i * size)
-fits_below i n size lt fits = let le : i * size ≤ n * size = mul-le-mul_right size (omega arith) in omega (arith, fits, le)
-
 -- ---- the number of a root
 
 module _ (trees : List Facts) (numbers : Numbers) (are : AreNumbered (map (λ k. k.root) trees) numbers) (root : List ℕ) where
   pub root_found : (i : ℕ) → number_of numbers root ≡ Some i → (k : Facts) × HasRoot trees root i k
-  root_found i is =
-      let k = get_map (λ (k : Facts). k.root) trees i ((are i root).0 is) in
-      (k.0, record { here = k.1; same_root = k.2 })
-
-  -- each tree of the root has its number
-  pub root_only : {i : ℕ} {k : Facts} → slice_get trees i ≡ Some k → k.root ≡ root → number_of numbers root ≡ Some i
-  root_only {i} {k} here same = sym (ap (number_of numbers) same) ∙ (are i k.root).1 (get_mapped (λ (k : Facts). k.root) trees i here)
+  root_found i is = let k = numbered_tree trees numbers root are i is in (k.0, record { here = k.1; same_root = k.2 })
 
   pub root_lacks : number_of numbers root ≡ None → LacksRoot trees root
-  root_lacks none i k has = absurd (let own = root_only has.here has.same_root in cc)
+  root_lacks none i k has = absurd (let own = number_is trees numbers root are i has.here has.same_root in cc)
 
 -- ---- refusals
 

@@ -4,7 +4,7 @@ use Rattle.std.specs.Global.{Vec}
 use Rattle.std.specs.Vec.{with_item}
 use Rattle.std.specs.Bool.{OnFalse}
 use Rattle.bt_store.specs.FileStore.{StoreView}
-use Rattle.bt_book.specs.Book.{asked_of}
+use Rattle.bt_book.specs.Book.{BookState, asked_of}
 use Rattle.bt_machine.proofs.Lists.{some_is, here as first_of}
 use Rattle.bt_machine.specs.declared.answer.Note.{Note}
 use Rattle.bt_machine.specs.declared.answer.Note.TheVariants.{Damaged as DamagedNote, Device as DeviceNote}
@@ -16,6 +16,7 @@ use Rattle.bt_machine.specs.Request.{AreMarked, HandlesRequest, FindsFault, serv
 use Rattle.bt_machine.specs.Spans.{first_block, last_block, spanned_blocks}
 use Rattle.bt_engine_state.specs.Parts.{state_of, peer_of, file_of}
 use Rattle.bt_engine_state.specs.Ties.{IsTied}
+use Rattle.bt_engine_state.specs.declared.counts.Counts.{Counts}
 use Rattle.bt_engine_state.specs.declared.peer.Peer.{Peer}
 use Rattle.bt_engine_state.specs.declared.slot.Slot.{Slot}
 use Rattle.bt_engine_state.specs.declared.parts.Parts.{Parts}
@@ -32,7 +33,7 @@ use Rattle.bt_engine_messages.specs.declared.serving.ReadFault.{ReadFault}
 use Rattle.bt_engine_messages.specs.declared.serving.ReadFault.TheVariants.{Damaged, Device}
 use Rattle.bt_engine_messages.proofs.SpanReads.{spans_first, spans_last}
 use Rattle.bt_engine_messages.proofs.Stores.{has_state}
-use Rattle.bt_engine_messages.proofs.StoreChanges.{ChangesParts, ChangesBlock, is_file, file_before, have_calls, state_same, tied_same, state_new, have_new}
+use Rattle.bt_engine_messages.proofs.StoreChanges.{ChangesParts, ChangesBlock, is_file, file_before, have_calls, state_same, tied_same, state_new}
 use Rattle.bt_disk.specs.Conduct.{Conduct}
 
 -- ---- which blocks are marked
@@ -186,20 +187,19 @@ module _ {D H : Type 0} {conduct : Conduct D} {dig : List ℕ → List ℕ} {old
       states = found.4 ∙ ap (λ i. slice_set r.before.states i Missing) (sym found.3);
     }
 
-    pub takes_damaged : (new : Parts D H) → new ≡ record old { slots = next.slots; book = new.book; counts = new.counts }
-        → ((key : PeerKey) → asked_of new.book key ≡ asked_of old.book key)
-        → TakesRequest conduct dig old i ask (Found (DamagedNote (block_id span.file block))) new
+    pub takes_damaged : (book : BookState) (counts : Counts) → ((key : PeerKey) → asked_of book key ≡ asked_of old.book key)
+        → TakesRequest conduct dig old i ask (Found (DamagedNote (block_id span.file block))) (record old { slots = next.slots; book = book; counts = counts })
     unfolding damage_changes
-    takes_damaged new others asked =
+    takes_damaged book counts asked =
         let kept : Marked ≡ Missing → Missing ≢ Missing → ¬ IsAsked (state_of old) (block_id span.file block) = λ e. absurd cc in
         let calls = map (call_of r.tree.file_length) (r.stops.reads ++ r.stops.read ∷ []) in
         let finds = machine_damaged found.0 found.1 found.2 (ap (λ n. noting (DamagedNote (block_id span.file n))) found.3) (
-        state_new damage_changes new others asked kept
+        state_new damage_changes book counts asked kept
         ∙ ap (λ (states : List BlockState). with_file (state_of old) span.file (record { tree = r.changes.slot.tree; states = states })) found.4
         ) in (
           calls_at span.file calls,
-          have_new damage_changes new others asked calls r.stops.calls,
-          stops_so r (DamagedNote (block_id span.file block)) (state_of new) finds,
+          have_calls damage_changes.parts calls r.stops.calls,
+          stops_so r (DamagedNote (block_id span.file block)) (state_of (record old { slots = next.slots; book = book; counts = counts })) finds,
         )
 
   -- at a fault of the device

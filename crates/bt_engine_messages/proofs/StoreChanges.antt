@@ -1,10 +1,9 @@
 -- The parts of an engine in which the store of one file is another.
-use Rattle.bt_machine.proofs.Base.{◌≡◌, ◌≢◌, ◌≤◌, ℕ, List, length, map, Some, refl, sym, ap, ◌∙◌, subst, slice_get, slice_set, length-set, Call, Facts, BlockId, BlockState, Missing, PeerKey}
-use Rattle.std.specs.Vec.{vec_capacity}
+use Rattle.bt_machine.proofs.Base.{◌≡◌, ◌≢◌, ℕ, List, length, map, Some, refl, sym, ap, ◌∙◌, subst, slice_get, slice_set, length-set, Call, Facts, BlockId, BlockState, Missing, PeerKey}
 use Rattle.bt_machine.proofs.Lists.{set_id}
 use Rattle.bt_disk.specs.Calls.{HasCalls}
 use Rattle.bt_store.specs.FileStore.{StoreView}
-use Rattle.bt_book.specs.Book.{asked_of, peers_of, max_peers}
+use Rattle.bt_book.specs.Book.{BookState, asked_of, peers_of}
 use Rattle.bt_machine.specs.State.{EngineState, FileState}
 use Rattle.bt_machine.specs.Blocks.{with_file, IsAsked}
 use Rattle.bt_machine.specs.Devices.{calls_at, HaveCalls}
@@ -12,7 +11,8 @@ use Rattle.bt_machine.specs.Request.{IsFile}
 use Rattle.bt_machine.specs.Shape.{IsShaped}
 use Rattle.bt_engine_state.specs.BlockChange.{AreFollowed, OneChanged, HasChanged, asked_after}
 use Rattle.bt_engine_state.specs.Parts.{state_of, file_of, disk_of, disks_of}
-use Rattle.bt_engine_state.specs.Ties.{IsTied, HaveRoots, LeavesStay}
+use Rattle.bt_engine_state.specs.Ties.{IsTied, LeavesStay}
+use Rattle.bt_engine_state.specs.declared.counts.Counts.{Counts}
 use Rattle.bt_engine_state.specs.declared.slot.Slot.{Slot}
 use Rattle.bt_engine_state.specs.declared.parts.Parts.{Parts}
 use Rattle.bt_engine_state.proofs.BlockChanges.{EachFits, followed_tied, followed_alike, tied_followed, state_followed, state_told, asked_then}
@@ -103,42 +103,30 @@ module _ {D H : Type 0} {old next : Parts D H} {b : BlockId} {was now : BlockSta
   }
 
   -- and was followed
-  module _ (new : Parts D H) (others : new ≡ record old { slots = next.slots; book = new.book; counts = new.counts })
-      (asked : (key : PeerKey) → asked_of new.book key ≡ asked_after b was now (asked_of old.book key)) where
+  module _ (book : BookState) (counts : Counts) (asked : (key : PeerKey) → asked_of book key ≡ asked_after b was now (asked_of old.book key)) where
+    abbrev new : Parts D H
+    new = record old { slots = next.slots; book = book; counts = counts }
+
     -- the peers are asked for the block no more where it is missing no more
     pub state_told_new : state_of new ≡ record (with_file (state_of old) b.file (record (file_before c.parts) { states = c.after.states })) {
       peers = map (asked_then b was now) (state_of old).peers;
     }
-    state_told_new = state_told (record old { slots = next.slots }) new b was now others asked
+    state_told_new = state_told (record old { slots = next.slots }) book counts b was now asked
         ∙ ap (λ (s : EngineState). record s { peers = map (asked_then b was now) s.peers }) (state_then c.parts)
 
     -- where nobody was asked for it, no peer is another
     pub state_new : (was ≡ Missing → now ≢ Missing → ¬ IsAsked (state_of old) b)
         → state_of new ≡ with_file (state_of old) b.file (record (file_before c.parts) { states = c.after.states })
-    state_new none = state_followed (record old { slots = next.slots }) new b was now others asked none ∙ state_then c.parts
+    state_new none = state_followed (record old { slots = next.slots }) book counts b was now asked none ∙ state_then c.parts
 
     leaves_new : LeavesStay (state_of old) (state_of new)
     leaves_new = subst (λ (s : EngineState). LeavesStay (state_of old) s) (sym state_told_new)
         (leaves_with_file (state_of old) b.file (file_before c.parts) (record (file_before c.parts) { states = c.after.states }) (is_file c.parts).here refl)
 
-    pub have_new : {conduct : Conduct D} (calls : List Call)
-        → HasCalls conduct c.before.disk calls c.after.disk
-        → HaveCalls conduct (disks_of old) (calls_at b.file calls) (disks_of new)
-    have_new {conduct} calls made =
-        subst (λ (parts : Parts D H). HaveCalls conduct (disks_of old) (calls_at b.file calls) (disks_of parts)) (sym others)
-        (have_calls c.parts calls made)
-
-    pub tied_new : peers_of new.book ≡ peers_of old.book
+    pub tied_new : peers_of book ≡ peers_of old.book
         → ((s t : EngineState) → s.torrent ≡ old.torrent → AreFollowed s old.book.wanted old.counts → OneChanged s t b was now
-        → AreFollowed t new.book.wanted new.counts)
+        → AreFollowed t book.wanted counts)
         → IsTied new
     tied_new joined followed =
-        let torrent : new.torrent ≡ old.torrent = ap (λ (parts : Parts D H). parts.torrent) others in
-        let room = subst (λ (parts : Parts D H). max_peers ≤ vec_capacity parts.peers) (sym others) c.parts.tied.room in
-        let fits = subst (λ (parts : Parts D H). EachFits parts.torrent.files parts.trees.items parts.slots.items) (sym others) (fits_then c.parts) in
-        tied_followed old new c.parts.tied torrent (ap (λ (parts : Parts D H). map (λ p. p.key) parts.peers.items) others) room joined
-        (ap (λ (parts : Parts D H). length parts.slots.items) others ∙ count_then c.parts) fits
-        (subst (λ (parts : Parts D H). HaveRoots parts) (sym others) c.parts.tied.roots)
-        (followed (state_of old) (state_of new) refl (followed_tied old c.parts.tied c.parts.shaped)
-        (changed_to (state_of new) torrent (ap (λ (parts : Parts D H). map file_of parts.slots.items) others)))
-        (ap (λ (parts : Parts D H). parts.known) others) leaves_new
+        tied_followed old new c.parts.tied refl refl c.parts.tied.room joined (count_then c.parts) (fits_then c.parts) c.parts.tied.roots
+        (followed (state_of old) (state_of new) refl (followed_tied old c.parts.tied c.parts.shaped) (changed_to (state_of new) refl refl)) refl leaves_new

@@ -11,7 +11,7 @@ use Rattle.bt_store.specs.declared.block_states.BlockState.{BlockState}
 use Rattle.bt_store.specs.declared.block_states.BlockState.TheVariants.{Missing, Marked}
 use Rattle.bt_machine.specs.Spans.{first_block, last_block, spanned_blocks, cut_from}
 use Rattle.bt_machine.specs.Request.{ReadsRight}
-use Rattle.bt_engine_messages.specs.declared.serving.Room.{Room}
+use Rattle.bt_engine_messages.specs.declared.serving.SpanBuffers.{SpanBuffers}
 use Rattle.bt_engine_messages.specs.declared.serving.ReadFault.{ReadFault}
 use Rattle.bt_engine_messages.specs.declared.serving.ReadFault.TheVariants.{Damaged, Device}
 
@@ -70,7 +70,7 @@ pub record StopAtFault {D : Type 0} (conduct : Conduct D)
   pub same_file : new.file_length ≡ old.file_length
 
 -- it has as many blocks as the span lies in, and as many bytes as the span has find room
-pub record IsRoomFor (span : Span) (room : Room) : Type 0 where
+pub record IsRoomFor (span : Span) (room : SpanBuffers) : Type 0 where
   pub one : full_block_length ≤ length room.blocks.items
   pub two : first_block span ≢ last_block span → 2 * full_block_length ≤ length room.blocks.items
   pub nothing : room.bytes.items ≡ []

@@ -25,7 +25,8 @@ pub fn take_hash_request<D: Disk + Drop, H: NodeHash>(
     key: &HashKey,
 ) -> Result<Message, AllocError>
     requires { IsTied parts.now }
-    ensures { IfOk result (λ message. (i : ℕ) (p : PeerState) → HandlesMessage H.digest (state_of parts.now)
+    ensures { IfOk result (λ message. (i : ℕ) (p : PeerState) → HandlesMessage H.digest
+        (state_of parts.now)
         i p (Message.HashRequest key.now) [] (sending p message) (state_of parts.now)) }
 {
     match answer_hash_request(parts, key)? {
@@ -47,7 +48,8 @@ fn answer_hash_request<D: Disk + Drop, H: NodeHash>(
     key: &HashKey,
 ) -> Result<Option<Vec<Hash32>>, AllocError>
     requires { IsTied parts.now }
-    ensures { IfOk result (λ digests. (p : PeerState) → HandlesHashRequest H.digest (state_of parts.now) p
+    ensures { IfOk result (λ digests. (p : PeerState) → HandlesHashRequest H.digest
+        (state_of parts.now) p
         key.now (sending p (answer_of key.now digests))) }
 {
     match parts.roots.tree_of(&key.root) {

@@ -18,10 +18,12 @@ use crate::hints::hint_for;
 use crate::learning::{Learnt, learn_hashes, settled_count};
 use crate::message::resolved_hash_state;
 use crate::runs::room_for;
+use bt_book::Book;
 use bt_disk::Disk;
-use bt_engine_state::{Parts, follow_block};
+use bt_engine_state::{Counts, Parts, follow_block};
 use bt_hashreq::HashKey;
 use bt_machine::{HashState, Note};
+use bt_meta::Torrent;
 use bt_sparse::MAX_RUN_LENGTH;
 use bt_store::BlockState;
 use bt_tree::NodeHash;
@@ -66,7 +68,7 @@ pub fn take_hashes<D: Disk + Drop, H: NodeHash>(
         Learnt::Settled(notes, kept) => {
             let peer = &mut parts.peers[index];
             peer.hash = resolved_hash_state(peer.hash, *key, HashState::Idle);
-            follow_notes(parts, &notes);
+            follow_notes(&parts.torrent, &mut parts.book, &mut parts.counts, &notes);
             Ok(Learnt::Settled(notes, kept))
         }
     }
@@ -93,31 +95,46 @@ pub fn room_for_notes<D: Disk + Drop, H: NodeHash>(parts: &Parts<D, H>, key: &Ha
 }
 
 /// Brings the request book and the counts in line with the blocks that these notes name.
-fn follow_notes<D: Disk + Drop, H: NodeHash>(parts: &mut Parts<D, H>, notes: &[Note])
-    requires { IsBehind parts.old.book.wanted parts.old.counts notes.now (state_of parts.old) }
-    ensures followed { AreFollowed (state_of parts.old) parts.new.book.wanted parts.new.counts }
-    ensures asked { (key : PeerKey) → asked_of parts.new.book key ≡ asked_of parts.old.book key }
-    ensures peers { peers_of parts.new.book ≡ peers_of parts.old.book }
-    ensures others { parts.new ≡ record parts.old { book = parts.new.book; counts = parts.new.counts } }
+fn follow_notes(torrent: &Torrent, book: &mut Book, counts: &mut Counts, notes: &[Note])
+    requires { (s : EngineState) × (s.torrent ≡ torrent.now)
+        × IsBehind book.old.wanted counts.old notes.now s }
+    ensures followed { (s : EngineState) → s.torrent ≡ torrent.now
+        → IsBehind book.old.wanted counts.old notes.now s
+        → AreFollowed s book.new.wanted counts.new }
+    ensures asked { (key : PeerKey) → asked_of book.new key ≡ asked_of book.old key }
+    ensures peers { peers_of book.new ≡ peers_of book.old }
 {
     for note in notes {
-        follow_note(parts, note);
+        follow_note(torrent, book, counts, note);
     }
 }
 
 /// Brings the request book and the counts in line with the block that this note names.
-fn follow_note<D: Disk + Drop, H: NodeHash>(parts: &mut Parts<D, H>, note: &Note)
-    requires { HasNoted parts.old.torrent parts.old.book.wanted parts.old.counts note.now }
-    ensures followed { (s t : EngineState) → s.torrent ≡ parts.old.torrent
-        → AreFollowed s parts.old.book.wanted parts.old.counts → IsNoteOf s note.now t
-        → AreFollowed t parts.new.book.wanted parts.new.counts }
-    ensures asked { (key : PeerKey) → asked_of parts.new.book key ≡ asked_of parts.old.book key }
-    ensures peers { peers_of parts.new.book ≡ peers_of parts.old.book }
-    ensures others { parts.new ≡ record parts.old { book = parts.new.book; counts = parts.new.counts } }
+fn follow_note(torrent: &Torrent, book: &mut Book, counts: &mut Counts, note: &Note)
+    requires { HasNoted torrent.now book.old.wanted counts.old note.now }
+    ensures followed { (s t : EngineState) → s.torrent ≡ torrent.now
+        → AreFollowed s book.old.wanted counts.old → IsNoteOf s note.now t
+        → AreFollowed t book.new.wanted counts.new }
+    ensures asked { (key : PeerKey) → asked_of book.new key ≡ asked_of book.old key }
+    ensures peers { peers_of book.new ≡ peers_of book.old }
 {
     match note {
-        Note::Marked(block) => follow_block(parts, *block, BlockState::Waiting, BlockState::Marked),
-        Note::Freed(block) => follow_block(parts, *block, BlockState::Waiting, BlockState::Missing),
+        Note::Marked(block) => follow_block(
+            torrent,
+            book,
+            counts,
+            *block,
+            BlockState::Waiting,
+            BlockState::Marked,
+        ),
+        Note::Freed(block) => follow_block(
+            torrent,
+            book,
+            counts,
+            *block,
+            BlockState::Waiting,
+            BlockState::Missing,
+        ),
         _ => {}
     }
 }

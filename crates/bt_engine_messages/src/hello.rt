@@ -11,7 +11,8 @@ use bt_wire::Handshake;
 
 /// Why a handshake closes its peer, if it does: it names another torrent.
 pub fn hello_fault(torrent: &Torrent, hello: &Handshake) -> Option<Why>
-    ensures { (s : EngineState) → s.torrent ≡ torrent.now → HandlesHello s hello.now (closing_if_any result) }
+    ensures { (s : EngineState) → s.torrent ≡ torrent.now → HandlesHello s hello.now
+        (closing_if_any result) }
 {
     let infohash = torrent.infohash();
     if hello.infohash[..] == infohash[..20] {

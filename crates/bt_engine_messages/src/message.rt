@@ -123,7 +123,8 @@ pub fn resolved_hash_state(hash: HashState, key: HashKey, next: HashState) -> Ha
 fn take_have(peer: &mut Peer, piece: u32, pieces: u32) -> Option<Why>
     requires { length peer.old.has ≡ pieces }
     ensures takes { (s : EngineState) (i : ℕ) (p : PeerState) → slice_get s.peers i ≡ Some p
-        → IsPeerOf p peer.old → total_pieces s.torrent ≡ pieces → TakesHave s i p piece peer.new result }
+        → IsPeerOf p peer.old → total_pieces s.torrent ≡ pieces
+        → TakesHave s i p piece peer.new result }
     ensures others { peer.new ≡ record peer.old { has = peer.new.has } }
 {
     if piece >= pieces {

@@ -82,7 +82,14 @@ fn put_block<D: Disk + Drop, H: NodeHash>(
 {
     let answer = put_in_slot(&mut parts.slots, &parts.trees, block, bytes);
     let others = parts.book.asked(block);
-    follow_block(parts, block, BlockState::Missing, state_after(answer));
+    follow_block(
+        &parts.torrent,
+        &mut parts.book,
+        &mut parts.counts,
+        block,
+        BlockState::Missing,
+        state_after(answer),
+    );
     effect_of(answer, block, ask, others)
 }
 

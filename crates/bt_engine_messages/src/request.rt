@@ -11,7 +11,7 @@ ghost use Rattle.bt_engine_messages.specs.RequestSteps.{CanRead, IsLookedAt, Sen
 ghost use Rattle.bt_engine_messages.specs.ServingSteps.{IsRoomFor};
 ghost use Rattle.bt_engine_messages.specs.SpansSteps.{IsShortSpan};
 
-use crate::serving::{ReadFault, Room, read_span, room_for};
+use crate::serving::{ReadFault, SpanBuffers, read_span, room_for};
 use crate::spans::{first_block, last_block, place_of};
 use bt_book::BlockId;
 use bt_disk::Disk;
@@ -74,7 +74,7 @@ fn serve<D: Disk + Drop, H: NodeHash>(
     index: usize,
     ask: Ask,
     span: Span,
-    room: Room,
+    room: SpanBuffers,
 ) -> Served
     requires looked { IsLookedAt parts.old index ask span }
     requires short { IsShortSpan span }
@@ -94,7 +94,14 @@ fn serve<D: Disk + Drop, H: NodeHash>(
                 file: span.file,
                 block,
             };
-            follow_block(parts, block, BlockState::Marked, BlockState::Missing);
+            follow_block(
+                &parts.torrent,
+                &mut parts.book,
+                &mut parts.counts,
+                block,
+                BlockState::Marked,
+                BlockState::Missing,
+            );
             Served::Found(Note::Damaged(block))
         }
         Err(ReadFault::Device) => Served::Found(Note::Device(span.file)),
@@ -130,7 +137,7 @@ fn read_slot<D: Disk + Drop, H: NodeHash>(
     slots: &mut [Slot<D, H>],
     trees: &[SparseTree<H>],
     span: Span,
-    room: Room,
+    room: SpanBuffers,
 ) -> Result<Vec<u8>, ReadFault>
     requires inside { span.file < length slots.old }
     requires short { IsShortSpan span }

@@ -36,7 +36,8 @@ pub(crate) fn settle_slots<D: Disk + Drop, H: NodeHash>(
     requires fits { All (FitsLength tree.now index) slots.old }
     requires files { length slots.old ≤ max_file_count }
     requires few { count ≤ max_run_length }
-    requires room { vec_len notes.old + sum_by (slot_room index count) slots.old ≤ vec_capacity notes.old }
+    requires room { vec_len notes.old + sum_by (slot_room index count) slots.old
+        ≤ vec_capacity notes.old }
     ensures settles { SettlesSlots D.conduct H.digest tree.now index from count slots.old
         notes.old.items notes.new.items slots.new }
     ensures few { vec_len notes.new ≤ vec_len notes.old + sum_by (slot_room index count) slots.old }

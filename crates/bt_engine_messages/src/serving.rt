@@ -25,7 +25,7 @@ pub(crate) enum ReadFault {
 
 /// Room to read a span.
 #[derive(Debug, Drop)]
-pub(crate) struct Room {
+pub(crate) struct SpanBuffers {
     /// For the one block or the two that it lies in.
     pub blocks: Vec<u8>,
     /// For its own bytes.
@@ -33,7 +33,7 @@ pub(crate) struct Room {
 }
 
 /// Room to read a span, no more than it needs. Errors: out of memory.
-pub(crate) fn room_for(alloc: Global, span: Span) -> Result<Room, AllocError>
+pub(crate) fn room_for(alloc: Global, span: Span) -> Result<SpanBuffers, AllocError>
     requires { IsShortSpan span }
     ensures { IfOk result (IsRoomFor span) }
 {
@@ -42,7 +42,7 @@ pub(crate) fn room_for(alloc: Global, span: Span) -> Result<Room, AllocError>
     } else {
         2
     };
-    Ok(Room {
+    Ok(SpanBuffers {
         blocks: vec![in alloc; 0; count * BLOCK_LEN]?,
         bytes: Vec::with_capacity(alloc, span.length as usize)?,
     })
@@ -54,7 +54,7 @@ pub(crate) fn read_span<D: Disk + Drop, H: NodeHash>(
     store: &mut FileStore<D, H>,
     tree: &SparseTree<H>,
     span: Span,
-    room: Room,
+    room: SpanBuffers,
 ) -> Result<Vec<u8>, ReadFault>
     requires geometry { tree.now.file_length ≡ store.old.file_length }
     requires short { IsShortSpan span }
@@ -66,7 +66,7 @@ pub(crate) fn read_span<D: Disk + Drop, H: NodeHash>(
         (spanned_blocks span) fault store.old store.new) }
     ensures same_file { store.new.file_length ≡ store.old.file_length }
 {
-    let Room { mut blocks, bytes } = room;
+    let SpanBuffers { mut blocks, bytes } = room;
     let (first, last) = (first_block(span), last_block(span));
     match read_blocks(store, tree, first, last, blocks.as_mut_slice()) {
         Ok(count) => {

@@ -63,7 +63,8 @@ fn block_in(torrent: &Torrent, ask: Ask) -> Option<BlockId>
 pub(crate) fn place_of(torrent: &Torrent, ask: Ask) -> Option<Span>
     ensures some { IfSome result (IsPlace torrent.now ask.piece ask.begin ask.length) }
     ensures short { IfSome result IsShortSpan }
-    ensures none { IfNone result ((span : Span) → ¬ IsPlace torrent.now ask.piece ask.begin ask.length span) }
+    ensures none { IfNone result ((span : Span) → ¬ IsPlace torrent.now ask.piece ask.begin
+        ask.length span) }
 {
     // No file of a torrent is too long: a clause of this call says so.
     let _ = torrent.files();

@@ -30,7 +30,11 @@ impl Model for Pending {
 
     ghost Value = { PendingView };
 
-    ghost view = { λ p. record { hints = p.hints.items; room = vec_capacity p.hints - vec_len p.hints } };
+    ghost view = { λ p. record {
+      hints = p.hints.items;
+      room = vec_capacity p.hints
+          - vec_len p.hints;
+    } };
 
     ghost invariant = { λ p. AreWritable p.hints.items };
 }

@@ -1,5 +1,5 @@
 -- Blocks that are recalled, one after the other.
-use Rattle.bt_machine.proofs.Base.{[], ◌≡◌, ℕ, zero, suc, ◌+◌, Bool, true, false, cond, List, ◌∷◌, ◌++◌, filter, range_with_len, refl, sym, ap, ◌∙◌, BlockState, Facts, value_at}
+use Rattle.bt_machine.proofs.Base.{[], ◌≡◌, ℕ, suc, ◌+◌, Bool, true, false, cond, List, ◌∷◌, ◌++◌, filter, range_with_len, refl, sym, ap, ◌∙◌, BlockState, Facts, value_at}
 use Rattle.std.specs.Prelude.{is_some}
 use Rattle.std.proofs.lemmas.List.Elements.{filter-append}
 use Rattle.bt_store.specs.Review.{recalled}

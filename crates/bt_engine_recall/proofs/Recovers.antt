@@ -1,28 +1,28 @@
 -- The files of an engine are restored in its parts.
-use Rattle.bt_machine.proofs.Base.{[], ◌≡◌, ℕ, ◌≤◌, inl, inr, List, length, map, replicate, Option, Some, None, refl, sym, ap, ◌∙◌, subst, arith, slice_get, option_map, option_map_or, range_with_len, length-map, length-replicate, cases_lt, max_peers, BlockState, Missing, Facts}
+use Rattle.bt_machine.proofs.Base.{[], ◌≡◌, ℕ, inl, inr, List, length, map, replicate, Option, Some, None, refl, sym, ap, ◌∙◌, subst, arith, slice_get, option_map, option_map_or, range_with_len, length-map, length-replicate, cases_lt, BlockState, Missing, Facts}
 use Rattle.std.specs.Global.{Vec}
-use Rattle.std.specs.Vec.{vec_capacity, with_items}
+use Rattle.std.specs.Vec.{with_items}
 use Rattle.std.proofs.lemmas.Simd.{map-map}
 use Rattle.std.proofs.lemmas.Option.{slice_get_past, slice_get-map}
 use Rattle.bt_book.specs.Book.{BookState, peers_of}
 use Rattle.bt_resume.specs.declared.hint.Hint.{Hint}
 use Rattle.bt_store.specs.FileStore.{StoreView, new_states}
-use Rattle.bt_machine.specs.Devices.{HaveCalls}
 use Rattle.bt_machine.specs.Recovery.{RestoresFiles}
 use Rattle.bt_machine.specs.Restart.{KeepsPlaces}
 use Rattle.bt_machine.specs.Shape.{IsShaped}
 use Rattle.bt_machine.specs.State.{EngineState, FileState, PeerState}
 use Rattle.bt_machine.proofs.Lists.{some_is, get_some, get_map, map_some}
 use Rattle.bt_engine_state.specs.BlockChange.{AreFollowed}
-use Rattle.bt_engine_state.specs.Parts.{state_of, disks_of, file_of, peer_of}
-use Rattle.bt_engine_state.specs.Ties.{IsTied, HaveRoots, LeavesStay}
+use Rattle.bt_engine_state.specs.Parts.{state_of, file_of, peer_of}
+use Rattle.bt_engine_state.specs.Ties.{IsTied, LeavesStay}
+use Rattle.bt_engine_state.specs.declared.counts.Counts.{Counts}
 use Rattle.bt_engine_state.specs.declared.peer.Peer.{Peer}
 use Rattle.bt_engine_state.specs.declared.slot.Slot.{Slot}
 use Rattle.bt_engine_state.specs.declared.parts.Parts.{Parts}
 use Rattle.bt_engine_state.proofs.BlockChanges.{EachFits, followed_alike, followed_tied, tied_followed}
 use Rattle.bt_engine_state.proofs.Leaves.{leaves_by, still}
 use Rattle.bt_engine_state.proofs.Lists.{get_mapped}
-use Rattle.bt_engine_recall.specs.FollowingSteps.{missing_file, missing_from, FollowsTo}
+use Rattle.bt_engine_recall.specs.FollowingSteps.{missing_file, missing_from}
 use Rattle.bt_engine_recall.specs.Recovering.{RecoversFiles, AreMissing}
 use Rattle.bt_engine_recall.specs.RestoringSteps.{tree_and_length, block_total, HaveTrees, RestoresSlots}
 use Rattle.bt_engine_recall.proofs.FileRecallings.{same_lists}
@@ -107,7 +107,7 @@ module _ {D H : Type 0} (old : Parts D H) (slots : Vec (Slot D H)) (named : map 
     all_emptied = same_lists emptied (map file_of old.slots.items)
         (λ i. emptied_at i (slice_get old.slots.items i) refl ∙ sym (slice_get-map file_of old.slots.items i))
 
-    pub follows_first : IsTied old → IsShaped old.torrent (state_of old) → FollowsTo 0 mid
+    pub follows_first : IsTied old → IsShaped old.torrent (state_of old) → AreFollowed (missing_from 0 (state_of mid)) old.book.wanted old.counts
     follows_first tied shaped = followed_alike (missing_from 0 (state_of mid)) (followed_tied old tied shaped) refl all_emptied
 
   fits_then : IsTied old → EachFits old.torrent.files old.trees.items slots.items
@@ -135,39 +135,36 @@ module _ {D H : Type 0} (old : Parts D H) (slots : Vec (Slot D H)) (named : map 
       none_before None e = refl
       none_before (Some store) e = absurd cc
 
-  module _ (new : Parts D H) (others : new ≡ record mid { book = new.book; counts = new.counts }) where
+  module _ (book : BookState) (counts : Counts) where
+    abbrev new : Parts D H
+    new = record mid { book = book; counts = counts }
+
     leaves_then : LeavesStay (state_of old) (state_of new)
     leaves_then = leaves_by (state_of old) (state_of new)
         (λ file g at. (
-        let slot = get_map file_of slots.items file (sym (ap (λ (p : Parts D H). slice_get (map file_of p.slots.items) file) others) ∙ at) in
+        let slot = get_map file_of slots.items file at in
         let was = slot_was file slot.1 in
         (file_of was.0, get_mapped file_of old.slots.items file was.1, sym (ap (λ (f : FileState). f.tree) slot.2) ∙ ap (λ (p : ℕ × Option ℕ). p.0) (sym was.2))
         ))
-        (λ tree j at. (j, sym (ap (λ (p : Parts D H). slice_get p.trees.items tree) others) ∙ at, still j))
+        (λ tree j at. (j, at, still j))
 
-    pub tied_then : IsTied old → peers_of new.book ≡ peers_of old.book → AreFollowed (state_of mid) new.book.wanted new.counts → IsTied new
+    pub tied_then : IsTied old → peers_of book ≡ peers_of old.book → AreFollowed (state_of mid) book.wanted counts → IsTied new
     tied_then tied peers follows =
-        tied_followed old new tied (ap (λ (p : Parts D H). p.torrent) others) (ap (λ (p : Parts D H). map (λ q. q.key) p.peers.items) others)
-        (subst (λ (p : Parts D H). max_peers ≤ vec_capacity p.peers) (sym others) tied.room) peers (ap (λ (p : Parts D H). length p.slots.items) others ∙ as_many)
-        (subst (λ (p : Parts D H). EachFits p.torrent.files p.trees.items p.slots.items) (sym others) (fits_then tied))
-        (subst (λ (p : Parts D H). HaveRoots p) (sym others) tied.roots)
-        (followed_alike (state_of new) follows (ap (λ (p : Parts D H). p.torrent) others) (ap (λ (p : Parts D H). map file_of p.slots.items) others))
-        (ap (λ (p : Parts D H). p.known) others) leaves_then
+        tied_followed old new tied refl refl tied.room peers as_many (fits_then tied) tied.roots (followed_alike (state_of new) follows refl refl) refl leaves_then
 
-    no_peers : (peers : List Peer) → peers ≡ [] → (b c : BookState) → map (peer_of b) peers ≡ map (peer_of c) peers
-    no_peers peers none b c = ap (map (peer_of b)) none ∙ ap (map (peer_of c)) (sym none)
+    no_peers : (peers : List Peer) → peers ≡ [] → map (peer_of book) peers ≡ map (peer_of old.book) peers
+    no_peers peers none = ap (map (peer_of book)) none ∙ ap (map (peer_of old.book)) (sym none)
 
     state_then : old.peers.items ≡ [] → state_of new ≡ record (state_of old) { files = map file_of slots.items }
     state_then alone =
-        ap (λ (p : Parts D H). state_of p) others
-        ∙ ap (λ (ps : List PeerState). record (state_of old) { files = map file_of slots.items; peers = ps }) (no_peers old.peers.items alone new.book old.book)
+        ap (λ (ps : List PeerState). record (state_of old) { files = map file_of slots.items; peers = ps }) (no_peers old.peers.items alone)
 
     pub recovers : {conduct : Conduct D} {dig : List ℕ → List ℕ} → old.peers.items ≡ []
         → RestoresSlots conduct dig (state_of old).hints old.trees.items old.slots.items slots.items
         → RecoversFiles conduct dig old new
     recovers {conduct} {dig} alone restored = record {
       calls = restored.calls;
-      made = subst (λ (p : Parts D H). HaveCalls conduct (disks_of old) restored.calls (disks_of p)) (sym others) restored.made;
+      made = restored.made;
       restores = subst (λ (s : EngineState). RestoresFiles dig (state_of old).hints (range_with_len 0 (length (state_of old).files)) (state_of old) restored.calls s)
           (sym (state_then alone))
           (subst (λ n. RestoresFiles dig (state_of old).hints (range_with_len 0 n) (state_of old) restored.calls (record (state_of old) { files = map file_of slots.items }))

@@ -1,12 +1,6 @@
 -- Proofs that are taken or passed, by one tree and by each of several.
-use Rattle.bt_machine.proofs.Base.{[], ◌≡◌, ◌≢◌, ℕ, zero, suc, ◌+◌, ◌*◌, ◌/◌, ◌<◌, ◌⊎◌, inl, inr, Bool, true, false, cond, List, ◌∷◌, ◌++◌, length, map, drop, Option, Some, None, Result, Ok, Err, refl, sym, ap, ◌∙◌, subst, arith, slice_get, slice_set, get_or, get_or_default, All, AllPairs, cases_lt, first_chunks, Facts, Accepts, Claim, HashKey}
-use Rattle.std.specs.Prelude.{IfSome, IfErr, OnOk, ◌↔◌, flat_map}
-use Rattle.std.specs.Ordering.{is_eq, nat_cmp}
-use Rattle.std.specs.Cmp.Lexicographic.{slice_cmp}
-use Rattle.std.specs.BTreeMap.{IsEmpty, is_at}
-use Rattle.std.specs.Map.{lookup}
-use Rattle.std.proofs.lemmas.Map.Text.{is_eq-slice_cmp}
-use Rattle.std.proofs.lemmas.Slice.Eq.{bytes_eq-Decides}
+use Rattle.bt_machine.proofs.Base.{[], ◌≡◌, ◌≢◌, ℕ, zero, suc, ◌*◌, ◌/◌, ◌<◌, ◌⊎◌, inl, inr, List, ◌∷◌, ◌++◌, length, map, drop, Option, Some, None, Result, Ok, Err, refl, sym, ap, ◌∙◌, subst, arith, slice_get, slice_set, get_or, get_or_default, All, cases_lt, first_chunks, Facts, Accepts, Claim, HashKey}
+use Rattle.std.specs.Prelude.{IfErr, OnOk, flat_map}
 use Rattle.std.proofs.lemmas.List.{append-nil, append_assoc, take_at, drop_at, length-map}
 use Rattle.bt_sparse.specs.SparseTree.{blocks_of, value_at}
 use Rattle.bt_sparse.specs.Claim.{Claims}
@@ -16,12 +10,13 @@ use Rattle.bt_sparse.specs.declared.claim.ProofError.TheVariants.{OutOfMemory}
 use Rattle.bt_hashreq.specs.Claim.{IsClaimBy, IsNoClaim, digests_in, shape as no_shape, count as no_count, no_memory as no_room}
 use Rattle.bt_resume.specs.declared.hint.Hint.{Hint}
 use Rattle.bt_resume.specs.declared.hint.Hint.TheVariants.{Proof, Marks}
-use Rattle.bt_machine.proofs.Lists.{some_is, same_some, some_below, get_map, set_same, set_other}
+use Rattle.bt_machine.proofs.Lists.{some_is, same_some, set_same, set_other}
 use Rattle.bt_machine.proofs.Nodes.{value_covers, value_padding, cases_node, value_inside}
-use Rattle.bt_machine.proofs.Pairs.{to_pairs, pairs_at}
 use Rattle.bt_machine.specs.Recovery.{claim_of_proof, IsProofFor, TakesProof, accepted, passed, TakesHints}
+use Rattle.bt_engine_state.specs.Roots.{Numbers, number_of, AreNumbered}
+use Rattle.bt_engine_state.proofs.Chains.{number_is}
 use Rattle.bt_engine_recall.specs.Taking.{TakeFirstHints, TakeHints}
-use Rattle.bt_engine_recall.specs.TakingSteps.{Places, place_of, roots_of, ArePlaces, TakeProof}
+use Rattle.bt_engine_recall.specs.TakingSteps.{TakeProof}
 
 -- ---- digests, one after the other
 
@@ -141,29 +136,12 @@ set_alike [] (suc i) at same = absurd cc
 set_alike (y ∷ xs) zero at same = ap (λ z. z ∷ xs) (same ∙ same_some at refl)
 set_alike (y ∷ xs) (suc i) at same = ap (λ zs. y ∷ zs) (set_alike xs i at same)
 
-root_at : (trees : List Facts) (t : ℕ) {k : Facts} → slice_get trees t ≡ Some k → slice_get (roots_of trees) t ≡ Some k.root
-root_at [] zero at = absurd cc
-root_at [] (suc t) at = absurd cc
-root_at (k ∷ trees) zero at = ap (λ (j : Facts). Some j.root) (same_some refl at)
-root_at (k ∷ trees) (suc t) at = root_at trees t at
-
-module _ (trees : List Facts) (places : Places) (root : List ℕ) (are : ArePlaces (roots_of trees) places) where
-  place_is : (t : ℕ) {k : Facts} → slice_get trees t ≡ Some k → k.root ≡ root → place_of places root ≡ Some t
-  place_is t at same = (are t root).1 (root_at trees t at ∙ ap (λ r. Some r) same)
-
-  pub tree_there : (t : ℕ) → place_of places root ≡ Some t → (k : Facts) × (slice_get trees t ≡ Some k) × (k.root ≡ root)
-  tree_there t has = get_map (λ (k : Facts). k.root) trees t ((are t root).0 has)
-
-  pub place_inside : (o : Option ℕ) → o ≡ place_of places root → IfSome o (λ t. t < length trees)
-  place_inside None has = tt
-  place_inside (Some t) has = some_below trees t (tree_there t (sym has)).1
-
-module _ (trees : List Facts) (places : Places) (key : HashKey) (are : ArePlaces (roots_of trees) places) where
+module _ (trees : List Facts) (numbers : Numbers) (key : HashKey) (are : AreNumbered (map (λ k. k.root) trees) numbers) where
   module _ (dig : List ℕ → List ℕ) (digests : List (List ℕ)) where
-    pub none_takes : place_of places key.root ≡ None → TakeProof dig key digests trees trees
-    none_takes none t k at = (k, at, passed (λ proof. none_some dig none (place_is trees places key.root are t at proof.same_root)) refl)
+    pub none_takes : number_of numbers key.root ≡ None → TakeProof dig key digests trees trees
+    none_takes none t k at = (k, at, passed (λ proof. none_some dig none (number_is trees numbers key.root are t at proof.same_root)) refl)
 
-    pub one_takes : (t : ℕ) {old new : Facts} → place_of places key.root ≡ Some t → slice_get trees t ≡ Some old → TakesProof dig old key digests new
+    pub one_takes : (t : ℕ) {old new : Facts} → number_of numbers key.root ≡ Some t → slice_get trees t ≡ Some old → TakesProof dig old key digests new
         → TakeProof dig key digests trees (slice_set trees t new)
     one_takes t {old} {new} has here takes u k at = elim (not_the_same u t) [
       | inl same ↦ (
@@ -176,66 +154,9 @@ module _ (trees : List Facts) (places : Places) (key : HashKey) (are : ArePlaces
       | inr apart ↦ (
         k,
         set_other trees t u new apart ∙ at,
-        passed (λ proof. apart (some_is (sym (place_is trees places key.root are u at proof.same_root) ∙ has))) refl,
+        passed (λ proof. apart (some_is (sym (number_is trees numbers key.root are u at proof.same_root) ∙ has))) refl,
       )
     ]
-
--- ---- places, tree by tree
-
--- those of the first trees
-abbrev pub ArePlacesBelow : ℕ → List (List ℕ) → Places → Type 0
-ArePlacesBelow n roots places = (t : ℕ) (root : List ℕ) → (place_of places root ≡ Some t) ↔ ((t < n) × (slice_get roots t ≡ Some root))
-
-pub no_places : (roots : List (List ℕ)) (places : Places) → IsEmpty places → ArePlacesBelow 0 roots places
-no_places roots places empty t root = (
-  λ has. absurd (let clash = sym (ap (λ (es : List (List ℕ × ℕ)). lookup (is_at (slice_cmp nat_cmp root)) es) empty) ∙ has in cc),
-  λ at. absurd (omega (arith, at.0)),
-)
-
-pub all_places : (trees : List Facts) (n : ℕ) (places : Places) → n ≡ length trees → ArePlacesBelow n (roots_of trees) places → ArePlaces (roots_of trees) places
-all_places trees n places all are t root = (
-  λ has. ((are t root).0 has).1,
-  λ at. (are t root).1 (omega (arith, some_below (roots_of trees) t at, length-map trees (λ (k : Facts). k.root)), at),
-)
-
-module _ (trees : List Facts) (n : ℕ) (old new : Places) {own : Facts} (apart : AllPairs (λ j k. j.root ≢ k.root) trees)
-    (here : slice_get trees n ≡ Some own) (are : ArePlacesBelow n (roots_of trees) old)
-    (update : (root : List ℕ) → place_of new root ≡ cond (is_eq (slice_cmp nat_cmp own.root root)) (Some n) (place_of old root)) where
-  earlier_apart : (t : ℕ) {root : List ℕ} → t < n → slice_get (roots_of trees) t ≡ Some root → root ≡ own.root → ⊥
-  earlier_apart t lt at same =
-      let k = get_map (λ (k : Facts). k.root) trees t at in
-      pairs_at (λ (j k : Facts). j.root ≢ k.root) trees t n (to_pairs (λ (j k : Facts). j.root ≢ k.root) trees apart) k.1 here lt (k.2 ∙ same)
-
-  by : (t : ℕ) (root : List ℕ) (b : Bool) → is_eq (slice_cmp nat_cmp own.root root) ≡ b
-      → (place_of new root ≡ Some t) ↔ ((t < n + 1) × (slice_get (roots_of trees) t ≡ Some root))
-  by t root true e =
-      let same : own.root ≡ root = (bytes_eq-Decides own.root root).0 (sym (is_eq-slice_cmp own.root root) ∙ e) in
-      let is : place_of new root ≡ Some n = update root ∙ ap (λ b. cond b (Some n) (place_of old root)) e in (
-        λ has. (
-            let t_is : n ≡ t = some_is (sym is ∙ has) in
-            (omega (arith, t_is), ap (λ m. slice_get (roots_of trees) m) (sym t_is) ∙ root_at trees n here ∙ ap (λ r. Some r) same)
-            ),
-        λ at. elim (cases_lt t n) [
-          | inl lt ↦ absurd (earlier_apart t lt at.1 (sym same))
-          | inr ge ↦ is ∙ ap (λ m. Some m) (omega (arith, at.0, ge))
-        ],
-      )
-  by t root false e =
-      let is : place_of new root ≡ place_of old root = update root ∙ ap (λ b. cond b (Some n) (place_of old root)) e in (
-        λ has. (let was = (are t root).0 (sym is ∙ has) in (omega (arith, was.0), was.1)),
-        λ at. elim (cases_lt t n) [
-          | inl lt ↦ is ∙ (are t root).1 (lt, at.1)
-          | inr ge ↦ absurd (
-              let t_is : n ≡ t = omega (arith, at.0, ge) in
-              let same : own.root ≡ root = some_is (sym (root_at trees n here) ∙ ap (λ m. slice_get (roots_of trees) m) t_is ∙ at.1) in
-              let clash = sym e ∙ is_eq-slice_cmp own.root root ∙ (bytes_eq-Decides own.root root).1 same in
-              cc
-              )
-        ],
-      )
-
-  pub place_added : ArePlacesBelow (n + 1) (roots_of trees) new
-  place_added t root = by t root (is_eq (slice_cmp nat_cmp own.root root)) refl
 
 -- ---- hints, one after the other
 
@@ -250,18 +171,6 @@ takes_more dig (Marks f i n ∷ first) more k mid new takes rest = takes_more di
 abbrev pub HaveTaken : (List ℕ → List ℕ) → (all rest : List Hint) → (old now : List Facts) → Type 0
 HaveTaken dig all rest old now = (first : List Hint) × (all ≡ first ++ rest)
     × ((t : ℕ) (k : Facts) → slice_get old t ≡ Some k → (j : Facts) × (slice_get now t ≡ Some j) × TakesHints dig k first j)
-
--- no hint, of which nothing is taken
-module _ (dig : List ℕ → List ℕ) (trees : List Facts) where
-  none_of_none : TakeHints dig [] trees trees
-  none_of_none = record { count = refl; each = λ t k at. (k, at, refl) }
-
-  pub all_of_none : (all : List Hint) → all ≡ [] → TakeHints dig all trees trees
-  all_of_none all none = subst (λ (hs : List Hint). TakeHints dig hs trees trees) (sym none) none_of_none
-
-  pub none_of_some : (all : List Hint) → all ≢ [] → TakeFirstHints dig all trees trees
-  none_of_some [] some = absurd (some refl)
-  none_of_some (next ∷ rest) some = record { first = []; next = next; rest = rest; are_all = refl; taken = none_of_none }
 
 module _ (dig : List ℕ → List ℕ) (all rest : List Hint) (old now : List Facts) where
   pub taken_none : rest ≡ all → HaveTaken dig all rest old old

@@ -1,5 +1,5 @@
 -- The blocks that marks record, as runs.
-use Rattle.std.specs.Prelude.{◌≡◌, ℕ, ◌-◌, ◌<◌, ◌==◌, ◌&&◌, ◌⊎◌, nat_le, Bool, List, map}
+use Rattle.std.specs.Prelude.{◌≡◌, ◌-◌, ◌<◌, ◌==◌, ◌&&◌, ◌⊎◌, nat_le, Bool, List, map}
 use Rattle.std.specs.List.{AllPairs}
 use Rattle.bt_book.specs.declared.names.BlockId.{BlockId}
 use Rattle.bt_resume.specs.declared.hint.Hint.{Hint}

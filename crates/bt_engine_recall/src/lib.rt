@@ -4,7 +4,6 @@
 
 mod following;
 mod marks;
-mod places;
 mod reads;
 mod recalling;
 mod recovery;

@@ -18,7 +18,8 @@ pub(crate) fn recall_marks<D: Disk + Drop, H: NodeHash>(
     runs: &[MarkRun],
 )
     ensures { (file : ℕ) → slice_get slots.new file
-        ≡ option_map (recalled_slot H.digest (marks_of runs.now) trees.now file) (slice_get slots.old file) }
+        ≡ option_map (recalled_slot H.digest (marks_of runs.now) trees.now file)
+        (slice_get slots.old file) }
 {
     for run in runs {
         recall_in_file(slots, trees, run);

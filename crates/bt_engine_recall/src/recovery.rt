@@ -30,5 +30,10 @@ pub fn recover_files<D: Disk + Drop, H: NodeHash>(parts: &mut Parts<D, H>, runs:
     ensures tied { IsTied parts.new }
 {
     restore_files(&mut parts.slots, &parts.trees, runs);
-    follow_files(parts);
+    follow_files(
+        &parts.torrent,
+        &parts.slots,
+        &mut parts.book,
+        &mut parts.counts,
+    );
 }

@@ -1,44 +1,41 @@
 //! The proofs among a log's hints are taken by the trees of their roots, and those that no tree can take are
 //! passed.
 ghost use Rattle.std.specs.Prelude.{◌≡◌, ◌≢◌, OnOk, IfErr, map};
-ghost use Rattle.std.specs.List.{AllPairs};
 ghost use Rattle.bt_resume.specs.LogText.{hints_in};
 ghost use Rattle.bt_machine.specs.Recovery.{TakesProof};
+ghost use Rattle.bt_engine_state.specs.Roots.{AreNumbered};
 ghost use Rattle.bt_engine_recall.specs.Taking.{TakeFirstHints, TakeHints};
-ghost use Rattle.bt_engine_recall.specs.TakingSteps.{roots_of, ArePlaces, TakeProof};
+ghost use Rattle.bt_engine_recall.specs.TakingSteps.{TakeProof};
 
-use crate::places::{place_of, places_of_roots};
+use bt_engine_state::Roots;
 use bt_hashreq::{HashKey, to_claim};
 use bt_resume::{Hints, LentHint};
 use bt_sparse::{ProofError, SparseTree};
 use bt_tree::{Hash32, NodeHash};
 use std::alloc::{AllocError, Global};
-use std::collections::BTreeMap;
 
 /// Each proof of a log's hints, in their order, is taken by the tree of its root, where it can be accepted.
 /// Marks are passed, and so are proofs of which no claim can be made, and those of other roots. It goes once
-/// over the trees and the hints, and looks each root up in a map. Where there is no hint it takes no memory.
+/// over the hints, and looks up the root of each proof. Where there is no hint it takes no memory.
 ///
 /// Errors: out of memory, and then the trees have taken the proofs of some first hints, and none of those
 /// after them, of which there is at least one.
 pub fn take_proofs<H: NodeHash>(
     alloc: Global,
     trees: &mut [SparseTree<H>],
+    roots: &Roots,
     hints: &Hints,
 ) -> Result<(), AllocError>
-    requires apart { AllPairs (λ j k. j.root ≢ k.root) trees.old }
+    requires numbered { AreNumbered (map (λ k. k.root) trees.old) roots.now.trees }
     ensures taken { OnOk result (TakeHints H.digest (hints_in hints.now) trees.old trees.new) }
-    ensures refused { IfErr result (λ _. TakeFirstHints H.digest (hints_in hints.now) trees.old trees.new) }
+    ensures refused { IfErr result (λ _. TakeFirstHints H.digest (hints_in hints.now) trees.old
+        trees.new) }
     ensures roots { map (λ k. k.root) trees.new ≡ map (λ k. k.root) trees.old }
     ensures lengths { map (λ k. k.file_length) trees.new ≡ map (λ k. k.file_length) trees.old }
 {
-    if hints.is_empty() {
-        return Ok(());
-    }
-    let places = places_of_roots(alloc, trees)?;
     for hint in hints.iter() {
         if let LentHint::Proof(key, digests) = hint {
-            take_proof(alloc, trees, &places, &key, digests)?;
+            take_proof(alloc, trees, roots, &key, digests)?;
         }
     }
     Ok(())
@@ -49,18 +46,18 @@ pub fn take_proofs<H: NodeHash>(
 fn take_proof<H: NodeHash>(
     alloc: Global,
     trees: &mut [SparseTree<H>],
-    places: &BTreeMap<Hash32, usize>,
+    roots: &Roots,
     key: &HashKey,
     digests: &[Hash32],
 ) -> Result<(), AllocError>
-    requires places { ArePlaces (roots_of trees.old) places.now }
+    requires numbered { AreNumbered (map (λ k. k.root) trees.old) roots.now.trees }
     ensures taken { OnOk result (TakeProof H.digest key.now digests.now trees.old trees.new) }
     ensures refused { IfErr result (λ _. trees.new ≡ trees.old) }
     ensures roots { map (λ k. k.root) trees.new ≡ map (λ k. k.root) trees.old }
     ensures lengths { map (λ k. k.file_length) trees.new ≡ map (λ k. k.file_length) trees.old }
 {
-    match place_of(trees, places, &key.root) {
-        Some(place) => take_where_acceptable(alloc, &mut trees[place], key, digests),
+    match roots.tree_of(&key.root) {
+        Some(number) => take_where_acceptable(alloc, &mut trees[number as usize], key, digests),
         None => Ok(()),
     }
 }

@@ -1,9 +1,8 @@
 -- Parts that begin anew with a log.
-use Rattle.bt_machine.proofs.Base.{[], ◌≡◌, ◌≢◌, ℕ, is_some, List, length, map, Option, Some, None, refl, sym, ap, ◌∙◌, subst, slice_get, option_map, option_map_or, length-replicate, block_count, AllPairs, Facts, BlockState, Missing}
+use Rattle.bt_machine.proofs.Base.{[], ◌≡◌, ℕ, is_some, List, length, map, Option, Some, None, refl, sym, ap, ◌∙◌, subst, slice_get, option_map, option_map_or, length-replicate, block_count, Facts, BlockState, Missing}
 use Rattle.std.specs.Global.{Vec}
 use Rattle.std.specs.Vec.{with_items}
 use Rattle.std.proofs.lemmas.List.{with_items_is}
-use Rattle.std.proofs.lemmas.Simd.{map-map}
 use Rattle.bt_meta.specs.Torrent.{IsLawful}
 use Rattle.bt_meta.specs.Law.{LiesInItsPiece}
 use Rattle.bt_resume.specs.declared.hint.Hint.{Hint}
@@ -15,7 +14,8 @@ use Rattle.bt_machine.specs.Shape.{IsShaped}
 use Rattle.bt_machine.specs.Start.{IsNew}
 use Rattle.bt_machine.proofs.Lists.{get_map, map_some}
 use Rattle.bt_engine_state.specs.Parts.{state_of, disks_of, file_of, peer_of, pending_of, hints_of}
-use Rattle.bt_engine_state.specs.Ties.{IsTied, root_and_length}
+use Rattle.bt_engine_state.specs.Roots.{AreNumbered}
+use Rattle.bt_engine_state.specs.Ties.{IsTied}
 use Rattle.bt_engine_state.specs.declared.open_log.OpenLog.{OpenLog}
 use Rattle.bt_engine_state.specs.declared.peer.Peer.{Peer}
 use Rattle.bt_engine_state.specs.declared.slot.Slot.{Slot}
@@ -24,7 +24,7 @@ use Rattle.bt_engine_start.specs.declared.books.Books.{Books}
 use Rattle.bt_engine_start.specs.Books.{AreNewBooks}
 use Rattle.bt_engine_start.specs.Trees.{AreTreesOf}
 use Rattle.bt_engine_start.proofs.Beginnings.{are_new}
-use Rattle.bt_engine_start.proofs.ProvenTrees.{apart_alike, proven_tied, proven_shaped}
+use Rattle.bt_engine_start.proofs.ProvenTrees.{numbered_alike, proven_tied, proven_shaped}
 use Rattle.bt_engine_start.proofs.RootTrees.{names_of_trees}
 use Rattle.bt_engine_recall.specs.Taking.{TakeHints}
 use Rattle.bt_engine_recall.specs.Recovering.{AreMissing}
@@ -34,14 +34,10 @@ use Rattle.bt_engine_restart.proofs.Restarts as anew
 
 -- ---- trees that were made anew
 
--- no two of the trees that were made anew have one root
-pub made_apart : {D H : Type 0} {dig : List ℕ → List ℕ} {parts : Parts D H} {trees : List Facts} → IsTied parts → IsShaped parts.torrent (state_of parts)
-    → AreTreesOf dig parts.torrent parts.roots.first_files.items trees → AllPairs (λ j k. j.root ≢ k.root) trees
-made_apart {parts = parts} {trees = trees} tied shaped made =
-    let names : map root_and_length trees ≡ map root_and_length parts.trees.items = names_of_trees made ∙ sym tied.roots.firsts.same in
-    apart_alike trees parts.trees.items
-    (sym (map-map (λ (p : List ℕ × ℕ). p.0) root_and_length trees) ∙ ap (map (λ (p : List ℕ × ℕ). p.0)) names
-    ∙ map-map (λ (p : List ℕ × ℕ). p.0) root_and_length parts.trees.items) shaped.roots
+-- the trees that were made anew have the numbers of their roots
+pub made_numbered : {D H : Type 0} {dig : List ℕ → List ℕ} {parts : Parts D H} {trees : List Facts} → IsTied parts
+    → AreTreesOf dig parts.torrent parts.roots.first_files.items trees → AreNumbered (map (λ k. k.root) trees) parts.roots.trees
+made_numbered {parts = parts} {trees = trees} tied made = numbered_alike trees parts.roots.trees (tied.roots.firsts.same ∙ sym (names_of_trees made)) tied.roots.numbered
 
 -- trees that were lent, and have taken the log's proofs
 pub trees_from : {D H : Type 0} {dig : List ℕ → List ℕ} {parts : Parts D H} (trees : Vec Facts) {lent made : List Facts} {numbers : List ℕ} {hints : List Hint}

@@ -71,7 +71,8 @@ fn begin_again<D: Disk + Drop, H: NodeHash>(
 )
     requires sound { AreInShape parts.old }
     requires unlogged { parts.old.log ≡ None }
-    requires trees { AreTreesOf H.digest parts.old.torrent parts.old.roots.first_files.items trees.items }
+    requires trees { AreTreesOf H.digest parts.old.torrent parts.old.roots.first_files.items
+        trees.items }
     requires books { AreNewBooks parts.old.torrent books }
     ensures recovers { Recovers H.digest (state_of parts.old) [] [] (state_of parts.new) }
     ensures places { KeepsPlaces (state_of parts.old) (state_of parts.new) }

@@ -76,7 +76,7 @@ fn made_from_log<D: Disk + Drop, H: NodeHash>(
     parts: &Parts<D, H>,
 ) -> Result<(Vec<SparseTree<H>>, Books, Vec<MarkRun>), AllocError>
     requires digest { H.digest ≡ sha256 }
-    requires sound { AreInShape parts.now }
+    requires tied { IsTied parts.now }
     requires logged { IsSome parts.now.log }
     ensures trees { IfOk result (λ made. AreTreesFrom H.digest parts.now made.0.items) }
     ensures books { IfOk result (λ made. AreNewBooks parts.now.torrent made.1) }
@@ -86,7 +86,7 @@ fn made_from_log<D: Disk + Drop, H: NodeHash>(
         unreachable!();
     };
     let mut trees = new_trees(alloc, hash, &parts.torrent, &parts.roots.first_files)?;
-    take_proofs(alloc, &mut trees, open.log.hints())?;
+    take_proofs(alloc, &mut trees, &parts.roots, open.log.hints())?;
     let runs = recorded_runs(alloc, open.log.hints())?;
     Ok((trees, new_books(alloc, &parts.torrent)?, runs))
 }

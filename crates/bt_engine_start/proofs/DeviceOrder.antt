@@ -5,7 +5,7 @@ use Rattle.std.specs.List.{cons_option}
 use Rattle.std.specs.Option.{option_to_list}
 use Rattle.std.proofs.lemmas.Bool.{cases_eq}
 use Rattle.bt_book.proofs.Once.{count_cons}
-use Rattle.std.proofs.Common.{append_assoc, Fits, w64, ◌*◌, mul-le-mul_right}
+use Rattle.std.proofs.Common.{append_assoc}
 use Rattle.std.proofs.lemmas.Option.{get_or_from_slice_get}
 use Rattle.bt_machine.proofs.Lists.{some_is, some_below, set_same, set_other}
 use Rattle.bt_meta.specs.Files.{file_of}
@@ -168,7 +168,3 @@ module _ {D H : Type 0} where
       let one = ap (λ (o : Option D). length (option_to_list o)) is in
       let both = length-append disks (devices_in slots) in
       omega (arith, taken, two, one, both, ap (λ ds. length ds) all)
-
--- an offset in a list that fits
-pub fits_below : (i n size : ℕ) → i < n → Fits w64 (n * size) → Fits w64 (i * size)
-fits_below i n size lt fits = let le : i * size ≤ n * size = mul-le-mul_right size (omega arith) in omega (arith, fits, le)

@@ -1,5 +1,6 @@
 pub mod NewTrees
 pub mod Pushes
+pub mod Numbers
 pub mod RootTrees
 pub mod NextFiles
 pub mod DeviceOrder

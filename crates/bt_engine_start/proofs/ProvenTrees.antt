@@ -1,6 +1,7 @@
 -- Parts whose trees have taken proofs.
 use Rattle.bt_machine.proofs.Base.{[], ◌≡◌, ◌≢◌, ℕ, List, ◌∷◌, map, Option, Some, refl, sym, ap, ◌∙◌, subst, arith, slice_get, AllPairs, Facts}
 use Rattle.std.specs.Global.{Vec}
+use Rattle.std.proofs.lemmas.Simd.{map-map}
 use Rattle.bt_resume.specs.declared.hint.Hint.{Hint}
 use Rattle.bt_resume.specs.declared.hint.Hint.TheVariants.{Proof, Marks}
 use Rattle.bt_machine.specs.Recovery.{TakesProof, accepted, passed, TakesHints}
@@ -9,6 +10,7 @@ use Rattle.bt_machine.proofs.Lists.{heads, tails, some_is, some_below, get_some}
 use Rattle.bt_machine.proofs.Pairs.{to_pairs, pairs_map, from_pairs}
 use Rattle.bt_engine_recall.specs.Taking.{TakeHints}
 use Rattle.bt_engine_state.specs.Parts.{state_of}
+use Rattle.bt_engine_state.specs.Roots.{Numbers, AreNumbered}
 use Rattle.bt_engine_state.specs.Ties.{IsTied, FitsFile, FitRoots, StillKnows, LeavesStay, root_and_length}
 use Rattle.bt_engine_state.specs.declared.open_log.OpenLog.{OpenLog}
 use Rattle.bt_engine_state.specs.declared.slot.Slot.{Slot}
@@ -36,6 +38,12 @@ same_names (k ∷ ks) [] roots lengths = absurd cc
 same_names (k ∷ ks) (j ∷ js) roots lengths =
     ap (λ root. (root, k.file_length) ∷ map root_and_length ks) (heads roots) ∙ ap (λ n. (j.root, n) ∷ map root_and_length ks) (heads lengths)
     ∙ ap (λ ps. (j.root, j.file_length) ∷ ps) (same_names ks js (tails roots) (tails lengths))
+
+-- trees of these names, which have them in their order, have the numbers of their roots
+pub numbered_alike : (ks : List Facts) {names : List (List ℕ × ℕ)} (numbers : Numbers) → names ≡ map root_and_length ks
+    → AreNumbered (map (λ p. p.0) names) numbers → AreNumbered (map (λ k. k.root) ks) numbers
+numbered_alike ks {names} numbers same are =
+    subst (λ (roots : List (List ℕ)). AreNumbered roots numbers) (ap (map (λ p. p.0)) same ∙ map-map (λ p. p.0) root_and_length ks) are
 
 -- trees of the roots of trees that are apart
 pub apart_alike : (ks js : List Facts) → map (λ k. k.root) ks ≡ map (λ k. k.root) js → AllPairs (λ j k. j.root ≢ k.root) js

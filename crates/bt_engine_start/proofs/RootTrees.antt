@@ -1,11 +1,8 @@
 -- Roots by their numbers: one is found there, or gets the next; and the trees of their first files.
-use Rattle.bt_machine.proofs.Base.{[], ◌≡◌, ◌≢◌, ℕ, suc, ◌+◌, ◌<◌, inl, inr, Bool, true, false, cond, List, ◌∷◌, ◌++◌, length, get_or, Option, Some, None, refl, sym, ap, ◌∙◌, subst, arith, slice_get, AllPairs, All, All-get_or, cases_lt, map, length-map, get_or-map, ◌≤◌, File, Metainfo, IsLawful, IsLawfulFile, Facts}
-use Rattle.std.specs.Ordering.{is_eq, nat_cmp}
+use Rattle.bt_machine.proofs.Base.{[], ◌≡◌, ◌≢◌, ℕ, suc, ◌+◌, ◌<◌, inl, inr, List, ◌∷◌, ◌++◌, length, get_or, Option, Some, None, refl, sym, ap, ◌∙◌, subst, arith, slice_get, AllPairs, All, All-get_or, cases_lt, map, length-map, get_or-map, ◌≤◌, File, Metainfo, IsLawful, IsLawfulFile, Facts}
+use Rattle.std.specs.Ordering.{nat_cmp}
 use Rattle.std.specs.Cmp.Lexicographic.{slice_cmp}
-use Rattle.std.specs.BTreeMap.{Updates, IsEmpty, is_at}
-use Rattle.std.specs.Map.{lookup}
-use Rattle.std.proofs.lemmas.Map.Text.{is_eq-slice_cmp}
-use Rattle.std.proofs.lemmas.Slice.Eq.{bytes_eq-Decides}
+use Rattle.std.specs.BTreeMap.{Updates, IsEmpty}
 use Rattle.std.proofs.lemmas.Option.{get_or_from_slice_get}
 use Rattle.std.proofs.lemmas.List.{map-append}
 use Rattle.std.proofs.lemmas.Simd.{map-map}
@@ -25,7 +22,8 @@ use Rattle.bt_engine_state.proofs.Lists.{get_at, get_read, get_mapped}
 use Rattle.bt_engine_state.specs.Roots.{Numbers, number_of, AreNumbered}
 use Rattle.bt_engine_start.specs.TreeSteps.{roots_of, roots_and_lengths, AreByRoot, Extends, HasTreeAt, AreTorrentTrees, IsBareSlot, AreBareSlotsSoFar, AreBareSlots}
 use Rattle.bt_engine_start.specs.Trees.{AreTreesSoFar, AreTreesOf}
-use Rattle.bt_engine_start.proofs.Pushes.{nothing_at, get_kept, get_last, get_cases}
+use Rattle.bt_engine_start.proofs.Numbers.{none_numbered, number_kept, number_added}
+use Rattle.bt_engine_start.proofs.Pushes.{nothing_at, get_cases}
 
 pub tree_is : {dig : List ℕ → List ℕ} {torrent : Metainfo} {file : File} {k : Facts} → IsTreeFrom dig torrent file k
     → (k.root ≡ file.root) × (k.file_length ≡ file.length)
@@ -97,42 +95,15 @@ module _ {files : List File} {from : ℕ} {firsts : List ℕ} {numbers : Numbers
 -- a file whose root has no number is the first of its root
 module _ {files : List File} {from : ℕ} {firsts : List ℕ} (old new : Numbers) {file : File} (by : AreByRoot files from firsts old)
     (listed : slice_get files from ≡ Some file) (some : 0 < file.length) (none : number_of old file.root ≡ None)
-    (own : number_of new file.root ≡ Some (length firsts))
-    (update : (root : List ℕ) → number_of new root ≡ cond (is_eq (slice_cmp nat_cmp file.root root)) (Some (length firsts)) (number_of old root)) where
-  is_own : (root : List ℕ) → is_eq (slice_cmp nat_cmp file.root root) ≡ true → file.root ≡ root
-  is_own root e = (bytes_eq-Decides file.root root).0 (sym (is_eq-slice_cmp file.root root) ∙ e)
-
-  other_kept : (root : List ℕ) {t : ℕ} (b : Bool) → is_eq (slice_cmp nat_cmp file.root root) ≡ b → number_of old root ≡ Some t → number_of new root ≡ Some t
-  other_kept root true e has = absurd (let clash = sym none ∙ ap (λ r. number_of old r) (is_own root e) ∙ has in cc)
-  other_kept root false e has = update root ∙ ap (λ b. cond b (Some (length firsts)) (number_of old root)) e ∙ has
-
+    (update : Updates (slice_cmp nat_cmp) old new file.root (Some (length (roots_of files firsts)))) where
   still_some : (root : List ℕ) (o : Option ℕ) → number_of old root ≡ o → IsSome o → IsSome (number_of new root)
   still_some root None e has = absurd cc
-  still_some root (Some t) e has = ap (λ o. is_some o) (other_kept root (is_eq (slice_cmp nat_cmp file.root root)) refl e)
+  still_some root (Some t) e has = ap (λ o. is_some o) (number_kept (roots_of files firsts) old new file.root by.numbered none update root e)
 
   roots_more : roots_of files (firsts ++ from ∷ []) ≡ roots_of files firsts ++ file.root ∷ []
   roots_more =
       map-append (λ number. (root_and_length_of files number).0) firsts (from ∷ [])
       ∙ ap (λ p. roots_of files firsts ++ p.0 ∷ []) (listed_root files from listed)
-
-  size : length (roots_of files firsts) ≡ length firsts
-  size = length-map firsts (λ number. (root_and_length_of files number).0)
-
-  is_named : (root : List ℕ) (t : ℕ) (b : Bool) → is_eq (slice_cmp nat_cmp file.root root) ≡ b → number_of new root ≡ Some t
-      → slice_get (roots_of files firsts ++ file.root ∷ []) t ≡ Some root
-  is_named root t true e has =
-      let at : length firsts ≡ t = some_is (sym (update root ∙ ap (λ b. cond b (Some (length firsts)) (number_of old root)) e) ∙ has) in
-      ap (λ n. slice_get (roots_of files firsts ++ file.root ∷ []) n) (sym at ∙ sym size) ∙ get_last (roots_of files firsts) file.root
-      ∙ ap (λ r. Some r) (is_own root e)
-  is_named root t false e has =
-      get_kept (roots_of files firsts) (file.root ∷ []) t
-      ((by.numbered t root).0 (sym (update root ∙ ap (λ b. cond b (Some (length firsts)) (number_of old root)) e) ∙ has))
-
-  is_numbered : (root : List ℕ) (t : ℕ) → slice_get (roots_of files firsts ++ file.root ∷ []) t ≡ Some root → number_of new root ≡ Some t
-  is_numbered root t at = elim (get_cases (roots_of files firsts) t at) [
-    | inl before ↦ other_kept root (is_eq (slice_cmp nat_cmp file.root root)) refl ((by.numbered t root).1 before)
-    | inr last ↦ ap (λ r. number_of new r) last.1 ∙ own ∙ ap (λ n. Some n) (sym size ∙ sym last.0)
-  ]
 
   is_first : IsFirstFile files from
   is_first = record {
@@ -154,16 +125,13 @@ module _ {files : List File} {from : ℕ} {firsts : List ℕ} (old new : Numbers
       | inl before ↦ by.each t number before
       | inr last ↦ subst (λ n. IsFirstFile files n) (sym last.1) is_first
     ];
-    numbered = λ t root. (
-      λ has. rw roots_more (is_named root t (is_eq (slice_cmp nat_cmp file.root root)) refl has),
-      λ at. is_numbered root t (sym (ap (λ rs. slice_get rs t) roots_more) ∙ at),
-    );
+    numbered = subst (λ (roots : List (List ℕ)). AreNumbered roots new) (sym roots_more) (number_added (roots_of files firsts) old new file.root by.numbered none update);
     before = λ j other lt at has. elim (cases_lt j from) [
       | inl earlier ↦ still_some other.root (number_of old other.root) refl (by.before j other earlier at has)
       | inr late ↦ (
           let here : j ≡ from = omega arith in
           let same : file ≡ other = some_is (sym listed ∙ ap (λ n. slice_get files n) (sym here) ∙ at) in
-          ap (λ (f : File). is_some (number_of new f.root)) (sym same) ∙ ap (λ o. is_some o) own
+          ap (λ (f : File). is_some (number_of new f.root)) (sym same) ∙ ap (λ o. is_some o) update.1
           )
     ];
   }
@@ -173,17 +141,14 @@ pub root_added : {files : List File} {from : ℕ} {firsts : List ℕ} (old new :
     → slice_get files from ≡ Some file → 0 < file.length → n ≡ length firsts → number_of old file.root ≡ None
     → Updates (slice_cmp nat_cmp) old new file.root (Some n) → more ≡ firsts ++ from ∷ [] → AreByRoot files (from + 1) more new
 root_added {files} {from} {firsts} old new {file} more by listed some size none update shape =
-    let own = subst (λ n. Updates (slice_cmp nat_cmp) old new file.root (Some n)) size update in
-    subst (λ (ns : List ℕ). AreByRoot files (from + 1) ns new) (sym shape) (root_pushed old new by listed some none own.1 own.0)
+    let own = subst (λ n. Updates (slice_cmp nat_cmp) old new file.root (Some n)) (size ∙ sym (length-map firsts (λ number. (root_and_length_of files number).0))) update in
+    subst (λ (ns : List ℕ). AreByRoot files (from + 1) ns new) (sym shape) (root_pushed old new by listed some none own)
 
 -- at first there is none
 pub none_by_root : {files : List File} {firsts : List ℕ} {numbers : Numbers} → firsts ≡ [] → IsEmpty numbers → AreByRoot files 0 firsts numbers
 none_by_root {files} {firsts} {numbers} none empty = record {
   each = λ t n at. absurd (nothing_at t (sym (ap (λ (ns : List ℕ). slice_get ns t) none) ∙ at));
-  numbered = λ t root. (
-    λ has. absurd (let clash = sym (ap (λ (es : List (List ℕ × ℕ)). lookup (is_at (slice_cmp nat_cmp root)) es) empty) ∙ has in cc),
-    λ at. absurd (nothing_at t (sym (ap (λ (ns : List ℕ). slice_get (roots_of files ns) t) none) ∙ at)),
-  );
+  numbered = subst (λ (ns : List ℕ). AreNumbered (roots_of files ns) numbers) (sym none) (none_numbered numbers empty);
   before = λ j file lt at some. absurd (omega arith);
 }
 

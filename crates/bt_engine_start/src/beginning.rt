@@ -43,7 +43,8 @@ pub(crate) fn start_bare<D: Disk + Drop, H: NodeHash>(
         (answer_of result) }
     ensures tied { IfOk result (λ parts. IsTied parts) }
     ensures unlogged { IfOk result (λ parts. parts.log ≡ None) }
-    ensures lawful { IfOk result (λ parts. IsLawful parts.torrent.piece_length parts.torrent.files) }
+    ensures lawful { IfOk result
+        (λ parts. IsLawful parts.torrent.piece_length parts.torrent.files) }
     ensures shaped { IfOk result (λ parts. IsShaped parts.torrent (state_of parts)) }
     ensures orderly { IfOk result (λ parts. IsOrderly (state_of parts)) }
     ensures rooted { IfOk result (λ parts. AreRooted H.digest (state_of parts)) }

@@ -36,7 +36,8 @@ pub(crate) fn hand_out<D: Disk + Drop, H: NodeHash>(
     requires bare { All (λ slot. slot.store ≡ None) slots.old }
     requires enough { length disks.old.items ≡ count_of_devices (map file_of files.now) }
     ensures slots { OnOk result (AreNewSlots (map file_of files.now) slots.new) }
-    ensures trees { OnOk result (map (λ slot. slot.tree) slots.new ≡ map (λ slot. slot.tree) slots.old) }
+    ensures trees { OnOk result (map (λ slot. slot.tree) slots.new ≡ map
+        (λ slot. slot.tree) slots.old) }
     ensures devices { OnOk result (devices_in slots.new ≡ disks.old.items) }
     ensures refused { OnErr result (disks.new.items ≡ disks.old.items) }
 {

@@ -7,7 +7,8 @@ use std::alloc::{AllocError, Global};
 /// The book of files of which each has its count of blocks, which wants all blocks. Errors: out of memory.
 pub(crate) fn new_book(alloc: Global, counts: &[u32]) -> Result<Book, AllocError>
     requires few { length counts.now ≤ 65_536 }
-    ensures wanted { IfOk result (λ book. book.wanted ≡ map (λ count. replicate count true) counts.now) }
+    ensures wanted { IfOk result (λ book. book.wanted ≡ map (λ count. replicate count true)
+        counts.now) }
     ensures peers { IfOk result (λ book. book.peers ≡ []) }
 {
     Book::wanting_all(alloc, counts)

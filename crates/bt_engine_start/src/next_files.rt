@@ -47,9 +47,11 @@ fn put_first(
     requires inside { index < length files.now }
     requires firsts { AreFirstsFrom (map file_of files.now) (index + 1) firsts.old }
     ensures firsts { OnOk result (AreFirstsFrom (map file_of files.now) index firsts.new) }
-    ensures next { IfOk result (λ next. (file : File) → slice_get (map file_of files.now) index ≡ Some file
+    ensures next { IfOk result (λ next. (file : File) → slice_get (map file_of files.now) index
+        ≡ Some file
         → 0 < file.length
-        → IsFirstFrom (IsOfRoot (map file_of files.now) file.root) (length files.now) (index + 1) next) }
+        → IsFirstFrom (IsOfRoot (map file_of files.now) file.root) (length files.now)
+        (index + 1) next) }
 {
     let count = files.len() as u32;
     let file = &files[index];

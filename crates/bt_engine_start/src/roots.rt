@@ -38,10 +38,13 @@ impl NumberedRoots {
             self.old.numbers }
         ensures by_root { OnOk result (AreByRoot (map file_of files.now) (index + 1)
             self.new.first_files.items self.new.numbers) }
-        ensures grown { OnOk result (Extends self.old.first_files.items self.new.first_files.items) }
+        ensures grown { OnOk result
+            (Extends self.old.first_files.items self.new.first_files.items) }
         ensures limit { OnOk result (length self.new.first_files.items ≤ index + 1) }
-        ensures number { IfOk result (λ t. (file : File) → slice_get (map file_of files.now) index ≡ Some file
-            → HasTreeAt file (roots_and_lengths (map file_of files.now) self.new.first_files.items) t) }
+        ensures number { IfOk result (λ t. (file : File) → slice_get (map file_of files.now) index
+            ≡ Some file
+            → HasTreeAt file
+            (roots_and_lengths (map file_of files.now) self.new.first_files.items) t) }
     {
         let file = &files[index];
         if file.length == 0 {
@@ -65,8 +68,10 @@ pub(crate) fn bare_slots<D: Disk + Drop, H: NodeHash>(
 ) -> Result<(Roots, Vec<Slot<D, H>>), AllocError>
     requires few { length files.now ≤ max_file_count }
     requires one_length { HaveOneLengthPerRoot (map file_of files.now) }
-    ensures firsts { IfOk result (λ made. EachIsFirst (map file_of files.now) made.0.first_files.items) }
-    ensures nexts { IfOk result (λ made. AreNextFiles (map file_of files.now) made.0.next_files.items) }
+    ensures firsts { IfOk result
+        (λ made. EachIsFirst (map file_of files.now) made.0.first_files.items) }
+    ensures nexts { IfOk result
+        (λ made. AreNextFiles (map file_of files.now) made.0.next_files.items) }
     ensures numbered { IfOk result (λ made.
         AreNumbered (roots_of (map file_of files.now) made.0.first_files.items) made.0.trees) }
     ensures apart { IfOk result (λ made.

@@ -41,7 +41,8 @@ pub fn start<D: Disk + Drop, H: NodeHash>(
     ensures answer { AnswersStart D.conduct H.digest torrent disks.items log
         (answer_of result) }
     ensures tied { IfOk result (λ parts. IsTied parts) }
-    ensures lawful { IfOk result (λ parts. IsLawful parts.torrent.piece_length parts.torrent.files) }
+    ensures lawful { IfOk result
+        (λ parts. IsLawful parts.torrent.piece_length parts.torrent.files) }
     ensures shaped { IfOk result (λ parts. IsShaped parts.torrent (state_of parts)) }
     ensures orderly { IfOk result (λ parts. IsOrderly (state_of parts)) }
     ensures rooted { IfOk result (λ parts. AreRooted H.digest (state_of parts)) }

@@ -1,5 +1,5 @@
 //! How an engine begins with a log.
-ghost use Rattle.std.specs.Prelude.{◌≡◌, ◌↔◌, Some, length, IfOk, IsTrue, OnErr};
+ghost use Rattle.std.specs.Prelude.{◌≡◌, ◌↔◌, Some, length, IfOk, IsTrue, OnOk, OnErr};
 ghost use Rattle.sha2.specs.Sha256.{sha256};
 ghost use Rattle.bt_meta.specs.Torrent.{IsLawful};
 ghost use Rattle.bt_machine.specs.Frames.{AreSparseTrees};
@@ -13,6 +13,7 @@ ghost use Rattle.bt_engine_recall.specs.Runs.{AreRunsOf};
 ghost use Rattle.bt_engine_state.specs.Parts.{state_of, disks_of};
 ghost use Rattle.bt_engine_state.specs.Ties.{IsTied};
 ghost use Rattle.bt_engine_start.specs.Starting.{answer_of};
+ghost use Rattle.bt_engine_start.specs.BeginningSteps.{AreBareParts};
 ghost use Rattle.bt_engine_start.specs.WithLogSteps.{HaveBegunWith};
 
 use crate::beginning::bare_parts;
@@ -46,7 +47,8 @@ pub(crate) fn start_with_log<D: Disk + Drop, H: NodeHash>(
     ensures answer { AnswersStart D.conduct H.digest torrent disks.items (Some log)
         (answer_of result) }
     ensures tied { IfOk result (λ parts. IsTied parts) }
-    ensures lawful { IfOk result (λ parts. IsLawful parts.torrent.piece_length parts.torrent.files) }
+    ensures lawful { IfOk result
+        (λ parts. IsLawful parts.torrent.piece_length parts.torrent.files) }
     ensures shaped { IfOk result (λ parts. IsShaped parts.torrent (state_of parts)) }
     ensures orderly { IfOk result (λ parts. IsOrderly (state_of parts)) }
     ensures rooted { IfOk result (λ parts. AreRooted H.digest (state_of parts)) }
@@ -108,10 +110,31 @@ fn begun_with<D: Disk + Drop, H: NodeHash>(
     ensures runs { IfOk result (λ made. AreRunsOf log.now.hints made.1.items) }
     ensures refused { OnErr result (disks.new.items ≡ disks.old.items) }
 {
-    blocks_and_ranges_agree();
     let mut parts = bare_parts(alloc, torrent, hash)?;
-    take_proofs(alloc, &mut parts.trees, log.hints())?;
-    let runs = recorded_runs(alloc, log.hints())?;
-    hand_out(alloc, hash, parts.torrent.files(), &mut parts.slots, disks)?;
+    let runs = fill_parts(alloc, hash, &mut parts, disks, log)?;
     Ok((parts, runs))
+}
+
+/// The trees take the proofs of a log, and each file that has a byte gets its device. Given are the runs of blocks
+/// that the log records. Where memory is refused, all devices are back.
+fn fill_parts<D: Disk + Drop, H: NodeHash>(
+    alloc: Global,
+    hash: H,
+    parts: &mut Parts<D, H>,
+    disks: &mut Vec<D>,
+    log: &ResumeLog<D>,
+) -> Result<Vec<MarkRun>, AllocError>
+    requires bare { AreBareParts H.digest parts.old }
+    requires enough { length disks.old.items ≡ count_of_devices parts.old.torrent.files }
+    ensures begun { OnOk result
+        (HaveBegunWith H.digest parts.old.torrent disks.old.items log.now.hints parts.new) }
+    ensures runs { IfOk result (λ runs. AreRunsOf log.now.hints runs.items) }
+    ensures refused { OnErr result (disks.new.items ≡ disks.old.items) }
+{
+    blocks_and_ranges_agree();
+    take_proofs(alloc, &mut parts.trees, &parts.roots, log.hints())?;
+    let runs = recorded_runs(alloc, log.hints())?;
+    let files = parts.torrent.files();
+    hand_out(alloc, hash, files, &mut parts.slots, disks)?;
+    Ok(runs)
 }

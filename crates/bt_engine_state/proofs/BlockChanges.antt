@@ -384,22 +384,6 @@ module _ {D H : Type 0} (old new : Parts D H) where
     known = rw known (knows_still torrent stay tied.known);
   }
 
-  -- what the peers there are asked for is as it was
-  pub state_kept : new ≡ record old { book = new.book; counts = new.counts }
-      → ((i : ℕ) (p : Peer) → slice_get old.peers.items i ≡ Some p → asked_of new.book p.key ≡ asked_of old.book p.key) → state_of new ≡ state_of old
-  state_kept others same =
-      ap (λ (parts : Parts D H). state_of parts) others
-      ∙ ap {A = List PeerState} (λ peers. record (state_of old) { peers = peers }) (map_agree (peer_of old.book) (peer_of new.book) old.peers.items
-      (λ i p at. ap {A = List BlockId} {B = PeerState} (λ asked. record (peer_of old.book p) { asked = asked }) (same i p at)))
-
-  -- no peer is asked for the block, or it is missing, or was not
-  pub state_followed : (b : BlockId) (was now : BlockState) → new ≡ record old { book = new.book; counts = new.counts }
-      → ((key : PeerKey) → asked_of new.book key ≡ asked_after b was now (asked_of old.book key)) → (was ≡ Missing → now ≢ Missing → ¬ IsAsked (state_of old) b)
-      → state_of new ≡ state_of old
-  state_followed b was now others asked none =
-      state_kept others (λ i p at. asked p.key ∙ asked_same b was now (asked_of old.book p.key)
-      (λ missing known among. none missing known (peer_of old.book p, contains_some (state_of old).peers i (get_mapped (peer_of old.book) old.peers.items i at), among)))
-
 -- what a peer of the machine is asked for once the block was followed
 abbrev pub asked_then : BlockId → (was now : BlockState) → PeerState → PeerState
 asked_then b was now q = record q { asked = asked_after b was now q.asked }
@@ -412,14 +396,25 @@ told_peers old new b was now (p ∷ peers) asked =
     ap {A = List BlockId} {B = List PeerState} (λ bs. record (peer_of old p) { asked = bs } ∷ map (peer_of new) peers) (asked p.key)
     ∙ ap (λ qs. asked_then b was now (peer_of old p) ∷ qs) (told_peers old new b was now peers asked)
 
--- whoever is asked for the block, the peers are told of so
-pub state_told : {D H : Type 0} (old new : Parts D H) (b : BlockId) (was now : BlockState)
-    → new ≡ record old { book = new.book; counts = new.counts }
-    → ((key : PeerKey) → asked_of new.book key ≡ asked_after b was now (asked_of old.book key))
-    → state_of new ≡ record (state_of old) { peers = map (asked_then b was now) (state_of old).peers }
-state_told {D} {H} old new b was now others asked =
-    ap (λ (parts : Parts D H). state_of parts) others
-    ∙ ap {A = List PeerState} (λ peers. record (state_of old) { peers = peers }) (told_peers old.book new.book b was now old.peers.items asked)
+-- parts with another book and other counts
+module _ {D H : Type 0} (old : Parts D H) (book : BookState) (counts : Counts) where
+  -- what the peers there are asked for is as it was
+  pub state_kept : ((i : ℕ) (p : Peer) → slice_get old.peers.items i ≡ Some p → asked_of book p.key ≡ asked_of old.book p.key)
+      → state_of (record old { book = book; counts = counts }) ≡ state_of old
+  state_kept same =
+      ap {A = List PeerState} (λ peers. record (state_of old) { peers = peers }) (map_agree (peer_of old.book) (peer_of book) old.peers.items
+      (λ i p at. ap {A = List BlockId} {B = PeerState} (λ asked. record (peer_of old.book p) { asked = asked }) (same i p at)))
+
+  module _ (b : BlockId) (was now : BlockState) (asked : (key : PeerKey) → asked_of book key ≡ asked_after b was now (asked_of old.book key)) where
+    -- no peer is asked for the block, or it is missing, or was not
+    pub state_followed : (was ≡ Missing → now ≢ Missing → ¬ IsAsked (state_of old) b) → state_of (record old { book = book; counts = counts }) ≡ state_of old
+    state_followed none =
+        state_kept (λ i p at. asked p.key ∙ asked_same b was now (asked_of old.book p.key)
+        (λ missing known among. none missing known (peer_of old.book p, contains_some (state_of old).peers i (get_mapped (peer_of old.book) old.peers.items i at), among)))
+
+    -- whoever is asked for the block, the peers are told of so
+    pub state_told : state_of (record old { book = book; counts = counts }) ≡ record (state_of old) { peers = map (asked_then b was now) (state_of old).peers }
+    state_told = ap {A = List PeerState} (λ peers. record (state_of old) { peers = peers }) (told_peers old.book book b was now old.peers.items asked)
 
 -- a block that is in no pair is asked of nobody
 pub free_unasked : {D H : Type 0} (parts : Parts D H) (b : BlockId) → pair_count parts.book b ≡ 0 → ¬ IsAsked (state_of parts) b

@@ -7,7 +7,7 @@ use Rattle.bt_store.specs.FileStore.{StoreView}
 use Rattle.bt_machine.proofs.Lists.{some_is, some_below, get_some, get_map}
 use Rattle.bt_machine.specs.Shape.{IsShaped}
 use Rattle.bt_engine_state.specs.Parts.{state_of, file_of}
-use Rattle.bt_engine_state.specs.Roots.{AreNumbered, number_of, IsFirstFrom, IsOfRoot, IsOfTree, LeadThrough}
+use Rattle.bt_engine_state.specs.Roots.{Numbers, AreNumbered, number_of, IsFirstFrom, IsOfRoot, IsOfTree, LeadThrough}
 use Rattle.bt_engine_state.specs.Ties.{IsTied, root_and_length, root_and_length_of}
 use Rattle.bt_engine_state.specs.declared.slot.Slot.{Slot}
 use Rattle.bt_engine_state.specs.declared.parts.Parts.{Parts}
@@ -58,6 +58,19 @@ module _ {D H : Type 0} {slots : List (Slot D H)} {tree : ℕ} where
         → IsFirstFrom (IsOfTree slots tree) (length slots) (file + 1) next
     walk_goes_on {file} next at lt read = lead.next file next (at.of_tree lt) (get_read roots.next_files.items file next (omega (arith, lt, lead.size)) read)
 
+-- ---- the number of a root
+
+module _ (trees : List Facts) (numbers : Numbers) (root : List ℕ) (are : AreNumbered (map (λ k. k.root) trees) numbers) where
+  pub numbered_tree : (t : ℕ) → number_of numbers root ≡ Some t → (k : Facts) × (slice_get trees t ≡ Some k) × (k.root ≡ root)
+  numbered_tree t is = get_map (λ (k : Facts). k.root) trees t ((are t root).0 is)
+
+  pub number_below : (t : ℕ) → number_of numbers root ≡ Some t → t < length trees
+  number_below t is = some_below trees t (numbered_tree t is).1
+
+  -- each tree of the root has its number
+  pub number_is : (t : ℕ) {k : Facts} → slice_get trees t ≡ Some k → k.root ≡ root → number_of numbers root ≡ Some t
+  number_is t {k} here same = sym (ap (number_of numbers) same) ∙ (are t k.root).1 (get_mapped (λ (k : Facts). k.root) trees t here)
+
 -- ---- what ties an engine's parts
 
 module _ {D H : Type 0} {parts : Parts D H} (tied : IsTied parts) where
@@ -101,9 +114,8 @@ module _ {D H : Type 0} {parts : Parts D H} (tied : IsTied parts) where
     -- no other tree has its root
     own_tree : (u : ℕ) {j : Facts} → slice_get parts.trees.items u ≡ Some j → j.root ≡ k.root → u ≡ t
     own_tree u {j} there same =
-        let first = (roots_numbered u j.root).1 (get_mapped (λ (f : Facts). f.root) parts.trees.items u there) in
-        let second = (roots_numbered t k.root).1 (get_mapped (λ (f : Facts). f.root) parts.trees.items t stands) in
-        some_is (sym first ∙ ap (number_of parts.roots.trees) same ∙ second)
+        some_is (sym (number_is parts.trees.items parts.roots.trees k.root roots_numbered u there same)
+        ∙ number_is parts.trees.items parts.roots.trees k.root roots_numbered t stands refl)
 
     has_store : (store : Option (StoreView D)) {n : ℕ} → (store ≡ None → n ≡ 0) → 0 < n → IsSome store
     has_store None empty some = absurd (omega (arith, empty refl, some))

@@ -24,3 +24,5 @@ pub mod WaitingBlocks
 -- a block that has another state
 pub mod BlockChanges
 pub mod SlotChanges
+-- a file that is left out
+pub mod Recounts

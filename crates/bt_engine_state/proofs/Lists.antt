@@ -1,5 +1,5 @@
 -- Lists that are mapped, of which one element is replaced or goes.
-use Rattle.std.proofs.Common.{[], ◌≡◌, ◌≢◌, ℕ, zero, suc, ◌+◌, ◌<◌, List, ◌∷◌, ◌++◌, length, map, take, drop, Some, refl, sym, ap, ◌∙◌, arith, get_or, add-one, Bool, true, false, cond, filter}
+use Rattle.std.proofs.Common.{[], ◌≡◌, ◌≢◌, ℕ, zero, suc, ◌+◌, ◌*◌, ◌<◌, ◌≤◌, Fits, w64, mul-le-mul_right, List, ◌∷◌, ◌++◌, length, map, take, drop, Some, refl, sym, ap, ◌∙◌, arith, get_or, add-one, Bool, true, false, cond, filter}
 use Rattle.std.specs.Prelude.{slice_get, slice_set}
 use Rattle.std.specs.List.{remove}
 
@@ -68,3 +68,7 @@ pub filter_mapped : {X Y : Type 0} (f : X → Y) (test : Y → Bool) (xs : List 
 filter_mapped f test [] = refl
 filter_mapped f test (x ∷ xs) =
     filter_by f x (filter (λ x. test (f x)) xs) (filter test (map f xs)) (test (f x)) (filter_mapped f test xs)
+
+-- where an element below another lies
+pub fits_below : (i n size : ℕ) → i < n → Fits w64 (n * size) → Fits w64 (i * size)
+fits_below i n size lt fits = let le : i * size ≤ n * size = mul-le-mul_right size (omega arith) in omega (arith, fits, le)

@@ -7,4 +7,5 @@ pub mod Ties
 pub mod Handling
 pub mod Connection
 pub mod BlockChange
+pub mod Recount
 pub mod BlockChangeSteps

@@ -7,38 +7,36 @@ ghost use Rattle.bt_machine.specs.State.{EngineState};
 ghost use Rattle.bt_machine.specs.Blocks.{piece_of as piece_in};
 ghost use Rattle.bt_engine_state.specs.BlockChange.{AreFollowed, OneChanged, HasChanged, asked_after};
 
-use crate::counts::count_block;
-use crate::parts::Parts;
-use bt_book::{BlockId, PeerKey};
-use bt_disk::Disk;
+use crate::counts::{Counts, count_block};
+use bt_book::{BlockId, Book, PeerKey};
 use bt_meta::Torrent;
 use bt_store::BlockState;
-use bt_tree::NodeHash;
 
 /// Brings the request book and the counts in line with one block: in its store, its state was `was` and is
 /// `now`. Nobody is asked any longer for a block that is missing no more.
-pub fn follow_block<D: Disk + Drop, H: NodeHash>(
-    parts: &mut Parts<D, H>,
+pub fn follow_block(
+    torrent: &Torrent,
+    book: &mut Book,
+    counts: &mut Counts,
     block: BlockId,
     was: BlockState,
     now: BlockState,
 )
-    requires { HasChanged parts.old.torrent parts.old.book.wanted parts.old.counts block was now }
-    ensures followed { (s t : EngineState) → s.torrent ≡ parts.old.torrent
-        → AreFollowed s parts.old.book.wanted parts.old.counts → OneChanged s t block was now
-        → AreFollowed t parts.new.book.wanted parts.new.counts }
+    requires { HasChanged torrent.now book.old.wanted counts.old block was now }
+    ensures followed { (s t : EngineState) → s.torrent ≡ torrent.now
+        → AreFollowed s book.old.wanted counts.old → OneChanged s t block was now
+        → AreFollowed t book.new.wanted counts.new }
     ensures asked { (key : PeerKey)
-        → asked_of parts.new.book key ≡ asked_after block was now (asked_of parts.old.book key) }
-    ensures peers { peers_of parts.new.book ≡ peers_of parts.old.book }
-    ensures others { parts.new ≡ record parts.old { book = parts.new.book; counts = parts.new.counts } }
+        → asked_of book.new key ≡ asked_after block was now (asked_of book.old key) }
+    ensures peers { peers_of book.new ≡ peers_of book.old }
 {
-    parts.torrent.keeps_laws();
-    parts.book.keeps_laws();
-    let piece = piece_of(&parts.torrent, block);
-    count_block(&mut parts.counts, piece, was, now);
+    torrent.keeps_laws();
+    book.keeps_laws();
+    let piece = piece_of(torrent, block);
+    count_block(counts, piece, was, now);
     match now {
-        BlockState::Missing => parts.book.want(block),
-        BlockState::Waiting | BlockState::Marked => parts.book.done(block),
+        BlockState::Missing => book.want(block),
+        BlockState::Waiting | BlockState::Marked => book.done(block),
     }
 }
 

@@ -10,7 +10,8 @@ use std::alloc::{AllocError, Global};
 pub(crate) fn bitfield(alloc: Global, unmarked: &[u32]) -> Result<Vec<u8>, AllocError>
     ensures fits { IfOk result (λ bytes. All (λ byte. byte < 256) bytes.items) }
     ensures size { IfOk result (λ bytes. length bytes.items ≡ div_ceil (length unmarked.now) 8) }
-    ensures bits { IfOk result (λ bytes. bits_in bytes.items ≡ map (λ count. count == 0) unmarked.now
+    ensures bits { IfOk result (λ bytes. bits_in bytes.items ≡ map
+        (λ count. count == 0) unmarked.now
         ++ replicate (8 * length bytes.items - length unmarked.now) false) }
 {
     let mut bytes = vec![in alloc; 0; unmarked.len().div_ceil(8)]?;

@@ -79,7 +79,8 @@ pub fn peer_count<D: Disk + Drop, H: NodeHash>(parts: &Parts<D, H>) -> usize
 
 /// The device of a file; None where the file is empty, and where there is no such file.
 pub fn disk<D: Disk + Drop, H: NodeHash>(parts: &Parts<D, H>, file: u32) -> Option<&D>
-    ensures { option_copied result ≡ option_and_then (λ disk. disk) (slice_get (disks_of parts.now) file) }
+    ensures { option_copied result ≡ option_and_then (λ disk. disk)
+        (slice_get (disks_of parts.now) file) }
 {
     let slots = parts.slots.as_slice();
     let slot = slots.get(file as usize)?;

@@ -1,5 +1,5 @@
 //! A file as an engine has it: the number of its tree, and the store of its blocks with its device.
-ghost use Rattle.std.specs.Prelude.{◌≡◌, length, slice_get};
+ghost use Rattle.std.specs.Prelude.{◌≡◌, ◌<◌, Some, length, slice_get};
 ghost use Rattle.bt_engine_state.specs.Parts.{file_of};
 
 use bt_disk::Disk;
@@ -34,5 +34,16 @@ impl<D: Disk + Drop, H: NodeHash> Slot<D, H> {
             Some(store) => store.state(block),
             None => None,
         }
+    }
+
+    /// The state of one of the file's blocks.
+    pub(crate) fn own_state(&self, block: u32) -> BlockState
+        requires { block < length (file_of self.now).states }
+        ensures { slice_get (file_of self.now).states block ≡ Some result }
+    {
+        let Some(state) = self.state(block) else {
+            unreachable!();
+        };
+        state
     }
 }

@@ -6,7 +6,7 @@ use Rattle.bt_engine_state.proofs.Ties.{tied_logged}
 use Rattle.bt_engine_state.specs.declared.peer.Peer.{Peer}
 use Rattle.bt_engine_state.specs.declared.parts.Parts.{Parts}
 use Rattle.bt_engine.specs.RoomSteps.{IsNoteBound, HasRoom}
-use Rattle.bt_engine.specs.declared.room.Room.{Room}
+use Rattle.bt_engine.specs.declared.room.EventLists.{EventLists}
 use Rattle.bt_engine.proofs.Handled.{bound_logged}
 use Rattle.bt_engine.proofs.room.reserve.Goals as goal
 
@@ -25,7 +25,7 @@ returns-clause-room g c =
     let old = c.args.parts.now in
     let others = c.reserve_hints.ensures.others in
     let bound = c.note_bound-bound.result in
-    let room : Room = record { send = c.in_ok-send.send; notes = c.in_ok-notes.notes } in
+    let room : EventLists = record { send = c.in_ok-send.send; notes = c.in_ok-notes.notes } in
     let peers = ap (λ (ps : List Peer). length ps) c.as_slice-peers.ensures.value in
     let has : HasRoom bound (length old.peers.items) room = record {
       nothing_sent = c.in_ok-send.ensures.items;

@@ -1,7 +1,7 @@
 use Rattle.std.proofs.Common.{List, flat_map, sym, ap, ◌∙◌, subst}
 use Rattle.bt_tree.specs.Blocks.{block_count}
 use Rattle.bt_machine.specs.Hints.{add_hints}
-use Rattle.bt_engine_adopt.specs.declared.marks.Run.{Run}
+use Rattle.bt_engine_adopt.specs.declared.marks.FileRun.{FileRun}
 use Rattle.bt_engine_adopt.specs.GroupSteps.{not_taken}
 use Rattle.bt_engine_adopt.specs.MarksSteps.{marks_in, run_blocks, AreRuns}
 use Rattle.bt_engine_adopt.proofs.Takings.{if_err_by}
@@ -17,7 +17,7 @@ push_proofs-requires-clause-answered g c =
     keys_answered c.in_ok-adopted.ensures.ok.1.adopts (c.requires.states ∙ sym (ap block_count c.requires.geometry)) c.group_below-group.ensures.group c.requires.answered c.if-adopted-gt0.true
 
 pub push_runs-requires-clause-runs : goal.push_runs-requires-clause-runs
-push_runs-requires-clause-runs g c = subst (λ (runs : List Run). AreRuns runs) (sym c.deref.ensures.value) c.in_ok-runs.ensures.runs
+push_runs-requires-clause-runs g c = subst (λ (runs : List FileRun). AreRuns runs) (sym c.deref.ensures.value) c.in_ok-runs.ensures.runs
 
 pub returns-then-adopted-gt0-clause-ok : goal.returns-then-adopted-gt0-clause-ok
 returns-then-adopted-gt0-clause-ok g c =
@@ -25,7 +25,7 @@ returns-then-adopted-gt0-clause-ok g c =
     takes_found c.args.file c.args.pending.now.hints c.in_ok-adopted.ensures.ok.1 c.push_runs.new.pending.hints (c.requires.states ∙ sym (ap block_count c.requires.geometry))
     c.group_below-group.ensures.group c.in_ok-runs.runs.items c.push_proofs.new.pending.hints c.if-adopted-gt0.true
     (proofs, zip, hints ∙ ap (λ hs. add_hints hs proofs) c.reserve.ensures.hints) c.in_ok-runs.ensures.blocks
-    (c.push_runs.ensures.hints ∙ ap (λ (runs : List Run). add_hints c.push_proofs.new.pending.hints (marks_in c.args.file (flat_map run_blocks runs))) c.deref.ensures.value)
+    (c.push_runs.ensures.hints ∙ ap (λ (runs : List FileRun). add_hints c.push_proofs.new.pending.hints (marks_in c.args.file (flat_map run_blocks runs))) c.deref.ensures.value)
 
 pub returns-else-adopted-gt0-clause-ok : goal.returns-else-adopted-gt0-clause-ok
 returns-else-adopted-gt0-clause-ok g c =

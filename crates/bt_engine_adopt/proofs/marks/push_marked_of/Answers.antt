@@ -5,7 +5,7 @@ use Rattle.bt_resume.specs.declared.hint.Hint.{Hint}
 use Rattle.bt_store.specs.Review.{is_marked_at}
 use Rattle.bt_machine.specs.Hints.{add_hints}
 use Rattle.bt_engine_pending.specs.Pending.{PendingView}
-use Rattle.bt_engine_adopt.specs.declared.marks.Run.{Run}
+use Rattle.bt_engine_adopt.specs.declared.marks.FileRun.{FileRun}
 use Rattle.bt_engine_adopt.specs.MarksSteps.{marks_in, run_blocks}
 use Rattle.bt_engine_adopt.proofs.RunMarks.{marked_goes_on, marked_ends, room_left, room_then}
 use Rattle.bt_engine_adopt.proofs.marks.push_marked_of.Goals as goal
@@ -23,26 +23,26 @@ loop-offset-preserved g c =
     let file = c.args.file in
     let first = c.args.run.first in
     let old = c.args.pending.now in
-    let is = λ (hints : List Hint) (run : Run). add_hints hints (marks_in c.args.file (run_blocks run))
+    let is = λ (hints : List Hint) (run : FileRun). add_hints hints (marks_in c.args.file (run_blocks run))
     ≡ add_hints c.args.pending.now.hints (marks_in c.args.file (filter (is_marked_at c.args.store.now.states) (range_with_len c.args.run.first (c.loop-offset.offset + 1)))) in
     elim c.if-is_marked.branch [
       | then-is_marked w ↦ record {
         hints = subst (λ (p : PendingView). is p.hints c.if-is_marked.marked) (sym w.pending-is)
-            (subst (λ (r : Run). is l.pending.hints r) (sym w.marked-is)
+            (subst (λ (r : FileRun). is l.pending.hints r) (sym w.marked-is)
             (marked_goes_on states file first l.offset l.marked old.hints l.pending.hints l.invariant.hints l.invariant.ends (sym c.is_marked.ensures ∙ w.if-is_marked.true)));
-        ends = ap (λ (r : Run). r.first + r.count) w.marked-is ∙ omega (arith, l.invariant.ends);
-        room = omega (arith, l.invariant.room, ap (λ (p : PendingView). p.room) w.pending-is, ap (λ (r : Run). r.count) w.marked-is);
+        ends = ap (λ (r : FileRun). r.first + r.count) w.marked-is ∙ omega (arith, l.invariant.ends);
+        room = omega (arith, l.invariant.room, ap (λ (p : PendingView). p.room) w.pending-is, ap (λ (r : FileRun). r.count) w.marked-is);
       }
       | else-is_marked w ↦ record {
         hints = subst (λ (p : PendingView). is p.hints c.if-is_marked.marked) (sym w.pending-is)
-            (subst (λ (r : Run). is w.push_run.new.pending.hints r) (sym w.marked-is)
+            (subst (λ (r : FileRun). is w.push_run.new.pending.hints r) (sym w.marked-is)
             (marked_ends states file first l.offset l.marked old.hints l.pending.hints l.invariant.hints (sym c.is_marked.ensures ∙ w.if-is_marked.false) w.push_run.new.pending.hints w.push_run.ensures.hints));
-        ends = ap (λ (r : Run). r.first + r.count) w.marked-is ∙ omega arith;
+        ends = ap (λ (r : FileRun). r.first + r.count) w.marked-is ∙ omega arith;
         room = omega (
           arith,
           room_then l.offset l.marked.count old.room l.pending.room w.push_run.new.pending.room l.invariant.room w.push_run.ensures.room,
           ap (λ (p : PendingView). p.room) w.pending-is,
-          ap (λ (r : Run). r.count) w.marked-is,
+          ap (λ (r : FileRun). r.count) w.marked-is,
         );
       }
     ]

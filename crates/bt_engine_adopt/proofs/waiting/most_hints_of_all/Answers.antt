@@ -1,5 +1,5 @@
 use Rattle.std.proofs.Common.{List, ap, ◌∙◌, arith}
-use Rattle.bt_engine_adopt.specs.declared.marks.Run.{Run}
+use Rattle.bt_engine_adopt.specs.declared.marks.FileRun.{FileRun}
 use Rattle.bt_engine_adopt.specs.declared.waiting.FileRuns.{FileRuns}
 use Rattle.bt_engine_adopt.specs.MarksSteps.{most_hints}
 use Rattle.bt_engine_adopt.proofs.RunMarks.{sum_with_one}
@@ -22,6 +22,6 @@ loop-one-preserved c =
     let few = few_in c.args.listed.now c.requires.runs l.one-index (omega (arith, c.loop-one-test.true)) c.one-item.is c.deref.ensures.value in
     record {
       hints = sum_with_one (λ (x : FileRuns). most_hints x.runs.items) c.args.listed.now l.one-index c.one-item.result (omega (arith, c.loop-one-test.true)) c.one-item.is
-          l.hints c.most_hints-hints.result l.invariant.hints (c.most_hints-hints.ensures ∙ ap (λ (runs : List Run). most_hints runs) c.deref.ensures.value);
+          l.hints c.most_hints-hints.result l.invariant.hints (c.most_hints-hints.ensures ∙ ap (λ (runs : List FileRun). most_hints runs) c.deref.ensures.value);
       few = omega (arith, few, l.invariant.few, c.most_hints-hints.ensures);
     }

@@ -1,5 +1,5 @@
 use Rattle.std.specs.Prelude.{is_some}
-use Rattle.std.proofs.Common.{◌≤◌, List, map, ap, sym, ◌∙◌, subst, refl}
+use Rattle.std.proofs.Common.{◌≤◌, List, sym, ◌∙◌, subst, refl}
 use Rattle.std.proofs.lemmas.List.{with_items_is}
 use Rattle.std.specs.Vec.{with_items, with_item}
 use Rattle.bt_machine.proofs.Shape.{map_set}
@@ -9,7 +9,6 @@ use Rattle.bt_engine_state.specs.Ties.{IsTied}
 use Rattle.bt_engine_state.specs.Parts.{state_of}
 use Rattle.bt_engine_state.specs.declared.parts.Parts.{Parts}
 use Rattle.bt_engine_state.specs.declared.peer.Peer.{Peer}
-use Rattle.bt_engine_messages.specs.Hashes.{TakesHashes}
 use Rattle.bt_engine_messages.specs.HashesSteps.{IsBehind}
 use Rattle.bt_engine_messages.proofs.KeptHints.{can_be_read}
 use Rattle.bt_engine_messages.proofs.Learnings.{if_err_by}
@@ -88,11 +87,15 @@ follow_notes-requires g c =
     let next : Parts g.row.D.Denot g.row.H.Denot = record old { trees = with_items old.trees n.trees; slots = with_items old.slots n.slots } in
     let p = c.index_mut-peer.result.now in
     let q : Peer = record p { hash = c.resolved_hash_state-peer.result } in
-    subst (λ (ns : List Note). IsBehind old.book.wanted old.counts ns (state_of (record next { peers = with_item old.peers c.args.index q }))) (sym c.deref.ensures.value)
-    (notes_behind d.conduct dig key digests old c.requires.tied notes n.trees n.slots l next c.args.index q
-    (get_read old.peers.items c.args.index p c.requires.there c.index_mut-peer.ensures.value) refl
-    (with_items_is old.trees n.trees (c.learn_hashes.auto.trees ∙ c.deref_mut-2.ensures.len))
-    (with_items_is old.slots n.slots (c.learn_hashes.auto.slots ∙ c.deref_mut.ensures.len)) c.requires.shaped)
+    let mid = state_of (record next { peers = with_item old.peers c.args.index q }) in (
+      mid,
+      refl,
+      subst (λ (ns : List Note). IsBehind old.book.wanted old.counts ns mid) (sym c.deref.ensures.value)
+          (notes_behind d.conduct dig key digests old c.requires.tied notes n.trees n.slots l next c.args.index q
+          (get_read old.peers.items c.args.index p c.requires.there c.index_mut-peer.ensures.value) refl
+          (with_items_is old.trees n.trees (c.learn_hashes.auto.trees ∙ c.deref_mut-2.ensures.len))
+          (with_items_is old.slots n.slots (c.learn_hashes.auto.slots ∙ c.deref_mut.ensures.len)) c.requires.shaped),
+    )
 
 pub returns-in-Settled-clause-takes : goal.returns-in-Settled-clause-takes
 returns-in-Settled-clause-takes g c =
@@ -102,22 +105,20 @@ returns-in-Settled-clause-takes g c =
     let digests = c.args.digests.now in
     let old = c.args.parts.now in
     let n = c.learn_hashes.new in
-    let new = c.follow_notes.new.parts in
     let notes = c.in-Settled.notes in
     let changes = changes_of d.conduct dig key digests c.in_ok-hint.hint old c.deref_mut-2.result.now c.deref_mut.result.now
     c.in_ok-why.field-0 (Settled notes c.in-Settled.kept) n.trees n.slots c.deref_mut-2.ensures.value c.deref_mut.ensures.value c.in-Settled.is c.in_ok-why.ensures.changes in
     let l = changes.0 in
     let next : Parts g.row.D.Denot g.row.H.Denot =
-    record old { trees = with_items old.trees n.trees; slots = with_items old.slots n.slots; book = new.book; counts = new.counts } in
+    record old { trees = with_items old.trees n.trees; slots = with_items old.slots n.slots; book = c.follow_notes.new.book; counts = c.follow_notes.new.counts } in
     let p = c.index_mut-peer.result.now in
     let q : Peer = record p { hash = c.resolved_hash_state-peer.result } in
-    subst (λ (x : Parts g.row.D.Denot g.row.H.Denot). TakesHashes d.conduct dig old c.args.index key digests (Settled notes c.in-Settled.kept) x) (sym c.follow_notes.ensures.others)
-    (takes_learnt d.conduct dig key digests old c.requires.tied notes n.trees n.slots l next c.args.index q
+    takes_learnt d.conduct dig key digests old c.requires.tied notes n.trees n.slots l next c.args.index q
     (get_read old.peers.items c.args.index p c.requires.there c.index_mut-peer.ensures.value) refl
     (with_items_is old.trees n.trees (c.learn_hashes.auto.trees ∙ c.deref_mut-2.ensures.len))
     (with_items_is old.slots n.slots (c.learn_hashes.auto.slots ∙ c.deref_mut.ensures.len))
     c.resolved_hash_state-peer.result refl c.resolved_hash_state-peer.ensures c.follow_notes.ensures.asked
-    c.in_ok-hint.hint c.in-Settled.kept c.in_ok-hint.ensures.value changes.1)
+    c.in_ok-hint.hint c.in-Settled.kept c.in_ok-hint.ensures.value changes.1
 
 pub returns-in-Settled-clause-readable : goal.returns-in-Settled-clause-readable
 returns-in-Settled-clause-readable g c =
@@ -144,9 +145,8 @@ returns-in-Settled-clause-keys g c =
     let p = c.index_mut-peer.result.now in
     let q : Peer = record p { hash = c.resolved_hash_state-peer.result } in
     record {
-      keys = ap (λ (x : Parts g.row.D.Denot g.row.H.Denot). map (λ (r : Peer). r.key) x.peers.items) c.follow_notes.ensures.others
-          ∙ map_set (λ (r : Peer). r.key) old.peers.items c.args.index q (get_read old.peers.items c.args.index p c.requires.there c.index_mut-peer.ensures.value) refl;
-      len = ap (λ (x : Parts g.row.D.Denot g.row.H.Denot). x.peers.len) c.follow_notes.ensures.others;
+      keys = map_set (λ (r : Peer). r.key) old.peers.items c.args.index q (get_read old.peers.items c.args.index p c.requires.there c.index_mut-peer.ensures.value) refl;
+      len = refl;
     }
 
 pub returns-in-Settled-clause-rest : goal.returns-in-Settled-clause-rest
@@ -157,22 +157,20 @@ returns-in-Settled-clause-rest g c =
     let digests = c.args.digests.now in
     let old = c.args.parts.now in
     let n = c.learn_hashes.new in
-    let new = c.follow_notes.new.parts in
     let notes = c.in-Settled.notes in
     let changes = changes_of d.conduct dig key digests c.in_ok-hint.hint old c.deref_mut-2.result.now c.deref_mut.result.now
     c.in_ok-why.field-0 (Settled notes c.in-Settled.kept) n.trees n.slots c.deref_mut-2.ensures.value c.deref_mut.ensures.value c.in-Settled.is c.in_ok-why.ensures.changes in
     let l = changes.0 in
     let next : Parts g.row.D.Denot g.row.H.Denot =
-    record old { trees = with_items old.trees n.trees; slots = with_items old.slots n.slots; book = new.book; counts = new.counts } in
+    record old { trees = with_items old.trees n.trees; slots = with_items old.slots n.slots; book = c.follow_notes.new.book; counts = c.follow_notes.new.counts } in
     let p = c.index_mut-peer.result.now in
     let q : Peer = record p { hash = c.resolved_hash_state-peer.result } in
     record {
-      torrent = ap (λ (x : Parts g.row.D.Denot g.row.H.Denot). x.torrent) c.follow_notes.ensures.others;
-      log = ap (λ (x : Parts g.row.D.Denot g.row.H.Denot). x.log) c.follow_notes.ensures.others;
-      tied = subst (λ (x : Parts g.row.D.Denot g.row.H.Denot). IsTied x) (sym c.follow_notes.ensures.others)
-          (tied_learnt d.conduct dig key digests old c.requires.tied notes n.trees n.slots l next c.args.index q
+      torrent = refl;
+      log = refl;
+      tied = tied_learnt d.conduct dig key digests old c.requires.tied notes n.trees n.slots l next c.args.index q
           (get_read old.peers.items c.args.index p c.requires.there c.index_mut-peer.ensures.value) refl
           (with_items_is old.trees n.trees (c.learn_hashes.auto.trees ∙ c.deref_mut-2.ensures.len))
-          (with_items_is old.slots n.slots (c.learn_hashes.auto.slots ∙ c.deref_mut.ensures.len))
-          c.follow_notes.ensures.peers c.follow_notes.ensures.followed);
+          (with_items_is old.slots n.slots (c.learn_hashes.auto.slots ∙ c.deref_mut.ensures.len)) c.requires.shaped c.follow_notes.ensures.peers
+          (λ s same behind. c.follow_notes.ensures.followed s same (subst (λ (ns : List Note). IsBehind old.book.wanted old.counts ns s) (sym c.deref.ensures.value) behind));
     }

@@ -4,11 +4,12 @@ use Rattle.std.proofs.lemmas.Option.{slice_get-get_or}
 use Rattle.std.specs.Prelude.{slice_set}
 use Rattle.bt_machine.proofs.Lists.{set_id, some_below}
 use Rattle.bt_machine.specs.declared.answer.Note.{Note}
+use Rattle.bt_engine_state.proofs.Lists.{fits_below}
 use Rattle.bt_engine_messages.specs.RunSteps.{SettlesSlots}
 use Rattle.bt_engine_messages.specs.NoteRooms.{note_count, slot_room, run_room}
 use Rattle.bt_engine_messages.specs.LearningSteps.{unknown_root, no_claim, refused, IsRoomFor, ChangesByHashes}
 use Rattle.bt_engine_messages.proofs.KeptHints.{kept_if_added}
-use Rattle.bt_engine_messages.proofs.Learnings.{fits_all, fits_below, root_found, root_lacks, if_ok_by, if_err_by, root_at}
+use Rattle.bt_engine_messages.proofs.Learnings.{fits_all, root_found, root_lacks, if_ok_by, if_err_by, root_at}
 use Rattle.bt_engine_messages.proofs.learning.learn_hashes.Goals as goal
 
 pub returns-in_default-clause-changes : goal.returns-in_default-clause-changes

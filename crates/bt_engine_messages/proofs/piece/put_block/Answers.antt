@@ -1,6 +1,5 @@
-use Rattle.std.proofs.Common.{ap, ◌∙◌}
+use Rattle.std.proofs.Common.{refl, ◌∙◌}
 use Rattle.std.specs.Vec.{with_items}
-use Rattle.bt_engine_state.specs.declared.parts.Parts.{Parts}
 use Rattle.bt_engine_messages.proofs.Slots.{below_slots, puts_of}
 use Rattle.bt_engine_messages.proofs.StoreChanges.{has_changed, tied_new}
 use Rattle.bt_engine_messages.proofs.Storing.{can_put, put_changes, puts_block}
@@ -30,15 +29,15 @@ returns g c =
     let a = c.put_in_slot-answer in
     let next = record old { slots = with_items old.slots a.new.slots } in
     let puts = puts_of old.slots old.trees a.ensures c.deref_mut.ensures.value c.deref.ensures.value (a.auto.slots ∙ c.deref_mut.ensures.len) in
-    let f = c.follow_block.ensures in
-    let new = c.follow_block.new.parts in
+    let f = c.follow_block in
     record {
-      puts = puts_block old next c.requires.sound.tied c.requires.sound.shaped c.requires.missing puts c.state_after.ensures new f.others f.asked c.asked-others.result.items
-          (record { ascending = c.asked-others.ensures.ascending; exact = c.asked-others.ensures.exact }) c.args.ask c.effect_of.result c.effect_of.ensures;
+      puts = puts_block old next c.requires.sound.tied c.requires.sound.shaped c.requires.missing puts c.state_after.ensures f.new.book f.new.counts f.ensures.asked
+          c.asked-others.result.items (record { ascending = c.asked-others.ensures.ascending; exact = c.asked-others.ensures.exact }) c.args.ask c.effect_of.result c.effect_of.ensures;
       rest = record {
-        torrent = ap (λ (p : Parts _ _). p.torrent) f.others;
-        log = ap (λ (p : Parts _ _). p.log) f.others;
-        tied = tied_new (put_changes old next c.requires.sound.tied c.requires.sound.shaped c.requires.missing puts c.state_after.ensures) new f.others f.asked f.peers f.followed;
+        torrent = refl;
+        log = refl;
+        tied = tied_new (put_changes old next c.requires.sound.tied c.requires.sound.shaped c.requires.missing puts c.state_after.ensures) f.new.book f.new.counts
+            f.ensures.asked f.ensures.peers f.ensures.followed;
       };
-      peers = ap (λ p. p.peers) f.others;
+      peers = refl;
     }

@@ -1,8 +1,7 @@
-use Rattle.std.proofs.Common.{ap, sym, ◌∙◌, refl, map, arith}
+use Rattle.std.proofs.Common.{ap, sym, ◌∙◌, refl, arith}
 use Rattle.std.specs.Vec.{with_items}
 use Rattle.bt_machine.proofs.Lists.{some_is}
 use Rattle.bt_machine.proofs.Shape.{map_set}
-use Rattle.bt_engine_state.specs.declared.parts.Parts.{Parts}
 use Rattle.bt_engine_state.specs.declared.peer.Peer.{Peer}
 use Rattle.bt_engine_state.proofs.Lists.{get_read}
 use Rattle.bt_engine_messages.specs.RequestSteps.{IsLookedAt}
@@ -57,19 +56,11 @@ returns-in-Err-Damaged g c =
     let look = c.requires.looked in
     let next = record old { slots = with_items old.slots c.read_slot.new.slots } in
     let r = stops_of old.slots old.trees (rw c.in-Err-Damaged.field-0-is at c.in-Err-Damaged.ensures.wrong) c.deref_mut.ensures.value c.deref.ensures.value (c.read_slot.auto.slots ∙ c.deref_mut.ensures.len) in
-    let f = c.follow_block.ensures in
-    let new = c.follow_block.new.parts in
+    let f = c.follow_block in
     record {
-      takes = takes_damaged look next r new f.others f.asked;
-      rest = record {
-        torrent = ap (λ (p : Parts _ _). p.torrent) f.others;
-        log = ap (λ (p : Parts _ _). p.log) f.others;
-        tied = tied_new (damage_changes look next r) new f.others f.asked f.peers f.followed;
-      };
-      keys = record {
-        keys = ap (λ (p : Parts _ _). map (λ (q : Peer). q.key) p.peers.items) f.others;
-        len = ap (λ (p : Parts _ _). p.peers.len) f.others;
-      };
+      takes = takes_damaged look next r f.new.book f.new.counts f.ensures.asked;
+      rest = record { torrent = refl; log = refl; tied = tied_new (damage_changes look next r) f.new.book f.new.counts f.ensures.asked f.ensures.peers f.ensures.followed };
+      keys = record { keys = refl; len = refl };
     }
 
 pub returns-in-Err-Device : goal.returns-in-Err-Device

@@ -1,4 +1,4 @@
-use Rattle.std.proofs.Common.{[], ◌∷◌, List, refl, sym, ap, ◌∙◌, subst, arith, rules}
+use Rattle.std.proofs.Common.{◌∷◌, List, sym, ap, ◌∙◌, rules}
 use Rattle.std.specs.Prelude.{◌||◌}
 use Rattle.bt_resume.specs.LentHint.{hint_of}
 use Rattle.bt_resume.specs.declared.hint.Hint.{Hint}

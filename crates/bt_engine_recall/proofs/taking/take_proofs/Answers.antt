@@ -1,9 +1,8 @@
-use Rattle.std.proofs.Common.{◌≡◌, ◌≢◌, [], ◌∷◌, refl, sym, ap, ◌∙◌, subst, rules}
-use Rattle.std.proofs.lemmas.Grind.{common_steps}
+use Rattle.std.proofs.Common.{◌∷◌, refl, sym, ap, ◌∙◌, subst}
 use Rattle.bt_resume.specs.LogText.{hints_in}
 use Rattle.bt_resume.specs.LentHint.{hint_of}
 use Rattle.bt_engine_recall.specs.Taking.{TakeFirstHints}
-use Rattle.bt_engine_recall.proofs.Takings.{if_err, all_of_none, none_of_some, taken_none, taken_proof, taken_marks, taken_some, taken_all}
+use Rattle.bt_engine_recall.proofs.Takings.{if_err, taken_none, taken_proof, taken_marks, taken_some, taken_all}
 use Rattle.bt_engine_recall.proofs.taking.take_proofs.Goals as goal
 
 pub loop-hint-init : goal.loop-hint-init
@@ -16,8 +15,8 @@ loop-hint-init g c = record {
       (c.into_iter-hint-iterator.ensures.into_iter_gives ∙ c.iter-hint-items.ensures);
 }
 
-pub loop-hint-preserved-in-Continue-branch-2 : goal.loop-hint-preserved-in-Continue-branch-2
-loop-hint-preserved-in-Continue-branch-2 g c = record {
+pub loop-hint-preserved-in-Continue-1 : goal.loop-hint-preserved-in-Continue-1
+loop-hint-preserved-in-Continue-1 g c = record {
   can = tt;
   finite = tt;
   roots = c.in_ok-take_proof.ensures.roots ∙ c.loop-hint.invariant.roots;
@@ -38,16 +37,6 @@ loop-hint-preserved g c = record {
       c.loop-hint.invariant.taken;
 }
 
-pub returns-then-is_empty-clause-taken : goal.returns-then-is_empty-clause-taken
-returns-then-is_empty-clause-taken g c =
-    let none : hints_in c.args.hints.now ≡ [] = search (rules, common_steps) in
-    all_of_none g.H.NodeHash.digest c.args.trees.now (hints_in c.args.hints.now) none
-
-pub returns-in_err-places-clause-refused : goal.returns-in_err-places-clause-refused
-returns-in_err-places-clause-refused g c =
-    let some : hints_in c.args.hints.now ≢ [] = search (rules, common_steps) in
-    if_err c.from_residual.result (none_of_some g.H.NodeHash.digest c.args.trees.now (hints_in c.args.hints.now) some)
-
 pub returns-in_err-take_proof-clause-refused : goal.returns-in_err-take_proof-clause-refused
 returns-in_err-take_proof-clause-refused g c =
     let dig = g.H.NodeHash.digest in
@@ -55,7 +44,7 @@ returns-in_err-take_proof-clause-refused g c =
     let all = hints_in c.args.hints.now in
     let before =
     taken_some dig all c.loop-hint.hint-iterator trees c.loop-hint.trees c.loop-hint.invariant.roots c.loop-hint.invariant.taken c.in-Some.ensures.steps in
-    if_err c.from_residual-in_err-take_proof.result
+    if_err c.from_residual.result
     (subst (λ now. TakeFirstHints dig all trees now) (sym c.in_err-take_proof.ensures.refused) before)
 
 pub returns-clause-taken : goal.returns-clause-taken

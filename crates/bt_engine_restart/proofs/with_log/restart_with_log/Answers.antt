@@ -13,11 +13,8 @@ returns-in-Err-clause-step g c =
     let d = g.D.Disk in
     steps_unread d.conduct g.H.NodeHash.digest c.args.parts.now c.in-Err.ensures
 
-pub made_from_log-requires-clause-sound : goal.made_from_log-requires-clause-sound
-made_from_log-requires-clause-sound g c = record {
-  tied = tied_with_log c.args.parts.now c.read_again.new.log c.requires.sound.tied;
-  shaped = shaped_with_log c.args.parts.now c.read_again.new.log c.requires.sound.shaped;
-}
+pub made_from_log-requires-clause-tied : goal.made_from_log-requires-clause-tied
+made_from_log-requires-clause-tied g c = tied_with_log c.args.parts.now c.read_again.new.log c.requires.sound.tied
 
 pub begin_with_log-requires-clause-sound : goal.begin_with_log-requires-clause-sound
 begin_with_log-requires-clause-sound g c = record {

@@ -5,8 +5,8 @@ use Rattle.bt_meta.specs.declared.torrent.FileEntry.{FileEntry}
 use Rattle.bt_machine.specs.Start.{device_count}
 use Rattle.bt_machine.proofs.Lists.{some_below}
 use Rattle.bt_machine.proofs.Shape.{map_set}
-use Rattle.bt_engine_state.proofs.Lists.{get_read, get_at}
-use Rattle.bt_engine_start.proofs.DeviceOrder.{all_bare, no_devices, device_left, filled_bare, filled_new, filled_order, filled_count, fits_below}
+use Rattle.bt_engine_state.proofs.Lists.{get_read, get_at, fits_below}
+use Rattle.bt_engine_start.proofs.DeviceOrder.{all_bare, no_devices, device_left, filled_bare, filled_new, filled_order, filled_count}
 use Rattle.bt_engine_start.proofs.devices.fill_slots.Goals as goal
 
 pub loop-index-init : goal.loop-index-init

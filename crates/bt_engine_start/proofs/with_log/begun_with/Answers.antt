@@ -1,41 +1,9 @@
-use Rattle.std.proofs.Common.{◌≡◌, None, List, map, All, refl, sym, ap, ◌∙◌, subst}
-use Rattle.std.specs.Vec.{with_items}
-use Rattle.std.proofs.lemmas.List.{with_items_is}
-use Rattle.bt_sparse.specs.SparseTree.{Facts}
-use Rattle.bt_resume.specs.declared.hint.Hint.{Hint}
-use Rattle.bt_engine_recall.specs.Runs.{AreRunsOf}
-use Rattle.bt_engine_state.specs.declared.slot.Slot.{Slot}
-use Rattle.bt_engine_start.proofs.RootTrees.{all_short, none_bare}
-use Rattle.bt_engine_start.proofs.Beginnings.{have_begun}
-use Rattle.bt_engine_start.proofs.LogStarts.{trees_then}
+use Rattle.std.proofs.Common.{subst}
+use Rattle.bt_meta.specs.Torrent.{Metainfo}
+use Rattle.bt_engine_start.specs.WithLogSteps.{HaveBegunWith}
 use Rattle.bt_engine_start.proofs.with_log.begun_with.Goals as goal
-
-pub hand_out-requires-clause-short : goal.hand_out-requires-clause-short
-hand_out-requires-clause-short g c = all_short c.files.result.now c.files.ensures.lawful
-
-pub hand_out-requires-clause-bare : goal.hand_out-requires-clause-bare
-hand_out-requires-clause-bare g c =
-    subst (λ (slots : List (Slot g.row.D.Denot g.row.H.Denot)). All (λ slot. slot.store ≡ None) slots) (sym c.deref_mut-2.ensures.value)
-    (none_bare c.in_ok-parts.ensures.bare.slots)
 
 pub returns-clause-begun : goal.returns-clause-begun
 returns-clause-begun g c =
-    let bare = c.in_ok-parts.parts in
-    let made = c.take_proofs.new.trees in
-    let are = with_items_is bare.trees made (c.take_proofs.auto.trees ∙ c.deref_mut.ensures.len) in
-    record {
-      base = record bare { slots = with_items bare.slots c.hand_out.new.slots };
-      trees = with_items bare.trees made;
-      begun = have_begun bare c.deref_mut-2.result.now c.hand_out.new.slots c.blocks_and_ranges_agree.ensures.in_piece c.in_ok-parts.ensures.bare c.files.ensures.said
-          c.deref_mut-2.ensures.value c.in_ok-hand_out.ensures.slots c.in_ok-hand_out.ensures.trees c.in_ok-hand_out.ensures.devices;
-      lawful = c.in_ok-parts.ensures.bare.new.lawful;
-      same_torrent = c.in_ok-parts.ensures.torrent;
-      is = refl;
-      takes = trees_then bare.trees c.deref_mut.ensures.value are c.hints.ensures c.in_ok-take_proofs.ensures.taken;
-      roots = ap (λ (ks : List Facts). map (λ k. k.root) ks) are ∙ c.take_proofs.ensures.roots ∙ ap (λ (ks : List Facts). map (λ k. k.root) ks) c.deref_mut.ensures.value;
-      lengths = ap (λ (ks : List Facts). map (λ k. k.file_length) ks) are ∙ c.take_proofs.ensures.lengths
-          ∙ ap (λ (ks : List Facts). map (λ k. k.file_length) ks) c.deref_mut.ensures.value;
-    }
-
-pub returns-clause-runs : goal.returns-clause-runs
-returns-clause-runs g c = subst (λ (hints : List Hint). AreRunsOf hints c.in_ok-runs.runs.items) c.hints-2.ensures c.in_ok-runs.ensures
+    subst (λ (t : Metainfo). HaveBegunWith g.H.NodeHash.digest t c.args.disks.now.items c.args.log.now.hints c.fill_parts.new.parts) c.in_ok-parts.ensures.torrent
+    c.in_ok-runs.ensures.begun
